@@ -1,0 +1,21 @@
+-- How many nodes and instances bytes can hold.
+use Rattle.std.proofs.Common.{◌*◌, ◌≤◌, List, [], ◌∷◌, length, arith, length-append}
+use Rattle.std.specs.List.{AllByRecursion}
+use Rattle.uefi_path.specs.Node.{Node, encoding, joined}
+use Rattle.uefi_path.specs.Path.{IsInstance, concat, all_but_last}
+
+-- A node has at least four bytes.
+pub four_bytes_each : (nodes : List Node) → 4 * length nodes ≤ length (joined nodes)
+four_bytes_each [] = omega arith
+four_bytes_each (n ∷ nodes) = omega (arith, four_bytes_each nodes, length-append (encoding n) (joined nodes))
+
+-- An instance has at least one node.
+pub node_each : (parts : List (List Node)) → AllByRecursion IsInstance parts → length parts ≤ length (concat parts)
+node_each [] each = omega arith
+node_each ([] ∷ parts) each = absurd each.0.end
+node_each ((n ∷ part) ∷ parts) each = omega (arith, node_each parts each.1, length-append (n ∷ part) (concat parts))
+
+pub length-all_but_last : {A : Type 0} (xs : List A) → length (all_but_last xs) ≤ length xs
+length-all_but_last [] = omega arith
+length-all_but_last (x ∷ []) = omega arith
+length-all_but_last (x ∷ y ∷ ys) = omega (arith, length-all_but_last (y ∷ ys))

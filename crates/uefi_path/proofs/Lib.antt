@@ -1,0 +1,6 @@
+pub mod Counts
+pub mod Cuts
+pub mod Nodes
+pub mod Passing
+pub mod Rows
+pub mod Steps

@@ -1,0 +1,35 @@
+use Rattle.std.proofs.Common.{◌≡◌, [], ◌∷◌, true, false, rules}
+use Rattle.uefi_path.specs.Stop.{Stops}
+use Rattle.uefi_path.specs.Views.{node_of, nodes_left}
+use Rattle.uefi_path.proofs.Steps.{first_node, none_before_end, after_node, next_node}
+use Rattle.uefi_path.proofs.node_iter.DevicePathNodeIteratorIterator.next.Goals as goal
+
+pub returns-in_default-clause-steps : goal.returns-in_default-clause-steps
+returns-in_default-clause-steps c =
+    let iter = c.args.self.now in
+    let first = first_node (Stops iter.stop) iter.rest.now iter.nodes.0 iter.nodes.1 in
+    absurd (c.in_default.ensures.err first.0 first.1 first.2)
+
+pub returns-then-stops_at-clause-steps : goal.returns-then-stops_at-clause-steps
+returns-then-stops_at-clause-steps c =
+    let iter = c.args.self.now in
+    let none : nodes_left iter ≡ [] =
+    none_before_end (Stops iter.stop) iter.rest.now c.in-Ok.after.now (node_of c.in-Ok.node) iter.nodes.0 iter.nodes.1 c.in-Ok.ensures.ok.0 (c.stops_at.ensures.0 c.if-stops_at.true) c.in-Ok.ensures.ok.1 in
+    (none, none)
+
+pub over-requires : goal.over-requires
+over-requires c =
+    let iter = c.args.self.now in
+    after_node (Stops iter.stop) iter.rest.now c.in-Ok.after.now (node_of c.in-Ok.node) iter.nodes.0 iter.nodes.1 c.in-Ok.ensures.ok.0
+    (λ so. let stopped : false ≡ true = c.if-stops_at.ensures.1 so in cc) c.in-Ok.ensures.ok.1
+
+pub returns-clause-steps : goal.returns-clause-steps
+returns-clause-steps c =
+    let iter = c.args.self.now in
+    next_node (Stops iter.stop) iter.rest.now c.in-Ok.after.now (node_of c.in-Ok.node) iter.nodes.0 c.over.result.nodes.0 iter.nodes.1 c.in-Ok.ensures.ok.0
+    (λ so. let stopped : false ≡ true = c.if-stops_at.ensures.1 so in cc) c.in-Ok.ensures.ok.1 c.over.ensures.nodes
+
+pub returns-clause-goes : goal.returns-clause-goes
+returns-clause-goes c =
+    let first : nodes_left c.args.self.now ≡ node_of c.in-Ok.node ∷ nodes_left c.over.result = returns-clause-steps c in
+    search rules

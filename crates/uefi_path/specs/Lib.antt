@@ -1,0 +1,9 @@
+pub mod Node
+pub mod Path
+pub mod Reading
+pub mod Views
+pub mod Spelling
+pub mod Stop
+pub mod OneNode
+pub mod OnePath
+pub mod Rows

@@ -1,0 +1,101 @@
+-- Bytes spell at most one path, and at most one list of instances.
+use Rattle.std.proofs.Common.{◌≡◌, ℕ, List, [], ◌∷◌, ◌++◌, refl, sym, ◌∙◌, ap, subst, append_assoc}
+use Rattle.std.proofs.Props.{props}
+use mathlib.Core.HLevel.{Σ_prop_path, ×_prop, Π_prop, ⊥_prop}
+use Rattle.std.specs.List.{AllByRecursion, AllByRecursion-prop}
+use Rattle.uefi_path.specs.Node.{Node, Fits, encoding, joined, AreNodes, IsEndEntire, IsEnd}
+use Rattle.uefi_path.specs.Path.{LastAlone, AreEndedBy, IsPath, IsInstance, concat}
+use Rattle.uefi_path.specs.Spelling.{IsTextOfNodes, SpellsNodes, IsTextOfInstances, SpellsInstances}
+use Rattle.uefi_path.specs.OneNode.{one_encoding, Fits-prop}
+
+-- The first node's bytes and what follows them, as `one_encoding` takes them.
+first_apart : (n m : Node) (ns ms : List Node) (x y : List ℕ) → joined (n ∷ ns) ++ x ≡ joined (m ∷ ms) ++ y
+    → encoding n ++ (joined ns ++ x) ≡ encoding m ++ (joined ms ++ y)
+first_apart n m ns ms x y e = sym (append_assoc (encoding n) (joined ns) x) ∙ e ∙ append_assoc (encoding m) (joined ms) y
+
+-- Lists of nodes in which the last alone is so are one, if their bytes begin one list.
+one_list_of_nodes : (P : Node → Type 0) (ns ms : List Node) (x y : List ℕ) → AreNodes ns → AreNodes ms → LastAlone P ns → LastAlone P ms
+    → joined ns ++ x ≡ joined ms ++ y → (ns ≡ ms) × (x ≡ y)
+one_list_of_nodes P [] ms x y fn fm ln lm e = absurd ln
+one_list_of_nodes P (n ∷ []) [] x y fn fm ln lm e = absurd lm
+one_list_of_nodes P (n ∷ k ∷ ns) [] x y fn fm ln lm e = absurd lm
+one_list_of_nodes P (n ∷ []) (m ∷ []) x y fn fm ln lm e =
+    let first = one_encoding n m ([] ++ x) ([] ++ y) fn.0 fm.0 (first_apart n m [] [] x y e) in
+    (ap (λ k. k ∷ []) first.0, first.1)
+one_list_of_nodes P (n ∷ []) (m ∷ k ∷ ms) x y fn fm ln lm e =
+    let first = one_encoding n m ([] ++ x) (joined (k ∷ ms) ++ y) fn.0 fm.0 (first_apart n m [] (k ∷ ms) x y e) in
+    absurd (lm.0 (subst P first.0 ln))
+one_list_of_nodes P (n ∷ k ∷ ns) (m ∷ []) x y fn fm ln lm e =
+    let first = one_encoding n m (joined (k ∷ ns) ++ x) ([] ++ y) fn.0 fm.0 (first_apart n m (k ∷ ns) [] x y e) in
+    absurd (ln.0 (subst P (sym first.0) lm))
+one_list_of_nodes P (n ∷ k ∷ ns) (m ∷ l ∷ ms) x y fn fm ln lm e =
+    let first = one_encoding n m (joined (k ∷ ns) ++ x) (joined (l ∷ ms) ++ y) fn.0 fm.0 (first_apart n m (k ∷ ns) (l ∷ ms) x y e) in
+    let others = one_list_of_nodes P (k ∷ ns) (l ∷ ms) x y fn.1 fm.1 ln.1 lm.1 first.1 in
+    let same_first : n ≡ m = first.0 in
+    let same_others : (k ∷ ns) ≡ (l ∷ ms) = others.0 in
+    ((cc), others.1)
+
+pub one_ended : (P : Node → Type 0) (ns ms : List Node) (x y : List ℕ) → AreEndedBy P ns → AreEndedBy P ms
+    → joined ns ++ x ≡ joined ms ++ y → (ns ≡ ms) × (x ≡ y)
+one_ended P ns ms x y p q e = one_list_of_nodes P ns ms x y p.each q.each p.end q.end e
+
+-- No path is a proper front of another.
+pub one_path : (ns ms : List Node) (x y : List ℕ) → IsPath ns → IsPath ms → joined ns ++ x ≡ joined ms ++ y → (ns ≡ ms) × (x ≡ y)
+one_path = one_ended IsEndEntire
+
+-- Bytes spell one list of such nodes.
+pub spelled_once : (P : Node → Type 0) (bytes : List ℕ) (ns ms : List Node) → IsTextOfNodes P bytes ns → IsTextOfNodes P bytes ms → ns ≡ ms
+spelled_once P bytes ns ms s t = (one_ended P ns ms [] [] s.ended t.ended (ap (λ b. b ++ []) (sym s.text ∙ t.text))).0
+
+-- The bytes of lists of nodes that follow one another.
+pub joined-append : (ns ms : List Node) → joined (ns ++ ms) ≡ joined ns ++ joined ms
+joined-append [] ms = refl
+joined-append (n ∷ ns) ms = ap (λ s. encoding n ++ s) (joined-append ns ms) ∙ sym (append_assoc (encoding n) (joined ns) (joined ms))
+
+-- An instance has bytes.
+pub instance_bytes : (p : List Node) (x : List ℕ) → IsInstance p → joined p ++ x ≡ [] → ⊥
+instance_bytes [] x i e = absurd i.end
+instance_bytes (n ∷ ns) x i e = cc
+
+-- Bytes spell one list of instances.
+pub instances_spelled_once : (ps qs : List (List Node)) → AllByRecursion IsInstance ps → AllByRecursion IsInstance qs
+    → joined (concat ps) ≡ joined (concat qs) → ps ≡ qs
+instances_spelled_once [] [] ip iq e = refl
+instances_spelled_once [] (q ∷ qs) ip iq e = absurd (instance_bytes q (joined (concat qs)) iq.0 (sym (joined-append q (concat qs)) ∙ sym e))
+instances_spelled_once (p ∷ ps) [] ip iq e = absurd (instance_bytes p (joined (concat ps)) ip.0 (sym (joined-append p (concat ps)) ∙ e))
+instances_spelled_once (p ∷ ps) (q ∷ qs) ip iq e =
+    let first = one_ended IsEnd p q (joined (concat ps)) (joined (concat qs)) ip.0 iq.0 (sym (joined-append p (concat ps)) ∙ e ∙ joined-append q (concat qs)) in
+    let same_first : p ≡ q = first.0 in
+    let same_others : ps ≡ qs = instances_spelled_once ps qs ip.1 iq.1 first.1 in
+    (cc)
+
+-- There is at most one proof of each of these facts, so that a view may keep it.
+LastAlone-prop : {A : Type 0} (P : A → Type 0) → ((x : A) → IsProp (P x)) → (xs : List A) → IsProp (LastAlone P xs)
+LastAlone-prop P p [] = ⊥_prop
+LastAlone-prop P p (x ∷ []) = p x
+LastAlone-prop P p (x ∷ y ∷ ys) = ×_prop (Π_prop (λ _. ⊥_prop)) (LastAlone-prop P p (y ∷ ys))
+
+AreEndedBy-prop : (P : Node → Type 0) → ((n : Node) → IsProp (P n)) → (ns : List Node) → IsProp (AreEndedBy P ns)
+AreEndedBy-prop P p ns = hlevel (AllByRecursion-prop Fits Fits-prop ns, LastAlone-prop P p ns)
+
+IsTextOfNodes-prop : (P : Node → Type 0) → ((n : Node) → IsProp (P n)) → (bytes : List ℕ) (ns : List Node) → IsProp (IsTextOfNodes P bytes ns)
+IsTextOfNodes-prop P p bytes ns = hlevel (props, AreEndedBy-prop P p ns)
+
+pub SpellsNodes-prop : (P : Node → Type 0) → ((n : Node) → IsProp (P n)) → (bytes : List ℕ) → IsProp (SpellsNodes P bytes)
+SpellsNodes-prop P p bytes s t = Σ_prop_path (IsTextOfNodes-prop P p bytes) (spelled_once P bytes s.0 t.0 s.1 t.1)
+
+pub IsEndEntire-prop : (n : Node) → IsProp (IsEndEntire n)
+IsEndEntire-prop n = hlevel props
+
+pub IsEnd-prop : (n : Node) → IsProp (IsEnd n)
+IsEnd-prop n = hlevel props
+
+IsInstance-prop : (p : List Node) → IsProp (IsInstance p)
+IsInstance-prop = AreEndedBy-prop IsEnd IsEnd-prop
+
+IsTextOfInstances-prop : (bytes : List ℕ) (ps : List (List Node)) → IsProp (IsTextOfInstances bytes ps)
+IsTextOfInstances-prop bytes ps = hlevel (props, AllByRecursion-prop IsInstance IsInstance-prop ps)
+
+pub SpellsInstances-prop : (bytes : List ℕ) → IsProp (SpellsInstances bytes)
+SpellsInstances-prop bytes s t =
+    Σ_prop_path (IsTextOfInstances-prop bytes) (instances_spelled_once s.0 t.0 s.1.each t.1.each (sym s.1.text ∙ t.1.text))

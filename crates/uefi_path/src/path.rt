@@ -1,0 +1,74 @@
+ghost use Rattle.std.specs.Prelude.{◌≡◌, ◌*◌, ◌^◌, ◌<◌, ◌≤◌, length};
+ghost use Rattle.uefi_path.specs.Node.{joined, IsEndEntire};
+ghost use Rattle.uefi_path.specs.Path.{IsPath, AreInstances, all_but_last};
+ghost use Rattle.uefi_path.specs.Spelling.{IsTextOfNodes, SpellsNodes};
+ghost use Rattle.uefi_path.specs.OnePath.{SpellsNodes-prop, IsEndEntire-prop};
+
+use crate::error::ByteConversionError;
+use crate::instance_iter::DevicePathInstanceIterator;
+use crate::node_iter::DevicePathNodeIterator;
+use crate::walk::{StopCondition, split_nodes};
+
+/// A device path (UEFI 2.10, 10.2): nodes of which the last, and no other, is the end-entire node.
+///
+/// Its bytes are those of the nodes, joined. A view: it borrows the bytes that it was read from, and
+/// what it hands out lives as long as they do.
+#[derive(Clone, Copy)]
+pub struct DevicePath<'a> {
+    bytes: &'a [u8],
+    pub ghost nodes: { SpellsNodes IsEndEntire bytes.now } by { SpellsNodes-prop IsEndEntire IsEndEntire-prop bytes.now },
+}
+
+impl<'a> DevicePath<'a> {
+    ghost use Rattle.uefi_path.specs.Views.{path_nodes, nodes_left, instances_left};
+
+    // The path with these bytes.
+    fn whole(bytes: &'a [u8]) -> DevicePath<'a>
+        requires { SpellsNodes IsEndEntire bytes.now }
+        ensures { IsTextOfNodes IsEndEntire bytes.now (path_nodes result) }
+    {
+        DevicePath { bytes }
+    }
+
+    /// The instances of the path, in order.
+    pub fn instance_iter(&self) -> DevicePathInstanceIterator<'a>
+        ensures instances { AreInstances (instances_left result) (path_nodes self.now) }
+        ensures countable { length (instances_left result) < 2 ^ 64 }
+    {
+        DevicePathInstanceIterator::over(self.bytes)
+    }
+
+    /// The nodes before the end-entire one, in order.
+    pub fn node_iter(&self) -> DevicePathNodeIterator<'a>
+        ensures nodes { nodes_left result ≡ all_but_last (path_nodes self.now) }
+        ensures countable { length (nodes_left result) < 2 ^ 64 }
+    {
+        DevicePathNodeIterator::over(self.bytes, StopCondition::EndEntireNode)
+    }
+
+    /// All bytes of the path, the end-entire node's too. A path of n bytes has at most n / 4 nodes.
+    pub fn as_bytes(&self) -> &'a [u8]
+        ensures bytes { result.now ≡ joined (path_nodes self.now) }
+        ensures path { IsPath (path_nodes self.now) }
+        ensures few_nodes { 4 * length (path_nodes self.now) ≤ length result.now }
+    {
+        self.bytes
+    }
+}
+
+/// Reads the path that the bytes begin with; what follows it isn't looked at.
+///
+/// Refused as [`ByteConversionError::InvalidLength`] exactly where no front of the bytes is a path.
+impl<'a> TryFrom<&'a [u8]> for DevicePath<'a> {
+    ghost use Rattle.uefi_path.specs.Views.{path_nodes};
+    ghost use Rattle.uefi_path.specs.Reading.{ReadsPath};
+
+    type Error = ByteConversionError;
+
+    ghost try_from_gives = { λ bytes read. ReadsPath path_nodes bytes.now read };
+
+    fn try_from(bytes: &'a [u8]) -> Result<DevicePath<'a>, ByteConversionError> {
+        let (front, _) = split_nodes(bytes, StopCondition::EndEntireNode)?;
+        Ok(DevicePath::whole(front))
+    }
+}

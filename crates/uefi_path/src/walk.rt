@@ -1,0 +1,59 @@
+ghost use Rattle.std.specs.Prelude.{◌≡◌, ◌↔◌, ℕ, ◌++◌, List, IsTrue, IfOk, OnErr};
+ghost use Rattle.uefi_path.specs.Node.{Node, Fits, encoding, joined, IsFront};
+ghost use Rattle.uefi_path.specs.Path.{AreEndedBy};
+ghost use Rattle.uefi_path.specs.Stop.{Stops};
+ghost use Rattle.uefi_path.specs.Spelling.{SpellsNodes};
+ghost use Rattle.uefi_path.specs.Views.{node_of};
+
+use crate::device_type::DeviceType;
+use crate::error::ByteConversionError;
+use crate::node::DevicePathNode;
+
+/// The node at which a walk over nodes stops.
+#[derive(Clone, Copy)]
+pub(crate) enum StopCondition {
+    /// Any node of the type END, which ends an instance.
+    AnyEndNode,
+    /// The end-entire node, which ends the path.
+    EndEntireNode,
+}
+
+impl StopCondition {
+    /// Whether the walk stops at the node.
+    pub(crate) fn stops_at(self, node: &DevicePathNode<'_>) -> bool
+        ensures { IsTrue result ↔ Stops self (node_of node.now) }
+    {
+        match self {
+            StopCondition::AnyEndNode => node.device_type() == DeviceType::END,
+            StopCondition::EndEntireNode => node.is_end_entire(),
+        }
+    }
+}
+
+/// The node at the front of the bytes, and the bytes after it.
+pub(crate) fn split_node(bytes: &[u8]) -> Result<(DevicePathNode<'_>, &[u8]), ByteConversionError>
+    ensures ok { IfOk result (λ r. Fits (node_of r.0) × (bytes.now ≡ encoding (node_of r.0) ++ r.1.now)) }
+    ensures err { OnErr result ((node : Node) → Fits node → IsFront (encoding node) bytes.now → ⊥) }
+{
+    let node = DevicePathNode::try_from(bytes)?;
+    let (_, after) = bytes.split_at(node.as_bytes().len());
+    Ok((node, after))
+}
+
+/// The bytes of the nodes up to the first at which the walk stops, and the bytes after them.
+pub(crate) fn split_nodes(
+    bytes: &[u8],
+    stop: StopCondition,
+) -> Result<(&[u8], &[u8]), ByteConversionError>
+    ensures ok { IfOk result (λ r. SpellsNodes (Stops stop) r.0.now × (bytes.now ≡ r.0.now ++ r.1.now)) }
+    ensures err { OnErr result ((nodes : List Node) → AreEndedBy (Stops stop) nodes → IsFront (joined nodes) bytes.now → ⊥) }
+{
+    let mut rest = bytes;
+    loop {
+        let (node, after) = split_node(rest)?;
+        rest = after;
+        if stop.stops_at(&node) {
+            return Ok(bytes.split_at(bytes.len() - rest.len()));
+        }
+    }
+}
