@@ -1,0 +1,5 @@
+pub mod Words
+pub mod Listing
+pub mod PathListing
+pub mod HexText
+pub mod Running

@@ -1,0 +1,49 @@
+ghost use Rattle.std.specs.Prelude.{IfOk};
+ghost use Rattle.uefi_list.specs.Listing.{Listing};
+
+use crate::command::Command;
+use crate::path_listing::push_path;
+use std::alloc::{AllocError, Allocator};
+use uefi_path::{ByteConversionError, DevicePath};
+
+/// Whether the bytes were what the command asks for.
+#[derive(Clone, Copy, PartialEq, Eq, Debug)]
+pub enum Outcome {
+    /// The listing has what the bytes hold.
+    Listed,
+    /// The listing is one line, which names why the bytes were refused.
+    Refused,
+}
+
+/// The listing of the device path that the bytes begin with.
+fn list_path<A: Allocator>(alloc: A, bytes: &[u8]) -> Result<(Vec<u8, A>, Outcome), AllocError>
+    ensures { IfOk result (λ r. Listing Command.Path bytes.now r.0.items r.1) }
+{
+    let mut text = String::new(alloc);
+    let outcome = match DevicePath::try_from(bytes) {
+        Ok(path) => {
+            push_path(&mut text, &path)?;
+            Outcome::Listed
+        }
+        Err(ByteConversionError::InvalidLength) => {
+            text.push_str("refused InvalidLength\n")?;
+            Outcome::Refused
+        }
+    };
+    Ok((text.into_bytes(), outcome))
+}
+
+/// The listing of the bytes, in memory, and whether they were refused.
+///
+/// The one error is want of memory.
+pub fn listing<A: Allocator>(
+    alloc: A,
+    command: &Command,
+    bytes: &[u8],
+) -> Result<(Vec<u8, A>, Outcome), AllocError>
+    ensures { IfOk result (λ r. Listing command.now bytes.now r.0.items r.1) }
+{
+    match command {
+        Command::Path => list_path(alloc, bytes),
+    }
+}

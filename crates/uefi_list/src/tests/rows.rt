@@ -1,0 +1,60 @@
+use super::{TWO_INSTANCES, TWO_INSTANCES_LISTING};
+use crate::command::Command;
+use crate::listing::{Outcome, listing};
+use crate::run::run;
+use std::process::Abort;
+use std::test::Fail;
+use test_bytes::bytes;
+
+/// The `ConOut` variable of an OVMF firmware.
+const CON_OUT: &str = "0201 0c00 d041030a00000000  0101 0600 0002  0203 0800 00010180  7f01 0400 \
+    0201 0c00 d041030a00000000  0101 0600 001f  0201 0c00 d041010500000000 \
+    030e 1300 0000000000c2010000000000080101  030a 1400 5347c1e0bef9d2119a0c0090273fc14d  7fff 0400";
+
+const CON_OUT_LISTING: &[u8] =
+    b"instance 30\n  02 01 d041030a00000000\n  01 01 0002\n  02 03 00010180\n\
+    instance 73\n  02 01 d041030a00000000\n  01 01 001f\n  02 01 d041010500000000\n  \
+    03 0e 0000000000c2010000000000080101\n  03 0a 5347c1e0bef9d2119a0c0090273fc14d\npath 103\n";
+
+/// Both [`listing`] and [`run`] over memory give the text and the outcome.
+fn assert_listing(rt: &(impl Abort + AllocGlobal), input: &str, text: &[u8], outcome: Outcome) {
+    let input_bytes = bytes(rt.alloc(), input).expect(rt, input);
+    let listed = listing(rt.alloc(), &Command::Path, input_bytes.as_slice()).expect(rt, input);
+    assert_eq!(rt; listed.0.as_slice(), text, "{input}");
+    assert_eq!(rt; listed.1, outcome, "{input}");
+
+    let mut out = Vec::new(rt.alloc());
+    let ran = run(rt.alloc(), &Command::Path, input_bytes.as_slice(), &mut out);
+    assert_eq!(rt; ran, Ok(outcome), "{input}");
+    assert_eq!(rt; out.as_slice(), text, "{input}");
+}
+
+#[test]
+fn a_path_is_listed_by_its_instances(rt: HostRuntime) {
+    let rows: [(&str, &[u8]); 4] = [
+        (TWO_INSTANCES, TWO_INSTANCES_LISTING),
+        ("7f02 0400  7fff 0400", b"instance 4\ninstance 4\npath 8\n"),
+        ("7fff 0600 aabb  cc", b"instance 6\npath 6\n"),
+        (CON_OUT, CON_OUT_LISTING),
+    ];
+    for (input, text) in rows {
+        assert_listing(&rt, input, text, Outcome::Listed);
+    }
+}
+
+#[test]
+fn a_node_without_data_ends_after_its_subtype(rt: HostRuntime) {
+    assert_listing(
+        &rt,
+        "0102 0400  7fff 0400",
+        b"instance 8\n  01 02\npath 8\n",
+        Outcome::Listed,
+    );
+}
+
+#[test]
+fn bytes_without_a_path_are_refused(rt: HostRuntime) {
+    for input in ["", "a0b0 0300", "a0b0 ffff", "a0b0 0600 0a0b"] {
+        assert_listing(&rt, input, b"refused InvalidLength\n", Outcome::Refused);
+    }
+}

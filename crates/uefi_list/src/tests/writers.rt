@@ -1,0 +1,114 @@
+use crate::command::Command;
+use crate::listing::Outcome;
+use crate::run::{RunError, run};
+use std::io::{self, ErrorKind, Write};
+use std::process::Abort;
+use std::test::Fail;
+use test_bytes::bytes;
+
+const INPUT: &str = "7fff 0600 aabb";
+
+const LISTING: &[u8] = b"instance 6\npath 6\n";
+
+/// What a call of [`Stubborn`] does once it has had enough.
+#[derive(Clone, Copy)]
+enum Then {
+    Fails(ErrorKind),
+    TakesNothing,
+}
+
+/// A writer that takes at most so many bytes a call, and only so many calls.
+#[derive(Drop)]
+struct Stubborn {
+    taken: Vec<u8>,
+    most: usize,
+    calls: u64,
+    then: Then,
+}
+
+impl Write for Stubborn {
+    fn write(&mut self, buf: &[u8]) -> io::Result<usize> {
+        if self.calls == 0 {
+            return match self.then {
+                Then::Fails(kind) => Err(io::Error::from(kind)),
+                Then::TakesNothing => Ok(0),
+            };
+        }
+        self.calls -= 1;
+        let count = buf.len().min(self.most);
+        self.taken.extend_from_slice(&buf[..count])?;
+        Ok(count)
+    }
+
+    fn flush(&mut self) -> io::Result<()> {
+        Ok(())
+    }
+}
+
+fn assert_run(
+    rt: &(impl Abort + AllocGlobal),
+    input: &str,
+    (most, calls, then): (usize, u64, Then),
+    (outcome, taken): (Result<Outcome, RunError>, &[u8]),
+) {
+    let input_bytes = bytes(rt.alloc(), input).expect(rt, input);
+    let mut out = Stubborn {
+        taken: Vec::new(rt.alloc()),
+        most,
+        calls,
+        then,
+    };
+    let ran = run(rt.alloc(), &Command::Path, input_bytes.as_slice(), &mut out);
+    assert_eq!(rt; ran, outcome, "{most} bytes a call, {calls} calls");
+    assert_eq!(rt;
+        out.taken.as_slice(),
+        taken,
+        "{most} bytes a call, {calls} calls"
+    );
+}
+
+#[test]
+fn a_writer_that_takes_little_gets_it_all(rt: HostRuntime) {
+    for most in 1..20usize {
+        assert_run(
+            &rt,
+            INPUT,
+            (most, 100, Then::TakesNothing),
+            (Ok(Outcome::Listed), LISTING),
+        );
+    }
+}
+
+#[test]
+fn a_refused_listing_is_written_too(rt: HostRuntime) {
+    let line = b"refused InvalidLength\n";
+    assert_run(
+        &rt,
+        "00",
+        (1, 100, Then::TakesNothing),
+        (Ok(Outcome::Refused), line),
+    );
+}
+
+#[test]
+fn the_first_call_that_fails_or_takes_nothing_ends_the_run(rt: HostRuntime) {
+    let ends = [
+        Then::TakesNothing,
+        Then::Fails(ErrorKind::Other),
+        Then::Fails(ErrorKind::Interrupted),
+    ];
+    for then in ends {
+        let stopped = Err(RunError::Output(6));
+        assert_run(&rt, INPUT, (3, 2, then), (stopped, b"instan"));
+        for calls in 0..18usize {
+            let stopped = Err(RunError::Output(calls));
+            assert_run(
+                &rt,
+                INPUT,
+                (1, calls as u64, then),
+                (stopped, &LISTING[..calls]),
+            );
+        }
+        assert_run(&rt, INPUT, (1, 18, then), (Ok(Outcome::Listed), LISTING));
+    }
+}
