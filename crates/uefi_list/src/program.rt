@@ -1,3 +1,7 @@
+ghost use Rattle.std.specs.Prelude.{◌≡◌};
+ghost use Rattle.std.specs.Option.{option_map};
+ghost use Rattle.uefi_list.specs.Endings.{status_of, message_of};
+
 use crate::command::Command;
 use crate::input::file_bytes;
 use crate::listing::Outcome;
@@ -25,7 +29,9 @@ enum Ending {
 
 impl Ending {
     /// The exit status.
-    fn status(self) -> u8 {
+    fn status(self) -> u8
+        ensures { result ≡ status_of self }
+    {
         match self {
             Ending::Listed => 0,
             Ending::Refused => 1,
@@ -35,7 +41,9 @@ impl Ending {
     }
 
     /// The line for standard error, where there is one.
-    fn message(self) -> Option<&'static str> {
+    fn message(self) -> Option<&'static str>
+        ensures { option_map (λ text. text.now) result ≡ message_of self }
+    {
         match self {
             Ending::Listed | Ending::Refused => None,
             Ending::OtherWords => Some("usage: uefi_list COMMAND FILE [ARG]"),

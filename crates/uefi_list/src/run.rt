@@ -1,5 +1,4 @@
-ghost use Rattle.std.specs.Prelude.{◌≡◌, ◌≤◌, length, take, IfOk, IfErr};
-ghost use Rattle.std.specs.Io.KnownBytes.{Appends};
+ghost use Rattle.std.specs.Prelude.{◌≡◌, IfOk, IfErr};
 ghost use Rattle.uefi_list.specs.declared.run.RunError.TheVariants.{Memory};
 ghost use Rattle.uefi_list.specs.Running.{WroteListing, StoppedAt};
 
@@ -39,25 +38,12 @@ pub fn run<A: Allocator, W: Write>(
     ensures part { IfErr result (StoppedAt command.now bytes.now (W.contents out.old) (W.contents out.new)) }
 {
     let (text, outcome) = listing(alloc, command, bytes)?;
-    let sent = send(text.as_slice(), out);
-    if sent < text.len() {
-        return Err(RunError::Output(sent));
-    }
-    Ok(outcome)
-}
-
-/// Writes the text, and answers how many of its bytes the writer took: all of them, unless a write
-/// failed or took nothing.
-fn send<W: Write>(text: &[u8], out: &mut W) -> usize
-    ensures within { result ≤ length text.now }
-    ensures taken { Appends (W.contents out.old) (W.contents out.new) (take result text.now) }
-{
     let mut sent = 0;
     while sent < text.len() {
         match out.write(&text[sent..]) {
-            Ok(0) | Err(_) => return sent,
+            Ok(0) | Err(_) => return Err(RunError::Output(sent)),
             Ok(taken) => sent += taken,
         }
     }
-    sent
+    Ok(outcome)
 }

@@ -1,0 +1,59 @@
+ghost use Rattle.std.specs.Prelude.{◌≡◌, List, length, map, flat_map, IfOk};
+ghost use Rattle.uefi_path.specs.Node.{Node};
+ghost use Rattle.uefi_path.specs.Path.{AreInstances, all_but_last};
+ghost use Rattle.uefi_path.specs.Views.{node_of, path_nodes, instance_nodes};
+
+use std::alloc::{AllocError, Global};
+use uefi_path::{DevicePath, DevicePathInstance, DevicePathNode};
+
+/// All nodes of a path but the end-entire one, by `collect`.
+pub fn all_nodes<'a>(
+    alloc: Global,
+    path: &DevicePath<'a>,
+) -> Result<Vec<DevicePathNode<'a>>, AllocError>
+    ensures { IfOk result (λ nodes. map node_of nodes.items ≡ all_but_last (path_nodes path.now)) }
+{
+    path.node_iter().collect(alloc)
+}
+
+/// All instances of a path, by `collect`.
+pub fn all_instances<'a>(
+    alloc: Global,
+    path: &DevicePath<'a>,
+) -> Result<Vec<DevicePathInstance<'a>>, AllocError>
+    ensures { IfOk result (λ instances. AreInstances (map instance_nodes instances.items) (path_nodes path.now)) }
+{
+    path.instance_iter().collect(alloc)
+}
+
+/// How many nodes a path has before the end-entire one, by `count`.
+pub fn node_count(path: &DevicePath<'_>) -> usize
+    ensures { result ≡ length (all_but_last (path_nodes path.now)) }
+{
+    path.node_iter().count()
+}
+
+/// How many instances a path has, by `count`.
+pub fn instance_count(path: &DevicePath<'_>) -> usize
+    ensures { (parts : List (List Node)) × AreInstances parts (path_nodes path.now) × (result ≡ length parts) }
+{
+    path.instance_iter().count()
+}
+
+/// How many nodes an instance has before the one that ends it, by `count`.
+pub fn instance_node_count(instance: &DevicePathInstance<'_>) -> usize
+    ensures { result ≡ length (all_but_last (instance_nodes instance.now)) }
+{
+    instance.node_iter().count()
+}
+
+/// The data of all nodes of a path but the end-entire one, joined, by `for`.
+pub fn all_data(alloc: Global, path: &DevicePath<'_>) -> Result<Vec<u8>, AllocError>
+    ensures { IfOk result (λ bytes. bytes.items ≡ flat_map (λ node. node.payload) (all_but_last (path_nodes path.now))) }
+{
+    let mut bytes = Vec::new(alloc);
+    for node in path.node_iter() {
+        bytes.extend_from_slice(node.data())?;
+    }
+    Ok(bytes)
+}
