@@ -1,8 +1,8 @@
 //! What a caller in another crate learns from public contracts alone.
 //!
-//! Each function here calls a library of this repository and states what it then knows of the whole
-//! input. Its proof cites nothing of the library's own proofs. A caller of your own can begin from one
-//! of these.
+//! Each function here calls a library of this repository and states what it then knows of the
+//! whole input. Its proof cites nothing of the library's own proofs. A caller of your own can begin
+//! from one of these.
 #![tactic(auto)]
 
 pub mod path;

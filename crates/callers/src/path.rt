@@ -21,7 +21,8 @@ pub fn all_instances<'a>(
     alloc: Global,
     path: &DevicePath<'a>,
 ) -> Result<Vec<DevicePathInstance<'a>>, AllocError>
-    ensures { IfOk result (λ instances. AreInstances (map instance_nodes instances.items) (path_nodes path.now)) }
+    ensures { IfOk result
+        (λ all. AreInstances (map instance_nodes all.items) (path_nodes path.now)) }
 {
     path.instance_iter().collect(alloc)
 }
@@ -35,7 +36,8 @@ pub fn node_count(path: &DevicePath<'_>) -> usize
 
 /// How many instances a path has, by `count`.
 pub fn instance_count(path: &DevicePath<'_>) -> usize
-    ensures { (parts : List (List Node)) × AreInstances parts (path_nodes path.now) × (result ≡ length parts) }
+    ensures { (parts : List (List Node))
+        × AreInstances parts (path_nodes path.now) × (result ≡ length parts) }
 {
     path.instance_iter().count()
 }
@@ -49,7 +51,8 @@ pub fn instance_node_count(instance: &DevicePathInstance<'_>) -> usize
 
 /// The data of all nodes of a path but the end-entire one, joined, by `for`.
 pub fn all_data(alloc: Global, path: &DevicePath<'_>) -> Result<Vec<u8>, AllocError>
-    ensures { IfOk result (λ bytes. bytes.items ≡ flat_map (λ node. node.payload) (all_but_last (path_nodes path.now))) }
+    ensures { let nodes = all_but_last (path_nodes path.now) in
+        IfOk result (λ bytes. bytes.items ≡ flat_map (λ node. node.payload) nodes) }
 {
     let mut bytes = Vec::new(alloc);
     for node in path.node_iter() {

@@ -17,7 +17,11 @@ use std::alloc::Global;
 pub fn bytes(alloc: Global, text: &str) -> Result<Vec<u8>, FromHexError>
     ensures { IfOk result (λ v. decode_of (filter (λ c. not (c == 32)) text.now) ≡ Ok v.items) }
 {
-    let Ok(digits) = text.bytes().filter(|c| *c != b' ').collect::<Vec<u8>>(alloc) else {
+    let Ok(digits) = text
+        .bytes()
+        .filter(|c| *c != b' ')
+        .collect::<Vec<u8>>(alloc)
+    else {
         return Err(FromHexError::OutOfMemory);
     };
     hex::decode(alloc, digits.as_slice())

@@ -1,7 +1,12 @@
--- Bytes as hex text.
-use Rattle.std.specs.Prelude.{ℕ, ◌/◌, ◌%◌, List, [], ◌∷◌, flat_map, false}
+-- Text that grows, and bytes as hex text.
+use Rattle.std.specs.Prelude.{◌≡◌, ℕ, ◌/◌, ◌%◌, List, [], ◌∷◌, ◌++◌, flat_map, false, string_bytes}
+use Rattle.std.specs.declared.string.String.{String}
 use Rattle.std.specs.Fmt.{digit_glyph}
 
 -- Two lower case hex digits a byte, joined.
 abbrev pub hex_of : List ℕ → List ℕ
 hex_of bytes = flat_map (λ byte. digit_glyph false (byte / 16) ∷ digit_glyph false (byte % 16) ∷ []) bytes
+
+-- The string grew by the text.
+abbrev pub AppendsText : {A : Type 0} → String A → String A → List ℕ → Type 0
+AppendsText old new text = string_bytes new ≡ string_bytes old ++ text

@@ -1,9 +1,10 @@
 -- The lines of a device path.
-use Rattle.std.specs.Prelude.{◌≡◌, ℕ, List, [], ◌∷◌, ◌++◌, length, codes, flat_map}
+use Rattle.std.specs.Prelude.{ℕ, List, [], ◌∷◌, ◌++◌, length, codes, flat_map}
 use Rattle.std.specs.Fmt.{decimal}
+use Rattle.std.specs.declared.string.String.{String}
 use Rattle.uefi_path.specs.Node.{Node, joined}
 use Rattle.uefi_path.specs.Path.{AreInstances, all_but_last}
-use Rattle.uefi_list.specs.HexText.{hex_of}
+use Rattle.uefi_list.specs.HexText.{hex_of, AppendsText}
 
 -- A space and the bytes in hex; nothing where there are none.
 abbrev pub hex_field : List ℕ → List ℕ
@@ -23,5 +24,5 @@ abbrev pub path_lines : List Node → List (List Node) → List ℕ
 path_lines nodes parts = flat_map instance_lines parts ++ codes "path " ++ decimal (length (joined nodes)) ++ codes "\n"
 
 -- The text grows by the lines of the path's instances and of the path.
-abbrev pub AppendsPathLines : List Node → List ℕ → List ℕ → Type 0
-AppendsPathLines nodes old new = (parts : List (List Node)) × AreInstances parts nodes × (new ≡ old ++ path_lines nodes parts)
+abbrev pub AppendsPathLines : {A : Type 0} → String A → String A → List Node → Type 0
+AppendsPathLines old new nodes = (parts : List (List Node)) × AreInstances parts nodes × AppendsText old new (path_lines nodes parts)

@@ -6,3 +6,7 @@ use Rattle.uefi_list.specs.declared.command.Command.TheVariants.{Path}
 -- The words, after the program's name, ask for the command.
 abbrev pub Asks : Command → List (List ℕ) → Type 0
 Asks Path words = (file : List ℕ) × (words ≡ codes "path" ∷ file ∷ [])
+
+-- The words ask for no command.
+abbrev pub AskForNothing : List (List ℕ) → Type 0
+AskForNothing words = (command : Command) → Asks command words → ⊥

@@ -1,6 +1,5 @@
 ghost use Rattle.std.specs.Prelude.{◌≡◌, map, string_bytes, IfSome, IfNone};
-ghost use Rattle.uefi_list.specs.declared.command.Command.{Command};
-ghost use Rattle.uefi_list.specs.Words.{Asks};
+ghost use Rattle.uefi_list.specs.Words.{Asks, AskForNothing};
 
 /// What the program is asked to list.
 #[derive(Clone, Copy, PartialEq, Eq, Debug)]
@@ -10,10 +9,11 @@ pub enum Command {
 }
 
 impl Command {
-    /// The command that the words after the program's name ask for, or `None` where they ask for none.
+    /// The command that the words after the program's name ask for, or `None` where they ask for
+    /// none.
     pub fn from_words(words: &[String]) -> Option<Command>
         ensures asked { IfSome result (λ command. Asks command (map string_bytes words.now)) }
-        ensures other_words { IfNone result ((command : Command) → Asks command (map string_bytes words.now) → ⊥) }
+        ensures other_words { IfNone result (AskForNothing (map string_bytes words.now)) }
     {
         let [command, _file] = words else {
             return None;

@@ -1,8 +1,9 @@
 //! `uefi_list COMMAND FILE [ARG]` prints what a file of UEFI records holds.
 //!
-//! Nearly all of it is a library in modules: [`command`] judges the words, [`listing`] makes the text
-//! of a listing in memory, and [`run`] writes it. What they answer is proved. [`program`] joins them
-//! with the files, the streams and the exit status of the process, of which no contract can speak.
+//! Nearly all of it is a library in modules: [`command`] judges the words, [`listing`] makes the
+//! text of a listing in memory, and [`run`] writes it. What they answer is proved. [`program`]
+//! joins them with the files, the streams and the exit status of the process, of which no contract
+//! can speak.
 #![tactic(auto)]
 
 use std::process::ExitCode;

@@ -1,5 +1,6 @@
-ghost use Rattle.std.specs.Prelude.{◌≡◌, ◌++◌, string_bytes, OnOk};
+ghost use Rattle.std.specs.Prelude.{OnOk};
 ghost use Rattle.uefi_path.specs.Views.{node_of, instance_nodes, path_nodes};
+ghost use Rattle.uefi_list.specs.HexText.{AppendsText};
 ghost use Rattle.uefi_list.specs.PathListing.{node_line, instance_lines, AppendsPathLines};
 
 use crate::hex_text::push_hex;
@@ -11,7 +12,7 @@ fn push_node<A: Allocator>(
     text: &mut String<A>,
     node: &DevicePathNode<'_>,
 ) -> Result<(), AllocError>
-    ensures { OnOk result (string_bytes text.new ≡ string_bytes text.old ++ node_line (node_of node.now)) }
+    ensures { OnOk result (AppendsText text.old text.new (node_line (node_of node.now))) }
 {
     let (device_type, sub_type) = node.full_type();
     let data = node.data();
@@ -31,7 +32,8 @@ fn push_instance<A: Allocator>(
     text: &mut String<A>,
     instance: &DevicePathInstance<'_>,
 ) -> Result<(), AllocError>
-    ensures { OnOk result (string_bytes text.new ≡ string_bytes text.old ++ instance_lines (instance_nodes instance.now)) }
+    ensures { OnOk result
+        (AppendsText text.old text.new (instance_lines (instance_nodes instance.now))) }
 {
     let length = instance.as_bytes().len();
     writeln!(text, "instance {length}")?;
@@ -46,7 +48,7 @@ pub(crate) fn push_path<A: Allocator>(
     text: &mut String<A>,
     path: &DevicePath<'_>,
 ) -> Result<(), AllocError>
-    ensures { OnOk result (AppendsPathLines (path_nodes path.now) (string_bytes text.old) (string_bytes text.new)) }
+    ensures { OnOk result (AppendsPathLines text.old text.new (path_nodes path.now)) }
 {
     for instance in path.instance_iter() {
         push_instance(text, &instance)?;

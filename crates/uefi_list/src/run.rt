@@ -34,8 +34,10 @@ pub fn run<A: Allocator, W: Write>(
     bytes: &[u8],
     out: &mut W,
 ) -> Result<Outcome, RunError>
-    ensures whole { IfOk result (λ outcome. WroteListing command.now bytes.now outcome (W.contents out.old) (W.contents out.new)) }
-    ensures part { IfErr result (StoppedAt command.now bytes.now (W.contents out.old) (W.contents out.new)) }
+    ensures whole { IfOk result
+        (WroteListing command.now bytes.now (W.contents out.old) (W.contents out.new)) }
+    ensures part { IfErr result
+        (StoppedAt command.now bytes.now (W.contents out.old) (W.contents out.new)) }
 {
     let (text, outcome) = listing(alloc, command, bytes)?;
     let mut sent = 0;

@@ -1,10 +1,9 @@
 -- A walk over the nodes at the front of bytes.
-use Rattle.std.proofs.Common.{◌≡◌, ℕ, ◌-◌, List, [], ◌∷◌, ◌++◌, length, take, drop, sym, ◌∙◌, ap, subst, arith, append_assoc, length-append}
-use Rattle.std.proofs.lemmas.List.{take-append-drop}
+use Rattle.std.proofs.Common.{◌≡◌, ℕ, ◌-◌, List, [], ◌∷◌, ◌++◌, length, take, sym, ◌∙◌, ap, subst, arith, append_assoc, length-append}
 use Rattle.std.proofs.Math.Seq.{take-append_seam}
 use Rattle.std.specs.List.{AllByRecursion}
-use Rattle.uefi_path.specs.Node.{Node, Fits, encoding, joined, IsFront, AreNodes}
-use Rattle.uefi_path.specs.Path.{LastAlone, AreEndedBy}
+use Rattle.uefi_path.specs.Node.{Node, Fits, encoding, joined, IsFront, HasNoNode, AreNodes}
+use Rattle.uefi_path.specs.Path.{LastAlone, AreEndedBy, HasNone}
 use Rattle.uefi_path.specs.Spelling.{SpellsNodes}
 use Rattle.uefi_path.specs.OneNode.{one_encoding}
 use Rattle.uefi_path.specs.OnePath.{joined-append}
@@ -45,23 +44,20 @@ passed_more P bytes rest after n before fits not_so e = (
   },
 )
 
--- The walk stops at a node that is so: the bytes up to its end, and those after it.
+-- The walk stops at a node that is so: the bytes up to its end.
 pub passed_end : (P : Node → Type 0) (bytes rest after : List ℕ) (n : Node) → HasPassed P bytes rest → Fits n → P n → rest ≡ encoding n ++ after
-    → SpellsNodes P (take (length bytes - length after) bytes) × (bytes ≡ take (length bytes - length after) bytes ++ drop (length bytes - length after) bytes)
+    → SpellsNodes P (take (length bytes - length after) bytes)
 passed_end P bytes rest after n before fits so e =
     let nodes : List Node = before.0 ++ n ∷ [] in
     let text : bytes ≡ joined nodes ++ after = before.1.text ∙ ap (λ s. joined before.0 ++ s) e ∙ sym (joined-push before.0 n after) in
     let seam : length bytes - length after ≡ length (joined nodes) = omega (arith, ap length text, length-append (joined nodes) after) in
     let front : take (length bytes - length after) bytes ≡ joined nodes =
     ap (λ s. take (length bytes - length after) s) text ∙ ap (λ k. take k (joined nodes ++ after)) seam ∙ take-append_seam (joined nodes) after in (
-      (
-        nodes,
-        record {
-          ended = record { each = AllByRecursion-push Fits before.0 n before.1.each fits; end = LastAlone-push P before.0 n before.1.none so };
-          text = front;
-        },
-      ),
-      sym (take-append-drop (length bytes - length after) bytes),
+      nodes,
+      record {
+        ended = record { each = AllByRecursion-push Fits before.0 n before.1.each fits; end = LastAlone-push P before.0 n before.1.none so };
+        text = front;
+      },
     )
 
 -- Nodes of which the last alone is so, and whose bytes begin the bytes, go on with a node where the walk stands.
@@ -77,8 +73,7 @@ next_of_others P (n ∷ ns) (m ∷ l ∷ ms) rest x each none others e =
     next_of_others P ns (l ∷ ms) rest x each.1 none.1 (record { each = others.each.1; end = others.end.1 }) first.1
 
 -- Where no node comes, the bytes begin with no such nodes.
-pub passed_nowhere : (P : Node → Type 0) (bytes rest : List ℕ) → HasPassed P bytes rest → ((n : Node) → Fits n → IsFront (encoding n) rest → ⊥)
-    → (nodes : List Node) → AreEndedBy P nodes → IsFront (joined nodes) bytes → ⊥
+pub passed_nowhere : (P : Node → Type 0) (bytes rest : List ℕ) → HasPassed P bytes rest → HasNoNode rest → HasNone P bytes
 passed_nowhere P bytes rest before refused others ended front =
     let next = next_of_others P before.0 others rest front.0 before.1.each before.1.none ended (sym before.1.text ∙ front.1) in
     refused next.0 next.1 next.2

@@ -3,8 +3,8 @@ use Rattle.std.proofs.Common.{◌≡◌, ℕ, ◌+◌, ◌*◌, ◌<◌, ◌≤�
 use Rattle.std.specs.Int.{w16, to_le_bytes, from_le_bytes}
 use Rattle.std.proofs.lemmas.Nat.{from_le_bytes-to_le_bytes_2}
 use Rattle.uefi_path.specs.Node.{Node, Fits, encoding, joined, IsEnd, IsEndEntire}
-use Rattle.uefi_path.specs.Path.{AreEndedBy, IsPath}
-use Rattle.uefi_path.specs.Rows.{node, first_part, second_part, unknown_end, end_entire, TwoInstances, AnyEnd, EndWithData, HasNoPath, NoPath, RowsHold}
+use Rattle.uefi_path.specs.Path.{AreEndedBy, IsPath, HasNoPath}
+use Rattle.uefi_path.specs.Rows.{node, first_part, second_part, unknown_end, end_entire, TwoInstances, AnyEnd, EndWithData, NoPath, RowsHold}
 use Rattle.uefi_path.proofs.Steps.{AreEndedBy-cons}
 
 fits : (t s : ℕ) (d : List ℕ) → t < 256 → s < 256 → length d ≤ 65531 → Fits (node t s d)

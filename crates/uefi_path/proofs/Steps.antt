@@ -1,7 +1,7 @@
 -- One step of the iterators.
 use Rattle.std.proofs.Common.{◌≡◌, ℕ, List, [], ◌∷◌, ◌++◌, refl, sym, ◌∙◌, ap, subst}
 use Rattle.uefi_path.specs.Node.{Node, Fits, encoding, joined, IsFront, IsEnd}
-use Rattle.uefi_path.specs.Path.{AreEndedBy, concat, all_but_last}
+use Rattle.uefi_path.specs.Path.{AreEndedBy, HasNone, concat, all_but_last}
 use Rattle.uefi_path.specs.Spelling.{IsTextOfNodes, SpellsNodes, IsTextOfInstances, SpellsInstances}
 use Rattle.uefi_path.specs.OneNode.{one_encoding}
 use Rattle.uefi_path.specs.OnePath.{one_ended, spelled_once, instances_spelled_once, joined-append, instance_bytes}
@@ -49,8 +49,7 @@ next_node P bytes after n nodes others spelled fits not_so e left =
     ap all_but_last all ∙ all_but_last-cons P n others left.ended
 
 -- Where no instance comes, none is left.
-pub no_instance : (bytes : List ℕ) (parts : List (List Node)) → IsTextOfInstances bytes parts
-    → ((nodes : List Node) → AreEndedBy IsEnd nodes → IsFront (joined nodes) bytes → ⊥) → parts ≡ []
+pub no_instance : (bytes : List ℕ) (parts : List (List Node)) → IsTextOfInstances bytes parts → HasNone IsEnd bytes → parts ≡ []
 no_instance bytes [] spelled refused = refl
 no_instance bytes (p ∷ parts) spelled refused = absurd (refused p spelled.each.0 (joined (concat parts), spelled.text ∙ joined-append p (concat parts)))
 

@@ -39,3 +39,7 @@ IsEndEntire node = (node.device_type ≡ END.0) × (node.sub_type ≡ END_ENTIRE
 -- The list begins with the front, which may be empty or the whole.
 abbrev pub IsFront : {A : Type 0} → List A → List A → Type 0
 IsFront {A} front whole = (rest : List A) × (whole ≡ front ++ rest)
+
+-- No front of the bytes is a node.
+abbrev pub HasNoNode : List ℕ → Type 0
+HasNoNode bytes = (node : Node) → Fits node → IsFront (encoding node) bytes → ⊥

@@ -5,7 +5,7 @@ use mathlib.Core.HLevel.{Σ_prop_path, ×_prop, Π_prop, ⊥_prop}
 use Rattle.std.specs.List.{AllByRecursion, AllByRecursion-prop}
 use Rattle.uefi_path.specs.Node.{Node, Fits, encoding, joined, AreNodes, IsEndEntire, IsEnd}
 use Rattle.uefi_path.specs.Path.{LastAlone, AreEndedBy, IsPath, IsInstance, concat}
-use Rattle.uefi_path.specs.Spelling.{IsTextOfNodes, SpellsNodes, IsTextOfInstances, SpellsInstances}
+use Rattle.uefi_path.specs.Spelling.{IsTextOfNodes, SpellsNodes, SpellsPath, SpellsInstance, IsTextOfInstances, SpellsInstances}
 use Rattle.uefi_path.specs.OneNode.{one_encoding, Fits-prop}
 
 -- The first node's bytes and what follows them, as `one_encoding` takes them.
@@ -89,6 +89,12 @@ IsEndEntire-prop n = hlevel props
 
 pub IsEnd-prop : (n : Node) → IsProp (IsEnd n)
 IsEnd-prop n = hlevel props
+
+pub SpellsPath-prop : (bytes : List ℕ) → IsProp (SpellsPath bytes)
+SpellsPath-prop = SpellsNodes-prop IsEndEntire IsEndEntire-prop
+
+pub SpellsInstance-prop : (bytes : List ℕ) → IsProp (SpellsInstance bytes)
+SpellsInstance-prop = SpellsNodes-prop IsEnd IsEnd-prop
 
 IsInstance-prop : (p : List Node) → IsProp (IsInstance p)
 IsInstance-prop = AreEndedBy-prop IsEnd IsEnd-prop

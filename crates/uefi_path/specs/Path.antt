@@ -1,7 +1,7 @@
 -- Device paths, and the instances that a path is cut into (UEFI 2.10, 10.2 and 10.3.1).
-use Rattle.std.specs.Prelude.{◌≡◌, List, [], ◌∷◌}
+use Rattle.std.specs.Prelude.{◌≡◌, ℕ, List, [], ◌∷◌}
 use Rattle.std.specs.List.{flat_map, AllByRecursion}
-use Rattle.uefi_path.specs.Node.{Node, AreNodes, IsEnd, IsEndEntire}
+use Rattle.uefi_path.specs.Node.{Node, joined, AreNodes, IsEnd, IsEndEntire, IsFront}
 
 -- The last of the list, and no other, is so.
 abbrev pub LastAlone : {A : Type 0} → (A → Type 0) → List A → Type 0
@@ -21,6 +21,14 @@ IsPath = AreEndedBy IsEndEntire
 -- An instance: nodes of which the last, and no other, has the type END.
 abbrev pub IsInstance : List Node → Type 0
 IsInstance = AreEndedBy IsEnd
+
+-- No front of the bytes is such nodes.
+abbrev pub HasNone : (Node → Type 0) → List ℕ → Type 0
+HasNone P bytes = (nodes : List Node) → AreEndedBy P nodes → IsFront (joined nodes) bytes → ⊥
+
+-- No front of the bytes is a path.
+abbrev pub HasNoPath : List ℕ → Type 0
+HasNoPath = HasNone IsEndEntire
 
 -- The parts, one after another.
 abbrev pub concat : List (List Node) → List Node

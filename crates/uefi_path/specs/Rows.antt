@@ -1,7 +1,7 @@
 -- Worked rows of the definitions: what the bytes of some paths are, and that some bytes begin with none.
 use Rattle.std.specs.Prelude.{◌≡◌, ℕ, List, [], ◌∷◌, ◌++◌}
 use Rattle.uefi_path.specs.Node.{Node, joined, IsFront}
-use Rattle.uefi_path.specs.Path.{IsPath, AreInstances, all_but_last}
+use Rattle.uefi_path.specs.Path.{IsPath, HasNoPath, AreInstances, all_but_last}
 
 abbrev pub node : ℕ → ℕ → List ℕ → Node
 node t s d = record { device_type = t; sub_type = s; payload = d }
@@ -38,9 +38,6 @@ pub record AnyEnd : Type 0 where
 pub record EndWithData : Type 0 where
   pub path : IsPath (node 0x7f 0xff (0xaa ∷ 0xbb ∷ []) ∷ [])
   pub front : IsFront (joined (node 0x7f 0xff (0xaa ∷ 0xbb ∷ []) ∷ [])) (0x7f ∷ 0xff ∷ 6 ∷ 0 ∷ 0xaa ∷ 0xbb ∷ 0xcc ∷ [])
-
-abbrev pub HasNoPath : List ℕ → Type 0
-HasNoPath bytes = (nodes : List Node) → IsPath nodes → IsFront (joined nodes) bytes → ⊥
 
 -- No bytes, a length below 4, a length beyond the bytes, no end-entire node.
 pub record NoPath : Type 0 where

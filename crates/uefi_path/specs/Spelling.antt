@@ -1,7 +1,7 @@
 -- What a view keeps of its bytes: that a node, or nodes, or instances spell them.
 use Rattle.std.specs.Prelude.{◌≡◌, ℕ, List}
 use Rattle.std.specs.List.{AllByRecursion}
-use Rattle.uefi_path.specs.Node.{Node, Fits, encoding, joined}
+use Rattle.uefi_path.specs.Node.{Node, Fits, encoding, joined, IsEnd, IsEndEntire}
 use Rattle.uefi_path.specs.Path.{AreEndedBy, IsInstance, concat}
 
 -- The bytes are those of the node.
@@ -19,11 +19,18 @@ pub record IsTextOfInstances (bytes : List ℕ) (parts : List (List Node)) : Typ
   pub each : AllByRecursion IsInstance parts
   pub text : bytes ≡ joined (concat parts)
 
+-- Some node, or nodes, or instances spell the bytes.
 abbrev pub SpellsNode : List ℕ → Type 0
 SpellsNode bytes = (node : Node) × IsTextOfNode bytes node
 
 abbrev pub SpellsNodes : (Node → Type 0) → List ℕ → Type 0
 SpellsNodes P bytes = (nodes : List Node) × IsTextOfNodes P bytes nodes
+
+abbrev pub SpellsPath : List ℕ → Type 0
+SpellsPath = SpellsNodes IsEndEntire
+
+abbrev pub SpellsInstance : List ℕ → Type 0
+SpellsInstance = SpellsNodes IsEnd
 
 abbrev pub SpellsInstances : List ℕ → Type 0
 SpellsInstances bytes = (parts : List (List Node)) × IsTextOfInstances bytes parts

@@ -1,8 +1,8 @@
 ghost use Rattle.std.specs.Prelude.{◌≡◌, ◌^◌, ◌<◌, length};
 ghost use Rattle.uefi_path.specs.Node.{joined, IsEnd};
 ghost use Rattle.uefi_path.specs.Path.{IsInstance, all_but_last};
-ghost use Rattle.uefi_path.specs.Spelling.{IsTextOfNodes, SpellsNodes};
-ghost use Rattle.uefi_path.specs.OnePath.{SpellsNodes-prop, IsEnd-prop};
+ghost use Rattle.uefi_path.specs.Spelling.{IsTextOfNodes, SpellsInstance};
+ghost use Rattle.uefi_path.specs.OnePath.{SpellsInstance-prop};
 
 use crate::node_iter::DevicePathNodeIterator;
 use crate::walk::StopCondition;
@@ -10,12 +10,12 @@ use crate::walk::StopCondition;
 /// One instance of a device path (UEFI 2.10, 10.2): nodes of which the last, and no other, has the
 /// type END.
 ///
-/// Its bytes are those of the nodes, joined. A view: it borrows the path's bytes, and what it hands out
-/// lives as long as they do.
+/// Its bytes are those of the nodes, joined. A view: it borrows the path's bytes, and what it hands
+/// out lives as long as they do.
 #[derive(Clone, Copy)]
 pub struct DevicePathInstance<'a> {
     bytes: &'a [u8],
-    pub ghost nodes: { SpellsNodes IsEnd bytes.now } by { SpellsNodes-prop IsEnd IsEnd-prop bytes.now },
+    pub ghost nodes: { SpellsInstance bytes.now } by { SpellsInstance-prop bytes.now },
 }
 
 impl<'a> DevicePathInstance<'a> {
@@ -23,7 +23,7 @@ impl<'a> DevicePathInstance<'a> {
 
     // The instance with these bytes.
     pub(crate) fn whole(bytes: &'a [u8]) -> DevicePathInstance<'a>
-        requires { SpellsNodes IsEnd bytes.now }
+        requires { SpellsInstance bytes.now }
         ensures { IsTextOfNodes IsEnd bytes.now (instance_nodes result) }
     {
         DevicePathInstance { bytes }

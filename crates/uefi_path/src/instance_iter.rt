@@ -7,8 +7,8 @@ use crate::walk::{StopCondition, split_nodes};
 
 /// The instances of a path, in order.
 ///
-/// Each instance lives as long as the source bytes, not as the iterator. After the last instance the
-/// iterator stays ended.
+/// Each instance lives as long as the source bytes, not as the iterator. After the last instance
+/// the iterator stays ended.
 #[derive(Clone, Copy)]
 pub struct DevicePathInstanceIterator<'a> {
     rest: &'a [u8],

@@ -18,7 +18,8 @@ const HEADER_LENGTH: usize = 4;
 /// | 2 | 2 | length of the whole node in bytes, little-endian, 4 to 65535 |
 /// | 4 | length - 4 | data |
 ///
-/// A view: it borrows the bytes that it was read from, and what it hands out lives as long as they do.
+/// A view: it borrows the bytes that it was read from, and what it hands out lives as long as they
+/// do.
 #[derive(Clone, Copy)]
 pub struct DevicePathNode<'a> {
     bytes: &'a [u8],
@@ -91,9 +92,9 @@ impl<'a> DevicePathNode<'a> {
 
 /// Reads the node that the bytes begin with; what follows it isn't looked at.
 ///
-/// Refused as [`ByteConversionError::InvalidLength`] where there are fewer than four bytes, or where
-/// the length that the header states is below 4 or beyond the bytes: exactly where no node is a
-/// front of them.
+/// Refused as [`ByteConversionError::InvalidLength`] where there are fewer than four bytes, or
+/// where the length that the header states is below 4 or beyond the bytes: exactly where no node is
+/// a front of them.
 impl<'a> TryFrom<&'a [u8]> for DevicePathNode<'a> {
     ghost use Rattle.uefi_path.specs.Views.{node_of};
     ghost use Rattle.uefi_path.specs.Reading.{ReadsNode};

@@ -8,8 +8,8 @@ use crate::walk::{StopCondition, split_node};
 
 /// The nodes of a path or of an instance, in order, without the one that ends it.
 ///
-/// Each node lives as long as the source bytes, not as the iterator. After the last node the iterator
-/// stays ended.
+/// Each node lives as long as the source bytes, not as the iterator. After the last node the
+/// iterator stays ended.
 #[derive(Clone, Copy)]
 pub struct DevicePathNodeIterator<'a> {
     rest: &'a [u8],

@@ -1,8 +1,8 @@
 ghost use Rattle.std.specs.Prelude.{◌≡◌, ◌*◌, ◌^◌, ◌<◌, ◌≤◌, length};
 ghost use Rattle.uefi_path.specs.Node.{joined, IsEndEntire};
 ghost use Rattle.uefi_path.specs.Path.{IsPath, AreInstances, all_but_last};
-ghost use Rattle.uefi_path.specs.Spelling.{IsTextOfNodes, SpellsNodes};
-ghost use Rattle.uefi_path.specs.OnePath.{SpellsNodes-prop, IsEndEntire-prop};
+ghost use Rattle.uefi_path.specs.Spelling.{IsTextOfNodes, SpellsPath};
+ghost use Rattle.uefi_path.specs.OnePath.{SpellsPath-prop};
 
 use crate::error::ByteConversionError;
 use crate::instance_iter::DevicePathInstanceIterator;
@@ -11,12 +11,12 @@ use crate::walk::{StopCondition, split_nodes};
 
 /// A device path (UEFI 2.10, 10.2): nodes of which the last, and no other, is the end-entire node.
 ///
-/// Its bytes are those of the nodes, joined. A view: it borrows the bytes that it was read from, and
-/// what it hands out lives as long as they do.
+/// Its bytes are those of the nodes, joined. A view: it borrows the bytes that it was read from,
+/// and what it hands out lives as long as they do.
 #[derive(Clone, Copy)]
 pub struct DevicePath<'a> {
     bytes: &'a [u8],
-    pub ghost nodes: { SpellsNodes IsEndEntire bytes.now } by { SpellsNodes-prop IsEndEntire IsEndEntire-prop bytes.now },
+    pub ghost nodes: { SpellsPath bytes.now } by { SpellsPath-prop bytes.now },
 }
 
 impl<'a> DevicePath<'a> {
@@ -24,7 +24,7 @@ impl<'a> DevicePath<'a> {
 
     // The path with these bytes.
     fn whole(bytes: &'a [u8]) -> DevicePath<'a>
-        requires { SpellsNodes IsEndEntire bytes.now }
+        requires { SpellsPath bytes.now }
         ensures { IsTextOfNodes IsEndEntire bytes.now (path_nodes result) }
     {
         DevicePath { bytes }

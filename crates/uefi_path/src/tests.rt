@@ -15,7 +15,8 @@ const TWO_INSTANCES: &str =
 /// serial port with its settings and its kind of terminal.
 const CON_OUT: &str = "0201 0c00 d041030a00000000  0101 0600 0002  0203 0800 00010180  7f01 0400 \
     0201 0c00 d041030a00000000  0101 0600 001f  0201 0c00 d041010500000000 \
-    030e 1300 0000000000c2010000000000080101  030a 1400 5347c1e0bef9d2119a0c0090273fc14d  7fff 0400";
+    030e 1300 0000000000c2010000000000080101 \
+    030a 1400 5347c1e0bef9d2119a0c0090273fc14d  7fff 0400";
 
 /// A node as a row states it: its type, its subtype and its data in hex.
 type Expected<'a> = (u8, u8, &'a str);

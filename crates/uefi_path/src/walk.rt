@@ -1,6 +1,6 @@
-ghost use Rattle.std.specs.Prelude.{◌≡◌, ◌↔◌, ℕ, ◌++◌, List, IsTrue, IfOk, OnErr};
-ghost use Rattle.uefi_path.specs.Node.{Node, Fits, encoding, joined, IsFront};
-ghost use Rattle.uefi_path.specs.Path.{AreEndedBy};
+ghost use Rattle.std.specs.Prelude.{◌≡◌, ◌↔◌, ◌++◌, IsTrue, IfOk, OnErr};
+ghost use Rattle.uefi_path.specs.Node.{Fits, encoding, HasNoNode};
+ghost use Rattle.uefi_path.specs.Path.{HasNone};
 ghost use Rattle.uefi_path.specs.Stop.{Stops};
 ghost use Rattle.uefi_path.specs.Spelling.{SpellsNodes};
 ghost use Rattle.uefi_path.specs.Views.{node_of};
@@ -32,8 +32,9 @@ impl StopCondition {
 
 /// The node at the front of the bytes, and the bytes after it.
 pub(crate) fn split_node(bytes: &[u8]) -> Result<(DevicePathNode<'_>, &[u8]), ByteConversionError>
-    ensures ok { IfOk result (λ r. Fits (node_of r.0) × (bytes.now ≡ encoding (node_of r.0) ++ r.1.now)) }
-    ensures err { OnErr result ((node : Node) → Fits node → IsFront (encoding node) bytes.now → ⊥) }
+    ensures fits { IfOk result (λ r. Fits (node_of r.0)) }
+    ensures split { IfOk result (λ r. bytes.now ≡ encoding (node_of r.0) ++ r.1.now) }
+    ensures none { OnErr result (HasNoNode bytes.now) }
 {
     let node = DevicePathNode::try_from(bytes)?;
     let (_, after) = bytes.split_at(node.as_bytes().len());
@@ -45,8 +46,9 @@ pub(crate) fn split_nodes(
     bytes: &[u8],
     stop: StopCondition,
 ) -> Result<(&[u8], &[u8]), ByteConversionError>
-    ensures ok { IfOk result (λ r. SpellsNodes (Stops stop) r.0.now × (bytes.now ≡ r.0.now ++ r.1.now)) }
-    ensures err { OnErr result ((nodes : List Node) → AreEndedBy (Stops stop) nodes → IsFront (joined nodes) bytes.now → ⊥) }
+    ensures nodes { IfOk result (λ r. SpellsNodes (Stops stop) r.0.now) }
+    ensures split { IfOk result (λ r. bytes.now ≡ r.0.now ++ r.1.now) }
+    ensures none { OnErr result (HasNone (Stops stop) bytes.now) }
 {
     let mut rest = bytes;
     loop {

@@ -5,18 +5,18 @@ use Rattle.uefi_path.specs.Views.{node_of}
 use Rattle.uefi_path.proofs.Passing.{passed_more, passed_end, passed_nowhere}
 use Rattle.uefi_path.proofs.walk.split_nodes.Goals as goal
 
-pub returns-in_err-node-clause-err : goal.returns-in_err-node-clause-err
-returns-in_err-node-clause-err c =
+pub returns-in_err-node-clause-none : goal.returns-in_err-node-clause-none
+returns-in_err-node-clause-none c =
     MatchResult-from_err c.from_residual.result (λ _. Unit {0}) _ c.from_residual.ensures.0
-    (λ _. passed_nowhere (Stops c.args.stop) c.args.bytes.now c.loop-node.rest.now c.loop-node.invariant c.in_err-node.ensures.err)
+    (λ _. passed_nowhere (Stops c.args.stop) c.args.bytes.now c.loop-node.rest.now c.loop-node.invariant c.in_err-node.ensures.none)
 
-pub returns-then-stops_at-clause-ok : goal.returns-then-stops_at-clause-ok
-returns-then-stops_at-clause-ok c =
-    rw (c.split_at.ensures.front, c.split_at.ensures.back)
-    (passed_end (Stops c.args.stop) c.args.bytes.now c.loop-node.rest.now c.in_ok-node.after.now (node_of c.in_ok-node.node) c.loop-node.invariant c.in_ok-node.ensures.ok.0 (c.stops_at.ensures.0 c.if-stops_at.true) c.in_ok-node.ensures.ok.1)
+pub returns-then-stops_at-clause-nodes : goal.returns-then-stops_at-clause-nodes
+returns-then-stops_at-clause-nodes c =
+    rw c.split_at.ensures.front
+    (passed_end (Stops c.args.stop) c.args.bytes.now c.loop-node.rest.now c.in_ok-node.after.now (node_of c.in_ok-node.node) c.loop-node.invariant c.in_ok-node.ensures.fits (c.stops_at.ensures.0 c.if-stops_at.true) c.in_ok-node.ensures.split)
 
 pub loop-node-preserved : goal.loop-node-preserved
 loop-node-preserved c =
-    passed_more (Stops c.args.stop) c.args.bytes.now c.loop-node.rest.now c.in_ok-node.after.now (node_of c.in_ok-node.node) c.loop-node.invariant c.in_ok-node.ensures.ok.0
+    passed_more (Stops c.args.stop) c.args.bytes.now c.loop-node.rest.now c.in_ok-node.after.now (node_of c.in_ok-node.node) c.loop-node.invariant c.in_ok-node.ensures.fits
     (λ so. let stopped : false ≡ true = c.if-stops_at.ensures.1 so in cc)
-    c.in_ok-node.ensures.ok.1
+    c.in_ok-node.ensures.split

@@ -8,26 +8,26 @@ pub returns-in_default-clause-steps : goal.returns-in_default-clause-steps
 returns-in_default-clause-steps c =
     let iter = c.args.self.now in
     let first = first_node (Stops iter.stop) iter.rest.now iter.nodes.0 iter.nodes.1 in
-    absurd (c.in_default.ensures.err first.0 first.1 first.2)
+    absurd (c.in_default.ensures.none first.0 first.1 first.2)
 
 pub returns-then-stops_at-clause-steps : goal.returns-then-stops_at-clause-steps
 returns-then-stops_at-clause-steps c =
     let iter = c.args.self.now in
     let none : nodes_left iter ≡ [] =
-    none_before_end (Stops iter.stop) iter.rest.now c.in-Ok.after.now (node_of c.in-Ok.node) iter.nodes.0 iter.nodes.1 c.in-Ok.ensures.ok.0 (c.stops_at.ensures.0 c.if-stops_at.true) c.in-Ok.ensures.ok.1 in
+    none_before_end (Stops iter.stop) iter.rest.now c.in-Ok.after.now (node_of c.in-Ok.node) iter.nodes.0 iter.nodes.1 c.in-Ok.ensures.fits (c.stops_at.ensures.0 c.if-stops_at.true) c.in-Ok.ensures.split in
     (none, none)
 
 pub over-requires : goal.over-requires
 over-requires c =
     let iter = c.args.self.now in
-    after_node (Stops iter.stop) iter.rest.now c.in-Ok.after.now (node_of c.in-Ok.node) iter.nodes.0 iter.nodes.1 c.in-Ok.ensures.ok.0
-    (λ so. let stopped : false ≡ true = c.if-stops_at.ensures.1 so in cc) c.in-Ok.ensures.ok.1
+    after_node (Stops iter.stop) iter.rest.now c.in-Ok.after.now (node_of c.in-Ok.node) iter.nodes.0 iter.nodes.1 c.in-Ok.ensures.fits
+    (λ so. let stopped : false ≡ true = c.if-stops_at.ensures.1 so in cc) c.in-Ok.ensures.split
 
 pub returns-clause-steps : goal.returns-clause-steps
 returns-clause-steps c =
     let iter = c.args.self.now in
-    next_node (Stops iter.stop) iter.rest.now c.in-Ok.after.now (node_of c.in-Ok.node) iter.nodes.0 c.over.result.nodes.0 iter.nodes.1 c.in-Ok.ensures.ok.0
-    (λ so. let stopped : false ≡ true = c.if-stops_at.ensures.1 so in cc) c.in-Ok.ensures.ok.1 c.over.ensures.nodes
+    next_node (Stops iter.stop) iter.rest.now c.in-Ok.after.now (node_of c.in-Ok.node) iter.nodes.0 c.over.result.nodes.0 iter.nodes.1 c.in-Ok.ensures.fits
+    (λ so. let stopped : false ≡ true = c.if-stops_at.ensures.1 so in cc) c.in-Ok.ensures.split c.over.ensures.nodes
 
 pub returns-clause-goes : goal.returns-clause-goes
 returns-clause-goes c =

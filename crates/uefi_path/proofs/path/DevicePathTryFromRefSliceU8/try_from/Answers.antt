@@ -8,7 +8,7 @@ pub returns : goal.returns
 returns c =
     let nodes = path_nodes c.whole.result in
     let after = c.in_ok-front.field-0-1.now in
-    let spelled : c.args.bytes.now ≡ joined nodes ++ after = c.in_ok-front.ensures.ok.1 ∙ ap (λ s. s ++ after) c.whole.ensures.text in
+    let spelled : c.args.bytes.now ≡ joined nodes ++ after = c.in_ok-front.ensures.split ∙ ap (λ s. s ++ after) c.whole.ensures.text in
     record {
       ok = (c.whole.ensures.ended, (after, spelled));
       only = λ others path front. (one_path others nodes front.0 after path c.whole.ensures.ended (sym front.1 ∙ spelled)).0;
