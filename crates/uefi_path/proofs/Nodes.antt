@@ -1,37 +1,55 @@
--- The node at the front of bytes.
-use Rattle.std.proofs.Common.{◌≡◌, ℕ, zero, suc, ◌+◌, ◌-◌, ◌*◌, ◌<◌, ◌≤◌, List, [], ◌∷◌, length, take, get_or, refl, subst, arith, lit<}
+-- The header and the node at the front of bytes.
+use Rattle.std.proofs.Common.{◌≡◌, ℕ, zero, suc, ◌+◌, ◌-◌, ◌*◌, ◌<◌, ◌≤◌, List, [], ◌∷◌, ◌++◌, length, take, get_or, refl, sym, ap, subst, arith, lit<}
 use Rattle.std.specs.Int.{w16, to_le_bytes}
 use Rattle.std.proofs.lemmas.Nat.{le_bytes_2}
 use Rattle.std.proofs.lemmas.List.{length-take-le}
+use Rattle.uefi_path.specs.Node.{IsFront}
+use Rattle.uefi_path.specs.Header.{header, header_bytes}
 use Rattle.uefi_path.specs.Spelling.{SpellsNode}
 
--- Four header bytes that state 4 + m, and m bytes after them, are a node's.
-node_of_parts : (a b c d : ℕ) (s : List ℕ) (m : ℕ) → a < 256 → b < 256 → c < 256 → d < 256 → m ≤ length s → m ≤ 65531
-    → 4 + m ≡ c + d * 256 → SpellsNode (take (suc (suc (suc (suc m)))) (a ∷ b ∷ c ∷ d ∷ s))
-node_of_parts a b c d s m small_a small_b small_c small_d within fits stated =
+-- Two bytes are the number that they make.
+two_bytes : (c d n : ℕ) → c < 256 → d < 256 → n ≡ c + d * 256 → to_le_bytes w16 n ≡ c ∷ d ∷ []
+two_bytes c d n small_c small_d made = le_bytes_2 (c ∷ d ∷ []) n refl both_small (omega (arith, made))
+  where
+    both_small : (i : ℕ) → get_or (c ∷ d ∷ []) i 0 < 256
+    both_small zero = small_c
+    both_small (suc zero) = small_d
+    both_small (suc (suc i)) = lit< tt
+
+-- The first four bytes are a header's.
+pub header_front : (bytes : List ℕ) (n : ℕ) → ((i : ℕ) → get_or bytes i 0 < 256) → 4 ≤ length bytes → n ≡ get_or bytes 2 0 + get_or bytes 3 0 * 256
+    → IsFront (header_bytes (header (get_or bytes 0 0) (get_or bytes 1 0) n)) bytes
+header_front [] n small enough made = absurd (omega arith)
+header_front (a ∷ []) n small enough made = absurd (omega arith)
+header_front (a ∷ b ∷ []) n small enough made = absurd (omega arith)
+header_front (a ∷ b ∷ c ∷ []) n small enough made = absurd (omega arith)
+header_front (a ∷ b ∷ c ∷ d ∷ s) n small enough made =
+    (s, ap (λ two. a ∷ b ∷ two ++ s) (sym (two_bytes c d n (small 2) (small 3) made)))
+
+-- A header that states 4 + m, and m bytes after it, are a node's.
+node_of_parts : (t u m : ℕ) (s : List ℕ) → t < 256 → u < 256 → m ≤ length s → m ≤ 65531
+    → SpellsNode (take (suc (suc (suc (suc m)))) (header_bytes (header t u (4 + m)) ++ s))
+node_of_parts t u m s type_fits sub_type_fits within fits =
     let data_length : length (take m s) ≡ m = length-take-le m s within in
-    let length_bytes : to_le_bytes w16 (4 + length (take m s)) ≡ c ∷ d ∷ [] =
-    le_bytes_2 (c ∷ d ∷ []) (4 + length (take m s)) refl (both_small c d small_c small_d) (omega (arith, data_length, stated)) in (
-      record { device_type = a; sub_type = b; payload = take m s },
+    let same_length : to_le_bytes w16 (4 + length (take m s)) ≡ to_le_bytes w16 (4 + m) = ap (λ k. to_le_bytes w16 (4 + k)) data_length in (
+      record { device_type = t; sub_type = u; payload = take m s },
       record {
-        fits = record { device_type = small_a; sub_type = small_b; payload = omega (arith, data_length) };
+        fits = record { device_type = type_fits; sub_type = sub_type_fits; payload = omega (arith, data_length) };
         text = cc;
       },
     )
-  where
-    both_small : (c d : ℕ) → c < 256 → d < 256 → (i : ℕ) → get_or (c ∷ d ∷ []) i 0 < 256
-    both_small c d p q zero = p
-    both_small c d p q (suc zero) = q
-    both_small c d p q (suc (suc i)) = lit< tt
 
--- A front as long as its own bytes 2 and 3 state is a node's bytes.
-pub node_front : (bytes : List ℕ) (n : ℕ) → ((i : ℕ) → get_or bytes i 0 < 256) → 4 ≤ n → n ≤ length bytes → n < 65536
-    → n ≡ get_or bytes 2 0 + get_or bytes 3 0 * 256 → SpellsNode (take n bytes)
-node_front [] n small header within fits stated = absurd (omega arith)
-node_front (a ∷ []) n small header within fits stated = absurd (omega arith)
-node_front (a ∷ b ∷ []) n small header within fits stated = absurd (omega arith)
-node_front (a ∷ b ∷ c ∷ []) n small header within fits stated = absurd (omega arith)
-node_front (a ∷ b ∷ c ∷ d ∷ s) n small header within fits stated =
-    let four_more : suc (suc (suc (suc (n - 4)))) ≡ n = omega arith in
-    let P : ℕ → Type 0 = λ k. SpellsNode (take k (a ∷ b ∷ c ∷ d ∷ s)) in
-    subst P four_more (node_of_parts a b c d s (n - 4) (small 0) (small 1) (small 2) (small 3) (omega arith) (omega arith) (omega arith))
+-- A front as long as the header in it states is a node's bytes.
+pub node_front : (bytes : List ℕ) (t u n : ℕ) → ((i : ℕ) → get_or bytes i 0 < 256) → IsFront (header_bytes (header t u n)) bytes → 4 ≤ n → n ≤ length bytes → n < 65536
+    → SpellsNode (take n bytes)
+node_front bytes t u n small front whole_header within fits =
+    let s = front.0 in
+    let first : get_or bytes 0 0 ≡ t = ap (λ b. get_or b 0 0) front.1 in
+    let second : get_or bytes 1 0 ≡ u = ap (λ b. get_or b 1 0) front.1 in
+    let all : length bytes ≡ 4 + length s = omega (arith, ap length front.1) in
+    let from_data : suc (suc (suc (suc (n - 4)))) ≡ n = omega arith in
+    let stated : 4 + (n - 4) ≡ n = omega arith in
+    let parts = node_of_parts t u (n - 4) s (omega (arith, first, small 0)) (omega (arith, second, small 1)) (omega (arith, all)) (omega arith) in
+    subst (λ b. SpellsNode (take n b)) (sym front.1)
+    (subst (λ k. SpellsNode (take k (header_bytes (header t u n) ++ s))) from_data
+    (subst (λ m. SpellsNode (take (suc (suc (suc (suc (n - 4))))) (header_bytes (header t u m) ++ s))) stated parts))

@@ -4,7 +4,7 @@ use Rattle.uefi_path.specs.Node.{Node, Fits, encoding, joined, IsFront, IsEnd}
 use Rattle.uefi_path.specs.Path.{AreEndedBy, HasNone, concat, all_but_last}
 use Rattle.uefi_path.specs.Spelling.{IsTextOfNodes, SpellsNodes, IsTextOfInstances, SpellsInstances}
 use Rattle.uefi_path.specs.OneNode.{one_encoding}
-use Rattle.uefi_path.specs.OnePath.{one_ended, spelled_once, instances_spelled_once, joined-append, instance_bytes}
+use Rattle.uefi_path.specs.OnePath.{one_ended, spelled_once, instances_spelled_once, joined-append, some_bytes}
 
 -- A node comes first.
 pub first_node : (P : Node → Type 0) (bytes : List ℕ) (nodes : List Node) → IsTextOfNodes P bytes nodes → (n : Node) × Fits n × IsFront (encoding n) bytes
@@ -57,7 +57,7 @@ no_instance bytes (p ∷ parts) spelled refused = absurd (refused p spelled.each
 pub after_instance : (bytes front after : List ℕ) (parts : List (List Node)) → IsTextOfInstances bytes parts → SpellsNodes IsEnd front → bytes ≡ front ++ after
     → SpellsInstances after
 after_instance bytes front after [] spelled came e =
-    absurd (instance_bytes came.0 after came.1.ended (ap (λ b. b ++ after) (sym came.1.text) ∙ sym e ∙ spelled.text))
+    absurd (some_bytes came.0 after came.1.ended (ap (λ b. b ++ after) (sym came.1.text) ∙ sym e ∙ spelled.text))
 after_instance bytes front after (p ∷ parts) spelled came e =
     let first = one_ended IsEnd came.0 p after (joined (concat parts)) came.1.ended spelled.each.0 (ap (λ b. b ++ after) (sym came.1.text) ∙ sym e ∙ spelled.text ∙ joined-append p (concat parts)) in
     (parts, record { each = spelled.each.1; text = first.1 })

@@ -1,7 +1,10 @@
 pub mod Node
 pub mod Path
 pub mod Reading
+pub mod Header
 pub mod Views
+pub mod Texts
+pub mod Laws
 pub mod Spelling
 pub mod Stop
 pub mod OneNode

@@ -43,9 +43,12 @@ one_ended P ns ms x y p q e = one_list_of_nodes P ns ms x y p.each q.each p.end 
 pub one_path : (ns ms : List Node) (x y : List ℕ) → IsPath ns → IsPath ms → joined ns ++ x ≡ joined ms ++ y → (ns ≡ ms) × (x ≡ y)
 one_path = one_ended IsEndEntire
 
--- Bytes spell one list of such nodes.
+-- The same bytes spell one list of such nodes.
+pub same_nodes : (P : Node → Type 0) (bytes others : List ℕ) (ns ms : List Node) → bytes ≡ others → IsTextOfNodes P bytes ns → IsTextOfNodes P others ms → ns ≡ ms
+same_nodes P bytes others ns ms same s t = (one_ended P ns ms [] [] s.ended t.ended (ap (λ b. b ++ []) (sym s.text ∙ same ∙ t.text))).0
+
 pub spelled_once : (P : Node → Type 0) (bytes : List ℕ) (ns ms : List Node) → IsTextOfNodes P bytes ns → IsTextOfNodes P bytes ms → ns ≡ ms
-spelled_once P bytes ns ms s t = (one_ended P ns ms [] [] s.ended t.ended (ap (λ b. b ++ []) (sym s.text ∙ t.text))).0
+spelled_once P bytes ns ms = same_nodes P bytes bytes ns ms refl
 
 -- The bytes of lists of nodes that follow one another.
 pub joined-append : (ns ms : List Node) → joined (ns ++ ms) ≡ joined ns ++ joined ms
@@ -53,16 +56,16 @@ joined-append [] ms = refl
 joined-append (n ∷ ns) ms = ap (λ s. encoding n ++ s) (joined-append ns ms) ∙ sym (append_assoc (encoding n) (joined ns) (joined ms))
 
 -- An instance has bytes.
-pub instance_bytes : (p : List Node) (x : List ℕ) → IsInstance p → joined p ++ x ≡ [] → ⊥
-instance_bytes [] x i e = absurd i.end
-instance_bytes (n ∷ ns) x i e = cc
+pub some_bytes : (p : List Node) (x : List ℕ) → IsInstance p → joined p ++ x ≡ [] → ⊥
+some_bytes [] x i e = absurd i.end
+some_bytes (n ∷ ns) x i e = cc
 
 -- Bytes spell one list of instances.
 pub instances_spelled_once : (ps qs : List (List Node)) → AllByRecursion IsInstance ps → AllByRecursion IsInstance qs
     → joined (concat ps) ≡ joined (concat qs) → ps ≡ qs
 instances_spelled_once [] [] ip iq e = refl
-instances_spelled_once [] (q ∷ qs) ip iq e = absurd (instance_bytes q (joined (concat qs)) iq.0 (sym (joined-append q (concat qs)) ∙ sym e))
-instances_spelled_once (p ∷ ps) [] ip iq e = absurd (instance_bytes p (joined (concat ps)) ip.0 (sym (joined-append p (concat ps)) ∙ e))
+instances_spelled_once [] (q ∷ qs) ip iq e = absurd (some_bytes q (joined (concat qs)) iq.0 (sym (joined-append q (concat qs)) ∙ sym e))
+instances_spelled_once (p ∷ ps) [] ip iq e = absurd (some_bytes p (joined (concat ps)) ip.0 (sym (joined-append p (concat ps)) ∙ e))
 instances_spelled_once (p ∷ ps) (q ∷ qs) ip iq e =
     let first = one_ended IsEnd p q (joined (concat ps)) (joined (concat qs)) ip.0 iq.0 (sym (joined-append p (concat ps)) ∙ e ∙ joined-append q (concat qs)) in
     let same_first : p ≡ q = first.0 in

@@ -1,11 +1,13 @@
-ghost use Rattle.std.specs.Prelude.{◌≡◌, ◌^◌, ◌<◌, length};
+ghost use Rattle.std.specs.Prelude.{◌≡◌, ◌^◌, ◌<◌, length, IfOk};
 ghost use Rattle.uefi_path.specs.Node.{joined, IsEnd};
 ghost use Rattle.uefi_path.specs.Path.{IsInstance, all_but_last};
 ghost use Rattle.uefi_path.specs.Spelling.{IsTextOfNodes, SpellsInstance};
 ghost use Rattle.uefi_path.specs.OnePath.{SpellsInstance-prop};
 
+use crate::boxed::BoxedDevicePathInstance;
 use crate::node_iter::DevicePathNodeIterator;
 use crate::walk::StopCondition;
+use std::alloc::{AllocError, Allocator};
 
 /// One instance of a device path (UEFI 2.10, 10.2): nodes of which the last, and no other, has the
 /// type END.
@@ -19,7 +21,7 @@ pub struct DevicePathInstance<'a> {
 }
 
 impl<'a> DevicePathInstance<'a> {
-    ghost use Rattle.uefi_path.specs.Views.{instance_nodes, nodes_left};
+    ghost use Rattle.uefi_path.specs.Views.{instance_nodes, nodes_left, boxed_instance_nodes};
 
     // The instance with these bytes.
     pub(crate) fn whole(bytes: &'a [u8]) -> DevicePathInstance<'a>
@@ -37,6 +39,16 @@ impl<'a> DevicePathInstance<'a> {
         DevicePathNodeIterator::over(self.bytes, StopCondition::AnyEndNode)
     }
 
+    /// The same bytes, owned. The source stays as it is.
+    ///
+    /// The one error is want of memory.
+    pub fn to_boxed<A: Allocator>(&self, alloc: A) -> Result<BoxedDevicePathInstance<A>, AllocError>
+        ensures { IfOk result (λ boxed. boxed_instance_nodes boxed ≡ instance_nodes self.now) }
+    {
+        let bytes = Vec::from_slice(alloc, self.bytes)?;
+        Ok(BoxedDevicePathInstance::whole(bytes))
+    }
+
     /// All bytes of the instance, those of the node that ends it too.
     pub fn as_bytes(&self) -> &'a [u8]
         ensures bytes { result.now ≡ joined (instance_nodes self.now) }
@@ -44,4 +56,28 @@ impl<'a> DevicePathInstance<'a> {
     {
         self.bytes
     }
+}
+
+/// Equality of all bytes.
+impl<'a> PartialEq for DevicePathInstance<'a> {
+    ghost use Rattle.std.specs.Prelude.{nat_eq};
+    ghost use Rattle.std.specs.Cmp.{partial_equiv_from_equiv, on_per};
+    ghost use Rattle.std.specs.Cmp.Lexicographic.{pointwise, nat_list_eq_equiv};
+    ghost use Rattle.uefi_path.specs.Views.{instance_bytes};
+
+    ghost eq = { λ x y. pointwise nat_eq (instance_bytes x) (instance_bytes y) };
+
+    ghost laws = { on_per instance_bytes (partial_equiv_from_equiv nat_list_eq_equiv) };
+
+    fn eq(&self, other: &Self) -> bool {
+        self.as_bytes() == other.as_bytes()
+    }
+}
+
+impl<'a> Eq for DevicePathInstance<'a> {
+    ghost use Rattle.std.specs.Cmp.{on_equiv};
+    ghost use Rattle.std.specs.Cmp.Lexicographic.{nat_list_eq_equiv};
+    ghost use Rattle.uefi_path.specs.Views.{instance_bytes};
+
+    ghost laws = { on_equiv instance_bytes nat_list_eq_equiv };
 }

@@ -12,18 +12,25 @@
 //! `specs/Path.antt` say what a node, a path and an instance is.
 #![tactic(auto)]
 
+pub use self::boxed::{BoxedDevicePath, BoxedDevicePathInstance};
 pub use self::device_type::{DeviceSubType, DeviceType};
 pub use self::error::ByteConversionError;
+pub use self::header::DevicePathHeader;
 pub use self::instance::DevicePathInstance;
 pub use self::instance_iter::DevicePathInstanceIterator;
+pub use self::loaded_image::LoadedImageDevicePath;
 pub use self::node::DevicePathNode;
 pub use self::node_iter::DevicePathNodeIterator;
 pub use self::path::DevicePath;
 
+mod boxed;
 mod device_type;
 mod error;
+mod header;
 mod instance;
 mod instance_iter;
+pub mod laws;
+mod loaded_image;
 mod node;
 mod node_iter;
 mod path;

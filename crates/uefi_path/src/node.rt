@@ -5,6 +5,8 @@ ghost use Rattle.uefi_path.specs.OneNode.{SpellsNode-prop};
 
 use crate::device_type::{DeviceSubType, DeviceType};
 use crate::error::ByteConversionError;
+use crate::header::DevicePathHeader;
+use std::fmt;
 
 /// The bytes of a node before its data: type, subtype and length.
 const HEADER_LENGTH: usize = 4;
@@ -104,14 +106,49 @@ impl<'a> TryFrom<&'a [u8]> for DevicePathNode<'a> {
     ghost try_from_gives = { λ bytes read. ReadsNode node_of bytes.now read };
 
     fn try_from(bytes: &'a [u8]) -> Result<DevicePathNode<'a>, ByteConversionError> {
-        if bytes.len() < HEADER_LENGTH {
-            return Err(ByteConversionError::InvalidLength);
-        }
-        let length = usize::from(u16::from_le_bytes([bytes[2], bytes[3]]));
+        let header = DevicePathHeader::try_from(bytes)?;
+        let length = usize::from(header.length());
         if length < HEADER_LENGTH || bytes.len() < length {
             return Err(ByteConversionError::InvalidLength);
         }
         let (front, _) = bytes.split_at(length);
         Ok(DevicePathNode::whole(front))
+    }
+}
+
+/// Equality of all bytes.
+impl<'a> PartialEq for DevicePathNode<'a> {
+    ghost use Rattle.std.specs.Prelude.{nat_eq};
+    ghost use Rattle.std.specs.Cmp.{partial_equiv_from_equiv, on_per};
+    ghost use Rattle.std.specs.Cmp.Lexicographic.{pointwise, nat_list_eq_equiv};
+    ghost use Rattle.uefi_path.specs.Views.{node_bytes};
+
+    ghost eq = { λ x y. pointwise nat_eq (node_bytes x) (node_bytes y) };
+
+    ghost laws = { on_per node_bytes (partial_equiv_from_equiv nat_list_eq_equiv) };
+
+    fn eq(&self, other: &Self) -> bool {
+        self.as_bytes() == other.as_bytes()
+    }
+}
+
+impl<'a> Eq for DevicePathNode<'a> {
+    ghost use Rattle.std.specs.Cmp.{on_equiv};
+    ghost use Rattle.std.specs.Cmp.Lexicographic.{nat_list_eq_equiv};
+    ghost use Rattle.uefi_path.specs.Views.{node_bytes};
+
+    ghost laws = { on_equiv node_bytes nat_list_eq_equiv };
+}
+
+/// `<device path node: N bytes>`, where N is the length of the data.
+impl<'a> fmt::Display for DevicePathNode<'a> {
+    ghost use Rattle.std.specs.Prelude.{Some};
+    ghost use Rattle.uefi_path.specs.Texts.{node_text};
+
+    ghost output = { λ view. Some (node_text view) };
+
+    fn fmt<W: fmt::Write>(&self, f: &mut fmt::Formatter<W>) -> fmt::Result {
+        let length = self.data().len();
+        write!(f, "<device path node: {length} bytes>")
     }
 }

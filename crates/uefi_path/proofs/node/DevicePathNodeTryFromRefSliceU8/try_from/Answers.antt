@@ -1,15 +1,22 @@
-use Rattle.std.proofs.Common.{◌≡◌, ◌++◌, sym, ◌∙◌, arith}
+use Rattle.std.proofs.Common.{◌≡◌, ◌++◌, sym, ◌∙◌, subst, arith}
 use Rattle.std.proofs.lemmas.List.{take-append-drop}
-use Rattle.uefi_path.specs.Node.{encoding}
-use Rattle.uefi_path.specs.Views.{node_of}
+use Rattle.uefi_path.specs.Node.{encoding, IsFront}
+use Rattle.uefi_path.specs.Header.{header, header_bytes}
 use Rattle.uefi_path.specs.OneNode.{one_encoding}
+use Rattle.uefi_path.specs.Views.{node_of, header_of}
 use Rattle.uefi_path.proofs.Nodes.{node_front}
 use Rattle.uefi_path.proofs.node.DevicePathNodeTryFromRefSliceU8.try_from.Goals as goal
 
 pub whole-requires : goal.whole-requires
 whole-requires c =
+    let bytes = c.args.bytes.now in
+    let h = header_of c.in_ok-header.header in
+    let n = c.from-length.result in
+    let stated : h.length ≡ n = sym (c.from-length.ensures ∙ c.length.ensures) in
+    let front : IsFront (header_bytes (header h.device_type h.sub_type n)) bytes =
+    subst (λ m. IsFront (header_bytes (header h.device_type h.sub_type m)) bytes) stated c.in_ok-header.ensures.ok in
     rw c.split_at.ensures.front
-    (node_front c.args.bytes.now c.from-length.result (λ i. omega (arith, c.type_inv.bytes i)) (omega arith) (omega arith) (omega arith) (omega arith))
+    (node_front bytes h.device_type h.sub_type n (λ i. omega (arith, c.type_inv.bytes i)) front (omega arith) (omega arith) (omega arith))
 
 pub returns : goal.returns
 returns c =

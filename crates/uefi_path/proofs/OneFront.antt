@@ -1,0 +1,10 @@
+-- The laws of paths hold.
+use Rattle.std.proofs.Common.{sym}
+use Rattle.uefi_path.specs.OnePath.{one_path}
+use Rattle.uefi_path.specs.Laws.{OneFront}
+
+pub one_front : OneFront
+one_front = record {
+  no_proper_front = one_path;
+  reads_back = λ p q x path_p path_q front. (one_path q p front.0 x path_q path_p (sym front.1)).0;
+}

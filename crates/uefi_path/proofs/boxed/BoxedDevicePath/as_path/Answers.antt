@@ -1,0 +1,8 @@
+use Rattle.uefi_path.specs.Node.{IsEndEntire}
+use Rattle.uefi_path.specs.OnePath.{same_nodes}
+use Rattle.uefi_path.specs.Views.{path_nodes, boxed_nodes}
+use Rattle.uefi_path.proofs.boxed.BoxedDevicePath.as_path.Goals as goal
+
+pub returns : goal.returns
+returns g c =
+    same_nodes IsEndEntire _ _ (path_nodes c.whole.result) (boxed_nodes c.args.self.now) c.as_slice.ensures.value c.whole.ensures c.args.self.now.nodes.1
