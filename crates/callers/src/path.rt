@@ -1,10 +1,11 @@
-ghost use Rattle.std.specs.Prelude.{◌≡◌, List, length, map, flat_map, IfOk};
+ghost use Rattle.std.specs.Prelude.{◌≡◌, ◌↔◌, List, length, map, flat_map, string_bytes, IsTrue, IfOk};
 ghost use Rattle.uefi_path.specs.Node.{Node};
 ghost use Rattle.uefi_path.specs.Path.{AreInstances, all_but_last};
-ghost use Rattle.uefi_path.specs.Views.{node_of, path_nodes, instance_nodes};
+ghost use Rattle.uefi_path.specs.Texts.{node_text};
+ghost use Rattle.uefi_path.specs.Views.{node_of, header_of, path_nodes, path_bytes, instance_nodes};
 
 use std::alloc::{AllocError, Global};
-use uefi_path::{DevicePath, DevicePathInstance, DevicePathNode};
+use uefi_path::{DevicePath, DevicePathHeader, DevicePathInstance, DevicePathNode};
 
 /// All nodes of a path but the end-entire one, by `collect`.
 pub fn all_nodes<'a>(
@@ -59,4 +60,25 @@ pub fn all_data(alloc: Global, path: &DevicePath<'_>) -> Result<Vec<u8>, AllocEr
         bytes.extend_from_slice(node.data())?;
     }
     Ok(bytes)
+}
+
+/// Whether two paths are equal: exactly where all their bytes are.
+pub fn is_same_path(path: &DevicePath<'_>, other: &DevicePath<'_>) -> bool
+    ensures { IsTrue result ↔ (path_bytes path.now ≡ path_bytes other.now) }
+{
+    path == other
+}
+
+/// Whether two headers are equal: exactly where type, subtype and length are.
+pub fn is_same_header(header: &DevicePathHeader, other: &DevicePathHeader) -> bool
+    ensures { IsTrue result ↔ (header_of header.now ≡ header_of other.now) }
+{
+    header == other
+}
+
+/// The text of a node.
+pub fn node_label(alloc: Global, node: &DevicePathNode<'_>) -> Result<String, AllocError>
+    ensures { IfOk result (λ text. string_bytes text ≡ node_text node.now) }
+{
+    node.to_string(alloc)
 }

@@ -7,6 +7,9 @@ use std::process::Abort;
 use std::test::Fail;
 use test_bytes::bytes;
 
+mod boxed;
+mod values;
+
 /// Two instances of two nodes each, and the nodes that end them.
 const TWO_INSTANCES: &str =
     "a0b0 0600 0a0b  a1b1 0800 14151617  7f01 0400  a2b2 0600 1e1f  a3b3 0800 28292a2b  7fff 0400";

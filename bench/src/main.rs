@@ -1,0 +1,61 @@
+//! Measures the proved readers beside plain Rust readers of the same formats.
+//!
+//! Both read the same input, made here with a fixed seed, and must answer the same sum. Each line
+//! gives the best of five rounds of each: nanoseconds an item and bytes a second of the proved
+//! reader, and its time as a ratio of the Rust reader's.
+
+mod path;
+mod random;
+
+use std::time::Instant;
+
+const ROUNDS: usize = 5;
+
+/// The calls of each reader in a round, in turn. A round's time is that of its best call.
+const CALLS: usize = 10;
+
+/// A reader: its name, what one call of the proved reader and of the Rust reader does, its input,
+/// and how many items that has.
+pub struct Case<'a> {
+    pub name: &'static str,
+    pub port: unsafe extern "C" fn(*const u8, usize) -> u64,
+    pub rust: fn(&[u8]) -> u64,
+    pub input: &'a [u8],
+    pub items: usize,
+}
+
+/// The seconds that a call takes, and its sum.
+fn timed(call: impl FnOnce() -> u64) -> (f64, u64) {
+    let start = Instant::now();
+    let sum = std::hint::black_box(call());
+    (start.elapsed().as_secs_f64(), sum)
+}
+
+/// Measures a reader, prints its line, and says whether both sums were equal each time.
+fn measure(case: &Case<'_>) -> bool {
+    let (mut port_best, mut rust_best) = (f64::INFINITY, f64::INFINITY);
+    let mut equal = true;
+    for _ in 0..ROUNDS * CALLS {
+        let input = std::hint::black_box(case.input);
+        let (rust, rust_sum) = timed(|| (case.rust)(input));
+        let (port, port_sum) = timed(|| unsafe { (case.port)(input.as_ptr(), input.len()) });
+        port_best = port_best.min(port);
+        rust_best = rust_best.min(rust);
+        equal &= port_sum == rust_sum;
+    }
+    println!(
+        "{:<16} {:>8.2} ns/item {:>8.2} GB/s   ratio {:>5.2}   sums {}",
+        case.name,
+        port_best * 1e9 / case.items as f64,
+        case.input.len() as f64 / port_best / 1e9,
+        port_best / rust_best,
+        if equal { "equal" } else { "DIFFER" },
+    );
+    equal
+}
+
+fn main() {
+    let mut equal = true;
+    path::with_cases(|case| equal &= measure(case));
+    std::process::exit(if equal { 0 } else { 1 });
+}
