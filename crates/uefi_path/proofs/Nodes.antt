@@ -1,9 +1,10 @@
 -- The header and the node at the front of bytes.
-use Rattle.std.proofs.Common.{◌≡◌, ℕ, zero, suc, ◌+◌, ◌-◌, ◌*◌, ◌<◌, ◌≤◌, List, [], ◌∷◌, ◌++◌, length, take, get_or, refl, sym, ap, subst, arith, lit<}
-use Rattle.std.specs.Int.{w16, to_le_bytes}
-use Rattle.std.proofs.lemmas.Nat.{le_bytes_2}
+use Rattle.std.proofs.Common.{◌≡◌, ℕ, zero, suc, ◌+◌, ◌-◌, ◌*◌, ◌<◌, ◌≤◌, List, [], ◌∷◌, ◌++◌, length, take, get_or, refl, sym, ◌∙◌, ap, subst, arith, lit<}
+use Rattle.std.specs.Int.{w16, to_le_bytes, from_le_bytes}
+use Rattle.std.proofs.lemmas.Nat.{le_bytes_2, from_le_bytes-to_le_bytes_2}
 use Rattle.std.proofs.lemmas.List.{length-take-le}
-use Rattle.uefi_path.specs.Node.{IsFront}
+use Rattle.std.proofs.Math.Seq.{take-append_seam}
+use Rattle.uefi_path.specs.Node.{encoding, IsFront, HasNode}
 use Rattle.uefi_path.specs.Header.{header, header_bytes}
 use Rattle.uefi_path.specs.Spelling.{SpellsNode}
 
@@ -53,3 +54,13 @@ node_front bytes t u n small front whole_header within fits =
     subst (λ b. SpellsNode (take n b)) (sym front.1)
     (subst (λ k. SpellsNode (take k (header_bytes (header t u n) ++ s))) from_data
     (subst (λ m. SpellsNode (take (suc (suc (suc (suc (n - 4))))) (header_bytes (header t u m) ++ s))) stated parts))
+
+-- Bytes that begin with a node begin with its bytes, of which there are as many as bytes 2 and 3 state.
+pub stated_front : (bytes : List ℕ) (n : ℕ) → HasNode bytes → n ≡ get_or bytes 2 0 + get_or bytes 3 0 * 256 → SpellsNode (take n bytes)
+stated_front bytes n has made =
+    let node = has.0 in
+    let rest = has.2.0 in
+    let number : from_le_bytes w16 (to_le_bytes w16 (4 + length node.payload)) ≡ 4 + length node.payload = from_le_bytes-to_le_bytes_2 _ (omega (arith, has.1.payload)) in
+    let stated : get_or bytes 2 0 + get_or bytes 3 0 * 256 ≡ 4 + length node.payload = ap (λ b. get_or b 2 0 + get_or b 3 0 * 256) has.2.1 ∙ number in
+    let whole : n ≡ length (encoding node) = omega (arith, made, stated) in
+    (node, record { fits = has.1; text = ap (λ b. take n b) has.2.1 ∙ ap (λ k. take k (encoding node ++ rest)) whole ∙ take-append_seam (encoding node) rest })

@@ -2,8 +2,8 @@
 use Rattle.std.proofs.Common.{◌≡◌, ℕ, ◌-◌, List, [], ◌∷◌, ◌++◌, length, take, sym, ◌∙◌, ap, subst, arith, append_assoc, length-append}
 use Rattle.std.proofs.Math.Seq.{take-append_seam}
 use Rattle.std.specs.List.{AllByRecursion}
-use Rattle.uefi_path.specs.Node.{Node, Fits, encoding, joined, IsFront, HasNoNode, AreNodes}
-use Rattle.uefi_path.specs.Path.{LastAlone, AreEndedBy, HasNone}
+use Rattle.uefi_path.specs.Node.{Node, Fits, encoding, joined, IsFront, HasNode, HasNoNode, AreNodes}
+use Rattle.uefi_path.specs.Path.{LastAlone, AreEndedBy, HasSome, HasNone}
 use Rattle.uefi_path.specs.Spelling.{SpellsNodes}
 use Rattle.uefi_path.specs.OneNode.{one_encoding}
 use Rattle.uefi_path.specs.OnePath.{joined-append}
@@ -62,7 +62,7 @@ passed_end P bytes rest after n before fits so e =
 
 -- Nodes of which the last alone is so, and whose bytes begin the bytes, go on with a node where the walk stands.
 next_of_others : (P : Node → Type 0) (ns ms : List Node) (rest x : List ℕ) → AreNodes ns → AllByRecursion (λ n. P n → ⊥) ns → AreEndedBy P ms
-    → joined ns ++ rest ≡ joined ms ++ x → (n : Node) × Fits n × IsFront (encoding n) rest
+    → joined ns ++ rest ≡ joined ms ++ x → HasNode rest
 next_of_others P ns [] rest x each none others e = absurd others.end
 next_of_others P [] (m ∷ ms) rest x each none others e = (m, others.each.0, (joined ms ++ x, e ∙ append_assoc (encoding m) (joined ms) x))
 next_of_others P (n ∷ ns) (m ∷ []) rest x each none others e =
@@ -77,3 +77,20 @@ pub passed_nowhere : (P : Node → Type 0) (bytes rest : List ℕ) → HasPassed
 passed_nowhere P bytes rest before refused others ended front =
     let next = next_of_others P before.0 others rest front.0 before.1.each before.1.none ended (sym before.1.text ∙ front.1) in
     refused next.0 next.1 next.2
+
+-- Bytes that begin with such nodes begin with a node.
+pub HasSome-node : (P : Node → Type 0) (rest : List ℕ) → HasSome P rest → HasNode rest
+HasSome-node P rest has = next_of_others P [] has.0 rest has.2.0 tt tt has.1 has.2.1
+
+-- After a node that isn't so, the bytes still begin with such nodes.
+pub HasSome-after : (P : Node → Type 0) (rest after : List ℕ) (n : Node) → HasSome P rest → Fits n → (P n → ⊥) → rest ≡ encoding n ++ after → HasSome P after
+HasSome-after P rest after n has fits not_so e = go has.0 has.1 has.2
+  where
+    go : (nodes : List Node) → AreEndedBy P nodes → IsFront (joined nodes) rest → HasSome P after
+    go [] ended front = absurd ended.end
+    go (m ∷ []) ended front =
+        let first = one_encoding n m after ([] ++ front.0) fits ended.each.0 (sym e ∙ front.1 ∙ append_assoc (encoding m) [] front.0) in
+        absurd (not_so (subst P (sym first.0) ended.end))
+    go (m ∷ k ∷ nodes) ended front =
+        let first = one_encoding n m after (joined (k ∷ nodes) ++ front.0) fits ended.each.0 (sym e ∙ front.1 ∙ append_assoc (encoding m) (joined (k ∷ nodes)) front.0) in
+        (k ∷ nodes, record { each = ended.each.1; end = ended.end.1 }, (front.0, first.1))

@@ -1,15 +1,15 @@
 -- One step of the iterators.
-use Rattle.std.proofs.Common.{◌≡◌, ℕ, List, [], ◌∷◌, ◌++◌, refl, sym, ◌∙◌, ap, subst}
-use Rattle.uefi_path.specs.Node.{Node, Fits, encoding, joined, IsFront, IsEnd}
-use Rattle.uefi_path.specs.Path.{AreEndedBy, HasNone, concat, all_but_last}
+use Rattle.std.proofs.Common.{◌≡◌, ℕ, List, [], ◌∷◌, ◌++◌, length, refl, sym, ◌∙◌, ap, subst, arith}
+use Rattle.uefi_path.specs.Node.{Node, Fits, encoding, joined, HasNode, IsEnd}
+use Rattle.uefi_path.specs.Path.{AreEndedBy, HasSome, concat, all_but_last}
 use Rattle.uefi_path.specs.Spelling.{IsTextOfNodes, SpellsNodes, IsTextOfInstances, SpellsInstances}
 use Rattle.uefi_path.specs.OneNode.{one_encoding}
 use Rattle.uefi_path.specs.OnePath.{one_ended, spelled_once, instances_spelled_once, joined-append, some_bytes}
 
 -- A node comes first.
-pub first_node : (P : Node → Type 0) (bytes : List ℕ) (nodes : List Node) → IsTextOfNodes P bytes nodes → (n : Node) × Fits n × IsFront (encoding n) bytes
-first_node P bytes [] spelled = absurd spelled.ended.end
-first_node P bytes (n ∷ nodes) spelled = (n, spelled.ended.each.0, (joined nodes, spelled.text))
+pub has_first_node : (P : Node → Type 0) (bytes : List ℕ) (nodes : List Node) → IsTextOfNodes P bytes nodes → HasNode bytes
+has_first_node P bytes [] spelled = absurd spelled.ended.end
+has_first_node P bytes (n ∷ nodes) spelled = (n, spelled.ended.each.0, (joined nodes, spelled.text))
 
 -- Before the node that ends them, none is left.
 pub none_before_end : (P : Node → Type 0) (bytes after : List ℕ) (n : Node) (nodes : List Node) → IsTextOfNodes P bytes nodes → Fits n → P n
@@ -48,10 +48,20 @@ next_node P bytes after n nodes others spelled fits not_so e left =
     spelled_once P bytes nodes (n ∷ others) spelled (record { ended = AreEndedBy-cons P n others fits not_so left.ended; text = e ∙ ap (λ b. encoding n ++ b) left.text }) in
     ap all_but_last all ∙ all_but_last-cons P n others left.ended
 
--- Where no instance comes, none is left.
-pub no_instance : (bytes : List ℕ) (parts : List (List Node)) → IsTextOfInstances bytes parts → HasNone IsEnd bytes → parts ≡ []
-no_instance bytes [] spelled refused = refl
-no_instance bytes (p ∷ parts) spelled refused = absurd (refused p spelled.each.0 (joined (concat parts), spelled.text ∙ joined-append p (concat parts)))
+-- Where no bytes are left, no instance is.
+pub no_instance : (bytes : List ℕ) (parts : List (List Node)) → IsTextOfInstances bytes parts → length bytes ≡ 0 → parts ≡ []
+no_instance bytes [] spelled none = refl
+no_instance bytes (p ∷ parts) spelled none =
+    absurd (some_bytes p (joined (concat parts)) spelled.each.0 (sym (spelled.text ∙ joined-append p (concat parts)) ∙ no_element bytes none))
+  where
+    no_element : (s : List ℕ) → length s ≡ 0 → s ≡ []
+    no_element [] e = refl
+    no_element (b ∷ s) e = absurd (omega arith)
+
+-- Where bytes are left, an instance comes.
+pub some_instance : (bytes : List ℕ) (parts : List (List Node)) → IsTextOfInstances bytes parts → (length bytes ≡ 0 → ⊥) → HasSome IsEnd bytes
+some_instance bytes [] spelled some = absurd (some (ap length spelled.text))
+some_instance bytes (p ∷ parts) spelled some = (p, spelled.each.0, (joined (concat parts), spelled.text ∙ joined-append p (concat parts)))
 
 -- After an instance the others are left.
 pub after_instance : (bytes front after : List ℕ) (parts : List (List Node)) → IsTextOfInstances bytes parts → SpellsNodes IsEnd front → bytes ≡ front ++ after

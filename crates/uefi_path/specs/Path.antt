@@ -22,6 +22,10 @@ IsPath = AreEndedBy IsEndEntire
 abbrev pub IsInstance : List Node → Type 0
 IsInstance = AreEndedBy IsEnd
 
+-- Some front of the bytes is such nodes.
+abbrev pub HasSome : (Node → Type 0) → List ℕ → Type 0
+HasSome P bytes = (nodes : List Node) × AreEndedBy P nodes × IsFront (joined nodes) bytes
+
 -- No front of the bytes is such nodes.
 abbrev pub HasNone : (Node → Type 0) → List ℕ → Type 0
 HasNone P bytes = (nodes : List Node) → AreEndedBy P nodes → IsFront (joined nodes) bytes → ⊥

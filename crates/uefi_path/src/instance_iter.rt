@@ -3,7 +3,7 @@ ghost use Rattle.uefi_path.specs.Spelling.{IsTextOfInstances, SpellsInstances};
 ghost use Rattle.uefi_path.specs.OnePath.{SpellsInstances-prop};
 
 use crate::instance::DevicePathInstance;
-use crate::walk::{StopCondition, split_nodes};
+use crate::walk::{StopCondition, first_nodes};
 
 /// The instances of a path, in order.
 ///
@@ -39,9 +39,10 @@ impl<'a> Iterator for DevicePathInstanceIterator<'a> {
     ghost remaining = { item_count instances_left };
 
     fn next(&mut self) -> Option<DevicePathInstance<'a>> {
-        let Ok((front, after)) = split_nodes(self.rest, StopCondition::AnyEndNode) else {
+        if self.rest.is_empty() {
             return None;
-        };
+        }
+        let (front, after) = first_nodes(self.rest, StopCondition::AnyEndNode);
         *self = DevicePathInstanceIterator::over(after);
         Some(DevicePathInstance::whole(front))
     }

@@ -32,7 +32,7 @@ impl<'a> DevicePathNode<'a> {
     ghost use Rattle.uefi_path.specs.Views.{node_of};
 
     // The node with these bytes.
-    fn whole(bytes: &'a [u8]) -> DevicePathNode<'a>
+    pub(crate) fn whole(bytes: &'a [u8]) -> DevicePathNode<'a>
         requires { SpellsNode bytes.now }
         ensures { IsTextOfNode bytes.now (node_of result) }
     {

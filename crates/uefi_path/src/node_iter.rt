@@ -4,7 +4,7 @@ ghost use Rattle.uefi_path.specs.Spelling.{IsTextOfNodes, SpellsNodes};
 ghost use Rattle.uefi_path.specs.OnePath.{SpellsNodes-prop};
 
 use crate::node::DevicePathNode;
-use crate::walk::{StopCondition, split_node};
+use crate::walk::{StopCondition, first_node};
 
 /// The nodes of a path or of an instance, in order, without the one that ends it.
 ///
@@ -41,9 +41,7 @@ impl<'a> Iterator for DevicePathNodeIterator<'a> {
     ghost remaining = { item_count nodes_left };
 
     fn next(&mut self) -> Option<DevicePathNode<'a>> {
-        let Ok((node, after)) = split_node(self.rest) else {
-            return None;
-        };
+        let (node, after) = first_node(self.rest);
         if self.stop.stops_at(&node) {
             return None;
         }

@@ -1,6 +1,6 @@
 ghost use Rattle.std.specs.Prelude.{◌≡◌, ◌↔◌, ◌++◌, IsTrue, IfOk, OnErr};
-ghost use Rattle.uefi_path.specs.Node.{Fits, encoding, HasNoNode};
-ghost use Rattle.uefi_path.specs.Path.{HasNone};
+ghost use Rattle.uefi_path.specs.Node.{Fits, encoding, HasNode, HasNoNode};
+ghost use Rattle.uefi_path.specs.Path.{HasSome, HasNone};
 ghost use Rattle.uefi_path.specs.Stop.{Stops};
 ghost use Rattle.uefi_path.specs.Spelling.{SpellsNodes};
 ghost use Rattle.uefi_path.specs.Views.{node_of};
@@ -41,6 +41,17 @@ pub(crate) fn split_node(bytes: &[u8]) -> Result<(DevicePathNode<'_>, &[u8]), By
     Ok((node, after))
 }
 
+/// The node that the bytes are known to begin with, and the bytes after it. Nothing is tested.
+pub(crate) fn first_node(bytes: &[u8]) -> (DevicePathNode<'_>, &[u8])
+    requires { HasNode bytes.now }
+    ensures fits { Fits (node_of result.0) }
+    ensures split { bytes.now ≡ encoding (node_of result.0) ++ result.1.now }
+{
+    let length = usize::from(u16::from_le_bytes([bytes[2], bytes[3]]));
+    let (front, after) = bytes.split_at(length);
+    (DevicePathNode::whole(front), after)
+}
+
 /// The bytes of the nodes up to the first at which the walk stops, and the bytes after them.
 pub(crate) fn split_nodes(
     bytes: &[u8],
@@ -56,6 +67,22 @@ pub(crate) fn split_nodes(
         rest = after;
         if stop.stops_at(&node) {
             return Ok(bytes.split_at(bytes.len() - rest.len()));
+        }
+    }
+}
+
+/// The same of bytes that are known to begin with such nodes. Nothing is tested.
+pub(crate) fn first_nodes(bytes: &[u8], stop: StopCondition) -> (&[u8], &[u8])
+    requires { HasSome (Stops stop) bytes.now }
+    ensures nodes { SpellsNodes (Stops stop) result.0.now }
+    ensures split { bytes.now ≡ result.0.now ++ result.1.now }
+{
+    let mut rest = bytes;
+    loop {
+        let (node, after) = first_node(rest);
+        rest = after;
+        if stop.stops_at(&node) {
+            return bytes.split_at(bytes.len() - rest.len());
         }
     }
 }

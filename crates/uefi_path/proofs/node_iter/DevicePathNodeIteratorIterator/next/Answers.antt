@@ -1,35 +1,34 @@
 use Rattle.std.proofs.Common.{◌≡◌, [], ◌∷◌, true, false, rules}
 use Rattle.uefi_path.specs.Stop.{Stops}
 use Rattle.uefi_path.specs.Views.{node_of, nodes_left}
-use Rattle.uefi_path.proofs.Steps.{first_node, none_before_end, after_node, next_node}
+use Rattle.uefi_path.proofs.Steps.{has_first_node, none_before_end, after_node, next_node}
 use Rattle.uefi_path.proofs.node_iter.DevicePathNodeIteratorIterator.next.Goals as goal
 
-pub returns-in_default-clause-steps : goal.returns-in_default-clause-steps
-returns-in_default-clause-steps c =
+pub first_node-requires : goal.first_node-requires
+first_node-requires c =
     let iter = c.args.self.now in
-    let first = first_node (Stops iter.stop) iter.rest.now iter.nodes.0 iter.nodes.1 in
-    absurd (c.in_default.ensures.none first.0 first.1 first.2)
+    has_first_node (Stops iter.stop) iter.rest.now iter.nodes.0 iter.nodes.1
 
 pub returns-then-stops_at-clause-steps : goal.returns-then-stops_at-clause-steps
 returns-then-stops_at-clause-steps c =
     let iter = c.args.self.now in
     let none : nodes_left iter ≡ [] =
-    none_before_end (Stops iter.stop) iter.rest.now c.in-Ok.after.now (node_of c.in-Ok.node) iter.nodes.0 iter.nodes.1 c.in-Ok.ensures.fits (c.stops_at.ensures.0 c.if-stops_at.true) c.in-Ok.ensures.split in
+    none_before_end (Stops iter.stop) iter.rest.now c.first_node.result.1.now (node_of c.first_node.result.0) iter.nodes.0 iter.nodes.1 c.first_node.ensures.fits (c.stops_at.ensures.0 c.if-stops_at.true) c.first_node.ensures.split in
     (none, none)
 
 pub over-requires : goal.over-requires
 over-requires c =
     let iter = c.args.self.now in
-    after_node (Stops iter.stop) iter.rest.now c.in-Ok.after.now (node_of c.in-Ok.node) iter.nodes.0 iter.nodes.1 c.in-Ok.ensures.fits
-    (λ so. let stopped : false ≡ true = c.if-stops_at.ensures.1 so in cc) c.in-Ok.ensures.split
+    after_node (Stops iter.stop) iter.rest.now c.first_node.result.1.now (node_of c.first_node.result.0) iter.nodes.0 iter.nodes.1 c.first_node.ensures.fits
+    (λ so. let stopped : false ≡ true = c.if-stops_at.ensures.1 so in cc) c.first_node.ensures.split
 
 pub returns-clause-steps : goal.returns-clause-steps
 returns-clause-steps c =
     let iter = c.args.self.now in
-    next_node (Stops iter.stop) iter.rest.now c.in-Ok.after.now (node_of c.in-Ok.node) iter.nodes.0 c.over.result.nodes.0 iter.nodes.1 c.in-Ok.ensures.fits
-    (λ so. let stopped : false ≡ true = c.if-stops_at.ensures.1 so in cc) c.in-Ok.ensures.split c.over.ensures.nodes
+    next_node (Stops iter.stop) iter.rest.now c.first_node.result.1.now (node_of c.first_node.result.0) iter.nodes.0 c.over.result.nodes.0 iter.nodes.1 c.first_node.ensures.fits
+    (λ so. let stopped : false ≡ true = c.if-stops_at.ensures.1 so in cc) c.first_node.ensures.split c.over.ensures.nodes
 
 pub returns-clause-goes : goal.returns-clause-goes
 returns-clause-goes c =
-    let first : nodes_left c.args.self.now ≡ node_of c.in-Ok.node ∷ nodes_left c.over.result = returns-clause-steps c in
+    let first : nodes_left c.args.self.now ≡ node_of c.first_node.result.0 ∷ nodes_left c.over.result = returns-clause-steps c in
     search rules
