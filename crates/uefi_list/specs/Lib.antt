@@ -3,4 +3,4 @@ pub mod Listing
 pub mod PathListing
 pub mod HexText
 pub mod Running
-pub mod Endings
+pub mod Failures

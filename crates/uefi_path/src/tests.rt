@@ -16,7 +16,7 @@ const TWO_INSTANCES: &str =
 
 /// The `ConOut` variable of an OVMF firmware: a graphics adapter, and a
 /// serial port with its settings and its kind of terminal.
-const CON_OUT: &str = "0201 0c00 d041030a00000000  0101 0600 0002  0203 0800 00010180  7f01 0400 \
+const CON_OUT: &str = "0201 0c00 d041030a00000000  0101 0600 0001  0203 0800 00010180  7f01 0400 \
     0201 0c00 d041030a00000000  0101 0600 001f  0201 0c00 d041010500000000 \
     030e 1300 0000000000c2010000000000080101 \
     030a 1400 5347c1e0bef9d2119a0c0090273fc14d  7fff 0400";
@@ -156,7 +156,7 @@ fn the_console_of_a_real_firmware_has_two_instances(rt: HostRuntime) -> Result<(
         graphics.node_iter(),
         &[
             (0x02, 0x01, "d041030a 00000000"),
-            (0x01, 0x01, "00 02"),
+            (0x01, 0x01, "00 01"),
             (0x02, 0x03, "00010180"),
         ],
     );
