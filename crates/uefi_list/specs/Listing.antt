@@ -5,7 +5,7 @@ use Rattle.uefi_list.specs.declared.command.Command.TheVariants.{Path}
 use Rattle.uefi_list.specs.declared.listing.Outcome.{Outcome}
 use Rattle.uefi_list.specs.declared.listing.Outcome.TheVariants.{Listed, Refused}
 use Rattle.uefi_path.specs.Node.{Node, joined, IsFront}
-use Rattle.uefi_path.specs.Path.{IsPath, HasNoPath, AreInstances}
+use Rattle.uefi_path.specs.Path.{IsPath, HasPath, AreInstances}
 use Rattle.uefi_list.specs.PathListing.{path_lines}
 
 -- The text lists the path that is a front of the bytes, and its instances.
@@ -17,7 +17,7 @@ pub record ListsPath (bytes text : List ℕ) (nodes : List Node) (parts : List (
 
 -- No front of the bytes is a path, and the text says that they are refused.
 pub record RefusesPath (bytes text : List ℕ) : Type 0 where
-  pub none : HasNoPath bytes
+  pub none : ¬ HasPath bytes
   pub line : text ≡ codes "refused InvalidLength\n"
 
 -- The text and the outcome are those of the command over the bytes.

@@ -2,8 +2,8 @@
 use Rattle.std.proofs.Common.{◌≡◌, ℕ, ◌-◌, List, [], ◌∷◌, ◌++◌, length, take, sym, ◌∙◌, ap, subst, arith, append_assoc, length-append}
 use Rattle.std.proofs.Math.Seq.{take-append_seam}
 use Rattle.std.specs.List.{AllByRecursion}
-use Rattle.uefi_path.specs.Node.{Node, Fits, encoding, joined, IsFront, HasNode, HasNoNode, AreNodes}
-use Rattle.uefi_path.specs.Path.{LastAlone, AreEndedBy, HasSome, HasNone}
+use Rattle.uefi_path.specs.Node.{Node, Fits, encoding, joined, IsFront, HasNode, AreNodes}
+use Rattle.uefi_path.specs.Path.{LastAlone, AreEndedBy, HasNodes}
 use Rattle.uefi_path.specs.Spelling.{SpellsNodes}
 use Rattle.uefi_path.specs.OneNode.{one_encoding}
 use Rattle.uefi_path.specs.OnePath.{joined-append}
@@ -73,20 +73,19 @@ next_of_others P (n ∷ ns) (m ∷ l ∷ ms) rest x each none others e =
     next_of_others P ns (l ∷ ms) rest x each.1 none.1 (record { each = others.each.1; end = others.end.1 }) first.1
 
 -- Where no node comes, the bytes begin with no such nodes.
-pub passed_nowhere : (P : Node → Type 0) (bytes rest : List ℕ) → HasPassed P bytes rest → HasNoNode rest → HasNone P bytes
-passed_nowhere P bytes rest before refused others ended front =
-    let next = next_of_others P before.0 others rest front.0 before.1.each before.1.none ended (sym before.1.text ∙ front.1) in
-    refused next.0 next.1 next.2
+pub passed_nowhere : (P : Node → Type 0) (bytes rest : List ℕ) → HasPassed P bytes rest → ¬ HasNode rest → ¬ HasNodes P bytes
+passed_nowhere P bytes rest before refused has =
+    refused (next_of_others P before.0 has.0 rest has.2.0 before.1.each before.1.none has.1 (sym before.1.text ∙ has.2.1))
 
 -- Bytes that begin with such nodes begin with a node.
-pub HasSome-node : (P : Node → Type 0) (rest : List ℕ) → HasSome P rest → HasNode rest
-HasSome-node P rest has = next_of_others P [] has.0 rest has.2.0 tt tt has.1 has.2.1
+pub HasNodes-node : (P : Node → Type 0) (rest : List ℕ) → HasNodes P rest → HasNode rest
+HasNodes-node P rest has = next_of_others P [] has.0 rest has.2.0 tt tt has.1 has.2.1
 
 -- After a node that isn't so, the bytes still begin with such nodes.
-pub HasSome-after : (P : Node → Type 0) (rest after : List ℕ) (n : Node) → HasSome P rest → Fits n → (P n → ⊥) → rest ≡ encoding n ++ after → HasSome P after
-HasSome-after P rest after n has fits not_so e = go has.0 has.1 has.2
+pub HasNodes-after : (P : Node → Type 0) (rest after : List ℕ) (n : Node) → HasNodes P rest → Fits n → (P n → ⊥) → rest ≡ encoding n ++ after → HasNodes P after
+HasNodes-after P rest after n has fits not_so e = go has.0 has.1 has.2
   where
-    go : (nodes : List Node) → AreEndedBy P nodes → IsFront (joined nodes) rest → HasSome P after
+    go : (nodes : List Node) → AreEndedBy P nodes → IsFront (joined nodes) rest → HasNodes P after
     go [] ended front = absurd ended.end
     go (m ∷ []) ended front =
         let first = one_encoding n m after ([] ++ front.0) fits ended.each.0 (sym e ∙ front.1 ∙ append_assoc (encoding m) [] front.0) in

@@ -1,7 +1,7 @@
 -- One step of the iterators.
 use Rattle.std.proofs.Common.{◌≡◌, ℕ, List, [], ◌∷◌, ◌++◌, length, refl, sym, ◌∙◌, ap, subst, arith}
 use Rattle.uefi_path.specs.Node.{Node, Fits, encoding, joined, HasNode, IsEnd}
-use Rattle.uefi_path.specs.Path.{AreEndedBy, HasSome, concat, all_but_last}
+use Rattle.uefi_path.specs.Path.{AreEndedBy, HasNodes, concat, all_but_last}
 use Rattle.uefi_path.specs.Spelling.{IsTextOfNodes, SpellsNodes, IsTextOfInstances, SpellsInstances}
 use Rattle.uefi_path.specs.OneNode.{one_encoding}
 use Rattle.uefi_path.specs.OnePath.{one_ended, spelled_once, instances_spelled_once, joined-append, some_bytes}
@@ -59,7 +59,7 @@ no_instance bytes (p ∷ parts) spelled none =
     no_element (b ∷ s) e = absurd (omega arith)
 
 -- Where bytes are left, an instance comes.
-pub some_instance : (bytes : List ℕ) (parts : List (List Node)) → IsTextOfInstances bytes parts → (length bytes ≡ 0 → ⊥) → HasSome IsEnd bytes
+pub some_instance : (bytes : List ℕ) (parts : List (List Node)) → IsTextOfInstances bytes parts → (length bytes ≡ 0 → ⊥) → HasNodes IsEnd bytes
 some_instance bytes [] spelled some = absurd (some (ap length spelled.text))
 some_instance bytes (p ∷ parts) spelled some = (p, spelled.each.0, (joined (concat parts), spelled.text ∙ joined-append p (concat parts)))
 

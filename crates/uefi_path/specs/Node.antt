@@ -43,7 +43,3 @@ IsFront {A} front whole = (rest : List A) × (whole ≡ front ++ rest)
 -- Some front of the bytes is a node.
 abbrev pub HasNode : List ℕ → Type 0
 HasNode bytes = (node : Node) × Fits node × IsFront (encoding node) bytes
-
--- No front of the bytes is a node.
-abbrev pub HasNoNode : List ℕ → Type 0
-HasNoNode bytes = (node : Node) → Fits node → IsFront (encoding node) bytes → ⊥

@@ -23,16 +23,12 @@ abbrev pub IsInstance : List Node → Type 0
 IsInstance = AreEndedBy IsEnd
 
 -- Some front of the bytes is such nodes.
-abbrev pub HasSome : (Node → Type 0) → List ℕ → Type 0
-HasSome P bytes = (nodes : List Node) × AreEndedBy P nodes × IsFront (joined nodes) bytes
+abbrev pub HasNodes : (Node → Type 0) → List ℕ → Type 0
+HasNodes P bytes = (nodes : List Node) × AreEndedBy P nodes × IsFront (joined nodes) bytes
 
--- No front of the bytes is such nodes.
-abbrev pub HasNone : (Node → Type 0) → List ℕ → Type 0
-HasNone P bytes = (nodes : List Node) → AreEndedBy P nodes → IsFront (joined nodes) bytes → ⊥
-
--- No front of the bytes is a path.
-abbrev pub HasNoPath : List ℕ → Type 0
-HasNoPath = HasNone IsEndEntire
+-- Some front of the bytes is a path.
+abbrev pub HasPath : List ℕ → Type 0
+HasPath = HasNodes IsEndEntire
 
 -- The parts, one after another.
 abbrev pub concat : List (List Node) → List Node

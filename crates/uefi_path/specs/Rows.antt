@@ -1,7 +1,7 @@
 -- Worked rows of the definitions: what the bytes of some paths are, and that some bytes begin with none.
 use Rattle.std.specs.Prelude.{◌≡◌, ℕ, List, [], ◌∷◌, ◌++◌}
 use Rattle.uefi_path.specs.Node.{Node, joined, IsFront}
-use Rattle.uefi_path.specs.Path.{IsPath, HasNoPath, AreInstances, all_but_last}
+use Rattle.uefi_path.specs.Path.{IsPath, HasPath, AreInstances, all_but_last}
 
 abbrev pub node : ℕ → ℕ → List ℕ → Node
 node t s d = record { device_type = t; sub_type = s; payload = d }
@@ -41,10 +41,10 @@ pub record EndWithData : Type 0 where
 
 -- No bytes, a length below 4, a length beyond the bytes, no end-entire node.
 pub record NoPath : Type 0 where
-  pub empty : HasNoPath []
-  pub short : HasNoPath (0xa0 ∷ 0xb0 ∷ 3 ∷ 0 ∷ [])
-  pub long : HasNoPath (0xa0 ∷ 0xb0 ∷ 0xff ∷ 0xff ∷ [])
-  pub endless : HasNoPath (0xa0 ∷ 0xb0 ∷ 6 ∷ 0 ∷ 0x0a ∷ 0x0b ∷ [])
+  pub empty : ¬ HasPath []
+  pub short : ¬ HasPath (0xa0 ∷ 0xb0 ∷ 3 ∷ 0 ∷ [])
+  pub long : ¬ HasPath (0xa0 ∷ 0xb0 ∷ 0xff ∷ 0xff ∷ [])
+  pub endless : ¬ HasPath (0xa0 ∷ 0xb0 ∷ 6 ∷ 0 ∷ 0x0a ∷ 0x0b ∷ [])
 
 abbrev pub RowsHold : Type 0
 RowsHold = TwoInstances × AnyEnd × EndWithData × NoPath

@@ -1,6 +1,6 @@
 ghost use Rattle.std.specs.Prelude.{◌≡◌, ◌↔◌, ◌++◌, IsTrue, IfOk, OnErr};
-ghost use Rattle.uefi_path.specs.Node.{Fits, encoding, HasNode, HasNoNode};
-ghost use Rattle.uefi_path.specs.Path.{HasSome, HasNone};
+ghost use Rattle.uefi_path.specs.Node.{Fits, encoding, HasNode};
+ghost use Rattle.uefi_path.specs.Path.{HasNodes};
 ghost use Rattle.uefi_path.specs.Stop.{Stops};
 ghost use Rattle.uefi_path.specs.Spelling.{SpellsNodes};
 ghost use Rattle.uefi_path.specs.Views.{node_of};
@@ -34,7 +34,7 @@ impl StopCondition {
 pub(crate) fn split_node(bytes: &[u8]) -> Result<(DevicePathNode<'_>, &[u8]), ByteConversionError>
     ensures fits { IfOk result (λ r. Fits (node_of r.0)) }
     ensures split { IfOk result (λ r. bytes.now ≡ encoding (node_of r.0) ++ r.1.now) }
-    ensures none { OnErr result (HasNoNode bytes.now) }
+    ensures none { OnErr result (¬ HasNode bytes.now) }
 {
     let node = DevicePathNode::try_from(bytes)?;
     let (_, after) = bytes.split_at(node.as_bytes().len());
@@ -59,7 +59,7 @@ pub(crate) fn split_nodes(
 ) -> Result<(&[u8], &[u8]), ByteConversionError>
     ensures nodes { IfOk result (λ r. SpellsNodes (Stops stop) r.0.now) }
     ensures split { IfOk result (λ r. bytes.now ≡ r.0.now ++ r.1.now) }
-    ensures none { OnErr result (HasNone (Stops stop) bytes.now) }
+    ensures none { OnErr result (¬ HasNodes (Stops stop) bytes.now) }
 {
     let mut rest = bytes;
     loop {
@@ -73,7 +73,7 @@ pub(crate) fn split_nodes(
 
 /// The same of bytes that are known to begin with such nodes. Nothing is tested.
 pub(crate) fn first_nodes(bytes: &[u8], stop: StopCondition) -> (&[u8], &[u8])
-    requires { HasSome (Stops stop) bytes.now }
+    requires { HasNodes (Stops stop) bytes.now }
     ensures nodes { SpellsNodes (Stops stop) result.0.now }
     ensures split { bytes.now ≡ result.0.now ++ result.1.now }
 {
