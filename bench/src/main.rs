@@ -6,6 +6,7 @@
 
 mod path;
 mod random;
+mod time;
 
 use std::time::Instant;
 
@@ -57,5 +58,6 @@ fn measure(case: &Case<'_>) -> bool {
 fn main() {
     let mut equal = true;
     path::with_cases(|case| equal &= measure(case));
+    time::with_cases(|case| equal &= measure(case));
     std::process::exit(if equal { 0 } else { 1 });
 }

@@ -5,4 +5,6 @@
 //! from one of these.
 #![tactic(auto)]
 
+pub mod base;
 pub mod path;
+pub mod time;

@@ -6,3 +6,4 @@
 #![tactic(auto)]
 
 mod path;
+mod time;

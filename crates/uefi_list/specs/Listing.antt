@@ -1,12 +1,18 @@
 -- The listing that a command makes of bytes.
 use Rattle.std.specs.Prelude.{◌≡◌, ℕ, List, codes}
 use Rattle.uefi_list.specs.declared.command.Command.{Command}
-use Rattle.uefi_list.specs.declared.command.Command.TheVariants.{Path}
+use Rattle.uefi_list.specs.declared.command.Command.TheVariants.{Path, Time}
 use Rattle.uefi_list.specs.declared.listing.Outcome.{Outcome}
 use Rattle.uefi_list.specs.declared.listing.Outcome.TheVariants.{Listed, Refused}
 use Rattle.uefi_path.specs.Node.{Node, joined, IsFront}
 use Rattle.uefi_path.specs.Path.{IsPath, HasPath, AreInstances}
 use Rattle.uefi_list.specs.PathListing.{path_lines}
+use Rattle.uefi_list.specs.TimeListing.{time_line}
+use Rattle.uefi_records.specs.declared.time_error.TimeByteConversionError.{TimeByteConversionError}
+use Rattle.uefi_records.specs.declared.time_error.TimeByteConversionError.TheVariants.{InvalidFields, InvalidSize}
+use Rattle.uefi_records.specs.Time.{TimeFields, StandsIn}
+use Rattle.uefi_records.specs.Faults.{reading_faults, no_fault}
+use Rattle.uefi_records.specs.Reading.{RefusesTime}
 
 -- The text lists the path that is a front of the bytes, and its instances.
 pub record ListsPath (bytes text : List ℕ) (nodes : List Node) (parts : List (List Node)) : Type 0 where
@@ -20,7 +26,24 @@ pub record RefusesPath (bytes text : List ℕ) : Type 0 where
   pub none : ¬ HasPath bytes
   pub line : text ≡ codes "refused InvalidLength\n"
 
+-- The text lists the time in the first sixteen bytes, with which a reader finds no fault.
+pub record ListsTime (bytes text : List ℕ) (time : TimeFields) : Type 0 where
+  pub stands : StandsIn time bytes
+  pub faultless : reading_faults time ≡ no_fault
+  pub line : text ≡ time_line time
+
+-- The text says why there is no time.
+abbrev pub refused_time_line : TimeByteConversionError → List ℕ
+refused_time_line InvalidSize = codes "refused InvalidSize\n"
+refused_time_line (InvalidFields faults) = codes "refused InvalidFields\n"
+
+pub record RefusesTimeLine (bytes text : List ℕ) (refusal : TimeByteConversionError) : Type 0 where
+  pub none : RefusesTime bytes refusal
+  pub line : text ≡ refused_time_line refusal
+
 -- The text and the outcome are those of the command over the bytes.
 abbrev pub Listing : Command → List ℕ → List ℕ → Outcome → Type 0
 Listing Path bytes text Listed = (nodes : List Node) × (parts : List (List Node)) × ListsPath bytes text nodes parts
 Listing Path bytes text Refused = RefusesPath bytes text
+Listing Time bytes text Listed = (time : TimeFields) × ListsTime bytes text time
+Listing Time bytes text Refused = (refusal : TimeByteConversionError) × RefusesTimeLine bytes text refusal

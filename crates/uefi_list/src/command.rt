@@ -6,6 +6,8 @@ ghost use Rattle.uefi_list.specs.Words.{Asks, AskForNothing};
 pub enum Command {
     /// The device path that the file begins with: `path FILE`.
     Path,
+    /// The time in the first sixteen bytes of the file: `time FILE`.
+    Time,
 }
 
 impl Command {
@@ -20,6 +22,7 @@ impl Command {
         };
         match command.as_str() {
             "path" => Some(Command::Path),
+            "time" => Some(Command::Time),
             _ => None,
         }
     }

@@ -3,8 +3,10 @@ ghost use Rattle.uefi_list.specs.Listing.{Listing};
 
 use crate::command::Command;
 use crate::path_listing::push_path;
+use crate::time_listing::push_time;
 use std::alloc::{AllocError, Allocator};
 use uefi_path::{ByteConversionError, DevicePath};
+use uefi_records::{Time, TimeByteConversionError};
 
 /// Whether the bytes were what the command asks for.
 #[derive(Clone, Copy, PartialEq, Eq, Debug)]
@@ -33,6 +35,28 @@ fn list_path<A: Allocator>(alloc: A, bytes: &[u8]) -> Result<(Vec<u8, A>, Outcom
     Ok((text.into_bytes(), outcome))
 }
 
+/// The listing of the time in the first sixteen bytes.
+fn list_time<A: Allocator>(alloc: A, bytes: &[u8]) -> Result<(Vec<u8, A>, Outcome), AllocError>
+    ensures { IfOk result (λ r. Listing Command.Time bytes.now r.0.items r.1) }
+{
+    let mut text = String::new(alloc);
+    let outcome = match Time::try_from(bytes) {
+        Ok(time) => {
+            push_time(&mut text, &time)?;
+            Outcome::Listed
+        }
+        Err(TimeByteConversionError::InvalidSize) => {
+            text.push_str("refused InvalidSize\n")?;
+            Outcome::Refused
+        }
+        Err(TimeByteConversionError::InvalidFields(_)) => {
+            text.push_str("refused InvalidFields\n")?;
+            Outcome::Refused
+        }
+    };
+    Ok((text.into_bytes(), outcome))
+}
+
 /// The listing of the bytes, in memory, and whether they were refused.
 ///
 /// The one error is want of memory.
@@ -45,5 +69,6 @@ pub fn listing<A: Allocator>(
 {
     match command {
         Command::Path => list_path(alloc, bytes),
+        Command::Time => list_time(alloc, bytes),
     }
 }

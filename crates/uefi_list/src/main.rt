@@ -17,6 +17,7 @@ mod program;
 pub mod run;
 #[cfg(test)]
 mod tests;
+mod time_listing;
 
 fn main(rt: HostRuntime) -> ExitCode {
     program::start(&rt)

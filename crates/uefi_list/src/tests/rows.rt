@@ -18,14 +18,19 @@ const CON_OUT_LISTING: &[u8] =
     03 0e 0000000000c2010000000000080101\n  03 0a 5347c1e0bef9d2119a0c0090273fc14d\npath 103\n";
 
 /// Both [`listing`] and [`run`] over memory give the text and the outcome.
-fn assert_listing(rt: &(impl Abort + AllocGlobal), input: &str, text: &[u8], outcome: Outcome) {
+fn assert_listing(
+    rt: &(impl Abort + AllocGlobal),
+    command: Command,
+    input: &str,
+    (text, outcome): (&[u8], Outcome),
+) {
     let input_bytes = bytes(rt.alloc(), input).expect(rt, input);
-    let listed = listing(rt.alloc(), &Command::Path, input_bytes.as_slice()).expect(rt, input);
+    let listed = listing(rt.alloc(), &command, input_bytes.as_slice()).expect(rt, input);
     assert_eq!(rt; listed.0.as_slice(), text, "{input}");
     assert_eq!(rt; listed.1, outcome, "{input}");
 
     let mut out = Vec::new(rt.alloc());
-    let ran = run(rt.alloc(), &Command::Path, input_bytes.as_slice(), &mut out);
+    let ran = run(rt.alloc(), &command, input_bytes.as_slice(), &mut out);
     assert_eq!(rt; ran, Ok(outcome), "{input}");
     assert_eq!(rt; out.as_slice(), text, "{input}");
 }
@@ -39,23 +44,59 @@ fn a_path_is_listed_by_its_instances(rt: HostRuntime) {
         (CON_OUT, CON_OUT_LISTING),
     ];
     for (input, text) in rows {
-        assert_listing(&rt, input, text, Outcome::Listed);
+        assert_listing(&rt, Command::Path, input, (text, Outcome::Listed));
     }
 }
 
 #[test]
 fn a_node_without_data_ends_after_its_subtype(rt: HostRuntime) {
-    assert_listing(
-        &rt,
-        "0102 0400  7fff 0400",
-        b"instance 8\n  01 02\npath 8\n",
-        Outcome::Listed,
-    );
+    let listed = (b"instance 8\n  01 02\npath 8\n".as_slice(), Outcome::Listed);
+    assert_listing(&rt, Command::Path, "0102 0400  7fff 0400", listed);
 }
 
 #[test]
 fn bytes_without_a_path_are_refused(rt: HostRuntime) {
     for input in ["", "a0b0 0300", "a0b0 ffff", "a0b0 0600 0a0b"] {
-        assert_listing(&rt, input, b"refused InvalidLength\n", Outcome::Refused);
+        let refused = (b"refused InvalidLength\n".as_slice(), Outcome::Refused);
+        assert_listing(&rt, Command::Path, input, refused);
+    }
+}
+
+#[test]
+fn a_time_is_listed_in_one_line(rt: HostRuntime) {
+    let rows: [(&str, &[u8]); 2] = [
+        (
+            "e807021f 00000000 00000000 ff070000",
+            b"time 2024-02-31 00:00:00.000000000 local 0\n",
+        ),
+        (
+            "e8070c1f 173b3b00 ffc99a3b c4ff0300 00",
+            b"time 2024-12-31 23:59:59.999999999 -60 3\n",
+        ),
+    ];
+    for (input, text) in rows {
+        assert_listing(&rt, Command::Time, input, (text, Outcome::Listed));
+    }
+}
+
+#[test]
+fn bytes_without_a_time_are_refused(rt: HostRuntime) {
+    let rows: [(&str, &[u8]); 4] = [
+        (
+            "00000000 00000000 00000000 00000000",
+            b"refused InvalidFields\n",
+        ),
+        (
+            "00000000 00000000 00000000 00000400",
+            b"refused InvalidFields\n",
+        ),
+        (
+            "e807021f 00000000 00000000 ff0700",
+            b"refused InvalidSize\n",
+        ),
+        ("", b"refused InvalidSize\n"),
+    ];
+    for (input, text) in rows {
+        assert_listing(&rt, Command::Time, input, (text, Outcome::Refused));
     }
 }

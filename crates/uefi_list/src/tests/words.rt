@@ -14,6 +14,10 @@ fn from_words(rt: &(impl Abort + AllocGlobal), words: &[&str]) -> Option<Command
 fn a_command_and_a_file_ask_for_a_listing(rt: HostRuntime) {
     assert_eq!(rt; from_words(&rt, &["path", "boot.dp"]), Some(Command::Path));
     assert_eq!(rt; from_words(&rt, &["path", "path"]), Some(Command::Path));
+    assert_eq!(rt;
+        from_words(&rt, &["time", "boot.time"]),
+        Some(Command::Time)
+    );
 }
 
 #[test]

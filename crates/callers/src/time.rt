@@ -1,0 +1,64 @@
+ghost use Rattle.std.specs.Prelude.{◌≡◌, ◌≤◌, ◌↔◌, string_bytes, IsTrue, IsOk, IfOk};
+ghost use Rattle.uefi_records.specs.Time.{without_pads};
+ghost use Rattle.uefi_records.specs.Flags.{has_bits};
+ghost use Rattle.uefi_records.specs.Texts.{time_error_text};
+ghost use Rattle.uefi_records.specs.Views.{time_of, bytes_of_time, attribute_bits};
+
+use std::alloc::{AllocError, Global};
+use uefi_records::laws::one_time;
+use uefi_records::{Daylight, FileAttribute, Time, TimeByteConversionError, TimeError, TimeParams};
+
+/// A time written and read again: the same time, with zeros in its padding.
+pub fn read_back(time: &Time) -> Result<Time, TimeByteConversionError>
+    ensures { IfOk result (λ again. time_of again ≡ without_pads (time_of time.now)) }
+{
+    one_time();
+    let bytes = time.to_bytes();
+    Time::try_from(bytes.as_slice())
+}
+
+/// The first noon of a year, local time.
+pub fn first_noon(year: u16) -> Result<Time, TimeError>
+    ensures made { IfOk result (λ time. (time_of time).year ≡ year) }
+    ensures accepted { IsOk result ↔ ((1900 ≤ year) × (year ≤ 9999)) }
+{
+    Time::new(TimeParams {
+        year,
+        month: 1,
+        day: 1,
+        hour: 12,
+        minute: 0,
+        second: 0,
+        nanosecond: 0,
+        time_zone: None,
+        daylight: Daylight::empty(),
+    })
+}
+
+/// Whether two times are equal: exactly where all their bytes are.
+pub fn is_same_time(time: &Time, other: &Time) -> bool
+    ensures { IsTrue result ↔ (bytes_of_time time.now ≡ bytes_of_time other.now) }
+{
+    time == other
+}
+
+/// Whether a file is a directory.
+pub fn is_directory(attribute: FileAttribute) -> bool
+    ensures { result ≡ has_bits (attribute_bits attribute) 0x10 }
+{
+    attribute.contains(FileAttribute::DIRECTORY)
+}
+
+/// The set of a bit that has no name: there is none.
+pub fn unnamed() -> bool
+    ensures { IsTrue result }
+{
+    FileAttribute::from_bits(0x08).is_none()
+}
+
+/// The text of what is wrong with a time.
+pub fn fault_text(alloc: Global, faults: &TimeError) -> Result<String, AllocError>
+    ensures { IfOk result (λ text. string_bytes text ≡ time_error_text faults.now) }
+{
+    faults.to_string(alloc)
+}

@@ -1,0 +1,90 @@
+-- The worked rows hold.
+use Rattle.std.proofs.Common.{◌≡◌, ℕ, zero, suc, ◌<◌, List, [], ◌∷◌, get_or, refl, arith, lit<, lit≤}
+use Rattle.std.proofs.lemmas.List.{length-replicate}
+use Rattle.uefi_base.specs.Ucs2.{IsSurrogate, IsCharacter, AreCharactersBefore, HaveUnitsBefore}
+use Rattle.uefi_base.specs.Faults.{OffendsFirst}
+use Rattle.uefi_base.specs.Rows.{TextRows, FaultRows, OrderRows, CharacterRows, ByteRows, NameRows, RowsHold}
+
+-- A unit below the surrogates, and not zero, is a character.
+low : (unit : ℕ) → 0 < unit → unit < 0xd800 → IsCharacter unit
+low unit positive below = record { no_surrogate = λ surrogate. absurd (omega (arith, surrogate.0)); not_nul = λ zero. omega arith }
+
+-- Before the first place stands nothing; before the next, the unit of the first.
+none_before : (units : List ℕ) → AreCharactersBefore units 0
+none_before units k before = absurd (omega arith)
+
+one_before : (u : ℕ) (units : List ℕ) → IsCharacter u → AreCharactersBefore (u ∷ units) 1
+one_before u units is zero before = is
+one_before u units is (suc k) before = absurd (omega arith)
+
+two_before : (u v : ℕ) (units : List ℕ) → IsCharacter u → IsCharacter v → AreCharactersBefore (u ∷ v ∷ units) 2
+two_before u v units is_u is_v zero before = is_u
+two_before u v units is_u is_v (suc zero) before = is_v
+two_before u v units is_u is_v (suc (suc k)) before = absurd (omega arith)
+
+text_rows : TextRows
+text_rows = record {
+  two_characters = record { short = lit≤ tt; not_empty = lit< tt; nul = refl; characters = two_before 0x61 0x62 (0 ∷ []) (low 0x61 (lit< tt) (lit< tt)) (low 0x62 (lit< tt) (lit< tt)) };
+  without_nul = refl;
+  no_character = record { short = lit≤ tt; not_empty = lit< tt; nul = refl; characters = none_before (0 ∷ []) };
+}
+
+fault_rows : FaultRows
+fault_rows = record {
+  no_nul = (lit≤ tt, one_before 0x61 [] (low 0x61 (lit< tt) (lit< tt)));
+  empty = (lit≤ tt, none_before []);
+  interior_nul = (record { short = lit≤ tt; within = lit< tt; before = one_before 0x61 (0 ∷ 0x62 ∷ 0 ∷ []) (low 0x61 (lit< tt) (lit< tt)) }, refl, lit< tt);
+  nul_before_surrogate = (record { short = lit≤ tt; within = lit< tt; before = none_before (0 ∷ 0xd800 ∷ 0 ∷ []) }, refl, lit< tt);
+  surrogate = (record { short = lit≤ tt; within = lit< tt; before = none_before (0xd800 ∷ 0 ∷ []) }, (lit≤ tt, lit≤ tt));
+  surrogate_without_nul = (record { short = lit≤ tt; within = lit< tt; before = one_before 0x61 (0xd800 ∷ []) (low 0x61 (lit< tt) (lit< tt)) }, (lit≤ tt, lit≤ tt));
+  too_many_surrogates = λ n above. omega (arith, length-replicate {A = ℕ} n 0xd800);
+}
+
+-- A surrogate is no character.
+surrogate_first : (unit : ℕ) → IsSurrogate unit → IsCharacter unit → ⊥
+surrogate_first unit surrogate is = is.no_surrogate surrogate
+
+order_rows : OrderRows
+order_rows = record {
+  surrogate_after_nul = λ fault. (fault.0.before 0 (lit< tt)).not_nul refl;
+  nul_after_surrogate = λ fault. surrogate_first 0xd800 (lit≤ tt, lit≤ tt) (fault.0.before 0 (lit< tt));
+  second_surrogate = λ fault. surrogate_first 0xd800 (lit≤ tt, lit≤ tt) (fault.0.before 0 (lit< tt));
+  ending_after_surrogate = λ fault. surrogate_first 0xd800 (lit≤ tt, lit≤ tt) (fault.1 1 (lit< tt));
+  surrogate_of_too_many = λ n above fault. absurd (omega (arith, length-replicate {A = ℕ} n 0xd800, fault.0.short));
+}
+
+character_rows : CharacterRows
+character_rows = record {
+  above = (lit< tt, (0, lit< tt, (λ k before. absurd (omega arith)), lit< tt));
+  nul = (lit< tt, (1, lit< tt, first_has_unit, refl));
+  nul_after_above = nul_after_above;
+  empty = record { short = lit< tt; have_units = λ k before. absurd (omega arith) };
+}
+  where
+    first_has_unit : HaveUnitsBefore (0x61 ∷ 0 ∷ []) 1
+    first_has_unit zero before = (lit< tt, lit≤ tt)
+    first_has_unit (suc k) before = absurd (omega arith)
+
+    at_place : (place : ℕ) → place < 2 → HaveUnitsBefore (0x1f600 ∷ 0 ∷ []) place → ◌≡◌ {A = ℕ} (get_or (0x1f600 ∷ 0 ∷ []) place 0) 0 → ⊥
+    at_place zero within before nul = absurd (omega (arith, nul))
+    at_place (suc zero) within before nul = absurd (omega (arith, (before 0 (lit< tt)).1))
+    at_place (suc (suc k)) within before nul = absurd (omega arith)
+
+    nul_after_above : OffendsFirst (0x1f600 ∷ 0 ∷ []) (λ character. character ≡ 0) → ⊥
+    nul_after_above fault = at_place fault.1.0 fault.1.1 fault.1.2 fault.1.3
+
+byte_rows : ByteRows
+byte_rows = record {
+  units = refl;
+  odd_byte = refl;
+  bytes = refl;
+  u16 = refl;
+  u32 = refl;
+  u64 = refl;
+}
+
+name_rows : NameRows
+name_rows = record { guid = refl; status = refl }
+
+pub rows_hold : RowsHold
+rows_hold = (text_rows, fault_rows, order_rows, character_rows, byte_rows, name_rows)

@@ -1,0 +1,10 @@
+pub mod Ucs2
+pub mod Faults
+pub mod Unaligned
+pub mod LittleEndian
+pub mod GuidText
+pub mod StatusCode
+pub mod Views
+pub mod Laws
+pub mod Search
+pub mod Rows

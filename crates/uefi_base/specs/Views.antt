@@ -1,0 +1,32 @@
+-- What texts, units over bytes, their iterator and errors stand for.
+use Rattle.std.specs.Prelude.{ℕ, List}
+use Rattle.uefi_base.specs.declared.cstr16.CStr16.{CStr16}
+use Rattle.uefi_base.specs.declared.cstring16.CString16.{CString16}
+use Rattle.uefi_base.specs.declared.unaligned.UnalignedSlice.{UnalignedSlice}
+use Rattle.uefi_base.specs.declared.unaligned.UnalignedSliceIter.{UnalignedSliceIter}
+use Rattle.uefi_base.specs.declared.status.Status.{Status}
+use Rattle.uefi_base.specs.declared.status.Error.{Error}
+use Rattle.uefi_base.specs.Unaligned.{units_of}
+
+-- The units of the text, its NUL too.
+abbrev pub text_units : CStr16 → List ℕ
+text_units text = text.units.now
+
+-- The units of the text that is owned, its NUL too.
+abbrev pub owned_units : {A : Type 0} → CString16 A → List ℕ
+owned_units text = text.units.items
+
+-- The units over the bytes.
+abbrev pub slice_units : UnalignedSlice → List ℕ
+slice_units slice = units_of slice.bytes.now
+
+-- The units that are still to come.
+abbrev pub units_left : UnalignedSliceIter → List ℕ
+units_left iter = units_of iter.rest.now
+
+-- The two parts of an error.
+abbrev pub error_status : {D : Type 0} → Error D → Status
+error_status error = error.status
+
+abbrev pub error_data : {D : Type 0} → Error D → D
+error_data error = error.«data»

@@ -1,0 +1,4 @@
+pub mod NamedBits
+pub mod OneTime
+pub mod TimeFront
+pub mod Rows

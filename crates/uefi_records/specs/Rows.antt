@@ -1,0 +1,57 @@
+-- Worked rows of the definitions: the bytes of some times and what is wrong with them, and the numbers of the flags.
+use Rattle.std.specs.Prelude.{◌≡◌, pos, [], ◌∷◌, ◌++◌, replicate, Some, None, true, false, codes, neg_ℤ}
+use Rattle.uefi_records.specs.declared.time_error.TimeError.{TimeError}
+use Rattle.uefi_records.specs.declared.daylight.TheConstants.Daylight.{ADJUST_DAYLIGHT, IN_DAYLIGHT}
+use Rattle.uefi_records.specs.declared.file_attribute.TheConstants.FileAttribute.{READ_ONLY, HIDDEN, SYSTEM, DIRECTORY, ARCHIVE, VALID_ATTR}
+use Rattle.uefi_records.specs.Time.{TimeFields, time_bytes, zero_time, stated_zone, unspecified_zone}
+use Rattle.uefi_records.specs.Faults.{reading_faults, no_fault, daylight_alone, is_zone_outside}
+use Rattle.uefi_records.specs.Flags.{has_bits, named_daylight, named_attributes}
+use Rattle.uefi_records.specs.Texts.{time_error_text}
+
+-- The thirty-first of February 2024, local time: every month has 31 days.
+abbrev pub last_of_february : TimeFields
+last_of_february = record zero_time { year = 2024; month = 2; day = 31; zone = unspecified_zone }
+
+pub record LocalTime : Type 0 where
+  pub text : time_bytes last_of_february ≡ 0xe8 ∷ 0x07 ∷ 2 ∷ 0x1f ∷ 0 ∷ 0 ∷ 0 ∷ 0 ∷ 0 ∷ 0 ∷ 0 ∷ 0 ∷ 0xff ∷ 0x07 ∷ 0 ∷ 0 ∷ []
+  pub accepted : reading_faults last_of_february ≡ no_fault
+  pub zone : stated_zone last_of_february.zone ≡ None
+
+-- Zeros alone: year, month and day are outside their ranges, and nothing else.
+abbrev pub year_month_and_day : TimeError
+year_month_and_day = record no_fault { year = true; month = true; day = true }
+
+pub record ZeroTime : Type 0 where
+  pub text : time_bytes zero_time ≡ replicate 16 0
+  pub faults : reading_faults zero_time ≡ year_month_and_day
+  pub lines :
+      time_error_text year_month_and_day
+      ≡ codes "year not within `1900..=9999`" ++ 10 ∷ codes "month not within `1..=12" ++ 10 ∷ codes "day not within `1..=31`" ++ 10 ∷ []
+
+-- An unknown bit of daylight is reported alone, whatever else is wrong.
+abbrev pub unknown_daylight : TimeFields
+unknown_daylight = record zero_time { daylight = 4 }
+
+pub record UnknownDaylight : Type 0 where
+  pub text : time_bytes unknown_daylight ≡ replicate 14 0 ++ 4 ∷ 0 ∷ []
+  pub faults : reading_faults unknown_daylight ≡ daylight_alone
+
+-- A zone is at most 1440 minutes from UTC to either side, or 2047.
+pub record Zones : Type 0 where
+  pub east : is_zone_outside (pos 1440) ≡ false
+  pub too_far_east : is_zone_outside (pos 1441) ≡ true
+  pub west : is_zone_outside (neg_ℤ (pos 1440)) ≡ false
+  pub too_far_west : is_zone_outside (neg_ℤ (pos 1441)) ≡ true
+  pub unspecified : is_zone_outside (pos 2047) ≡ false
+  pub stated : stated_zone (neg_ℤ (pos 90)) ≡ Some (neg_ℤ (pos 90))
+  pub two_bytes : time_bytes (record zero_time { zone = neg_ℤ (pos 90) }) ≡ replicate 12 0 ++ 0xa6 ∷ 0xff ∷ 0 ∷ 0 ∷ []
+
+-- The flags' numbers, and sets with and without a bit that has no name.
+pub record FlagNumbers : Type 0 where
+  pub daylight : (ADJUST_DAYLIGHT.0 ≡ 1) × (IN_DAYLIGHT.0 ≡ 2)
+  pub attributes : (READ_ONLY.0 ≡ 1) × (HIDDEN.0 ≡ 2) × (SYSTEM.0 ≡ 4) × (DIRECTORY.0 ≡ 0x10) × (ARCHIVE.0 ≡ 0x20) × (VALID_ATTR.0 ≡ 0x37)
+  pub named : (has_bits named_daylight 3 ≡ true) × (has_bits named_attributes 0x37 ≡ true)
+  pub unnamed : (has_bits named_daylight 4 ≡ false) × (has_bits named_attributes 8 ≡ false)
+
+abbrev pub RowsHold : Type 0
+RowsHold = LocalTime × ZeroTime × UnknownDaylight × Zones × FlagNumbers

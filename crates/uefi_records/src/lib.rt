@@ -1,0 +1,25 @@
+//! Times as UEFI firmware keeps them, and the flag sets that its file records have (UEFI 2.10, 8.3
+//! and 13.5).
+//!
+//! A time is sixteen bytes. Begin with [`Time::try_from`], which reads it from bytes, or with
+//! [`Time::new`], which makes it from its fields; both refuse a time with fields outside their
+//! ranges, and say which they are. [`Daylight`] and [`FileAttribute`] are sets of
+//! flags. Nothing here takes memory.
+//!
+//! The contracts speak of a time's fields and of a set's bits: `specs/Time.antt` says what bytes a
+//! time has, `specs/Faults.antt` which fields are at fault, and `specs/Flags.antt` which bits have a
+//! name.
+#![tactic(auto)]
+
+pub use self::daylight::Daylight;
+pub use self::file_attribute::FileAttribute;
+pub use self::time::{Time, TimeParams};
+pub use self::time_error::{TimeByteConversionError, TimeError};
+
+mod daylight;
+mod file_attribute;
+pub mod laws;
+#[cfg(test)]
+mod tests;
+mod time;
+mod time_error;
