@@ -1,4 +1,11 @@
+pub mod FirstZero
+pub mod Fronts
+pub mod Judging
 pub mod NamedBits
 pub mod OneTime
 pub mod TimeFront
+pub mod FileInfoWritten
+pub mod ReadsBack
 pub mod Rows
+pub mod Writing
+pub mod Written

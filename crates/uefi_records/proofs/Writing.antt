@@ -1,0 +1,36 @@
+-- What the parts of a record make that are put one after another.
+use Rattle.std.proofs.Common.{◌≡◌, ℕ, ◌+◌, ◌≤◌, List, [], ◌∷◌, ◌++◌, length, take, drop, refl, arith}
+use Rattle.uefi_base.specs.Buffer.{put_at, put_front}
+use Rattle.uefi_base.specs.LittleEndian.{u32_bytes, u64_bytes}
+use Rattle.uefi_base.specs.Unaligned.{unit_bytes}
+use Rattle.uefi_base.proofs.Parts.{put_first, put_more, put_skip}
+use Rattle.uefi_records.specs.Time.{time_bytes}
+use Rattle.uefi_records.specs.FileInfo.{FileFields, file_header}
+
+-- Of a file's information, the seven parts before its name, and the name.
+pub file_info_put : (size : ℕ) (fields : FileFields) (name b0 b1 b2 b3 b4 b5 b6 b7 b8 p1 p2 p3 p4 p5 p6 p7 p8 : List ℕ) → 80 ≤ length b0
+    → p1 ≡ u64_bytes size → b1 ≡ put_at 0 p1 b0
+    → p2 ≡ u64_bytes fields.file_size → b2 ≡ put_at 8 p2 b1
+    → p3 ≡ u64_bytes fields.physical_size → b3 ≡ put_at 16 p3 b2
+    → p4 ≡ time_bytes fields.create_time → b4 ≡ put_at 24 p4 b3
+    → p5 ≡ time_bytes fields.last_access_time → b5 ≡ put_at 40 p5 b4
+    → p6 ≡ time_bytes fields.modification_time → b6 ≡ put_at 56 p6 b5
+    → p7 ≡ u64_bytes fields.attribute → b7 ≡ put_at 72 p7 b6
+    → p8 ≡ unit_bytes name → b8 ≡ put_at 80 p8 b7
+    → b8 ≡ put_front (file_header size fields ++ unit_bytes name) b0
+file_info_put size fields name b0 b1 b2 b3 b4 b5 b6 b7 b8 p1 p2 p3 p4 p5 p6 p7 p8 room e1 w1 e2 w2 e3 w3 e4 w4 e5 w5 e6 w6 e7 w7 e8 w8 =
+    let q1 : List ℕ = u64_bytes size in
+    let q2 : List ℕ = u64_bytes fields.file_size in
+    let q3 : List ℕ = u64_bytes fields.physical_size in
+    let q4 : List ℕ = time_bytes fields.create_time in
+    let q5 : List ℕ = time_bytes fields.last_access_time in
+    let q6 : List ℕ = time_bytes fields.modification_time in
+    let q7 : List ℕ = u64_bytes fields.attribute in
+    let done1 = put_first p1 q1 b0 b1 e1 w1 in
+    let done2 = put_more 8 q1 p2 q2 b0 b1 b2 done1 refl (omega (arith, room)) e2 w2 in
+    let done3 = put_more 16 (q1 ++ q2) p3 q3 b0 b2 b3 done2 refl (omega (arith, room)) e3 w3 in
+    let done4 = put_more 24 (q1 ++ q2 ++ q3) p4 q4 b0 b3 b4 done3 refl (omega (arith, room)) e4 w4 in
+    let done5 = put_more 40 (q1 ++ q2 ++ q3 ++ q4) p5 q5 b0 b4 b5 done4 refl (omega (arith, room)) e5 w5 in
+    let done6 = put_more 56 (q1 ++ q2 ++ q3 ++ q4 ++ q5) p6 q6 b0 b5 b6 done5 refl (omega (arith, room)) e6 w6 in
+    let done7 = put_more 72 (q1 ++ q2 ++ q3 ++ q4 ++ q5 ++ q6) p7 q7 b0 b6 b7 done6 refl (omega (arith, room)) e7 w7 in
+    put_more 80 (q1 ++ q2 ++ q3 ++ q4 ++ q5 ++ q6 ++ q7) p8 (unit_bytes name) b0 b7 b8 done7 refl room e8 w8

@@ -1,0 +1,4 @@
+#[derive(Clone, Copy)]
+pub struct FileSystemInfo<'a> {
+    bytes: &'a [u8],
+}

@@ -1,0 +1,4 @@
+#[derive(Clone, Copy)]
+pub struct FileSystemVolumeLabel<'a> {
+    bytes: &'a [u8],
+}
