@@ -18,7 +18,7 @@ pub use denote.Array.{Array, array_vals, Array-Tells, Array-Lawful}
 pub use denote.Builtin.{u8, u32, usize, ArrayOf, SliceRefOf, RefOf, bool, u16, u64}
 pub use denote.Exit.{no, yes}
 pub use denote.Laws.{Is, shows}
-pub use denote.Plain.{uint_vals, uint_Tells, uint_Lawful}
+pub use denote.Plain.{uint_vals, uint_Tells, uint_Lawful, bool_vals, bool_Tells, bool_Lawful}
 pub use denote.RattleType.{owns}
 pub use denote.Signature.{plain, mut_slice_of, named_lft}
 pub use denote.Slice.{MutSlice, ShrSlice, mut_slice_vals, mut_slice_Tells, shr_slice_vals, shr_slice_Tells}

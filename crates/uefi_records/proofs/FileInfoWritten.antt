@@ -46,10 +46,15 @@ module _ (given : FileFields) (units old new : List ℕ) where
     named (Ok end) fit = ends_with 80 (file_header (file_info_size (length units)) given) units header_sized text fit
     named (Err error) fit = tt
 
+    sized_where : (written : Result ℕ FileInfoCreationError) → OnOk written (length (file_info_bytes given units) ≡ 80 + 2 * length units)
+    sized_where (Ok end) = sized
+    sized_where (Err error) = tt
+
     wrote : (written : Result ℕ FileInfoCreationError) → WroteFileInfo written → Wrote 80 8 (file_info_bytes given units) units old new written
     wrote written answered = record {
       end = answered.end;
       part_in_front = answered.part;
+      sized = sized_where written;
       named = named written answered.name_fits;
       short = answered.short;
       unchanged = answered.unchanged;
@@ -58,7 +63,7 @@ module _ (given : FileFields) (units old new : List ℕ) where
 
     -- What the view asks of the buffer.
     pub file_info_seen_in : (written : Result ℕ FileInfoCreationError) → WroteFileInfo written → IfOk written (λ end. (end ≤ length new) × EndsWithName 80 (take end new))
-    file_info_seen_in written answered = seen_in file_info_view 80 8 (file_info_bytes given units) units old new sized written (wrote written answered)
+    file_info_seen_in written answered = seen_in file_info_view 80 8 (file_info_bytes given units) units old new written (wrote written answered)
 
     parts : (made : Result FileInfo FileInfoCreationError) → length old < 2 ^ 64 → Made file_info_view 80 8 (file_info_bytes given units) units old new made → OnOk made (FitFile given) → OnOk made (AreUnits units)
         → MadeFileInfo made
@@ -80,5 +85,5 @@ module _ (given : FileFields) (units old new : List ℕ) where
     pub file_info_made_of : (written : Result ℕ FileInfoCreationError) (made : Result FileInfo FileInfoCreationError) → length old < 2 ^ 64 → WroteFileInfo written
         → MatchResult written (λ end. IfOk made (λ info. file_info_view info ≡ take end new)) (λ error. made ≡ Err error) → IsOk made ↔ IsOk written → MadeFileInfo made
     file_info_made_of written made room answered seen ok =
-        parts made room (made_of file_info_view 80 8 (file_info_bytes given units) units old new sized written made (wrote written answered) seen ok)
+        parts made room (made_of file_info_view 80 8 (file_info_bytes given units) units old new written made (wrote written answered) seen ok)
         (where_made (FitFile given) written made answered.fields_fit ok) (where_made (AreUnits units) written made answered.name_fits ok)

@@ -5,6 +5,8 @@ pub mod NamedBits
 pub mod OneTime
 pub mod TimeFront
 pub mod FileInfoWritten
+pub mod FileSystemInfoWritten
+pub mod VolumeLabelWritten
 pub mod ReadsBack
 pub mod Rows
 pub mod Writing

@@ -11,6 +11,7 @@ use Rattle.uefi_records.specs.Name.{EndsWithName, record_size}
 pub record Wrote (offset alignment : ℕ) (part name old new : List ℕ) (written : Result ℕ FileInfoCreationError) : Type 0 where
   pub end : IfOk written (λ end. end ≡ offset + 2 * length name)
   pub part_in_front : OnOk written (new ≡ put_front part old)
+  pub sized : OnOk written (length part ≡ offset + 2 * length name)
   pub named : OnOk written (EndsWithName offset part)
   pub short : IfErr written (λ error. error ≡ InsufficientStorage (record_size offset alignment (length name)))
   pub unchanged : OnErr written (new ≡ old)
@@ -23,15 +24,15 @@ pub record Made {V : Type 0} (view : V → List ℕ) (offset alignment : ℕ) (p
   pub short : IfErr made (λ error. error ≡ InsufficientStorage (record_size offset alignment (length name)))
   pub fits : IsOk made ↔ (record_size offset alignment (length name) ≤ length old)
 
-module _ {V : Type 0} (view : V → List ℕ) (offset alignment : ℕ) (part name old new : List ℕ) (sized : length part ≡ offset + 2 * length name) where
-  front_is_part : (end : ℕ) → end ≡ offset + 2 * length name → new ≡ put_front part old → take end new ≡ part
-  front_is_part end is front = ap (take end) front ∙ take_at part (drop (length part) old) end (sized ∙ sym is)
+module _ {V : Type 0} (view : V → List ℕ) (offset alignment : ℕ) (part name old new : List ℕ) where
+  front_is_part : (end : ℕ) → length part ≡ offset + 2 * length name → end ≡ offset + 2 * length name → new ≡ put_front part old → take end new ≡ part
+  front_is_part end sized is front = ap (take end) front ∙ take_at part (drop (length part) old) end (sized ∙ sym is)
 
   -- The part stands in the front of the buffer, and ends with the name.
   pub seen_in : (written : Result ℕ FileInfoCreationError) → Wrote offset alignment part name old new written → IfOk written (λ end. (end ≤ length new) × EndsWithName offset (take end new))
   seen_in (Ok end) wrote =
       let joined : length new ≡ length part + length (drop (length part) old) = ap length wrote.part_in_front ∙ length-append part (drop (length part) old) in
-      (omega (arith, joined, sized, wrote.end), subst (EndsWithName offset) (sym (front_is_part end wrote.end wrote.part_in_front)) wrote.named)
+      (omega (arith, joined, wrote.sized, wrote.end), subst (EndsWithName offset) (sym (front_is_part end wrote.sized wrote.end wrote.part_in_front)) wrote.named)
   seen_in (Err error) wrote = tt
 
   -- A view of it is made exactly where it was written.
@@ -39,7 +40,7 @@ module _ {V : Type 0} (view : V → List ℕ) (offset alignment : ℕ) (part nam
       → MatchResult written (λ end. IfOk made (λ v. view v ≡ take end new)) (λ error. made ≡ Err error) → IsOk made ↔ IsOk written → Made view offset alignment part name old new made
   made_of (Ok end) (Ok v) wrote seen ok = record {
     after = wrote.part_in_front;
-    seen = seen ∙ front_is_part end wrote.end wrote.part_in_front;
+    seen = seen ∙ front_is_part end wrote.sized wrote.end wrote.part_in_front;
     short = tt;
     fits = wrote.fits;
   }

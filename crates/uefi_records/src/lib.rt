@@ -20,7 +20,7 @@ pub use self::file_system_info::FileSystemInfo;
 pub use self::file_system_volume_label::FileSystemVolumeLabel;
 pub use self::time::{Time, TimeParams};
 pub use self::time_error::{TimeByteConversionError, TimeError};
-pub use self::write::write_file_info;
+pub use self::write::{write_file_info, write_file_system_info, write_file_system_volume_label};
 
 mod daylight;
 mod file_attribute;
