@@ -1,3 +1,4 @@
+pub mod Equality
 pub mod FirstZero
 pub mod Fronts
 pub mod Judging
@@ -8,6 +9,7 @@ pub mod FileInfoWritten
 pub mod FileSystemInfoWritten
 pub mod VolumeLabelWritten
 pub mod ReadsBack
+pub mod RecordLaws
 pub mod Rows
 pub mod Writing
 pub mod Written

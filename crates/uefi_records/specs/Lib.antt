@@ -6,6 +6,7 @@ pub mod Name
 pub mod Verdict
 pub mod FileInfo
 pub mod FileSystemInfo
+pub mod Identity
 pub mod Texts
 pub mod Laws
 pub mod Views

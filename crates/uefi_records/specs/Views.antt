@@ -1,5 +1,5 @@
 -- What the crate's values stand for: words that its contracts name them by.
-use Rattle.std.specs.Prelude.{ℕ, Bool, List, unwrap_or}
+use Rattle.std.specs.Prelude.{ℕ, Bool, List, [], ◌∷◌, ◌++◌, take, unwrap_or, if◌then◌else◌}
 use Rattle.uefi_records.specs.declared.daylight.Daylight.{Daylight}
 use Rattle.uefi_records.specs.declared.file_attribute.FileAttribute.{FileAttribute}
 use Rattle.uefi_records.specs.declared.file_info.FileInfo.{FileInfo}
@@ -68,6 +68,13 @@ file_fields_of info = file_fields (file_info_view info)
 abbrev pub file_name_of : FileInfo → List ℕ
 file_name_of info = units_from 80 (file_info_view info)
 
+-- What two are equal by: the 80 bytes of the fields, which have no others between them, and the name's units.
+abbrev pub file_field_bytes : FileInfo → List ℕ
+file_field_bytes info = take 80 (file_info_view info)
+
+abbrev pub file_info_key : FileInfo → List ℕ
+file_info_key info = file_field_bytes info ++ file_name_of info
+
 -- The fields that a writer is given.
 abbrev pub file_fields_given : ℕ → ℕ → Time → Time → Time → FileAttribute → FileFields
 file_fields_given file_size physical_size create_time last_access_time modification_time attribute = record {
@@ -91,6 +98,15 @@ file_system_fields_of info = file_system_fields (file_system_info_view info)
 
 abbrev pub file_system_label_of : FileSystemInfo → List ℕ
 file_system_label_of info = units_from 36 (file_system_info_view info)
+
+-- What two are equal by: all numbers, a truth value as 1 or 0, and the label's units.
+abbrev pub file_system_numbers : FileSystemInfo → List ℕ
+file_system_numbers info =
+    let fields = file_system_fields_of info in
+    system_stated_size info ∷ (if fields.read_only then 1 else 0) ∷ fields.volume_size ∷ fields.free_space ∷ fields.block_size ∷ []
+
+abbrev pub file_system_info_key : FileSystemInfo → List ℕ
+file_system_info_key info = file_system_numbers info ++ file_system_label_of info
 
 abbrev pub file_system_fields_given : Bool → ℕ → ℕ → ℕ → FileSystemFields
 file_system_fields_given read_only volume_size free_space block_size = record {

@@ -47,7 +47,7 @@ pub struct FileInfo<'a> {
 
 impl<'a> FileInfo<'a> {
     ghost use Rattle.uefi_records.specs.Views.{attribute_bits, time_of};
-    ghost use Rattle.uefi_records.specs.Views.{file_fields_given, file_info_view};
+    ghost use Rattle.uefi_records.specs.Views.{file_field_bytes, file_fields_given, file_info_view};
     ghost use Rattle.uefi_records.specs.Views.{stated_size, file_fields_of, file_name_of};
 
     /// The record that stands in the first `written` bytes of the buffer, or in all of it where it
@@ -186,6 +186,13 @@ impl<'a> FileInfo<'a> {
         !self.is_directory()
     }
 
+    // The bytes of the fields, of which all that stands before the name is made.
+    fn fields(&self) -> &'a [u8]
+        ensures { result.now ≡ file_field_bytes self.now }
+    {
+        &self.bytes[..NAME_OFFSET]
+    }
+
     // The view of what was written, if it was.
     fn over(
         bytes: &'a [u8],
@@ -204,3 +211,55 @@ impl<'a> FileInfo<'a> {
         })
     }
 }
+
+/// Equality of the stated size, of all fields, and of the name's units.
+impl PartialEq for FileInfo<'_> {
+    ghost use Rattle.std.specs.Prelude.{nat_eq};
+    ghost use Rattle.std.specs.Cmp.{partial_equiv_from_equiv, on_per};
+    ghost use Rattle.std.specs.Cmp.Lexicographic.{pointwise, nat_list_eq_equiv};
+    ghost use Rattle.uefi_records.specs.Views.{file_info_key};
+
+    ghost eq = { λ x y. pointwise nat_eq (file_info_key x) (file_info_key y) };
+
+    ghost laws = { on_per file_info_key (partial_equiv_from_equiv nat_list_eq_equiv) };
+
+    fn eq(&self, other: &Self) -> bool {
+        self.fields() == other.fields() && self.file_name() == other.file_name()
+    }
+}
+
+impl Eq for FileInfo<'_> {
+    ghost use Rattle.std.specs.Cmp.{on_equiv};
+    ghost use Rattle.std.specs.Cmp.Lexicographic.{nat_list_eq_equiv};
+    ghost use Rattle.uefi_records.specs.Views.{file_info_key};
+
+    ghost laws = { on_equiv file_info_key nat_list_eq_equiv };
+}
+
+impl Align for FileInfo<'_> {
+    ghost alignment = { 8 };
+
+    fn alignment() -> usize
+        ensures { result ≡ 8 }
+    {
+        ALIGNMENT
+    }
+}
+
+impl Identify for FileInfo<'_> {
+    ghost use Rattle.uefi_records.specs.Identity.{file_info_guid};
+
+    ghost identity = { file_info_guid };
+
+    const GUID: Guid = Guid([
+        0x92, 0x6e, 0x57, 0x09, 0x3f, 0x6d, 0xd2, 0x11, 0x8e, 0x39, 0x00, 0xa0, 0xc9, 0x69, 0x72, 0x3b,
+    ]);
+
+    fn identity() -> Guid
+        ensures { result ≡ file_info_guid }
+    {
+        Self::GUID
+    }
+}
+
+impl FileProtocolInfo for FileInfo<'_> {}

@@ -43,7 +43,7 @@ pub struct FileSystemInfo<'a> {
 }
 
 impl<'a> FileSystemInfo<'a> {
-    ghost use Rattle.uefi_records.specs.Views.{file_system_fields_given, file_system_info_view};
+    ghost use Rattle.uefi_records.specs.Views.{file_system_fields_given, file_system_info_view, file_system_numbers};
     ghost use Rattle.uefi_records.specs.Views.{system_stated_size, file_system_fields_of, file_system_label_of};
 
     /// The record that stands in the first `written` bytes of the buffer, or in all of it where it
@@ -154,6 +154,19 @@ impl<'a> FileSystemInfo<'a> {
         UnalignedSlice::new(label)
     }
 
+    // All numbers, in the order of the record, a truth value as 1 or 0.
+    fn numbers(&self) -> [u64; 5]
+        ensures { result ≡ file_system_numbers self.now }
+    {
+        [
+            self.size(),
+            u64::from(self.read_only()),
+            self.volume_size(),
+            self.free_space(),
+            u64::from(self.block_size()),
+        ]
+    }
+
     // The view of what was written, if it was.
     fn over(
         bytes: &'a [u8],
@@ -172,3 +185,55 @@ impl<'a> FileSystemInfo<'a> {
         })
     }
 }
+
+/// Equality of the stated size, of all fields, and of the label's units. The unused bytes don't count.
+impl PartialEq for FileSystemInfo<'_> {
+    ghost use Rattle.std.specs.Prelude.{nat_eq};
+    ghost use Rattle.std.specs.Cmp.{partial_equiv_from_equiv, on_per};
+    ghost use Rattle.std.specs.Cmp.Lexicographic.{pointwise, nat_list_eq_equiv};
+    ghost use Rattle.uefi_records.specs.Views.{file_system_info_key};
+
+    ghost eq = { λ x y. pointwise nat_eq (file_system_info_key x) (file_system_info_key y) };
+
+    ghost laws = { on_per file_system_info_key (partial_equiv_from_equiv nat_list_eq_equiv) };
+
+    fn eq(&self, other: &Self) -> bool {
+        self.numbers() == other.numbers() && self.volume_label() == other.volume_label()
+    }
+}
+
+impl Eq for FileSystemInfo<'_> {
+    ghost use Rattle.std.specs.Cmp.{on_equiv};
+    ghost use Rattle.std.specs.Cmp.Lexicographic.{nat_list_eq_equiv};
+    ghost use Rattle.uefi_records.specs.Views.{file_system_info_key};
+
+    ghost laws = { on_equiv file_system_info_key nat_list_eq_equiv };
+}
+
+impl Align for FileSystemInfo<'_> {
+    ghost alignment = { 8 };
+
+    fn alignment() -> usize
+        ensures { result ≡ 8 }
+    {
+        ALIGNMENT
+    }
+}
+
+impl Identify for FileSystemInfo<'_> {
+    ghost use Rattle.uefi_records.specs.Identity.{file_system_info_guid};
+
+    ghost identity = { file_system_info_guid };
+
+    const GUID: Guid = Guid([
+        0x93, 0x6e, 0x57, 0x09, 0x3f, 0x6d, 0xd2, 0x11, 0x8e, 0x39, 0x00, 0xa0, 0xc9, 0x69, 0x72, 0x3b,
+    ]);
+
+    fn identity() -> Guid
+        ensures { result ≡ file_system_info_guid }
+    {
+        Self::GUID
+    }
+}
+
+impl FileProtocolInfo for FileSystemInfo<'_> {}

@@ -100,3 +100,55 @@ impl<'a> FileSystemVolumeLabel<'a> {
         })
     }
 }
+
+/// Equality of the label's units.
+impl PartialEq for FileSystemVolumeLabel<'_> {
+    ghost use Rattle.std.specs.Prelude.{nat_eq};
+    ghost use Rattle.std.specs.Cmp.{partial_equiv_from_equiv, on_per};
+    ghost use Rattle.std.specs.Cmp.Lexicographic.{pointwise, nat_list_eq_equiv};
+    ghost use Rattle.uefi_records.specs.Views.{volume_label_of};
+
+    ghost eq = { λ x y. pointwise nat_eq (volume_label_of x) (volume_label_of y) };
+
+    ghost laws = { on_per volume_label_of (partial_equiv_from_equiv nat_list_eq_equiv) };
+
+    fn eq(&self, other: &Self) -> bool {
+        self.volume_label() == other.volume_label()
+    }
+}
+
+impl Eq for FileSystemVolumeLabel<'_> {
+    ghost use Rattle.std.specs.Cmp.{on_equiv};
+    ghost use Rattle.std.specs.Cmp.Lexicographic.{nat_list_eq_equiv};
+    ghost use Rattle.uefi_records.specs.Views.{volume_label_of};
+
+    ghost laws = { on_equiv volume_label_of nat_list_eq_equiv };
+}
+
+impl Align for FileSystemVolumeLabel<'_> {
+    ghost alignment = { 2 };
+
+    fn alignment() -> usize
+        ensures { result ≡ 2 }
+    {
+        ALIGNMENT
+    }
+}
+
+impl Identify for FileSystemVolumeLabel<'_> {
+    ghost use Rattle.uefi_records.specs.Identity.{volume_label_guid};
+
+    ghost identity = { volume_label_guid };
+
+    const GUID: Guid = Guid([
+        0xd3, 0xd7, 0x47, 0xdb, 0x81, 0xfe, 0xd3, 0x11, 0x9a, 0x35, 0x00, 0x90, 0x27, 0x3f, 0xc1, 0x4d,
+    ]);
+
+    fn identity() -> Guid
+        ensures { result ≡ volume_label_guid }
+    {
+        Self::GUID
+    }
+}
+
+impl FileProtocolInfo for FileSystemVolumeLabel<'_> {}
