@@ -2,11 +2,12 @@ ghost use Rattle.std.specs.Prelude.{IfOk};
 ghost use Rattle.uefi_list.specs.Listing.{Listing};
 
 use crate::command::Command;
+use crate::info_listing::{push_info, push_refusal};
 use crate::path_listing::push_path;
 use crate::time_listing::push_time;
 use std::alloc::{AllocError, Allocator};
 use uefi_path::{ByteConversionError, DevicePath};
-use uefi_records::{Time, TimeByteConversionError};
+use uefi_records::{FileInfo, Time, TimeByteConversionError};
 
 /// Whether the bytes were what the command asks for.
 #[derive(Clone, Copy, PartialEq, Eq, Debug)]
@@ -57,6 +58,27 @@ fn list_time<A: Allocator>(alloc: A, bytes: &[u8]) -> Result<(Vec<u8, A>, Outcom
     Ok((text.into_bytes(), outcome))
 }
 
+/// The listing of the information on a file in the first so many bytes.
+fn list_info<A: Allocator>(
+    alloc: A,
+    written: usize,
+    bytes: &[u8],
+) -> Result<(Vec<u8, A>, Outcome), AllocError>
+    ensures { IfOk result (λ r. Listing (Command.Info written) bytes.now r.0.items r.1) }
+{
+    let mut text = String::new(alloc);
+    match FileInfo::from_uefi(bytes, written) {
+        Ok(info) => {
+            push_info(&mut text, &info)?;
+            Ok((text.into_bytes(), Outcome::Listed))
+        }
+        Err(error) => {
+            push_refusal(&mut text, &error)?;
+            Ok((text.into_bytes(), Outcome::Refused))
+        }
+    }
+}
+
 /// The listing of the bytes, in memory, and whether they were refused.
 ///
 /// The one error is want of memory.
@@ -70,5 +92,6 @@ pub fn listing<A: Allocator>(
     match command {
         Command::Path => list_path(alloc, bytes),
         Command::Time => list_time(alloc, bytes),
+        Command::Info(written) => list_info(alloc, *written, bytes),
     }
 }
