@@ -7,4 +7,5 @@
 
 pub mod base;
 pub mod path;
+pub mod records;
 pub mod time;
