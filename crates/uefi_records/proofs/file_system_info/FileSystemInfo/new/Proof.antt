@@ -1,5 +1,5 @@
 -- The buffer is lent to the writer, comes back, and is then shared with the view for all the time that it has left.
-use Rattle.uefi_base.proofs.WalkNames.{◌≡◌, refl, ℕ, ◌≤◌, List, [], ◌∷◌, ◌++◌, length, take, full_share, ftrue, flft, emp, id⊢, named, w32, w64, fact, fact_i, tables, ‵, raw, ◌⊛◌, some, given, later, ◌$◌, ◌∵◌, !, qed, done, move, keep, drop, use0, use1, use2, use3, split, join, fsplit, fjoin, pick, learn, await, suffices, frame, whole, sub, agg, enter, addr, from, fld, hop, stop, and_then, no_more, returns, alloc_all, pass_all, free_all, look_at, look_in_at, get, get_in, sets, lands_as, lft_new, lft_end, u8, u32, u64, usize, bool, bool_vals, bool_Tells, bool_Lawful, RefOf, no, yes, Is, shows, uint_vals, uint_Tells, owns, plain, mut_slice_of, named_lft, MutSlice, ShrSlice, mut_slice_vals, mut_slice_Tells, nothing, heard, peeks, calls_at, lasts, triple_of, framed, Stays, walk_of, stay_dropped, Goes-dropped, Goes-spent_slice, ends_at, kept_f, Laws, of_field, copy_shared, u64-field, u64-laws, u64-copy, Result, IfOk, MatchResult, Result_row, Result_laws, proved, ShrRef, shr_vals, shr_Tells}
+use Rattle.uefi_base.proofs.WalkNames.{◌≡◌, refl, ℕ, ◌≤◌, List, [], ◌∷◌, length, take, full_share, ftrue, flft, emp, id⊢, named, w32, w64, fact, fact_i, tables, ‵, raw, ◌⊛◌, some, given, later, ◌$◌, ◌∵◌, !, qed, done, move, keep, drop, use0, use1, use2, use3, split, join, fsplit, fjoin, pick, learn, await, suffices, frame, whole, sub, agg, enter, addr, from, fld, hop, stop, and_then, no_more, returns, alloc_all, pass_all, free_all, look_at, look_in_at, get, get_in, sets, lands_as, lft_new, lft_end, u8, u32, u64, usize, bool, bool_vals, bool_Tells, bool_Lawful, RefOf, no, yes, Is, shows, uint_vals, uint_Tells, owns, plain, mut_slice_of, named_lft, MutSlice, ShrSlice, mut_slice_vals, mut_slice_Tells, nothing, heard, peeks, calls_at, lasts, triple_of, framed, Stays, walk_of, stay_dropped, Goes-dropped, Goes-spent_slice, ends_at, kept_f, Laws, of_field, copy_shared, u64-field, u64-laws, u64-copy, Result, IfOk, MatchResult, Result_row, Result_laws, proved, ShrRef, shr_vals, shr_Tells}
 use Rattle.uefi_base.specs.Buffer.{EndsAs, put_front}
 use Rattle.uefi_base.specs.contracts.cstr16.CStr16.{the_row as CStr16_row}
 use Rattle.uefi_base.proofs.Sharing.{shares_all, ends_as, Ended, lends_slice_again, slice_comes_back}
