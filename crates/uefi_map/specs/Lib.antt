@@ -1,0 +1,6 @@
+pub mod Descriptor
+pub mod Flags
+pub mod Map
+pub mod Texts
+pub mod Views
+pub mod Laws
