@@ -1,1 +1,3 @@
 pub mod NamedBits
+pub mod Parts
+pub mod Strides

@@ -1,5 +1,5 @@
 -- Memory maps (UEFI 2.10, 7.2 "EFI_BOOT_SERVICES.GetMemoryMap()"): descriptors at equal steps, the stride, which may be more than a descriptor's forty bytes.
-use Rattle.std.specs.Prelude.{ℕ, zero, suc, ◌+◌, ◌*◌, ◌/◌, ◌%◌, ◌^◌, ◌≤◌, ◌<◌, ◌≡◌, ◌≢◌, List, [], ◌∷◌, length, take, drop, Option, Some, None, if◌then◌else◌, nat_lt}
+use Rattle.std.specs.Prelude.{ℕ, zero, suc, ◌+◌, ◌*◌, ◌/◌, ◌%◌, ◌^◌, ◌≤◌, ◌<◌, ◌≡◌, ◌≢◌, List, [], ◌∷◌, length, take, drop, Option, Some, None, if◌then◌else◌, nat_lt, nat_le}
 use Rattle.uefi_map.specs.declared.meta.MemoryMapMeta.{MemoryMapMeta}
 use Rattle.uefi_map.specs.declared.descriptor.MemoryDescriptor.{MemoryDescriptor}
 use Rattle.uefi_map.specs.Descriptor.{descriptor}
@@ -11,11 +11,26 @@ pub record IsMap (length : ℕ) (meta : MemoryMapMeta) : Type 0 where
   pub whole : meta.map_size % meta.desc_size ≡ 0
   pub within : meta.map_size ≤ length
 
+-- The same of the sizes alone: the map is whole strides.
+pub record HasWholeStrides (meta : MemoryMapMeta) : Type 0 where
+  pub room : 40 ≤ meta.desc_size
+  pub aligned : meta.desc_size % 8 ≡ 0
+  pub whole : meta.map_size % meta.desc_size ≡ 0
+
+-- The sizes of the map in so many bytes: these, or those of an empty map where the bytes have no room for it.
+abbrev pub meta_within : ℕ → MemoryMapMeta → MemoryMapMeta
+meta_within length meta = record meta { map_size = if nat_le meta.map_size length then meta.map_size else 0 }
+
 -- The sizes are such as firmware gives: a stride with room for a descriptor, and a map of 1 byte to 1 GiB.
 pub record IsSane (meta : MemoryMapMeta) : Type 0 where
   pub room : 40 ≤ meta.desc_size
   pub some : 1 ≤ meta.map_size
   pub not_huge : meta.map_size ≤ 2 ^ 30
+
+-- The bytes are whole strides, each with room for a descriptor.
+pub record AreStrides (stride : ℕ) (bytes : List ℕ) : Type 0 where
+  pub room : 40 ≤ stride
+  pub whole : length bytes % stride ≡ 0
 
 -- How many descriptors there are.
 abbrev pub count_of : MemoryMapMeta → ℕ
