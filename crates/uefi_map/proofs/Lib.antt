@@ -1,3 +1,5 @@
+pub mod Fields
 pub mod NamedBits
 pub mod Parts
+pub mod StrideFree
 pub mod Strides

@@ -2,7 +2,7 @@
 use Rattle.std.specs.Prelude.{ℕ, zero, suc, ◌+◌, ◌*◌, ◌/◌, ◌%◌, ◌^◌, ◌≤◌, ◌<◌, ◌≡◌, ◌≢◌, List, [], ◌∷◌, length, take, drop, Option, Some, None, if◌then◌else◌, nat_lt, nat_le}
 use Rattle.uefi_map.specs.declared.meta.MemoryMapMeta.{MemoryMapMeta}
 use Rattle.uefi_map.specs.declared.descriptor.MemoryDescriptor.{MemoryDescriptor}
-use Rattle.uefi_map.specs.Descriptor.{descriptor}
+use Rattle.uefi_map.specs.Descriptor.{descriptor, with_descriptor}
 
 -- So many bytes are a map with these sizes: the stride has room for a descriptor and keeps it aligned, and the map is whole strides and within the bytes.
 pub record IsMap (length : ℕ) (meta : MemoryMapMeta) : Type 0 where
@@ -52,6 +52,10 @@ entry_of bytes meta i = if nat_lt i (count_of meta) then Some (descriptor bytes 
 -- No descriptor of a map begins below the one before it.
 abbrev pub AreSorted : List ℕ → MemoryMapMeta → Type 0
 AreSorted bytes meta = (i : ℕ) → i + 1 < count_of meta → (descriptor bytes meta.desc_size i).phys_start ≤ (descriptor bytes meta.desc_size (i + 1)).phys_start
+
+-- The new bytes are the old with the forty of descriptor i replaced by those of d.
+abbrev pub IsWithDescriptor : List ℕ → MemoryMapMeta → ℕ → MemoryDescriptor → List ℕ → Type 0
+IsWithDescriptor old meta i d new = new ≡ with_descriptor old meta.desc_size i d
 
 -- The new bytes are the old but for descriptor i, which is d.
 pub record SetsOnly (old new : List ℕ) (meta : MemoryMapMeta) (i : ℕ) (d : MemoryDescriptor) : Type 0 where

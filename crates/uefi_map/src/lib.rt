@@ -15,6 +15,7 @@ pub use self::meta::{MemoryMapKey, MemoryMapMeta};
 mod access;
 mod descriptor;
 mod iter;
+pub mod laws;
 mod map_error;
 mod map_owned;
 mod map_ref;

@@ -6,19 +6,25 @@ use crate::descriptor::MemoryDescriptor;
 use crate::map_error::MemoryMapError;
 use crate::memory_map::{MemoryMap, MemoryMapMut};
 use crate::meta::MemoryMapMeta;
+use crate::sizes::Sizes;
 use std::alloc::{Allocator, Global};
 
 /// A memory map that owns its bytes.
+///
+/// Its buffer is as long as the map, so nothing stands behind it.
 #[derive(Drop)]
 pub struct MemoryMapOwned<A: Allocator = Global> {
     buffer: Vec<u8, A>,
-    meta: MemoryMapMeta,
-    pub ghost map: { IsMap (length buffer.items) meta },
+    sizes: Sizes,
 }
 
 impl<A: Allocator> MemoryMapOwned<A> {
     ghost use Rattle.uefi_map.specs.Views.{owned_bytes, owned_meta};
 
+    /// The map that the bytes begin with. What is behind it is dropped, and no memory is taken.
+    ///
+    /// Refused as [`MemoryMapRef::new`](crate::MemoryMapRef::new) refuses the same bytes: the vector
+    /// is then handed back as it is.
     pub fn from_initialized_mem(
         mut buffer: Vec<u8, A>,
         meta: MemoryMapMeta,
@@ -32,7 +38,10 @@ impl<A: Allocator> MemoryMapOwned<A> {
             return Err((MemoryMapError::InvalidSize, buffer));
         }
         buffer.truncate(meta.map_size);
-        Ok(MemoryMapOwned { buffer, meta })
+        Ok(MemoryMapOwned {
+            buffer,
+            sizes: Sizes::of(meta),
+        })
     }
 }
 
@@ -44,7 +53,7 @@ impl<A: Allocator> MemoryMap for MemoryMapOwned<A> {
     ghost meta = { owned_meta };
 
     fn meta(&self) -> MemoryMapMeta {
-        self.meta
+        self.sizes.within(self.buffer.len())
     }
 
     fn buffer(&self) -> &[u8] {
@@ -53,12 +62,26 @@ impl<A: Allocator> MemoryMap for MemoryMapOwned<A> {
 }
 
 impl<A: Allocator> MemoryMapMut for MemoryMapOwned<A> {
+    ghost use Rattle.uefi_map.specs.Views.{owned_with};
+    ghost use Rattle.uefi_map.specs.Keeping.{owned_bytes-with, owned_meta-with};
+
     ghost same_place = { λ _ _. Unit {0} };
 
-    ghost stays = { λ _. tt };
+    ghost with_bytes = { owned_with };
+
+    ghost bytes_with = { owned_bytes-with };
+
+    ghost meta_with = { owned_meta-with };
+
+    ghost same_place_with = { λ _ _. tt };
+
+    ghost same_place_as_itself = { λ _. tt };
+
+    ghost same_place_after = { λ _ _ _ _ _. tt };
 
     fn set_at(&mut self, i: usize, d: MemoryDescriptor) {
-        write_at(&mut self.buffer, &self.meta, i, &d);
+        let meta = self.meta();
+        write_at(&mut self.buffer, &meta, i, &d);
     }
 
     fn buffer_mut(&mut self) -> &mut [u8] {

@@ -1,5 +1,4 @@
 ghost use Rattle.std.specs.Prelude.{◌≡◌, ◌↔◌, length, IsOk, IfOk, IfErr};
-ghost use Rattle.std.specs.Fn.{FnOnceReturnsAtMut};
 ghost use Rattle.uefi_map.specs.Map.{IsMap};
 
 use crate::access::write_at;
@@ -19,8 +18,13 @@ pub struct MemoryMapRefMut<'a> {
 }
 
 impl<'a> MemoryMapRefMut<'a> {
-    ghost use Rattle.uefi_map.specs.Views.{mut_bytes, mut_meta, WritesTo, WriteToTheSame};
+    ghost use Rattle.uefi_map.specs.Views.{mut_bytes, mut_meta, WritesTo};
 
+    /// The map that the bytes begin with.
+    ///
+    /// Refused as [`MemoryMapRef::new`](crate::MemoryMapRef::new) refuses the same bytes, which stay
+    /// as they are. A proof of the caller's isn't told by this call what becomes of its buffer:
+    /// [`MemoryMapMeta::is_map_within`] and [`MemoryMapRefMut::over`] tell all.
     pub fn new(
         buffer: &'a mut [u8],
         meta: MemoryMapMeta,
@@ -37,6 +41,8 @@ impl<'a> MemoryMapRefMut<'a> {
         Ok(MemoryMapRefMut::over(buffer, meta))
     }
 
+    /// The map that the bytes begin with, which are known to be one: by
+    /// [`MemoryMapMeta::is_map_within`], with the buffer's length.
     pub fn over(buffer: &'a mut [u8], meta: MemoryMapMeta) -> MemoryMapRefMut<'a>
         requires { IsMap (length buffer.old) meta }
         ensures buffer { mut_bytes result ≡ buffer.entry.now }
@@ -47,16 +53,6 @@ impl<'a> MemoryMapRefMut<'a> {
             buffer,
             sizes: Sizes::of(meta),
         }
-    }
-
-    pub fn with_buffer<F: FnOnce(&mut [u8])>(&mut self, write: F)
-        requires { F.IsAlwaysCallable write }
-        ensures written { FnOnceReturnsAtMut F.FnOnce write (mut_bytes self.old) tt (mut_bytes self.new) }
-        ensures length { length (mut_bytes self.new) ≡ length (mut_bytes self.old) }
-        ensures meta { mut_meta self.new ≡ mut_meta self.old }
-        ensures same_place { WriteToTheSame self.old self.new }
-    {
-        write(self.buffer)
     }
 }
 
@@ -78,11 +74,24 @@ impl<'a> MemoryMap for MemoryMapRefMut<'a> {
 
 impl<'a> MemoryMapMut for MemoryMapRefMut<'a> {
     ghost use Rattle.std.specs.Prelude.{refl};
+    ghost use Rattle.std.proofs.Common.{◌∙◌};
+    ghost use Rattle.uefi_map.specs.Views.{mut_with};
+    ghost use Rattle.uefi_map.specs.Keeping.{mut_meta-with};
     ghost use Rattle.uefi_map.specs.Views.{WriteToTheSame};
 
     ghost same_place = { WriteToTheSame };
 
-    ghost stays = { λ _. refl };
+    ghost with_bytes = { mut_with };
+
+    ghost bytes_with = { λ _ _ _. refl };
+
+    ghost meta_with = { mut_meta-with };
+
+    ghost same_place_with = { λ _ _. refl };
+
+    ghost same_place_as_itself = { λ _. refl };
+
+    ghost same_place_after = { λ _ _ _ first second. second ∙ first };
 
     fn set_at(&mut self, i: usize, d: MemoryDescriptor) {
         let meta = self.meta();

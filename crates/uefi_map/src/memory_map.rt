@@ -1,7 +1,9 @@
 ghost use Rattle.std.specs.Prelude.{ℕ, List, ◌≡◌, ◌^◌, ◌<◌, ◌↔◌, IsTrue, length, OnSome, IfNone};
 ghost use Rattle.uefi_map.specs.declared.meta.MemoryMapMeta.{MemoryMapMeta};
-ghost use Rattle.uefi_map.specs.Descriptor.{descriptor, with_descriptor};
-ghost use Rattle.uefi_map.specs.Map.{IsMap, AreSorted, count_of, entry_of, entries_of};
+ghost use Rattle.uefi_map.specs.Descriptor.{descriptor};
+ghost use Rattle.uefi_map.specs.Map.{IsMap, IsWithDescriptor, AreSorted, count_of, entry_of, entries_of};
+ghost use Rattle.std.specs.Borrow.{sem};
+ghost use Rattle.uefi_map.specs.Lending.{LendsBuffer};
 ghost use Rattle.uefi_map.specs.Views.{entries_left};
 
 use crate::access::{are_sorted, read_at};
@@ -87,6 +89,9 @@ pub trait MemoryMap {
 
 /// A memory map whose descriptors can be written.
 pub trait MemoryMapMut: MemoryMap {
+    /// The map with these bytes in its buffer.
+    ghost with_bytes: { Self → List ℕ → Self };
+
     /// Both maps write to the same bytes of a caller's, where they borrow them.
     ghost same_place: { Self → Self → Type 0 };
 
@@ -97,9 +102,9 @@ pub trait MemoryMapMut: MemoryMap {
     fn set(&mut self, i: usize, d: MemoryDescriptor) -> Option<MemoryDescriptor>
         ensures before { let map = Self.MemoryMap in
             result ≡ entry_of (map.bytes self.old) (map.meta self.old) i }
-        ensures written { let map = Self.MemoryMap in OnSome result
-            (map.bytes self.new
-            ≡ with_descriptor (map.bytes self.old) (map.meta self.old).desc_size i d) }
+        ensures written { let map = Self.MemoryMap in
+            OnSome result (IsWithDescriptor (map.bytes self.old) (map.meta self.old) i d
+                (map.bytes self.new)) }
         ensures unchanged { let map = Self.MemoryMap in
             IfNone result (map.bytes self.new ≡ map.bytes self.old) }
         ensures meta { let map = Self.MemoryMap in map.meta self.new ≡ map.meta self.old }
@@ -116,14 +121,29 @@ pub trait MemoryMapMut: MemoryMap {
     fn set_at(&mut self, i: usize, d: MemoryDescriptor)
         requires { i < count_of (Self.MemoryMap.meta self.old) }
         ensures written { let map = Self.MemoryMap in
-            map.bytes self.new
-            ≡ with_descriptor (map.bytes self.old) (map.meta self.old).desc_size i d }
+            IsWithDescriptor (map.bytes self.old) (map.meta self.old) i d (map.bytes self.new) }
         ensures meta { let map = Self.MemoryMap in map.meta self.new ≡ map.meta self.old }
         ensures same_place { same_place self.old self.new };
 
     /// The buffer, to be written. Any bytes are descriptors, so what is written stays a map.
     fn buffer_mut(&mut self) -> &mut [u8]
-        ensures { result.now ≡ Self.MemoryMap.bytes self.old };
+        ensures* writes_back { sem 𝓛
+            (LendsBuffer Self.row self.entry (with_bytes self.entry.now) result) }
+        ensures buffer { result.now ≡ Self.MemoryMap.bytes self.old };
 
-    ghost stays: { (map : Self) → same_place map map };
+    // What is written through the buffer is the map's bytes, and leaves the rest of it as it was.
+    ghost bytes_with: { (map : Self) (bytes : List ℕ)
+        → length bytes ≡ length (Self.MemoryMap.bytes map)
+        → Self.MemoryMap.bytes (with_bytes map bytes) ≡ bytes };
+
+    ghost meta_with: { (map : Self) (bytes : List ℕ)
+        → length bytes ≡ length (Self.MemoryMap.bytes map)
+        → Self.MemoryMap.meta (with_bytes map bytes) ≡ Self.MemoryMap.meta map };
+
+    ghost same_place_with: { (map : Self) (bytes : List ℕ) → same_place map (with_bytes map bytes) };
+
+    ghost same_place_as_itself: { (map : Self) → same_place map map };
+
+    ghost same_place_after: { (one other third : Self)
+        → same_place one other → same_place other third → same_place one third };
 }
