@@ -6,3 +6,4 @@ pub mod Views
 pub mod Keeping
 pub mod Lending
 pub mod Laws
+pub mod Rows

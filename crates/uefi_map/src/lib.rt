@@ -25,3 +25,5 @@ mod memory_map;
 mod memory_type;
 mod meta;
 mod sizes;
+#[cfg(test)]
+mod tests;
