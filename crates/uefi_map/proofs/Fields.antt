@@ -1,5 +1,5 @@
 -- A descriptor and its forty bytes.
-use Rattle.std.proofs.Common.{◌≡◌, ℕ, length, refl}
+use Rattle.std.proofs.Common.{◌≡◌, length, refl}
 use Rattle.std.proofs.lemmas.Nat.{from_le_bytes-to_le_bytes_4, from_le_bytes-to_le_bytes_8}
 use Rattle.uefi_map.specs.declared.descriptor.MemoryDescriptor.{MemoryDescriptor}
 use Rattle.uefi_map.specs.Descriptor.{descriptor_in, encoding, Fits}

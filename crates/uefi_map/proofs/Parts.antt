@@ -17,8 +17,8 @@ pub part_after : (one other : List ℕ) (place from to : ℕ) → place ≤ from
 part_after one other place from to after same =
     let width : place + (from - place) ≡ from = omega arith in
     let back : drop from one ≡ drop from other =
-      ap (λ n. drop n one) (sym width) ∙ sym (drop-drop (from - place) place one) ∙ ap (drop (from - place)) same ∙ drop-drop (from - place) place other
-      ∙ ap (λ n. drop n other) width in
+    ap (λ n. drop n one) (sym width) ∙ sym (drop-drop (from - place) place one) ∙ ap (drop (from - place)) same ∙ drop-drop (from - place) place other
+    ∙ ap (λ n. drop n other) width in
     ap (take (to - from)) back
 
 -- A list with another part from a place on, in place of as many: what is before it, the part, and what is behind it.
@@ -43,7 +43,7 @@ the_part list part rest place within =
     let sized : length (take place list) ≡ place = length-take-le place list within in
     let width : place + length part - place ≡ length part = omega arith in
     let back : drop place (take place list ++ (part ++ rest)) ≡ part ++ rest =
-      ap (λ n. drop n (take place list ++ (part ++ rest))) (sym sized) ∙ drop-append_seam (take place list) (part ++ rest) in
+    ap (λ n. drop n (take place list ++ (part ++ rest))) (sym sized) ∙ drop-append_seam (take place list) (part ++ rest) in
     ap (λ n. take n (drop place (take place list ++ (part ++ rest)))) width ∙ ap (take (length part)) back ∙ take-append_seam part rest
 
 pub length-with_part : (list part : List ℕ) (place : ℕ) → place + length part ≤ length list

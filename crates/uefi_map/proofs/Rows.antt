@@ -1,5 +1,5 @@
 -- The worked rows hold.
-use Rattle.std.proofs.Common.{◌≡◌, ℕ, zero, suc, ◌+◌, ◌<◌, ◌≤◌, refl, arith, lit<, lit≤}
+use Rattle.std.proofs.Common.{zero, suc, refl, arith, lit<, lit≤}
 use Rattle.uefi_map.specs.Descriptor.{descriptor_in, encoding}
 use Rattle.uefi_map.specs.Map.{AreSorted}
 use Rattle.uefi_map.specs.Rows.{sizes, level_map, FirmwareMap, WrittenDescriptor, NoMaps, Orders, Numbers, RowsHold}

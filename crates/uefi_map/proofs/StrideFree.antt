@@ -2,10 +2,8 @@
 use Rattle.std.proofs.Common.{◌≡◌, ◌≢◌, ℕ, ◌+◌, ◌*◌, ◌≤◌, ◌<◌, inl, inr, List, length, take, drop, slice_range, ◌∙◌, ap, arith}
 use Rattle.std.proofs.lemmas.Bool.{cases_lt}
 use Rattle.std.proofs.lemmas.Grind.{rows, common_steps}
-use Rattle.uefi_map.specs.declared.meta.MemoryMapMeta.{MemoryMapMeta}
-use Rattle.uefi_map.specs.declared.descriptor.MemoryDescriptor.{MemoryDescriptor}
-use Rattle.uefi_map.specs.Descriptor.{Fits, descriptor, descriptor_bytes, descriptor_in, encoding, with_descriptor}
-use Rattle.uefi_map.specs.Map.{IsMap, SetsOnly, count_of}
+use Rattle.uefi_map.specs.Descriptor.{descriptor_bytes, descriptor_in, encoding, with_descriptor}
+use Rattle.uefi_map.specs.Map.{count_of}
 use Rattle.uefi_map.specs.Laws.{SameEntries, WritesOne, StrideFree}
 use Rattle.uefi_map.proofs.Fields.{descriptor_in-encoding, length-encoding}
 use Rattle.uefi_map.proofs.Parts.{part_before, part_after, before_part, behind_part, the_part, length-with_part}
@@ -23,7 +21,7 @@ other_bytes : (old new : List ℕ) (stride i j : ℕ) → 40 ≤ stride → j �
     → drop (i * stride + 40) new ≡ drop (i * stride + 40) old → descriptor_bytes new stride j ≡ descriptor_bytes old stride j
 other_bytes old new stride i j room other before after =
     elim (cases_lt j i) [
-      inl lower ↦ part_before new old (i * stride) (j * stride) (j * stride + 40) (omega arith) (ends_before stride j i room lower) before
+      | inl lower ↦ part_before new old (i * stride) (j * stride) (j * stride + 40) (omega arith) (ends_before stride j i room lower) before
       | inr higher ↦ part_after new old (i * stride + 40) (j * stride) (j * stride + 40) (ends_before stride i j room (omega arith)) after
     ]
 

@@ -1,11 +1,11 @@
 -- The descriptors of whole strides, one stride after another.
-use Rattle.std.proofs.Common.{◌≡◌, ℕ, zero, suc, ◌+◌, ◌-◌, ◌*◌, ◌/◌, ◌%◌, ◌≤◌, ◌<◌, List, [], ◌∷◌, length, take, drop, slice_range, refl, sym, ◌∙◌, ap, arith, length-drop}
+use Rattle.std.proofs.Common.{◌≡◌, ℕ, zero, suc, ◌+◌, ◌-◌, ◌*◌, ◌/◌, ◌%◌, ◌≤◌, ◌<◌, List, ◌∷◌, length, take, drop, refl, sym, ◌∙◌, ap, arith, length-drop}
 use Rattle.std.proofs.lemmas.List.{take-take, drop-drop, length-take-le}
 use Rattle.std.proofs.lemmas.Grind.{rows, common_steps}
 use Rattle.std.proofs.Math.Nat.{div-eq-sub-div, div-le_self}
 use Rattle.uefi_map.specs.declared.meta.MemoryMapMeta.{MemoryMapMeta}
 use Rattle.uefi_map.specs.Descriptor.{descriptor_in, descriptor_bytes, descriptor}
-use Rattle.uefi_map.specs.Map.{IsMap, AreStrides, count_of, descriptors_from, entries_of}
+use Rattle.uefi_map.specs.Map.{IsMap, AreStrides, descriptors_from, entries_of}
 use Rattle.uefi_map.proofs.Parts.{part_before}
 
 pub count_from : (bytes : List ℕ) (stride i count : ℕ) → length (descriptors_from bytes stride i count) ≡ count
@@ -39,7 +39,7 @@ whole_map bytes meta map =
     let front : take size (take size bytes) ≡ take size bytes = take-take size size bytes (omega arith) in
     ap (λ n. descriptors_from (take size bytes) stride 0 (n / stride)) sized
     ∙ same_from (take size bytes) bytes stride 0 (size / stride)
-      (λ j above below. part_before (take size bytes) bytes size (j * stride) (j * stride + 40) (omega arith) (ends_within stride size j map.room (omega arith)) front)
+    (λ j above below. part_before (take size bytes) bytes size (j * stride) (j * stride + 40) (omega arith) (ends_within stride size j map.room (omega arith)) front)
 
 -- Without the first stride, each descriptor is the next.
 next_bytes : (bytes : List ℕ) (stride i : ℕ) → descriptor_bytes (drop stride bytes) stride i ≡ descriptor_bytes bytes stride (i + 1)
@@ -68,7 +68,7 @@ one_stride stride size some whole = grind (arith, rows, common_steps)
 -- The first of the descriptors that are left, and the others.
 pub next_left : (bytes : List ℕ) (stride : ℕ) → AreStrides stride bytes → 0 < length bytes
     → descriptors_from bytes stride 0 (length bytes / stride)
-      ≡ descriptor_in (take 40 bytes) ∷ descriptors_from (drop stride bytes) stride 0 (length (drop stride bytes) / stride)
+    ≡ descriptor_in (take 40 bytes) ∷ descriptors_from (drop stride bytes) stride 0 (length (drop stride bytes) / stride)
 next_left bytes stride strides some =
     let reaches : stride ≤ length bytes = one_stride stride (length bytes) some strides.whole in
     let positive : 0 < stride = omega (arith, strides.room) in

@@ -48,16 +48,16 @@ pub record FirmwareMap : Type 0 where
   pub entries :
       entries_of firmware_map (sizes 480 48)
       ≡ entry 3 0 1 0xf
-        ∷ entry 7 0x1000 134 0xf
-        ∷ entry 4 0x87000 1 0xf
-        ∷ entry 7 0x88000 24 0xf
-        ∷ entry 7 0x100000 1792 0xf
-        ∷ entry 10 0x800000 8 0xf
-        ∷ entry 7 0x808000 3 0xf
-        ∷ entry 10 0x80b000 1 0xf
-        ∷ entry 7 0x80c000 4 0xf
-        ∷ entry 10 0x810000 240 0xf
-        ∷ []
+      ∷ entry 7 0x1000 134 0xf
+      ∷ entry 4 0x87000 1 0xf
+      ∷ entry 7 0x88000 24 0xf
+      ∷ entry 7 0x100000 1792 0xf
+      ∷ entry 10 0x800000 8 0xf
+      ∷ entry 7 0x808000 3 0xf
+      ∷ entry 10 0x80b000 1 0xf
+      ∷ entry 7 0x80c000 4 0xf
+      ∷ entry 10 0x810000 240 0xf
+      ∷ []
 
 -- The forty bytes of a descriptor, and a map with one written: its first stride and all from byte 88 on stay.
 pub record WrittenDescriptor : Type 0 where

@@ -1,4 +1,13 @@
-//! Memory maps.
+//! Memory maps of UEFI firmware (UEFI 2.10, 7.2), whatever the stride of their descriptors.
+//!
+//! Begin with [`MemoryMapRef::new`], which answers the map that bytes begin with, or refuses sizes
+//! that make none; [`MemoryMap::entries`] gives its descriptors in order, each by value.
+//! [`MemoryMapRefMut`] and [`MemoryMapOwned`] can be written too, by [`MemoryMapMut`]: a write
+//! changes the forty bytes of one descriptor. No map takes memory.
+//!
+//! The contracts speak of a map's bytes and sizes: `specs/Descriptor.antt` says what stands in the
+//! forty bytes of a descriptor, and `specs/Map.antt` which bytes are a map and what its entries are.
+//! `laws::stride_free` says that nothing else in a stride bears on them.
 #![tactic(auto)]
 
 pub use self::descriptor::MemoryDescriptor;

@@ -104,7 +104,7 @@ pub trait MemoryMapMut: MemoryMap {
             result ≡ entry_of (map.bytes self.old) (map.meta self.old) i }
         ensures written { let map = Self.MemoryMap in
             OnSome result (IsWithDescriptor (map.bytes self.old) (map.meta self.old) i d
-                (map.bytes self.new)) }
+            (map.bytes self.new)) }
         ensures unchanged { let map = Self.MemoryMap in
             IfNone result (map.bytes self.new ≡ map.bytes self.old) }
         ensures meta { let map = Self.MemoryMap in map.meta self.new ≡ map.meta self.old }
