@@ -6,5 +6,6 @@
 #![tactic(auto)]
 
 pub mod base;
+pub mod map;
 pub mod path;
 pub mod time;

@@ -5,5 +5,6 @@
 //! proved; the readers' contracts are those of their crates.
 #![tactic(auto)]
 
+mod map;
 mod path;
 mod time;
