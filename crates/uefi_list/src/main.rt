@@ -12,6 +12,7 @@ pub mod command;
 mod hex_text;
 mod input;
 pub mod listing;
+mod map_listing;
 mod path_listing;
 mod program;
 pub mod run;
