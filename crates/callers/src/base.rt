@@ -98,9 +98,9 @@ pub fn is_same_guid(guid: &Guid, other: &Guid) -> bool
 
 /// The GUID of a type.
 pub fn guid_of<T: Identify>() -> Guid
-    ensures { result ≡ T.GUID }
+    ensures { result ≡ T.identity }
 {
-    T::GUID
+    T::identity()
 }
 
 /// The alignment of a type.

@@ -2,6 +2,7 @@ pub mod Ucs2
 pub mod Faults
 pub mod Unaligned
 pub mod LittleEndian
+pub mod Buffer
 pub mod GuidText
 pub mod StatusCode
 pub mod Views

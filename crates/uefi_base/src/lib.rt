@@ -20,6 +20,7 @@ pub use self::text_error::{FromSliceWithNulError, FromStrError, UnalignedCStr16E
 pub use self::unaligned::{UnalignedSlice, UnalignedSliceIter};
 
 mod align;
+pub mod buffer;
 mod cstr16;
 mod cstring16;
 mod guid;

@@ -20,7 +20,7 @@ use std::iter::{ExactSizeIterator, FusedIterator};
 /// | 2 i | 2 | unit i, little-endian |
 ///
 /// Any units: whether they are a text is judged by [`UnalignedSlice::to_cstring16`]. A view: it
-/// borrows the bytes, and its iterator lives as long as they do.
+/// borrows the bytes, and its iterator lives as long as they do. Two are equal where their units are.
 #[derive(Clone, Copy)]
 pub struct UnalignedSlice<'a> {
     bytes: &'a [u8],
@@ -101,6 +101,21 @@ impl<'a> UnalignedSlice<'a> {
         Ok(CString16::whole(units))
     }
 
+    // Whether the units are those of the other, in order.
+    fn has_units_of(&self, other: &UnalignedSlice<'_>) -> bool
+        ensures { IsTrue result ↔ (slice_units self.now ≡ slice_units other.now) }
+    {
+        if self.len() != other.len() {
+            return false;
+        }
+        for i in 0..self.len() {
+            if self.unit(i) != other.unit(i) {
+                return false;
+            }
+        }
+        true
+    }
+
     // The first unit that is no character, with its place.
     fn first_non_character(&self) -> Option<(usize, u16)>
         ensures { IsFirstNonCharacter (slice_units self.now) result }
@@ -109,6 +124,30 @@ impl<'a> UnalignedSlice<'a> {
             .enumerate()
             .find(|(_, unit)| !is_character(*unit))
     }
+}
+
+/// Equality of all units.
+impl PartialEq for UnalignedSlice<'_> {
+    ghost use Rattle.std.specs.Prelude.{nat_eq};
+    ghost use Rattle.std.specs.Cmp.{partial_equiv_from_equiv, on_per};
+    ghost use Rattle.std.specs.Cmp.Lexicographic.{pointwise, nat_list_eq_equiv};
+    ghost use Rattle.uefi_base.specs.Views.{slice_units};
+
+    ghost eq = { λ x y. pointwise nat_eq (slice_units x) (slice_units y) };
+
+    ghost laws = { on_per slice_units (partial_equiv_from_equiv nat_list_eq_equiv) };
+
+    fn eq(&self, other: &Self) -> bool {
+        self.has_units_of(other)
+    }
+}
+
+impl Eq for UnalignedSlice<'_> {
+    ghost use Rattle.std.specs.Cmp.{on_equiv};
+    ghost use Rattle.std.specs.Cmp.Lexicographic.{nat_list_eq_equiv};
+    ghost use Rattle.uefi_base.specs.Views.{slice_units};
+
+    ghost laws = { on_equiv slice_units nat_list_eq_equiv };
 }
 
 /// The units over bytes, in order, each of two bytes, the low byte first.

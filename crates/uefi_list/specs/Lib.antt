@@ -3,6 +3,7 @@ pub mod Listing
 pub mod PathListing
 pub mod MapListing
 pub mod TimeListing
+pub mod InfoListing
 pub mod HexText
 pub mod Running
 pub mod Failures

@@ -1,18 +1,22 @@
 -- The listing that a command makes of bytes.
-use Rattle.std.specs.Prelude.{◌≡◌, ℕ, List, codes}
+use Rattle.std.specs.Prelude.{◌≡◌, ℕ, Bool, List, length, take, codes}
 use Rattle.uefi_list.specs.declared.command.Command.{Command}
-use Rattle.uefi_list.specs.declared.command.Command.TheVariants.{Path, Time}
+use Rattle.uefi_list.specs.declared.command.Command.TheVariants.{Path, Time, Map, Info}
 use Rattle.uefi_list.specs.declared.listing.Outcome.{Outcome}
 use Rattle.uefi_list.specs.declared.listing.Outcome.TheVariants.{Listed, Refused}
 use Rattle.uefi_path.specs.Node.{Node, joined, IsFront}
 use Rattle.uefi_path.specs.Path.{IsPath, HasPath, AreInstances}
 use Rattle.uefi_list.specs.PathListing.{path_lines}
 use Rattle.uefi_list.specs.TimeListing.{time_line}
+use Rattle.uefi_list.specs.MapListing.{ListsMap, RefusesMap}
+use Rattle.uefi_list.specs.InfoListing.{info_lines, RefusesInfo}
 use Rattle.uefi_records.specs.declared.time_error.TimeByteConversionError.{TimeByteConversionError}
 use Rattle.uefi_records.specs.declared.time_error.TimeByteConversionError.TheVariants.{InvalidFields, InvalidSize}
 use Rattle.uefi_records.specs.Time.{TimeFields, StandsIn}
 use Rattle.uefi_records.specs.Faults.{reading_faults, no_fault}
 use Rattle.uefi_records.specs.Reading.{RefusesTime}
+use Rattle.uefi_records.specs.FileInfo.{file_fields, file_info_verdict, size_in}
+use Rattle.uefi_records.specs.Verdict.{accepted}
 
 -- The text lists the path that is a front of the bytes, and its instances.
 pub record ListsPath (bytes text : List ℕ) (nodes : List Node) (parts : List (List Node)) : Type 0 where
@@ -41,9 +45,18 @@ pub record RefusesTimeLine (bytes text : List ℕ) (refusal : TimeByteConversion
   pub none : RefusesTime bytes refusal
   pub line : text ≡ refused_time_line refusal
 
+-- The text lists the information on a file in the first so many bytes: the record of that name.
+pub record ListsInfo (written : ℕ) (bytes text name : List ℕ) : Type 0 where
+  pub verdict : file_info_verdict (take written bytes) (length bytes) ≡ accepted name
+  pub lines : text ≡ info_lines (size_in bytes) (file_fields bytes) name
+
 -- The text and the outcome are those of the command over the bytes.
 abbrev pub Listing : Command → List ℕ → List ℕ → Outcome → Type 0
 Listing Path bytes text Listed = (nodes : List Node) × (parts : List (List Node)) × ListsPath bytes text nodes parts
 Listing Path bytes text Refused = RefusesPath bytes text
 Listing Time bytes text Listed = (time : TimeFields) × ListsTime bytes text time
 Listing Time bytes text Refused = (refusal : TimeByteConversionError) × RefusesTimeLine bytes text refusal
+Listing (Map stride) bytes text Listed = (sorted : Bool) × ListsMap stride bytes text sorted
+Listing (Map stride) bytes text Refused = RefusesMap stride bytes text
+Listing (Info written) bytes text Listed = (name : List ℕ) × ListsInfo written bytes text name
+Listing (Info written) bytes text Refused = RefusesInfo (file_info_verdict (take written bytes) (length bytes)) text

@@ -1,6 +1,8 @@
 ghost use Rattle.std.specs.Prelude.{◌≡◌, map, string_bytes, IfSome, IfNone};
 ghost use Rattle.uefi_list.specs.Words.{Asks, AskForNothing};
 
+use crate::number::decimal;
+
 /// What the program is asked to list.
 #[derive(Clone, Copy, PartialEq, Eq, Debug)]
 pub enum Command {
@@ -8,6 +10,10 @@ pub enum Command {
     Path,
     /// The time in the first sixteen bytes of the file: `time FILE`.
     Time,
+    /// The memory map that the file is, at a stride of so many bytes: `map FILE DESC`.
+    Map(usize),
+    /// The information on a file in the first so many bytes of the file: `info FILE WRITTEN`.
+    Info(usize),
 }
 
 impl Command {
@@ -17,12 +23,17 @@ impl Command {
         ensures asked { IfSome result (λ command. Asks command (map string_bytes words.now)) }
         ensures other_words { IfNone result (AskForNothing (map string_bytes words.now)) }
     {
-        let [command, _file] = words else {
-            return None;
-        };
-        match command.as_str() {
-            "path" => Some(Command::Path),
-            "time" => Some(Command::Time),
+        match words {
+            [command, _file] => match command.as_str() {
+                "path" => Some(Command::Path),
+                "time" => Some(Command::Time),
+                _ => None,
+            },
+            [command, _file, number] => match command.as_str() {
+                "map" => decimal(number.as_str()).map(Command::Map),
+                "info" => decimal(number.as_str()).map(Command::Info),
+                _ => None,
+            },
             _ => None,
         }
     }

@@ -10,9 +10,11 @@ use std::process::ExitCode;
 
 pub mod command;
 mod hex_text;
+mod info_listing;
 mod input;
 pub mod listing;
 mod map_listing;
+mod number;
 mod path_listing;
 mod program;
 pub mod run;

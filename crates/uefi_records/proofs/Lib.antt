@@ -1,4 +1,15 @@
+pub mod Equality
+pub mod FirstZero
+pub mod Fronts
+pub mod Judging
 pub mod NamedBits
 pub mod OneTime
 pub mod TimeFront
+pub mod FileInfoWritten
+pub mod FileSystemInfoWritten
+pub mod VolumeLabelWritten
+pub mod ReadsBack
+pub mod RecordLaws
 pub mod Rows
+pub mod Writing
+pub mod Written

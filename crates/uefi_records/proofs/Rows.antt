@@ -1,6 +1,6 @@
 -- The worked rows hold.
 use Rattle.std.proofs.Common.{refl}
-use Rattle.uefi_records.specs.Rows.{LocalTime, ZeroTime, UnknownDaylight, Zones, FlagNumbers, RowsHold}
+use Rattle.uefi_records.specs.Rows.{LocalTime, ZeroTime, UnknownDaylight, Zones, FlagNumbers, FileOfAb, FileSystemOfAb, RecordSizes, Labels, Identities, RowsHold}
 
 local_time : LocalTime
 local_time = record { text = refl; accepted = refl; zone = refl }
@@ -30,5 +30,20 @@ flag_numbers = record {
   unnamed = (refl, refl);
 }
 
+file_of_ab : FileOfAb
+file_of_ab = record { text = refl; whole = refl; short_buffer = refl; without_its_nul = refl; nothing = refl }
+
+file_system_of_ab : FileSystemOfAb
+file_system_of_ab = record { text = refl }
+
+record_sizes : RecordSizes
+record_sizes = record { file_info = refl; file_system_info = refl; volume_label = refl }
+
+labels : Labels
+labels = record { whole = refl; cut = refl }
+
+identities : Identities
+identities = record { file_info = refl; file_system_info = refl; volume_label = refl }
+
 pub rows_hold : RowsHold
-rows_hold = (local_time, zero_time, unknown_daylight, zones, flag_numbers)
+rows_hold = (local_time, zero_time, unknown_daylight, zones, flag_numbers, file_of_ab, file_system_of_ab, record_sizes, labels, identities)

@@ -2,6 +2,11 @@ pub mod Time
 pub mod Flags
 pub mod Faults
 pub mod Reading
+pub mod Name
+pub mod Verdict
+pub mod FileInfo
+pub mod FileSystemInfo
+pub mod Identity
 pub mod Texts
 pub mod Laws
 pub mod Views

@@ -1,5 +1,7 @@
--- The texts of the faults of times.
-use Rattle.std.specs.Prelude.{ℕ, Bool, List, [], ◌∷◌, ◌++◌, codes, if◌then◌else◌}
+-- The texts of the faults of times, and of a refused writing.
+use Rattle.std.specs.Prelude.{ℕ, Bool, List, [], ◌∷◌, ◌++◌, codes, decimal, if◌then◌else◌}
+use Rattle.uefi_records.specs.declared.file_info_creation_error.FileInfoCreationError.{FileInfoCreationError}
+use Rattle.uefi_records.specs.declared.file_info_creation_error.FileInfoCreationError.TheVariants.{InsufficientStorage}
 use Rattle.uefi_records.specs.declared.time_error.TimeError.{TimeError}
 use Rattle.uefi_records.specs.declared.time_error.TimeByteConversionError.{TimeByteConversionError}
 use Rattle.uefi_records.specs.declared.time_error.TimeByteConversionError.TheVariants.{InvalidFields, InvalidSize}
@@ -24,3 +26,7 @@ time_error_text faults =
 abbrev pub conversion_error_text : TimeByteConversionError → List ℕ
 conversion_error_text (InvalidFields faults) = time_error_text faults
 conversion_error_text InvalidSize = codes "the byte slice is not large enough to hold a Time struct"
+
+-- The text of a refusal for want of room, which names the size that the record needs.
+abbrev pub creation_error_text : FileInfoCreationError → List ℕ
+creation_error_text (InsufficientStorage size) = codes "provided buffer was too small. need at least " ++ decimal size ++ codes " bytes"

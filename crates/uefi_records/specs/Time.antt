@@ -1,7 +1,7 @@
 -- Times as firmware keeps them, and their bytes (UEFI 2.10, 8.3 "GetTime()", EFI_TIME).
-use Rattle.std.specs.Prelude.{◌≡◌, ℕ, ℤ, pos, ◌^◌, ◌<◌, List, [], ◌∷◌, ◌++◌, Option, Some, None, FitsSigned, if◌then◌else◌}
+use Rattle.std.specs.Prelude.{◌≡◌, ℕ, ℤ, pos, ◌^◌, ◌<◌, List, [], ◌∷◌, ◌++◌, slice_index, slice_range, Option, Some, None, FitsSigned, if◌then◌else◌}
 use Rattle.std.specs.Ordering.{int_eq}
-use Rattle.std.specs.Int.{w16, w32, to_le_bytes, cast_unsigned}
+use Rattle.std.specs.Int.{w16, w32, to_le_bytes, from_le_bytes, cast_signed, cast_unsigned}
 
 -- A time: a date, a time of day, the zone in minutes from UTC, daylight saving, and two bytes that mean nothing.
 pub record TimeFields : Type 0 where
@@ -43,6 +43,22 @@ time_bytes time =
 -- The bytes begin with the sixteen of the time.
 abbrev pub StandsIn : TimeFields → List ℕ → Type 0
 StandsIn time bytes = Fits time × ((rest : List ℕ) × (bytes ≡ time_bytes time ++ rest))
+
+-- The time of sixteen bytes, each field at its place.
+abbrev pub time_in : List ℕ → TimeFields
+time_in bytes = record {
+  year = from_le_bytes w16 (slice_range bytes 0 2);
+  month = slice_index bytes 2;
+  day = slice_index bytes 3;
+  hour = slice_index bytes 4;
+  minute = slice_index bytes 5;
+  second = slice_index bytes 6;
+  first_pad = slice_index bytes 7;
+  nanosecond = from_le_bytes w32 (slice_range bytes 8 12);
+  zone = cast_signed w16 (from_le_bytes w16 (slice_range bytes 12 14));
+  daylight = slice_index bytes 14;
+  last_pad = slice_index bytes 15;
+}
 
 -- The zone that stands for none, EFI_UNSPECIFIED_TIMEZONE: the time is local.
 abbrev pub unspecified_zone : ℤ

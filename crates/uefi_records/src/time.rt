@@ -1,5 +1,5 @@
 ghost use Rattle.std.specs.Prelude.{◌≡◌, ◌≢◌, ◌≤◌, ◌↔◌, length, IsOk, IfOk, IfErr};
-ghost use Rattle.uefi_records.specs.Time.{Fits, StandsIn, time_bytes, stated_zone, without_pads, zero_time};
+ghost use Rattle.uefi_records.specs.Time.{Fits, StandsIn, time_bytes, time_in, stated_zone, without_pads, zero_time};
 ghost use Rattle.uefi_records.specs.Faults.{IsValid, range_faults, is_zone_outside};
 
 use crate::daylight::Daylight;
@@ -248,9 +248,10 @@ impl Time {
     }
 
     // The time in the first sixteen bytes, whatever its fields are.
-    fn read(bytes: &[u8]) -> Time
+    pub(crate) fn read(bytes: &[u8]) -> Time
         requires { TIME_LENGTH ≤ length bytes.now }
-        ensures { StandsIn (time_of result) bytes.now }
+        ensures stands { StandsIn (time_of result) bytes.now }
+        ensures fields { time_of result ≡ time_in bytes.now }
     {
         Time {
             year: u16::from_le_bytes([bytes[0], bytes[1]]),

@@ -66,15 +66,20 @@ impl Align for Label {
 impl Identify for Label {
     ghost use Rattle.std.specs.Prelude.{replicate};
 
-    ghost GUID = { record { 0 = replicate 16 7 } };
+    ghost identity = { record { 0 = replicate 16 7 } };
 
     const GUID: Guid = Guid([7; 16]);
+
+    fn identity() -> Guid {
+        Self::GUID
+    }
 }
 
 #[test]
 fn a_type_has_its_guid_and_its_alignment(rt: HostRuntime) {
     assert_eq!(rt; Label::alignment(), 2);
     assert_eq!(rt; Label::GUID.to_bytes(), [7; 16]);
+    assert!(rt; Label::identity() == Label::GUID);
 }
 
 #[test]

@@ -18,7 +18,7 @@ const CON_OUT_LISTING: &[u8] =
     03 0e 0000000000c2010000000000080101\n  03 0a 5347c1e0bef9d2119a0c0090273fc14d\npath 103\n";
 
 /// Both [`listing`] and [`run`] over memory give the text and the outcome.
-fn assert_listing(
+pub(super) fn assert_listing(
     rt: &(impl Abort + AllocGlobal),
     command: Command,
     input: &str,
@@ -98,5 +98,54 @@ fn bytes_without_a_time_are_refused(rt: HostRuntime) {
     ];
     for (input, text) in rows {
         assert_listing(&rt, Command::Time, input, (text, Outcome::Refused));
+    }
+}
+
+/// Information on a file named `ab`, of which all else is zero, rounded up to 88 bytes.
+const AB_FILE: &str = "58000000 00000000 00000000 00000000 00000000 00000000 \
+    00000000 00000000 00000000 00000000 00000000 00000000 00000000 00000000 00000000 00000000 \
+    00000000 00000000 00000000 00000000 6100 6200 0000 0000";
+
+/// Information on a file without a name, in which each field is another, rounded up to 88 bytes.
+const NAMELESS_FILE: &str = "ff000000 00000000 00000100 00000000 00000200 00000000 \
+    e807021f 01020304 05060708 090a0b0c  e707021e 11121314 15161718 191a1b1c \
+    e607021d 21222324 25262728 292a2b2c  37000000 00000080 0000  eeeeeeeeeeee";
+
+#[test]
+fn information_on_a_file_is_listed_by_its_fields(rt: HostRuntime) {
+    let zeros = b"size 88\nfile 0\nphysical 0\n\
+        created 00000000000000000000000000000000\n\
+        accessed 00000000000000000000000000000000\n\
+        modified 00000000000000000000000000000000\n\
+        attribute 0x0\nname 00610062\n";
+    let others = b"size 255\nfile 65536\nphysical 131072\n\
+        created e807021f0102030405060708090a0b0c\n\
+        accessed e707021e1112131415161718191a1b1c\n\
+        modified e607021d2122232425262728292a2b2c\n\
+        attribute 0x8000000000000037\nname\n";
+    let rows: [(&str, usize, &[u8]); 3] = [
+        (AB_FILE, 86, zeros),
+        (AB_FILE, 1000, zeros),
+        (NAMELESS_FILE, 82, others),
+    ];
+    for (input, written, text) in rows {
+        assert_listing(&rt, Command::Info(written), input, (text, Outcome::Listed));
+    }
+}
+
+#[test]
+fn bytes_without_information_on_a_file_are_refused(rt: HostRuntime) {
+    let cut = &AB_FILE[..AB_FILE.len() - 4];
+    let nameless_cut = &NAMELESS_FILE[..NAMELESS_FILE.len() - 12];
+    let rows: [(&str, usize, &[u8]); 5] = [
+        (cut, 86, b"refused BUFFER_TOO_SMALL(88)\n"),
+        (AB_FILE, 85, b"refused BAD_BUFFER_SIZE\n"),
+        (AB_FILE, 0, b"refused BAD_BUFFER_SIZE\n"),
+        ("", 86, b"refused BAD_BUFFER_SIZE\n"),
+        (nameless_cut, 82, b"refused BUFFER_TOO_SMALL(88)\n"),
+    ];
+    for (input, written, text) in rows {
+        let refused = (text, Outcome::Refused);
+        assert_listing(&rt, Command::Info(written), input, refused);
     }
 }

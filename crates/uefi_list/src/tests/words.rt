@@ -21,8 +21,57 @@ fn a_command_and_a_file_ask_for_a_listing(rt: HostRuntime) {
 }
 
 #[test]
+fn a_number_may_be_asked_for(rt: HostRuntime) {
+    let numbers = [
+        ("0", 0),
+        ("86", 86),
+        ("0086", 86),
+        ("18446744073709551615", usize::MAX),
+    ];
+    for (number, written) in numbers {
+        let asked = Some(Command::Info(written));
+        assert_eq!(rt;
+            from_words(&rt, &["info", "boot.info", number]),
+            asked,
+            "{number}"
+        );
+        let asked = Some(Command::Map(written));
+        assert_eq!(rt;
+            from_words(&rt, &["map", "boot.map", number]),
+            asked,
+            "{number}"
+        );
+    }
+}
+
+#[test]
+fn a_word_that_is_no_number_asks_for_nothing(rt: HostRuntime) {
+    for number in [
+        "",
+        "-",
+        "+86",
+        "-1",
+        "8 6",
+        "86 ",
+        "0x56",
+        "18446744073709551616",
+    ] {
+        assert_eq!(rt;
+            from_words(&rt, &["info", "boot.info", number]),
+            None,
+            "{number}"
+        );
+        assert_eq!(rt;
+            from_words(&rt, &["map", "boot.map", number]),
+            None,
+            "{number}"
+        );
+    }
+}
+
+#[test]
 fn all_other_words_ask_for_none(rt: HostRuntime) {
-    let others: [&[&str]; 7] = [
+    let others: [&[&str]; 11] = [
         &[],
         &["path"],
         &["boot.dp", "path"],
@@ -30,6 +79,10 @@ fn all_other_words_ask_for_none(rt: HostRuntime) {
         &["paths", "boot.dp"],
         &["", "boot.dp"],
         &["path", "boot.dp", "1"],
+        &["time", "boot.time", "1"],
+        &["info", "boot.info"],
+        &["info", "86", "boot.info"],
+        &["info", "boot.info", "86", "86"],
     ];
     for words in others {
         assert_eq!(rt; from_words(&rt, words), None);

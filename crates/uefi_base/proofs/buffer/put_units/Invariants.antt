@@ -1,0 +1,7 @@
+use Rattle.std.proofs.Common.{◌≡◌, take}
+use Rattle.uefi_base.specs.Buffer.{put_at}
+use Rattle.uefi_base.specs.Unaligned.{unit_bytes}
+use Rattle.uefi_base.proofs.buffer.put_units.Given as goal
+
+abbrev pub invariant-loop-i : goal.invariant-loop-i
+invariant-loop-i l = l.buffer ≡ put_at l.place (unit_bytes (take l.i l.units)) l.initial.buffer
