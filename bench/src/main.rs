@@ -4,6 +4,7 @@
 //! gives the best of five rounds of each: nanoseconds an item and bytes a second of the proved
 //! reader, and its time as a ratio of the Rust reader's.
 
+mod info;
 mod map;
 mod path;
 mod random;
@@ -59,6 +60,7 @@ fn measure(case: &Case<'_>) -> bool {
 fn main() {
     let mut equal = true;
     path::with_cases(|case| equal &= measure(case));
+    info::with_cases(|case| equal &= measure(case));
     map::with_cases(|case| equal &= measure(case));
     time::with_cases(|case| equal &= measure(case));
     std::process::exit(if equal { 0 } else { 1 });

@@ -5,6 +5,7 @@
 //! proved; the readers' contracts are those of their crates.
 #![tactic(auto)]
 
+mod info;
 mod map;
 mod path;
 mod time;

@@ -9,6 +9,7 @@ use test_bytes::bytes;
 
 mod flags;
 mod making;
+mod records;
 
 /// The thirty-first of February 2024, local time.
 const LAST_OF_FEBRUARY: &str = "e807 02 1f 00 00 00 00  00000000  ff07 00 00";

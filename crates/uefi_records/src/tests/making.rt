@@ -1,4 +1,4 @@
-use crate::laws::one_time;
+use crate::laws::{one_time, reads_back, written_alone};
 use crate::{Daylight, Time, TimeByteConversionError, TimeError, TimeParams};
 use std::test::Fail;
 
@@ -115,4 +115,6 @@ fn times_are_equal_where_their_bytes_are(rt: HostRuntime) -> Result<(), Fail> {
 #[test]
 fn the_law_takes_nothing_to_run() {
     one_time();
+    reads_back();
+    written_alone();
 }
