@@ -5,6 +5,7 @@
 //! reader, and its time as a ratio of the Rust reader's.
 
 mod info;
+mod map;
 mod path;
 mod random;
 mod time;
@@ -60,6 +61,7 @@ fn main() {
     let mut equal = true;
     path::with_cases(|case| equal &= measure(case));
     info::with_cases(|case| equal &= measure(case));
+    map::with_cases(|case| equal &= measure(case));
     time::with_cases(|case| equal &= measure(case));
     std::process::exit(if equal { 0 } else { 1 });
 }

@@ -6,6 +6,7 @@
 #![tactic(auto)]
 
 pub mod base;
+pub mod map;
 pub mod path;
 pub mod records;
 pub mod time;

@@ -6,5 +6,6 @@
 #![tactic(auto)]
 
 mod info;
+mod map;
 mod path;
 mod time;

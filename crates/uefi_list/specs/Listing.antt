@@ -1,13 +1,14 @@
 -- The listing that a command makes of bytes.
-use Rattle.std.specs.Prelude.{◌≡◌, ℕ, List, length, take, codes}
+use Rattle.std.specs.Prelude.{◌≡◌, ℕ, Bool, List, length, take, codes}
 use Rattle.uefi_list.specs.declared.command.Command.{Command}
-use Rattle.uefi_list.specs.declared.command.Command.TheVariants.{Path, Time, Info}
+use Rattle.uefi_list.specs.declared.command.Command.TheVariants.{Path, Time, Map, Info}
 use Rattle.uefi_list.specs.declared.listing.Outcome.{Outcome}
 use Rattle.uefi_list.specs.declared.listing.Outcome.TheVariants.{Listed, Refused}
 use Rattle.uefi_path.specs.Node.{Node, joined, IsFront}
 use Rattle.uefi_path.specs.Path.{IsPath, HasPath, AreInstances}
 use Rattle.uefi_list.specs.PathListing.{path_lines}
 use Rattle.uefi_list.specs.TimeListing.{time_line}
+use Rattle.uefi_list.specs.MapListing.{ListsMap, RefusesMap}
 use Rattle.uefi_list.specs.InfoListing.{info_lines, RefusesInfo}
 use Rattle.uefi_records.specs.declared.time_error.TimeByteConversionError.{TimeByteConversionError}
 use Rattle.uefi_records.specs.declared.time_error.TimeByteConversionError.TheVariants.{InvalidFields, InvalidSize}
@@ -55,5 +56,7 @@ Listing Path bytes text Listed = (nodes : List Node) × (parts : List (List Node
 Listing Path bytes text Refused = RefusesPath bytes text
 Listing Time bytes text Listed = (time : TimeFields) × ListsTime bytes text time
 Listing Time bytes text Refused = (refusal : TimeByteConversionError) × RefusesTimeLine bytes text refusal
+Listing (Map stride) bytes text Listed = (sorted : Bool) × ListsMap stride bytes text sorted
+Listing (Map stride) bytes text Refused = RefusesMap stride bytes text
 Listing (Info written) bytes text Listed = (name : List ℕ) × ListsInfo written bytes text name
 Listing (Info written) bytes text Refused = RefusesInfo (file_info_verdict (take written bytes) (length bytes)) text

@@ -2,7 +2,7 @@
 use Rattle.std.specs.Prelude.{◌≡◌, ℕ, ◌^◌, ◌<◌, List, [], ◌∷◌, codes}
 use Rattle.std.specs.Str.Parse.{IsNumeral, digits_value}
 use Rattle.uefi_list.specs.declared.command.Command.{Command}
-use Rattle.uefi_list.specs.declared.command.Command.TheVariants.{Path, Time, Info}
+use Rattle.uefi_list.specs.declared.command.Command.TheVariants.{Path, Time, Map, Info}
 
 -- The word is the number in decimal: one or more digits 0 to 9, and at most 2^64 - 1.
 abbrev pub IsDecimal : List ℕ → ℕ → Type 0
@@ -12,6 +12,7 @@ IsDecimal word n = IsNumeral 10 word × (digits_value 10 word ≡ n) × (n < 2 ^
 abbrev pub Asks : Command → List (List ℕ) → Type 0
 Asks Path words = (file : List ℕ) × (words ≡ codes "path" ∷ file ∷ [])
 Asks Time words = (file : List ℕ) × (words ≡ codes "time" ∷ file ∷ [])
+Asks (Map stride) words = (file : List ℕ) × (number : List ℕ) × (words ≡ codes "map" ∷ file ∷ number ∷ []) × IsDecimal number stride
 Asks (Info written) words = (file : List ℕ) × (number : List ℕ) × (words ≡ codes "info" ∷ file ∷ number ∷ []) × IsDecimal number written
 
 -- The words ask for no command.

@@ -10,6 +10,8 @@ pub enum Command {
     Path,
     /// The time in the first sixteen bytes of the file: `time FILE`.
     Time,
+    /// The memory map that the file is, at a stride of so many bytes: `map FILE DESC`.
+    Map(usize),
     /// The information on a file in the first so many bytes of the file: `info FILE WRITTEN`.
     Info(usize),
 }
@@ -28,6 +30,7 @@ impl Command {
                 _ => None,
             },
             [command, _file, number] => match command.as_str() {
+                "map" => decimal(number.as_str()).map(Command::Map),
                 "info" => decimal(number.as_str()).map(Command::Info),
                 _ => None,
             },

@@ -3,9 +3,11 @@ ghost use Rattle.uefi_list.specs.Listing.{Listing};
 
 use crate::command::Command;
 use crate::info_listing::{push_info, push_refusal};
+use crate::map_listing::{file_meta, push_map};
 use crate::path_listing::push_path;
 use crate::time_listing::push_time;
 use std::alloc::{AllocError, Allocator};
+use uefi_map::{MemoryMap, MemoryMapRef};
 use uefi_path::{ByteConversionError, DevicePath};
 use uefi_records::{FileInfo, Time, TimeByteConversionError};
 
@@ -58,6 +60,27 @@ fn list_time<A: Allocator>(alloc: A, bytes: &[u8]) -> Result<(Vec<u8, A>, Outcom
     Ok((text.into_bytes(), outcome))
 }
 
+/// The listing of the memory map that all the bytes are, at a stride of so many bytes.
+fn list_map<A: Allocator>(
+    alloc: A,
+    stride: usize,
+    bytes: &[u8],
+) -> Result<(Vec<u8, A>, Outcome), AllocError>
+    ensures { IfOk result (λ r. Listing (Command.Map stride) bytes.now r.0.items r.1) }
+{
+    let mut text = String::new(alloc);
+    match MemoryMapRef::new(bytes, file_meta(bytes.len(), stride)) {
+        Ok(map) => {
+            push_map(&mut text, &map, map.is_sorted())?;
+            Ok((text.into_bytes(), Outcome::Listed))
+        }
+        Err(_) => {
+            text.push_str("refused InvalidSize\n")?;
+            Ok((text.into_bytes(), Outcome::Refused))
+        }
+    }
+}
+
 /// The listing of the information on a file in the first so many bytes.
 fn list_info<A: Allocator>(
     alloc: A,
@@ -92,6 +115,7 @@ pub fn listing<A: Allocator>(
     match command {
         Command::Path => list_path(alloc, bytes),
         Command::Time => list_time(alloc, bytes),
+        Command::Map(stride) => list_map(alloc, *stride, bytes),
         Command::Info(written) => list_info(alloc, *written, bytes),
     }
 }

@@ -13,6 +13,7 @@ mod hex_text;
 mod info_listing;
 mod input;
 pub mod listing;
+mod map_listing;
 mod number;
 mod path_listing;
 mod program;

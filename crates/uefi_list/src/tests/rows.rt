@@ -18,7 +18,7 @@ const CON_OUT_LISTING: &[u8] =
     03 0e 0000000000c2010000000000080101\n  03 0a 5347c1e0bef9d2119a0c0090273fc14d\npath 103\n";
 
 /// Both [`listing`] and [`run`] over memory give the text and the outcome.
-fn assert_listing(
+pub(super) fn assert_listing(
     rt: &(impl Abort + AllocGlobal),
     command: Command,
     input: &str,

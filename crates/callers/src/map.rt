@@ -1,0 +1,165 @@
+ghost use Rattle.std.specs.Prelude.{◌≡◌, ◌^◌, ◌<◌, ◌≤◌, ◌↔◌, length, sum_by, slice_set, string_bytes, SomeIff, Some, IsTrue, IsNone, IfSome, IfOk};
+ghost use Rattle.uefi_map.specs.Descriptor.{Fits, zero_descriptor};
+ghost use Rattle.uefi_map.specs.Flags.{has_bits};
+ghost use Rattle.uefi_map.specs.Map.{IsMap, IsWithDescriptor, count_of, entries_of};
+ghost use Rattle.uefi_map.specs.Texts.{map_error_text};
+ghost use Rattle.uefi_map.specs.Views.{attribute_bits, entries_left, key_number, ref_bytes, ref_meta};
+
+use std::alloc::{AllocError, Global};
+use uefi_map::laws::stride_free;
+use uefi_map::{
+    MemoryAttribute, MemoryDescriptor, MemoryMap, MemoryMapError, MemoryMapIter, MemoryMapKey,
+    MemoryMapMeta, MemoryMapMut, MemoryMapOwned, MemoryMapRef, MemoryMapRefMut,
+};
+
+/// All entries of a map, by `collect`.
+pub fn all_entries(
+    alloc: Global,
+    map: &MemoryMapRef<'_>,
+) -> Result<Vec<MemoryDescriptor>, AllocError>
+    ensures { IfOk result
+        (λ entries. entries.items ≡ entries_of (ref_bytes map.now) (ref_meta map.now)) }
+{
+    map.entries().collect(alloc)
+}
+
+/// The pages of all entries of any map, by `for`, where their sum fits.
+pub fn page_sum<M: MemoryMap>(map: &M) -> Option<u64>
+    ensures sum { let entries = entries_of (M.bytes map.now) (M.meta map.now) in
+        IfSome result (λ pages. pages ≡ sum_by (λ d. d.page_count) entries) }
+    ensures too_many { let entries = entries_of (M.bytes map.now) (M.meta map.now) in
+        IsNone result → 2 ^ 64 ≤ sum_by (λ d. d.page_count) entries }
+{
+    let mut pages = 0u64;
+    for entry in map.entries() {
+        pages = pages.checked_add(entry.page_count)?;
+    }
+    Some(pages)
+}
+
+/// The entries of bytes that are a map, and none of others.
+pub fn entries_in(
+    alloc: Global,
+    bytes: &[u8],
+    meta: MemoryMapMeta,
+) -> Result<Vec<MemoryDescriptor>, AllocError>
+    ensures { IfOk result (λ entries. IsMap (length bytes.now) meta
+        → entries.items ≡ entries_of bytes.now meta) }
+{
+    match MemoryMapRef::new(bytes, meta) {
+        Ok(map) => all_entries(alloc, &map),
+        Err(_) => Ok(Vec::new(alloc)),
+    }
+}
+
+/// How many entries a map has, by `count`.
+pub fn entry_count(map: &MemoryMapRef<'_>) -> usize
+    ensures { result ≡ length (entries_of (ref_bytes map.now) (ref_meta map.now)) }
+{
+    map.entries().count()
+}
+
+/// How many entries are still to come, by `len`.
+pub fn count_left(entries: &MemoryMapIter<'_>) -> usize
+    ensures { result ≡ length (entries_left entries.now) }
+{
+    entries.len()
+}
+
+/// The same, by `size_hint`.
+pub fn bounds_of_left(entries: &MemoryMapIter<'_>) -> (usize, Option<usize>)
+    ensures least { result.0 ≡ length (entries_left entries.now) }
+    ensures most { result.1 ≡ Some (length (entries_left entries.now)) }
+{
+    entries.size_hint()
+}
+
+/// A descriptor set in any map and got again: the same.
+pub fn set_and_get<M: MemoryMapMut>(map: &mut M, i: usize, d: MemoryDescriptor) -> MemoryDescriptor
+    requires within { i < count_of (M.MemoryMap.meta map.old) }
+    requires fits { Fits d }
+    ensures { result ≡ d }
+{
+    stride_free();
+    let _meta = map.meta();
+    map.set_at(i, d);
+    map.at(i)
+}
+
+/// A descriptor set in a buffer that is a map: of what the caller lent, its forty bytes changed.
+pub fn set_in(buffer: &mut [u8], meta: MemoryMapMeta, i: usize, d: MemoryDescriptor) -> bool
+    ensures written { IsTrue result → IsWithDescriptor buffer.old meta i d buffer.new }
+    ensures unchanged { (IsTrue result → ⊥) → buffer.new ≡ buffer.old }
+{
+    if !meta.is_map_within(buffer.len()) {
+        return false;
+    }
+    let mut map = MemoryMapRefMut::over(buffer, meta);
+    map.set(i, d).is_some()
+}
+
+/// A byte written through the buffer of any map: the map's sizes stay.
+pub fn write_byte<M: MemoryMapMut>(map: &mut M, place: usize, byte: u8)
+    requires { place < length (M.MemoryMap.bytes map.old) }
+    ensures bytes { let bytes = M.MemoryMap.bytes in
+        bytes map.new ≡ slice_set (bytes map.old) place byte }
+    ensures meta { M.MemoryMap.meta map.new ≡ M.MemoryMap.meta map.old }
+    ensures same_place { M.same_place map.old map.new }
+{
+    map.buffer_mut()[place] = byte;
+}
+
+/// The same of a buffer that the caller lent.
+pub fn write_byte_in(buffer: &mut [u8], meta: MemoryMapMeta, place: usize, byte: u8)
+    requires map { IsMap (length buffer.old) meta }
+    requires within { place < length buffer.old }
+    ensures { buffer.new ≡ slice_set buffer.old place byte }
+{
+    let mut map = MemoryMapRefMut::over(buffer, meta);
+    write_byte(&mut map, place, byte);
+}
+
+/// How many entries a map of a vector's bytes has: as many as it was made with.
+pub fn owned_count(bytes: Vec<u8>, meta: MemoryMapMeta) -> Option<usize>
+    ensures { SomeIff result (IsMap (length bytes.items) meta) (count_of meta) }
+{
+    match MemoryMapOwned::from_initialized_mem(bytes, meta) {
+        Ok(map) => Some(map.len()),
+        Err(_) => None,
+    }
+}
+
+/// Whether two descriptors are equal: exactly where all their fields are.
+pub fn is_same_descriptor(d: &MemoryDescriptor, other: &MemoryDescriptor) -> bool
+    ensures { IsTrue result ↔ (d.now ≡ other.now) }
+{
+    d == other
+}
+
+/// Whether runtime services need the memory.
+pub fn is_runtime(d: &MemoryDescriptor) -> bool
+    ensures { result ≡ has_bits (attribute_bits d.now.att) 0x8000000000000000 }
+{
+    d.att.contains(MemoryAttribute::RUNTIME)
+}
+
+/// The default descriptor: every field is zero.
+pub fn no_memory() -> MemoryDescriptor
+    ensures { result ≡ zero_descriptor }
+{
+    MemoryDescriptor::default()
+}
+
+/// The default key: it is 0.
+pub fn no_key() -> MemoryMapKey
+    ensures { key_number result ≡ 0 }
+{
+    MemoryMapKey::default()
+}
+
+/// The text of an error.
+pub fn map_fault_text(alloc: Global, error: &MemoryMapError) -> Result<String, AllocError>
+    ensures { IfOk result (λ text. string_bytes text ≡ map_error_text error.now) }
+{
+    error.to_string(alloc)
+}

@@ -1,0 +1,9 @@
+pub mod Descriptor
+pub mod Flags
+pub mod Map
+pub mod Texts
+pub mod Views
+pub mod Keeping
+pub mod Lending
+pub mod Laws
+pub mod Rows
