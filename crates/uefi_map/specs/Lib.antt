@@ -1,0 +1,4 @@
+pub mod Resource
+pub mod ResourceList
+pub mod ResourceLaws
+pub mod ResourceRows

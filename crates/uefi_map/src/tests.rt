@@ -1,0 +1,3 @@
+//! The crate on worked rows.
+
+mod resources;
