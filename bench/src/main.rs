@@ -7,6 +7,7 @@
 mod info;
 mod path;
 mod random;
+mod resources;
 mod time;
 
 use std::time::Instant;
@@ -60,6 +61,7 @@ fn main() {
     let mut equal = true;
     path::with_cases(|case| equal &= measure(case));
     info::with_cases(|case| equal &= measure(case));
+    resources::with_cases(|case| equal &= measure(case));
     time::with_cases(|case| equal &= measure(case));
     std::process::exit(if equal { 0 } else { 1 });
 }

@@ -8,4 +8,5 @@
 pub mod base;
 pub mod path;
 pub mod records;
+pub mod resources;
 pub mod time;

@@ -7,4 +7,5 @@
 
 mod info;
 mod path;
+mod resources;
 mod time;
