@@ -1,6 +1,7 @@
 pub mod Words
 pub mod Listing
 pub mod PathListing
+pub mod ResourceListing
 pub mod TimeListing
 pub mod InfoListing
 pub mod HexText

@@ -1,12 +1,16 @@
 -- The listing that a command makes of bytes.
 use Rattle.std.specs.Prelude.{◌≡◌, ℕ, List, length, take, codes}
 use Rattle.uefi_list.specs.declared.command.Command.{Command}
-use Rattle.uefi_list.specs.declared.command.Command.TheVariants.{Path, Time, Info}
+use Rattle.uefi_list.specs.declared.command.Command.TheVariants.{Path, Pci, Time, Info}
 use Rattle.uefi_list.specs.declared.listing.Outcome.{Outcome}
 use Rattle.uefi_list.specs.declared.listing.Outcome.TheVariants.{Listed, Refused}
+use Rattle.uefi_map.specs.declared.resource.QwordAddressSpaceDescriptor.{QwordAddressSpaceDescriptor}
+use Rattle.uefi_map.specs.declared.resource_error.ResourceError.{ResourceError}
+use Rattle.uefi_map.specs.ResourceList.{HaveList, HaveFault}
 use Rattle.uefi_path.specs.Node.{Node, joined, IsFront}
 use Rattle.uefi_path.specs.Path.{IsPath, HasPath, AreInstances}
 use Rattle.uefi_list.specs.PathListing.{path_lines}
+use Rattle.uefi_list.specs.ResourceListing.{resource_lines, refused_resources_line}
 use Rattle.uefi_list.specs.TimeListing.{time_line}
 use Rattle.uefi_list.specs.InfoListing.{info_lines, RefusesInfo}
 use Rattle.uefi_records.specs.declared.time_error.TimeByteConversionError.{TimeByteConversionError}
@@ -28,6 +32,16 @@ pub record ListsPath (bytes text : List ℕ) (nodes : List Node) (parts : List (
 pub record RefusesPath (bytes text : List ℕ) : Type 0 where
   pub none : ¬ HasPath bytes
   pub line : text ≡ codes "refused InvalidLength\n"
+
+-- The text lists the resources that the bytes begin with.
+pub record ListsResources (bytes text : List ℕ) (list : List QwordAddressSpaceDescriptor) : Type 0 where
+  pub stands : HaveList bytes list
+  pub lines : text ≡ resource_lines list
+
+-- The text says why the bytes begin with no list of resources.
+pub record RefusesResources (bytes text : List ℕ) (fault : ResourceError) : Type 0 where
+  pub stands : HaveFault bytes fault
+  pub line : text ≡ refused_resources_line fault
 
 -- The text lists the time in the first sixteen bytes, with which a reader finds no fault.
 pub record ListsTime (bytes text : List ℕ) (time : TimeFields) : Type 0 where
@@ -53,6 +67,8 @@ pub record ListsInfo (written : ℕ) (bytes text name : List ℕ) : Type 0 where
 abbrev pub Listing : Command → List ℕ → List ℕ → Outcome → Type 0
 Listing Path bytes text Listed = (nodes : List Node) × (parts : List (List Node)) × ListsPath bytes text nodes parts
 Listing Path bytes text Refused = RefusesPath bytes text
+Listing Pci bytes text Listed = (list : List QwordAddressSpaceDescriptor) × ListsResources bytes text list
+Listing Pci bytes text Refused = (fault : ResourceError) × RefusesResources bytes text fault
 Listing Time bytes text Listed = (time : TimeFields) × ListsTime bytes text time
 Listing Time bytes text Refused = (refusal : TimeByteConversionError) × RefusesTimeLine bytes text refusal
 Listing (Info written) bytes text Listed = (name : List ℕ) × ListsInfo written bytes text name

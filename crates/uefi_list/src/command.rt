@@ -8,6 +8,8 @@ use crate::number::decimal;
 pub enum Command {
     /// The device path that the file begins with: `path FILE`.
     Path,
+    /// The PCI resources that the file begins with: `pci FILE`.
+    Pci,
     /// The time in the first sixteen bytes of the file: `time FILE`.
     Time,
     /// The information on a file in the first so many bytes of the file: `info FILE WRITTEN`.
@@ -24,6 +26,7 @@ impl Command {
         match words {
             [command, _file] => match command.as_str() {
                 "path" => Some(Command::Path),
+                "pci" => Some(Command::Pci),
                 "time" => Some(Command::Time),
                 _ => None,
             },

@@ -4,8 +4,10 @@ ghost use Rattle.uefi_list.specs.Listing.{Listing};
 use crate::command::Command;
 use crate::info_listing::{push_info, push_refusal};
 use crate::path_listing::push_path;
+use crate::resource_listing::{push_fault, push_resources};
 use crate::time_listing::push_time;
 use std::alloc::{AllocError, Allocator};
+use uefi_map::{ResourceError, parse};
 use uefi_path::{ByteConversionError, DevicePath};
 use uefi_records::{FileInfo, Time, TimeByteConversionError};
 
@@ -34,6 +36,27 @@ fn list_path<A: Allocator>(alloc: A, bytes: &[u8]) -> Result<(Vec<u8, A>, Outcom
         }
     };
     Ok((text.into_bytes(), outcome))
+}
+
+/// The listing of the PCI resources that the bytes begin with.
+fn list_resources<A: Allocator + Copy>(
+    alloc: A,
+    bytes: &[u8],
+) -> Result<(Vec<u8, A>, Outcome), AllocError>
+    ensures { IfOk result (λ r. Listing Command.Pci bytes.now r.0.items r.1) }
+{
+    let mut text = String::new(alloc);
+    match parse(alloc, bytes) {
+        Ok(list) => {
+            push_resources(&mut text, list.as_slice())?;
+            Ok((text.into_bytes(), Outcome::Listed))
+        }
+        Err(ResourceError::Memory) => Err(AllocError),
+        Err(fault) => {
+            push_fault(&mut text, fault)?;
+            Ok((text.into_bytes(), Outcome::Refused))
+        }
+    }
 }
 
 /// The listing of the time in the first sixteen bytes.
@@ -82,7 +105,7 @@ fn list_info<A: Allocator>(
 /// The listing of the bytes, in memory, and whether they were refused.
 ///
 /// The one error is want of memory.
-pub fn listing<A: Allocator>(
+pub fn listing<A: Allocator + Copy>(
     alloc: A,
     command: &Command,
     bytes: &[u8],
@@ -91,6 +114,7 @@ pub fn listing<A: Allocator>(
 {
     match command {
         Command::Path => list_path(alloc, bytes),
+        Command::Pci => list_resources(alloc, bytes),
         Command::Time => list_time(alloc, bytes),
         Command::Info(written) => list_info(alloc, *written, bytes),
     }

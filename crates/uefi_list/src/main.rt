@@ -16,6 +16,7 @@ pub mod listing;
 mod number;
 mod path_listing;
 mod program;
+mod resource_listing;
 pub mod run;
 #[cfg(test)]
 mod tests;

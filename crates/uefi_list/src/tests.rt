@@ -1,6 +1,7 @@
 //! Worked rows, outputs that fail, and requests for memory that are refused.
 
 mod memory;
+mod resources;
 mod rows;
 mod words;
 mod writers;
