@@ -1,3 +1,3 @@
-pub mod Records
-pub mod OneList
+pub mod ResourceRecords
+pub mod ResourceOneList
 pub mod ResourceRows

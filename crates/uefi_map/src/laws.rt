@@ -3,7 +3,7 @@
 ghost use Rattle.uefi_map.specs.ResourceLaws.{OneList};
 
 /// All bytes begin with exactly one list of resources, or have exactly one fault.
-#[tactic(auto, using(crate::proofs::OneList::one_list))]
+#[tactic(auto, using(crate::proofs::ResourceOneList::one_list))]
 pub fn one_list()
     ensures { OneList }
 {}

@@ -61,7 +61,7 @@ pub struct QwordAddressSpaceDescriptor {
     pub address_min: u64,
     /// The highest address of the range.
     pub address_max: u64,
-    /// What is added to an address of the bridge's other side, to make one of this side.
+    /// How far the addresses of the two sides of the bridge are apart, 0 where they are the same.
     pub translation_offset: u64,
     /// How many addresses or bus numbers the range has.
     pub address_length: u64,

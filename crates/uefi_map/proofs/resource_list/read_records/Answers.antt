@@ -1,7 +1,7 @@
 use Rattle.std.proofs.Common.{◌≡◌, ◌∙◌, length, arith}
 use Rattle.std.specs.Slice.Iter.{chunks_exact_rest}
 use Rattle.uefi_map.specs.Resource.{record_length}
-use Rattle.uefi_map.proofs.Records.{record_after, next_record, next_others, all_read}
+use Rattle.uefi_map.proofs.ResourceRecords.{record_after, next_record, next_others, all_read}
 use Rattle.uefi_map.proofs.resource_list.read_records.Goals as goal
 
 pub loop-record-preserved : goal.loop-record-preserved

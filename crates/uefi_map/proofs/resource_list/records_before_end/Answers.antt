@@ -1,8 +1,8 @@
 use Rattle.std.proofs.Common.{rules, [], ◌∷◌, ◌++◌}
 use Rattle.std.proofs.lemmas.Result.{err_from_is_err_and}
 use Rattle.uefi_map.specs.ResourceList.{BeginWith, end_tag}
-use Rattle.uefi_map.proofs.OneList.{have_one_fault, have_one_list, list_before_end}
-use Rattle.uefi_map.proofs.Records.{records_then_record}
+use Rattle.uefi_map.proofs.ResourceOneList.{have_one_fault, have_one_list, list_before_end}
+use Rattle.uefi_map.proofs.ResourceRecords.{records_then_record}
 use Rattle.uefi_map.proofs.resource_list.records_before_end.Goals as goal
 
 pub returns-in_err-after-clause-fault : goal.returns-in_err-after-clause-fault

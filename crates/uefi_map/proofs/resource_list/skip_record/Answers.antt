@@ -1,7 +1,7 @@
 use Rattle.std.proofs.Common.{rules, arith}
 use Rattle.uefi_map.specs.Resource.{record_tag}
 use Rattle.uefi_map.specs.ResourceList.{BeginWith}
-use Rattle.uefi_map.proofs.Records.{first_record}
+use Rattle.uefi_map.proofs.ResourceRecords.{first_record}
 use Rattle.uefi_map.proofs.resource_list.skip_record.Goals as goal
 
 pub returns-in-Some-eq138-2-clause-record : goal.returns-in-Some-eq138-2-clause-record

@@ -8,7 +8,7 @@ use Rattle.uefi_map.specs.declared.resource_error.ResourceError.TheVariants.{NoE
 use Rattle.uefi_map.specs.Resource.{record_tag, record_length, descriptor_in, IsRecord}
 use Rattle.uefi_map.specs.ResourceList.{AreRecords, BeginWithRecords, BeginWith, end_tag, HaveList, IsFaultOf, HaveFault, HaveSomeList, HaveSomeFault, HaveOneList, HaveOneFault}
 use Rattle.uefi_map.specs.ResourceLaws.{OneList}
-use Rattle.uefi_map.proofs.Records.{same_text, same_after, no_records, record_before, first_of_records, record_at_front, before_rest}
+use Rattle.uefi_map.proofs.ResourceRecords.{same_text, same_after, no_records, record_before, first_of_records, record_at_front, before_rest}
 
 -- No record is at the front.
 abbrev NoRecord : List ℕ → Type 0
