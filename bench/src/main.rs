@@ -8,6 +8,7 @@ mod info;
 mod map;
 mod path;
 mod random;
+mod resources;
 mod time;
 
 use std::time::Instant;
@@ -62,6 +63,7 @@ fn main() {
     path::with_cases(|case| equal &= measure(case));
     info::with_cases(|case| equal &= measure(case));
     map::with_cases(|case| equal &= measure(case));
+    resources::with_cases(|case| equal &= measure(case));
     time::with_cases(|case| equal &= measure(case));
     std::process::exit(if equal { 0 } else { 1 });
 }

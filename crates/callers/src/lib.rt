@@ -9,4 +9,5 @@ pub mod base;
 pub mod map;
 pub mod path;
 pub mod records;
+pub mod resources;
 pub mod time;

@@ -8,4 +8,5 @@
 mod info;
 mod map;
 mod path;
+mod resources;
 mod time;

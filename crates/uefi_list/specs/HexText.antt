@@ -1,11 +1,15 @@
 -- Text that grows, and bytes as hex text.
-use Rattle.std.specs.Prelude.{◌≡◌, ℕ, ◌/◌, ◌%◌, List, [], ◌∷◌, ◌++◌, flat_map, false, string_bytes}
+use Rattle.std.specs.Prelude.{◌≡◌, ℕ, ◌/◌, ◌%◌, List, [], ◌∷◌, ◌++◌, flat_map, false, string_bytes, codes}
 use Rattle.std.specs.declared.string.String.{String}
-use Rattle.std.specs.Fmt.{digit_glyph}
+use Rattle.std.specs.Fmt.{digit_glyph, digits}
 
 -- Two lower case hex digits a byte, joined.
 abbrev pub hex_of : List ℕ → List ℕ
 hex_of bytes = flat_map (λ byte. digit_glyph false (byte / 16) ∷ digit_glyph false (byte % 16) ∷ []) bytes
+
+-- A number in lower case hex, `0x0` for zero.
+abbrev pub hex_number : ℕ → List ℕ
+hex_number n = codes "0x" ++ digits 16 false n
 
 -- The string grew by the text.
 abbrev pub AppendsText : {A : Type 0} → String A → String A → List ℕ → Type 0

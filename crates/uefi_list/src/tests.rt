@@ -2,6 +2,7 @@
 
 mod map_rows;
 mod memory;
+mod resources;
 mod rows;
 mod words;
 mod writers;

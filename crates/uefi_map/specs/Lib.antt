@@ -5,5 +5,9 @@ pub mod Texts
 pub mod Views
 pub mod Keeping
 pub mod Lending
+pub mod Resource
+pub mod ResourceList
 pub mod Laws
+pub mod ResourceLaws
 pub mod Rows
+pub mod ResourceRows

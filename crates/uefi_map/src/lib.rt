@@ -1,6 +1,7 @@
-//! Memory maps of UEFI firmware (UEFI 2.10, 7.2), whatever the stride of their descriptors.
+//! Memory maps of UEFI firmware (UEFI 2.10, 7.2), whatever the stride of their descriptors, and
+//! lists of PCI resources (UEFI 2.10, 14.2).
 //!
-//! Begin with [`MemoryMapRef::new`], which answers the map that bytes begin with, or refuses sizes
+//! For a map begin with [`MemoryMapRef::new`], which answers the map that bytes begin with, or refuses sizes
 //! that make none; [`MemoryMap::entries`] gives its descriptors in order, each by value.
 //! [`MemoryMapRefMut`] and [`MemoryMapOwned`] can be written too, by [`MemoryMapMut`]: a write
 //! changes the forty bytes of one descriptor. No map takes memory.
@@ -8,6 +9,11 @@
 //! The contracts speak of a map's bytes and sizes: `specs/Descriptor.antt` says what stands in the
 //! forty bytes of a descriptor, and `specs/Map.antt` which bytes are a map and what its entries are.
 //! `laws::stride_free` says that nothing else in a stride bears on them.
+//!
+//! For the resources that a PCI root bridge decodes, records of 46 bytes and an end tag, begin with
+//! [`parse`]: it answers the list that the bytes begin with, or the one fault that they have.
+//! `specs/Resource.antt` says what a record is, and `specs/ResourceList.antt` what a list and a
+//! fault is.
 #![tactic(auto)]
 
 pub use self::descriptor::MemoryDescriptor;
@@ -20,6 +26,9 @@ pub use self::memory_attribute::MemoryAttribute;
 pub use self::memory_map::{MemoryMap, MemoryMapMut};
 pub use self::memory_type::MemoryType;
 pub use self::meta::{MemoryMapKey, MemoryMapMeta};
+pub use self::resource::{QwordAddressSpaceDescriptor, ResourceRangeType};
+pub use self::resource_error::ResourceError;
+pub use self::resource_list::parse;
 
 mod access;
 mod descriptor;
@@ -33,6 +42,9 @@ mod memory_attribute;
 mod memory_map;
 mod memory_type;
 mod meta;
+mod resource;
+mod resource_error;
+mod resource_list;
 mod sizes;
 #[cfg(test)]
 mod tests;

@@ -8,6 +8,7 @@ use std::process::Abort;
 
 mod memory;
 mod reading;
+mod resources;
 mod values;
 mod writing;
 

@@ -18,6 +18,7 @@ fn a_command_and_a_file_ask_for_a_listing(rt: HostRuntime) {
         from_words(&rt, &["time", "boot.time"]),
         Some(Command::Time)
     );
+    assert_eq!(rt; from_words(&rt, &["pci", "bridge.res"]), Some(Command::Pci));
 }
 
 #[test]
@@ -71,7 +72,7 @@ fn a_word_that_is_no_number_asks_for_nothing(rt: HostRuntime) {
 
 #[test]
 fn all_other_words_ask_for_none(rt: HostRuntime) {
-    let others: [&[&str]; 11] = [
+    let others: [&[&str]; 13] = [
         &[],
         &["path"],
         &["boot.dp", "path"],
@@ -83,6 +84,8 @@ fn all_other_words_ask_for_none(rt: HostRuntime) {
         &["info", "boot.info"],
         &["info", "86", "boot.info"],
         &["info", "boot.info", "86", "86"],
+        &["pci"],
+        &["pci", "bridge.res", "186"],
     ];
     for words in others {
         assert_eq!(rt; from_words(&rt, words), None);

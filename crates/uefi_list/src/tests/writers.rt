@@ -6,7 +6,7 @@ use std::process::Abort;
 use std::test::Fail;
 use test_bytes::bytes;
 
-const INPUT: &str = "7fff 0600 aabb";
+const INPUT: (Command, &str) = (Command::Path, "7fff 0600 aabb");
 
 const LISTING: &[u8] = b"instance 6\npath 6\n";
 
@@ -47,7 +47,7 @@ impl Write for Stubborn {
 
 fn assert_run(
     rt: &(impl Abort + AllocGlobal),
-    input: &str,
+    (command, input): (Command, &str),
     (most, calls, then): (usize, u64, Then),
     (outcome, taken): (Result<Outcome, RunError>, &[u8]),
 ) {
@@ -58,7 +58,7 @@ fn assert_run(
         calls,
         then,
     };
-    let ran = run(rt.alloc(), &Command::Path, input_bytes.as_slice(), &mut out);
+    let ran = run(rt.alloc(), &command, input_bytes.as_slice(), &mut out);
     assert_eq!(rt; ran, outcome, "{most} bytes a call, {calls} calls");
     assert_eq!(rt;
         out.taken.as_slice(),
@@ -81,13 +81,17 @@ fn a_writer_that_takes_little_gets_it_all(rt: HostRuntime) {
 
 #[test]
 fn a_refused_listing_is_written_too(rt: HostRuntime) {
-    let line = b"refused InvalidLength\n";
-    assert_run(
-        &rt,
-        "00",
-        (1, 100, Then::TakesNothing),
-        (Ok(Outcome::Refused), line),
-    );
+    for (input, line) in [
+        ((Command::Path, "00"), b"refused InvalidLength\n".as_slice()),
+        ((Command::Pci, ""), b"refused NoEndTag\n"),
+    ] {
+        assert_run(
+            &rt,
+            input,
+            (1, 100, Then::TakesNothing),
+            (Ok(Outcome::Refused), line),
+        );
+    }
 }
 
 #[test]
