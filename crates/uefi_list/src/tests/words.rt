@@ -31,14 +31,31 @@ fn a_number_may_be_asked_for(rt: HostRuntime) {
     ];
     for (number, written) in numbers {
         let asked = Some(Command::Info(written));
-        assert_eq!(rt; from_words(&rt, &["info", "boot.info", number]), asked, "{number}");
+        assert_eq!(rt;
+            from_words(&rt, &["info", "boot.info", number]),
+            asked,
+            "{number}"
+        );
     }
 }
 
 #[test]
 fn a_word_that_is_no_number_asks_for_nothing(rt: HostRuntime) {
-    for number in ["", "-", "+86", "-1", "8 6", "86 ", "0x56", "18446744073709551616"] {
-        assert_eq!(rt; from_words(&rt, &["info", "boot.info", number]), None, "{number}");
+    for number in [
+        "",
+        "-",
+        "+86",
+        "-1",
+        "8 6",
+        "86 ",
+        "0x56",
+        "18446744073709551616",
+    ] {
+        assert_eq!(rt;
+            from_words(&rt, &["info", "boot.info", number]),
+            None,
+            "{number}"
+        );
     }
 }
 
