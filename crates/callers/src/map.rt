@@ -157,6 +157,13 @@ pub fn no_key() -> MemoryMapKey
     MemoryMapKey::default()
 }
 
+/// Whether two keys are equal: exactly where their numbers are.
+pub fn is_same_key(key: MemoryMapKey, other: MemoryMapKey) -> bool
+    ensures { IsTrue result ↔ (key_number key ≡ key_number other) }
+{
+    key == other
+}
+
 /// The text of an error.
 pub fn map_fault_text(alloc: Global, error: &MemoryMapError) -> Result<String, AllocError>
     ensures { IfOk result (λ text. string_bytes text ≡ map_error_text error.now) }

@@ -8,6 +8,7 @@ use Rattle.uefi_map.specs.Descriptor.{descriptor_in, descriptor_bytes, descripto
 use Rattle.uefi_map.specs.Map.{IsMap, AreStrides, descriptors_from, entries_of}
 use Rattle.uefi_map.proofs.Parts.{part_before}
 
+-- There are as many descriptors as are asked for.
 pub count_from : (bytes : List ℕ) (stride i count : ℕ) → length (descriptors_from bytes stride i count) ≡ count
 count_from bytes stride i zero = refl
 count_from bytes stride i (suc count) = ap suc (count_from bytes stride (i + 1) count)

@@ -18,13 +18,13 @@ pub(crate) fn read_at(bytes: &[u8], meta: &MemoryMapMeta, i: usize) -> MemoryDes
 }
 
 /// Writes the descriptor at an index of a map.
-pub(crate) fn write_at(bytes: &mut [u8], meta: &MemoryMapMeta, i: usize, d: &MemoryDescriptor)
+pub(crate) fn write_at(bytes: &mut [u8], meta: &MemoryMapMeta, i: usize, entry: &MemoryDescriptor)
     requires map { IsMap (length bytes.old) meta.now }
     requires within { i < count_of meta.now }
-    ensures { bytes.new ≡ with_descriptor bytes.old meta.now.desc_size i d.now }
+    ensures { bytes.new ≡ with_descriptor bytes.old meta.now.desc_size i entry.now }
 {
     let place = meta.place(i);
-    d.write(&mut bytes[place..place + DESCRIPTOR_LENGTH]);
+    entry.write(&mut bytes[place..place + DESCRIPTOR_LENGTH]);
 }
 
 /// Whether no descriptor of a map begins below the one before it.

@@ -79,9 +79,9 @@ impl<A: Allocator> MemoryMapMut for MemoryMapOwned<A> {
 
     ghost same_place_after = { λ _ _ _ _ _. tt };
 
-    fn set_at(&mut self, i: usize, d: MemoryDescriptor) {
+    fn set_at(&mut self, i: usize, entry: MemoryDescriptor) {
         let meta = self.meta();
-        write_at(&mut self.buffer, &meta, i, &d);
+        write_at(&mut self.buffer, &meta, i, &entry);
     }
 
     fn buffer_mut(&mut self) -> &mut [u8] {

@@ -93,9 +93,9 @@ impl<'a> MemoryMapMut for MemoryMapRefMut<'a> {
 
     ghost same_place_after = { λ _ _ _ first second. second ∙ first };
 
-    fn set_at(&mut self, i: usize, d: MemoryDescriptor) {
+    fn set_at(&mut self, i: usize, entry: MemoryDescriptor) {
         let meta = self.meta();
-        write_at(self.buffer, &meta, i, &d);
+        write_at(self.buffer, &meta, i, &entry);
     }
 
     fn buffer_mut(&mut self) -> &mut [u8] {

@@ -99,11 +99,11 @@ pub trait MemoryMapMut: MemoryMap {
     /// is no such descriptor: every byte is then as it was.
     ///
     /// The descriptor's forty bytes alone are written.
-    fn set(&mut self, i: usize, d: MemoryDescriptor) -> Option<MemoryDescriptor>
+    fn set(&mut self, i: usize, entry: MemoryDescriptor) -> Option<MemoryDescriptor>
         ensures before { let map = Self.MemoryMap in
             result ≡ entry_of (map.bytes self.old) (map.meta self.old) i }
         ensures written { let map = Self.MemoryMap in
-            OnSome result (IsWithDescriptor (map.bytes self.old) (map.meta self.old) i d
+            OnSome result (IsWithDescriptor (map.bytes self.old) (map.meta self.old) i entry
             (map.bytes self.new)) }
         ensures unchanged { let map = Self.MemoryMap in
             IfNone result (map.bytes self.new ≡ map.bytes self.old) }
@@ -111,17 +111,17 @@ pub trait MemoryMapMut: MemoryMap {
         ensures same_place { same_place self.old self.new }
     {
         let before = self.get(i)?;
-        self.set_at(i, d);
+        self.set_at(i, entry);
         Some(before)
     }
 
     /// Sets the descriptor at an index that is below [`len`](MemoryMap::len).
     ///
     /// The descriptor's forty bytes alone are written.
-    fn set_at(&mut self, i: usize, d: MemoryDescriptor)
+    fn set_at(&mut self, i: usize, entry: MemoryDescriptor)
         requires { i < count_of (Self.MemoryMap.meta self.old) }
         ensures written { let map = Self.MemoryMap in
-            IsWithDescriptor (map.bytes self.old) (map.meta self.old) i d (map.bytes self.new) }
+            IsWithDescriptor (map.bytes self.old) (map.meta self.old) i entry (map.bytes self.new) }
         ensures meta { let map = Self.MemoryMap in map.meta self.new ≡ map.meta self.old }
         ensures same_place { same_place self.old self.new };
 
