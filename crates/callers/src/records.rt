@@ -31,10 +31,7 @@ pub fn label_fits(storage: &mut [u8], label: &CStr16<'_>) -> bool
 }
 
 /// Writes a label where it fits, and leaves the buffer as it was where it doesn't.
-pub fn label_written(
-    buffer: &mut [u8],
-    label: &CStr16<'_>,
-) -> Result<(), FileInfoCreationError>
+pub fn label_written(buffer: &mut [u8], label: &CStr16<'_>) -> Result<(), FileInfoCreationError>
     ensures written { OnOk result
         (buffer.new ≡ put_front (unit_bytes (text_units label.now)) buffer.old) }
     ensures unchanged { OnErr result (buffer.new ≡ buffer.old) }

@@ -33,7 +33,7 @@ pub fn is_decoded(alloc: Global, bytes: &[u8], address: u64) -> Result<bool, Res
     ensures { IfOk result (λ found. (list : List QwordAddressSpaceDescriptor)
         × HaveList bytes.now list
         × (IsTrue found ↔ Any (λ range.
-            (range.address_min ≤ address) × (address ≤ range.address_max)) list)) }
+        (range.address_min ≤ address) × (address ≤ range.address_max)) list)) }
 {
     let list = parse(alloc, bytes)?;
     Ok(list.iter().any(|range| range.address_min <= address && address <= range.address_max))

@@ -3,7 +3,6 @@ use Rattle.std.proofs.Common.{◌≡◌, ℕ, zero, suc, ◌+◌, ◌*◌, ◌<�
 use Rattle.std.proofs.lemmas.Grind.{flat_map-append}
 use Rattle.std.proofs.lemmas.List.{take_at, take_more, take-append-drop, drop-drop, length-append, length-drop, length-take-le, append-nil}
 use Rattle.std.proofs.lemmas.Slice.{drop-append-drop}
-
 use Rattle.uefi_base.specs.Buffer.{put_at, put_front}
 use Rattle.uefi_base.specs.LittleEndian.{u16_bytes}
 use Rattle.uefi_base.specs.Unaligned.{unit_bytes}

@@ -91,9 +91,9 @@ file_system_fields_back size fields unused rest seven fits =
     let last : whole ≡ before ++ volume ++ (free ++ (block ++ rest)) = later ∙ append_assoc (before ++ volume) free (block ++ rest) in
     let read_only = is_read_only fields.read_only in
     let volume_size = ap (λ bytes. u64_at bytes 16) last ∙ ap (λ n. u64_at (before ++ volume ++ (free ++ (block ++ rest))) n) (sym sixteen)
-        ∙ numbers_read_back.written.u64 before (free ++ (block ++ rest)) fields.volume_size fits.volume_size in
+    ∙ numbers_read_back.written.u64 before (free ++ (block ++ rest)) fields.volume_size fits.volume_size in
     let free_space = ap (λ bytes. u64_at bytes 24) later ∙ ap (λ n. u64_at (before ++ volume ++ free ++ (block ++ rest)) n) (sym twenty_four)
-        ∙ numbers_read_back.written.u64 (before ++ volume) (block ++ rest) fields.free_space fits.free_space in
+    ∙ numbers_read_back.written.u64 (before ++ volume) (block ++ rest) fields.free_space fits.free_space in
     let block_size = ap (λ n. u32_at whole n) (sym thirty_two) ∙ numbers_read_back.written.u32 (before ++ volume ++ free) rest fields.block_size fits.block_size in
     λ i. record { read_only = read_only i; volume_size = volume_size i; free_space = free_space i; block_size = block_size i }
 

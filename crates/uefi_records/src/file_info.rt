@@ -87,14 +87,14 @@ impl<'a> FileInfo<'a> {
     ) -> Result<FileInfo<'a>, FileInfoCreationError>
         ensures* after { sem 𝓛 (EndsAs storage.entry (λ after. MatchResult result
             (λ _. after ≡ put_front (file_info_bytes (file_fields_given file_size physical_size
-                create_time last_access_time modification_time attribute)
-                (text_units file_name.now)) storage.old)
+            create_time last_access_time modification_time attribute)
+            (text_units file_name.now)) storage.old)
             (λ _. after ≡ storage.old))) }
         ensures size { IfOk result (λ info. stated_size info
             ≡ file_info_size (length (text_units file_name.now))) }
         ensures fields { IfOk result (λ info. file_fields_of info
             ≡ file_fields_given file_size physical_size create_time last_access_time
-                modification_time attribute) }
+            modification_time attribute) }
         ensures name { IfOk result (λ info. file_name_of info ≡ text_units file_name.now) }
         ensures short { IfErr result (λ error. error ≡ FileInfoCreationError.InsufficientStorage
             (file_info_size (length (text_units file_name.now)))) }
@@ -252,7 +252,8 @@ impl Identify for FileInfo<'_> {
     ghost identity = { file_info_guid };
 
     const GUID: Guid = Guid([
-        0x92, 0x6e, 0x57, 0x09, 0x3f, 0x6d, 0xd2, 0x11, 0x8e, 0x39, 0x00, 0xa0, 0xc9, 0x69, 0x72, 0x3b,
+        0x92, 0x6e, 0x57, 0x09, 0x3f, 0x6d, 0xd2, 0x11, 0x8e, 0x39, 0x00, 0xa0, 0xc9, 0x69, 0x72,
+        0x3b,
     ]);
 
     fn identity() -> Guid

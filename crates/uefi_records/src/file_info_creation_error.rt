@@ -17,6 +17,9 @@ impl fmt::Display for FileInfoCreationError {
 
     fn fmt<W: fmt::Write>(&self, f: &mut fmt::Formatter<W>) -> fmt::Result {
         let FileInfoCreationError::InsufficientStorage(size) = self;
-        write!(f, "provided buffer was too small. need at least {size} bytes")
+        write!(
+            f,
+            "provided buffer was too small. need at least {size} bytes"
+        )
     }
 }

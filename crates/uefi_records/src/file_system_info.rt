@@ -86,8 +86,8 @@ impl<'a> FileSystemInfo<'a> {
     ) -> Result<FileSystemInfo<'a>, FileInfoCreationError>
         ensures* after { sem 𝓛 (EndsAs storage.entry (λ after. MatchResult result
             (λ _. after ≡ put_front (file_system_info_bytes
-                (file_system_fields_given read_only volume_size free_space block_size)
-                (slice_range storage.old 9 16) (text_units volume_label.now)) storage.old)
+            (file_system_fields_given read_only volume_size free_space block_size)
+            (slice_range storage.old 9 16) (text_units volume_label.now)) storage.old)
             (λ _. after ≡ storage.old))) }
         ensures size { IfOk result (λ info. system_stated_size info
             ≡ file_system_info_size (length (text_units volume_label.now))) }
@@ -226,7 +226,8 @@ impl Identify for FileSystemInfo<'_> {
     ghost identity = { file_system_info_guid };
 
     const GUID: Guid = Guid([
-        0x93, 0x6e, 0x57, 0x09, 0x3f, 0x6d, 0xd2, 0x11, 0x8e, 0x39, 0x00, 0xa0, 0xc9, 0x69, 0x72, 0x3b,
+        0x93, 0x6e, 0x57, 0x09, 0x3f, 0x6d, 0xd2, 0x11, 0x8e, 0x39, 0x00, 0xa0, 0xc9, 0x69, 0x72,
+        0x3b,
     ]);
 
     fn identity() -> Guid

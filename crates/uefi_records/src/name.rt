@@ -22,7 +22,7 @@ fn first_zero(units: &UnalignedSlice<'_>) -> Option<(usize, u16)>
 fn name_length(bytes: &[u8]) -> Option<usize>
     ensures { MatchOption result (first_zero (units_of bytes.now) ≡ None)
         (λ count. (first_zero (units_of bytes.now) ≡ Some (count - 1)) × (0 < count)
-            × (2 * count ≤ length bytes.now)) }
+        × (2 * count ≤ length bytes.now)) }
 {
     let whole = bytes.len() / UNIT_LENGTH * UNIT_LENGTH;
     match first_zero(&UnalignedSlice::new(&bytes[..whole])) {
@@ -53,7 +53,7 @@ pub(crate) fn name_end(
     ensures { let seen = verdict offset alignment (take written buffer.now) (length buffer.now) in
         MatchResult result
         (λ end. (end ≤ length buffer.now) × EndsWithName offset (take end buffer.now)
-            × (seen ≡ accepted (units_from offset (take end buffer.now))))
+        × (seen ≡ accepted (units_from offset (take end buffer.now))))
         (Refuses seen) }
 {
     let front = &buffer[..written.min(buffer.len())];

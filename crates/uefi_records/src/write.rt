@@ -7,12 +7,10 @@ ghost use Rattle.uefi_records.specs.FileSystemInfo.{FitFileSystem, file_system_i
 ghost use Rattle.uefi_records.specs.Views.{file_fields_given, file_system_fields_given};
 
 use crate::file_attribute::FileAttribute;
-use crate::file_info;
 use crate::file_info_creation_error::FileInfoCreationError;
-use crate::file_system_info;
-use crate::file_system_volume_label;
 use crate::name::{UNIT_LENGTH, round_up};
 use crate::time::Time;
+use crate::{file_info, file_system_info, file_system_volume_label};
 use uefi_base::CStr16;
 use uefi_base::buffer::{put, put_units};
 
@@ -37,7 +35,7 @@ pub fn write_file_info(
     ensures end { IfOk result (λ end. end ≡ 80 + 2 * length (text_units file_name.now)) }
     ensures written { OnOk result (buffer.new ≡ put_front
         (file_info_bytes (file_fields_given file_size physical_size create_time
-            last_access_time modification_time attribute) (text_units file_name.now)) buffer.old) }
+        last_access_time modification_time attribute) (text_units file_name.now)) buffer.old) }
     ensures fields_fit { OnOk result (FitFile (file_fields_given file_size physical_size
         create_time last_access_time modification_time attribute)) }
     ensures name_fits { OnOk result (AreUnits (text_units file_name.now)) }

@@ -9,7 +9,9 @@ use uefi_base::{Align, CStr16, Error, Identify, Status, UnalignedSlice};
 
 /// `ab`, and the names that have nine and ten characters.
 const AB: [u16; 3] = [0x61, 0x62, 0];
+
 const TEST_NAME: [u16; 10] = [0x74, 0x65, 0x73, 0x74, 0x5f, 0x6e, 0x61, 0x6d, 0x65, 0];
+
 const TEST_NAME2: [u16; 11] = [
     0x74, 0x65, 0x73, 0x74, 0x5f, 0x6e, 0x61, 0x6d, 0x65, 0x32, 0,
 ];
@@ -45,20 +47,37 @@ fn zero_file<'a>(
     name: &CStr16<'_>,
 ) -> Result<FileInfo<'a>, FileInfoCreationError> {
     let time = Time::invalid();
-    FileInfo::new(storage, 0, 0, time, time, time, FileAttribute::empty(), name)
+    FileInfo::new(
+        storage,
+        0,
+        0,
+        time,
+        time,
+        time,
+        FileAttribute::empty(),
+        name,
+    )
 }
 
 #[test]
 fn each_field_of_a_file_stands_at_its_place(rt: HostRuntime) -> Result<(), Fail> {
     let input = bytes(rt.alloc(), FILE)?;
-    let info = FileInfo::from_uefi(input.as_slice(), 86).ok().ok_or("read")?;
-    assert_eq!(rt; (info.size(), info.file_size(), info.physical_size()), (88, 1, 2));
+    let info = FileInfo::from_uefi(input.as_slice(), 86)
+        .ok()
+        .ok_or("read")?;
+    assert_eq!(rt;
+        (info.size(), info.file_size(), info.physical_size()),
+        (88, 1, 2)
+    );
     for (time, place) in [
         (info.create_time(), 24),
         (info.last_access_time(), 40),
         (info.modification_time(), 56),
     ] {
-        assert_eq!(rt; time.to_bytes().as_slice(), &input.as_slice()[place..place + 16]);
+        assert_eq!(rt;
+            time.to_bytes().as_slice(),
+            &input.as_slice()[place..place + 16]
+        );
     }
     assert_eq!(rt; info.attribute().bits(), 0x8000_0000_0000_0010);
     assert!(rt; info.is_directory() && !info.is_regular_file());
@@ -69,10 +88,15 @@ fn each_field_of_a_file_stands_at_its_place(rt: HostRuntime) -> Result<(), Fail>
 #[test]
 fn each_field_of_a_file_system_stands_at_its_place(rt: HostRuntime) -> Result<(), Fail> {
     let input = bytes(rt.alloc(), FILE_SYSTEM)?;
-    let info = FileSystemInfo::from_uefi(input.as_slice(), 42).ok().ok_or("read")?;
+    let info = FileSystemInfo::from_uefi(input.as_slice(), 42)
+        .ok()
+        .ok_or("read")?;
     assert_eq!(rt; info.size(), 48);
     assert!(rt; info.read_only());
-    assert_eq!(rt; (info.volume_size(), info.free_space(), info.block_size()), (1, 2, 3));
+    assert_eq!(rt;
+        (info.volume_size(), info.free_space(), info.block_size()),
+        (1, 2, 3)
+    );
     assert_units(&rt, info.volume_label(), &AB, "file system");
     Ok(())
 }
@@ -81,7 +105,10 @@ fn each_field_of_a_file_system_stands_at_its_place(rt: HostRuntime) -> Result<()
 fn a_name_is_sought_in_what_was_written(rt: HostRuntime) -> Result<(), Fail> {
     let input = bytes(rt.alloc(), FILE)?;
     for written in [86, 87, 1000, usize::MAX] {
-        assert!(rt; FileInfo::from_uefi(input.as_slice(), written).is_ok(), "{written}");
+        assert!(rt;
+            FileInfo::from_uefi(input.as_slice(), written).is_ok(),
+            "{written}"
+        );
     }
     for written in [0, 1, 79, 80, 84, 85] {
         let refused = FileInfo::from_uefi(input.as_slice(), written).err();
@@ -97,7 +124,9 @@ fn the_stated_size_is_not_trusted(rt: HostRuntime) -> Result<(), Fail> {
     let mut input = bytes(rt.alloc(), FILE)?;
     for size in [0u8, 255] {
         input[0] = size;
-        let info = FileInfo::from_uefi(input.as_slice(), 86).ok().ok_or("read")?;
+        let info = FileInfo::from_uefi(input.as_slice(), 86)
+            .ok()
+            .ok_or("read")?;
         assert_eq!(rt; info.size(), u64::from(size));
     }
     Ok(())
@@ -125,7 +154,9 @@ fn a_cut_buffer_is_refused_by_what_is_left(rt: HostRuntime) -> Result<(), Fail> 
 #[test]
 fn a_label_is_its_units(rt: HostRuntime) -> Result<(), Fail> {
     let input = bytes(rt.alloc(), "6100 0000")?;
-    let label = FileSystemVolumeLabel::from_uefi(input.as_slice(), 4).ok().ok_or("read")?;
+    let label = FileSystemVolumeLabel::from_uefi(input.as_slice(), 4)
+        .ok()
+        .ok_or("read")?;
     assert_units(&rt, label.volume_label(), &[0x61, 0], "label");
     let cut = FileSystemVolumeLabel::from_uefi(input.as_slice(), 3).err();
     assert!(rt; cut == Some(bad_size()));
@@ -151,7 +182,9 @@ fn a_written_file_system_leaves_the_unused_bytes(rt: HostRuntime) -> Result<(), 
     let label = CStr16::from_u16_with_nul(&AB).ok().ok_or("label")?;
     let mut storage = [0xee; 48];
     {
-        let info = FileSystemInfo::new(&mut storage, true, 1, 2, 3, &label).ok().ok_or("room")?;
+        let info = FileSystemInfo::new(&mut storage, true, 1, 2, 3, &label)
+            .ok()
+            .ok_or("room")?;
         assert_eq!(rt; info.size(), 48);
         assert!(rt; info.read_only());
     }
@@ -165,7 +198,9 @@ fn a_written_file_system_leaves_the_unused_bytes(rt: HostRuntime) -> Result<(), 
 fn a_written_label_leaves_what_follows(rt: HostRuntime) -> Result<(), Fail> {
     let label = CStr16::from_u16_with_nul(&AB).ok().ok_or("label")?;
     let mut storage = [0xee; 8];
-    let written = FileSystemVolumeLabel::new(&mut storage, &label).ok().ok_or("room")?;
+    let written = FileSystemVolumeLabel::new(&mut storage, &label)
+        .ok()
+        .ok_or("room")?;
     assert_units(&rt, written.volume_label(), &AB, "label");
     assert_eq!(rt; storage, [0x61, 0, 0x62, 0, 0, 0, 0xee, 0xee]);
     Ok(())
@@ -180,9 +215,14 @@ fn a_record_has_a_size_by_its_name(rt: HostRuntime) -> Result<(), Fail> {
     assert_eq!(rt; info.size(), 104);
     let mut short = [0; 103];
     let refused = zero_file(&mut short, &name).err();
-    assert_eq!(rt; refused, Some(FileInfoCreationError::InsufficientStorage(104)));
+    assert_eq!(rt;
+        refused,
+        Some(FileInfoCreationError::InsufficientStorage(104))
+    );
     let mut storage = [0; 128];
-    let info = FileSystemInfo::new(&mut storage, false, 0, 0, 0, &label).ok().ok_or("room")?;
+    let info = FileSystemInfo::new(&mut storage, false, 0, 0, 0, &label)
+        .ok()
+        .ok_or("room")?;
     assert_eq!(rt; info.size(), 64);
     Ok(())
 }
@@ -194,19 +234,31 @@ fn storage_that_is_too_short_stays_as_it_was(rt: HostRuntime) -> Result<(), Fail
     for n in 0..88 {
         let mut storage = [0xee; 88];
         let refused = zero_file(&mut storage[..n], &name).err();
-        assert_eq!(rt; refused, Some(FileInfoCreationError::InsufficientStorage(88)), "{n}");
+        assert_eq!(rt;
+            refused,
+            Some(FileInfoCreationError::InsufficientStorage(88)),
+            "{n}"
+        );
         assert_eq!(rt; storage, untouched, "{n}");
     }
     for n in 0..48 {
         let mut storage = [0xee; 88];
         let refused = FileSystemInfo::new(&mut storage[..n], true, 1, 2, 3, &name).err();
-        assert_eq!(rt; refused, Some(FileInfoCreationError::InsufficientStorage(48)), "{n}");
+        assert_eq!(rt;
+            refused,
+            Some(FileInfoCreationError::InsufficientStorage(48)),
+            "{n}"
+        );
         assert_eq!(rt; storage, untouched, "{n}");
     }
     for n in 0..6 {
         let mut storage = [0xee; 88];
         let refused = FileSystemVolumeLabel::new(&mut storage[..n], &name).err();
-        assert_eq!(rt; refused, Some(FileInfoCreationError::InsufficientStorage(6)), "{n}");
+        assert_eq!(rt;
+            refused,
+            Some(FileInfoCreationError::InsufficientStorage(6)),
+            "{n}"
+        );
         assert_eq!(rt; storage, untouched, "{n}");
     }
     Ok(())
@@ -234,7 +286,9 @@ fn the_writers_say_how_far_they_wrote(rt: HostRuntime) -> Result<(), Fail> {
 #[test]
 fn records_are_equal_by_their_fields_and_names(rt: HostRuntime) -> Result<(), Fail> {
     let input = bytes(rt.alloc(), FILE_SYSTEM)?;
-    let info = FileSystemInfo::from_uefi(input.as_slice(), 42).ok().ok_or("read")?;
+    let info = FileSystemInfo::from_uefi(input.as_slice(), 42)
+        .ok()
+        .ok_or("read")?;
     for (place, byte, equal) in [
         (8, 1, true),
         (9, 0, true),
@@ -247,15 +301,21 @@ fn records_are_equal_by_their_fields_and_names(rt: HostRuntime) -> Result<(), Fa
     ] {
         let mut other = bytes(rt.alloc(), FILE_SYSTEM)?;
         other[place] = byte;
-        let other = FileSystemInfo::from_uefi(other.as_slice(), 42).ok().ok_or("read")?;
+        let other = FileSystemInfo::from_uefi(other.as_slice(), 42)
+            .ok()
+            .ok_or("read")?;
         assert_eq!(rt; info == other, equal, "byte {place}");
     }
     let input = bytes(rt.alloc(), FILE)?;
-    let info = FileInfo::from_uefi(input.as_slice(), 86).ok().ok_or("read")?;
+    let info = FileInfo::from_uefi(input.as_slice(), 86)
+        .ok()
+        .ok_or("read")?;
     for (place, byte, equal) in [(87, 0, true), (0, 0, false), (30, 0, false), (82, 1, false)] {
         let mut other = bytes(rt.alloc(), FILE)?;
         other[place] = byte;
-        let other = FileInfo::from_uefi(other.as_slice(), 86).ok().ok_or("read")?;
+        let other = FileInfo::from_uefi(other.as_slice(), 86)
+            .ok()
+            .ok_or("read")?;
         assert_eq!(rt; info == other, equal, "byte {place}");
     }
     Ok(())
@@ -269,7 +329,10 @@ fn each_record_has_its_alignment_and_its_guid(rt: HostRuntime) -> Result<(), Fai
     for (guid, text) in [
         (FileInfo::GUID, "09576e92-6d3f-11d2-8e39-00a0c969723b"),
         (FileSystemInfo::GUID, "09576e93-6d3f-11d2-8e39-00a0c969723b"),
-        (FileSystemVolumeLabel::GUID, "db47d7d3-fe81-11d3-9a35-0090273fc14d"),
+        (
+            FileSystemVolumeLabel::GUID,
+            "db47d7d3-fe81-11d3-9a35-0090273fc14d",
+        ),
     ] {
         let shown = guid.to_string(rt.alloc())?;
         assert_eq!(rt; shown.as_str(), text);
@@ -283,6 +346,9 @@ fn each_record_has_its_alignment_and_its_guid(rt: HostRuntime) -> Result<(), Fai
 #[test]
 fn a_refused_writing_names_the_size(rt: HostRuntime) -> Result<(), Fail> {
     let text = FileInfoCreationError::InsufficientStorage(6).to_string(rt.alloc())?;
-    assert_eq!(rt; text.as_str(), "provided buffer was too small. need at least 6 bytes");
+    assert_eq!(rt;
+        text.as_str(),
+        "provided buffer was too small. need at least 6 bytes"
+    );
     Ok(())
 }

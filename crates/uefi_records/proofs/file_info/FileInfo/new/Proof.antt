@@ -35,10 +35,25 @@ pub new_spec : {M : Type 1} → statement M
 new_spec 𝓤 𝓛 𝓜 𝓡 wired =
     let c = f.clauses 𝓛 𝓜.mem 𝓡.returns in
     let 𝓣 = framed 𝓤 𝓛.H 𝓜 (tables 𝓤 𝓛.H 𝓜 𝓡 𝓡.env) in
-    proved 𝓛 f.ended stayed c 𝓜 𝓡
-    (Goes-spent_slice 𝓛 3 (0 ∷ []) tt (plain (λ _. u8)), (Goes-dropped 𝓛 3 (plain (λ _. u64)) yes (λ κs x w. refl), (Goes-dropped 𝓛 3 (plain (λ _. u64)) yes (λ κs x w. refl),
-    (Goes-dropped 𝓛 3 (plain (λ _. Time_row)) yes (λ κs x w. refl), (Goes-dropped 𝓛 3 (plain (λ _. Time_row)) yes (λ κs x w. refl), (Goes-dropped 𝓛 3 (plain (λ _. Time_row)) yes (λ κs x w. refl),
-    (Goes-dropped 𝓛 3 (plain (λ _. Attribute_row)) yes (λ κs x w. refl), (Goes-dropped 𝓛 3 (RefOf (1 ∷ []) tt (plain (λ κs. CStr16_row (named_lft 3 2 tt κs))) (λ _. tt)) yes (λ κs x w. refl), tt))))))))
+    proved 𝓛 f.ended stayed c 𝓜 𝓡 (
+      Goes-spent_slice 𝓛 3 (0 ∷ []) tt (plain (λ _. u8)),
+      (
+        Goes-dropped 𝓛 3 (plain (λ _. u64)) yes (λ κs x w. refl),
+        (
+          Goes-dropped 𝓛 3 (plain (λ _. u64)) yes (λ κs x w. refl),
+          (
+            Goes-dropped 𝓛 3 (plain (λ _. Time_row)) yes (λ κs x w. refl),
+            (
+              Goes-dropped 𝓛 3 (plain (λ _. Time_row)) yes (λ κs x w. refl),
+              (
+                Goes-dropped 𝓛 3 (plain (λ _. Time_row)) yes (λ κs x w. refl),
+                (Goes-dropped 𝓛 3 (plain (λ _. Attribute_row)) yes (λ κs x w. refl), (Goes-dropped 𝓛 3 (RefOf (1 ∷ []) tt (plain (λ κs. CStr16_row (named_lft 3 2 tt κs))) (λ _. tt)) yes (λ κs x w. refl), tt)),
+              ),
+            ),
+          ),
+        ),
+      ),
+    )
     f.Key.name code.function (code.unfolded 𝓤 𝓛.H 𝓜 𝓡 wired)
     (λ κs. (mut_slice_vals, (uint_vals w64, (uint_vals w64, ((λ x. Time_told.val x ∷ []), ((λ x. Time_told.val x ∷ []), ((λ x. Time_told.val x ∷ []), ((λ x. Attribute_told.val x ∷ []), (shr_vals, tt)))))))))
     (λ κs. (mut_slice_Tells (named 0) κs.0 u8, (uint_Tells w64, (uint_Tells w64, (Time_told.tells, (Time_told.tells, (Time_told.tells, (Attribute_told.tells, (shr_Tells (named 1) κs.1.0 (CStr16_row (named_lft 3 2 tt κs)), tt)))))))))
