@@ -1,5 +1,5 @@
 -- A file system's information that was written, and the view of it.
-use Rattle.std.proofs.Common.{◌≡◌, ℕ, ◌+◌, ◌*◌, ◌^◌, ◌<◌, ◌≤◌, List, ◌++◌, length, take, refl, ◌∙◌, ap, arith}
+use Rattle.std.proofs.Common.{◌≡◌, ℕ, ◌+◌, ◌*◌, ◌^◌, ◌<◌, ◌≤◌, List, length, take, refl, ◌∙◌, ap, arith}
 use Rattle.std.specs.Prelude.{Result, Ok, Err, IfOk, OnOk, IfErr, OnErr, IsOk, MatchResult, ◌↔◌, slice_range}
 use Rattle.std.proofs.lemmas.List.{length-append}
 use Rattle.uefi_base.specs.Buffer.{put_front}

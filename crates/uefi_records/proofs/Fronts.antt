@@ -1,6 +1,6 @@
 -- What a front of bytes has of their fields.
-use Rattle.std.proofs.Common.{◌≡◌, ℕ, ◌+◌, ◌-◌, ◌<◌, ◌≤◌, List, take, drop, sym, ◌∙◌, ap, arith}
-use Rattle.std.specs.Prelude.{not, ◌==◌, slice_index, slice_range}
+use Rattle.std.proofs.Common.{◌≡◌, ℕ, ◌+◌, ◌-◌, ◌≤◌, List, take, drop, ◌∙◌, ap, arith}
+use Rattle.std.specs.Prelude.{not, ◌==◌, slice_range}
 use Rattle.std.specs.Int.{w32, w64, from_le_bytes}
 use Rattle.std.proofs.lemmas.List.{take-take, drop-take, length-take, get_or-take}
 use Rattle.uefi_records.specs.Time.{time_in}

@@ -1,12 +1,12 @@
 -- What the number of a name's units says of the record that it ends.
-use Rattle.std.proofs.Common.{◌≡◌, ℕ, zero, suc, ◌+◌, ◌-◌, ◌*◌, ◌/◌, ◌%◌, ◌<◌, ◌≤◌, Bool, true, cond, min, Option, None, Some, List, length, get_or, take, drop, sym, ◌∙◌, ap, arith, subst}
+use Rattle.std.proofs.Common.{◌≡◌, ℕ, ◌+◌, ◌-◌, ◌*◌, ◌/◌, ◌<◌, ◌≤◌, Bool, true, cond, min, Option, None, Some, List, length, take, drop, sym, ◌∙◌, ap, arith, subst}
 use Rattle.std.specs.Prelude.{nat_le}
 use Rattle.std.proofs.lemmas.Bool.Decides.{nat_tests}
 use Rattle.std.proofs.lemmas.List.{take-take, drop-take, length-take, length-drop, length-take-le, get_or-take, take_min, take_rest}
 use Rattle.uefi_base.specs.Unaligned.{units_of}
 use Rattle.uefi_base.proofs.UnitsOfBytes.{units_by_place}
 use Rattle.uefi_records.specs.Name.{IsName, IsFirstZero, EndsWithName, first_zero, record_size, units_from}
-use Rattle.uefi_records.specs.Verdict.{Verdict, accepted, too_small, judged, verdict}
+use Rattle.uefi_records.specs.Verdict.{accepted, too_small, judged, verdict}
 use Rattle.uefi_records.proofs.FirstZero.{IsFirstAt, whole_units, none_first, one_first, first_zero_is}
 
 -- A search through the whole units of bytes finds how many units their name has, or that they have none.

@@ -1,13 +1,13 @@
 -- The laws of records.
-use Rattle.std.proofs.Common.{◌≡◌, ◌≢◌, ℕ, ◌+◌, ◌-◌, ◌*◌, ◌/◌, ◌^◌, ◌<◌, ◌≤◌, min, Option, None, Some, List, [], ◌++◌, length, get_or, take, drop, refl, sym, ◌∙◌, ap, subst, arith, append_assoc}
+use Rattle.std.proofs.Common.{◌≡◌, ℕ, ◌+◌, ◌-◌, ◌*◌, ◌/◌, ◌<◌, ◌≤◌, min, Option, None, Some, List, [], ◌++◌, length, get_or, take, drop, refl, sym, ◌∙◌, ap, subst, arith, append_assoc}
 use Rattle.std.proofs.lemmas.List.{take_at, length-append, length-take, length-drop, get_or-take}
-use Rattle.uefi_base.specs.Unaligned.{AreUnits, units_of, unit_bytes}
+use Rattle.uefi_base.specs.Unaligned.{AreUnits, unit_bytes}
 use Rattle.uefi_base.proofs.UnitsBack.{units_read_back}
 use Rattle.uefi_base.proofs.UnitsOfBytes.{units_by_place}
 use Rattle.uefi_records.specs.Name.{IsName, first_zero, record_size, units_from}
-use Rattle.uefi_records.specs.Verdict.{Verdict, accepted, judged, verdict}
-use Rattle.uefi_records.specs.FileInfo.{FileFields, FitFile, file_fields, file_header, file_info_bytes, file_info_size, size_in}
-use Rattle.uefi_records.specs.FileSystemInfo.{FileSystemFields, FitFileSystem, file_system_fields, file_system_header, file_system_info_bytes, file_system_info_size}
+use Rattle.uefi_records.specs.Verdict.{accepted, judged, verdict}
+use Rattle.uefi_records.specs.FileInfo.{file_fields, file_header, file_info_size, size_in}
+use Rattle.uefi_records.specs.FileSystemInfo.{file_system_fields, file_system_header, file_system_info_size}
 use Rattle.uefi_records.specs.Laws.{FileInfoReadsBack, FileSystemInfoReadsBack, VolumeLabelReadsBack, ReadsBack, WrittenAlone}
 use Rattle.uefi_records.proofs.FirstZero.{IsFirstAt, one_first, first_zero_is}
 use Rattle.uefi_records.proofs.Fronts.{size_of_front, file_fields_of_front, file_system_fields_of_front}

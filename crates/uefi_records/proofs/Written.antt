@@ -1,5 +1,5 @@
 -- What is left of writing a record and then looking at it, whatever the kind of the record.
-use Rattle.std.proofs.Common.{◌≡◌, ℕ, ◌+◌, ◌*◌, ◌^◌, ◌<◌, ◌≤◌, List, ◌++◌, length, take, drop, refl, sym, ◌∙◌, ap, subst, arith}
+use Rattle.std.proofs.Common.{◌≡◌, ℕ, ◌+◌, ◌*◌, ◌≤◌, List, length, take, drop, refl, sym, ◌∙◌, ap, subst, arith}
 use Rattle.std.specs.Prelude.{Result, Ok, Err, IfOk, OnOk, IfErr, OnErr, IsOk, MatchResult, ◌↔◌}
 use Rattle.std.proofs.lemmas.List.{take_at, length-append}
 use Rattle.uefi_base.specs.Buffer.{put_front}

@@ -1,5 +1,5 @@
 -- Whether a record stands in what was written to a buffer (UEFI 2.10, 13.5 "EFI_FILE_PROTOCOL.GetInfo()"; Appendix D).
-use Rattle.std.specs.Prelude.{ℕ, ◌≡◌, ◌+◌, Option, Some, None, Result, Ok, Err, List, length, take, nat_le, if◌then◌else◌}
+use Rattle.std.specs.Prelude.{ℕ, ◌≡◌, ◌+◌, Option, Some, None, Result, Ok, Err, List, take, nat_le, if◌then◌else◌}
 use Rattle.uefi_base.specs.declared.status.Error.{Error}
 use Rattle.uefi_base.specs.declared.status.Status.TheVariants.{BAD_BUFFER_SIZE, BUFFER_TOO_SMALL}
 use Rattle.uefi_base.specs.Views.{error_status, error_data}

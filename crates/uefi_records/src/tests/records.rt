@@ -33,6 +33,20 @@ fn assert_units(rt: &impl Abort, name: UnalignedSlice<'_>, units: &[u16], row: &
     }
 }
 
+/// The bytes that a text spells, with another one at the place.
+fn with_byte(rt: &(impl Abort + AllocGlobal), text: &str, place: usize, byte: u8) -> Vec<u8> {
+    let mut changed = bytes(rt.alloc(), text).expect(rt, text);
+    *changed.get_mut(place).expect(rt, text) = byte;
+    changed
+}
+
+/// The first so many bytes that a text spells.
+fn cut(rt: &(impl Abort + AllocGlobal), text: &str, n: usize) -> Vec<u8> {
+    let mut front = bytes(rt.alloc(), text).expect(rt, text);
+    front.truncate(n);
+    front
+}
+
 fn bad_size() -> Error<Option<usize>> {
     Error::new(Status::BAD_BUFFER_SIZE, None)
 }
@@ -69,15 +83,13 @@ fn each_field_of_a_file_stands_at_its_place(rt: HostRuntime) -> Result<(), Fail>
         (info.size(), info.file_size(), info.physical_size()),
         (88, 1, 2)
     );
-    for (time, place) in [
-        (info.create_time(), 24),
-        (info.last_access_time(), 40),
-        (info.modification_time(), 56),
+    for (time, first) in [
+        (info.create_time(), [0xe8, 0x07, 0x02, 0x1f, 0x01]),
+        (info.last_access_time(), [0xe7, 0x07, 0x02, 0x1e, 0x11]),
+        (info.modification_time(), [0xe6, 0x07, 0x02, 0x1d, 0x21]),
     ] {
-        assert_eq!(rt;
-            time.to_bytes().as_slice(),
-            &input.as_slice()[place..place + 16]
-        );
+        let [a, b, c, d, e, ..] = time.to_bytes();
+        assert_eq!(rt; [a, b, c, d, e], first);
     }
     assert_eq!(rt; info.attribute().bits(), 0x8000_0000_0000_0010);
     assert!(rt; info.is_directory() && !info.is_regular_file());
@@ -114,16 +126,16 @@ fn a_name_is_sought_in_what_was_written(rt: HostRuntime) -> Result<(), Fail> {
         let refused = FileInfo::from_uefi(input.as_slice(), written).err();
         assert!(rt; refused == Some(bad_size()), "{written}");
     }
-    let cut = FileInfo::from_uefi(&input.as_slice()[..86], 86).err();
-    assert!(rt; cut == Some(too_small(88)));
+    let short = cut(&rt, FILE, 86);
+    let refused = FileInfo::from_uefi(short.as_slice(), 86).err();
+    assert!(rt; refused == Some(too_small(88)));
     Ok(())
 }
 
 #[test]
 fn the_stated_size_is_not_trusted(rt: HostRuntime) -> Result<(), Fail> {
-    let mut input = bytes(rt.alloc(), FILE)?;
     for size in [0u8, 255] {
-        input[0] = size;
+        let input = with_byte(&rt, FILE, 0, size);
         let info = FileInfo::from_uefi(input.as_slice(), 86)
             .ok()
             .ok_or("read")?;
@@ -133,11 +145,11 @@ fn the_stated_size_is_not_trusted(rt: HostRuntime) -> Result<(), Fail> {
 }
 
 #[test]
-fn a_cut_buffer_is_refused_by_what_is_left(rt: HostRuntime) -> Result<(), Fail> {
-    let input = bytes(rt.alloc(), FILE)?;
-    for n in 0..=88 {
-        for written in 0..=90 {
-            let read = FileInfo::from_uefi(&input.as_slice()[..n], written);
+fn a_cut_buffer_is_refused_by_what_is_left(rt: HostRuntime) {
+    for n in 0..=88usize {
+        let front = cut(&rt, FILE, n);
+        for written in 0..=90usize {
+            let read = FileInfo::from_uefi(front.as_slice(), written);
             let expected = if n.min(written) < 86 {
                 Some(bad_size())
             } else if n < 88 {
@@ -148,7 +160,6 @@ fn a_cut_buffer_is_refused_by_what_is_left(rt: HostRuntime) -> Result<(), Fail> 
             assert!(rt; read.err() == expected, "{n} bytes, {written} written");
         }
     }
-    Ok(())
 }
 
 #[test]
@@ -188,8 +199,7 @@ fn a_written_file_system_leaves_the_unused_bytes(rt: HostRuntime) -> Result<(), 
         assert_eq!(rt; info.size(), 48);
         assert!(rt; info.read_only());
     }
-    let mut expected = bytes(rt.alloc(), FILE_SYSTEM)?;
-    expected[8] = 1;
+    let expected = with_byte(&rt, FILE_SYSTEM, 8, 1);
     assert_eq!(rt; storage.as_slice(), expected.as_slice());
     Ok(())
 }
@@ -299,8 +309,7 @@ fn records_are_equal_by_their_fields_and_names(rt: HostRuntime) -> Result<(), Fa
         (35, 1, false),
         (36, 0x62, false),
     ] {
-        let mut other = bytes(rt.alloc(), FILE_SYSTEM)?;
-        other[place] = byte;
+        let other = with_byte(&rt, FILE_SYSTEM, place, byte);
         let other = FileSystemInfo::from_uefi(other.as_slice(), 42)
             .ok()
             .ok_or("read")?;
@@ -311,8 +320,7 @@ fn records_are_equal_by_their_fields_and_names(rt: HostRuntime) -> Result<(), Fa
         .ok()
         .ok_or("read")?;
     for (place, byte, equal) in [(87, 0, true), (0, 0, false), (30, 0, false), (82, 1, false)] {
-        let mut other = bytes(rt.alloc(), FILE)?;
-        other[place] = byte;
+        let other = with_byte(&rt, FILE, place, byte);
         let other = FileInfo::from_uefi(other.as_slice(), 86)
             .ok()
             .ok_or("read")?;

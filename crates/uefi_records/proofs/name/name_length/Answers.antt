@@ -1,4 +1,4 @@
-use Rattle.std.proofs.Common.{rules, arith}
+use Rattle.std.proofs.Common.{rules}
 use Rattle.uefi_records.proofs.Judging.{name_found, no_name_found}
 use Rattle.uefi_records.proofs.name.name_length.Goals as goal
 
