@@ -1,6 +1,6 @@
 ghost use Rattle.std.specs.Prelude.{◌≡◌, ◌^◌, ◌<◌, ◌≤◌, ◌↔◌, length, sum_by, slice_set, string_bytes, SomeIff, Some, IsTrue, IsNone, IfSome, IfOk};
 ghost use Rattle.uefi_map.specs.Descriptor.{Fits, zero_descriptor};
-ghost use Rattle.uefi_map.specs.Flags.{has_bits};
+ghost use Rattle.uefi_base.specs.Flags.{has_bits};
 ghost use Rattle.uefi_map.specs.Map.{IsMap, IsWithDescriptor, count_of, entries_of};
 ghost use Rattle.uefi_map.specs.Texts.{map_error_text};
 ghost use Rattle.uefi_map.specs.Views.{attribute_bits, entries_left, key_number, ref_bytes, ref_meta};

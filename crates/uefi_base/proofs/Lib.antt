@@ -1,4 +1,5 @@
 pub mod Characters
+pub mod NamedBits
 pub mod NumbersBack
 pub mod Parts
 pub mod Rows
@@ -6,3 +7,5 @@ pub mod Sharing
 pub mod UnitsBack
 pub mod UnitsOfBytes
 pub mod WalkNames
+pub mod WriterArgs
+pub mod WriterWalk

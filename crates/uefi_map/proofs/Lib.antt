@@ -1,5 +1,4 @@
 pub mod Fields
-pub mod NamedBits
 pub mod Parts
 pub mod Rows
 pub mod StrideFree

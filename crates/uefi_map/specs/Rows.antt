@@ -9,7 +9,8 @@ use Rattle.uefi_map.specs.declared.memory_attribute.TheConstants.MemoryAttribute
 use Rattle.uefi_map.specs.declared.memory_type.TheConstants.MemoryType.{RESERVED, LOADER_CODE, LOADER_DATA, BOOT_SERVICES_CODE, BOOT_SERVICES_DATA, RUNTIME_SERVICES_CODE, RUNTIME_SERVICES_DATA, CONVENTIONAL, UNUSABLE, ACPI_RECLAIM, ACPI_NON_VOLATILE, MMIO, MMIO_PORT_SPACE, PAL_CODE, PERSISTENT_MEMORY}
 use Rattle.uefi_map.specs.declared.meta.MemoryMapMeta.{MemoryMapMeta}
 use Rattle.uefi_map.specs.Descriptor.{encoding, with_descriptor}
-use Rattle.uefi_map.specs.Flags.{has_bits, named_attributes}
+use Rattle.uefi_base.specs.Flags.{has_bits}
+use Rattle.uefi_map.specs.Flags.{named_attributes}
 use Rattle.uefi_map.specs.Map.{IsMap, IsSane, AreSorted, count_of, entry_of, entries_of}
 use Rattle.uefi_map.specs.Texts.{map_error_text}
 

@@ -1,6 +1,7 @@
 ghost use Rattle.std.specs.Prelude.{⊤, ◌≡◌, ◌↔◌, [], ◌∷◌, codes, IsTrue, IsSome, IfSome};
 ghost use Rattle.std.specs.Int.RustNames.{bit_or};
-ghost use Rattle.uefi_map.specs.Flags.{has_bits, named_attributes};
+ghost use Rattle.uefi_base.specs.Flags.{has_bits};
+ghost use Rattle.uefi_map.specs.Flags.{named_attributes};
 
 use bitflags::{Flag, Flags, bitflag_items};
 
@@ -45,7 +46,7 @@ impl MemoryAttribute {
     }
 
     /// The set of these bits, or none where one of them has no name.
-    #[tactic(auto, using(crate::proofs::NamedBits::named_bits), unfolding(bitflags::proofs::OnLiterals::bitflags_on_literals))]
+    #[tactic(auto, using(uefi_base::proofs::NamedBits::named_bits), unfolding(bitflags::proofs::OnLiterals::bitflags_on_literals))]
     pub fn from_bits(bits: u64) -> Option<MemoryAttribute>
         ensures named { IsSome result ↔ IsTrue (has_bits named_attributes bits) }
         ensures same { IfSome result (λ set. attribute_bits set ≡ bits) }

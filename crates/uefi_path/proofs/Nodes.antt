@@ -4,7 +4,8 @@ use Rattle.std.specs.Int.{w16, to_le_bytes, from_le_bytes}
 use Rattle.std.proofs.lemmas.Nat.{le_bytes_2, from_le_bytes-to_le_bytes_2}
 use Rattle.std.proofs.lemmas.List.{length-take-le}
 use Rattle.std.proofs.Math.Seq.{take-append_seam}
-use Rattle.uefi_path.specs.Node.{encoding, IsFront, HasNode}
+use Rattle.uefi_path.specs.Node.{encoding, HasNode}
+use Rattle.uefi_base.specs.Prefix.{IsPrefix}
 use Rattle.uefi_path.specs.Header.{header, header_bytes}
 use Rattle.uefi_path.specs.Spelling.{SpellsNode}
 
@@ -19,7 +20,7 @@ two_bytes c d n small_c small_d made = le_bytes_2 (c ∷ d ∷ []) n refl both_s
 
 -- The first four bytes are a header's.
 pub header_front : (bytes : List ℕ) (n : ℕ) → ((i : ℕ) → get_or bytes i 0 < 256) → 4 ≤ length bytes → n ≡ get_or bytes 2 0 + get_or bytes 3 0 * 256
-    → IsFront (header_bytes (header (get_or bytes 0 0) (get_or bytes 1 0) n)) bytes
+    → IsPrefix (header_bytes (header (get_or bytes 0 0) (get_or bytes 1 0) n)) bytes
 header_front [] n small enough made = absurd (omega arith)
 header_front (a ∷ []) n small enough made = absurd (omega arith)
 header_front (a ∷ b ∷ []) n small enough made = absurd (omega arith)
@@ -41,7 +42,7 @@ node_of_parts t u m s type_fits sub_type_fits within fits =
     )
 
 -- A front as long as the header in it states is a node's bytes.
-pub node_front : (bytes : List ℕ) (t u n : ℕ) → ((i : ℕ) → get_or bytes i 0 < 256) → IsFront (header_bytes (header t u n)) bytes → 4 ≤ n → n ≤ length bytes → n < 65536
+pub node_front : (bytes : List ℕ) (t u n : ℕ) → ((i : ℕ) → get_or bytes i 0 < 256) → IsPrefix (header_bytes (header t u n)) bytes → 4 ≤ n → n ≤ length bytes → n < 65536
     → SpellsNode (take n bytes)
 node_front bytes t u n small front whole_header within fits =
     let s = front.0 in

@@ -2,7 +2,8 @@
 use Rattle.std.proofs.Common.{◌≡◌, ℕ, ◌-◌, List, [], ◌∷◌, ◌++◌, length, take, sym, ◌∙◌, ap, subst, arith, append_assoc, length-append}
 use Rattle.std.proofs.Math.Seq.{take-append_seam}
 use Rattle.std.specs.List.{AllByRecursion}
-use Rattle.uefi_path.specs.Node.{Node, Fits, encoding, joined, IsFront, HasNode, AreNodes}
+use Rattle.uefi_path.specs.Node.{Node, Fits, encoding, joined, HasNode, AreNodes}
+use Rattle.uefi_base.specs.Prefix.{IsPrefix}
 use Rattle.uefi_path.specs.Path.{LastAlone, AreEndedBy, HasNodes}
 use Rattle.uefi_path.specs.Spelling.{SpellsNodes}
 use Rattle.uefi_path.specs.OneNode.{one_encoding}
@@ -85,7 +86,7 @@ HasNodes-node P rest has = next_of_others P [] has.0 rest has.2.0 tt tt has.1 ha
 pub HasNodes-after : (P : Node → Type 0) (rest after : List ℕ) (n : Node) → HasNodes P rest → Fits n → (P n → ⊥) → rest ≡ encoding n ++ after → HasNodes P after
 HasNodes-after P rest after n has fits not_so e = go has.0 has.1 has.2
   where
-    go : (nodes : List Node) → AreEndedBy P nodes → IsFront (joined nodes) rest → HasNodes P after
+    go : (nodes : List Node) → AreEndedBy P nodes → IsPrefix (joined nodes) rest → HasNodes P after
     go [] ended front = absurd ended.end
     go (m ∷ []) ended front =
         let first = one_encoding n m after ([] ++ front.0) fits ended.each.0 (sym e ∙ front.1 ∙ append_assoc (encoding m) [] front.0) in

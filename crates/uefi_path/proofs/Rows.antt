@@ -2,7 +2,8 @@
 use Rattle.std.proofs.Common.{◌≡◌, ℕ, ◌+◌, ◌*◌, ◌<◌, ◌≤◌, List, [], ◌∷◌, ◌++◌, length, refl, ◌∙◌, ap, arith, lit<, lit≤, append_assoc, length-append}
 use Rattle.std.specs.Int.{w16, to_le_bytes, from_le_bytes}
 use Rattle.std.proofs.lemmas.Nat.{from_le_bytes-to_le_bytes_2}
-use Rattle.uefi_path.specs.Node.{Node, Fits, encoding, joined, IsFront, IsEnd, IsEndEntire}
+use Rattle.uefi_path.specs.Node.{Node, Fits, encoding, joined, IsEnd, IsEndEntire}
+use Rattle.uefi_base.specs.Prefix.{IsPrefix}
 use Rattle.uefi_path.specs.Path.{AreEndedBy, IsPath}
 use Rattle.uefi_path.specs.Rows.{node, first_part, second_part, unknown_end, end_entire, TwoInstances, AnyEnd, EndWithData, NoPath, RowsHold}
 use Rattle.uefi_path.proofs.Steps.{AreEndedBy-cons}
@@ -82,23 +83,23 @@ no_path = record {
   endless = λ has. endless has.0 has.1 has.2;
 }
   where
-    empty : (nodes : List Node) → IsPath nodes → IsFront (joined nodes) [] → ⊥
+    empty : (nodes : List Node) → IsPath nodes → IsPrefix (joined nodes) [] → ⊥
     empty [] path front = path.end
     empty (n ∷ nodes) path front = absurd (omega (arith, ap length front.1))
 
-    short : (nodes : List Node) → IsPath nodes → IsFront (joined nodes) (0xa0 ∷ 0xb0 ∷ 3 ∷ 0 ∷ []) → ⊥
+    short : (nodes : List Node) → IsPath nodes → IsPrefix (joined nodes) (0xa0 ∷ 0xb0 ∷ 3 ∷ 0 ∷ []) → ⊥
     short [] path front = path.end
     short (n ∷ nodes) path front =
         let header = stated 0xa0 0xb0 3 0 [] n (joined nodes ++ front.0) path.each.0 (front.1 ∙ append_assoc (encoding n) (joined nodes) front.0) in
         absurd (omega (arith, header.0))
 
-    long : (nodes : List Node) → IsPath nodes → IsFront (joined nodes) (0xa0 ∷ 0xb0 ∷ 0xff ∷ 0xff ∷ []) → ⊥
+    long : (nodes : List Node) → IsPath nodes → IsPrefix (joined nodes) (0xa0 ∷ 0xb0 ∷ 0xff ∷ 0xff ∷ []) → ⊥
     long [] path front = path.end
     long (n ∷ nodes) path front =
         let header = stated 0xa0 0xb0 0xff 0xff [] n (joined nodes ++ front.0) path.each.0 (front.1 ∙ append_assoc (encoding n) (joined nodes) front.0) in
         absurd (omega (arith, header.0, header.1))
 
-    endless : (nodes : List Node) → IsPath nodes → IsFront (joined nodes) (0xa0 ∷ 0xb0 ∷ 6 ∷ 0 ∷ 0x0a ∷ 0x0b ∷ []) → ⊥
+    endless : (nodes : List Node) → IsPath nodes → IsPrefix (joined nodes) (0xa0 ∷ 0xb0 ∷ 6 ∷ 0 ∷ 0x0a ∷ 0x0b ∷ []) → ⊥
     endless [] path front = path.end
     endless (n ∷ []) path front =
         let text : 0xa0 ∷ 0xb0 ∷ 6 ∷ 0 ∷ 0x0a ∷ 0x0b ∷ [] ≡ encoding n ++ ([] ++ front.0) = front.1 ∙ append_assoc (encoding n) [] front.0 in

@@ -1,7 +1,7 @@
 -- Headers of nodes (UEFI 2.10, 10.2 "EFI_DEVICE_PATH_PROTOCOL").
 use Rattle.std.specs.Prelude.{ℕ, ◌<◌, List, ◌∷◌, length, IfOk, OnErr, Result}
 use Rattle.std.specs.Int.{w16, to_le_bytes}
-use Rattle.uefi_path.specs.Node.{IsFront}
+use Rattle.uefi_base.specs.Prefix.{IsPrefix}
 
 -- A header: type, subtype and the stated length of the whole node.
 pub record Header : Type 0 where
@@ -18,5 +18,5 @@ header_bytes h = h.device_type ∷ h.sub_type ∷ to_le_bytes w16 h.length
 
 -- The header in the first four bytes, whatever length it states; or there are fewer bytes.
 pub record ReadsHeader {V E : Type 0} (header_of : V → Header) (bytes : List ℕ) (read : Result V E) : Type 0 where
-  pub ok : IfOk read (λ view. IsFront (header_bytes (header_of view)) bytes)
+  pub ok : IfOk read (λ view. IsPrefix (header_bytes (header_of view)) bytes)
   pub err : OnErr read (length bytes < 4)

@@ -2,6 +2,7 @@
 use Rattle.std.specs.Prelude.{◌≡◌, ℕ, ◌+◌, ◌≤◌, ◌<◌, List, ◌∷◌, ◌++◌, length}
 use Rattle.std.specs.Int.{w16, to_le_bytes}
 use Rattle.std.specs.List.{flat_map, AllByRecursion}
+use Rattle.uefi_base.specs.Prefix.{IsPrefix}
 use Rattle.uefi_path.specs.declared.device_type.TheConstants.DeviceType.{END}
 use Rattle.uefi_path.specs.declared.device_type.TheConstants.DeviceSubType.{END_ENTIRE}
 
@@ -36,10 +37,6 @@ IsEnd node = node.device_type ≡ END.0
 abbrev pub IsEndEntire : Node → Type 0
 IsEndEntire node = (node.device_type ≡ END.0) × (node.sub_type ≡ END_ENTIRE.0)
 
--- The list begins with the front, which may be empty or the whole.
-abbrev pub IsFront : {A : Type 0} → List A → List A → Type 0
-IsFront {A} front whole = (rest : List A) × (whole ≡ front ++ rest)
-
--- Some front of the bytes is a node.
+-- Some prefix of the bytes is a node.
 abbrev pub HasNode : List ℕ → Type 0
-HasNode bytes = (node : Node) × Fits node × IsFront (encoding node) bytes
+HasNode bytes = (node : Node) × Fits node × IsPrefix (encoding node) bytes

@@ -1,7 +1,8 @@
 -- Device paths, and the instances that a path is cut into (UEFI 2.10, 10.2 and 10.3.1).
 use Rattle.std.specs.Prelude.{◌≡◌, ℕ, List, [], ◌∷◌}
 use Rattle.std.specs.List.{flat_map, AllByRecursion}
-use Rattle.uefi_path.specs.Node.{Node, joined, AreNodes, IsEnd, IsEndEntire, IsFront}
+use Rattle.uefi_path.specs.Node.{Node, joined, AreNodes, IsEnd, IsEndEntire}
+use Rattle.uefi_base.specs.Prefix.{IsPrefix}
 
 -- The last of the list, and no other, is so.
 abbrev pub LastAlone : {A : Type 0} → (A → Type 0) → List A → Type 0
@@ -24,7 +25,7 @@ IsInstance = AreEndedBy IsEnd
 
 -- Some front of the bytes is such nodes.
 abbrev pub HasNodes : (Node → Type 0) → List ℕ → Type 0
-HasNodes P bytes = (nodes : List Node) × AreEndedBy P nodes × IsFront (joined nodes) bytes
+HasNodes P bytes = (nodes : List Node) × AreEndedBy P nodes × IsPrefix (joined nodes) bytes
 
 -- Some front of the bytes is a path.
 abbrev pub HasPath : List ℕ → Type 0

@@ -1,6 +1,7 @@
 -- Worked rows of the definitions: what the bytes of some paths are, and that some bytes begin with none.
 use Rattle.std.specs.Prelude.{◌≡◌, ℕ, List, [], ◌∷◌, ◌++◌}
-use Rattle.uefi_path.specs.Node.{Node, joined, IsFront}
+use Rattle.uefi_path.specs.Node.{Node, joined}
+use Rattle.uefi_base.specs.Prefix.{IsPrefix}
 use Rattle.uefi_path.specs.Path.{IsPath, HasPath, AreInstances, all_but_last}
 
 abbrev pub node : ℕ → ℕ → List ℕ → Node
@@ -37,7 +38,7 @@ pub record AnyEnd : Type 0 where
 -- The end-entire node may have data, and anything may follow the path.
 pub record EndWithData : Type 0 where
   pub path : IsPath (node 0x7f 0xff (0xaa ∷ 0xbb ∷ []) ∷ [])
-  pub front : IsFront (joined (node 0x7f 0xff (0xaa ∷ 0xbb ∷ []) ∷ [])) (0x7f ∷ 0xff ∷ 6 ∷ 0 ∷ 0xaa ∷ 0xbb ∷ 0xcc ∷ [])
+  pub front : IsPrefix (joined (node 0x7f 0xff (0xaa ∷ 0xbb ∷ []) ∷ [])) (0x7f ∷ 0xff ∷ 6 ∷ 0 ∷ 0xaa ∷ 0xbb ∷ 0xcc ∷ [])
 
 -- No bytes, a length below 4, a length beyond the bytes, no end-entire node.
 pub record NoPath : Type 0 where

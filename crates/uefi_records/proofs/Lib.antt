@@ -2,7 +2,6 @@ pub mod Equality
 pub mod FirstZero
 pub mod Fronts
 pub mod Judging
-pub mod NamedBits
 pub mod OneTime
 pub mod TimeFront
 pub mod FileInfoWritten

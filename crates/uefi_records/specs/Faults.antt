@@ -3,7 +3,8 @@ use Rattle.std.specs.Prelude.{◌≡◌, ℕ, ℤ, pos, neg_ℤ, Bool, false, tr
 use Rattle.std.specs.Ordering.{int_eq}
 use Rattle.uefi_records.specs.declared.time_error.TimeError.{TimeError}
 use Rattle.uefi_records.specs.Time.{TimeFields, unspecified_zone}
-use Rattle.uefi_records.specs.Flags.{has_bits, named_daylight}
+use Rattle.uefi_base.specs.Flags.{has_bits}
+use Rattle.uefi_records.specs.Flags.{named_daylight}
 
 -- Below the lowest or above the highest.
 abbrev pub is_outside : ℕ → ℕ → ℕ → Bool

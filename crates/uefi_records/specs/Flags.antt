@@ -1,10 +1,5 @@
--- Sets of flags: numbers, of which each bit is a member.
-use Rattle.std.specs.Prelude.{ℕ, Bool, ◌==◌}
-use Rattle.std.specs.Int.RustNames.{bit_and}
-
--- Each bit that is set in the second number is set in the first.
-abbrev pub has_bits : ℕ → ℕ → Bool
-has_bits whole bits = bit_and whole bits == bits
+-- The bits of flag sets that have a name.
+use Rattle.std.specs.Prelude.{ℕ}
 
 -- The bits of daylight that have a name (UEFI 2.10, 8.3 "GetTime()", EFI_TIME_ADJUST_DAYLIGHT and EFI_TIME_IN_DAYLIGHT).
 abbrev pub named_daylight : ℕ

@@ -5,7 +5,8 @@ use Rattle.uefi_records.specs.declared.daylight.TheConstants.Daylight.{ADJUST_DA
 use Rattle.uefi_records.specs.declared.file_attribute.TheConstants.FileAttribute.{READ_ONLY, HIDDEN, SYSTEM, DIRECTORY, ARCHIVE, VALID_ATTR}
 use Rattle.uefi_records.specs.Time.{TimeFields, time_bytes, zero_time, stated_zone, unspecified_zone}
 use Rattle.uefi_records.specs.Faults.{reading_faults, no_fault, daylight_alone, is_zone_outside}
-use Rattle.uefi_records.specs.Flags.{has_bits, named_daylight, named_attributes}
+use Rattle.uefi_base.specs.Flags.{has_bits}
+use Rattle.uefi_records.specs.Flags.{named_daylight, named_attributes}
 use Rattle.uefi_records.specs.Texts.{time_error_text}
 use Rattle.uefi_base.specs.GuidText.{guid_text}
 use Rattle.uefi_records.specs.Verdict.{accepted, too_small, without_name}

@@ -1,6 +1,7 @@
 ghost use Rattle.std.specs.Prelude.{⊤, ◌≡◌, ◌↔◌, [], ◌∷◌, codes, IsTrue, IsSome, IfSome};
 ghost use Rattle.std.specs.Int.RustNames.{bit_or};
-ghost use Rattle.uefi_records.specs.Flags.{has_bits, named_daylight};
+ghost use Rattle.uefi_base.specs.Flags.{has_bits};
+ghost use Rattle.uefi_records.specs.Flags.{named_daylight};
 
 use bitflags::{Flag, Flags, bitflag_items};
 
@@ -39,7 +40,7 @@ impl Daylight {
     }
 
     /// The set of these bits, or none where one of them has no name.
-    #[tactic(auto, using(crate::proofs::NamedBits::named_bits), unfolding(bitflags::proofs::OnLiterals::bitflags_on_literals))]
+    #[tactic(auto, using(uefi_base::proofs::NamedBits::named_bits), unfolding(bitflags::proofs::OnLiterals::bitflags_on_literals))]
     pub fn from_bits(bits: u8) -> Option<Daylight>
         ensures named { IsSome result ↔ IsTrue (has_bits named_daylight bits) }
         ensures same { IfSome result (λ set. daylight_bits set ≡ bits) }

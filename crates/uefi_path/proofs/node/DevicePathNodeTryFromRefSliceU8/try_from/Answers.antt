@@ -1,6 +1,7 @@
 use Rattle.std.proofs.Common.{◌≡◌, ◌++◌, sym, ◌∙◌, subst, arith}
 use Rattle.std.proofs.lemmas.List.{take-append-drop}
-use Rattle.uefi_path.specs.Node.{encoding, IsFront}
+use Rattle.uefi_path.specs.Node.{encoding}
+use Rattle.uefi_base.specs.Prefix.{IsPrefix}
 use Rattle.uefi_path.specs.Header.{header, header_bytes}
 use Rattle.uefi_path.specs.OneNode.{one_encoding}
 use Rattle.uefi_path.specs.Views.{node_of, header_of}
@@ -13,8 +14,8 @@ whole-requires c =
     let h = header_of c.in_ok-header.header in
     let n = c.from-length.result in
     let stated : h.length ≡ n = sym (c.from-length.ensures ∙ c.length.ensures) in
-    let front : IsFront (header_bytes (header h.device_type h.sub_type n)) bytes =
-    subst (λ m. IsFront (header_bytes (header h.device_type h.sub_type m)) bytes) stated c.in_ok-header.ensures.ok in
+    let front : IsPrefix (header_bytes (header h.device_type h.sub_type n)) bytes =
+    subst (λ m. IsPrefix (header_bytes (header h.device_type h.sub_type m)) bytes) stated c.in_ok-header.ensures.ok in
     rw c.split_at.ensures.front
     (node_front bytes h.device_type h.sub_type n (λ i. omega (arith, c.type_inv.bytes i)) front (omega arith) (omega arith) (omega arith))
 

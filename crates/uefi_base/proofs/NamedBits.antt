@@ -3,7 +3,7 @@ use Rattle.std.proofs.Common.{◌≡◌, ℕ, arith}
 use Rattle.std.specs.Prelude.{◌↔◌, IsTrue}
 use Rattle.std.specs.Int.RustNames.{bit_and}
 use Rattle.std.proofs.lemmas.Nat.{and_comm}
-use Rattle.uefi_records.specs.Flags.{has_bits}
+use Rattle.uefi_base.specs.Flags.{has_bits}
 
 -- A set stays where the bits without a name are taken away, exactly where the named ones have all of it.
 pub named_bits : (bits named : ℕ) → (bit_and bits named ≡ bits) ↔ IsTrue (has_bits named bits)
