@@ -6,6 +6,7 @@
 #![tactic(auto)]
 
 pub mod base;
+pub mod full_map;
 pub mod map;
 pub mod path;
 pub mod records;
