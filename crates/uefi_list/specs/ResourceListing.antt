@@ -1,11 +1,11 @@
 -- The lines of a list of PCI resources.
 use Rattle.std.specs.Prelude.{ℕ, List, [], ◌++◌, length, codes, flat_map}
 use Rattle.std.specs.Fmt.{decimal}
-use Rattle.uefi_map.specs.declared.resource.QwordAddressSpaceDescriptor.{QwordAddressSpaceDescriptor}
-use Rattle.uefi_map.specs.declared.resource.ResourceRangeType.{ResourceRangeType}
-use Rattle.uefi_map.specs.declared.resource.ResourceRangeType.TheVariants as kind
-use Rattle.uefi_map.specs.declared.resource_error.ResourceError.{ResourceError}
-use Rattle.uefi_map.specs.declared.resource_error.ResourceError.TheVariants.{NoEndTag, CutRecord, UnknownTag, Memory}
+use Rattle.uefi_map.specs.declared.pci.resource.QwordAddressSpaceDescriptor.{QwordAddressSpaceDescriptor}
+use Rattle.uefi_map.specs.declared.pci.resource.ResourceRangeType.{ResourceRangeType}
+use Rattle.uefi_map.specs.declared.pci.resource.ResourceRangeType.TheVariants as kind
+use Rattle.uefi_map.specs.declared.pci.resource_error.ResourceError.{ResourceError}
+use Rattle.uefi_map.specs.declared.pci.resource_error.ResourceError.TheVariants.{NoEndTag, CutRecord, UnknownTag, Memory}
 use Rattle.uefi_list.specs.HexText.{hex_number}
 
 -- The name of a range's type, with its number where it has no name.
