@@ -18,9 +18,16 @@ pub use self::file::{
 pub use self::flags::{Daylight, FileAttribute};
 pub use self::time::{Time, TimeByteConversionError, TimeError, TimeParams};
 
-mod file;
+// A time, its parts and its errors.
+mod time;
+
+// Sets of flags.
 mod flags;
+
+// The records.
+mod file;
+
+// What holds of all of them.
 pub mod laws;
 #[cfg(test)]
 mod tests;
-mod time;

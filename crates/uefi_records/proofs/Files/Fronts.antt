@@ -2,20 +2,15 @@
 use Rattle.std.proofs.Common.{◌≡◌, ℕ, ◌+◌, ◌-◌, ◌≤◌, List, take, drop, ◌∙◌, ap, arith}
 use Rattle.std.specs.Prelude.{not, ◌==◌, slice_range}
 use Rattle.std.specs.Int.{w32, w64, from_le_bytes}
-use Rattle.std.proofs.lemmas.List.{take-take, drop-take, length-take, get_or-take}
+use Rattle.std.proofs.lemmas.List.{length-take, get_or-take}
+use Rattle.uefi_base.proofs.Ranges.{range-take}
 use Rattle.uefi_records.specs.Time.Fields.{time_in}
 use Rattle.uefi_records.specs.File.Name.{EndsWithName}
 use Rattle.uefi_records.specs.File.FileInfo.{file_fields, size_in}
 use Rattle.uefi_records.specs.File.FileSystemInfo.{file_system_fields}
 
--- A part of a front that reaches so far.
-pub range-take : (n : ℕ) (bytes : List ℕ) (from to : ℕ) → to ≤ n → from ≤ to → slice_range (take n bytes) from to ≡ slice_range bytes from to
-range-take n bytes from to within order =
-    let whole : n ≡ from + (n - from) = omega arith in
-    ap (λ m. take (to - from) (drop from (take m bytes))) whole ∙ ap (take (to - from)) (drop-take from (n - from) bytes) ∙ take-take (to - from) (n - from) (drop from bytes) (omega arith)
-
 pub size_of_front : (n : ℕ) (bytes : List ℕ) → 8 ≤ n → size_in (take n bytes) ≡ size_in bytes
-size_of_front n bytes enough = ap (from_le_bytes w64) (range-take n bytes 0 8 enough (omega arith))
+size_of_front n bytes enough = ap (from_le_bytes w64) (range-take n bytes 0 8 (omega arith) enough)
 
 pub file_fields_of_front : (n : ℕ) (bytes : List ℕ) → 80 ≤ n → file_fields (take n bytes) ≡ file_fields bytes
 file_fields_of_front n bytes enough =
