@@ -3,11 +3,11 @@ use Rattle.std.specs.Prelude.{◌≡◌, ℕ, Option, None, Some, List, [], ◌�
 use Rattle.std.specs.Fmt.{decimal, digits}
 use Rattle.std.specs.Int.{w16, to_be_bytes}
 use Rattle.uefi_base.specs.Ucs2.{characters_of}
-use Rattle.uefi_records.specs.Time.{time_bytes}
-use Rattle.uefi_records.specs.FileInfo.{FileFields}
-use Rattle.uefi_records.specs.declared.file_info.FileInfo.{FileInfo}
-use Rattle.uefi_records.specs.Views.{stated_size, file_fields_of, file_name_of}
-use Rattle.uefi_records.specs.Verdict.{Verdict, without_name, too_small, accepted}
+use Rattle.uefi_records.specs.Time.Fields.{time_bytes}
+use Rattle.uefi_records.specs.File.FileInfo.{FileFields}
+use Rattle.uefi_records.specs.declared.file.file_info.FileInfo.{FileInfo}
+use Rattle.uefi_records.specs.File.Views.{stated_size, file_fields_of, file_name_of}
+use Rattle.uefi_records.specs.File.Verdict.{Verdict, without_name, too_small, accepted}
 use Rattle.uefi_list.specs.HexText.{hex_of}
 
 -- Four hex digits a unit, joined.

@@ -1,6 +1,6 @@
 ghost use Rattle.std.specs.Prelude.{◌≤◌, ◌<◌, length, take, slice_index, OnOk};
 ghost use Rattle.uefi_base.specs.Views.{slice_units, error_data};
-ghost use Rattle.uefi_records.specs.Views.{stated_size, file_fields_of};
+ghost use Rattle.uefi_records.specs.File.Views.{stated_size, file_fields_of};
 ghost use Rattle.uefi_list.specs.HexText.{AppendsText};
 ghost use Rattle.uefi_list.specs.InfoListing.{info_text, size_lines, stamp_line, attribute_line, name_line, units_field, unit_hex, refused_info_line};
 
