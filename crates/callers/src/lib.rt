@@ -6,6 +6,8 @@
 #![tactic(auto)]
 
 pub mod base;
+pub mod events;
+pub mod logs;
 pub mod map;
 pub mod path;
 pub mod records;
