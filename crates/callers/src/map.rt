@@ -1,9 +1,9 @@
 ghost use Rattle.std.specs.Prelude.{◌≡◌, ◌^◌, ◌<◌, ◌≤◌, ◌↔◌, length, sum_by, slice_set, string_bytes, SomeIff, Some, IsTrue, IsNone, IfSome, IfOk};
-ghost use Rattle.uefi_map.specs.Descriptor.{Fits, zero_descriptor};
+ghost use Rattle.uefi_map.specs.memory.Descriptor.{Fits, zero_descriptor};
 ghost use Rattle.uefi_base.specs.Flags.{has_bits};
-ghost use Rattle.uefi_map.specs.Map.{IsMap, IsWithDescriptor, count_of, entries_of};
-ghost use Rattle.uefi_map.specs.Texts.{map_error_text};
-ghost use Rattle.uefi_map.specs.Views.{attribute_bits, entries_left, key_number, ref_bytes, ref_meta};
+ghost use Rattle.uefi_map.specs.memory.Map.{IsMap, IsWithDescriptor, count_of, entries_of};
+ghost use Rattle.uefi_map.specs.memory.Texts.{map_error_text};
+ghost use Rattle.uefi_map.specs.memory.Views.{attribute_bits, entries_left, key_number, ref_bytes, ref_meta};
 
 use std::alloc::{AllocError, Global};
 use uefi_map::laws::stride_free;

@@ -2,10 +2,10 @@ ghost use Rattle.std.specs.Prelude.{◌≡◌, ◌↔◌, ◌≤◌, ℕ, List, 
 ghost use Rattle.uefi_base.specs.Buffer.{put_front};
 ghost use Rattle.uefi_base.specs.Unaligned.{unit_bytes};
 ghost use Rattle.uefi_base.specs.Views.{text_units};
-ghost use Rattle.uefi_records.specs.FileInfo.{file_info_verdict};
-ghost use Rattle.uefi_records.specs.FileSystemInfo.{volume_label_size};
-ghost use Rattle.uefi_records.specs.Verdict.{accepted};
-ghost use Rattle.uefi_records.specs.Views.{file_info_key};
+ghost use Rattle.uefi_records.specs.File.FileInfo.{file_info_verdict};
+ghost use Rattle.uefi_records.specs.File.FileSystemInfo.{volume_label_size};
+ghost use Rattle.uefi_records.specs.File.Verdict.{accepted};
+ghost use Rattle.uefi_records.specs.File.Views.{file_info_key};
 
 use uefi_base::CStr16;
 use uefi_records::{

@@ -1,7 +1,7 @@
 ghost use Rattle.std.specs.Prelude.{◌≡◌, ◌↔◌, ◌≤◌, List, length, IsTrue, IsNone, IfOk, IfSome};
 ghost use Rattle.std.specs.List.{Any};
-ghost use Rattle.uefi_map.specs.declared.resource.QwordAddressSpaceDescriptor.{QwordAddressSpaceDescriptor};
-ghost use Rattle.uefi_map.specs.ResourceList.{HaveList, HaveFault, HaveSomeList};
+ghost use Rattle.uefi_map.specs.declared.pci.resource.QwordAddressSpaceDescriptor.{QwordAddressSpaceDescriptor};
+ghost use Rattle.uefi_map.specs.pci.ResourceList.{HaveList, HaveFault, HaveSomeList};
 
 use std::alloc::{AllocError, Global};
 use uefi_map::{QwordAddressSpaceDescriptor, ResourceError, ResourceRangeType, parse};

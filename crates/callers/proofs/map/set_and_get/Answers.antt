@@ -1,5 +1,5 @@
 use Rattle.std.proofs.Common.{◌≡◌, ap, ◌∙◌}
-use Rattle.uefi_map.specs.Descriptor.{descriptor}
+use Rattle.uefi_map.specs.memory.Descriptor.{descriptor}
 use Rattle.callers.proofs.map.set_and_get.Goals as goal
 
 pub returns : goal.returns

@@ -1,0 +1,36 @@
+-- Records of PCI resources (ACPI 6.5, 6.4.3.5.1 "QWord Address Space Descriptor").
+use Rattle.std.specs.Prelude.{◌≡◌, ℕ, List, length, slice_index, if◌then◌else◌, ◌==◌}
+use Rattle.uefi_base.specs.LittleEndian.{u64_at}
+use Rattle.uefi_map.specs.declared.pci.resource.QwordAddressSpaceDescriptor.{QwordAddressSpaceDescriptor}
+use Rattle.uefi_map.specs.declared.pci.resource.ResourceRangeType.{ResourceRangeType}
+use Rattle.uefi_map.specs.declared.pci.resource.ResourceRangeType.TheVariants.{Memory, Io, Bus, Unknown}
+
+-- The first byte of a record, and the number of all its bytes.
+abbrev pub record_tag : ℕ
+record_tag = 0x8a
+
+abbrev pub record_length : ℕ
+record_length = 46
+
+-- What a range is made of, by its number.
+abbrev pub range_type : ℕ → ResourceRangeType
+range_type number = if number == 0 then Memory else if number == 1 then Io else if number == 2 then Bus else Unknown number
+
+-- The fields of a record at their places: three bytes, and five numbers of eight bytes, low byte first.
+unfoldable pub resource_in : List ℕ → QwordAddressSpaceDescriptor
+resource_in text = record {
+  resource_range_type = range_type (slice_index text 3);
+  general_flags = slice_index text 4;
+  type_specific_flags = slice_index text 5;
+  granularity = u64_at text 6;
+  address_min = u64_at text 14;
+  address_max = u64_at text 22;
+  translation_offset = u64_at text 30;
+  address_length = u64_at text 38;
+}
+
+-- The text is a record of the descriptor: so many bytes, the tag first, and the fields at their places. The two bytes after the tag are free.
+pub record IsRecord (text : List ℕ) (descriptor : QwordAddressSpaceDescriptor) : Type 0 where
+  pub size : length text ≡ record_length
+  pub tag : slice_index text 0 ≡ record_tag
+  pub fields : descriptor ≡ resource_in text

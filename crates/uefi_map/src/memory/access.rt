@@ -1,0 +1,44 @@
+//! Where a map's descriptors stand in its bytes: the private steps that all maps share.
+
+ghost use Rattle.std.specs.Prelude.{◌≡◌, ◌+◌, ◌<◌, ◌↔◌, length, IsTrue};
+ghost use Rattle.uefi_map.specs.memory.Descriptor.{descriptor, with_descriptor};
+ghost use Rattle.uefi_map.specs.memory.Map.{IsMap, AreSorted, count_of};
+
+use super::descriptor::{DESCRIPTOR_LENGTH, MemoryDescriptor};
+use super::meta::MemoryMapMeta;
+
+/// The descriptor at an index of a map.
+pub(crate) fn read_at(bytes: &[u8], meta: &MemoryMapMeta, i: usize) -> MemoryDescriptor
+    requires map { IsMap (length bytes.now) meta.now }
+    requires within { i < count_of meta.now }
+    ensures { result ≡ descriptor bytes.now meta.now.desc_size i }
+{
+    let place = meta.place(i);
+    MemoryDescriptor::read(&bytes[place..place + DESCRIPTOR_LENGTH])
+}
+
+/// Writes the descriptor at an index of a map.
+pub(crate) fn write_at(bytes: &mut [u8], meta: &MemoryMapMeta, i: usize, entry: &MemoryDescriptor)
+    requires map { IsMap (length bytes.old) meta.now }
+    requires within { i < count_of meta.now }
+    ensures { bytes.new ≡ with_descriptor bytes.old meta.now.desc_size i entry.now }
+{
+    let place = meta.place(i);
+    entry.write(&mut bytes[place..place + DESCRIPTOR_LENGTH]);
+}
+
+/// Whether no descriptor of a map begins below the one before it.
+pub(crate) fn are_sorted(bytes: &[u8], meta: &MemoryMapMeta) -> bool
+    requires { IsMap (length bytes.now) meta.now }
+    ensures { IsTrue result ↔ AreSorted bytes.now meta.now }
+{
+    let mut last = 0;
+    for i in 0..meta.entry_count() {
+        let start = read_at(bytes, meta, i).phys_start;
+        if start < last {
+            return false;
+        }
+        last = start;
+    }
+    true
+}
