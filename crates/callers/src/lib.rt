@@ -6,7 +6,9 @@
 #![tactic(auto)]
 
 pub mod base;
+pub mod events;
 pub mod full_map;
+pub mod logs;
 pub mod map;
 pub mod path;
 pub mod records;
