@@ -2,34 +2,38 @@
 use Rattle.std.specs.Prelude.{ℕ, zero, suc, ◌+◌, ◌*◌, ◌/◌, ◌%◌, ◌^◌, ◌≤◌, ◌<◌, ◌≡◌, ◌≢◌, List, [], ◌∷◌, length, take, drop, Option, Some, None, if◌then◌else◌, nat_lt, nat_le}
 use Rattle.uefi_map.specs.declared.memory.meta.MemoryMapMeta.{MemoryMapMeta}
 use Rattle.uefi_map.specs.declared.memory.descriptor.MemoryDescriptor.{MemoryDescriptor}
-use Rattle.uefi_map.specs.memory.Descriptor.{descriptor, with_descriptor}
+use Rattle.uefi_map.specs.memory.Descriptor.{descriptor_length, descriptor_alignment, descriptor, with_descriptor}
 
 -- So many bytes are a map with these sizes: the stride has room for a descriptor and keeps it aligned, and the map is whole strides and within the bytes.
 pub record IsMap (length : ℕ) (meta : MemoryMapMeta) : Type 0 where
-  pub room : 40 ≤ meta.desc_size
-  pub aligned : meta.desc_size % 8 ≡ 0
+  pub room : descriptor_length ≤ meta.desc_size
+  pub aligned : meta.desc_size % descriptor_alignment ≡ 0
   pub whole : meta.map_size % meta.desc_size ≡ 0
   pub within : meta.map_size ≤ length
 
 -- The same of the sizes alone: the map is whole strides.
 pub record HasWholeStrides (meta : MemoryMapMeta) : Type 0 where
-  pub room : 40 ≤ meta.desc_size
-  pub aligned : meta.desc_size % 8 ≡ 0
+  pub room : descriptor_length ≤ meta.desc_size
+  pub aligned : meta.desc_size % descriptor_alignment ≡ 0
   pub whole : meta.map_size % meta.desc_size ≡ 0
 
 -- The sizes of the map in so many bytes: these, or those of an empty map where the bytes have no room for it.
 abbrev pub meta_within : ℕ → MemoryMapMeta → MemoryMapMeta
 meta_within length meta = record meta { map_size = if nat_le meta.map_size length then meta.map_size else 0 }
 
+-- The length of the longest map that counts as sane, 1 GiB.
+abbrev pub max_sane_size : ℕ
+max_sane_size = 2 ^ 30
+
 -- The sizes are such as firmware gives: a stride with room for a descriptor, and a map of 1 byte to 1 GiB.
 pub record IsSane (meta : MemoryMapMeta) : Type 0 where
-  pub room : 40 ≤ meta.desc_size
+  pub room : descriptor_length ≤ meta.desc_size
   pub some : 1 ≤ meta.map_size
-  pub not_huge : meta.map_size ≤ 2 ^ 30
+  pub not_huge : meta.map_size ≤ max_sane_size
 
 -- The bytes are whole strides, each with room for a descriptor.
 pub record AreStrides (stride : ℕ) (bytes : List ℕ) : Type 0 where
-  pub room : 40 ≤ stride
+  pub room : descriptor_length ≤ stride
   pub whole : length bytes % stride ≡ 0
 
 -- How many descriptors there are.
@@ -62,5 +66,5 @@ pub record SetsOnly (old new : List ℕ) (meta : MemoryMapMeta) (i : ℕ) (d : M
   pub set : descriptor new meta.desc_size i ≡ d
   pub others : (j : ℕ) → j < count_of meta → j ≢ i → descriptor new meta.desc_size j ≡ descriptor old meta.desc_size j
   pub before : take (i * meta.desc_size) new ≡ take (i * meta.desc_size) old
-  pub after : drop (i * meta.desc_size + 40) new ≡ drop (i * meta.desc_size + 40) old
+  pub after : drop (i * meta.desc_size + descriptor_length) new ≡ drop (i * meta.desc_size + descriptor_length) old
   pub same_length : length new ≡ length old
