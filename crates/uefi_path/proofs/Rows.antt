@@ -4,7 +4,7 @@ use Rattle.std.specs.Int.{w16, to_le_bytes, from_le_bytes}
 use Rattle.std.proofs.lemmas.Nat.{from_le_bytes-to_le_bytes_2}
 use Rattle.uefi_path.specs.Node.{Node, Fits, encoding, joined, IsFront, IsEnd, IsEndEntire}
 use Rattle.uefi_path.specs.Path.{AreEndedBy, IsPath}
-use Rattle.uefi_path.specs.Rows.{node, first_part, second_part, unknown_end, end_entire, TwoInstances, AnyEnd, EndWithData, NoPath, RowsHold}
+use Rattle.uefi_path.specs.Rows.{node, first_part, second_part, unknown_end, end_entire, TwoInstances, AnyEnd, EndWithData, NoPath, Nodes, RowsHold}
 use Rattle.uefi_path.proofs.Steps.{AreEndedBy-cons}
 
 fits : (t s : ℕ) (d : List ℕ) → t < 256 → s < 256 → length d ≤ 65531 → Fits (node t s d)
@@ -48,6 +48,7 @@ two_instances = record {
     whole = refl;
   };
   text = refl;
+  nodes = refl;
 }
 
 any_end : AnyEnd
@@ -60,10 +61,13 @@ any_end =
     }
 
 end_with_data : EndWithData
-end_with_data = record {
-  path = last IsEndEntire _ (fits _ _ _ (lit< tt) (lit< tt) (lit≤ tt)) (refl, refl);
-  front = (0xcc ∷ [], refl);
-}
+end_with_data =
+    let fits_end : Fits (node 0x7f 0xff (0xaa ∷ 0xbb ∷ [])) = fits _ _ _ (lit< tt) (lit< tt) (lit≤ tt) in record {
+      path = last IsEndEntire _ fits_end (refl, refl);
+      front = (0xcc ∷ [], refl);
+      instance = record { each = (last IsEnd _ fits_end refl, tt); whole = refl };
+      nodes = refl;
+    }
 
 -- What the four header bytes of a node at the front state.
 stated : (a b c d : ℕ) (s : List ℕ) (n : Node) (x : List ℕ) → Fits n → a ∷ b ∷ c ∷ d ∷ s ≡ encoding n ++ x
@@ -108,5 +112,17 @@ no_path = record {
         let header = stated 0xa0 0xb0 6 0 (0x0a ∷ 0x0b ∷ []) n (joined (m ∷ nodes) ++ front.0) path.each.0 (front.1 ∙ append_assoc (encoding n) (joined (m ∷ nodes)) front.0) in
         absurd (omega (arith, header.0, header.1))
 
+nodes : Nodes
+nodes = record {
+  fits = first_nodes_fit.0;
+  front = ([], refl);
+  long = λ has.
+      let header = stated 0xa0 0xb0 7 0 (0x0a ∷ 0x0b ∷ []) has.0 has.2.0 has.1 has.2.1 in
+      absurd (omega (arith, header.0, header.1));
+  short = λ has.
+      let header = stated 0xa0 0xb0 3 0 (0x0a ∷ 0x0b ∷ []) has.0 has.2.0 has.1 has.2.1 in
+      absurd (omega (arith, header.0));
+}
+
 pub rows_hold : RowsHold
-rows_hold = (two_instances, any_end, end_with_data, no_path)
+rows_hold = (two_instances, any_end, end_with_data, no_path, nodes)

@@ -34,6 +34,4 @@ mod loaded_image;
 mod node;
 mod node_iter;
 mod path;
-#[cfg(test)]
-mod tests;
 mod walk;
