@@ -1,6 +1,7 @@
 //! Laws of the definitions. Each holds of every value of them, and takes nothing to run.
 
 ghost use Rattle.uefi_base.specs.Laws.{NumbersReadBack, UnitsReadBack, UnitsByPlace};
+ghost use Rattle.uefi_base.specs.Rows.{RowsHold};
 
 /// A number is read back where its bytes stand, whatever is before and after them; and the bytes of
 /// a number that was read are those that stand there.
@@ -22,4 +23,11 @@ pub fn units_read_back()
 #[tactic(auto, using(crate::proofs::UnitsOfBytes::units_by_place))]
 pub fn units_by_place()
     ensures { UnitsByPlace }
+{}
+
+/// The definitions hold on worked rows: some units are a text or have a fault, some bytes are
+/// numbers and units, and a GUID and a status have a text and a code. Each row is a theorem.
+#[tactic(auto, using(crate::proofs::Rows::rows_hold))]
+pub fn worked_rows()
+    ensures { RowsHold }
 {}

@@ -1,0 +1,11 @@
+//! Tests of the library `uefi_base` over its public names.
+#![tactic(auto)]
+
+#[cfg(test)]
+mod memory;
+#[cfg(test)]
+mod texts;
+#[cfg(test)]
+mod units;
+#[cfg(test)]
+mod values;
