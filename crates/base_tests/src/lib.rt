@@ -1,4 +1,5 @@
-//! Tests of the library `uefi_base` over its public names.
+//! Tests of the library `uefi_base` over its public names: worked rows, and calls that run out of
+//! memory.
 #![tactic(auto)]
 
 #[cfg(test)]

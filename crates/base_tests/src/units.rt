@@ -1,73 +1,47 @@
-use std::alloc::Global;
 use std::test::Fail;
-use test_bytes::{each_reads, each_shows};
+use test_bytes::{same, same_text};
 use uefi_base::UnalignedSlice;
 
-/// How many units the bytes have, whether there are none, and the units at the first four indices.
-fn units(input: &[u8]) -> Option<(usize, bool, [Option<u16>; 4])> {
-    if input.len() % 2 != 0 {
-        return None;
+/// What an iterator over units gives in five steps, with the count that is left before each.
+fn steps(slice: UnalignedSlice<'_>) -> [(usize, Option<u16>); 5] {
+    let mut units = slice.iter();
+    let mut given = [(0, None); 5];
+    for step in &mut given {
+        *step = (units.len(), units.next());
     }
-    let units = UnalignedSlice::new(input);
-    let first = [units.get(0), units.get(1), units.get(2), units.get(3)];
-    Some((units.len(), units.is_empty(), first))
+    given
 }
 
 #[test]
-fn bytes_have_their_units(rt: HostRuntime) -> Result<(), Fail> {
-    let rows = [
-        (
-            "6100 00d8 0000",
-            Some((3, false, [Some(0x61), Some(0xd800), Some(0), None])),
-        ),
-        ("", Some((0, true, [None; 4]))),
+fn bytes_have_their_units() -> Result<(), Fail> {
+    let slice = UnalignedSlice::new(b"\x61\0\0\xd8\0\0");
+    same("length", &(slice.len(), slice.is_empty()), &(3, false))?;
+    let got = [slice.get(0), slice.get(1), slice.get(2), slice.get(3)];
+    same("get", &got, &[Some(0x61), Some(0xd800), Some(0), None])?;
+    same("size hint", &slice.iter().size_hint(), &(3, Some(3)))?;
+    let expected = [
+        (3, Some(0x61)),
+        (2, Some(0xd800)),
+        (1, Some(0)),
+        (0, None),
+        // The iterator stays ended.
+        (0, None),
     ];
-    each_reads(rt.alloc(), &rows, units)
-}
-
-/// What the iterator says before each of five steps of how many units are left, and what it gives.
-fn steps(input: &[u8]) -> Option<[(usize, (usize, Option<usize>), Option<u16>); 5]> {
-    if input.len() % 2 != 0 {
-        return None;
-    }
-    let mut units = UnalignedSlice::new(input).iter();
-    let mut steps = [(0, (0, None), None); 5];
-    for step in &mut steps {
-        *step = (units.len(), units.size_hint(), units.next());
-    }
-    Some(steps)
+    same("steps", &steps(slice), &expected)
 }
 
 #[test]
-fn units_come_in_order_and_stay_ended(rt: HostRuntime) -> Result<(), Fail> {
-    let ended = (0, (0, Some(0)), None);
-    let rows = [
-        (
-            "6100 00d8 0000",
-            Some([
-                (3, (3, Some(3)), Some(0x61)),
-                (2, (2, Some(2)), Some(0xd800)),
-                (1, (1, Some(1)), Some(0)),
-                ended,
-                ended,
-            ]),
-        ),
-        ("", Some([ended; 5])),
-    ];
-    each_reads(rt.alloc(), &rows, steps)
-}
-
-/// The characters of the text that the units over the bytes are.
-fn characters(alloc: Global, input: &[u8]) -> Result<String, Fail> {
-    if input.len() % 2 != 0 {
-        return Err(Fail::new("the bytes are odd in number"));
-    }
-    let text = UnalignedSlice::new(input).to_cstring16(alloc)?;
-    Ok(text.as_cstr16().to_string(alloc)?)
+fn no_bytes_have_no_unit() -> Result<(), Fail> {
+    let slice = UnalignedSlice::new(&[]);
+    same("length", &(slice.len(), slice.is_empty()), &(0, true))?;
+    same("get", &slice.get(0), &None)?;
+    same("size hint", &slice.iter().size_hint(), &(0, Some(0)))?;
+    same("steps", &steps(slice), &[(0, None); 5])
 }
 
 #[test]
 fn units_over_bytes_make_a_text(rt: HostRuntime) -> Result<(), Fail> {
-    let rows = [("6100 0000", "a"), ("6100 6200 0000", "ab"), ("0000", "")];
-    each_shows(rt.alloc(), &rows, characters)
+    let text = UnalignedSlice::new(b"a\0\0\0").to_cstring16(rt.alloc())?;
+    let characters = text.as_cstr16().to_string(rt.alloc())?;
+    same_text("6100 0000", characters.as_str(), "a")
 }

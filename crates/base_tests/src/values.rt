@@ -1,78 +1,66 @@
 use std::test::Fail;
-use test_bytes::{each_gives, holds, same, same_text};
+use test_bytes::{same, same_text};
 use uefi_base::little_endian::{u16_at, u32_at, u64_at};
 use uefi_base::{Align, Error, Guid, Identify, Status, laws};
 
-/// The GUID of a file information record.
+/// The GUID of file information records.
 const FILE_INFO: [u8; 16] = *b"\x92\x6e\x57\x09\x3f\x6d\xd2\x11\x8e\x39\x00\xa0\xc9\x69\x72\x3b";
 
 #[test]
 fn a_guid_has_its_bytes_and_its_text(rt: HostRuntime) -> Result<(), Fail> {
     let guid = Guid::from_bytes(FILE_INFO);
-    same("its bytes", &guid.to_bytes(), &FILE_INFO)?;
+    same("bytes", &guid.to_bytes(), &FILE_INFO)?;
     let text = guid.to_string(rt.alloc())?;
-    same_text(
-        "its text",
-        text.as_str(),
-        "09576e92-6d3f-11d2-8e39-00a0c969723b",
-    )
+    same_text("text", text.as_str(), "09576e92-6d3f-11d2-8e39-00a0c969723b")
 }
 
 #[test]
 fn guids_are_equal_where_their_bytes_are() -> Result<(), Fail> {
     let mut other = FILE_INFO;
     other[15] = 0x3c;
-    same("equal", &Guid(FILE_INFO), &Guid::from_bytes(FILE_INFO))?;
-    holds("another last byte", Guid(FILE_INFO) != Guid(other))
-}
-
-fn code(status: &Status) -> u64 {
-    status.code()
+    let found = [
+        Guid(FILE_INFO) == Guid::from_bytes(FILE_INFO),
+        Guid(FILE_INFO) == Guid(other),
+    ];
+    same("equality", &found, &[true, false])
 }
 
 #[test]
 fn statuses_have_their_codes() -> Result<(), Fail> {
-    let rows = [
-        (Status::INVALID_PARAMETER, 0x8000_0000_0000_0002),
-        (Status::BAD_BUFFER_SIZE, 0x8000_0000_0000_0004),
-        (Status::BUFFER_TOO_SMALL, 0x8000_0000_0000_0005),
-        (Status::OUT_OF_RESOURCES, 0x8000_0000_0000_0009),
+    let found = [
+        Status::INVALID_PARAMETER.code(),
+        Status::BAD_BUFFER_SIZE.code(),
+        Status::BUFFER_TOO_SMALL.code(),
+        Status::OUT_OF_RESOURCES.code(),
     ];
-    each_gives(&rows, code)
+    let expected = [
+        0x8000_0000_0000_0002,
+        0x8000_0000_0000_0004,
+        0x8000_0000_0000_0005,
+        0x8000_0000_0000_0009,
+    ];
+    same("codes", &found, &expected)
 }
 
 #[test]
 fn an_error_gives_back_its_status_and_data() -> Result<(), Fail> {
     let error = Error::new(Status::BUFFER_TOO_SMALL, Some(88usize));
-    same("its status", &error.status(), &Status::BUFFER_TOO_SMALL)?;
-    same("its data", error.data(), &Some(88))?;
-    same(
-        "equal",
-        &error,
-        &Error::new(Status::BUFFER_TOO_SMALL, Some(88)),
-    )?;
-    holds(
-        "no data",
-        error != Error::new(Status::BUFFER_TOO_SMALL, None),
-    )?;
-    holds(
-        "another status",
-        error != Error::new(Status::BAD_BUFFER_SIZE, Some(88)),
-    )
-}
-
-/// The numbers of 16, 32 and 64 bits that stand at offset 1.
-fn numbers(bytes: &[u8; 9]) -> (u16, u32, u64) {
-    (u16_at(bytes, 1), u32_at(bytes, 1), u64_at(bytes, 1))
+    same("status", &error.status(), &Status::BUFFER_TOO_SMALL)?;
+    same("data", error.data(), &Some(88))?;
+    let found = [
+        error == Error::new(Status::BUFFER_TOO_SMALL, Some(88)),
+        error == Error::new(Status::BUFFER_TOO_SMALL, None),
+        error == Error::new(Status::BAD_BUFFER_SIZE, Some(88)),
+    ];
+    same("equality", &found, &[true, false, false])
 }
 
 #[test]
 fn numbers_stand_low_byte_first() -> Result<(), Fail> {
-    let rows = [(
-        [0xff, 1, 2, 3, 4, 5, 6, 7, 8],
-        (0x0201, 0x0403_0201, 0x0807_0605_0403_0201),
-    )];
-    each_gives(&rows, numbers)
+    let bytes = [0xff, 1, 2, 3, 4, 5, 6, 7, 8];
+    same("u16", &u16_at(&bytes, 1), &0x0201)?;
+    same("u32", &u32_at(&bytes, 1), &0x0403_0201)?;
+    same("u64", &u64_at(&bytes, 1), &0x0807_0605_0403_0201)
 }
 
 /// A type with a GUID and an alignment.
@@ -100,9 +88,9 @@ impl Identify for Label {
 
 #[test]
 fn a_type_has_its_guid_and_its_alignment() -> Result<(), Fail> {
-    same("its alignment", &Label::alignment(), &2)?;
-    same("its GUID", &Label::GUID.to_bytes(), &[7; 16])?;
-    holds("its identity", Label::identity() == Label::GUID)
+    same("alignment", &Label::alignment(), &2)?;
+    same("GUID", &Label::GUID.to_bytes(), &[7; 16])?;
+    same("identity", &Label::identity(), &Label::GUID)
 }
 
 #[test]

@@ -27,29 +27,6 @@ where
     Ok(())
 }
 
-/// As [`each_gives`], of a function that allocates.
-///
-/// # Errors
-///
-/// Those of [`each_gives`].
-pub fn each_gives_in<I, T, F>(alloc: Global, rows: &[(I, T)], of: F) -> Result<(), Fail>
-where
-    I: Debug,
-    T: PartialEq + Debug + Drop,
-    F: Fn(Global, &I) -> T,
-    requires { F.IsAlwaysCallable of }
-{
-    for (input, expected) in rows {
-        let found = of(alloc, input);
-        if found != *expected {
-            return Err(Fail::new(format_args!(
-                "{input:?}: found {found:?}, expected {expected:?}"
-            )));
-        }
-    }
-    Ok(())
-}
-
 /// Checks what a function gives for the bytes of each row, which has them as hex.
 ///
 /// # Errors

@@ -1,8 +1,12 @@
 pub mod Characters
+pub mod NamedBits
 pub mod NumbersBack
 pub mod Parts
+pub mod Ranges
 pub mod Rows
 pub mod Sharing
 pub mod UnitsBack
 pub mod UnitsOfBytes
 pub mod WalkNames
+pub mod WriterArgs
+pub mod WriterWalk

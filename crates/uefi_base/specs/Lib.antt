@@ -1,3 +1,5 @@
+pub mod Prefix
+pub mod Flags
 pub mod Ucs2
 pub mod Faults
 pub mod Unaligned
