@@ -223,3 +223,11 @@ pub fn map_fault_text(alloc: Global, error: &MemoryMapError) -> Result<String, A
 {
     error.to_string(alloc)
 }
+
+/// Returns the first entry of a map and clears it. An entry is a value, so the map can be written
+/// to while the entry is still in use.
+pub fn take_first(map: &mut MemoryMapRefMut<'_>) -> Option<MemoryDescriptor> {
+    let first = map.entries().next();
+    let _before = map.set(0, MemoryDescriptor::default());
+    first
+}
