@@ -9,7 +9,7 @@ use Rattle.std.proofs.lemmas.Nat.{from_le_bytes-to_le_bytes_2}
 use Rattle.uefi_path.specs.Node.{Node, Fits, encoding, joined, HasNode, IsEndEntire}
 use Rattle.uefi_path.specs.Path.{AreEndedBy, HasNodes, HasPath}
 use Rattle.uefi_path.specs.OneNode.{one_encoding}
-use Rattle.uefi_path.proofs.Nodes.{header_front, node_front}
+use Rattle.uefi_path.proofs.Nodes.{header_prefix, node_prefix}
 use Rattle.uefi_path.proofs.Steps.{AreEndedBy-cons}
 
 -- The length that bytes 2 and 3 state.
@@ -36,9 +36,9 @@ node_or_none bytes small = by_length (dec_le 4 (length bytes)) (dec_le 4 (stated
     by_length (yes a) (yes b) (no cut) = no (λ has. cut (node_states bytes has).2)
     by_length (yes a) (yes b) (yes c) =
         let n = stated_length bytes in
-        let header = header_front bytes n small a refl in
-        let spelled = node_front bytes (get_or bytes 0 0) (get_or bytes 1 0) n small header b c (omega (arith, small 2, small 3)) in
-        yes (spelled.0, spelled.1.fits, (drop n bytes, sym (take-append-drop n bytes) ∙ ap (λ s. s ++ drop n bytes) spelled.1.text))
+        let header = header_prefix bytes n small a refl in
+        let encoded = node_prefix bytes (get_or bytes 0 0) (get_or bytes 1 0) n small header b c (omega (arith, small 2, small 3)) in
+        yes (encoded.0, encoded.1.fits, (drop n bytes, sym (take-append-drop n bytes) ∙ ap (λ s. s ++ drop n bytes) encoded.1.encoded))
 
 -- What follows a node in bytes is bytes.
 bytes_after : (node : Node) (rest bytes : List ℕ) → bytes ≡ encoding node ++ rest → ((i : ℕ) → get_or bytes i 0 < 256) → (i : ℕ) → get_or rest i 0 < 256

@@ -1,0 +1,19 @@
+-- What stays of a map whose buffer is written: for the laws of `MemoryMapMut`.
+use Rattle.std.specs.Prelude.{ℕ, ◌≡◌, List, length}
+use Rattle.std.proofs.Common.{sym, ◌∙◌, ap}
+use Rattle.std.proofs.lemmas.List.{with_items_is}
+use Rattle.uefi_map.specs.declared.memory.map_ref_mut.MemoryMapRefMut.{MemoryMapRefMut}
+use Rattle.uefi_map.specs.declared.memory.map_owned.MemoryMapOwned.{MemoryMapOwned}
+use Rattle.uefi_map.specs.memory.Map.{meta_within}
+use Rattle.uefi_map.specs.memory.Views.{mut_bytes, mut_meta, mut_with, owned_bytes, owned_meta, owned_with}
+
+-- A buffer of the same length has room for the same map.
+pub mut_meta-with : (map : MemoryMapRefMut) (bytes : List ℕ) → length bytes ≡ length (mut_bytes map) → mut_meta (mut_with map bytes) ≡ mut_meta map
+mut_meta-with map bytes same = ap (λ n. meta_within n map.sizes) same
+
+-- The bytes that a map's own are set to are its bytes.
+pub owned_bytes-with : {A : Type 0} (map : MemoryMapOwned A) (bytes : List ℕ) → length bytes ≡ length (owned_bytes map) → owned_bytes (owned_with map bytes) ≡ bytes
+owned_bytes-with map bytes same = with_items_is map.buffer bytes (same ∙ sym map.buffer.ok.0)
+
+pub owned_meta-with : {A : Type 0} (map : MemoryMapOwned A) (bytes : List ℕ) → length bytes ≡ length (owned_bytes map) → owned_meta (owned_with map bytes) ≡ owned_meta map
+owned_meta-with map bytes same = ap (λ n. meta_within n map.sizes) (ap length (owned_bytes-with map bytes same) ∙ same)
