@@ -5,6 +5,7 @@
 //! reader, and its time as a ratio of the Rust reader's.
 
 mod info;
+mod log;
 mod map;
 mod path;
 mod random;
@@ -62,6 +63,7 @@ fn main() {
     let mut equal = true;
     path::with_cases(|case| equal &= measure(case));
     info::with_cases(|case| equal &= measure(case));
+    log::with_cases(|case| equal &= measure(case));
     map::with_cases(|case| equal &= measure(case));
     resources::with_cases(|case| equal &= measure(case));
     time::with_cases(|case| equal &= measure(case));

@@ -1,11 +1,11 @@
-ghost use Rattle.std.specs.Prelude.{◌≡◌, ◌↔◌, ◌≤◌, ℕ, List, Some, length, take, IsTrue, OnOk, OnErr};
+ghost use Rattle.std.specs.Prelude.{◌≡◌, ◌↔◌, ◌≤◌, ℕ, List, Some, length, take, IsTrue, OnOk, OnErr, IfSome};
 ghost use Rattle.uefi_base.specs.Buffer.{put_front};
 ghost use Rattle.uefi_base.specs.Unaligned.{unit_bytes};
 ghost use Rattle.uefi_base.specs.Views.{text_units};
-ghost use Rattle.uefi_records.specs.FileInfo.{file_info_verdict};
-ghost use Rattle.uefi_records.specs.FileSystemInfo.{volume_label_size};
-ghost use Rattle.uefi_records.specs.Verdict.{accepted};
-ghost use Rattle.uefi_records.specs.Views.{file_info_key};
+ghost use Rattle.uefi_records.specs.File.FileInfo.{file_info_verdict};
+ghost use Rattle.uefi_records.specs.File.FileSystemInfo.{volume_label_size};
+ghost use Rattle.uefi_records.specs.File.Verdict.{accepted};
+ghost use Rattle.uefi_records.specs.File.Views.{file_info_key};
 
 use uefi_base::CStr16;
 use uefi_records::{
@@ -45,4 +45,18 @@ pub fn is_same_file(info: &FileInfo<'_>, other: &FileInfo<'_>) -> bool
     ensures { IsTrue result ↔ (file_info_key info.now ≡ file_info_key other.now) }
 {
     info == other
+}
+
+/// Returns the number of units in the record of a label, if 64 bytes have room for it. The storage
+/// can be written to again once the record is no longer in use.
+pub fn unit_count(label: &CStr16<'_>) -> Option<usize>
+    ensures { IfSome result (λ count. count ≡ length (text_units label.now)) }
+{
+    let mut storage = [0; 64];
+    let count = match FileSystemVolumeLabel::new(&mut storage, label) {
+        Ok(record) => record.volume_label().len(),
+        Err(_) => return None,
+    };
+    storage[0] = 1;
+    Some(count)
 }

@@ -1,8 +1,9 @@
 ghost use Rattle.std.specs.Prelude.{◌≡◌, ◌≤◌, ◌↔◌, string_bytes, IsTrue, IsOk, IfOk};
-ghost use Rattle.uefi_records.specs.Time.{without_pads};
+ghost use Rattle.uefi_records.specs.Time.Fields.{without_pads};
 ghost use Rattle.uefi_base.specs.Flags.{has_bits};
-ghost use Rattle.uefi_records.specs.Texts.{time_error_text};
-ghost use Rattle.uefi_records.specs.Views.{time_of, bytes_of_time, attribute_bits};
+ghost use Rattle.uefi_records.specs.Time.Texts.{time_error_text};
+ghost use Rattle.uefi_records.specs.Time.Views.{time_of, bytes_of_time};
+ghost use Rattle.uefi_records.specs.Flags.Views.{attribute_bits};
 
 use std::alloc::{AllocError, Global};
 use uefi_records::laws::one_time;

@@ -2,6 +2,7 @@ pub mod Characters
 pub mod NamedBits
 pub mod NumbersBack
 pub mod Parts
+pub mod Ranges
 pub mod Rows
 pub mod Sharing
 pub mod UnitsBack

@@ -1,7 +1,7 @@
 //! The crate on worked rows.
 
 ghost use Rattle.std.specs.Prelude.{◌≡◌};
-ghost use Rattle.uefi_map.specs.Rows.{RowsHold};
+ghost use Rattle.uefi_map.specs.memory.Rows.{RowsHold};
 
 use super::*;
 use std::process::Abort;
@@ -74,7 +74,7 @@ fn handed_back(buffer: Vec<u8>, meta: MemoryMapMeta) -> Option<Vec<u8>> {
 }
 
 /// The definitions agree with the rows: each row is a theorem, which holds by computing.
-#[tactic(auto, using(crate::proofs::Rows::rows_hold))]
+#[tactic(auto, using(crate::proofs::memory_lemmas::WorkedRows::rows_hold))]
 fn rows_of_the_definitions()
     ensures { RowsHold }
 {}

@@ -1,14 +1,3 @@
-pub mod Equality
-pub mod FirstZero
-pub mod Fronts
-pub mod Judging
-pub mod OneTime
-pub mod TimeFront
-pub mod FileInfoWritten
-pub mod FileSystemInfoWritten
-pub mod VolumeLabelWritten
-pub mod ReadsBack
-pub mod RecordLaws
+pub mod Times
+pub mod Files
 pub mod Rows
-pub mod Writing
-pub mod Written

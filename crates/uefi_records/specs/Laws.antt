@@ -1,11 +1,11 @@
 -- Laws of times and of records.
 use Rattle.std.specs.Prelude.{◌≡◌, ℕ, ◌+◌, ◌*◌, ◌^◌, ◌<◌, ◌≤◌, List, ◌++◌, length, take}
 use Rattle.uefi_base.specs.Unaligned.{AreUnits, unit_bytes}
-use Rattle.uefi_records.specs.Time.{TimeFields, StandsIn}
-use Rattle.uefi_records.specs.Name.{IsName}
-use Rattle.uefi_records.specs.Verdict.{accepted, verdict}
-use Rattle.uefi_records.specs.FileInfo.{FileFields, FitFile, file_fields, file_info_bytes, file_info_size, file_info_verdict, size_in}
-use Rattle.uefi_records.specs.FileSystemInfo.{FileSystemFields, FitFileSystem, file_system_fields, file_system_info_bytes, file_system_info_size, file_system_info_verdict, volume_label_size, volume_label_verdict}
+use Rattle.uefi_records.specs.Time.Fields.{TimeFields, StandsIn}
+use Rattle.uefi_records.specs.File.Name.{IsName}
+use Rattle.uefi_records.specs.File.Verdict.{accepted, verdict}
+use Rattle.uefi_records.specs.File.FileInfo.{FileFields, FitFile, file_fields, file_info_bytes, file_info_size, file_info_verdict, size_in}
+use Rattle.uefi_records.specs.File.FileSystemInfo.{FileSystemFields, FitFileSystem, file_system_fields, file_system_info_bytes, file_system_info_size, file_system_info_verdict, volume_label_size, volume_label_verdict}
 
 -- At most one time stands in bytes.
 abbrev pub OneTime : Type 0

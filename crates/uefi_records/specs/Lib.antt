@@ -1,13 +1,5 @@
 pub mod Time
 pub mod Flags
-pub mod Faults
-pub mod Reading
-pub mod Name
-pub mod Verdict
-pub mod FileInfo
-pub mod FileSystemInfo
-pub mod Identity
-pub mod Texts
+pub mod File
 pub mod Laws
-pub mod Views
 pub mod Rows

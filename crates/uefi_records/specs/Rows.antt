@@ -1,18 +1,18 @@
 -- Worked rows of the definitions: the bytes of some times and what is wrong with them, the numbers of the flags, and the bytes, sizes and verdicts of some records.
 use Rattle.std.specs.Prelude.{◌≡◌, ℕ, List, take, pos, [], ◌∷◌, ◌++◌, replicate, Some, None, true, false, codes, neg_ℤ}
-use Rattle.uefi_records.specs.declared.time_error.TimeError.{TimeError}
-use Rattle.uefi_records.specs.declared.daylight.TheConstants.Daylight.{ADJUST_DAYLIGHT, IN_DAYLIGHT}
-use Rattle.uefi_records.specs.declared.file_attribute.TheConstants.FileAttribute.{READ_ONLY, HIDDEN, SYSTEM, DIRECTORY, ARCHIVE, VALID_ATTR}
-use Rattle.uefi_records.specs.Time.{TimeFields, time_bytes, zero_time, stated_zone, unspecified_zone}
-use Rattle.uefi_records.specs.Faults.{reading_faults, no_fault, daylight_alone, is_zone_outside}
+use Rattle.uefi_records.specs.declared.time.error.TimeError.{TimeError}
+use Rattle.uefi_records.specs.declared.flags.daylight.TheConstants.Daylight.{ADJUST_DAYLIGHT, IN_DAYLIGHT}
+use Rattle.uefi_records.specs.declared.flags.file_attribute.TheConstants.FileAttribute.{READ_ONLY, HIDDEN, SYSTEM, DIRECTORY, ARCHIVE, VALID_ATTR}
+use Rattle.uefi_records.specs.Time.Fields.{TimeFields, time_bytes, zero_time, stated_zone, unspecified_zone}
+use Rattle.uefi_records.specs.Time.Faults.{reading_faults, no_fault, daylight_alone, is_zone_outside}
 use Rattle.uefi_base.specs.Flags.{has_bits}
-use Rattle.uefi_records.specs.Flags.{named_daylight, named_attributes}
-use Rattle.uefi_records.specs.Texts.{time_error_text}
+use Rattle.uefi_records.specs.Flags.Named.{named_daylight, named_attributes}
+use Rattle.uefi_records.specs.Time.Texts.{time_error_text}
 use Rattle.uefi_base.specs.GuidText.{guid_text}
-use Rattle.uefi_records.specs.Verdict.{accepted, too_small, without_name}
-use Rattle.uefi_records.specs.FileInfo.{FileFields, file_info_bytes, file_info_size, file_info_verdict}
-use Rattle.uefi_records.specs.FileSystemInfo.{FileSystemFields, file_system_info_bytes, file_system_info_size, volume_label_size, volume_label_verdict}
-use Rattle.uefi_records.specs.Identity.{file_info_guid, file_system_info_guid, volume_label_guid}
+use Rattle.uefi_records.specs.File.Verdict.{accepted, too_small, without_name}
+use Rattle.uefi_records.specs.File.FileInfo.{FileFields, file_info_bytes, file_info_size, file_info_verdict}
+use Rattle.uefi_records.specs.File.FileSystemInfo.{FileSystemFields, file_system_info_bytes, file_system_info_size, volume_label_size, volume_label_verdict}
+use Rattle.uefi_records.specs.File.Identity.{file_info_guid, file_system_info_guid, volume_label_guid}
 
 -- The thirty-first of February 2024, local time: every month has 31 days.
 abbrev pub last_of_february : TimeFields

@@ -3,7 +3,7 @@
 ghost use Rattle.uefi_records.specs.Laws.{OneTime, ReadsBack, WrittenAlone};
 
 /// At most one time stands in bytes: sixteen bytes tell all its fields.
-#[tactic(auto, using(crate::proofs::OneTime::one_time))]
+#[tactic(auto, using(crate::proofs::Times::OneTime::one_time))]
 pub fn one_time()
     ensures { OneTime }
 {}
@@ -11,14 +11,14 @@ pub fn one_time()
 /// A record that was written reads back, with the size, the fields and the name that were written:
 /// for every number of written bytes that reaches over its name, in every buffer that it fits,
 /// whatever the buffer holds after it.
-#[tactic(auto, using(crate::proofs::RecordLaws::reads_back))]
+#[tactic(auto, using(crate::proofs::Files::RecordLaws::reads_back))]
 pub fn reads_back()
     ensures { ReadsBack }
 {}
 
 /// What was written decides alone: two buffers of one length that agree on the written bytes get
 /// one verdict, and where a record is accepted one size, the same fields and the same name.
-#[tactic(auto, using(crate::proofs::RecordLaws::written_alone))]
+#[tactic(auto, using(crate::proofs::Files::RecordLaws::written_alone))]
 pub fn written_alone()
     ensures { WrittenAlone }
 {}

@@ -11,28 +11,23 @@
 //! name.
 #![tactic(auto)]
 
-pub use self::daylight::Daylight;
-pub use self::file_attribute::FileAttribute;
-pub use self::file_info::FileInfo;
-pub use self::file_info_creation_error::FileInfoCreationError;
-pub use self::file_protocol_info::FileProtocolInfo;
-pub use self::file_system_info::FileSystemInfo;
-pub use self::file_system_volume_label::FileSystemVolumeLabel;
-pub use self::time::{Time, TimeParams};
-pub use self::time_error::{TimeByteConversionError, TimeError};
-pub use self::write::{write_file_info, write_file_system_info, write_file_system_volume_label};
+pub use self::file::{
+    FileInfo, FileInfoCreationError, FileProtocolInfo, FileSystemInfo, FileSystemVolumeLabel,
+    write_file_info, write_file_system_info, write_file_system_volume_label,
+};
+pub use self::flags::{Daylight, FileAttribute};
+pub use self::time::{Time, TimeByteConversionError, TimeError, TimeParams};
 
-mod daylight;
-mod file_attribute;
-mod file_info;
-mod file_info_creation_error;
-mod file_protocol_info;
-mod file_system_info;
-mod file_system_volume_label;
+// A time, its parts and its errors.
+mod time;
+
+// Sets of flags.
+mod flags;
+
+// The records.
+mod file;
+
+// What holds of all of them.
 pub mod laws;
-mod name;
 #[cfg(test)]
 mod tests;
-mod time;
-mod time_error;
-mod write;

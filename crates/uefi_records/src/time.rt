@@ -1,9 +1,13 @@
 ghost use Rattle.std.specs.Prelude.{◌≡◌, ◌≢◌, ◌≤◌, ◌↔◌, length, IsOk, IfOk, IfErr};
-ghost use Rattle.uefi_records.specs.Time.{Fits, StandsIn, time_bytes, time_in, stated_zone, without_pads, zero_time};
-ghost use Rattle.uefi_records.specs.Faults.{IsValid, range_faults, is_zone_outside};
+ghost use Rattle.uefi_records.specs.Time.Fields.{Fits, StandsIn, time_bytes, time_in, stated_zone, without_pads, zero_time};
+ghost use Rattle.uefi_records.specs.Time.Faults.{IsValid, range_faults, is_zone_outside};
 
-use crate::daylight::Daylight;
-use crate::time_error::{TimeByteConversionError, TimeError};
+pub use self::error::{TimeByteConversionError, TimeError};
+pub use self::params::TimeParams;
+use crate::flags::Daylight;
+
+mod error;
+mod params;
 
 /// The bytes of a time.
 const TIME_LENGTH: usize = 16;
@@ -44,31 +48,9 @@ pub struct Time {
     last_pad: u8,
 }
 
-/// What [`Time::new`] makes a time of.
-#[derive(Clone, Copy, Debug)]
-pub struct TimeParams {
-    /// 1900 to 9999.
-    pub year: u16,
-    /// 1 to 12.
-    pub month: u8,
-    /// 1 to 31, in every month.
-    pub day: u8,
-    /// 0 to 23.
-    pub hour: u8,
-    /// 0 to 59.
-    pub minute: u8,
-    /// 0 to 59.
-    pub second: u8,
-    /// 0 to 999,999,999.
-    pub nanosecond: u32,
-    /// Minutes from UTC, -1440 to 1440, or none for local time.
-    pub time_zone: Option<i16>,
-    /// How daylight saving bears on the time. Any bits will do.
-    pub daylight: Daylight,
-}
-
 impl Time {
-    ghost use Rattle.uefi_records.specs.Views.{time_of, fields_of, daylight_bits};
+    ghost use Rattle.uefi_records.specs.Time.Views.{time_of, fields_of};
+    ghost use Rattle.uefi_records.specs.Flags.Views.{daylight_bits};
 
     /// The time of these fields, with zeros in its padding. No zone is stored as 0x07ff, and
     /// daylight as it is; so the zone 2047 reads back as none.
@@ -295,8 +277,8 @@ fn is_zone_outside(zone: i16) -> bool
 /// has a bit without a name; and as the same with all other fields that are outside their ranges,
 /// where one is.
 impl TryFrom<&[u8]> for Time {
-    ghost use Rattle.uefi_records.specs.Views.{time_of};
-    ghost use Rattle.uefi_records.specs.Reading.{ReadsTime};
+    ghost use Rattle.uefi_records.specs.Time.Views.{time_of};
+    ghost use Rattle.uefi_records.specs.Time.Reading.{ReadsTime};
 
     type Error = TimeByteConversionError;
 
@@ -325,7 +307,7 @@ impl PartialEq for Time {
     ghost use Rattle.std.specs.Prelude.{nat_eq};
     ghost use Rattle.std.specs.Cmp.{partial_equiv_from_equiv, on_per};
     ghost use Rattle.std.specs.Cmp.Lexicographic.{pointwise, nat_list_eq_equiv};
-    ghost use Rattle.uefi_records.specs.Views.{bytes_of_time};
+    ghost use Rattle.uefi_records.specs.Time.Views.{bytes_of_time};
 
     ghost eq = { λ x y. pointwise nat_eq (bytes_of_time x) (bytes_of_time y) };
 
@@ -339,7 +321,7 @@ impl PartialEq for Time {
 impl Eq for Time {
     ghost use Rattle.std.specs.Cmp.{on_equiv};
     ghost use Rattle.std.specs.Cmp.Lexicographic.{nat_list_eq_equiv};
-    ghost use Rattle.uefi_records.specs.Views.{bytes_of_time};
+    ghost use Rattle.uefi_records.specs.Time.Views.{bytes_of_time};
 
     ghost laws = { on_equiv bytes_of_time nat_list_eq_equiv };
 }

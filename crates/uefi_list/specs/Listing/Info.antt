@@ -3,9 +3,9 @@ use Rattle.std.specs.Prelude.{◌≡◌, ℕ, Option, None, Some, List, [], ◌�
 use Rattle.std.specs.Fmt.{decimal}
 use Rattle.std.specs.Int.{w16, to_be_bytes}
 use Rattle.uefi_base.specs.Ucs2.{characters_of}
-use Rattle.uefi_records.specs.Time.{TimeFields, time_bytes}
-use Rattle.uefi_records.specs.FileInfo.{FileFields, file_fields, file_info_verdict, size_in}
-use Rattle.uefi_records.specs.Verdict.{Verdict, without_name, too_small, accepted}
+use Rattle.uefi_records.specs.Time.Fields.{TimeFields, time_bytes}
+use Rattle.uefi_records.specs.File.FileInfo.{FileFields, file_fields, file_info_verdict, size_in}
+use Rattle.uefi_records.specs.File.Verdict.{Verdict, without_name, too_small, accepted}
 use Rattle.uefi_list.specs.declared.listing.Outcome.{Outcome}
 use Rattle.uefi_list.specs.declared.listing.Outcome.TheVariants.{Listed, Refused}
 use Rattle.uefi_list.specs.Listing.Text.{hex_of, hex_number}

@@ -1,10 +1,10 @@
 -- What `map` lists: the memory map that all the bytes are at a stride.
 use Rattle.std.specs.Prelude.{◌≡◌, ◌↔◌, ℕ, Bool, List, ◌++◌, length, codes, flat_map, IsTrue, if◌then◌else◌}
 use Rattle.std.specs.Fmt.{decimal}
-use Rattle.uefi_map.specs.declared.descriptor.MemoryDescriptor.{MemoryDescriptor}
-use Rattle.uefi_map.specs.declared.meta.MemoryMapMeta.{MemoryMapMeta}
-use Rattle.uefi_map.specs.Map.{IsMap, AreSorted, entries_of}
-use Rattle.uefi_map.specs.Views.{attribute_bits}
+use Rattle.uefi_map.specs.declared.memory.descriptor.MemoryDescriptor.{MemoryDescriptor}
+use Rattle.uefi_map.specs.declared.memory.meta.MemoryMapMeta.{MemoryMapMeta}
+use Rattle.uefi_map.specs.memory.Map.{IsMap, AreSorted, entries_of}
+use Rattle.uefi_map.specs.memory.Views.{attribute_bits}
 use Rattle.uefi_list.specs.declared.listing.Outcome.{Outcome}
 use Rattle.uefi_list.specs.declared.listing.Outcome.TheVariants.{Listed, Refused}
 use Rattle.uefi_list.specs.Listing.Text.{hex_number}

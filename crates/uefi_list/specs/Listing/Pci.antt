@@ -1,12 +1,12 @@
 -- What `pci` lists: the PCI resources that the bytes begin with.
 use Rattle.std.specs.Prelude.{◌≡◌, ℕ, List, [], ◌++◌, length, codes, flat_map}
 use Rattle.std.specs.Fmt.{decimal}
-use Rattle.uefi_map.specs.declared.resource.QwordAddressSpaceDescriptor.{QwordAddressSpaceDescriptor}
-use Rattle.uefi_map.specs.declared.resource.ResourceRangeType.{ResourceRangeType}
-use Rattle.uefi_map.specs.declared.resource.ResourceRangeType.TheVariants as kind
-use Rattle.uefi_map.specs.declared.resource_error.ResourceError.{ResourceError}
-use Rattle.uefi_map.specs.declared.resource_error.ResourceError.TheVariants.{NoEndTag, CutRecord, UnknownTag, Memory}
-use Rattle.uefi_map.specs.ResourceList.{HaveList, HaveFault}
+use Rattle.uefi_map.specs.declared.pci.resource.QwordAddressSpaceDescriptor.{QwordAddressSpaceDescriptor}
+use Rattle.uefi_map.specs.declared.pci.resource.ResourceRangeType.{ResourceRangeType}
+use Rattle.uefi_map.specs.declared.pci.resource.ResourceRangeType.TheVariants as kind
+use Rattle.uefi_map.specs.declared.pci.resource_error.ResourceError.{ResourceError}
+use Rattle.uefi_map.specs.declared.pci.resource_error.ResourceError.TheVariants.{NoEndTag, CutRecord, UnknownTag, Memory}
+use Rattle.uefi_map.specs.pci.ResourceList.{HaveList, HaveFault}
 use Rattle.uefi_list.specs.declared.listing.Outcome.{Outcome}
 use Rattle.uefi_list.specs.declared.listing.Outcome.TheVariants.{Listed, Refused}
 use Rattle.uefi_list.specs.Listing.Text.{hex_number}

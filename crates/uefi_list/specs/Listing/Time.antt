@@ -2,11 +2,11 @@
 use Rattle.std.specs.Prelude.{◌≡◌, ℕ, ◌-◌, List, ◌++◌, length, codes, replicate, if◌then◌else◌}
 use Rattle.std.specs.Fmt.{decimal, signed_decimal}
 use Rattle.std.specs.Ordering.{int_eq}
-use Rattle.uefi_records.specs.declared.time_error.TimeByteConversionError.{TimeByteConversionError}
-use Rattle.uefi_records.specs.declared.time_error.TimeByteConversionError.TheVariants.{InvalidFields, InvalidSize}
-use Rattle.uefi_records.specs.Time.{TimeFields, StandsIn, unspecified_zone}
-use Rattle.uefi_records.specs.Faults.{reading_faults, no_fault}
-use Rattle.uefi_records.specs.Reading.{RefusesTime}
+use Rattle.uefi_records.specs.declared.time.error.TimeByteConversionError.{TimeByteConversionError}
+use Rattle.uefi_records.specs.declared.time.error.TimeByteConversionError.TheVariants.{InvalidFields, InvalidSize}
+use Rattle.uefi_records.specs.Time.Fields.{TimeFields, StandsIn, unspecified_zone}
+use Rattle.uefi_records.specs.Time.Faults.{reading_faults, no_fault}
+use Rattle.uefi_records.specs.Time.Reading.{RefusesTime}
 use Rattle.uefi_list.specs.declared.listing.Outcome.{Outcome}
 use Rattle.uefi_list.specs.declared.listing.Outcome.TheVariants.{Listed, Refused}
 

@@ -3,7 +3,8 @@ ghost use Rattle.std.specs.Fmt.{DisplaysOnOk};
 ghost use Rattle.std.specs.Int.{w16, to_be_bytes};
 ghost use Rattle.uefi_base.specs.Ucs2.{characters_of};
 ghost use Rattle.uefi_base.specs.Views.{slice_units, error_data};
-ghost use Rattle.uefi_records.specs.Views.{stated_size, file_fields_of, file_name_of, time_of};
+ghost use Rattle.uefi_records.specs.File.Views.{stated_size, file_fields_of, file_name_of};
+ghost use Rattle.uefi_records.specs.Time.Views.{time_of};
 ghost use Rattle.uefi_list.specs.Listing.Text.{AppendsText};
 ghost use Rattle.uefi_list.specs.Listing.Info.{info_lines, stamp_text, name_field, units_hex, refused_info_line, InfoListing};
 

@@ -1,6 +1,6 @@
 ghost use Rattle.std.specs.Prelude.{◌≡◌, [], string_bytes, flat_map, IfOk, OnOk};
-ghost use Rattle.uefi_map.specs.Map.{entries_of};
-ghost use Rattle.uefi_map.specs.Views.{ref_bytes, ref_meta};
+ghost use Rattle.uefi_map.specs.memory.Map.{entries_of};
+ghost use Rattle.uefi_map.specs.memory.Views.{ref_bytes, ref_meta};
 ghost use Rattle.uefi_list.specs.Listing.Text.{AppendsText};
 ghost use Rattle.uefi_list.specs.Listing.Map.{entry_line, yes_or_no, map_lines, file_meta, MapListing};
 

@@ -1,5 +1,5 @@
 ghost use Rattle.std.specs.Prelude.{◌≡◌, [], string_bytes, IfOk, OnOk, Some};
-ghost use Rattle.uefi_records.specs.Views.{time_of};
+ghost use Rattle.uefi_records.specs.Time.Views.{time_of};
 ghost use Rattle.uefi_list.specs.Listing.Text.{AppendsText};
 ghost use Rattle.uefi_list.specs.Listing.Time.{date_text, clock_text, zone_text, time_line, TimeListing};
 

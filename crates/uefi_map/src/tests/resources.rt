@@ -1,4 +1,4 @@
-ghost use Rattle.uefi_map.specs.ResourceRows.{RowsHold};
+ghost use Rattle.uefi_map.specs.pci.Rows.{RowsHold};
 
 use crate::{QwordAddressSpaceDescriptor, ResourceError, ResourceRangeType, laws, parse};
 use refusing::Refusing;
@@ -211,7 +211,7 @@ fn the_law_takes_nothing_to_run() {
 }
 
 /// The definitions agree with the rows: each row is a theorem, which holds by computing.
-#[tactic(auto, using(crate::proofs::ResourceRows::rows_hold))]
+#[tactic(auto, using(crate::proofs::pci_lemmas::WorkedRows::rows_hold))]
 fn rows_of_the_definitions()
     ensures { RowsHold }
 {}

@@ -1,7 +1,7 @@
 use Rattle.std.proofs.Common.{◌∙◌, ap, ◌++◌, List, ℕ, take, length}
 use Rattle.uefi_base.specs.Views.{error_data}
-use Rattle.uefi_records.specs.FileInfo.{file_info_verdict}
-use Rattle.uefi_records.specs.Views.{stated_size, file_fields_of, file_name_of}
+use Rattle.uefi_records.specs.File.FileInfo.{file_info_verdict}
+use Rattle.uefi_records.specs.File.Views.{stated_size, file_fields_of, file_name_of}
 use Rattle.uefi_list.specs.Listing.Info.{info_lines, refused_info_line}
 use Rattle.uefi_list.proofs.InfoLines.{refuses_info}
 use Rattle.uefi_list.proofs.listing.info.list.Goals as goal

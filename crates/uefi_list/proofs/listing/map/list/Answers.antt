@@ -1,5 +1,5 @@
 use Rattle.std.proofs.Common.{ℕ, List, ◌++◌, ap, ◌∙◌}
-use Rattle.uefi_map.specs.Map.{entries_of}
+use Rattle.uefi_map.specs.memory.Map.{entries_of}
 use Rattle.uefi_list.specs.Listing.Map.{map_lines}
 use Rattle.uefi_list.proofs.MapLines.{lists_map}
 use Rattle.uefi_list.proofs.listing.map.list.Goals as goal

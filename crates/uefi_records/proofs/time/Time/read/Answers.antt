@@ -1,5 +1,5 @@
 use Rattle.std.proofs.Common.{arith, ◌∙◌, to_z-of_z, rules, w16}
-use Rattle.uefi_records.proofs.TimeFront.{time_front}
+use Rattle.uefi_records.proofs.Times.TimeFront.{time_front}
 use Rattle.uefi_records.proofs.time.Time.read.Goals as goal
 
 pub returns-clause-stands : goal.returns-clause-stands

@@ -1,0 +1,3 @@
+-- Times and their bytes.
+pub mod OneTime
+pub mod TimeFront

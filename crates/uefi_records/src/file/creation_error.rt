@@ -1,0 +1,25 @@
+ghost use Rattle.std.specs.Prelude.{Some};
+
+use std::fmt;
+
+/// Why a record was not written.
+#[derive(Clone, Copy, PartialEq, Eq, Debug)]
+pub enum FileInfoCreationError {
+    /// The storage is shorter than the record, which needs this many bytes.
+    InsufficientStorage(usize),
+}
+
+/// `provided buffer was too small. need at least N bytes`, without a newline.
+impl fmt::Display for FileInfoCreationError {
+    ghost use Rattle.uefi_records.specs.File.Texts.{creation_error_text};
+
+    ghost output = { λ error. Some (creation_error_text error) };
+
+    fn fmt<W: fmt::Write>(&self, f: &mut fmt::Formatter<W>) -> fmt::Result {
+        let FileInfoCreationError::InsufficientStorage(size) = self;
+        write!(
+            f,
+            "provided buffer was too small. need at least {size} bytes"
+        )
+    }
+}

@@ -1,0 +1,155 @@
+ghost use Rattle.std.specs.Prelude.{◌≡◌, ◌↔◌, ◌≤◌, Err, length, take, IsOk, IfOk, IfErr, MatchResult};
+ghost use Rattle.std.specs.Borrow.{sem};
+ghost use Rattle.uefi_base.specs.Buffer.{put_front, EndsAs};
+ghost use Rattle.uefi_base.specs.Unaligned.{unit_bytes};
+ghost use Rattle.uefi_base.specs.Views.{slice_units, text_units};
+ghost use Rattle.uefi_records.specs.File.Name.{EndsWithName};
+ghost use Rattle.uefi_records.specs.File.FileSystemInfo.{volume_label_size, volume_label_verdict};
+ghost use Rattle.uefi_records.specs.File.Verdict.{Answers};
+
+use crate::file::creation_error::FileInfoCreationError;
+use crate::file::name::name_end;
+use crate::file::protocol_info::FileProtocolInfo;
+use crate::file::write::write_file_system_volume_label;
+use uefi_base::{Align, CStr16, Error, Guid, Identify, UnalignedSlice};
+
+/// What the record's size is a multiple of.
+pub(crate) const ALIGNMENT: usize = 2;
+
+/// The label of a file system (UEFI 2.10, 13.5 `EFI_FILE_PROTOCOL.GetInfo()`,
+/// `EFI_FILE_SYSTEM_VOLUME_LABEL`).
+///
+/// | offset | bytes | field |
+/// |---|---|---|
+/// | 0 | 2 a unit | label, little-endian, with its NUL |
+///
+/// A view: it borrows the bytes that it was read from or written to, and what it hands out lives as
+/// long as they do. Two are equal where the labels' units are.
+#[derive(Clone, Copy)]
+pub struct FileSystemVolumeLabel<'a> {
+    bytes: &'a [u8],
+    pub ghost named: { EndsWithName 0 bytes.now },
+}
+
+impl<'a> FileSystemVolumeLabel<'a> {
+    ghost use Rattle.uefi_records.specs.File.Views.{volume_label_view, volume_label_of};
+
+    /// The record that stands in the first `written` bytes of the buffer, or in all of it where it
+    /// is shorter.
+    ///
+    /// The label ends with the first zero unit there. Refused as
+    /// [`BAD_BUFFER_SIZE`](uefi_base::Status::BAD_BUFFER_SIZE), with no data, where there is none.
+    pub fn from_uefi(
+        buffer: &'a [u8],
+        written: usize,
+    ) -> Result<FileSystemVolumeLabel<'a>, Error<Option<usize>>>
+        ensures verdict { Answers volume_label_of
+            (volume_label_verdict (take written buffer.now) (length buffer.now)) result }
+    {
+        let end = name_end(buffer, written, 0, ALIGNMENT)?;
+        Ok(FileSystemVolumeLabel {
+            bytes: &buffer[..end],
+        })
+    }
+
+    /// Writes the record to the front of the storage, and answers a view of it.
+    ///
+    /// All that follows stays as it was. Refused as
+    /// [`FileInfoCreationError::InsufficientStorage`], with the record's size, exactly where the
+    /// storage is shorter; every byte then stays as it was.
+    pub fn new(
+        storage: &'a mut [u8],
+        volume_label: &CStr16,
+    ) -> Result<FileSystemVolumeLabel<'a>, FileInfoCreationError>
+        ensures* after { sem 𝓛 (EndsAs storage.entry (λ after. MatchResult result
+            (λ _. after ≡ put_front (unit_bytes (text_units volume_label.now)) storage.old)
+            (λ _. after ≡ storage.old))) }
+        ensures label { IfOk result
+            (λ label. volume_label_of label ≡ text_units volume_label.now) }
+        ensures short { IfErr result (λ error. error ≡ FileInfoCreationError.InsufficientStorage
+            (volume_label_size (length (text_units volume_label.now)))) }
+        ensures fits { IsOk result
+            ↔ (volume_label_size (length (text_units volume_label.now)) ≤ length storage.old) }
+    {
+        let written = write_file_system_volume_label(storage, volume_label);
+        FileSystemVolumeLabel::over(storage, written)
+    }
+
+    /// The label's units, its NUL too.
+    pub fn volume_label(&self) -> UnalignedSlice<'a>
+        ensures { slice_units result ≡ volume_label_of self.now }
+    {
+        UnalignedSlice::new(self.bytes)
+    }
+
+    // The view of what was written, if it was.
+    fn over(
+        bytes: &'a [u8],
+        written: Result<usize, FileInfoCreationError>,
+    ) -> Result<FileSystemVolumeLabel<'a>, FileInfoCreationError>
+        requires { IfOk written
+            (λ end. (end ≤ length bytes.now) × EndsWithName 0 (take end bytes.now)) }
+        ensures seen { MatchResult written
+            (λ end. IfOk result (λ label. volume_label_view label ≡ take end bytes.now))
+            (λ error. result ≡ Err error) }
+        ensures ok { IsOk result ↔ IsOk written }
+    {
+        let end = written?;
+        Ok(FileSystemVolumeLabel {
+            bytes: &bytes[..end],
+        })
+    }
+}
+
+/// Equality of the label's units.
+impl PartialEq for FileSystemVolumeLabel<'_> {
+    ghost use Rattle.std.specs.Prelude.{nat_eq};
+    ghost use Rattle.std.specs.Cmp.{partial_equiv_from_equiv, on_per};
+    ghost use Rattle.std.specs.Cmp.Lexicographic.{pointwise, nat_list_eq_equiv};
+    ghost use Rattle.uefi_records.specs.File.Views.{volume_label_of};
+
+    ghost eq = { λ x y. pointwise nat_eq (volume_label_of x) (volume_label_of y) };
+
+    ghost laws = { on_per volume_label_of (partial_equiv_from_equiv nat_list_eq_equiv) };
+
+    fn eq(&self, other: &Self) -> bool {
+        self.volume_label() == other.volume_label()
+    }
+}
+
+impl Eq for FileSystemVolumeLabel<'_> {
+    ghost use Rattle.std.specs.Cmp.{on_equiv};
+    ghost use Rattle.std.specs.Cmp.Lexicographic.{nat_list_eq_equiv};
+    ghost use Rattle.uefi_records.specs.File.Views.{volume_label_of};
+
+    ghost laws = { on_equiv volume_label_of nat_list_eq_equiv };
+}
+
+impl Align for FileSystemVolumeLabel<'_> {
+    ghost alignment = { 2 };
+
+    fn alignment() -> usize
+        ensures { result ≡ 2 }
+    {
+        ALIGNMENT
+    }
+}
+
+impl Identify for FileSystemVolumeLabel<'_> {
+    ghost use Rattle.uefi_records.specs.File.Identity.{volume_label_guid};
+
+    ghost identity = { volume_label_guid };
+
+    const GUID: Guid = Guid([
+        0xd3, 0xd7, 0x47, 0xdb, 0x81, 0xfe, 0xd3, 0x11, 0x9a, 0x35, 0x00, 0x90, 0x27, 0x3f, 0xc1,
+        0x4d,
+    ]);
+
+    fn identity() -> Guid
+        ensures { result ≡ volume_label_guid }
+    {
+        Self::GUID
+    }
+}
+
+impl FileProtocolInfo for FileSystemVolumeLabel<'_> {}

@@ -1,0 +1,93 @@
+ghost use Rattle.std.specs.Prelude.{⊤, ◌≡◌, ◌↔◌, [], ◌∷◌, codes, IsTrue, IsSome, IfSome};
+ghost use Rattle.std.specs.Int.RustNames.{bit_or};
+ghost use Rattle.uefi_base.specs.Flags.{has_bits};
+ghost use Rattle.uefi_records.specs.Flags.Named.{named_daylight};
+
+use bitflags::{Flag, Flags, bitflag_items};
+
+/// How daylight saving bears on a time: a set of flags in one byte (UEFI 2.10, 8.3 `GetTime()`,
+/// `EFI_TIME`).
+///
+/// Equality and order are those of the bits, and the default is the empty set. A bit without a name
+/// here is kept where [`Daylight::from_bits_retain`] makes the set.
+#[derive(Clone, Copy, PartialEq, Eq, PartialOrd, Ord, Default, Debug)]
+pub struct Daylight(u8);
+
+bitflag_items! {
+    impl Daylight: u8 {
+        /// Daylight saving bears on the time: it is to be set forward where that begins.
+        const ADJUST_DAYLIGHT = 0x01;
+        /// The time was set forward for daylight saving.
+        const IN_DAYLIGHT = 0x02;
+    }
+}
+
+impl Daylight {
+    ghost use Rattle.uefi_records.specs.Flags.Views.{daylight_bits};
+
+    /// The set of no flags.
+    pub fn empty() -> Daylight
+        ensures { daylight_bits result ≡ 0 }
+    {
+        <Daylight as Flags>::empty()
+    }
+
+    /// All bits of the set, those without a name too.
+    pub fn bits(&self) -> u8
+        ensures { result ≡ daylight_bits self.now }
+    {
+        <Daylight as Flags>::bits(self)
+    }
+
+    /// The set of these bits, or none where one of them has no name.
+    #[tactic(auto, using(uefi_base::proofs::NamedBits::named_bits), unfolding(bitflags::proofs::OnLiterals::bitflags_on_literals))]
+    pub fn from_bits(bits: u8) -> Option<Daylight>
+        ensures named { IsSome result ↔ IsTrue (has_bits named_daylight bits) }
+        ensures same { IfSome result (λ set. daylight_bits set ≡ bits) }
+    {
+        <Daylight as Flags>::from_bits(bits)
+    }
+
+    /// The set of these bits, those without a name too.
+    pub fn from_bits_retain(bits: u8) -> Daylight
+        ensures { daylight_bits result ≡ bits }
+    {
+        <Daylight as Flags>::from_bits_retain(bits)
+    }
+
+    /// Whether each bit of the other set is in this one.
+    pub fn contains(&self, other: Daylight) -> bool
+        ensures { result ≡ has_bits (daylight_bits self.now) (daylight_bits other) }
+    {
+        <Daylight as Flags>::contains(self, other)
+    }
+
+    /// The bits of either set.
+    pub fn union(self, other: Daylight) -> Daylight
+        ensures { daylight_bits result ≡ bit_or (daylight_bits self) (daylight_bits other) }
+    {
+        <Daylight as Flags>::union(self, other)
+    }
+}
+
+impl Flags for Daylight {
+    type Bits = u8;
+
+    ghost exact = { ⊤ };
+
+    ghost table = { (codes "ADJUST_DAYLIGHT", 0x01) ∷ (codes "IN_DAYLIGHT", 0x02) ∷ [] };
+
+    ghost set_of = { λ set. set.0 };
+
+    fn flags<'a>() -> &'a [Flag<Daylight>] {
+        Daylight::FLAGS
+    }
+
+    fn bits(&self) -> u8 {
+        self.0
+    }
+
+    fn from_bits_retain(bits: u8) -> Daylight {
+        Daylight(bits)
+    }
+}
