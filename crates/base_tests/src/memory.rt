@@ -21,9 +21,7 @@ fn characters_are_given_or_memory_was_refused(rt: HostRuntime) -> Result<(), Fai
 /// Whether the text made of `ab` has its units, or the error; or `None` if memory ran out.
 fn make_ab<A: Allocator>(alloc: A) -> Option<Result<bool, FromStrError>> {
     match CString16::from_str(alloc, "ab") {
-        Ok(text) => Some(Ok(
-            text.as_cstr16().as_u16_with_nul() == [0x61u16, 0x62, 0].as_slice()
-        )),
+        Ok(text) => Some(Ok(text.as_cstr16().as_u16_with_nul() == [0x61u16, 0x62, 0].as_slice())),
         Err(FromStrError::Memory) => None,
         Err(fault) => Some(Err(fault)),
     }
@@ -38,9 +36,7 @@ fn a_text_is_made_of_characters_or_memory_was_refused(rt: HostRuntime) -> Result
 /// The same of the units of `ab` over bytes.
 fn copy_ab<A: Allocator>(alloc: A) -> Option<Result<bool, UnalignedCStr16Error>> {
     match UnalignedSlice::new(b"a\0b\0\0\0").to_cstring16(alloc) {
-        Ok(text) => Some(Ok(
-            text.as_cstr16().as_u16_with_nul() == [0x61u16, 0x62, 0].as_slice()
-        )),
+        Ok(text) => Some(Ok(text.as_cstr16().as_u16_with_nul() == [0x61u16, 0x62, 0].as_slice())),
         Err(UnalignedCStr16Error::Memory) => None,
         Err(fault) => Some(Err(fault)),
     }

@@ -9,7 +9,11 @@ use uefi_base::{
 fn text_of(alloc: Global, units: &[u16]) -> Result<(usize, bool, String), Fail> {
     let text = CStr16::from_u16_with_nul(units)?;
     let characters = text.to_string(alloc)?;
-    Ok((text.num_chars(), text.as_u16_with_nul() == units, characters))
+    Ok((
+        text.num_chars(),
+        text.as_u16_with_nul() == units,
+        characters,
+    ))
 }
 
 #[test]
@@ -52,7 +56,11 @@ fn the_first_offending_unit_decides(rt: HostRuntime) -> Result<(), Fail> {
         ("a NUL inside", &[0x61, 0, 0x62, 0], InteriorNul(1)),
         ("a NUL before a surrogate", &[0, 0xd800, 0], InteriorNul(0)),
         ("a surrogate", &[0xd800, 0], InvalidChar(0)),
-        ("a surrogate before a NUL", &[0xdfff, 0, 0x61, 0], InvalidChar(0)),
+        (
+            "a surrogate before a NUL",
+            &[0xdfff, 0, 0x61, 0],
+            InvalidChar(0),
+        ),
         ("a surrogate and no NUL", &[0x61, 0xd800], InvalidChar(1)),
     ] {
         let found = CStr16::from_u16_with_nul(units).err();

@@ -2,15 +2,22 @@ use std::test::Fail;
 use test_bytes::{same, same_text};
 use uefi_base::UnalignedSlice;
 
-/// What an iterator over units gives in five steps, with the count that is left before each.
-fn steps(slice: UnalignedSlice<'_>) -> [(usize, Option<u16>); 5] {
+/// What is left of an iterator over units before a step, by its length and its size hint, and what
+/// the step gives.
+type Step = (usize, (usize, Option<usize>), Option<u16>);
+
+/// What an iterator over units gives in five steps.
+fn steps(slice: UnalignedSlice<'_>) -> [Step; 5] {
     let mut units = slice.iter();
-    let mut given = [(0, None); 5];
+    let mut given = [(0, (0, None), None); 5];
     for step in &mut given {
-        *step = (units.len(), units.next());
+        *step = (units.len(), units.size_hint(), units.next());
     }
     given
 }
+
+/// A step of an iterator that has ended.
+const ENDED: Step = (0, (0, Some(0)), None);
 
 #[test]
 fn bytes_have_their_units() -> Result<(), Fail> {
@@ -18,14 +25,12 @@ fn bytes_have_their_units() -> Result<(), Fail> {
     same("length", &(slice.len(), slice.is_empty()), &(3, false))?;
     let got = [slice.get(0), slice.get(1), slice.get(2), slice.get(3)];
     same("get", &got, &[Some(0x61), Some(0xd800), Some(0), None])?;
-    same("size hint", &slice.iter().size_hint(), &(3, Some(3)))?;
     let expected = [
-        (3, Some(0x61)),
-        (2, Some(0xd800)),
-        (1, Some(0)),
-        (0, None),
-        // The iterator stays ended.
-        (0, None),
+        (3, (3, Some(3)), Some(0x61)),
+        (2, (2, Some(2)), Some(0xd800)),
+        (1, (1, Some(1)), Some(0)),
+        ENDED,
+        ENDED,
     ];
     same("steps", &steps(slice), &expected)
 }
@@ -35,8 +40,7 @@ fn no_bytes_have_no_unit() -> Result<(), Fail> {
     let slice = UnalignedSlice::new(&[]);
     same("length", &(slice.len(), slice.is_empty()), &(0, true))?;
     same("get", &slice.get(0), &None)?;
-    same("size hint", &slice.iter().size_hint(), &(0, Some(0)))?;
-    same("steps", &steps(slice), &[(0, None); 5])
+    same("steps", &steps(slice), &[ENDED; 5])
 }
 
 #[test]

@@ -11,7 +11,11 @@ fn a_guid_has_its_bytes_and_its_text(rt: HostRuntime) -> Result<(), Fail> {
     let guid = Guid::from_bytes(FILE_INFO);
     same("bytes", &guid.to_bytes(), &FILE_INFO)?;
     let text = guid.to_string(rt.alloc())?;
-    same_text("text", text.as_str(), "09576e92-6d3f-11d2-8e39-00a0c969723b")
+    same_text(
+        "text",
+        text.as_str(),
+        "09576e92-6d3f-11d2-8e39-00a0c969723b",
+    )
 }
 
 #[test]

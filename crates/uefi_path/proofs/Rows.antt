@@ -6,7 +6,7 @@ use Rattle.uefi_path.specs.Node.{Node, Fits, max_data_length, encoding, joined, 
 use Rattle.uefi_path.specs.OneNode.{stated_length}
 use Rattle.uefi_base.specs.Prefix.{IsPrefix}
 use Rattle.uefi_path.specs.Path.{AreEndedBy, IsPath}
-use Rattle.uefi_path.specs.Rows.{node, first_instance, second_instance, unknown_end, end_entire, TwoInstances, AnyEnd, EndWithData, NoPath, RowsHold}
+use Rattle.uefi_path.specs.Rows.{node, first_instance, second_instance, unknown_end, end_entire, TwoInstances, AnyEnd, EndWithData, NoPath, Nodes, RowsHold}
 use Rattle.uefi_path.proofs.Steps.{AreEndedBy-cons}
 
 -- A node with these fields fits.
@@ -53,6 +53,7 @@ two_instances = record {
     whole = refl;
   };
   bytes = refl;
+  nodes = refl;
 }
 
 any_end : AnyEnd
@@ -65,10 +66,13 @@ any_end =
     }
 
 end_with_data : EndWithData
-end_with_data = record {
-  path = last IsEndEntire _ (fits _ _ _ (lit< tt) (lit< tt) (lit≤ tt)) (refl, refl);
-  prefix = (0xcc ∷ [], refl);
-}
+end_with_data =
+    let fits_end : Fits (node 0x7f 0xff (0xaa ∷ 0xbb ∷ [])) = fits _ _ _ (lit< tt) (lit< tt) (lit≤ tt) in record {
+      path = last IsEndEntire _ fits_end (refl, refl);
+      prefix = (0xcc ∷ [], refl);
+      instances = record { each = (last IsEnd _ fits_end refl, tt); whole = refl };
+      nodes = refl;
+    }
 
 -- What the header of a node that bytes start with states.
 stated : (a b c d : ℕ) (s : List ℕ) (n : Node) (x : List ℕ) → Fits n → a ∷ b ∷ c ∷ d ∷ s ≡ encoding n ++ x
@@ -112,5 +116,17 @@ no_path = record {
         let header = stated 0xa0 0xb0 6 0 (0x0a ∷ 0x0b ∷ []) n (joined (m ∷ nodes) ++ prefix.0) path.each.0 (prefix.1 ∙ append_assoc (encoding n) (joined (m ∷ nodes)) prefix.0) in
         absurd (omega (arith, header.0, header.1))
 
+nodes : Nodes
+nodes = record {
+  fits = first_nodes_fit.0;
+  prefix = ([], refl);
+  long = λ has.
+      let header = stated 0xa0 0xb0 7 0 (0x0a ∷ 0x0b ∷ []) has.0 has.2.0 has.1 has.2.1 in
+      absurd (omega (arith, header.0, header.1));
+  short = λ has.
+      let header = stated 0xa0 0xb0 3 0 (0x0a ∷ 0x0b ∷ []) has.0 has.2.0 has.1 has.2.1 in
+      absurd (omega (arith, header.0));
+}
+
 pub rows_hold : RowsHold
-rows_hold = (two_instances, any_end, end_with_data, no_path)
+rows_hold = (two_instances, any_end, end_with_data, no_path, nodes)

@@ -29,5 +29,3 @@ mod file;
 
 // What holds of all of them.
 pub mod laws;
-#[cfg(test)]
-mod tests;
