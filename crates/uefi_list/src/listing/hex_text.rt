@@ -1,6 +1,6 @@
-ghost use Rattle.std.specs.Prelude.{Some};
+ghost use Rattle.std.specs.Prelude.{◌≡◌, Some};
 ghost use Rattle.std.specs.Fmt.{DisplaysOnOk};
-ghost use Rattle.uefi_list.specs.Listing.Text.{hex_of, hex_number};
+ghost use Rattle.uefi_list.specs.Listing.Text.{gap_before, hex_of, hex_number};
 
 use std::fmt;
 
@@ -24,6 +24,17 @@ fn write_hex<W: fmt::Write>(f: &mut fmt::Formatter<W>, bytes: &[u8]) -> fmt::Res
         write!(f, "{byte:02x}")?;
     }
     Ok(())
+}
+
+/// A space, if bytes follow.
+#[tactic(auto, unfolding(crate::specs::Listing::Text::gap_before))]
+pub(super) fn gap_before(bytes: &[u8]) -> &'static str
+    ensures { result.now ≡ gap_before bytes.now }
+{
+    match bytes {
+        [] => "",
+        [_, ..] => " ",
+    }
 }
 
 /// A number, displayed as `0x` and lower case hex digits without leading zeros.
