@@ -12,7 +12,8 @@ use std::alloc::{AllocError, Allocator};
 /// UCS-2 text that ends with a NUL (UEFI 2.10, 2.3.1, `CHAR16`): at most 2^31 units of 16 bits, of
 /// which none is a surrogate and only the last is zero.
 ///
-/// A view: it borrows the units that it was made from, and what it returns lives as long as they do.
+/// A view: it borrows the units that it was made from, and what it returns lives as long as they
+/// do.
 ///
 /// # Examples
 ///

@@ -2,6 +2,7 @@
 //! when it runs.
 
 ghost use Rattle.uefi_base.specs.Laws.{NumbersReadBack, UnitsReadBack, UnitsByPlace};
+ghost use Rattle.uefi_base.specs.Rows.{RowsHold};
 
 /// A number reads back from the offset at which its bytes were written, whatever comes before and
 /// after them; and the bytes of a number that was read are the bytes at its offset.
@@ -24,4 +25,11 @@ pub fn units_read_back()
 #[tactic(auto, using(crate::proofs::UnitsOfBytes::units_by_place))]
 pub fn units_by_place()
     ensures { UnitsByPlace }
+{}
+
+/// The definitions hold on worked rows: some units, some characters, some GUIDs and all statuses are
+/// what they should be. Each row is a theorem.
+#[tactic(auto, using(crate::proofs::Rows::rows_hold))]
+pub fn worked_rows()
+    ensures { RowsHold }
 {}

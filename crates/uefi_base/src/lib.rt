@@ -28,8 +28,6 @@ mod identify;
 pub mod laws;
 pub mod little_endian;
 mod status;
-#[cfg(test)]
-mod tests;
 mod text_error;
 mod ucs2;
 mod unaligned;

@@ -21,7 +21,8 @@ pub(crate) fn read_at(bytes: &[u8], meta: &MemoryMapMeta, i: usize) -> MemoryDes
 pub(crate) fn write_at(bytes: &mut [u8], meta: &MemoryMapMeta, i: usize, entry: &MemoryDescriptor)
     requires map { IsMap (length bytes.old) meta.now }
     requires within { i < count_of meta.now }
-    ensures { bytes.new ≡ with_descriptor bytes.old meta.now.desc_size i entry.now }
+    ensures written { bytes.new ≡ with_descriptor bytes.old meta.now.desc_size i entry.now }
+    ensures read_back { descriptor bytes.new meta.now.desc_size i ≡ entry.now }
 {
     let place = meta.place(i);
     entry.write(&mut bytes[place..place + DESCRIPTOR_LENGTH]);

@@ -1,5 +1,5 @@
 ghost use Rattle.std.specs.Prelude.{◌≡◌, ◌≤◌, length};
-ghost use Rattle.uefi_map.specs.memory.Descriptor.{descriptor_in, encoding};
+ghost use Rattle.uefi_map.specs.memory.Descriptor.{Fits, descriptor_in, encoding};
 
 use super::memory_attribute::MemoryAttribute;
 use super::memory_type::MemoryType;
@@ -62,7 +62,8 @@ impl MemoryDescriptor {
     #[tactic(auto, unfolding(crate::specs::memory::Descriptor::encoding))]
     pub(crate) fn write(&self, bytes: &mut [u8])
         requires { length bytes.old ≡ DESCRIPTOR_LENGTH }
-        ensures { bytes.new ≡ encoding self.now }
+        ensures bytes { bytes.new ≡ encoding self.now }
+        ensures fits { Fits self.now }
     {
         let (ty, rest) = bytes.split_at_mut(4);
         ty.copy_from_slice(&self.ty.0.to_le_bytes());

@@ -1,8 +1,6 @@
 ghost use Rattle.std.specs.Prelude.{◌≡◌, ◌↔◌, take, length, IsOk, IfOk, IfErr};
 ghost use Rattle.uefi_map.specs.memory.Map.{IsMap};
 
-use super::access::write_at;
-use super::descriptor::MemoryDescriptor;
 use super::map_error::MemoryMapError;
 use super::memory_map::{MemoryMap, MemoryMapMut};
 use super::meta::MemoryMapMeta;
@@ -78,11 +76,6 @@ impl<A: Allocator> MemoryMapMut for MemoryMapOwned<A> {
     ghost same_place_as_itself = { λ _. tt };
 
     ghost same_place_after = { λ _ _ _ _ _. tt };
-
-    fn set_at(&mut self, i: usize, entry: MemoryDescriptor) {
-        let meta = self.meta();
-        write_at(&mut self.buffer, &meta, i, &entry);
-    }
 
     fn buffer_mut(&mut self) -> &mut [u8] {
         &mut self.buffer

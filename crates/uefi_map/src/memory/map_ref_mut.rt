@@ -1,8 +1,7 @@
-ghost use Rattle.std.specs.Prelude.{◌≡◌, ◌↔◌, length, IsOk, IfOk, IfErr};
+ghost use Rattle.std.specs.Prelude.{◌≡◌, ◌↔◌, length, Err, IsOk, IfOk, IfErr, IsTrue};
+ghost use Rattle.std.specs.Borrow.{sem};
 ghost use Rattle.uefi_map.specs.memory.Map.{IsMap};
 
-use super::access::write_at;
-use super::descriptor::MemoryDescriptor;
 use super::map_error::MemoryMapError;
 use super::memory_map::{MemoryMap, MemoryMapMut};
 use super::meta::MemoryMapMeta;
@@ -19,29 +18,56 @@ pub struct MemoryMapRefMut<'a> {
 
 impl<'a> MemoryMapRefMut<'a> {
     ghost use Rattle.uefi_map.specs.memory.Views.{mut_bytes, mut_meta, WritesTo};
+    ghost use Rattle.uefi_map.specs.memory.Lending.{StaysIfRefused};
 
-    /// The map that the bytes begin with.
+    /// The map that the buffer begins with.
     ///
-    /// Refused as [`MemoryMapRef::new`](crate::MemoryMapRef::new) refuses the same bytes, which stay
-    /// as they are. A proof of the caller's isn't told by this call what becomes of its buffer:
-    /// [`MemoryMapMeta::is_map_within`] and [`MemoryMapRefMut::over`] tell all.
+    /// A proof of the caller's isn't told by this call that a refused buffer stays as it was:
+    /// [`MemoryMapMeta::is_map_within`] and [`MemoryMapRefMut::over`] tell that too.
+    ///
+    /// # Errors
+    ///
+    /// [`InvalidSize`](MemoryMapError::InvalidSize) if the sizes make no map of the buffer
+    /// ([`MemoryMapMeta::is_map_within`]). Every byte of the buffer stays as it was.
     pub fn new(
         buffer: &'a mut [u8],
         meta: MemoryMapMeta,
     ) -> Result<MemoryMapRefMut<'a>, MemoryMapError>
+        ensures* unchanged_if_refused { sem 𝓛 (StaysIfRefused buffer.entry result) }
         ensures accepted { IsOk result ↔ IsMap (length buffer.entry.now) meta }
         ensures buffer { IfOk result (λ map. mut_bytes map ≡ buffer.entry.now) }
         ensures meta { IfOk result (λ map. mut_meta map ≡ meta) }
         ensures refused { IfErr result (λ error. error ≡ MemoryMapError.InvalidSize) }
         ensures same_place { IfOk result (WritesTo buffer.entry) }
     {
-        if !meta.is_map_within(buffer.len()) {
-            return Err(MemoryMapError::InvalidSize);
+        if is_map(buffer.len(), meta) {
+            return MemoryMapRefMut::accepted(buffer, meta);
         }
+        MemoryMapRefMut::refused()
+    }
+
+    // The map that the buffer is known to begin with.
+    fn accepted(
+        buffer: &'a mut [u8],
+        meta: MemoryMapMeta,
+    ) -> Result<MemoryMapRefMut<'a>, MemoryMapError>
+        requires { IsMap (length buffer.old) meta }
+        ensures accepted { IsOk result }
+        ensures buffer { IfOk result (λ map. mut_bytes map ≡ buffer.entry.now) }
+        ensures meta { IfOk result (λ map. mut_meta map ≡ meta) }
+        ensures same_place { IfOk result (WritesTo buffer.entry) }
+    {
         Ok(MemoryMapRefMut::over(buffer, meta))
     }
 
-    /// The map that the bytes begin with, which are known to be one: by
+    // No map, for sizes that make none of the buffer.
+    fn refused() -> Result<MemoryMapRefMut<'a>, MemoryMapError>
+        ensures { result ≡ Err MemoryMapError.InvalidSize }
+    {
+        Err(MemoryMapError::InvalidSize)
+    }
+
+    /// The map that the buffer begins with, for sizes that are known to make one: by
     /// [`MemoryMapMeta::is_map_within`], with the buffer's length.
     pub fn over(buffer: &'a mut [u8], meta: MemoryMapMeta) -> MemoryMapRefMut<'a>
         requires { IsMap (length buffer.old) meta }
@@ -54,6 +80,13 @@ impl<'a> MemoryMapRefMut<'a> {
             sizes: Sizes::of(meta),
         }
     }
+}
+
+// Whether a count of bytes is a map with these sizes.
+fn is_map(length: usize, meta: MemoryMapMeta) -> bool
+    ensures { IsTrue result ↔ IsMap length meta }
+{
+    meta.is_map_within(length)
 }
 
 impl<'a> MemoryMap for MemoryMapRefMut<'a> {
@@ -92,11 +125,6 @@ impl<'a> MemoryMapMut for MemoryMapRefMut<'a> {
     ghost same_place_as_itself = { λ _. refl };
 
     ghost same_place_after = { λ _ _ _ first second. second ∙ first };
-
-    fn set_at(&mut self, i: usize, entry: MemoryDescriptor) {
-        let meta = self.meta();
-        write_at(self.buffer, &meta, i, &entry);
-    }
 
     fn buffer_mut(&mut self) -> &mut [u8] {
         self.buffer

@@ -1,4 +1,4 @@
-ghost use Rattle.std.specs.Prelude.{ℕ, List, ◌≡◌, ◌^◌, ◌<◌, ◌↔◌, IsTrue, length, OnSome, IfNone};
+ghost use Rattle.std.specs.Prelude.{ℕ, List, ◌≡◌, ◌^◌, ◌<◌, ◌↔◌, IsTrue, length, Some, OnSome, IfNone};
 ghost use Rattle.uefi_map.specs.declared.memory.meta.MemoryMapMeta.{MemoryMapMeta};
 ghost use Rattle.uefi_map.specs.memory.Descriptor.{descriptor};
 ghost use Rattle.uefi_map.specs.memory.Map.{IsMap, IsWithDescriptor, AreSorted, count_of, entry_of, entries_of};
@@ -6,7 +6,7 @@ ghost use Rattle.std.specs.Borrow.{sem};
 ghost use Rattle.uefi_map.specs.memory.Lending.{LendsBuffer};
 ghost use Rattle.uefi_map.specs.memory.Views.{entries_left};
 
-use super::access::{are_sorted, read_at};
+use super::access::{are_sorted, read_at, write_at};
 use super::descriptor::MemoryDescriptor;
 use super::iter::MemoryMapIter;
 use super::meta::{MemoryMapKey, MemoryMapMeta};
@@ -95,16 +95,18 @@ pub trait MemoryMapMut: MemoryMap {
     /// Both maps write to the same bytes of a caller's, where they borrow them.
     ghost same_place: { Self → Self → Type 0 };
 
-    /// Sets the descriptor at the index, and answers the one that stood there, or none where there
-    /// is no such descriptor: every byte is then as it was.
+    /// Sets the descriptor at the index, and returns the one that stood there. For an index that is not
+    /// below [`len`](MemoryMap::len) it returns `None`, and every byte stays as it was.
     ///
-    /// The descriptor's forty bytes alone are written.
+    /// It writes the forty bytes of the descriptor alone.
     fn set(&mut self, i: usize, entry: MemoryDescriptor) -> Option<MemoryDescriptor>
         ensures before { let map = Self.MemoryMap in
             result ≡ entry_of (map.bytes self.old) (map.meta self.old) i }
         ensures written { let map = Self.MemoryMap in
             OnSome result (IsWithDescriptor (map.bytes self.old) (map.meta self.old) i entry
             (map.bytes self.new)) }
+        ensures read_back { let map = Self.MemoryMap in
+            OnSome result (entry_of (map.bytes self.new) (map.meta self.new) i ≡ Some entry) }
         ensures unchanged { let map = Self.MemoryMap in
             IfNone result (map.bytes self.new ≡ map.bytes self.old) }
         ensures meta { let map = Self.MemoryMap in map.meta self.new ≡ map.meta self.old }
@@ -117,13 +119,19 @@ pub trait MemoryMapMut: MemoryMap {
 
     /// Sets the descriptor at an index that is below [`len`](MemoryMap::len).
     ///
-    /// The descriptor's forty bytes alone are written.
+    /// It writes the forty bytes of the descriptor alone.
     fn set_at(&mut self, i: usize, entry: MemoryDescriptor)
         requires { i < count_of (Self.MemoryMap.meta self.old) }
         ensures written { let map = Self.MemoryMap in
             IsWithDescriptor (map.bytes self.old) (map.meta self.old) i entry (map.bytes self.new) }
+        ensures read_back { let map = Self.MemoryMap in
+            descriptor (map.bytes self.new) (map.meta self.new).desc_size i ≡ entry }
         ensures meta { let map = Self.MemoryMap in map.meta self.new ≡ map.meta self.old }
-        ensures same_place { same_place self.old self.new };
+        ensures same_place { same_place self.old self.new }
+    {
+        let meta = self.meta();
+        write_at(self.buffer_mut(), &meta, i, &entry);
+    }
 
     /// The buffer, to be written. Any bytes are descriptors, so what is written stays a map.
     fn buffer_mut(&mut self) -> &mut [u8]

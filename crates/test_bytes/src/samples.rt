@@ -1,0 +1,19 @@
+//! Inputs that the tests of several crates read.
+
+/// A device path of 36 bytes: two instances of two nodes each, and the nodes that end them.
+pub const TWO_INSTANCES: &str =
+    "a0b0 0600 0a0b  a1b1 0800 14151617  7f01 0400  a2b2 0600 1e1f  a3b3 0800 28292a2b  7fff 0400";
+
+/// The `ConOut` variable of an OVMF firmware, a device path of 103 bytes: a graphics adapter, and a
+/// serial port with its settings and its kind of terminal.
+pub const CON_OUT: &str = "0201 0c00 d041030a00000000  0101 0600 0001  0203 0800 00010180 \
+    7f01 0400 \
+    0201 0c00 d041030a00000000  0101 0600 001f  0201 0c00 d041010500000000 \
+    030e 1300 0000000000c2010000000000080101 \
+    030a 1400 5347c1e0bef9d2119a0c0090273fc14d  7fff 0400";
+
+/// A file information record of 88 bytes in which each field has a value of its own, named `ab`, with its size in the
+/// first byte and the two bytes that round it up.
+pub const FILE: &str = "5800000000000000 0100000000000000 0200000000000000 \
+    e807021f0102030405060708090a0b0c e707021e1112131415161718191a1b1c \
+    e607021d2122232425262728292a2b2c 1000000000000080  6100 6200 0000  eeee";

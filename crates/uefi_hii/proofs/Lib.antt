@@ -1,0 +1,17 @@
+pub mod HexBounds
+pub mod HexEnds
+pub mod Numbers
+pub mod Names
+pub mod Pieces
+pub mod PathIn
+pub mod Machine
+pub mod Leading
+pub mod Complete
+pub mod Shapes
+pub mod Sound
+pub mod Cuts
+pub mod Joined
+pub mod Failing
+pub mod Skipping
+pub mod Elements
+pub mod Wholes
