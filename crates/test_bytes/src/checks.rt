@@ -10,9 +10,7 @@ pub fn same<T: PartialEq + Debug>(row: &str, found: &T, expected: &T) -> Result<
     if *found == *expected {
         return Ok(());
     }
-    Err(Fail::new(format_args!(
-        "{row}: found {found:?}, expected {expected:?}"
-    )))
+    Err(Fail::new(format_args!("{row}: found {found:?}, expected {expected:?}")))
 }
 
 /// Checks that the two texts are equal.
@@ -24,9 +22,7 @@ pub fn same_text(row: &str, found: &str, expected: &str) -> Result<(), Fail> {
     if found == expected {
         return Ok(());
     }
-    Err(Fail::new(format_args!(
-        "{row}: found {found:?}, expected {expected:?}"
-    )))
+    Err(Fail::new(format_args!("{row}: found {found:?}, expected {expected:?}")))
 }
 
 /// Checks that the two slices hold the same bytes.
@@ -38,9 +34,7 @@ pub fn same_bytes(row: &str, found: &[u8], expected: &[u8]) -> Result<(), Fail> 
     if found == expected {
         return Ok(());
     }
-    Err(Fail::new(format_args!(
-        "{row}: found {found:?}, expected {expected:?}"
-    )))
+    Err(Fail::new(format_args!("{row}: found {found:?}, expected {expected:?}")))
 }
 
 /// Checks that a condition holds.
