@@ -46,13 +46,13 @@ impl MemoryMapMut for FullMap {
 
     ghost meta_with = { full_meta-with };
 
-    ghost same_place = { λ _ _. Unit {0} };
+    ghost same_buffer = { λ _ _. Unit {0} };
 
-    ghost same_place_with = { λ _ _. tt };
+    ghost same_buffer_with = { λ _ _. tt };
 
-    ghost same_place_as_itself = { λ _. tt };
+    ghost same_buffer_as_itself = { λ _. tt };
 
-    ghost same_place_after = { λ _ _ _ _ _. tt };
+    ghost same_buffer_after = { λ _ _ _ _ _. tt };
 
     fn buffer_mut(&mut self) -> &mut [u8] {
         &mut self.buffer

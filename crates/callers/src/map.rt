@@ -1,4 +1,4 @@
-ghost use Rattle.std.specs.Prelude.{◌≡◌, ◌^◌, ◌<◌, ◌≤◌, ◌↔◌, length, sum_by, slice_set, string_bytes, SomeIff, Some, IsTrue, IsNone, IfSome, IfOk};
+ghost use Rattle.std.specs.Prelude.{◌≡◌, ◌^◌, ◌<◌, ◌≤◌, ◌↔◌, length, sum_by, slice_set, string_bytes, SomeIff, Some, IsTrue, IsNone, IsSome, IfSome, IfOk};
 ghost use Rattle.std.specs.Ordering.{nat_cmp};
 ghost use Rattle.uefi_map.specs.memory.Descriptor.{zero_descriptor};
 ghost use Rattle.uefi_base.specs.Flags.{has_bits};
@@ -51,6 +51,23 @@ pub fn entries_in(
         Ok(map) => all_entries(alloc, &map),
         Err(_) => Ok(Vec::new(alloc)),
     }
+}
+
+/// Returns the count of pages in a buffer of firmware's, or `None` if it holds no map or the sum
+/// doesn't fit.
+pub fn pages_in(buffer: &[u8], meta: MemoryMapMeta) -> Option<u64>
+    ensures sum { let entries = entries_of buffer.now meta in
+        IfSome result (λ pages. pages ≡ sum_by (λ d. d.page_count) entries) }
+    ensures map { IsSome result → IsMap (length buffer.now) meta }
+{
+    let Ok(map) = MemoryMapRef::new(buffer, meta) else {
+        return None;
+    };
+    let mut pages = 0u64;
+    for entry in map.entries() {
+        pages = pages.checked_add(entry.page_count)?;
+    }
+    Some(pages)
 }
 
 /// How many entries a map has, by `count`.
@@ -119,7 +136,7 @@ pub fn write_byte<M: MemoryMapMut>(map: &mut M, place: usize, byte: u8)
     ensures bytes { let bytes = M.MemoryMap.bytes in
         bytes map.new ≡ slice_set (bytes map.old) place byte }
     ensures meta { M.MemoryMap.meta map.new ≡ M.MemoryMap.meta map.old }
-    ensures same_place { M.same_place map.old map.new }
+    ensures same_buffer { M.same_buffer map.old map.new }
 {
     map.buffer_mut()[place] = byte;
 }

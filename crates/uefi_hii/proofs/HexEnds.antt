@@ -1,5 +1,5 @@
 -- How many bytes hex spells, and the last of them.
-use Rattle.std.proofs.Common.{◌≡◌, ℕ, zero, suc, ◌+◌, ◌-◌, ◌*◌, ◌/◌, ◌%◌, ◌<◌, ◌≤◌, List, [], ◌∷◌, ◌++◌, length, take, get_or, refl, ◌∙◌, ap, subst, arith}
+use Rattle.std.proofs.Common.{◌≡◌, ◌≢◌, ℕ, ◌+◌, ◌/◌, ◌%◌, ◌≤◌, List, [], ◌∷◌, ◌++◌, length, refl, ◌∙◌, ap, arith, append_assoc, length-append}
 use Rattle.uefi_hii.specs.Hex.{byte_of_one, byte_of_two, hex}
 
 -- A byte for each two characters, and for an odd last one.
@@ -12,52 +12,21 @@ length-hex (c ∷ d ∷ text) = let others = length-hex text in omega (arith, ot
 pub few_bytes : (text : List ℕ) → length (hex text) ≤ length text
 few_bytes text = omega (arith, length-hex text)
 
--- Twice a number, so that it computes at a successor.
-twice : ℕ → ℕ
-twice zero = zero
-twice (suc n) = suc (suc (twice n))
-
-twice-is : (n : ℕ) → twice n ≡ 2 * n
-unfolding twice
-twice-is zero = refl
-twice-is (suc n) = let less = twice-is n in omega (arith, less)
-
 -- The last byte of a text with an odd number of characters, and of one with an even number.
-odd_last : (n : ℕ) (text : List ℕ) → length text ≡ suc (twice n) → hex text ≡ hex (take (twice n) text) ++ byte_of_one (get_or text (twice n) 0) ∷ []
-unfolding twice
-odd_last zero [] e = absurd (omega arith)
-odd_last zero (c ∷ []) e = refl
-odd_last zero (c ∷ d ∷ text) e = absurd (omega arith)
-odd_last (suc n) [] e = absurd (omega arith)
-odd_last (suc n) (c ∷ []) e = absurd (omega arith)
-odd_last (suc n) (c ∷ d ∷ text) e = let less : length text ≡ suc (twice n) = omega arith in ap (λ bytes. byte_of_two c d ∷ bytes) (odd_last n text less)
+hex-push_one : (front : List ℕ) (c : ℕ) → length front % 2 ≡ 0 → hex (front ++ c ∷ []) ≡ hex front ++ byte_of_one c ∷ []
+hex-push_one [] c even = refl
+hex-push_one (a ∷ []) c even = absurd (omega arith)
+hex-push_one (a ∷ b ∷ front) c even = ap (λ bytes. byte_of_two a b ∷ bytes) (hex-push_one front c (omega arith))
 
-even_last : (n : ℕ) (text : List ℕ) → length text ≡ suc (suc (twice n)) → hex text ≡ hex (take (twice n) text) ++ byte_of_two (get_or text (twice n) 0) (get_or text (suc (twice n)) 0) ∷ []
-unfolding twice
-even_last zero [] e = absurd (omega arith)
-even_last zero (c ∷ []) e = absurd (omega arith)
-even_last zero (c ∷ d ∷ []) e = refl
-even_last zero (c ∷ d ∷ x ∷ text) e = absurd (omega arith)
-even_last (suc n) [] e = absurd (omega arith)
-even_last (suc n) (c ∷ []) e = absurd (omega arith)
-even_last (suc n) (c ∷ d ∷ text) e = let less : length text ≡ suc (suc (twice n)) = omega arith in ap (λ bytes. byte_of_two c d ∷ bytes) (even_last n text less)
+hex-push_two : (front : List ℕ) (c d : ℕ) → length front % 2 ≡ 0 → hex (front ++ c ∷ d ∷ []) ≡ hex front ++ byte_of_two c d ∷ []
+hex-push_two [] c d even = refl
+hex-push_two (a ∷ []) c d even = absurd (omega arith)
+hex-push_two (a ∷ b ∷ front) c d even = ap (λ bytes. byte_of_two a b ∷ bytes) (hex-push_two front c d (omega arith))
 
--- The last byte is spelled by one character, or by two.
-pub last_of_one : (text : List ℕ) (k : ℕ) → k ≡ length text / 2 * 2 → k < length text → hex text ≡ hex (take k text) ++ byte_of_one (get_or text k 0) ∷ []
-last_of_one text k e below =
-    let t : twice (length text / 2) ≡ k = omega (arith, twice-is (length text / 2)) in
-    subst (λ k. hex text ≡ hex (take k text) ++ byte_of_one (get_or text k 0) ∷ []) t (odd_last (length text / 2) text (omega (arith, t)))
+pub last_of_one : (text front : List ℕ) (c : ℕ) → text ≡ front ++ c ∷ [] → length text % 2 ≢ 0 → hex text ≡ hex front ++ byte_of_one c ∷ []
+last_of_one text front c e odd = ap hex e ∙ hex-push_one front c (omega (arith, ap length e, length-append front (c ∷ [])))
 
-pub last_of_two : (text : List ℕ) (k : ℕ) → k ≡ length text / 2 * 2 → length text ≤ k → 0 < k
-    → hex text ≡ hex (take (k - 2) text) ++ byte_of_two (get_or text (k - 2) 0) (get_or text (k - 1) 0) ∷ []
-last_of_two text k e above some =
-    let t : twice (length text / 2 - 1) ≡ k - 2 = omega (arith, twice-is (length text / 2 - 1)) in
-    let u : suc (twice (length text / 2 - 1)) ≡ k - 1 = omega (arith, t) in
-    even_last (length text / 2 - 1) text (omega (arith, t))
-    ∙ ap (λ x. hex (take x text) ++ byte_of_two (get_or text x 0) (get_or text (suc (twice (length text / 2 - 1))) 0) ∷ []) t
-    ∙ ap (λ x. hex (take (k - 2) text) ++ byte_of_two (get_or text (k - 2) 0) (get_or text x 0) ∷ []) u
-
--- A text with no character spells no byte.
-pub none_of_none : (text : List ℕ) (k : ℕ) → k ≡ length text / 2 * 2 → length text ≤ k → k ≡ 0 → hex text ≡ []
-none_of_none [] k e above none = refl
-none_of_none (c ∷ text) k e above none = absurd (omega arith)
+pub last_of_two : (text more front : List ℕ) (c d : ℕ) → text ≡ more ++ d ∷ [] → more ≡ front ++ c ∷ [] → length text % 2 ≡ 0 → hex text ≡ hex front ++ byte_of_two c d ∷ []
+last_of_two text more front c d e m even =
+    let whole : text ≡ front ++ c ∷ d ∷ [] = e ∙ ap (λ s. s ++ d ∷ []) m ∙ append_assoc front (c ∷ []) (d ∷ []) in
+    ap hex whole ∙ hex-push_two front c d (omega (arith, ap length whole, length-append front (c ∷ d ∷ [])))

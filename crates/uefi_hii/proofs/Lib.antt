@@ -12,6 +12,8 @@ pub mod Sound
 pub mod Cuts
 pub mod Joined
 pub mod Failing
+pub mod Taken
 pub mod Skipping
+pub mod Headers
 pub mod Elements
 pub mod Wholes

@@ -2,7 +2,7 @@
 use Rattle.std.proofs.Common.{◌≡◌, ◌≢◌, ℕ, Bool, true, false, List, [], ◌∷◌, ◌++◌, refl, sym, ◌∙◌, ap, subst, append_assoc, inl, inr, ◌⊎◌}
 use Rattle.std.proofs.lemmas.List.{append-nil}
 use Rattle.std.proofs.lemmas.Slice.Eq.{bytes_eq-Decides}
-use Rattle.std.specs.Prelude.{Option, Some, None, IsSome, is_some, codes}
+use Rattle.std.specs.Prelude.{Option, Some, None, codes}
 use Rattle.std.specs.Str.{bytes_eq}
 use Rattle.uefi_path.specs.Node.{Node}
 use Rattle.uefi_hii.specs.Pairs.{Pair}
@@ -14,6 +14,7 @@ use Rattle.uefi_hii.proofs.Leading.{is_other, push_some}
 use Rattle.uefi_hii.proofs.Machine.{AfterGuid, AfterName, AfterOffset, AfterWidth, Fail, InBody, Next, Outcome, Start, State, Step, Stop, element, expect, header_of, in_body, result_at_end, run, run-end, run-fail, run-next, run-stop, step, with_alt, with_element}
 use Rattle.uefi_hii.proofs.PathIn.{path_in, path_in-is, path_in-some}
 use Rattle.uefi_hii.proofs.Shapes.{header_good, header_push_alt, header_with_alt_good, some_is, spells_bare, spells_element, spells_header, spells_skipped, spells_some}
+use Rattle.uefi_hii.proofs.Taken.{nothing_in}
 
 -- The pairs that were read before a state.
 unfoldable pub WasRead : List Pair → State → Type 0
@@ -24,10 +25,6 @@ WasRead f (InBody c) = Spells f c
 WasRead f (AfterOffset c n) = (body : List Pair) × (o : Pair) × (f ≡ body ++ o ∷ []) × Spells body c × (number_in (codes "OFFSET") o ≡ Some n)
 WasRead f (AfterWidth c n m) =
     (body : List Pair) × (o w : Pair) × (f ≡ body ++ o ∷ w ∷ []) × Spells body c × (number_in (codes "OFFSET") o ≡ Some n) × (number_in (codes "WIDTH") w ≡ Some m)
-
--- A slot's pair that holds nothing isn't good.
-nothing_in : {A : Type 0} (o : Option A) → o ≡ None → IsSome o → ⊥
-nothing_in o e s = let h : is_some o ≡ false = ap is_some e in cc
 
 -- The steps behind a header or an element, each with the reason for it.
 data BodyStep (c : Configuration) (es : List Element) (alt : Option ℕ) (a o g : Bool) (p : Pair) : Step → Type 0 where

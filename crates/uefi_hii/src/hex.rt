@@ -100,15 +100,12 @@ fn split_last_byte(text: &[u8]) -> Option<(&[u8], u8)>
     ensures { MatchOption result (hex text.now ≡ [])
         (λ r. hex text.now ≡ hex r.0.now ++ r.1 ∷ []) }
 {
-    let paired = text.len() / 2 * 2;
-    if paired < text.len() {
-        return Some((&text[..paired], byte_of_one(text[paired])));
+    let (last, front) = text.split_last()?;
+    if text.len() % 2 != 0 {
+        return Some((front, byte_of_one(*last)));
     }
-    if paired == 0 {
-        return None;
-    }
-    let byte = byte_of_two(text[paired - 2], text[paired - 1]);
-    Some((&text[..paired - 2], byte))
+    let (first, front) = front.split_last()?;
+    Some((front, byte_of_two(*first, *last)))
 }
 
 /// The byte that two characters spell.

@@ -1,6 +1,6 @@
-ghost use Rattle.std.specs.Prelude.{◌≡◌, ◌^◌, ◌<◌, length, IfOk, option_map, string_bytes};
+ghost use Rattle.std.specs.Prelude.{◌≡◌, ◌+◌, ◌*◌, ◌^◌, ◌<◌, true, false, length, IfOk, MatchOption, option_map, string_bytes};
 ghost use Rattle.uefi_hii.specs.Hex.{hex};
-ghost use Rattle.uefi_hii.specs.Values.{is_number_length, number, guid, name};
+ghost use Rattle.uefi_hii.specs.Values.{is_number_length, is_name_unit, number, guid, name};
 ghost use Rattle.uefi_hii.specs.Views.{bytes_left};
 
 use crate::configuration::ConfigurationString;
@@ -77,17 +77,26 @@ impl<A: Allocator> ConfigurationString<A> {
             let Some(low) = bytes.next() else {
                 return Ok(if high == 0 { Some(name) } else { None });
             };
-            let unit = high as u32 * 256 + low as u32;
-            if unit == 0 {
-                return Ok(None);
-            }
-            let Some(c) = char::from_u32(unit) else {
+            let Some(c) = character_of(high, low) else {
                 return Ok(None);
             };
             name.push(c)?;
         }
         Ok(Some(name))
     }
+}
+
+/// The character that a unit of a name is, of which the two bytes are given. `None` for zero and for
+/// surrogates.
+fn character_of(high: u8, low: u8) -> Option<char>
+    ensures { MatchOption result (is_name_unit (high * 256 + low) ≡ false)
+        (λ c. (is_name_unit (high * 256 + low) ≡ true) × (c ≡ high * 256 + low)) }
+{
+    let unit = high as u32 * 256 + low as u32;
+    if unit == 0 {
+        return None;
+    }
+    char::from_u32(unit)
 }
 
 /// Whether a number has as many bytes.

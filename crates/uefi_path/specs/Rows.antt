@@ -1,4 +1,4 @@
--- Worked examples of the definitions: the bytes of some paths, and bytes that start with none.
+-- Worked rows, examples of the definitions: the bytes of some paths, and bytes that start with none.
 use Rattle.std.specs.Prelude.{◌≡◌, ℕ, List, [], ◌∷◌, ◌++◌}
 use Rattle.uefi_path.specs.Node.{Node, joined}
 use Rattle.uefi_base.specs.Prefix.{IsPrefix}
@@ -50,6 +50,6 @@ pub record NoPath : Type 0 where
   pub long : ¬ HasPath (0xa0 ∷ 0xb0 ∷ 0xff ∷ 0xff ∷ [])
   pub endless : ¬ HasPath (0xa0 ∷ 0xb0 ∷ 6 ∷ 0 ∷ 0x0a ∷ 0x0b ∷ [])
 
--- All examples hold.
+-- All rows hold.
 abbrev pub RowsHold : Type 0
 RowsHold = TwoInstances × AnyEnd × EndWithData × NoPath

@@ -37,16 +37,16 @@ module _ (lender : MutBor (List ℕ)) (sizes : MemoryMapMeta) where
     pub buffer : IfOk made (λ map. mut_bytes map ≡ lender.now)
     pub meta : IfOk made (λ map. mut_meta map ≡ sizes)
     pub refused : IfErr made (λ error. error ≡ InvalidSize)
-    pub same_place : IfOk made (WritesTo lender)
+    pub same_buffer : IfOk made (WritesTo lender)
 
   pub returned_map : (made : Result MemoryMapRefMut MemoryMapError) → IsMap (length lender.now) sizes → IsOk made → IfOk made (λ map. mut_bytes map ≡ lender.now)
       → IfOk made (λ map. mut_meta map ≡ sizes) → IfOk made (WritesTo lender) → Returned made
-  returned_map (Ok map) is_map ok bytes given place = record { accepted = ((λ _. is_map), (λ _. refl)); buffer = bytes; meta = given; refused = tt; same_place = place }
-  returned_map (Err error) is_map ok bytes given place = let h : false ≡ true = ok in cc
+  returned_map (Ok map) is_map ok bytes given same = record { accepted = ((λ _. is_map), (λ _. refl)); buffer = bytes; meta = given; refused = tt; same_buffer = same }
+  returned_map (Err error) is_map ok bytes given same = let h : false ≡ true = ok in cc
 
   pub returned_none : (made : Result MemoryMapRefMut MemoryMapError) (test : Bool) → IsTrue test ↔ IsMap (length lender.now) sizes → T (not test) → made ≡ Err InvalidSize → Returned made
   returned_none made test judged no_map is =
-      subst Returned (sym is) (record { accepted = ((λ ok. let h : false ≡ true = ok in cc), (λ is_map. absurd (not_both test no_map (judged.1 is_map)))); buffer = tt; meta = tt; refused = refl; same_place = tt })
+      subst Returned (sym is) (record { accepted = ((λ ok. let h : false ≡ true = ok in cc), (λ is_map. absurd (not_both test no_map (judged.1 is_map)))); buffer = tt; meta = tt; refused = refl; same_buffer = tt })
 
 module _ {M : Type 1} {𝓤 : Ura M} (𝓛 : Logic 𝓤) where
   open 𝓛 use {A}

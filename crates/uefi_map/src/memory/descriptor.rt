@@ -6,11 +6,26 @@ use super::memory_type::MemoryType;
 use uefi_base::Align;
 use uefi_base::little_endian::{u32_at, u64_at};
 
-/// The bytes of a descriptor.
+/// The length of a descriptor.
 pub(crate) const DESCRIPTOR_LENGTH: usize = 40;
 
-/// A range of memory (UEFI 2.10, 7.2 `EFI_BOOT_SERVICES.GetMemoryMap()`,
-/// `EFI_MEMORY_DESCRIPTOR`).
+/// What the offset of each descriptor in memory is a multiple of.
+pub(crate) const DESCRIPTOR_ALIGNMENT: usize = 8;
+
+// The offsets of the fields.
+const TYPE_OFFSET: usize = 0;
+
+const PADDING_OFFSET: usize = 4;
+
+const PHYS_START_OFFSET: usize = 8;
+
+const VIRT_START_OFFSET: usize = 16;
+
+const PAGE_COUNT_OFFSET: usize = 24;
+
+const ATTRIBUTE_OFFSET: usize = 32;
+
+/// A range of memory (UEFI 2.10, 7.2 `EFI_BOOT_SERVICES.GetMemoryMap()`, `EFI_MEMORY_DESCRIPTOR`).
 ///
 /// | offset | bytes | field |
 /// |---|---|---|
@@ -18,68 +33,68 @@ pub(crate) const DESCRIPTOR_LENGTH: usize = 40;
 /// | 4 | 4 | padding |
 /// | 8 | 8 | first physical address |
 /// | 16 | 8 | first virtual address |
-/// | 24 | 8 | pages of 4096 bytes |
+/// | 24 | 8 | count of pages, of 4096 bytes each |
 /// | 32 | 8 | attributes |
 ///
-/// All numbers are little-endian. A value: every number is kept, the padding too.
+/// All numbers are little-endian. Every number is kept as it was read, and so is the padding.
 #[derive(Clone, Copy, PartialEq, Eq, Debug)]
 pub struct MemoryDescriptor {
     /// What the memory is for.
     pub ty: MemoryType,
-    /// Four bytes that mean nothing.
+    /// Four bytes without a meaning.
     pub padding: u32,
     /// The first physical address.
     pub phys_start: u64,
-    /// The first virtual address, where the memory is mapped.
+    /// The first virtual address, if the memory is mapped.
     pub virt_start: u64,
-    /// How many pages of 4096 bytes there are.
+    /// The count of pages, of 4096 bytes each.
     pub page_count: u64,
-    /// What the memory can do.
+    /// What the memory is capable of.
     pub att: MemoryAttribute,
 }
 
 impl MemoryDescriptor {
-    /// The version of descriptors that this one is of.
+    /// The version of the descriptors that this type reads and writes.
     pub const VERSION: u32 = 1;
 
-    // The descriptor in the first forty bytes.
+    // Returns the descriptor in the first forty bytes.
     #[tactic(auto, unfolding(crate::specs::memory::Descriptor::descriptor_in))]
     pub(crate) fn read(bytes: &[u8]) -> MemoryDescriptor
         requires { DESCRIPTOR_LENGTH ≤ length bytes.now }
         ensures { result ≡ descriptor_in bytes.now }
     {
         MemoryDescriptor {
-            ty: MemoryType(u32_at(bytes, 0)),
-            padding: u32_at(bytes, 4),
-            phys_start: u64_at(bytes, 8),
-            virt_start: u64_at(bytes, 16),
-            page_count: u64_at(bytes, 24),
-            att: MemoryAttribute::from_bits_retain(u64_at(bytes, 32)),
+            ty: MemoryType(u32_at(bytes, TYPE_OFFSET)),
+            padding: u32_at(bytes, PADDING_OFFSET),
+            phys_start: u64_at(bytes, PHYS_START_OFFSET),
+            virt_start: u64_at(bytes, VIRT_START_OFFSET),
+            page_count: u64_at(bytes, PAGE_COUNT_OFFSET),
+            att: MemoryAttribute::from_bits_retain(u64_at(bytes, ATTRIBUTE_OFFSET)),
         }
     }
 
-    // Writes the descriptor into forty bytes.
+    // Writes the descriptor to forty bytes.
     #[tactic(auto, unfolding(crate::specs::memory::Descriptor::encoding))]
     pub(crate) fn write(&self, bytes: &mut [u8])
         requires { length bytes.old ≡ DESCRIPTOR_LENGTH }
         ensures bytes { bytes.new ≡ encoding self.now }
         ensures fits { Fits self.now }
     {
-        let (ty, rest) = bytes.split_at_mut(4);
+        let (ty, rest) = bytes.split_at_mut(PADDING_OFFSET);
         ty.copy_from_slice(&self.ty.0.to_le_bytes());
-        let (padding, rest) = rest.split_at_mut(4);
+        let (padding, rest) = rest.split_at_mut(PHYS_START_OFFSET - PADDING_OFFSET);
         padding.copy_from_slice(&self.padding.to_le_bytes());
-        let (phys_start, rest) = rest.split_at_mut(8);
+        let (phys_start, rest) = rest.split_at_mut(VIRT_START_OFFSET - PHYS_START_OFFSET);
         phys_start.copy_from_slice(&self.phys_start.to_le_bytes());
-        let (virt_start, rest) = rest.split_at_mut(8);
+        let (virt_start, rest) = rest.split_at_mut(PAGE_COUNT_OFFSET - VIRT_START_OFFSET);
         virt_start.copy_from_slice(&self.virt_start.to_le_bytes());
-        let (page_count, att) = rest.split_at_mut(8);
+        let (page_count, att) = rest.split_at_mut(ATTRIBUTE_OFFSET - PAGE_COUNT_OFFSET);
         page_count.copy_from_slice(&self.page_count.to_le_bytes());
         att.copy_from_slice(&self.att.bits().to_le_bytes());
     }
 }
 
-/// Every field is zero: reserved memory of no pages, at address 0, with no attributes.
+/// Every field is zero: reserved memory of no pages at address 0, without attributes.
 impl Default for MemoryDescriptor {
     ghost use Rattle.uefi_map.specs.memory.Descriptor.{zero_descriptor};
 
@@ -98,9 +113,11 @@ impl Default for MemoryDescriptor {
 }
 
 impl Align for MemoryDescriptor {
-    ghost alignment = { 8 };
+    ghost use Rattle.uefi_map.specs.memory.Descriptor.{descriptor_alignment};
+
+    ghost alignment = { descriptor_alignment };
 
     fn alignment() -> usize {
-        8
+        DESCRIPTOR_ALIGNMENT
     }
 }

@@ -1,16 +1,16 @@
 use std::fmt;
 
-/// Why bytes are no memory map.
+/// The error of bytes that are no memory map.
 #[derive(Clone, Copy, Debug)]
 pub enum MemoryMapError {
-    /// The bytes don't begin at a multiple of eight. No call here answers it, since none sees an
+    /// The address of the bytes isn't a multiple of 8. No call returns it, since none sees an
     /// address.
     Misaligned,
-    /// The sizes don't go together, or the map is longer than the bytes.
+    /// The sizes make no map of the bytes ([`MemoryMapMeta::is_map_within`](crate::MemoryMapMeta)).
     InvalidSize,
 }
 
-/// The name of the error, without a newline.
+/// The name of the error.
 impl fmt::Display for MemoryMapError {
     ghost use Rattle.std.specs.Prelude.{Some};
     ghost use Rattle.uefi_map.specs.memory.Texts.{map_error_text};

@@ -7,9 +7,7 @@ use super::meta::MemoryMapMeta;
 use super::sizes::Sizes;
 use std::alloc::{Allocator, Global};
 
-/// A memory map that owns its bytes.
-///
-/// Its buffer is as long as the map, so nothing stands behind it.
+/// A memory map that owns its buffer, which is as long as the map.
 #[derive(Drop)]
 pub struct MemoryMapOwned<A: Allocator = Global> {
     buffer: Vec<u8, A>,
@@ -19,10 +17,13 @@ pub struct MemoryMapOwned<A: Allocator = Global> {
 impl<A: Allocator> MemoryMapOwned<A> {
     ghost use Rattle.uefi_map.specs.memory.Views.{owned_bytes, owned_meta};
 
-    /// The map that the bytes begin with. What is behind it is dropped, and no memory is taken.
+    /// Returns the map that the vector begins with. It drops the bytes after the map, and allocates
+    /// nothing.
     ///
-    /// Refused as [`MemoryMapRef::new`](crate::MemoryMapRef::new) refuses the same bytes: the vector
-    /// is then handed back as it is.
+    /// # Errors
+    ///
+    /// [`InvalidSize`](MemoryMapError::InvalidSize), with the vector as it was, exactly if the sizes
+    /// make no map of it ([`MemoryMapMeta::is_map_within`]).
     pub fn from_initialized_mem(
         mut buffer: Vec<u8, A>,
         meta: MemoryMapMeta,
@@ -38,7 +39,7 @@ impl<A: Allocator> MemoryMapOwned<A> {
         buffer.truncate(meta.map_size);
         Ok(MemoryMapOwned {
             buffer,
-            sizes: Sizes::of(meta),
+            sizes: Sizes::new(meta),
         })
     }
 }
@@ -63,7 +64,7 @@ impl<A: Allocator> MemoryMapMut for MemoryMapOwned<A> {
     ghost use Rattle.uefi_map.specs.memory.Views.{owned_with};
     ghost use Rattle.uefi_map.specs.memory.Keeping.{owned_bytes-with, owned_meta-with};
 
-    ghost same_place = { λ _ _. Unit {0} };
+    ghost same_buffer = { λ _ _. Unit {0} };
 
     ghost with_bytes = { owned_with };
 
@@ -71,11 +72,11 @@ impl<A: Allocator> MemoryMapMut for MemoryMapOwned<A> {
 
     ghost meta_with = { owned_meta-with };
 
-    ghost same_place_with = { λ _ _. tt };
+    ghost same_buffer_with = { λ _ _. tt };
 
-    ghost same_place_as_itself = { λ _. tt };
+    ghost same_buffer_as_itself = { λ _. tt };
 
-    ghost same_place_after = { λ _ _ _ _ _. tt };
+    ghost same_buffer_after = { λ _ _ _ _ _. tt };
 
     fn buffer_mut(&mut self) -> &mut [u8] {
         &mut self.buffer

@@ -5,9 +5,30 @@ use super::map_error::MemoryMapError;
 use super::memory_map::MemoryMap;
 use super::meta::MemoryMapMeta;
 
-/// A memory map over bytes that are only read.
+/// A memory map over a buffer that is only read.
 ///
-/// A view: it borrows the bytes, and takes no memory.
+/// A view: it borrows the buffer, and allocates nothing.
+///
+/// # Examples
+///
+/// ```
+/// use uefi_map::{MemoryMap, MemoryMapMeta, MemoryMapRef};
+///
+/// /// Returns the count of pages in a buffer of firmware's, or `None` if it holds no map or the sum
+/// /// doesn't fit.
+/// pub fn pages_in(buffer: &[u8], meta: MemoryMapMeta) -> Option<u64> {
+///     let Ok(map) = MemoryMapRef::new(buffer, meta) else {
+///         return None;
+///     };
+///     let mut pages = 0u64;
+///     for entry in map.entries() {
+///         pages = pages.checked_add(entry.page_count)?;
+///     }
+///     Some(pages)
+/// }
+/// ```
+///
+/// This function is proved in `crates/callers/src/map.rt`, which shows its contract.
 #[derive(Clone, Copy)]
 pub struct MemoryMapRef<'a> {
     buffer: &'a [u8],
@@ -18,11 +39,13 @@ pub struct MemoryMapRef<'a> {
 impl<'a> MemoryMapRef<'a> {
     ghost use Rattle.uefi_map.specs.memory.Views.{ref_bytes, ref_meta};
 
-    /// The map that the bytes begin with.
+    /// Returns the map that the buffer begins with.
     ///
-    /// Refused as [`MemoryMapError::InvalidSize`] exactly where the sizes don't go together: where
-    /// the stride has fewer than forty bytes, is no multiple of eight, or doesn't divide the map's
-    /// bytes, or where these are more than the buffer's.
+    /// # Errors
+    ///
+    /// [`InvalidSize`](MemoryMapError::InvalidSize) exactly if the sizes make no map of the buffer
+    /// ([`MemoryMapMeta::is_map_within`]): if the stride is below 40 bytes, is no multiple of 8, or
+    /// doesn't divide the map's length, or if this is above the buffer's.
     pub fn new(buffer: &'a [u8], meta: MemoryMapMeta) -> Result<MemoryMapRef<'a>, MemoryMapError>
         ensures accepted { IsOk result ↔ IsMap (length buffer.now) meta }
         ensures buffer { IfOk result (λ map. ref_bytes map ≡ buffer.now) }

@@ -7,9 +7,9 @@ use super::memory_map::{MemoryMap, MemoryMapMut};
 use super::meta::MemoryMapMeta;
 use super::sizes::Sizes;
 
-/// A memory map over bytes that can be written.
+/// A memory map over a buffer that can be written.
 ///
-/// It borrows the bytes, and takes no memory.
+/// It borrows the buffer, and allocates nothing.
 #[derive(Drop)]
 pub struct MemoryMapRefMut<'a> {
     buffer: &'a mut [u8],
@@ -20,15 +20,14 @@ impl<'a> MemoryMapRefMut<'a> {
     ghost use Rattle.uefi_map.specs.memory.Views.{mut_bytes, mut_meta, WritesTo};
     ghost use Rattle.uefi_map.specs.memory.Lending.{StaysIfRefused};
 
-    /// The map that the buffer begins with.
-    ///
-    /// A proof of the caller's isn't told by this call that a refused buffer stays as it was:
-    /// [`MemoryMapMeta::is_map_within`] and [`MemoryMapRefMut::over`] tell that too.
+    /// Returns the map that the buffer begins with.
     ///
     /// # Errors
     ///
-    /// [`InvalidSize`](MemoryMapError::InvalidSize) if the sizes make no map of the buffer
-    /// ([`MemoryMapMeta::is_map_within`]). Every byte of the buffer stays as it was.
+    /// [`InvalidSize`](MemoryMapError::InvalidSize) exactly if the sizes make no map of the buffer
+    /// ([`MemoryMapMeta::is_map_within`]). Every byte of the buffer then stays as it was. A caller
+    /// whose own proof needs that calls [`MemoryMapMeta::is_map_within`] and
+    /// [`MemoryMapRefMut::over`].
     pub fn new(
         buffer: &'a mut [u8],
         meta: MemoryMapMeta,
@@ -38,7 +37,7 @@ impl<'a> MemoryMapRefMut<'a> {
         ensures buffer { IfOk result (λ map. mut_bytes map ≡ buffer.entry.now) }
         ensures meta { IfOk result (λ map. mut_meta map ≡ meta) }
         ensures refused { IfErr result (λ error. error ≡ MemoryMapError.InvalidSize) }
-        ensures same_place { IfOk result (WritesTo buffer.entry) }
+        ensures same_buffer { IfOk result (WritesTo buffer.entry) }
     {
         if is_map(buffer.len(), meta) {
             return MemoryMapRefMut::accepted(buffer, meta);
@@ -46,7 +45,7 @@ impl<'a> MemoryMapRefMut<'a> {
         MemoryMapRefMut::refused()
     }
 
-    // The map that the buffer is known to begin with.
+    // Returns the map that the buffer is known to begin with.
     fn accepted(
         buffer: &'a mut [u8],
         meta: MemoryMapMeta,
@@ -55,34 +54,34 @@ impl<'a> MemoryMapRefMut<'a> {
         ensures accepted { IsOk result }
         ensures buffer { IfOk result (λ map. mut_bytes map ≡ buffer.entry.now) }
         ensures meta { IfOk result (λ map. mut_meta map ≡ meta) }
-        ensures same_place { IfOk result (WritesTo buffer.entry) }
+        ensures same_buffer { IfOk result (WritesTo buffer.entry) }
     {
         Ok(MemoryMapRefMut::over(buffer, meta))
     }
 
-    // No map, for sizes that make none of the buffer.
+    // Returns the error of sizes that make no map.
     fn refused() -> Result<MemoryMapRefMut<'a>, MemoryMapError>
         ensures { result ≡ Err MemoryMapError.InvalidSize }
     {
         Err(MemoryMapError::InvalidSize)
     }
 
-    /// The map that the buffer begins with, for sizes that are known to make one: by
-    /// [`MemoryMapMeta::is_map_within`], with the buffer's length.
+    /// Returns the map that the buffer begins with, for sizes that are known to make one, by
+    /// [`MemoryMapMeta::is_map_within`].
     pub fn over(buffer: &'a mut [u8], meta: MemoryMapMeta) -> MemoryMapRefMut<'a>
         requires { IsMap (length buffer.old) meta }
         ensures buffer { mut_bytes result ≡ buffer.entry.now }
         ensures meta { mut_meta result ≡ meta }
-        ensures same_place { WritesTo buffer.entry result }
+        ensures same_buffer { WritesTo buffer.entry result }
     {
         MemoryMapRefMut {
             buffer,
-            sizes: Sizes::of(meta),
+            sizes: Sizes::new(meta),
         }
     }
 }
 
-// Whether a count of bytes is a map with these sizes.
+// Returns whether the sizes make a map of a buffer with this length.
 fn is_map(length: usize, meta: MemoryMapMeta) -> bool
     ensures { IsTrue result ↔ IsMap length meta }
 {
@@ -112,7 +111,7 @@ impl<'a> MemoryMapMut for MemoryMapRefMut<'a> {
     ghost use Rattle.uefi_map.specs.memory.Keeping.{mut_meta-with};
     ghost use Rattle.uefi_map.specs.memory.Views.{WriteToTheSame};
 
-    ghost same_place = { WriteToTheSame };
+    ghost same_buffer = { WriteToTheSame };
 
     ghost with_bytes = { mut_with };
 
@@ -120,11 +119,11 @@ impl<'a> MemoryMapMut for MemoryMapRefMut<'a> {
 
     ghost meta_with = { mut_meta-with };
 
-    ghost same_place_with = { λ _ _. refl };
+    ghost same_buffer_with = { λ _ _. refl };
 
-    ghost same_place_as_itself = { λ _. refl };
+    ghost same_buffer_as_itself = { λ _. refl };
 
-    ghost same_place_after = { λ _ _ _ first second. second ∙ first };
+    ghost same_buffer_after = { λ _ _ _ first second. second ∙ first };
 
     fn buffer_mut(&mut self) -> &mut [u8] {
         self.buffer

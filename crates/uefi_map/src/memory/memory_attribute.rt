@@ -5,11 +5,11 @@ ghost use Rattle.uefi_map.specs.memory.Flags.{named_attributes};
 
 use bitflags::{Flag, Flags, bitflag_items};
 
-/// What a range of memory can do, and what the firmware needs it for: a set of flags in eight bytes
-/// (UEFI 2.10, 7.2 `EFI_BOOT_SERVICES.GetMemoryMap()`).
+/// What a range of memory is capable of, and whether runtime services need it: a set of flags in
+/// eight bytes (UEFI 2.10, 7.2 `EFI_BOOT_SERVICES.GetMemoryMap()`).
 ///
-/// Equality and order are those of the bits, and the default is the empty set. A bit without a name
-/// here is kept where a descriptor is read, or [`MemoryAttribute::from_bits_retain`] makes the set.
+/// Equality and order are those of the bits as a number, and the default is the empty set. A set that
+/// is read, or made by [`MemoryAttribute::from_bits_retain`], keeps the bits without a name here.
 #[derive(Clone, Copy, PartialEq, Eq, PartialOrd, Ord, Default, Debug)]
 pub struct MemoryAttribute(u64);
 
@@ -31,21 +31,21 @@ bitflag_items! {
 impl MemoryAttribute {
     ghost use Rattle.uefi_map.specs.memory.Views.{attribute_bits};
 
-    /// The set of no flags.
+    /// Returns the empty set.
     pub fn empty() -> MemoryAttribute
         ensures { attribute_bits result ≡ 0 }
     {
         <MemoryAttribute as Flags>::empty()
     }
 
-    /// All bits of the set, those without a name too.
+    /// Returns all bits of the set, also those without a name.
     pub fn bits(&self) -> u64
         ensures { result ≡ attribute_bits self.now }
     {
         <MemoryAttribute as Flags>::bits(self)
     }
 
-    /// The set of these bits, or none where one of them has no name.
+    /// Returns the set of these bits, or `None` if one of them has no name.
     #[tactic(auto, using(uefi_base::proofs::NamedBits::named_bits), unfolding(bitflags::proofs::OnLiterals::bitflags_on_literals))]
     pub fn from_bits(bits: u64) -> Option<MemoryAttribute>
         ensures named { IsSome result ↔ IsTrue (has_bits named_attributes bits) }
@@ -54,21 +54,21 @@ impl MemoryAttribute {
         <MemoryAttribute as Flags>::from_bits(bits)
     }
 
-    /// The set of these bits, those without a name too.
+    /// Returns the set of these bits, also those without a name.
     pub fn from_bits_retain(bits: u64) -> MemoryAttribute
         ensures { attribute_bits result ≡ bits }
     {
         <MemoryAttribute as Flags>::from_bits_retain(bits)
     }
 
-    /// Whether each bit of the other set is in this one.
+    /// Returns whether each bit of the other set is in this one.
     pub fn contains(&self, other: MemoryAttribute) -> bool
         ensures { result ≡ has_bits (attribute_bits self.now) (attribute_bits other) }
     {
         <MemoryAttribute as Flags>::contains(self, other)
     }
 
-    /// The bits of either set.
+    /// Returns the set of the bits of either set.
     pub fn union(self, other: MemoryAttribute) -> MemoryAttribute
         ensures { attribute_bits result ≡ bit_or (attribute_bits self) (attribute_bits other) }
     {

@@ -11,10 +11,14 @@ use super::descriptor::MemoryDescriptor;
 use super::iter::MemoryMapIter;
 use super::meta::{MemoryMapKey, MemoryMapMeta};
 
-/// A memory map: a buffer that begins with the map's descriptors, and what firmware says of it.
+/// A memory map (UEFI 2.10, 7.2 `EFI_BOOT_SERVICES.GetMemoryMap()`): a buffer that begins with the
+/// map's descriptors, and what firmware says of it.
 ///
-/// Descriptor i stands at i times the stride, [`MemoryMapMeta::desc_size`]. The bytes of a stride
-/// behind its descriptor, and those behind the map, mean nothing.
+/// The offset of descriptor i is i times the stride, [`MemoryMapMeta::desc_size`]. The rest of each
+/// stride, and the bytes after the map, have no meaning.
+///
+/// A type gives [`meta`](MemoryMap::meta) and [`buffer`](MemoryMap::buffer), and has the other calls,
+/// with their contracts, from here.
 pub trait MemoryMap {
     /// The bytes of the buffer.
     ghost bytes: { Self → List ℕ };
@@ -22,33 +26,34 @@ pub trait MemoryMap {
     /// The sizes, the key and the version.
     ghost meta: { Self → MemoryMapMeta };
 
-    /// What firmware says of the map: what was handed in with its bytes.
+    /// Returns what firmware says of the map.
     fn meta(&self) -> MemoryMapMeta
         ensures meta { result ≡ meta self.now }
         ensures map { IsMap (length (bytes self.now)) (meta self.now) };
 
-    /// The state of firmware's map that this one is of.
+    /// Returns the key of the state of firmware's map that this one is of.
     fn key(&self) -> MemoryMapKey
         ensures { result ≡ (meta self.now).map_key }
     {
         self.meta().map_key
     }
 
-    /// How many descriptors there are.
+    /// Returns the count of descriptors.
     fn len(&self) -> usize
         ensures { result ≡ count_of (meta self.now) }
     {
         self.meta().entry_count()
     }
 
-    /// Whether there is no descriptor.
+    /// Returns whether there is no descriptor.
     fn is_empty(&self) -> bool
         ensures { IsTrue result ↔ (count_of (meta self.now) ≡ 0) }
     {
         self.len() == 0
     }
 
-    /// The descriptor at the index, if there is one.
+    /// Returns the descriptor at the index, or `None` if the index isn't below
+    /// [`len`](MemoryMap::len).
     fn get(&self, i: usize) -> Option<MemoryDescriptor>
         ensures { result ≡ entry_of (bytes self.now) (meta self.now) i }
     {
@@ -59,7 +64,7 @@ pub trait MemoryMap {
         }
     }
 
-    /// The descriptor at an index that is below [`len`](MemoryMap::len).
+    /// Returns the descriptor at an index that is below [`len`](MemoryMap::len).
     fn at(&self, i: usize) -> MemoryDescriptor
         requires { i < count_of (meta self.now) }
         ensures { result ≡ descriptor (bytes self.now) (meta self.now).desc_size i }
@@ -67,11 +72,11 @@ pub trait MemoryMap {
         read_at(self.buffer(), &self.meta(), i)
     }
 
-    /// The buffer, with the bytes that mean nothing.
+    /// Returns the whole buffer.
     fn buffer(&self) -> &[u8]
         ensures { result.now ≡ bytes self.now };
 
-    /// The descriptors, in order.
+    /// Returns the descriptors, in order.
     fn entries(&self) -> MemoryMapIter<'_>
         ensures entries { entries_left result ≡ entries_of (bytes self.now) (meta self.now) }
         ensures countable { length (entries_left result) < 2 ^ 64 }
@@ -79,7 +84,7 @@ pub trait MemoryMap {
         MemoryMapIter::of(self.buffer(), &self.meta())
     }
 
-    /// Whether no descriptor begins at a lower physical address than the one before it.
+    /// Returns whether no descriptor begins at a lower physical address than the one before it.
     fn is_sorted(&self) -> bool
         ensures { IsTrue result ↔ AreSorted (bytes self.now) (meta self.now) }
     {
@@ -88,15 +93,18 @@ pub trait MemoryMap {
 }
 
 /// A memory map whose descriptors can be written.
+///
+/// A type gives [`buffer_mut`](MemoryMapMut::buffer_mut), and has the other calls, with their
+/// contracts, from here.
 pub trait MemoryMapMut: MemoryMap {
-    /// The map with these bytes in its buffer.
+    /// The map with the bytes in its buffer.
     ghost with_bytes: { Self → List ℕ → Self };
 
-    /// Both maps write to the same bytes of a caller's, where they borrow them.
-    ghost same_place: { Self → Self → Type 0 };
+    /// Both maps write to the same buffer of a caller's, if they borrow one.
+    ghost same_buffer: { Self → Self → Type 0 };
 
-    /// Sets the descriptor at the index, and returns the one that stood there. For an index that is not
-    /// below [`len`](MemoryMap::len) it returns `None`, and every byte stays as it was.
+    /// Sets the descriptor at the index, and returns the one that was there before. If the index isn't
+    /// below [`len`](MemoryMap::len), it returns `None`, and every byte stays as it was.
     ///
     /// It writes the forty bytes of the descriptor alone.
     fn set(&mut self, i: usize, entry: MemoryDescriptor) -> Option<MemoryDescriptor>
@@ -110,7 +118,7 @@ pub trait MemoryMapMut: MemoryMap {
         ensures unchanged { let map = Self.MemoryMap in
             IfNone result (map.bytes self.new ≡ map.bytes self.old) }
         ensures meta { let map = Self.MemoryMap in map.meta self.new ≡ map.meta self.old }
-        ensures same_place { same_place self.old self.new }
+        ensures same_buffer { same_buffer self.old self.new }
     {
         let before = self.get(i)?;
         self.set_at(i, entry);
@@ -127,19 +135,19 @@ pub trait MemoryMapMut: MemoryMap {
         ensures read_back { let map = Self.MemoryMap in
             descriptor (map.bytes self.new) (map.meta self.new).desc_size i ≡ entry }
         ensures meta { let map = Self.MemoryMap in map.meta self.new ≡ map.meta self.old }
-        ensures same_place { same_place self.old self.new }
+        ensures same_buffer { same_buffer self.old self.new }
     {
         let meta = self.meta();
         write_at(self.buffer_mut(), &meta, i, &entry);
     }
 
-    /// The buffer, to be written. Any bytes are descriptors, so what is written stays a map.
+    /// Returns the whole buffer, to be written. Any bytes are descriptors, so it stays a map.
     fn buffer_mut(&mut self) -> &mut [u8]
         ensures* writes_back { sem 𝓛
             (LendsBuffer Self.row self.entry (with_bytes self.entry.now) result) }
         ensures buffer { result.now ≡ Self.MemoryMap.bytes self.old };
 
-    // What is written through the buffer is the map's bytes, and leaves the rest of it as it was.
+    // What is written to the buffer is then the map's bytes, and the rest of the map stays as it was.
     ghost bytes_with: { (map : Self) (bytes : List ℕ)
         → length bytes ≡ length (Self.MemoryMap.bytes map)
         → Self.MemoryMap.bytes (with_bytes map bytes) ≡ bytes };
@@ -148,10 +156,10 @@ pub trait MemoryMapMut: MemoryMap {
         → length bytes ≡ length (Self.MemoryMap.bytes map)
         → Self.MemoryMap.meta (with_bytes map bytes) ≡ Self.MemoryMap.meta map };
 
-    ghost same_place_with: { (map : Self) (bytes : List ℕ) → same_place map (with_bytes map bytes) };
+    ghost same_buffer_with: { (map : Self) (bytes : List ℕ) → same_buffer map (with_bytes map bytes) };
 
-    ghost same_place_as_itself: { (map : Self) → same_place map map };
+    ghost same_buffer_as_itself: { (map : Self) → same_buffer map map };
 
-    ghost same_place_after: { (one other third : Self)
-        → same_place one other → same_place other third → same_place one third };
+    ghost same_buffer_after: { (one other third : Self)
+        → same_buffer one other → same_buffer other third → same_buffer one third };
 }

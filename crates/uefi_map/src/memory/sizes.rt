@@ -4,10 +4,10 @@ ghost use Rattle.uefi_map.specs.memory.Map.{IsMap, HasWholeStrides, meta_within}
 use super::meta::MemoryMapMeta;
 use std::marker::Model;
 
-/// The sizes of a map that was accepted, without the buffer that they were accepted for.
+/// The sizes of a map that was accepted, without its buffer.
 ///
-/// A struct that lends its `&mut` buffer can't keep a fact of the buffer's length beside it. So it
-/// keeps these, and asks for the map's sizes with the length that the buffer has.
+/// A struct that lends its buffer as `&mut` can't keep a fact about the buffer's length beside it. So
+/// it keeps these, and asks for the map's sizes by the buffer's length.
 #[derive(Drop)]
 pub struct Sizes {
     meta: MemoryMapMeta,
@@ -25,15 +25,16 @@ impl Model for Sizes {
 }
 
 impl Sizes {
-    // The sizes, which go together.
-    pub(crate) fn of(meta: MemoryMapMeta) -> Sizes
+    // Returns the sizes, which are whole strides.
+    pub(crate) fn new(meta: MemoryMapMeta) -> Sizes
         requires { HasWholeStrides meta }
         ensures { result ≡ meta }
     {
         Sizes { meta }
     }
 
-    // The sizes of the map in so many bytes; of an empty one where they have no room for it.
+    // Returns the sizes of the map in a buffer with this length, or those of an empty map if the
+    // buffer is too short.
     pub(crate) fn within(&self, length: usize) -> MemoryMapMeta
         ensures map { IsMap length result }
         ensures meta { result ≡ meta_within length self.now }

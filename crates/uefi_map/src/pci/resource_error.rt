@@ -2,23 +2,22 @@ ghost use Rattle.std.specs.Prelude.{◌≡◌};
 
 use std::alloc::AllocError;
 
-/// Why bytes begin with no list of resources.
+/// The error of bytes that begin with no list of resources.
 ///
-/// The first place decides where neither a whole record nor the end tag stands. Want of memory
-/// comes only where there is no such place.
+/// The first offset decides at which neither a whole record nor the end tag begins.
 #[derive(Clone, Copy, PartialEq, Eq, Debug)]
 pub enum ResourceError {
-    /// The bytes end there.
+    /// The bytes end at that offset.
     NoEndTag,
-    /// A record begins there, and the bytes end before it does.
+    /// A record begins at that offset, and the bytes end before it does.
     CutRecord,
-    /// This byte stands there, which is the tag neither of a record nor of the end.
+    /// This byte is at that offset. It is neither the tag of a record nor the end tag.
     UnknownTag(u8),
-    /// Memory was refused.
+    /// An allocation failed. The bytes begin with a list.
     Memory,
 }
 
-/// Want of memory is [`ResourceError::Memory`].
+/// An allocation that fails is [`ResourceError::Memory`].
 impl From<AllocError> for ResourceError {
     ghost use Rattle.uefi_map.specs.declared.pci.resource_error.ResourceError.TheVariants.{Memory};
 

@@ -6,8 +6,7 @@ use std::iter::{ExactSizeIterator, FusedIterator};
 /// The resources of a list, in order, each by value.
 ///
 /// After the last resource the iterator stays ended. Its [`len`](ExactSizeIterator::len) and
-/// [`size_hint`](Iterator::size_hint) are exact. It lives as long as the bytes that the list was
-/// read from, and allocates nothing.
+/// [`size_hint`](Iterator::size_hint) are exact. It borrows the bytes that the list was read from.
 #[derive(Clone, Copy)]
 pub struct ResourceIter<'a> {
     rest: &'a [u8],
@@ -17,7 +16,7 @@ pub struct ResourceIter<'a> {
 impl<'a> ResourceIter<'a> {
     ghost use Rattle.uefi_map.specs.pci.Views.{resources_in, resources_left};
 
-    // The resources of these records.
+    // Returns the resources of whole records.
     pub(super) fn over(rest: &'a [u8]) -> ResourceIter<'a>
         ensures resources { resources_left result ≡ resources_in rest.now }
         ensures countable { length (resources_left result) < 2 ^ 64 }
@@ -46,7 +45,7 @@ impl<'a> Iterator for ResourceIter<'a> {
         Some(QwordAddressSpaceDescriptor::read(record))
     }
 
-    /// Both bounds are the count of resources that are left.
+    /// Returns the count of resources that are left, as both bounds.
     fn size_hint(&self) -> (usize, Option<usize>)
         ensures lower { IsWithinCount result.0 (at_most (length (resources_left self.now))) }
         ensures upper { IfSome result.1 (UpTo (at_most (length (resources_left self.now)))) }
@@ -60,7 +59,7 @@ impl<'a> Iterator for ResourceIter<'a> {
 
 #[tactic(auto, using(crate::proofs::pci_lemmas::Records::resource_count))]
 impl<'a> ExactSizeIterator for ResourceIter<'a> {
-    /// The count of resources that are left.
+    /// Returns the count of resources that are left.
     fn len(&self) -> usize {
         self.rest.len() / RECORD_LENGTH
     }

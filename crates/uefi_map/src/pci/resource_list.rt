@@ -13,10 +13,32 @@ const RECORD_TAG: u8 = 0x8a;
 /// The first byte of the end tag.
 const END_TAG: u8 = 0x79;
 
-/// A list of PCI resources (UEFI 2.10, 14.2 `EFI_PCI_ROOT_BRIDGE_IO_PROTOCOL.Configuration()`):
-/// records of [`QwordAddressSpaceDescriptor`]s up to the end tag 0x79 (ACPI 6.5, 6.4.2.9).
+/// The resources of a PCI root bridge (UEFI 2.10, 14.2
+/// `EFI_PCI_ROOT_BRIDGE_IO_PROTOCOL.Configuration()`): a record of 46 bytes for each
+/// [`QwordAddressSpaceDescriptor`], and then the end tag 0x79 (ACPI 6.5, 6.4.2.9).
 ///
 /// A view: it borrows the bytes that it was read from, and allocates nothing.
+///
+/// # Examples
+///
+/// ```
+/// use uefi_map::ResourceList;
+///
+/// /// Returns the count of addresses in all ranges that the bytes list, or `None` if they begin with
+/// /// no list or the sum doesn't fit.
+/// pub fn addresses_in(bytes: &[u8]) -> Option<u64> {
+///     let Ok(list) = ResourceList::try_from(bytes) else {
+///         return None;
+///     };
+///     let mut addresses = 0u64;
+///     for range in list.iter() {
+///         addresses = addresses.checked_add(range.address_length)?;
+///     }
+///     Some(addresses)
+/// }
+/// ```
+///
+/// This function is proved in `crates/callers/src/resources.rt`, which shows its contract.
 #[derive(Clone, Copy)]
 pub struct ResourceList<'a> {
     records: &'a [u8],
@@ -25,7 +47,7 @@ pub struct ResourceList<'a> {
 impl<'a> ResourceList<'a> {
     ghost use Rattle.uefi_map.specs.pci.Views.{resources_left, resources_of};
 
-    /// The resources, in order.
+    /// Returns the resources, in order.
     pub fn iter(&self) -> ResourceIter<'a>
         ensures resources { resources_left result ≡ resources_of self.now }
         ensures countable { length (resources_left result) < 2 ^ 64 }
@@ -34,18 +56,19 @@ impl<'a> ResourceList<'a> {
     }
 }
 
-/// Reads the list that the bytes begin with. What follows its end tag isn't looked at.
+/// Reads the list that the bytes begin with. The bytes after its end tag aren't looked at.
 ///
 /// # Errors
 ///
-/// The first offset decides at which neither a whole record nor the end tag begins:
+/// Fails exactly if the bytes begin with no list. The first offset at which neither a whole record nor
+/// the end tag begins decides:
 ///
-/// - [`NoEndTag`](ResourceError::NoEndTag) if the bytes end there;
-/// - [`CutRecord`](ResourceError::CutRecord) if a record's tag stands there, and the bytes end before
-///   the record does;
-/// - [`UnknownTag`](ResourceError::UnknownTag) if another byte stands there.
+/// - [`NoEndTag`](ResourceError::NoEndTag) if the bytes end there.
+/// - [`CutRecord`](ResourceError::CutRecord) if the tag of a record is there, and the bytes end before
+///   the record does.
+/// - [`UnknownTag`](ResourceError::UnknownTag) with the byte there, if it is neither tag.
 ///
-/// [`Memory`](ResourceError::Memory) never comes.
+/// It allocates nothing, so [`Memory`](ResourceError::Memory) never comes.
 impl<'a> TryFrom<&'a [u8]> for ResourceList<'a> {
     ghost use Rattle.uefi_map.specs.pci.ResourceList.{ReadsList};
     ghost use Rattle.uefi_map.specs.pci.Views.{resources_of};
@@ -64,7 +87,8 @@ impl<'a> TryFrom<&'a [u8]> for ResourceList<'a> {
     }
 }
 
-/// The bytes after the record that these begin with, or `None` if they begin with the end tag.
+/// Returns the bytes after the record that these begin with, or `None` if they begin with the end
+/// tag.
 fn skip_record(bytes: &[u8]) -> Result<Option<&[u8]>, ResourceError>
     ensures record { IfOk result (λ next. IfSome next (λ after.
         (resource : QwordAddressSpaceDescriptor)
@@ -84,12 +108,12 @@ fn skip_record(bytes: &[u8]) -> Result<Option<&[u8]>, ResourceError>
     }
 }
 
-/// The resources of the list that the bytes begin with, in order: those of
-/// [`ResourceList::try_from`], in memory.
+/// Returns the resources of the list that the bytes begin with, in order: those of
+/// [`ResourceList::try_from`], in a vector.
 ///
 /// # Errors
 ///
-/// - The error of [`ResourceList::try_from`] if the bytes begin with no list;
+/// - The error of [`ResourceList::try_from`] if the bytes begin with no list.
 /// - [`Memory`](ResourceError::Memory) if they begin with one, and an allocation fails.
 pub fn parse<A: Allocator>(
     alloc: A,
