@@ -8,12 +8,7 @@ use Rattle.uefi_path.specs.Node.{Node, joined}
 use Rattle.uefi_path.specs.Path.{IsPath, HasPath, AreInstances, all_but_last}
 use Rattle.uefi_list.specs.declared.listing.Outcome.{Outcome}
 use Rattle.uefi_list.specs.declared.listing.Outcome.TheVariants.{Listed, Refused}
-use Rattle.uefi_list.specs.Listing.Text.{hex_of, AppendsText}
-
--- A space, if bytes follow.
-unfoldable pub gap_before : List ℕ → List ℕ
-gap_before [] = []
-gap_before (b ∷ bs) = codes " "
+use Rattle.uefi_list.specs.Listing.Text.{gap_before, hex_of, AppendsText}
 
 -- Two spaces, the type and the subtype in hex, and the data in hex.
 unfoldable pub node_line : Node → List ℕ

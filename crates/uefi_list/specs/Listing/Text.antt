@@ -8,6 +8,11 @@ use Rattle.uefi_base.specs.GuidText.{hex_byte}
 unfoldable pub hex_of : List ℕ → List ℕ
 hex_of bytes = flat_map hex_byte bytes
 
+-- A space, if bytes follow.
+unfoldable pub gap_before : List ℕ → List ℕ
+gap_before [] = []
+gap_before (b ∷ bs) = codes " "
+
 -- A number in lower case hex without leading zeros, `0x0` for zero.
 unfoldable pub hex_number : ℕ → List ℕ
 hex_number n = codes "0x" ++ digits 16 false n

@@ -1,7 +1,7 @@
 ghost use Rattle.std.specs.Prelude.{◌≡◌, ◌≤◌, ◌<◌, length, false, IsAscii, Some};
 ghost use Rattle.std.specs.Fmt.{DisplaysOnOk, digit_glyph};
 ghost use Rattle.uefi_base.specs.GuidText.{hex_byte};
-ghost use Rattle.uefi_list.specs.Listing.Text.{hex_of, hex_number};
+ghost use Rattle.uefi_list.specs.Listing.Text.{gap_before, hex_of, hex_number};
 
 use std::fmt;
 
@@ -69,6 +69,17 @@ fn write_block<W: fmt::Write>(f: &mut fmt::Formatter<W>, block: &[u8]) -> fmt::R
     match hex::encode_to_slice(block, digits) {
         Ok(()) => f.write_str(ascii(digits)),
         Err(_) => unreachable!(),
+    }
+}
+
+/// A space, if bytes follow.
+#[tactic(auto, unfolding(crate::specs::Listing::Text::gap_before))]
+pub(super) fn gap_before(bytes: &[u8]) -> &'static str
+    ensures { result.now ≡ gap_before bytes.now }
+{
+    match bytes {
+        [] => "",
+        [_, ..] => " ",
     }
 }
 
