@@ -65,7 +65,7 @@ fn push_node<A: Allocator>(
     writeln!(text, "  {device_type} {sub_type}{gap}{data}")
 }
 
-/// A space, if bytes follow.
+/// Returns a space if bytes follow, and else nothing.
 #[tactic(auto, unfolding(crate::specs::Listing::Path::gap_before))]
 fn gap_before(bytes: &[u8]) -> &'static str
     ensures { result.now ≡ gap_before bytes.now }
