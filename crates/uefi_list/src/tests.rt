@@ -1,5 +1,6 @@
 //! Worked rows, outputs that fail, and allocations that fail.
 
+mod configurations;
 mod files;
 mod logs;
 mod maps;
@@ -24,19 +25,29 @@ const TWO_INSTANCES_LISTING: &str = "instance 18\n  a0 b0 0a0b\n  a1 b1 14151617
 /// A command, the bytes of its file as hex, and their listing.
 type Row<'a> = (Command, &'a str, &'a str);
 
-/// Checks that [`listing`] and [`run`] over memory both give the listing of each row, with this
-/// outcome.
-fn each_lists(alloc: Global, rows: &[Row<'_>], outcome: Outcome) -> Result<(), Fail> {
-    for (command, row, expected) in rows {
-        let input = bytes(alloc, row)?;
-        let (text, listed) = listing(alloc, command, input.as_slice())?;
-        same_text(row, str::from_utf8(text.as_slice())?, expected)?;
-        same(row, &listed, &outcome)?;
+/// Checks that [`listing`] and [`run`] over memory both give the listing of the bytes of a row, with
+/// this outcome.
+fn lists(
+    alloc: Global,
+    (command, row, expected): &Row<'_>,
+    input: &[u8],
+    outcome: Outcome,
+) -> Result<(), Fail> {
+    let (text, listed) = listing(alloc, command, input)?;
+    same_text(row, str::from_utf8(text.as_slice())?, expected)?;
+    same(row, &listed, &outcome)?;
 
-        let mut out = Vec::new(alloc);
-        let ran = run(alloc, command, input.as_slice(), &mut out);
-        same(row, &ran, &Ok(outcome))?;
-        same_text(row, str::from_utf8(out.as_slice())?, expected)?;
+    let mut out = Vec::new(alloc);
+    let ran = run(alloc, command, input, &mut out);
+    same(row, &ran, &Ok(outcome))?;
+    same_text(row, str::from_utf8(out.as_slice())?, expected)
+}
+
+/// Checks the listing of each row.
+fn each_lists(alloc: Global, rows: &[Row<'_>], outcome: Outcome) -> Result<(), Fail> {
+    for row in rows {
+        let input = bytes(alloc, row.1)?;
+        lists(alloc, row, input.as_slice(), outcome)?;
     }
     Ok(())
 }

@@ -21,6 +21,7 @@ fn a_command_and_a_file_ask_for_a_listing(rt: HostRuntime) -> Result<(), Fail> {
     asks(rt.alloc(), &["path", "boot.dp"], Some(Command::Path))?;
     asks(rt.alloc(), &["path", "path"], Some(Command::Path))?;
     asks(rt.alloc(), &["time", "boot.time"], Some(Command::Time))?;
+    asks(rt.alloc(), &["config", "setup.txt"], Some(Command::Config))?;
     asks(rt.alloc(), &["pci", "bridge.res"], Some(Command::Pci))
 }
 
@@ -82,7 +83,7 @@ fn a_word_that_is_no_number_asks_for_nothing(rt: HostRuntime) -> Result<(), Fail
 
 #[test]
 fn all_other_words_ask_for_none(rt: HostRuntime) -> Result<(), Fail> {
-    let others: [&[&str]; 13] = [
+    let others: [&[&str]; 14] = [
         &[],
         &["path"],
         &["boot.dp", "path"],
@@ -94,6 +95,7 @@ fn all_other_words_ask_for_none(rt: HostRuntime) -> Result<(), Fail> {
         &["info", "boot.info"],
         &["info", "86", "boot.info"],
         &["info", "boot.info", "86", "86"],
+        &["config", "setup.txt", "1"],
         &["pci"],
         &["pci", "bridge.res", "186"],
     ];
