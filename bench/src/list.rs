@@ -29,23 +29,6 @@ impl Display for Hex<'_> {
     }
 }
 
-/// Units with their low byte first, displayed as four hex digits each.
-struct Units<'a>(&'a [[u8; 2]]);
-
-impl Display for Units<'_> {
-    fn fmt(&self, f: &mut Formatter<'_>) -> fmt::Result {
-        let mut room = [[0; 2]; 32];
-        for block in self.0.chunks(room.len()) {
-            let big_endian = &mut room[..block.len()];
-            for (unit, [low, high]) in big_endian.iter_mut().zip(block) {
-                *unit = [*high, *low];
-            }
-            Hex(big_endian.as_flattened()).fmt(f)?;
-        }
-        Ok(())
-    }
-}
-
 fn refused() -> io::Error {
     io::Error::other("refused")
 }
@@ -114,8 +97,13 @@ fn list_info(out: &mut impl Write, bytes: &[u8], written: usize) -> io::Result<(
     write!(out, "attribute {:#x}\nname", number(72))?;
     let (units, _) = info.name().as_chunks::<2>();
     let (_nul, units) = units.split_last().unwrap();
-    let gap = if units.is_empty() { "" } else { " " };
-    writeln!(out, "{gap}{}", Units(units))
+    if !units.is_empty() {
+        write!(out, " ")?;
+    }
+    for unit in units {
+        write!(out, "{:04x}", u16::from_le_bytes(*unit))?;
+    }
+    writeln!(out)
 }
 
 /// Writes the listing that the words ask for to standard output.

@@ -19,7 +19,7 @@ unfolding hex_of
 hex_of-append one other = flat_map-append hex_byte one other
 
 -- A digit is the same, by its place in a table and by its value.
-digit_by_place : (d : ℕ) → d < 16 → slice_index lower_digits d ≡ digit_glyph false d
+pub digit_by_place : (d : ℕ) → d < 16 → slice_index lower_digits d ≡ digit_glyph false d
 digit_by_place d small =
     let same : (slice_index lower_digits d == digit_glyph false d) ≡ true = agree_below_at (λ x. slice_index lower_digits x == digit_glyph false x) (λ x. true) 16 d refl small in
     grind (arith, nat_tests)

@@ -5,6 +5,9 @@ ghost use Rattle.uefi_list.specs.Listing.Text.{gap_before, hex_of, hex_number};
 
 use std::fmt;
 
+/// The lower case hex digits.
+const DIGITS: &[u8; 16] = b"0123456789abcdef";
+
 /// How many bytes are written at a time.
 const BLOCK: usize = 64;
 
@@ -117,11 +120,7 @@ fn hex_digit(value: u8) -> u8
     requires { value < 16 }
     ensures { result ≡ digit_glyph false value }
 {
-    if value < 10 {
-        b'0' + value
-    } else {
-        b'a' - 10 + value
-    }
+    DIGITS[usize::from(value)]
 }
 
 /// Returns the text that ASCII bytes are.
