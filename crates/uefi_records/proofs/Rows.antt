@@ -1,17 +1,24 @@
 -- The worked rows hold.
 use Rattle.std.proofs.Common.{refl}
+use Rattle.uefi_records.specs.Time.Fields.{time_bytes}
+use Rattle.uefi_records.specs.File.FileInfo.{file_header}
+use Rattle.uefi_records.specs.File.FileSystemInfo.{file_system_header}
 use Rattle.uefi_records.specs.Rows.{LocalTime, ZeroTime, UnknownDaylight, Zones, FlagNumbers, FileOfAb, FileSystemOfAb, RecordSizes, Labels, Identities, RowsHold}
 
 local_time : LocalTime
+unfolding time_bytes
 local_time = record { text = refl; accepted = refl; zone = refl }
 
 zero_time : ZeroTime
+unfolding time_bytes
 zero_time = record { text = refl; faults = refl; lines = refl }
 
 unknown_daylight : UnknownDaylight
+unfolding time_bytes
 unknown_daylight = record { text = refl; faults = refl }
 
 zones : Zones
+unfolding time_bytes
 zones = record {
   east = refl;
   too_far_east = refl;
@@ -31,9 +38,11 @@ flag_numbers = record {
 }
 
 file_of_ab : FileOfAb
+unfolding time_bytes file_header
 file_of_ab = record { text = refl; whole = refl; short_buffer = refl; without_its_nul = refl; nothing = refl }
 
 file_system_of_ab : FileSystemOfAb
+unfolding file_system_header
 file_system_of_ab = record { text = refl }
 
 record_sizes : RecordSizes

@@ -4,7 +4,7 @@ ghost use Rattle.uefi_records.specs.Laws.{EqualFiles, OneTime, ReadsBack, TimesR
 ghost use Rattle.uefi_records.specs.Rows.{RowsHold};
 
 /// At most one time stands in bytes: sixteen bytes determine all its fields.
-#[tactic(auto, using(crate::proofs::Times::ReadBack::one_time))]
+#[tactic(auto, using(crate::proofs::Times::ReadBack::one_time), unfolding(crate::specs::Time::Fields::time_bytes))]
 pub fn one_time()
     ensures { OneTime }
 {}

@@ -243,6 +243,7 @@ impl Time {
     }
 
     /// The sixteen bytes of the time, with its padding.
+    #[tactic(auto, unfolding(crate::specs::Time::Fields::time_bytes))]
     pub fn to_bytes(&self) -> [u8; TIME_LENGTH]
         ensures bytes { result ≡ time_bytes (time_of self.now) }
         ensures fits { Fits (time_of self.now) }

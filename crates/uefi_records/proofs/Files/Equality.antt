@@ -3,7 +3,8 @@ use Rattle.std.proofs.Common.{◌≡◌, ℕ, List, [], ◌∷◌, ◌++◌, len
 use Rattle.std.specs.Prelude.{◌&&◌, nat_eq}
 use Rattle.std.specs.Cmp.Lexicographic.{pointwise}
 use Rattle.uefi_records.specs.declared.file.file_info.FileInfo.{FileInfo}
-use Rattle.uefi_records.specs.File.Views.{file_header_of, file_info_key, file_name_of}
+use Rattle.uefi_records.specs.File.Views.{stated_size, file_fields_of, file_header_of, file_info_key, file_name_of}
+use Rattle.uefi_records.proofs.Files.FieldsBack.{length-file_header}
 
 and_assoc : (a b c : Bool) → (a && b) && c ≡ a && (b && c)
 and_assoc true b c = refl
@@ -21,4 +22,5 @@ pointwise-append (x ∷ xs) (y ∷ ys) more others same =
 pub equal_if : (one other : FileInfo) (same_header same_name : Bool) → same_header ≡ pointwise nat_eq (file_header_of one) (file_header_of other)
     → same_name ≡ pointwise nat_eq (file_name_of one) (file_name_of other) → same_header && same_name ≡ pointwise nat_eq (file_info_key one) (file_info_key other)
 equal_if one other same_header same_name header name =
-    (λ i. header i && name i) ∙ sym (pointwise-append (file_header_of one) (file_header_of other) (file_name_of one) (file_name_of other) refl)
+    (λ i. header i && name i) ∙ sym (pointwise-append (file_header_of one) (file_header_of other) (file_name_of one) (file_name_of other)
+    (length-file_header (stated_size one) (file_fields_of one) ∙ sym (length-file_header (stated_size other) (file_fields_of other))))

@@ -15,6 +15,7 @@ use Rattle.uefi_records.proofs.Times.ReadBack.{times_read_back}
 -- What was written to a file information record is read from it, whatever follows.
 pub file_info_back : (size : ℕ) (fields : FileFields) (rest : List ℕ) → FitFile fields → size < 2 ^ 64
     → (size_in (file_header size fields ++ rest) ≡ size) × (file_fields (file_header size fields ++ rest) ≡ fields)
+unfolding file_header time_bytes
 file_info_back size fields rest fits small =
     let file_size = from_le_bytes-to_le_bytes_8 fields.file_size fits.file_size in
     let physical_size = from_le_bytes-to_le_bytes_8 fields.physical_size fits.physical_size in
@@ -33,6 +34,10 @@ file_info_back size fields rest fits small =
       },
     )
 
+pub length-file_header : (size : ℕ) (fields : FileFields) → length (file_header size fields) ≡ file_name_offset
+unfolding file_header time_bytes
+length-file_header size fields = refl
+
 -- The bytes before the name are those of the stated size and the fields that are read from them.
 then_range : (n m : ℕ) (bytes done part : List ℕ) → take n bytes ≡ done → slice_range bytes n (n + m) ≡ part → take (n + m) bytes ≡ done ++ part
 then_range n m bytes done part before is =
@@ -40,6 +45,7 @@ then_range n m bytes done part before is =
     take-add n m bytes ∙ (λ i. before i ++ (ap (λ k. take k (drop n bytes)) width ∙ is) i)
 
 time_range : (bytes : List ℕ) (offset : ℕ) → AreBytes bytes → offset + time_length ≤ length bytes → slice_range bytes offset (offset + time_length) ≡ time_bytes (time_at bytes offset)
+unfolding time_bytes
 time_range bytes offset small within =
     let part : List ℕ = slice_range bytes offset (offset + time_length) in
     let long : length part ≡ time_length = length-range bytes offset time_length within in
@@ -50,6 +56,7 @@ number_range : (bytes : List ℕ) (offset : ℕ) → AreBytes bytes → offset +
 number_range bytes offset small within = sym (numbers_read_back.read.u64 bytes offset small within)
 
 pub header_back : (bytes : List ℕ) → AreBytes bytes → file_name_offset ≤ length bytes → take file_name_offset bytes ≡ file_header (size_in bytes) (file_fields bytes)
+unfolding file_header
 header_back bytes small within =
     let size = then_range 0 8 bytes [] _ refl (number_range bytes 0 small (omega (arith, within))) in
     let file_size = then_range 8 8 bytes _ _ size (number_range bytes 8 small (omega (arith, within))) in
@@ -66,7 +73,7 @@ unused_items unused seven =
     ∙ ap (λ rest. items_from 0 unused_length unused ++ rest) (drop_all unused_length unused (omega (arith, seven))) ∙ append-nil (items_from 0 unused_length unused)
 
 pub length-file_system_header : (size : ℕ) (fields : FileSystemFields) (unused : List ℕ) → length unused ≡ unused_length → length (file_system_header size fields unused) ≡ label_offset
-unfolding items_from
+unfolding items_from file_system_header
 length-file_system_header size fields unused seven = ap (λ u. length (file_system_header size fields u)) (unused_items unused seven)
 
 -- What was written to such a record is read from it, whatever follows and whatever the unused bytes are.
@@ -76,7 +83,7 @@ is_read_only false = refl
 
 pub file_system_info_back : (size : ℕ) (fields : FileSystemFields) (unused rest : List ℕ) → length unused ≡ unused_length → FitFileSystem fields → size < 2 ^ 64
     → (size_in (file_system_header size fields unused ++ rest) ≡ size) × (file_system_fields (file_system_header size fields unused ++ rest) ≡ fields)
-unfolding items_from
+unfolding items_from file_system_header
 file_system_info_back size fields unused rest seven fits small =
     let read_only = is_read_only fields.read_only in
     let volume_size = from_le_bytes-to_le_bytes_8 fields.volume_size fits.volume_size in

@@ -1,6 +1,6 @@
 -- The laws of records.
 use Rattle.std.proofs.Common.{◌≡◌, ℕ, ◌+◌, ◌-◌, ◌/◌, ◌<◌, ◌≤◌, min, Option, None, Some, List, [], ◌++◌, length, get_or, take, drop, refl, sym, ◌∙◌, ap, subst, arith, append_assoc}
-use Rattle.std.proofs.lemmas.List.{take_at, length-append, length-take, length-drop, get_or-take}
+use Rattle.std.proofs.lemmas.List.{take_at, drop_at, length-append, length-take, length-drop, get_or-take}
 use Rattle.uefi_base.specs.Unaligned.{unit_bytes}
 use Rattle.uefi_base.proofs.UnitsOfBytes.{units_by_place}
 use Rattle.uefi_records.specs.declared.file.file_info.FileInfo.{FileInfo}
@@ -8,10 +8,9 @@ use Rattle.uefi_records.specs.File.Name.{IsName, FitName, first_zero, record_end
 use Rattle.uefi_records.specs.File.Verdict.{accepted, judged, verdict}
 use Rattle.uefi_records.specs.File.FileInfo.{file_fields, file_header, file_info_alignment, file_info_size, file_name_offset, size_in}
 use Rattle.uefi_records.specs.File.FileSystemInfo.{file_system_fields, file_system_header, file_system_info_alignment, file_system_info_size, label_offset, lone_label_offset, volume_label_alignment}
-use Rattle.std.specs.Prelude.{◌↔◌}
 use Rattle.uefi_records.specs.File.Views.{stated_size, file_fields_of, file_info_view, file_info_key, file_header_of, file_name_of}
 use Rattle.uefi_records.specs.Laws.{EqualFiles, FileInfoReadsBack, FileSystemInfoReadsBack, VolumeLabelReadsBack, ReadsBack, WrittenAlone}
-use Rattle.uefi_records.proofs.Files.FieldsBack.{file_info_back, header_back, length-file_system_header, file_system_info_back}
+use Rattle.uefi_records.proofs.Files.FieldsBack.{file_info_back, length-file_header, header_back, length-file_system_header, file_system_info_back}
 use Rattle.uefi_records.proofs.Files.FirstZero.{IsFirstAt, one_first, first_zero_is}
 use Rattle.uefi_records.proofs.Files.Judging.{units_of_prefix, accepted_at}
 use Rattle.uefi_records.proofs.Files.Names.{length-named, units_back}
@@ -52,7 +51,7 @@ file_info_reads_back fields name rest written fits fit small covers room =
     let header : List ℕ = file_header size fields in
     let joined : (header ++ unit_bytes name) ++ rest ≡ header ++ (unit_bytes name ++ rest) = append_assoc header (unit_bytes name) rest in
     let back = file_info_back size fields (unit_bytes name ++ rest) fits small in
-    (name_accepted file_name_offset file_info_alignment header name rest written refl fit covers room, ap size_in joined ∙ back.0, ap file_fields joined ∙ back.1)
+    (name_accepted file_name_offset file_info_alignment header name rest written (length-file_header size fields) fit covers room, ap size_in joined ∙ back.0, ap file_fields joined ∙ back.1)
 
 file_system_info_reads_back : FileSystemInfoReadsBack
 file_system_info_reads_back fields unused label rest written seven fits fit small covers room =
@@ -104,19 +103,24 @@ written_alone = record {
       (same_size written one other (omega (arith, enough)) same, same_system_fields written one other enough same);
 }
 
--- The keys of file information records are their headers and names.
-keys_equal : (one other : FileInfo)
-    → (file_info_key one ≡ file_info_key other) ↔ ((stated_size one ≡ stated_size other) × (file_fields_of one ≡ file_fields_of other) × (file_name_of one ≡ file_name_of other))
-keys_equal one other = (
-  λ same.
-      let header : (info : FileInfo) → take file_name_offset (file_info_view info) ≡ file_header_of info = λ info. header_back (file_info_view info) info.are_bytes info.named.before in
-      let bytes : take file_name_offset (file_info_view one) ≡ take file_name_offset (file_info_view other) = header one ∙ ap (take file_name_offset) same ∙ sym (header other) in (
-        same_size file_name_offset (file_info_view one) (file_info_view other) (omega arith) bytes,
-        same_file_fields file_name_offset (file_info_view one) (file_info_view other) (omega arith) bytes,
-        ap (drop file_name_offset) same,
-      ),
-  λ same i. file_header (same.0 i) (same.1 i) ++ same.2 i,
-)
+-- What file information records are compared by starts with the bytes before the name, and ends with the name.
+header_in_key : (info : FileInfo) → take file_name_offset (file_info_key info) ≡ take file_name_offset (file_info_view info)
+header_in_key info =
+    take_at (file_header_of info) (file_name_of info) file_name_offset (length-file_header (stated_size info) (file_fields_of info))
+    ∙ sym (header_back (file_info_view info) info.are_bytes info.named.before)
+
+name_in_key : (info : FileInfo) → drop file_name_offset (file_info_key info) ≡ file_name_of info
+name_in_key info = drop_at (file_header_of info) (file_name_of info) file_name_offset (length-file_header (stated_size info) (file_fields_of info))
 
 pub equal_files : EqualFiles
-equal_files = record { keys = keys_equal }
+equal_files = record {
+  keys = λ one other. (
+    λ same.
+        let bytes = sym (header_in_key one) ∙ ap (take file_name_offset) same ∙ header_in_key other in (
+          same_size file_name_offset (file_info_view one) (file_info_view other) (omega arith) bytes,
+          same_file_fields file_name_offset (file_info_view one) (file_info_view other) (omega arith) bytes,
+          sym (name_in_key one) ∙ ap (drop file_name_offset) same ∙ name_in_key other,
+        ),
+    λ same i. file_header (same.0 i) (same.1 i) ++ same.2 i,
+  );
+}

@@ -13,7 +13,7 @@ use Rattle.uefi_records.specs.File.Name.{EndsWithName, FitName, record_end, reco
 use Rattle.uefi_records.specs.File.FileInfo.{FileFields, FitFile, file_fields, file_header, file_info_alignment, file_info_size, file_name_offset, size_in}
 use Rattle.uefi_records.specs.File.FileSystemInfo.{FileSystemFields, FitFileSystem, file_system_fields, file_system_header, file_system_info_alignment, file_system_info_size, label_offset, lone_label_offset, unused_bytes, unused_length, unused_offset, volume_label_alignment}
 use Rattle.uefi_records.specs.File.Views.{file_info_view, stated_size, file_fields_of, file_name_of, file_system_info_view, system_stated_size, file_system_fields_of, file_system_label_of, volume_label_view, volume_label_of}
-use Rattle.uefi_records.proofs.Files.FieldsBack.{file_info_back, length-file_system_header, file_system_info_back}
+use Rattle.uefi_records.proofs.Files.FieldsBack.{file_info_back, length-file_header, length-file_system_header, file_system_info_back}
 use Rattle.uefi_records.proofs.Files.Names.{ends_with, length-named, units_back}
 
 -- A record without fields: they fit.
@@ -59,7 +59,7 @@ file_info_made fields name old new long (Ok info) made =
     let back = file_info_back size fields (unit_bytes name) made.seen.1.0 (omega (arith, long, made.seen.2)) in (
       ap size_in made.seen.0 ∙ back.0,
       ap file_fields made.seen.0 ∙ back.1,
-      ap (units_from file_name_offset) made.seen.0 ∙ units_back file_name_offset (file_header size fields) name refl made.seen.1.1.are_units,
+      ap (units_from file_name_offset) made.seen.0 ∙ units_back file_name_offset (file_header size fields) name (length-file_header size fields) made.seen.1.1.are_units,
       made.seen.1.0,
       made.seen.1.1,
     )

@@ -13,6 +13,7 @@ use Rattle.uefi_records.specs.Laws.{OneTime, TimesReadBack}
 
 -- A time is read from its bytes, whatever follows them.
 time_back : (time : TimeFields) (rest : List ℕ) → Fits time → time_in (time_bytes time ++ rest) ≡ time
+unfolding time_bytes
 time_back time rest fits =
     let year = from_le_bytes-to_le_bytes_2 time.year fits.year in
     let nanosecond = from_le_bytes-to_le_bytes_4 time.nanosecond fits.nanosecond in
@@ -21,7 +22,7 @@ time_back time rest fits =
 
 -- Sixteen bytes, written out, are those of the time that is read from them.
 sixteen_back : (bytes rest : List ℕ) → let whole = items_from 0 time_length bytes ++ rest in AreBytes whole → time_length ≤ length whole → StandsIn (time_in whole) whole
-unfolding items_from
+unfolding items_from time_bytes
 sixteen_back bytes rest small long =
     let whole : List ℕ = items_from 0 time_length bytes ++ rest in
     let zone : ℕ = u16_at whole zone_offset in

@@ -75,7 +75,7 @@ abbrev pub file_info_verdict : List ℕ → ℕ → Verdict
 file_info_verdict written room = verdict file_name_offset file_info_alignment written room
 
 -- The bytes before the name, and those of the whole record without its rounding bytes.
-abbrev pub file_header : ℕ → FileFields → List ℕ
+unfoldable pub file_header : ℕ → FileFields → List ℕ
 file_header size fields =
     u64_bytes size
     ++ u64_bytes fields.file_size

@@ -66,7 +66,7 @@ abbrev pub file_system_info_verdict : List ℕ → ℕ → Verdict
 file_system_info_verdict written room = verdict label_offset file_system_info_alignment written room
 
 -- The bytes before the label, with those without meaning among them, and those of the whole record without its rounding bytes.
-abbrev pub file_system_header : ℕ → FileSystemFields → List ℕ → List ℕ
+unfoldable pub file_system_header : ℕ → FileSystemFields → List ℕ → List ℕ
 file_system_header size fields unused =
     u64_bytes size
     ++ ((if fields.read_only then 1 else 0) ∷ [])

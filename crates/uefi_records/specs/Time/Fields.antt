@@ -33,7 +33,7 @@ pub record Fits (time : TimeFields) : Type 0 where
   pub last_pad : time.last_pad < 256
 
 -- The sixteen bytes of a time: the fields in this order, little-endian, the zone in two's complement.
-abbrev pub time_bytes : TimeFields → List ℕ
+unfoldable pub time_bytes : TimeFields → List ℕ
 time_bytes time =
     u16_bytes time.year
     ++ (time.month ∷ time.day ∷ time.hour ∷ time.minute ∷ time.second ∷ time.first_pad ∷ [])

@@ -4,6 +4,7 @@ use Rattle.uefi_base.proofs.Written.{and_also}
 use Rattle.uefi_records.specs.File.Name.{FitName}
 use Rattle.uefi_records.specs.File.FileInfo.{FileFields, FitFile, file_header, file_info_alignment, file_info_bytes, file_info_size, file_name_offset}
 use Rattle.uefi_records.specs.File.Views.{file_fields_given, file_info_view}
+use Rattle.uefi_records.proofs.Files.FieldsBack.{length-file_header}
 use Rattle.uefi_records.proofs.Files.FileInfoArgs.{time, attributes}
 use Rattle.uefi_records.proofs.Files.Written.{file_info_made}
 use Rattle.uefi_records.specs.contracts.file.file_info.FileInfo.{the_row as View_row}
@@ -40,8 +41,8 @@ new_spec 𝓤 𝓛 𝓜 𝓡 wired =
     sets ! (addr ! (from ! (fld ! refl (hop ! (look_in_at ! 1 (sub ! 0 refl (whole !))) (stop !))))) refl (tt, tt) $
     sets ! (agg ! (and_then ! (get ! refl) (and_then ! (get_in ! (fld ! refl (stop !)) (sub ! 1 refl (whole !))) (no_more !)))) refl (tt, (tt, (record { fits = are.0.0.1.0 }, tt))) $
     let zh : K.Ghost = (((κ, tt), (q, tt), tt, (record { ref_ptr = r.ref_ptr; now = ys }, (w, tt)), (vss.0, (v ∷ [], tt))), tt) in
-    shares_with 𝓛 κ q r 𝓣 ys tokens (‵ (Rw.own_val w (v ∷ []))) _ (record_seen_in file_name_offset file_info_alignment header name r.now (FitFile fields) (λ _. refl) ys w wrote) Re (λ es. lasts h.ended zh.0.0 zh.0.3 es) (λ e (es : Unit {0} × (Unit {0} × Unit {0})). _ ∷ _ ∷ []) (λ e. MadeRecord file_name_offset file_info_alignment header name r.now (FitFile fields) file_info_view ys e)
-    K (h-thm.met 𝓤 𝓛 𝓜 𝓡 (code.calls-uefi_records::file::file_info::FileInfo::over 𝓡.env wired)) zh (id⊢ 𝓤 _) (and_then ! (get ! refl) (and_then ! (get ! refl) (no_more !))) (λ v'. id⊢ 𝓤 _) (λ e es t. record_made_of file_name_offset file_info_alignment header name r.now (FitFile fields) (λ _. refl) file_info_view ys w e wrote t.0 t.1.0)
+    shares_with 𝓛 κ q r 𝓣 ys tokens (‵ (Rw.own_val w (v ∷ []))) _ (record_seen_in file_name_offset file_info_alignment header name r.now (FitFile fields) (λ _. length-file_header (file_info_size (length name)) fields) ys w wrote) Re (λ es. lasts h.ended zh.0.0 zh.0.3 es) (λ e (es : Unit {0} × (Unit {0} × Unit {0})). _ ∷ _ ∷ []) (λ e. MadeRecord file_name_offset file_info_alignment header name r.now (FitFile fields) file_info_view ys e)
+    K (h-thm.met 𝓤 𝓛 𝓜 𝓡 (code.calls-uefi_records::file::file_info::FileInfo::over 𝓡.env wired)) zh (id⊢ 𝓤 _) (and_then ! (get ! refl) (and_then ! (get ! refl) (no_more !))) (λ v'. id⊢ 𝓤 _) (λ e es t. record_made_of file_name_offset file_info_alignment header name r.now (FitFile fields) (λ _. length-file_header (file_info_size (length name)) fields) file_info_view ys w e wrote t.0 t.1.0)
     (λ v' e made. typed 𝓛 κ q r Re (Result_laws Rv Error_row (View_laws (named_lft 3 0 tt κs)) Error_laws) e v' (λ t. lands_as ! refl refl t.0 $ returns ! (look_at ! 0 refl) $ free_all ! refl $ suffices ! _ (ends_at 𝓛 f.ended stayed c y v' e (tt, nothings args) (tt, nothings args)) $
     let seen = file_info_made fields name r.now ys are.0.0.1.0 e made in
     finishes 𝓛 κ q r tokens Re e v' ys (λ n. MatchResult e (λ _. n ≡ put_prefix (file_info_bytes fields name) r.now) (λ _. n ≡ r.now)) made.after 8 (_ ∷ _ ∷ _ ∷ _ ∷ _ ∷ _ ∷ _ ∷ []) (seen.0, (seen.1, (seen.2, (seen.3, (seen.4, (made.fails, (made.fits, tt))))))) (id⊢ 𝓤 _))))))))
