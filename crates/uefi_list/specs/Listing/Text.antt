@@ -1,5 +1,5 @@
 -- Text that grows, and bytes and numbers in hex.
-use Rattle.std.specs.Prelude.{◌≡◌, ℕ, List, ◌++◌, flat_map, false, string_bytes, codes}
+use Rattle.std.specs.Prelude.{◌≡◌, ℕ, List, [], ◌∷◌, ◌++◌, flat_map, false, string_bytes, codes}
 use Rattle.std.specs.declared.string.String.{String}
 use Rattle.std.specs.Fmt.{digits}
 use Rattle.uefi_base.specs.GuidText.{hex_byte}
