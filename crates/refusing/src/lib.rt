@@ -104,9 +104,7 @@ where
         let heap = Refusing::after(alloc, granted);
         let given = call(&heap);
         if given.is_some() != heap.is_waiting() {
-            return Err(Fail::new(format_args!(
-                "found {given:?} with {granted} requests granted"
-            )));
+            return Err(Fail::new(format_args!("found {given:?} with {granted} requests granted")));
         }
         let Some(found) = given else {
             continue;
