@@ -1,8 +1,9 @@
-ghost use Rattle.std.specs.Prelude.{◌≡◌, ◌↔◌, ◌==◌, length, string_bytes, filter, not, IsTrue, IsNone, IfOk, IfSome};
+ghost use Rattle.std.specs.Prelude.{◌≡◌, ◌↔◌, ◌==◌, ◌%◌, length, encode_utf8_all, string_bytes, filter, not, IsTrue, IsNone, IsSome, IfOk, IfSome};
 ghost use Rattle.uefi_base.specs.declared.status.Status.TheVariants.{BUFFER_TOO_SMALL};
 ghost use Rattle.uefi_base.specs.declared.text_error.FromSliceWithNulError.{FromSliceWithNulError};
-ghost use Rattle.uefi_base.specs.Ucs2.{IsUcs2Text};
+ghost use Rattle.uefi_base.specs.Ucs2.{IsUcs2Text, characters_of};
 ghost use Rattle.uefi_base.specs.Faults.{HasFault};
+ghost use Rattle.uefi_base.specs.Unaligned.{units_of};
 ghost use Rattle.uefi_base.specs.GuidText.{guid_text};
 ghost use Rattle.uefi_base.specs.Views.{slice_units, units_left, error_status, error_data};
 
@@ -12,14 +13,14 @@ use uefi_base::{
     UnalignedSliceIter,
 };
 
-/// Whether units are a text: exactly where they are one.
+/// Returns whether `units` are text.
 pub fn is_text(units: &[u16]) -> bool
     ensures { IsTrue result ↔ IsUcs2Text units.now }
 {
     CStr16::from_u16_with_nul(units).is_ok()
 }
 
-/// The fault of units, if they have one: exactly the one that they have.
+/// Returns the error that `units` have, or `None` if they are text.
 pub fn fault_of(units: &[u16]) -> Option<FromSliceWithNulError>
     ensures text { IsNone result ↔ IsUcs2Text units.now }
     ensures fault { (fault : FromSliceWithNulError) →
@@ -28,7 +29,19 @@ pub fn fault_of(units: &[u16]) -> Option<FromSliceWithNulError>
     CStr16::from_u16_with_nul(units).err()
 }
 
-/// Characters as a text, and the text's characters: the same, where there are any.
+/// Returns the characters of `units`, or `None` if the units aren't text.
+pub fn characters(alloc: Global, units: &[u16]) -> Result<Option<String>, AllocError>
+    ensures accepted { IfOk result (λ found. IsSome found ↔ IsUcs2Text units.now) }
+    ensures text { let expected = encode_utf8_all (characters_of units.now) in
+        IfOk result (λ found. IfSome found (λ text. string_bytes text ≡ expected)) }
+{
+    let Ok(text) = CStr16::from_u16_with_nul(units) else {
+        return Ok(None);
+    };
+    Ok(Some(text.to_string(alloc)?))
+}
+
+/// Makes text from characters and returns its characters: the same ones, if they can be text.
 pub fn written_and_read(alloc: Global, text: &str) -> Result<Option<String>, AllocError>
     ensures { IfOk result
         (λ read. IfSome read (λ back. string_bytes back ≡ text.now)) }
@@ -39,28 +52,41 @@ pub fn written_and_read(alloc: Global, text: &str) -> Result<Option<String>, All
     Ok(Some(made.as_cstr16().to_string(alloc)?))
 }
 
-/// The units over bytes, by `collect`.
+/// Returns the units of `bytes`, or `None` if a last byte is left over.
+pub fn units_in(alloc: Global, bytes: &[u8]) -> Result<Option<Vec<u16>>, AllocError>
+    ensures accepted { IfOk result (λ found. IsSome found ↔ (length bytes.now % 2 ≡ 0)) }
+    ensures units { IfOk result
+        (λ found. IfSome found (λ units. units.items ≡ units_of bytes.now)) }
+{
+    if bytes.len() % 2 != 0 {
+        return Ok(None);
+    }
+    let units = UnalignedSlice::new(bytes).iter().collect(alloc)?;
+    Ok(Some(units))
+}
+
+/// Returns the units of a slice, by `collect`.
 pub fn all_units(alloc: Global, slice: &UnalignedSlice<'_>) -> Result<Vec<u16>, AllocError>
     ensures { IfOk result (λ units. units.items ≡ slice_units slice.now) }
 {
     slice.iter().collect(alloc)
 }
 
-/// How many units there are, by `count`.
+/// Returns the number of units of a slice, by `count`.
 pub fn unit_count(slice: &UnalignedSlice<'_>) -> usize
     ensures { result ≡ length (slice_units slice.now) }
 {
     slice.iter().count()
 }
 
-/// How many units are still to come, by `len`.
+/// Returns the number of units that an iterator hasn't returned yet, by `len`.
 pub fn count_left(iter: &UnalignedSliceIter<'_>) -> usize
     ensures { result ≡ length (units_left iter.now) }
 {
     iter.len()
 }
 
-/// The same, by `size_hint`.
+/// Returns the same, by `size_hint`.
 pub fn bounds_of_left(iter: &UnalignedSliceIter<'_>) -> (usize, Option<usize>)
     ensures least { result.0 ≡ length (units_left iter.now) }
     ensures most { result.1 ≡ Some (length (units_left iter.now)) }
@@ -68,7 +94,7 @@ pub fn bounds_of_left(iter: &UnalignedSliceIter<'_>) -> (usize, Option<usize>)
     iter.size_hint()
 }
 
-/// The units that aren't zero, by `for`.
+/// Returns the units that aren't zero, by `for`.
 pub fn nonzero_units(alloc: Global, slice: &UnalignedSlice<'_>) -> Result<Vec<u16>, AllocError>
     ensures { IfOk result
         (λ units. units.items ≡ filter (λ unit. not (unit == 0)) (slice_units slice.now)) }
@@ -82,49 +108,49 @@ pub fn nonzero_units(alloc: Global, slice: &UnalignedSlice<'_>) -> Result<Vec<u1
     Ok(units)
 }
 
-/// The text of a GUID.
+/// Returns the text of a GUID.
 pub fn guid_label(alloc: Global, guid: &Guid) -> Result<String, AllocError>
     ensures { IfOk result (λ text. string_bytes text ≡ guid_text guid.now.0) }
 {
     guid.to_string(alloc)
 }
 
-/// Whether two GUIDs are equal: exactly where their bytes are.
+/// Returns whether two GUIDs are equal: whether their bytes are.
 pub fn is_same_guid(guid: &Guid, other: &Guid) -> bool
     ensures { IsTrue result ↔ (guid.now.0 ≡ other.now.0) }
 {
     guid == other
 }
 
-/// The GUID of a type.
+/// Returns the GUID of a type.
 pub fn guid_of<T: Identify>() -> Guid
     ensures { result ≡ T.identity }
 {
     T::identity()
 }
 
-/// The alignment of a type.
+/// Returns the alignment of a type.
 pub fn alignment_of<T: Align>() -> usize
     ensures { result ≡ T.alignment }
 {
     T::alignment()
 }
 
-/// Whether an error says that a buffer is too small.
+/// Returns whether an error says that a buffer is too small.
 pub fn is_too_small<D>(error: &Error<D>) -> bool
     ensures { IsTrue result ↔ (error_status error.now ≡ BUFFER_TOO_SMALL) }
 {
     error.status() == Status::BUFFER_TOO_SMALL
 }
 
-/// The size beside an error.
+/// Returns the size that an error holds as its data.
 pub fn size_beside(error: &Error<Option<usize>>) -> Option<usize>
     ensures { result ≡ error_data error.now }
 {
     *error.data()
 }
 
-/// Whether two errors are equal: exactly where both parts are.
+/// Returns whether two errors are equal: whether their statuses and their data are.
 pub fn is_same_error(error: &Error<Option<usize>>, other: &Error<Option<usize>>) -> bool
     ensures { IsTrue result ↔ (error.now ≡ other.now) }
 {

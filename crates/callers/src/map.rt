@@ -1,12 +1,13 @@
-ghost use Rattle.std.specs.Prelude.{◌≡◌, ◌^◌, ◌<◌, ◌≤◌, ◌↔◌, length, sum_by, slice_set, string_bytes, SomeIff, Some, IsTrue, IsNone, IfSome, IfOk};
-ghost use Rattle.uefi_map.specs.Descriptor.{Fits, zero_descriptor};
+ghost use Rattle.std.specs.Prelude.{◌≡◌, ◌^◌, ◌<◌, ◌≤◌, ◌↔◌, length, sum_by, slice_set, string_bytes, SomeIff, Some, IsTrue, IsNone, IsSome, IfSome, IfOk};
+ghost use Rattle.std.specs.Ordering.{nat_cmp};
+ghost use Rattle.uefi_map.specs.memory.Descriptor.{zero_descriptor};
 ghost use Rattle.uefi_base.specs.Flags.{has_bits};
-ghost use Rattle.uefi_map.specs.Map.{IsMap, IsWithDescriptor, count_of, entries_of};
-ghost use Rattle.uefi_map.specs.Texts.{map_error_text};
-ghost use Rattle.uefi_map.specs.Views.{attribute_bits, entries_left, key_number, ref_bytes, ref_meta};
+ghost use Rattle.uefi_map.specs.memory.Map.{IsMap, IsWithDescriptor, count_of, entries_of};
+ghost use Rattle.uefi_map.specs.memory.Texts.{map_error_text};
+ghost use Rattle.uefi_map.specs.memory.Views.{attribute_bits, entries_left, key_number, ref_bytes, ref_meta};
 
 use std::alloc::{AllocError, Global};
-use uefi_map::laws::stride_free;
+use std::cmp::Ordering;
 use uefi_map::{
     MemoryAttribute, MemoryDescriptor, MemoryMap, MemoryMapError, MemoryMapIter, MemoryMapKey,
     MemoryMapMeta, MemoryMapMut, MemoryMapOwned, MemoryMapRef, MemoryMapRefMut,
@@ -52,6 +53,23 @@ pub fn entries_in(
     }
 }
 
+/// Returns the count of pages in a buffer of firmware's, or `None` if it holds no map or the sum
+/// doesn't fit.
+pub fn pages_in(buffer: &[u8], meta: MemoryMapMeta) -> Option<u64>
+    ensures sum { let entries = entries_of buffer.now meta in
+        IfSome result (λ pages. pages ≡ sum_by (λ d. d.page_count) entries) }
+    ensures map { IsSome result → IsMap (length buffer.now) meta }
+{
+    let Ok(map) = MemoryMapRef::new(buffer, meta) else {
+        return None;
+    };
+    let mut pages = 0u64;
+    for entry in map.entries() {
+        pages = pages.checked_add(entry.page_count)?;
+    }
+    Some(pages)
+}
+
 /// How many entries a map has, by `count`.
 pub fn entry_count(map: &MemoryMapRef<'_>) -> usize
     ensures { result ≡ length (entries_of (ref_bytes map.now) (ref_meta map.now)) }
@@ -74,16 +92,30 @@ pub fn bounds_of_left(entries: &MemoryMapIter<'_>) -> (usize, Option<usize>)
     entries.size_hint()
 }
 
-/// A descriptor set in any map and got again: the same.
+/// A descriptor that is set in any map is the one that is read there afterwards.
 pub fn set_and_get<M: MemoryMapMut>(map: &mut M, i: usize, d: MemoryDescriptor) -> MemoryDescriptor
-    requires within { i < count_of (M.MemoryMap.meta map.old) }
-    requires fits { Fits d }
+    requires { i < count_of (M.MemoryMap.meta map.old) }
     ensures { result ≡ d }
 {
-    stride_free();
-    let _meta = map.meta();
     map.set_at(i, d);
     map.at(i)
+}
+
+/// The same of a map that is made over a buffer: `None` for a buffer that is no map, or without
+/// such a descriptor.
+pub fn set_and_get_in(
+    buffer: &mut [u8],
+    meta: MemoryMapMeta,
+    i: usize,
+    d: MemoryDescriptor,
+) -> Option<MemoryDescriptor>
+    ensures { SomeIff result (IsMap (length buffer.old) meta × (i < count_of meta)) d }
+{
+    let Ok(mut map) = MemoryMapRefMut::new(buffer, meta) else {
+        return None;
+    };
+    map.set(i, d)?;
+    map.get(i)
 }
 
 /// A descriptor set in a buffer that is a map: of what the caller lent, its forty bytes changed.
@@ -104,7 +136,7 @@ pub fn write_byte<M: MemoryMapMut>(map: &mut M, place: usize, byte: u8)
     ensures bytes { let bytes = M.MemoryMap.bytes in
         bytes map.new ≡ slice_set (bytes map.old) place byte }
     ensures meta { M.MemoryMap.meta map.new ≡ M.MemoryMap.meta map.old }
-    ensures same_place { M.same_place map.old map.new }
+    ensures same_buffer { M.same_buffer map.old map.new }
 {
     map.buffer_mut()[place] = byte;
 }
@@ -143,6 +175,27 @@ pub fn is_runtime(d: &MemoryDescriptor) -> bool
     d.att.contains(MemoryAttribute::RUNTIME)
 }
 
+/// The default attributes: no bit is set.
+pub fn no_attributes() -> MemoryAttribute
+    ensures { attribute_bits result ≡ 0 }
+{
+    MemoryAttribute::default()
+}
+
+/// The order of attributes: that of their bits as numbers.
+pub fn attribute_order(one: &MemoryAttribute, other: &MemoryAttribute) -> Ordering
+    ensures { result ≡ nat_cmp (attribute_bits one.now) (attribute_bits other.now) }
+{
+    one.cmp(other)
+}
+
+/// Whether two sets of attributes are equal: exactly where their bits are.
+pub fn are_same_attributes(one: MemoryAttribute, other: MemoryAttribute) -> bool
+    ensures { IsTrue result ↔ (attribute_bits one ≡ attribute_bits other) }
+{
+    one == other
+}
+
 /// The default descriptor: every field is zero.
 pub fn no_memory() -> MemoryDescriptor
     ensures { result ≡ zero_descriptor }
@@ -169,4 +222,12 @@ pub fn map_fault_text(alloc: Global, error: &MemoryMapError) -> Result<String, A
     ensures { IfOk result (λ text. string_bytes text ≡ map_error_text error.now) }
 {
     error.to_string(alloc)
+}
+
+/// Returns the first entry of a map and clears it. An entry is a value, so the map can be written
+/// to while the entry is still in use.
+pub fn take_first(map: &mut MemoryMapRefMut<'_>) -> Option<MemoryDescriptor> {
+    let first = map.entries().next();
+    let _before = map.set(0, MemoryDescriptor::default());
+    first
 }

@@ -1,13 +1,42 @@
-ghost use Rattle.std.specs.Prelude.{◌≡◌, ◌↔◌, List, length, map, flat_map, string_bytes, IsTrue, IfOk};
-ghost use Rattle.uefi_path.specs.Node.{Node};
-ghost use Rattle.uefi_path.specs.Path.{AreInstances, all_but_last};
+ghost use Rattle.std.specs.Prelude.{◌≡◌, ◌↔◌, List, length, map, flat_map, slice_get, option_map, string_bytes, IsTrue, IfOk, OnErr};
+ghost use Rattle.uefi_base.specs.Prefix.{IsPrefix};
+ghost use Rattle.uefi_path.specs.Node.{Node, joined};
+ghost use Rattle.uefi_path.specs.Path.{IsPath, HasPath, AreInstances, all_but_last};
 ghost use Rattle.uefi_path.specs.Texts.{node_text};
 ghost use Rattle.uefi_path.specs.Views.{node_of, header_of, path_nodes, path_bytes, instance_nodes};
 
 use std::alloc::{AllocError, Global};
-use uefi_path::{DevicePath, DevicePathHeader, DevicePathInstance, DevicePathNode};
+use uefi_path::{
+    ByteConversionError, DevicePath, DevicePathHeader, DevicePathInstance, DevicePathNode,
+};
 
-/// All nodes of a path but the end-entire one, by `collect`.
+/// Returns the first node of the path that `bytes` start with, if a node precedes its end.
+pub fn first_node<'a>(bytes: &'a [u8]) -> Result<Option<DevicePathNode<'a>>, ByteConversionError>
+    ensures node { IfOk result (λ node. (nodes : List Node)
+        × IsPath nodes × IsPrefix (joined nodes) bytes.now
+        × (option_map node_of node ≡ slice_get (all_but_last nodes) 0)) }
+    ensures none { OnErr result (¬ HasPath bytes.now) }
+{
+    let path = DevicePath::try_from(bytes)?;
+    Ok(path.node_iter().next())
+}
+
+/// Returns the data of that node. Like the node, the data borrow `bytes` alone, and outlive the
+/// path, the iterator and the node.
+pub fn first_data<'a>(bytes: &'a [u8]) -> Result<Option<&'a [u8]>, ByteConversionError>
+    ensures payload { IfOk result (λ found. (nodes : List Node)
+        × IsPath nodes × IsPrefix (joined nodes) bytes.now
+        × (option_map (λ part. part.now) found
+        ≡ option_map (λ node. node.payload) (slice_get (all_but_last nodes) 0))) }
+    ensures none { OnErr result (¬ HasPath bytes.now) }
+{
+    match first_node(bytes)? {
+        Some(node) => Ok(Some(node.data())),
+        None => Ok(None),
+    }
+}
+
+/// Returns all nodes of a path but the end-entire one, by `collect`.
 pub fn all_nodes<'a>(
     alloc: Global,
     path: &DevicePath<'a>,
@@ -17,7 +46,7 @@ pub fn all_nodes<'a>(
     path.node_iter().collect(alloc)
 }
 
-/// All instances of a path, by `collect`.
+/// Returns all instances of a path, by `collect`.
 pub fn all_instances<'a>(
     alloc: Global,
     path: &DevicePath<'a>,
@@ -28,29 +57,29 @@ pub fn all_instances<'a>(
     path.instance_iter().collect(alloc)
 }
 
-/// How many nodes a path has before the end-entire one, by `count`.
+/// Returns the number of nodes before the end-entire one, by `count`.
 pub fn node_count(path: &DevicePath<'_>) -> usize
     ensures { result ≡ length (all_but_last (path_nodes path.now)) }
 {
     path.node_iter().count()
 }
 
-/// How many instances a path has, by `count`.
+/// Returns the number of instances of a path, by `count`.
 pub fn instance_count(path: &DevicePath<'_>) -> usize
-    ensures { (parts : List (List Node))
-        × AreInstances parts (path_nodes path.now) × (result ≡ length parts) }
+    ensures { (instances : List (List Node))
+        × AreInstances instances (path_nodes path.now) × (result ≡ length instances) }
 {
     path.instance_iter().count()
 }
 
-/// How many nodes an instance has before the one that ends it, by `count`.
+/// Returns the number of nodes of an instance before its last, by `count`.
 pub fn instance_node_count(instance: &DevicePathInstance<'_>) -> usize
     ensures { result ≡ length (all_but_last (instance_nodes instance.now)) }
 {
     instance.node_iter().count()
 }
 
-/// The data of all nodes of a path but the end-entire one, joined, by `for`.
+/// Returns the data of all nodes before the end-entire one, joined, by `for`.
 pub fn all_data(alloc: Global, path: &DevicePath<'_>) -> Result<Vec<u8>, AllocError>
     ensures { let nodes = all_but_last (path_nodes path.now) in
         IfOk result (λ bytes. bytes.items ≡ flat_map (λ node. node.payload) nodes) }
@@ -62,21 +91,21 @@ pub fn all_data(alloc: Global, path: &DevicePath<'_>) -> Result<Vec<u8>, AllocEr
     Ok(bytes)
 }
 
-/// Whether two paths are equal: exactly where all their bytes are.
+/// Returns whether two paths are equal: whether all their bytes are.
 pub fn is_same_path(path: &DevicePath<'_>, other: &DevicePath<'_>) -> bool
     ensures { IsTrue result ↔ (path_bytes path.now ≡ path_bytes other.now) }
 {
     path == other
 }
 
-/// Whether two headers are equal: exactly where type, subtype and length are.
+/// Returns whether two headers are equal: whether their types, subtypes and lengths are.
 pub fn is_same_header(header: &DevicePathHeader, other: &DevicePathHeader) -> bool
     ensures { IsTrue result ↔ (header_of header.now ≡ header_of other.now) }
 {
     header == other
 }
 
-/// The text of a node.
+/// Returns the text of a node.
 pub fn node_label(alloc: Global, node: &DevicePathNode<'_>) -> Result<String, AllocError>
     ensures { IfOk result (λ text. string_bytes text ≡ node_text node.now) }
 {

@@ -1,4 +1,4 @@
-ghost use Rattle.std.specs.Prelude.{◌≡◌, ◌↔◌, ◌≤◌, ℕ, List, Some, length, take, IsTrue, OnOk, OnErr};
+ghost use Rattle.std.specs.Prelude.{◌≡◌, ◌↔◌, ◌≤◌, ℕ, List, Some, length, take, IsTrue, OnOk, OnErr, IfSome};
 ghost use Rattle.uefi_base.specs.Buffer.{put_prefix};
 ghost use Rattle.uefi_base.specs.Unaligned.{unit_bytes};
 ghost use Rattle.uefi_base.specs.Views.{text_units};
@@ -45,4 +45,18 @@ pub fn is_same_file(info: &FileInfo<'_>, other: &FileInfo<'_>) -> bool
     ensures { IsTrue result ↔ (file_info_key info.now ≡ file_info_key other.now) }
 {
     info == other
+}
+
+/// Returns the number of units in the record of a label, if 64 bytes have room for it. The storage
+/// can be written to again once the record is no longer in use.
+pub fn unit_count(label: &CStr16<'_>) -> Option<usize>
+    ensures { IfSome result (λ count. count ≡ length (text_units label.now)) }
+{
+    let mut storage = [0; 64];
+    let count = match FileSystemVolumeLabel::new(&mut storage, label) {
+        Ok(record) => record.volume_label().len(),
+        Err(_) => return None,
+    };
+    storage[0] = 1;
+    Some(count)
 }

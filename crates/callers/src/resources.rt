@@ -1,10 +1,14 @@
-ghost use Rattle.std.specs.Prelude.{◌≡◌, ◌↔◌, ◌≤◌, List, length, IsTrue, IsNone, IfOk, IfSome};
+ghost use Rattle.std.specs.Prelude.{◌≡◌, ◌↔◌, ◌≤◌, List, length, sum_by, IsTrue, IsNone, IfOk, IfSome};
 ghost use Rattle.std.specs.List.{Any};
-ghost use Rattle.uefi_map.specs.declared.resource.QwordAddressSpaceDescriptor.{QwordAddressSpaceDescriptor};
-ghost use Rattle.uefi_map.specs.ResourceList.{HaveList, HaveFault, HaveSomeList};
+ghost use Rattle.uefi_map.specs.declared.pci.resource.QwordAddressSpaceDescriptor.{QwordAddressSpaceDescriptor};
+ghost use Rattle.uefi_map.specs.pci.ResourceList.{HaveList, HaveFault, HaveSomeList};
+ghost use Rattle.uefi_map.specs.pci.Views.{resources_left};
 
 use std::alloc::{AllocError, Global};
-use uefi_map::{QwordAddressSpaceDescriptor, ResourceError, ResourceRangeType, parse};
+use uefi_map::{
+    QwordAddressSpaceDescriptor, ResourceError, ResourceIter, ResourceList, ResourceRangeType,
+    parse,
+};
 
 /// How many ranges the bytes list.
 pub fn range_count(alloc: Global, bytes: &[u8]) -> Result<usize, ResourceError>
@@ -37,6 +41,30 @@ pub fn is_decoded(alloc: Global, bytes: &[u8], address: u64) -> Result<bool, Res
 {
     let list = parse(alloc, bytes)?;
     Ok(list.iter().any(|range| range.address_min <= address && address <= range.address_max))
+}
+
+/// Returns the count of addresses in all ranges that the bytes list, or `None` if they begin with no
+/// list or the sum doesn't fit.
+pub fn addresses_in(bytes: &[u8]) -> Option<u64>
+    ensures { IfSome result (λ addresses. (list : List QwordAddressSpaceDescriptor)
+        × HaveList bytes.now list
+        × (addresses ≡ sum_by (λ range. range.address_length) list)) }
+{
+    let Ok(list) = ResourceList::try_from(bytes) else {
+        return None;
+    };
+    let mut addresses = 0u64;
+    for range in list.iter() {
+        addresses = addresses.checked_add(range.address_length)?;
+    }
+    Some(addresses)
+}
+
+/// Returns the count of resources that are left, by `len`.
+pub fn resources_to_come(resources: &ResourceIter<'_>) -> usize
+    ensures { result ≡ length (resources_left resources.now) }
+{
+    resources.len()
 }
 
 /// Whether a number stands for ranges of bus numbers: 2 alone does.

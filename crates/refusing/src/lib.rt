@@ -1,34 +1,27 @@
-//! An allocator for tests: it grants so many requests, and refuses every one from then on.
+//! An allocator for tests: it grants so many requests, and refuses every later one.
 //!
-//! A call that allocates has to answer an error at whichever request is refused. A test counts
-//! upwards, so that each request of the call is in turn the first that is refused, until the call
-//! needs no more than it is granted:
+//! A call that allocates returns an error at whichever request is refused. [`in_turn`] shows it: it
+//! makes the call with each of its requests in turn as the first that is refused, until the call
+//! needs no more requests than are granted:
 //!
 //! ```text
-//! for granted in 0..100u64 {
-//!     let heap = Refusing::after(rt.alloc(), granted);
-//!     match Vec::from_slice(&heap, &[1u8, 2, 3]) {
-//!         Err(AllocError) => assert!(rt; !heap.is_waiting()),
-//!         Ok(bytes) => {
-//!             assert!(rt; heap.is_waiting());
-//!             assert_eq!(rt; bytes.as_slice(), [1u8, 2, 3].as_slice());
-//!             return;
-//!         }
-//!     }
-//! }
-//! assert!(rt; false, "it still asks for memory after 100 requests");
+//! let requests = in_turn(rt.alloc(), &3, |heap| {
+//!     let bytes = Vec::from_slice(heap, &[1u8, 2, 3]).ok()?;
+//!     Some(bytes.len())
+//! })?;
+//! same("requests", &requests, &1)?;
 //! ```
 //!
-//! [`Refusing::is_waiting`] says whether the refused request has not come yet. An error while it is
-//! true has another cause than want of memory, and an answer while it is false came in spite of a
-//! refusal.
+//! [`without_request`] shows that a call asks for no memory at all.
 //!
 //! The crate is for tests alone. Its proof says that it is as safe as the allocator below it. Which
-//! requests it refuses no contract says, since none can say what a cell holds: the test below does.
+//! requests it refuses no contract says, since none can say what a cell holds: the tests below do.
 #![tactic(auto)]
 
-use std::alloc::{AllocError, Allocator};
+use std::alloc::{AllocError, Allocator, Global};
 use std::cell::Cell;
+use std::fmt::Debug;
+use std::test::Fail;
 
 /// An allocator that hands so many requests on to another, and refuses every one from then on.
 ///
@@ -88,6 +81,71 @@ unsafe impl<B: Allocator> Allocator for Refusing<B> {
     }
 }
 
+/// The most requests that [`in_turn`] grants.
+const MOST_REQUESTS: u64 = 100;
+
+/// Makes a call with no request granted, then with one, and so on, until it doesn't run out of
+/// memory, and returns how many requests were granted then.
+///
+/// `call` gives `None` if it ran out of memory, and else what it gave, which is to be `expected`.
+///
+/// # Errors
+///
+/// A failure if the call runs out of memory though no request was refused, if it gives something
+/// though one was, if it gives another value than `expected`, or if it still asks for more after 100
+/// requests.
+pub fn in_turn<T, F>(alloc: Global, expected: &T, call: F) -> Result<u64, Fail>
+where
+    T: PartialEq + Debug + Drop,
+    F: Fn(&Refusing<Global>) -> Option<T>,
+    requires { F.IsAlwaysCallable call }
+{
+    for granted in 0..MOST_REQUESTS {
+        let heap = Refusing::after(alloc, granted);
+        let given = call(&heap);
+        if given.is_some() != heap.is_waiting() {
+            return Err(Fail::new(format_args!("found {given:?} with {granted} requests granted")));
+        }
+        let Some(found) = given else {
+            continue;
+        };
+        if found != *expected {
+            return Err(Fail::new(format_args!(
+                "found {found:?} with {granted} requests granted, expected {expected:?}"
+            )));
+        }
+        return Ok(granted);
+    }
+    Err(Fail::new("the call asks for more than 100 requests"))
+}
+
+/// The most requests that [`without_request`] grants.
+const FEW_REQUESTS: u64 = 4;
+
+/// Makes a call with no request granted, then with one, and so on up to four, and checks that it
+/// makes none: it gives the same each time, and no request is refused.
+///
+/// # Errors
+///
+/// A failure if a request was refused, or if the call gives another value than `expected`.
+pub fn without_request<T, F>(alloc: Global, expected: &T, call: F) -> Result<(), Fail>
+where
+    T: PartialEq + Debug + Drop,
+    F: Fn(&Refusing<Global>) -> T,
+    requires { F.IsAlwaysCallable call }
+{
+    for granted in 0..=FEW_REQUESTS {
+        let heap = Refusing::after(alloc, granted);
+        let found = call(&heap);
+        if found != *expected || !heap.is_waiting() {
+            return Err(Fail::new(format_args!(
+                "found {found:?} with {granted} requests granted, expected {expected:?} without one"
+            )));
+        }
+    }
+    Ok(())
+}
+
 #[cfg(test)]
 mod tests {
     use super::*;
@@ -107,5 +165,22 @@ mod tests {
             assert!(rt; Box::new(&heap, 1u8).is_err(), "the second after {granted}");
             assert!(rt; !heap.is_waiting(), "the second after {granted}");
         }
+    }
+
+    /// How many boxes were made, or `None` if memory ran out.
+    fn boxes<A: Allocator>(heap: &A, count: u64) -> Option<u64> {
+        for _ in 0..count {
+            Box::new(heap, 1u8).ok()?;
+        }
+        Some(count)
+    }
+
+    #[test]
+    fn each_request_is_refused_in_turn(rt: HostRuntime) -> Result<(), Fail> {
+        for count in 0..4u64 {
+            let requests = in_turn(rt.alloc(), &count, |heap| boxes(heap, count))?;
+            assert!(rt; requests == count, "{count} boxes");
+        }
+        without_request(rt.alloc(), &Some(0), |heap| boxes(heap, 0))
     }
 }

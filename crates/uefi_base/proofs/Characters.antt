@@ -1,50 +1,55 @@
--- The characters of texts, and the units and bytes that they are written as.
+-- The characters of text, their units and their bytes in UTF-8.
 use Rattle.std.proofs.Common.{◌≡◌, ℕ, zero, suc, ◌+◌, ◌<◌, ◌≤◌, true, Option, None, Some, List, [], ◌∷◌, ◌++◌, length, get_or, take, sym, ◌∙◌, ap, arith, ⊎_elim}
 use Rattle.std.specs.List.{AllWithin, HoldsAt}
 use Rattle.std.specs.Option.{MatchOption}
 use Rattle.std.specs.Str.{chars, IsUtf8}
 use Rattle.std.proofs.lemmas.Bool.{and_parts}
-use Rattle.std.proofs.lemmas.List.{take_more, append-nil, length_push, get_or_read, get_or_append_left, get_or_push}
+use Rattle.std.proofs.lemmas.List.{take_all, take_more, append-nil, length_push, get_or_read, get_or_append_left, get_or_push}
 use Rattle.std.proofs.lemmas.Str.{encodes-append, scalars-chars}
 use Rattle.std.proofs.Math.Utf8.{encode, encodes, scalar, scalars, scalar_cases}
 use Rattle.uefi_base.specs.Ucs2.{IsSurrogate, IsUcs2Text, HasUnit, MakeUcs2Text}
 use Rattle.uefi_base.specs.Search.{IsFirstWithoutUnit}
 
--- The bytes of one more character.
+-- The bytes of i + 1 characters are those of i characters and of the next.
 pub encodes_more : (cs : List ℕ) (i : ℕ) → i < length cs → encodes (take (i + 1) cs) ≡ encodes (take i cs) ++ encode (get_or cs i 0)
 encodes_more cs i within =
     ap encodes (take_more cs i 0 within) ∙ encodes-append (take i cs) (get_or cs i 0 ∷ []) ∙ ap (λ bytes. encodes (take i cs) ++ bytes) (append-nil (encode (get_or cs i 0)))
 
--- Where a loop over characters stands: the character of this turn is at the place after those that it has passed.
+-- The character of this turn of a loop is the one after those that the loop has passed.
 abbrev pub IsNext : List ℕ → List ℕ → ℕ → Type 0
 IsNext cs passed c = (length passed < length cs) × (c ≡ get_or cs (length passed) c)
 
--- The units of the characters that were passed, and one more.
+-- With one more unit, the units are those of one more character.
 pub units_more : (units others passed cs : List ℕ) (c : ℕ) → IsNext cs passed c → units ≡ take (length passed) cs → others ≡ units ++ c ∷ []
     → others ≡ take (length (passed ++ c ∷ [])) cs
 units_more units others passed cs c next before pushed =
     pushed ∙ ap (λ us. us ++ c ∷ []) before ∙ ap (λ d. take (length passed) cs ++ d ∷ []) next.1 ∙ sym (take_more cs (length passed) c next.0)
     ∙ ap (λ n. take n cs) (sym (length_push passed c))
 
--- The character of this turn has a unit.
+-- After all characters, the units are theirs, and the NUL is one more.
+pub units_all : (units others cs : List ℕ) (n : ℕ) → units ≡ take n cs → length cs ≤ n → others ≡ units ++ 0 ∷ [] → others ≡ cs ++ 0 ∷ []
+units_all units others cs n so_far all pushed = pushed ∙ ap (λ us. us ++ 0 ∷ []) (so_far ∙ take_all n cs all)
+
+-- The character of this turn has a unit of its own.
 pub has_unit : (passed cs : List ℕ) (c : ℕ) → MakeUcs2Text cs → IsNext cs passed c → c ≤ 0xffff
 has_unit passed cs c make next =
     let here : c ≡ get_or cs (length passed) 0 = get_or_read cs (length passed) c next.0 next.1 0 in
     let unit = make.have_units (length passed) next.0 in
     omega arith
 
--- A character is no surrogate.
+-- A character of Rust isn't a surrogate.
 no_surrogate : (c : ℕ) → scalar c ≡ true → ¬ IsSurrogate c
 no_surrogate c is_scalar in_range = ⊎_elim (λ below. omega arith) (λ above. omega arith) (scalar_cases c is_scalar)
 
+-- Each of Rust's characters is a scalar value.
 scalar_at : (cs : List ℕ) (k : ℕ) → scalars cs ≡ true → k < length cs → scalar (get_or cs k 0) ≡ true
 scalar_at [] k all within = absurd (omega arith)
 scalar_at (c ∷ cs) zero all within = (and_parts (scalar c) (scalars cs) all).0
 scalar_at (c ∷ cs) (suc k) all within = scalar_at cs k (and_parts (scalar c) (scalars cs) all).1 (omega arith)
 
--- Characters that make a text, and the NUL, are a text.
-pub text_made : (bytes : List ℕ) → IsUtf8 bytes → MakeUcs2Text (chars bytes) → IsUcs2Text (chars bytes ++ 0 ∷ [])
-text_made bytes utf8 make =
+-- Characters that make text are text with a NUL after them.
+pub IsUcs2Text-chars : (bytes : List ℕ) → IsUtf8 bytes → MakeUcs2Text (chars bytes) → IsUcs2Text (chars bytes ++ 0 ∷ [])
+IsUcs2Text-chars bytes utf8 make =
     let whole : length (chars bytes ++ 0 ∷ []) ≡ length (chars bytes) + 1 = length_push (chars bytes) 0 in
     let short = make.short in
     record {
@@ -58,7 +63,7 @@ text_made bytes utf8 make =
           rw same (record { no_surrogate = sound; not_nul = λ zero. omega arith });
     }
 
--- What a search for the first character that has no unit finds.
+-- A search for a character without a unit of its own finds the first.
 pub first_without_unit : (cs : List ℕ) (found : Option ℕ)
     → MatchOption found (AllWithin HasUnit cs 0 (length cs)) (λ c. (¬ HasUnit c) × (i : ℕ) × (i < length cs) × HoldsAt (λ d. d ≡ c) cs i × AllWithin HasUnit cs 0 i) → IsFirstWithoutUnit cs found
 first_without_unit cs None each = λ k before. each k 0 (omega arith) before

@@ -1,4 +1,4 @@
--- Parts that are put into a buffer one after another.
+-- Parts that are written into a buffer one after another.
 use Rattle.std.proofs.Common.{◌≡◌, ℕ, ◌+◌, ◌*◌, ◌<◌, ◌≤◌, List, [], ◌∷◌, ◌++◌, length, get_or, take, drop, true, refl, sym, ◌∙◌, ap, arith, append_assoc}
 use Rattle.std.specs.Prelude.{nat_le}
 use Rattle.std.proofs.lemmas.Bool.Decides.{nat_tests}
@@ -10,49 +10,51 @@ use Rattle.uefi_base.specs.LittleEndian.{u16_bytes}
 use Rattle.uefi_base.specs.Unaligned.{unit_bytes}
 use Rattle.uefi_base.proofs.UnitsBack.{units_read_back}
 
--- A part that begins where another ends: both are put as one.
-pub put_next : (place : ℕ) (part more bytes : List ℕ) → place + length part ≤ length bytes
-    → put_at (place + length part) more (put_at place part bytes) ≡ put_at place (part ++ more) bytes
-put_next place part more bytes within =
-    let end : ℕ = place + length part in
-    let front : List ℕ = take place bytes ++ part in
-    let sized : length (take place bytes ++ part) ≡ place + length part = length-append (take place bytes) part ∙ ap (λ n. n + length part) (length-take-le place bytes (omega arith)) in
-    let before : take end (put_at place part bytes) ≡ front = take_at front (drop end bytes) end sized in
-    let after : drop (end + length more) (put_at place part bytes) ≡ drop (end + length more) bytes = drop-append-drop end bytes front (end + length more) (omega arith) sized in
-    let last : end + length more ≡ place + length (part ++ more) = omega (arith, length-append part more) in
-    ap (λ b. b ++ more ++ drop (end + length more) (put_at place part bytes)) before
-    ∙ ap (λ r. front ++ more ++ r) (after ∙ ap (λ n. drop n bytes) last)
-    ∙ ap (λ b. b ++ drop (place + length (part ++ more)) bytes) (append_assoc (take place bytes) part more)
+-- Writing a part and then one that starts at its end is writing both as one part.
+pub put_next : (offset : ℕ) (part more bytes : List ℕ) → offset + length part ≤ length bytes
+    → put_at (offset + length part) more (put_at offset part bytes) ≡ put_at offset (part ++ more) bytes
+put_next offset part more bytes within =
+    let end : ℕ = offset + length part in
+    let prefix : List ℕ = take offset bytes ++ part in
+    let sized : length (take offset bytes ++ part) ≡ offset + length part = length-append (take offset bytes) part ∙ ap (λ n. n + length part) (length-take-le offset bytes (omega arith)) in
+    let before : take end (put_at offset part bytes) ≡ prefix = take_at prefix (drop end bytes) end sized in
+    let after : drop (end + length more) (put_at offset part bytes) ≡ drop (end + length more) bytes = drop-append-drop end bytes prefix (end + length more) (omega arith) sized in
+    let last : end + length more ≡ offset + length (part ++ more) = omega (arith, length-append part more) in
+    ap (λ b. b ++ more ++ drop (end + length more) (put_at offset part bytes)) before
+    ∙ ap (λ r. prefix ++ more ++ r) (after ∙ ap (λ n. drop n bytes) last)
+    ∙ ap (λ b. b ++ drop (offset + length (part ++ more)) bytes) (append_assoc (take offset bytes) part more)
 
--- One unit more.
-pub units_put : (place i : ℕ) (units bytes now : List ℕ) → i < length units → place + 2 * length units ≤ length bytes → now ≡ put_at place (unit_bytes (take i units)) bytes
-    → put_at (place + 2 * i) (u16_bytes (get_or units i 0)) now ≡ put_at place (unit_bytes (take (i + 1) units)) bytes
-units_put place i units bytes now within room so_far =
+-- Writing one more unit after the first i.
+pub units_put : (offset i : ℕ) (units bytes now : List ℕ) → i < length units → offset + 2 * length units ≤ length bytes → now ≡ put_at offset (unit_bytes (take i units)) bytes
+    → put_at (offset + 2 * i) (u16_bytes (get_or units i 0)) now ≡ put_at offset (unit_bytes (take (i + 1) units)) bytes
+units_put offset i units bytes now within room so_far =
     let sized : length (unit_bytes (take i units)) ≡ 2 * i = units_read_back.sized (take i units) ∙ ap (λ n. 2 * n) (length-take-le i units (omega arith)) in
-    let here : place + 2 * i ≡ place + length (unit_bytes (take i units)) = ap (λ n. place + n) (sym sized) in
+    let here : offset + 2 * i ≡ offset + length (unit_bytes (take i units)) = ap (λ n. offset + n) (sym sized) in
     let more : unit_bytes (take i units) ++ u16_bytes (get_or units i 0) ≡ unit_bytes (take (i + 1) units) =
     ap (λ last. unit_bytes (take i units) ++ last) (sym (append-nil (u16_bytes (get_or units i 0))))
     ∙ sym (flat_map-append u16_bytes (take i units) (get_or units i 0 ∷ [])) ∙ ap unit_bytes (sym (take_more units i 0 within)) in
     ap (λ n. put_at n (u16_bytes (get_or units i 0)) now) here
-    ∙ ap (λ b. put_at (place + length (unit_bytes (take i units))) (u16_bytes (get_or units i 0)) b) so_far
-    ∙ put_next place (unit_bytes (take i units)) (u16_bytes (get_or units i 0)) bytes (omega arith)
-    ∙ ap (λ part. put_at place part bytes) more
+    ∙ ap (λ b. put_at (offset + length (unit_bytes (take i units))) (u16_bytes (get_or units i 0)) b) so_far
+    ∙ put_next offset (unit_bytes (take i units)) (u16_bytes (get_or units i 0)) bytes (omega arith)
+    ∙ ap (λ part. put_at offset part bytes) more
 
--- The first part, and the next one, over a prefix of a buffer; a part is known by the value that it is equal to.
+-- Writing a part at offset 0 replaces the first bytes.
 put_at-zero : (part bytes : List ℕ) → put_at 0 part bytes ≡ put_prefix part bytes
 put_at-zero part bytes = let plain : 0 + length part ≡ length part = omega arith in ap (λ n. part ++ drop n bytes) plain
 
+-- Writing the first part of a record, which equals the value.
 pub put_first : (part value bytes next : List ℕ) → part ≡ value → next ≡ put_at 0 part bytes → next ≡ put_prefix value bytes
 put_first part value bytes next known is = is ∙ put_at-zero part bytes ∙ ap (λ p. put_prefix p bytes) known
 
-pub put_more : (place : ℕ) (done part value bytes now next : List ℕ) → now ≡ put_prefix done bytes → length done ≡ place → place ≤ length bytes → part ≡ value → next ≡ put_at place part now
+-- Writing the next part of a record after those that are done.
+pub put_more : (offset : ℕ) (done part value bytes now next : List ℕ) → now ≡ put_prefix done bytes → length done ≡ offset → offset ≤ length bytes → part ≡ value → next ≡ put_at offset part now
     → next ≡ put_prefix (done ++ value) bytes
-put_more place done part value bytes now next so_far sized within known is =
-    let plain : place ≡ 0 + length done = omega (arith, sized) in
-    is ∙ ap (λ b. put_at place part b) (so_far ∙ sym (put_at-zero done bytes)) ∙ ap (λ n. put_at n part (put_at 0 done bytes)) plain
+put_more offset done part value bytes now next so_far sized within known is =
+    let plain : offset ≡ 0 + length done = omega (arith, sized) in
+    is ∙ ap (λ b. put_at offset part b) (so_far ∙ sym (put_at-zero done bytes)) ∙ ap (λ n. put_at n part (put_at 0 done bytes)) plain
     ∙ put_next 0 done part bytes (omega (arith, sized, within)) ∙ put_at-zero (done ++ part) bytes ∙ ap (λ p. put_prefix (done ++ p) bytes) known
 
--- A buffer, in which room is tested once for all parts, with the first ones put; then one more part, or bytes that are left as they were.
+-- A buffer, whose room is tested once for all parts, with the first ones written; then one part more, or bytes that are left as they were.
 pub record HasPut (room offset : ℕ) (done old now : List ℕ) : Type 0 where
   pub within : room ≤ length old
   pub sized : length done ≡ offset

@@ -5,11 +5,11 @@ use Rattle.uefi_base.specs.Ucs2.{IsSurrogate, IsCharacter, AreCharactersBefore, 
 use Rattle.uefi_base.specs.Faults.{OffendsFirst}
 use Rattle.uefi_base.specs.Rows.{TextRows, FaultRows, OrderRows, CharacterRows, ByteRows, NameRows, RowsHold}
 
--- A unit below the surrogates, and not zero, is a character.
+-- A unit between zero and the surrogates is a character.
 low : (unit : ℕ) → 0 < unit → unit < 0xd800 → IsCharacter unit
 low unit positive below = record { no_surrogate = λ surrogate. absurd (omega (arith, surrogate.0)); not_nul = λ zero. omega arith }
 
--- Before the first place stands nothing; before the next, the unit of the first.
+-- The units before index 0, 1 and 2 are characters.
 none_before : (units : List ℕ) → AreCharactersBefore units 0
 none_before units k before = absurd (omega arith)
 
@@ -40,7 +40,7 @@ fault_rows = record {
   too_many_surrogates = λ n above. omega (arith, length-replicate {A = ℕ} n 0xd800);
 }
 
--- A surrogate is no character.
+-- A surrogate isn't a character.
 surrogate_first : (unit : ℕ) → IsSurrogate unit → IsCharacter unit → ⊥
 surrogate_first unit surrogate is = is.no_surrogate surrogate
 
@@ -65,13 +65,13 @@ character_rows = record {
     first_has_unit zero before = (lit< tt, lit≤ tt)
     first_has_unit (suc k) before = absurd (omega arith)
 
-    at_place : (place : ℕ) → place < 2 → HaveUnitsBefore (0x1f600 ∷ 0 ∷ []) place → ◌≡◌ {A = ℕ} (get_or (0x1f600 ∷ 0 ∷ []) place 0) 0 → ⊥
-    at_place zero within before nul = absurd (omega (arith, nul))
-    at_place (suc zero) within before nul = absurd (omega (arith, (before 0 (lit< tt)).1))
-    at_place (suc (suc k)) within before nul = absurd (omega arith)
+    at_index : (index : ℕ) → index < 2 → HaveUnitsBefore (0x1f600 ∷ 0 ∷ []) index → ◌≡◌ {A = ℕ} (get_or (0x1f600 ∷ 0 ∷ []) index 0) 0 → ⊥
+    at_index zero within before nul = absurd (omega (arith, nul))
+    at_index (suc zero) within before nul = absurd (omega (arith, (before 0 (lit< tt)).1))
+    at_index (suc (suc k)) within before nul = absurd (omega arith)
 
     nul_after_above : OffendsFirst (0x1f600 ∷ 0 ∷ []) (λ character. character ≡ 0) → ⊥
-    nul_after_above fault = at_place fault.1.0 fault.1.1 fault.1.2 fault.1.3
+    nul_after_above fault = at_index fault.1.0 fault.1.1 fault.1.2 fault.1.3
 
 byte_rows : ByteRows
 byte_rows = record {

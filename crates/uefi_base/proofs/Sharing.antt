@@ -1,4 +1,4 @@
--- A `&mut [u8]` that is lent, comes back, and is then shared for all the time that it has left: what a walk through a writer takes from here.
+-- A `&mut [u8]` that is lent, returned, and then shared for the rest of its lifetime.
 use mathlib.Core.Path.{◌≡◌, refl, sym}
 use Prim.Native.Nat.{ℕ}
 use mathlib.Core.List.{List, [], ◌∷◌}
@@ -30,11 +30,11 @@ use Rattle.uefi_base.specs.Buffer.{EndsAs}
 module _ {M : Type 1} {𝓤 : Ura M} (𝓛 : Logic 𝓤) where
   open 𝓛 use {H, A}
 
-  -- The buffer of this name holds these bytes from now on.
+  -- The buffer with this name holds these bytes from now on.
   abbrev pub Ended : GName → List ℕ → Fml
   Ended γ xs = fres γ ((coded_list u8.coded).code xs)
 
-  -- The reference becomes a `&[u8]`, what its buffer holds from now on is known, and the token stays.
+  -- The reference becomes a `&[u8]`, its buffer holds these bytes from now on, and the token stays.
   pub shares_all : (ℓ ℓ' : Lifetime) (κ : Lft) (q : Share) (r : MutBor (List ℕ)) (vs : List Val)
       → ent 𝓤 (sep 𝓤 (sem 𝓛 ((MutSlice ℓ κ u8).own_val r vs)) (A.lft κ q))
       (H.⇛ (sep 𝓤 (sem 𝓛 ((ShrSlice ℓ' κ u8).own_val (record { ref_ptr = r.ref_ptr; now = r.now }) vs)) (sep 𝓤 (sem 𝓛 (Ended r.ghost_name r.now)) (A.lft κ q))))
@@ -47,14 +47,14 @@ module _ {M : Type 1} {𝓤 : Ura M} (𝓛 : Logic 𝓤) where
       use1 𝓛 (‵ (Ended r.ghost_name xs)) (finally-res 𝓛 u8 r.ghost_name xs) $ move ! (2 ∷ []) $ fsplit ! $ drop ! $
       pure_i ! (shr_slice_at u8 (record { ref_ptr = r.ref_ptr; now = xs }) vs) (tt, (tt, tt)) (p.0, p.1) $ fjoin ! $ at_once ! $ done !)
 
-  -- A buffer that holds these bytes from now on ends as one that they are true of.
+  -- A buffer that holds these bytes from now on ends with bytes that have their properties.
   pub ends_as : (s : MutBor (List ℕ)) (v : List ℕ) (Holds : List ℕ → Type 0) → Holds v → ent 𝓤 (sem 𝓛 (Ended s.ghost_name v)) (sem 𝓛 (EndsAs s Holds))
   unfolding such_by follows_by
   ends_as s v Holds holds =
       qed 𝓛 (‵ (Ended s.ghost_name v) ∷ []) ∵
       fpack ! ((f : (List ℕ → List ℕ) × List ℕ) × ((w : List ℕ) → ⊤) × Holds f.1) (λ f. follows_by (List ℕ) (List ℕ) (coded_list u8.coded).code (coded_list u8.coded).code s.ghost_name none f.0.0 f.0.1) (((λ w. w), v), (λ w. tt), holds) $ done !
 
-  -- A `&mut [u8]` is lent again, for a lifetime within its own.
+  -- A `&mut [u8]` is reborrowed for a lifetime within its own.
   pub lends_slice_again : (ℓ ℓ' : Lifetime) (κ : Lft) (q : Share) (κ' : Lft) (r : MutBor (List ℕ))
       → ent 𝓤 (sep 𝓤 (sem 𝓛 ((MutSlice ℓ κ u8).own_val r (mut_slice_vals r))) (A.lft κ q))
       (H.⇛ (ex 𝓤 (λ (δ : ℕ). sep 𝓤 (sem 𝓛 ((MutSlice ℓ' κ' u8).own_val (record r { ghost_name = δ }) (mut_slice_vals r))) (mean 𝓛 (kept_f 𝓛 u8 κ q κ' r.ghost_name δ r.now r.ref_ptr.0 r.ref_ptr.1)))))
@@ -66,7 +66,7 @@ module _ {M : Type 1} {𝓤 : Ura M} (𝓛 : Logic 𝓤) where
       pure_i ! (mut_slice_at u8 (record r { ghost_name = δ }) (mut_slice_vals r)) (tt, (tt, tt)) (refl, p.1) $ fjoin ! $ at_once ! $
       show ! (λ (e : ℕ). sep 𝓤 (sem 𝓛 ((MutSlice ℓ' κ' u8).own_val (record r { ghost_name = e }) (mut_slice_vals r))) (mean 𝓛 (kept_f 𝓛 u8 κ q κ' r.ghost_name e r.now r.ref_ptr.0 r.ref_ptr.1))) δ $ done !))
 
-  -- After that lifetime it is back, with what was left in it.
+  -- After that lifetime it is back, with the bytes that were last written to it.
   pub slice_comes_back : (ℓ : Lifetime) (κ : Lft) (q : Share) (κ' : Lft) (r : MutBor (List ℕ)) (δ : GName) (ys : List ℕ)
       → ent 𝓤 (sep 𝓤 (A.dead κ') (sep 𝓤 (mean 𝓛 (kept_f 𝓛 u8 κ q κ' r.ghost_name δ r.now r.ref_ptr.0 r.ref_ptr.1)) (sem 𝓛 (finally u8 δ ys))))
       (H.⇛ (guard 𝓤 (length ys ≡ length r.now) (sep 𝓤 (sem 𝓛 ((MutSlice ℓ κ u8).own_val (record r { now = ys }) (mut_slice_vals r))) (A.lft κ q))))

@@ -1,11 +1,13 @@
 -- Units and their bytes.
-use Rattle.std.proofs.Common.{◌≡◌, ℕ, zero, suc, ◌+◌, ◌*◌, ◌%◌, ◌<◌, List, [], ◌∷◌, ◌++◌, length, get_or, refl, ◌∙◌, ap, arith, lit<}
+use Rattle.std.proofs.Common.{◌≡◌, ℕ, suc, ◌+◌, ◌*◌, ◌%◌, List, [], ◌∷◌, ◌++◌, length, get_or, refl, ◌∙◌, ap, arith}
 use Rattle.std.specs.Int.{w16, from_le_bytes}
-use Rattle.std.proofs.lemmas.Nat.{le_bytes_2, from_le_bytes-to_le_bytes_2}
+use Rattle.std.proofs.lemmas.Nat.{from_le_bytes-to_le_bytes_2}
 use Rattle.uefi_base.specs.LittleEndian.{AreBytes, u16_bytes}
 use Rattle.uefi_base.specs.Unaligned.{AreUnits, units_of, unit_bytes}
 use Rattle.uefi_base.specs.Laws.{UnitsReadBack}
+use Rattle.uefi_base.proofs.NumbersBack.{two_bytes}
 
+-- Units read back, as the law states it.
 pub units_read_back : UnitsReadBack
 units_read_back = record {
   written = written;
@@ -25,19 +27,13 @@ units_read_back = record {
     read [] each even = refl
     read (low ∷ []) each even = absurd (omega arith)
     read (low ∷ high ∷ rest) each even =
-        let two : u16_bytes (low + 256 * high) ≡ low ∷ high ∷ [] = le_bytes_2 (low ∷ high ∷ []) (low + 256 * high) refl (small low high (each 0) (each 1)) (omega arith) in
-        ap (λ front. front ++ unit_bytes (units_of rest)) two ∙ ap (λ r. low ∷ high ∷ r) (read rest (λ k. each (suc (suc k))) (omega arith))
-      where
-        small : (a b : ℕ) → a < 256 → b < 256 → (k : ℕ) → get_or (a ∷ b ∷ []) k 0 < 256
-        small a b small_a small_b zero = small_a
-        small a b small_a small_b (suc zero) = small_b
-        small a b small_a small_b (suc (suc k)) = lit< tt
+        ap (λ unit. unit ++ unit_bytes (units_of rest)) (two_bytes low high (low + 256 * high) (each 0) (each 1) (omega arith)) ∙ ap (λ r. low ∷ high ∷ r) (read rest (λ k. each (suc (suc k))) (omega arith))
 
     sized : (us : List ℕ) → length (unit_bytes us) ≡ 2 * length us
     sized [] = refl
     sized (u ∷ us) = let others = sized us in omega arith
 
-    joined : (front rest : List ℕ) → length front % 2 ≡ 0 → units_of (front ++ rest) ≡ units_of front ++ units_of rest
+    joined : (bytes rest : List ℕ) → length bytes % 2 ≡ 0 → units_of (bytes ++ rest) ≡ units_of bytes ++ units_of rest
     joined [] rest even = refl
     joined (low ∷ []) rest even = absurd (omega arith)
-    joined (low ∷ high ∷ front) rest even = ap (λ us. (low + 256 * high) ∷ us) (joined front rest (omega arith))
+    joined (low ∷ high ∷ bytes) rest even = ap (λ us. (low + 256 * high) ∷ us) (joined bytes rest (omega arith))

@@ -1,4 +1,4 @@
--- The names that a walk through a writer cites.
+-- The names that the proof of a writer imports.
 pub use mathlib.Core.Path.{◌≡◌, refl}
 pub use Prim.Native.Nat.{ℕ, ◌≤◌}
 pub use mathlib.Core.List.{List, [], ◌∷◌}

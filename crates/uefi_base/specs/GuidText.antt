@@ -2,16 +2,16 @@
 use Rattle.std.specs.Prelude.{ℕ, ◌/◌, ◌%◌, List, [], ◌∷◌, ◌++◌, codes, false, slice_index}
 use Rattle.std.specs.Fmt.{digit_glyph}
 
--- A byte, as two lower case hex digits.
+-- A byte, as two lowercase hex digits.
 abbrev pub hex_byte : ℕ → List ℕ
 hex_byte byte = digit_glyph false (byte / 16) ∷ digit_glyph false (byte % 16) ∷ []
 
--- The bytes at these places, in this order.
+-- The bytes at these offsets, in this order.
 abbrev pub hex_at : List ℕ → List ℕ → List ℕ
 hex_at bytes [] = []
-hex_at bytes (place ∷ places) = hex_byte (slice_index bytes place) ++ hex_at bytes places
+hex_at bytes (offset ∷ offsets) = hex_byte (slice_index bytes offset) ++ hex_at bytes offsets
 
--- Five groups with a dash between two. The first three are numbers whose low byte stands first in the bytes, and last in the text.
+-- Five groups, separated by dashes. The first three are little-endian numbers, so their bytes appear in reverse order.
 abbrev pub guid_text : List ℕ → List ℕ
 guid_text bytes =
     hex_at bytes (3 ∷ 2 ∷ 1 ∷ 0 ∷ []) ++ codes "-" ++ hex_at bytes (5 ∷ 4 ∷ []) ++ codes "-" ++ hex_at bytes (7 ∷ 6 ∷ []) ++ codes "-"

@@ -3,30 +3,30 @@ use Rattle.std.specs.Prelude.{ℕ, ◌≡◌, ◌+◌, ◌*◌, ◌/◌, ◌%◌
 use Rattle.uefi_base.specs.LittleEndian.{AreBytes, u16_at, u16_bytes, u32_at, u32_bytes, u64_at, u64_bytes}
 use Rattle.uefi_base.specs.Unaligned.{AreUnits, units_of, unit_bytes}
 
--- A number that was written is read where its bytes stand, whatever is before and after them.
+-- A number reads back from the offset at which its bytes were written, whatever comes before and after them.
 pub record WrittenNumbersRead : Type 0 where
   pub u16 : (before after : List ℕ) (n : ℕ) → n < 2 ^ 16 → u16_at (before ++ u16_bytes n ++ after) (length before) ≡ n
   pub u32 : (before after : List ℕ) (n : ℕ) → n < 2 ^ 32 → u32_at (before ++ u32_bytes n ++ after) (length before) ≡ n
   pub u64 : (before after : List ℕ) (n : ℕ) → n < 2 ^ 64 → u64_at (before ++ u64_bytes n ++ after) (length before) ≡ n
 
--- The bytes of a number that was read are those that stand at its place.
+-- The bytes of a number that was read are the bytes at its offset.
 pub record ReadNumbersWrite : Type 0 where
-  pub u16 : (bytes : List ℕ) (place : ℕ) → AreBytes bytes → place + 2 ≤ length bytes → u16_bytes (u16_at bytes place) ≡ slice_range bytes place (place + 2)
-  pub u32 : (bytes : List ℕ) (place : ℕ) → AreBytes bytes → place + 4 ≤ length bytes → u32_bytes (u32_at bytes place) ≡ slice_range bytes place (place + 4)
-  pub u64 : (bytes : List ℕ) (place : ℕ) → AreBytes bytes → place + 8 ≤ length bytes → u64_bytes (u64_at bytes place) ≡ slice_range bytes place (place + 8)
+  pub u16 : (bytes : List ℕ) (offset : ℕ) → AreBytes bytes → offset + 2 ≤ length bytes → u16_bytes (u16_at bytes offset) ≡ slice_range bytes offset (offset + 2)
+  pub u32 : (bytes : List ℕ) (offset : ℕ) → AreBytes bytes → offset + 4 ≤ length bytes → u32_bytes (u32_at bytes offset) ≡ slice_range bytes offset (offset + 4)
+  pub u64 : (bytes : List ℕ) (offset : ℕ) → AreBytes bytes → offset + 8 ≤ length bytes → u64_bytes (u64_at bytes offset) ≡ slice_range bytes offset (offset + 8)
 
 pub record NumbersReadBack : Type 0 where
   pub written : WrittenNumbersRead
   pub read : ReadNumbersWrite
 
--- Units and their bytes are one another's; a unit has two bytes, and units follow one another as their bytes do.
+-- Units and their bytes determine each other; a unit has two bytes, and the units of joined bytes are those of the parts, if the first has an even length.
 pub record UnitsReadBack : Type 0 where
   pub written : (units : List ℕ) → AreUnits units → units_of (unit_bytes units) ≡ units
   pub read : (bytes : List ℕ) → AreBytes bytes → length bytes % 2 ≡ 0 → unit_bytes (units_of bytes) ≡ bytes
   pub sized : (units : List ℕ) → length (unit_bytes units) ≡ 2 * length units
-  pub joined : (front rest : List ℕ) → length front % 2 ≡ 0 → units_of (front ++ rest) ≡ units_of front ++ units_of rest
+  pub joined : (bytes rest : List ℕ) → length bytes % 2 ≡ 0 → units_of (bytes ++ rest) ≡ units_of bytes ++ units_of rest
 
--- Unit k stands at twice k, and the units before and from a place are those of the bytes before and from twice the place.
+-- Unit k has its bytes at twice k, and the units before and from k are those of the bytes before and from twice k.
 pub record UnitsByPlace : Type 0 where
   pub counted : (bytes : List ℕ) → length (units_of bytes) ≡ length bytes / 2
   pub each : (bytes : List ℕ) (k : ℕ) → k < length (units_of bytes) → slice_index (units_of bytes) k ≡ u16_at bytes (2 * k)

@@ -1,39 +1,40 @@
--- UCS-2 texts (UEFI 2.10, 2.3.1 "Data Types", CHAR16).
-use Rattle.std.specs.Prelude.{ℕ, ◌≡◌, ◌≢◌, ◌-◌, ◌^◌, ◌<◌, ◌≤◌, List, length, take, slice_index}
+-- UCS-2 text (UEFI 2.10, 2.3.1 "Data Types", CHAR16).
+use Rattle.std.specs.Prelude.{ℕ, ◌≡◌, ◌≢◌, ◌-◌, ◌<◌, ◌≤◌, List, length, take, slice_index}
+use Rattle.uefi_base.specs.declared.ucs2.TheConstants.{MAX_UNITS, MAX_UNIT_CHARACTER, FIRST_SURROGATE, LAST_SURROGATE}
 
--- The unit is half of a surrogate pair of UTF-16, and so no character of UCS-2.
+-- The unit is half of a surrogate pair of UTF-16, which UCS-2 doesn't have.
 abbrev pub IsSurrogate : ℕ → Type 0
-IsSurrogate unit = (0xd800 ≤ unit) × (unit ≤ 0xdfff)
+IsSurrogate unit = (FIRST_SURROGATE ≤ unit) × (unit ≤ LAST_SURROGATE)
 
--- The unit may stand before the NUL.
+-- The unit is a character: it may come before the NUL.
 pub record IsCharacter (unit : ℕ) : Type 0 where
   pub no_surrogate : ¬ IsSurrogate unit
   pub not_nul : unit ≢ 0
 
--- Each unit before the place is a character.
+-- Each unit before the index is a character.
 abbrev pub AreCharactersBefore : List ℕ → ℕ → Type 0
-AreCharactersBefore units place = (k : ℕ) → k < place → IsCharacter (slice_index units k)
+AreCharactersBefore units index = (k : ℕ) → k < index → IsCharacter (slice_index units k)
 
--- A text: at most 2^31 units, of which the last is zero, and each other a character.
+-- The units are text: at most MAX_UNITS of them, the last is zero, and each other is a character.
 pub record IsUcs2Text (units : List ℕ) : Type 0 where
-  pub short : length units ≤ 2 ^ 31
+  pub short : length units ≤ MAX_UNITS
   pub not_empty : 0 < length units
   pub nul : slice_index units (length units - 1) ≡ 0
   pub characters : AreCharactersBefore units (length units - 1)
 
--- The characters of a text: its units without the last, the NUL.
+-- The characters of text: its units without the last, the NUL.
 abbrev pub characters_of : List ℕ → List ℕ
 characters_of units = take (length units - 1) units
 
--- The character has a unit of its own, which is not the NUL.
+-- The character has a unit of its own that isn't the NUL.
 abbrev pub HasUnit : ℕ → Type 0
-HasUnit character = (0 < character) × (character ≤ 0xffff)
+HasUnit character = (0 < character) × (character ≤ MAX_UNIT_CHARACTER)
 
--- Each character before the place has a unit.
+-- Each character before the index has a unit of its own.
 abbrev pub HaveUnitsBefore : List ℕ → ℕ → Type 0
-HaveUnitsBefore characters place = (k : ℕ) → k < place → HasUnit (slice_index characters k)
+HaveUnitsBefore characters index = (k : ℕ) → k < index → HasUnit (slice_index characters k)
 
--- The characters make a text: each has a unit, and the NUL after them is still within 2^31 units.
+-- The characters make text: each has a unit of its own, and with the NUL there are at most MAX_UNITS units.
 pub record MakeUcs2Text (characters : List ℕ) : Type 0 where
-  pub short : length characters < 2 ^ 31
+  pub short : length characters < MAX_UNITS
   pub have_units : HaveUnitsBefore characters (length characters)

@@ -1,4 +1,4 @@
--- What texts, units over bytes, their iterator and errors stand for.
+-- What contracts see of texts, slices of units, their iterator and errors.
 use Rattle.std.specs.Prelude.{ℕ, List}
 use Rattle.uefi_base.specs.declared.cstr16.CStr16.{CStr16}
 use Rattle.uefi_base.specs.declared.cstring16.CString16.{CString16}
@@ -8,23 +8,23 @@ use Rattle.uefi_base.specs.declared.status.Status.{Status}
 use Rattle.uefi_base.specs.declared.status.Error.{Error}
 use Rattle.uefi_base.specs.Unaligned.{units_of}
 
--- The units of the text, its NUL too.
+-- The units of the text, including the NUL.
 abbrev pub text_units : CStr16 → List ℕ
 text_units text = text.units.now
 
--- The units of the text that is owned, its NUL too.
+-- The units of the owned text, including the NUL.
 abbrev pub owned_units : {A : Type 0} → CString16 A → List ℕ
 owned_units text = text.units.items
 
--- The units over the bytes.
+-- The units of the slice.
 abbrev pub slice_units : UnalignedSlice → List ℕ
 slice_units slice = units_of slice.bytes.now
 
--- The units that are still to come.
+-- The units that the iterator hasn't returned yet.
 abbrev pub units_left : UnalignedSliceIter → List ℕ
 units_left iter = units_of iter.rest.now
 
--- The two parts of an error.
+-- The status and the data of an error.
 abbrev pub error_status : {D : Type 0} → Error D → Status
 error_status error = error.status
 

@@ -1,14 +1,14 @@
 ghost use Rattle.std.specs.Prelude.{◌≡◌, ℕ};
 
-/// A type whose records begin at a multiple of a number of bytes.
+/// A type whose records start at a multiple of an alignment.
 ///
-/// Nothing in this project looks at an address: the number says how a record's size is rounded up,
-/// and where firmware puts the record.
+/// No function of this project looks at an address. The alignment says how the size of a record is
+/// rounded up, and at which addresses firmware places it.
 pub trait Align {
-    /// The number.
+    /// The alignment in bytes, as clauses cite it.
     ghost alignment: { ℕ };
 
-    /// The number of bytes.
+    /// Returns the alignment in bytes.
     fn alignment() -> usize
         ensures { result ≡ alignment };
 }

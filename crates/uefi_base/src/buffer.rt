@@ -1,27 +1,28 @@
-//! Parts of a buffer, as the writers of records put them in.
+//! Writing the parts of a record into a buffer.
 //!
-//! A part is put at a place with its bytes after it: a caller tests the length once for all parts
-//! of a record. What stands before and after the part stays as it was.
+//! Each function writes one part at an offset and leaves all other bytes unchanged. The caller
+//! makes sure that the part fits, so that a writer compares the length of its buffer once for all
+//! parts.
 
 ghost use Rattle.std.specs.Prelude.{◌≡◌, ◌+◌, ◌*◌, ◌≤◌, length};
 ghost use Rattle.uefi_base.specs.Buffer.{put_at};
 ghost use Rattle.uefi_base.specs.Unaligned.{unit_bytes};
 
-/// Puts bytes at the place.
-pub fn put(buffer: &mut [u8], place: usize, part: &[u8])
-    requires { place + length part.now ≤ length buffer.old }
-    ensures { buffer.new ≡ put_at place part.now buffer.old }
+/// Copies `part` into `buffer` at `offset`.
+pub fn put(buffer: &mut [u8], offset: usize, part: &[u8])
+    requires { offset + length part.now ≤ length buffer.old }
+    ensures { buffer.new ≡ put_at offset part.now buffer.old }
 {
-    let end = place + part.len();
-    buffer[place..end].copy_from_slice(part);
+    let end = offset + part.len();
+    buffer[offset..end].copy_from_slice(part);
 }
 
-/// Puts units at the place, two bytes each, the low byte first.
-pub fn put_units(buffer: &mut [u8], place: usize, units: &[u16])
-    requires { place + 2 * length units.now ≤ length buffer.old }
-    ensures { buffer.new ≡ put_at place (unit_bytes units.now) buffer.old }
+/// Copies `units` into `buffer` at `offset`, two bytes each, little-endian.
+pub fn put_units(buffer: &mut [u8], offset: usize, units: &[u16])
+    requires { offset + 2 * length units.now ≤ length buffer.old }
+    ensures { buffer.new ≡ put_at offset (unit_bytes units.now) buffer.old }
 {
     for (i, unit) in units.iter().enumerate() {
-        put(buffer, place + 2 * i, &unit.to_le_bytes());
+        put(buffer, offset + 2 * i, &unit.to_le_bytes());
     }
 }

@@ -9,11 +9,28 @@ use crate::text_error::FromSliceWithNulError;
 use crate::ucs2::{fault_of, is_character};
 use std::alloc::{AllocError, Allocator};
 
-/// A UCS-2 text (UEFI 2.10, 2.3.1, `CHAR16`): at most 2^31 units of 16 bits, of which none is a
-/// surrogate, and the last, and no other, is zero, the NUL.
+/// UCS-2 text that ends with a NUL (UEFI 2.10, 2.3.1, `CHAR16`): at most 2^31 units of 16 bits, of
+/// which none is a surrogate and only the last is zero.
 ///
-/// A view: it borrows the units that it was made from, and what it hands out lives as long as they
+/// A view: it borrows the units that it was made from, and what it returns lives as long as they
 /// do.
+///
+/// # Examples
+///
+/// ```
+/// use std::alloc::{AllocError, Global};
+/// use uefi_base::CStr16;
+///
+/// /// Returns the characters of `units`, or `None` if the units aren't text.
+/// pub fn characters(alloc: Global, units: &[u16]) -> Result<Option<String>, AllocError> {
+///     let Ok(text) = CStr16::from_u16_with_nul(units) else {
+///         return Ok(None);
+///     };
+///     Ok(Some(text.to_string(alloc)?))
+/// }
+/// ```
+///
+/// This function is proved in `crates/callers/src/base.rt`, which shows its contract.
 #[derive(Clone, Copy)]
 pub struct CStr16<'a> {
     units: &'a [u16],
@@ -23,14 +40,18 @@ pub struct CStr16<'a> {
 impl<'a> CStr16<'a> {
     ghost use Rattle.uefi_base.specs.Views.{text_units};
 
-    /// The text that all the units are.
+    /// Returns the text that consists of all of `units`.
     ///
-    /// Refused exactly where they are none, as [`FromSliceWithNulError::TooLong`] where there are
-    /// more than 2^31 units. Otherwise the first place that offends decides:
-    /// [`InvalidChar`](FromSliceWithNulError::InvalidChar) where it holds a surrogate, and
-    /// [`InteriorNul`](FromSliceWithNulError::InteriorNul) where it holds a zero that isn't last.
-    /// Where no place offends and the last unit isn't zero, it is
-    /// [`NotNulTerminated`](FromSliceWithNulError::NotNulTerminated).
+    /// # Errors
+    ///
+    /// Fails exactly if `units` aren't text, with the first of these errors that applies:
+    ///
+    /// - [`TooLong`](FromSliceWithNulError::TooLong) if there are more than 2^31 units.
+    /// - At the lowest index that holds either a surrogate or a zero that isn't the last unit:
+    ///   [`InvalidChar`](FromSliceWithNulError::InvalidChar) with that index if it holds a
+    ///   surrogate, [`InteriorNul`](FromSliceWithNulError::InteriorNul) with that index if it holds
+    ///   a zero.
+    /// - [`NotNulTerminated`](FromSliceWithNulError::NotNulTerminated) if no unit is zero.
     pub fn from_u16_with_nul(units: &'a [u16]) -> Result<CStr16<'a>, FromSliceWithNulError>
         ensures text { IfOk result (λ text. text_units text ≡ units.now) }
         ensures accepted { IsOk result ↔ IsUcs2Text units.now }
@@ -43,15 +64,15 @@ impl<'a> CStr16<'a> {
         }
     }
 
-    // The text of these units.
-    pub(crate) fn whole(units: &'a [u16]) -> CStr16<'a>
+    // Returns the text that consists of all of `units`, which are known to be text.
+    pub(crate) fn from_u16_with_nul_unchecked(units: &'a [u16]) -> CStr16<'a>
         requires { IsUcs2Text units.now }
         ensures { text_units result ≡ units.now }
     {
         CStr16 { units }
     }
 
-    /// All units, the NUL too.
+    /// Returns all units, including the NUL.
     pub fn as_u16_with_nul(&self) -> &'a [u16]
         ensures units { result.now ≡ text_units self.now }
         ensures text { IsUcs2Text result.now }
@@ -59,16 +80,18 @@ impl<'a> CStr16<'a> {
         self.units
     }
 
-    /// How many characters there are: one for each unit but the NUL.
+    /// Returns the number of characters: one for each unit but the NUL.
     pub fn num_chars(&self) -> usize
         ensures { result ≡ length (characters_of (text_units self.now)) }
     {
         self.units.len() - 1
     }
 
-    /// The characters, without the NUL.
+    /// Returns the characters, without the NUL, in a `String`.
     ///
-    /// The one error is want of memory.
+    /// # Errors
+    ///
+    /// [`AllocError`] if an allocation fails.
     pub fn to_string<A: Allocator>(&self, alloc: A) -> Result<String<A>, AllocError>
         ensures { IfOk result
             (λ text. string_bytes text ≡ encode_utf8_all (characters_of (text_units self.now))) }
@@ -81,7 +104,7 @@ impl<'a> CStr16<'a> {
     }
 }
 
-// The first unit that is no character, with its place.
+// Returns the first unit that isn't a character, with its index.
 fn first_non_character(units: &[u16]) -> Option<(usize, u16)>
     ensures { IsFirstNonCharacter units.now result }
 {

@@ -7,10 +7,10 @@ ghost use Rattle.uefi_base.specs.Search.{HasStrFault, IsFirstWithoutUnit};
 
 use crate::cstr16::CStr16;
 use crate::text_error::FromStrError;
-use crate::ucs2::MAX_UNITS;
+use crate::ucs2::{MAX_UNIT_CHARACTER, MAX_UNITS};
 use std::alloc::{AllocError, Allocator, Global};
 
-/// A UCS-2 text that owns its units.
+/// UCS-2 text that owns its units: the owned form of [`CStr16`].
 #[derive(Drop)]
 pub struct CString16<A: Allocator = Global> {
     units: Vec<u16, A>,
@@ -20,22 +20,27 @@ pub struct CString16<A: Allocator = Global> {
 impl<A: Allocator> CString16<A> {
     ghost use Rattle.uefi_base.specs.Views.{text_units, owned_units};
 
-    /// The text of these characters: a unit for each, and the NUL.
+    /// Returns the text with a unit for each character of `text`, and the NUL.
     ///
-    /// Refused as [`FromStrError::TooLong`] where there are more than 2^31 - 1 characters.
-    /// Otherwise the first character that has no unit of its own decides:
-    /// [`InvalidChar`](FromStrError::InvalidChar) where it is above U+FFFF, and
-    /// [`InteriorNul`](FromStrError::InteriorNul) where it is U+0000. These come before any request
-    /// for memory, so [`Memory`](FromStrError::Memory) comes only where every character has a unit.
+    /// # Errors
+    ///
+    /// Fails with the first of these errors that applies:
+    ///
+    /// - [`TooLong`](FromStrError::TooLong) if there are more than 2^31 - 1 characters.
+    /// - At the first character that is either above U+FFFF or U+0000:
+    ///   [`InvalidChar`](FromStrError::InvalidChar) if it is above U+FFFF,
+    ///   [`InteriorNul`](FromStrError::InteriorNul) if it is U+0000.
+    /// - [`Memory`](FromStrError::Memory) if an allocation fails. Nothing is allocated before the
+    ///   other errors are ruled out.
     pub fn from_str(alloc: A, text: &str) -> Result<CString16<A>, FromStrError>
         ensures text { IfOk result (λ owned. owned_units owned ≡ chars text.now ++ 0 ∷ []) }
         ensures accepted { IsOk result → MakeUcs2Text (chars text.now) }
         ensures memory { IsErrOf result FromStrError.Memory → MakeUcs2Text (chars text.now) }
 
-        // Each named fault comes exactly where it stands.
+        // Each of the other errors is returned exactly if it applies.
         ensures too_long { IsErrOf result FromStrError.TooLong ↔ AreTooMany (chars text.now) }
         ensures invalid_char { IsErrOf result FromStrError.InvalidChar
-            ↔ OffendsFirst (chars text.now) (λ character. 0xffff < character) }
+            ↔ OffendsFirst (chars text.now) (λ character. MAX_UNIT_CHARACTER < character) }
         ensures interior_nul { IsErrOf result FromStrError.InteriorNul
             ↔ OffendsFirst (chars text.now) (λ character. character ≡ 0) }
     {
@@ -43,26 +48,26 @@ impl<A: Allocator> CString16<A> {
             return Err(fault);
         }
         let units = units_with_nul(alloc, text)?;
-        Ok(CString16::whole(units))
+        Ok(CString16::from_vec_with_nul_unchecked(units))
     }
 
-    // The text of these units.
-    pub(crate) fn whole(units: Vec<u16, A>) -> CString16<A>
+    // Returns the text that consists of all of `units`, which are known to be text.
+    pub(crate) fn from_vec_with_nul_unchecked(units: Vec<u16, A>) -> CString16<A>
         requires { IsUcs2Text units.items }
         ensures { owned_units result ≡ units.items }
     {
         CString16 { units }
     }
 
-    /// The text, as a view of the units that are owned.
+    /// Returns a view of the units that this text owns.
     pub fn as_cstr16(&self) -> CStr16<'_>
         ensures { text_units result ≡ owned_units self.now }
     {
-        CStr16::whole(self.units.as_slice())
+        CStr16::from_u16_with_nul_unchecked(self.units.as_slice())
     }
 }
 
-// Why the characters make no text, if they make none.
+// Returns the error for characters that can't be made into text.
 fn fault_of(text: &str) -> Option<FromStrError>
     ensures { MatchOption result (MakeUcs2Text (chars text.now)) (HasStrFault (chars text.now)) }
 {
@@ -76,28 +81,28 @@ fn fault_of(text: &str) -> Option<FromStrError>
     }
 }
 
-// How many characters there are.
+// Returns the number of characters.
 fn char_count(text: &str) -> usize
     ensures { result ≡ length (chars text.now) }
 {
     text.chars().count()
 }
 
-// The first character that has no unit of its own.
+// Returns the first character that has no unit of its own.
 fn first_without_unit(text: &str) -> Option<char>
     ensures { IsFirstWithoutUnit (chars text.now) result }
 {
     text.chars().find(|c| !has_unit(*c))
 }
 
-// Whether the character has a unit of its own, which is not the NUL.
+// Returns whether the character has a unit of its own that isn't the NUL.
 fn has_unit(c: char) -> bool
     ensures { IsTrue result ↔ HasUnit c }
 {
-    c != '\0' && c <= '\u{ffff}'
+    c != '\0' && c <= MAX_UNIT_CHARACTER
 }
 
-// A unit for each character, and the NUL.
+// Returns a unit for each character, and the NUL.
 fn units_with_nul<A: Allocator>(alloc: A, text: &str) -> Result<Vec<u16, A>, AllocError>
     requires { MakeUcs2Text (chars text.now) }
     ensures { IfOk result (λ units. units.items ≡ chars text.now ++ 0 ∷ []) }

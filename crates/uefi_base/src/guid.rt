@@ -2,7 +2,7 @@ ghost use Rattle.std.specs.Prelude.{◌≡◌};
 
 use std::fmt;
 
-/// A GUID (UEFI 2.10, Appendix A), as its bytes stand in a record.
+/// A GUID (UEFI 2.10, Appendix A), as a record holds it.
 ///
 /// | offset | bytes | field |
 /// |---|---|---|
@@ -12,19 +12,19 @@ use std::fmt;
 /// | 8 | 2 | clock sequence with the variant, high byte first |
 /// | 10 | 6 | node |
 ///
-/// Equality is that of all bytes.
+/// Two GUIDs are equal if all their bytes are.
 #[derive(Clone, Copy, PartialEq, Eq, Debug)]
 pub struct Guid(pub [u8; 16]);
 
 impl Guid {
-    /// The GUID of these bytes.
+    /// Returns the GUID with these bytes.
     pub fn from_bytes(bytes: [u8; 16]) -> Guid
         ensures { result.0 ≡ bytes }
     {
         Guid(bytes)
     }
 
-    /// The bytes of the GUID.
+    /// Returns the bytes of the GUID.
     pub fn to_bytes(self) -> [u8; 16]
         ensures { result ≡ self.0 }
     {
@@ -32,9 +32,9 @@ impl Guid {
     }
 }
 
-/// Five groups of lower case hex digits with dashes between them, as in
-/// `09576e92-6d3f-11d2-8e39-00a0c969723b`. The first three are numbers, whose low byte stands first
-/// in the bytes and last in the text.
+/// Writes five groups of lowercase hex digits, separated by dashes, as in
+/// `09576e92-6d3f-11d2-8e39-00a0c969723b`. The first three groups are the little-endian numbers of
+/// the table above, so their bytes appear in reverse order.
 impl fmt::Display for Guid {
     ghost use Rattle.std.specs.Prelude.{Some};
     ghost use Rattle.uefi_base.specs.GuidText.{guid_text};
@@ -54,7 +54,7 @@ impl fmt::Display for Guid {
     }
 }
 
-// Two bytes, as two lower case hex digits each.
+// Two bytes, displayed as two lowercase hex digits each.
 #[derive(Clone, Copy)]
 struct HexPair(u8, u8);
 

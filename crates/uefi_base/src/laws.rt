@@ -1,25 +1,35 @@
-//! Laws of the definitions. Each holds of every value of them, and takes nothing to run.
+//! Laws of the definitions. Each function states a law that holds for all values, and does nothing
+//! when it runs.
 
 ghost use Rattle.uefi_base.specs.Laws.{NumbersReadBack, UnitsReadBack, UnitsByPlace};
+ghost use Rattle.uefi_base.specs.Rows.{RowsHold};
 
-/// A number is read back where its bytes stand, whatever is before and after them; and the bytes of
-/// a number that was read are those that stand there.
+/// A number reads back from the offset at which its bytes were written, whatever comes before and
+/// after them; and the bytes of a number that was read are the bytes at its offset.
 #[tactic(auto, using(crate::proofs::NumbersBack::numbers_read_back))]
 pub fn numbers_read_back()
     ensures { NumbersReadBack }
 {}
 
-/// Units and their bytes are one another's: the units of their bytes are they, and the bytes of the
-/// units of an even number of bytes are those. A unit has two bytes, and units follow one another
-/// as their bytes do.
+/// Units and their bytes determine each other: the units of the bytes of some units are those
+/// units, and the bytes of the units of an even number of bytes are those bytes. A unit has two
+/// bytes, and the units of joined bytes are the joined units of the parts, if the first part has an
+/// even length.
 #[tactic(auto, using(crate::proofs::UnitsBack::units_read_back))]
 pub fn units_read_back()
     ensures { UnitsReadBack }
 {}
 
-/// A unit stands at twice its index, and the units before and from an index are those of the bytes
-/// before and from twice the index.
+/// The unit at an index has its bytes at twice the index, and the units before and from an index
+/// are the units of the bytes before and from twice the index.
 #[tactic(auto, using(crate::proofs::UnitsOfBytes::units_by_place))]
 pub fn units_by_place()
     ensures { UnitsByPlace }
+{}
+
+/// The definitions hold on worked rows: examples of units, characters, numbers in bytes, a GUID and
+/// a status. Each row is a theorem.
+#[tactic(auto, using(crate::proofs::Rows::rows_hold))]
+pub fn worked_rows()
+    ensures { RowsHold }
 {}

@@ -1,13 +1,13 @@
-//! What the record formats of UEFI share: UCS-2 texts, units and numbers in bytes, GUIDs, statuses.
+//! What the record formats of UEFI share: UCS-2 text, units and numbers in bytes, GUIDs, statuses.
 //!
-//! Begin with [`CStr16::from_u16_with_nul`]: it answers the text that units are, or the one fault
-//! that they have. [`UnalignedSlice`] has the units of a name that stands in bytes, and
-//! [`UnalignedSlice::to_cstring16`] makes a text of them; [`CString16::from_str`] makes one of
-//! characters. A view lives as long as the units or bytes that it was made over, and takes no
-//! memory; what takes some is handed an allocator, and a named fault comes before any request.
+//! Begin with [`CStr16::from_u16_with_nul`], which returns the text that a slice of units holds, or
+//! the one error that applies to the units. [`UnalignedSlice`] reads units from bytes, and
+//! [`UnalignedSlice::to_cstring16`] copies them into owned text; [`CString16::from_str`] makes text
+//! from characters. A view borrows the units or bytes that it was made from and allocates nothing.
+//! A call that allocates takes an allocator, and rules out its other errors first.
 //!
-//! The contracts speak of lists of units: `specs/Ucs2.antt` says what a text is, and
-//! `specs/Faults.antt` which fault comes when.
+//! The contracts speak of lists of units: `specs/Ucs2.antt` defines UCS-2 text, and
+//! `specs/Faults.antt` says which error is returned when.
 #![tactic(auto)]
 
 pub use self::align::Align;
@@ -28,8 +28,6 @@ mod identify;
 pub mod laws;
 pub mod little_endian;
 mod status;
-#[cfg(test)]
-mod tests;
 mod text_error;
 mod ucs2;
 mod unaligned;

@@ -2,25 +2,24 @@ ghost use Rattle.std.specs.Prelude.{◌≡◌};
 ghost use Rattle.uefi_base.specs.StatusCode.{status_code};
 ghost use Rattle.uefi_base.specs.Views.{error_status, error_data};
 
-/// Why a call was refused (UEFI 2.10, Appendix D): the statuses that calls of this project answer,
-/// by the standard's names.
+/// The status of a failed call (UEFI 2.10, Appendix D), for each error that this project returns.
 #[derive(Clone, Copy, PartialEq, Eq, Debug)]
 pub enum Status {
-    /// A parameter is wrong.
+    /// A parameter is invalid.
     INVALID_PARAMETER,
-    /// What a buffer holds has a wrong size.
+    /// The size of what a buffer holds is wrong.
     BAD_BUFFER_SIZE,
-    /// A buffer is too small for what is asked.
+    /// A buffer is too small for the request.
     BUFFER_TOO_SMALL,
-    /// Memory was refused.
+    /// An allocation failed.
     OUT_OF_RESOURCES,
 }
 
-/// The bit that the codes of errors have.
+/// The bit that is set in the code of every error.
 const ERROR_BIT: u64 = 1 << 63;
 
 impl Status {
-    /// The code of the status: bit 63, which errors have, and the number of the error.
+    /// Returns the code of the status: the number of the error, with bit 63 set.
     pub fn code(self) -> u64
         ensures { result ≡ status_code self }
     {
@@ -34,9 +33,9 @@ impl Status {
     }
 }
 
-/// A status, and what a call says beside it, as the size that a buffer needs.
+/// A status with data of the failed call, such as the size that a buffer needs.
 ///
-/// Equality is that of both.
+/// Two errors are equal if their statuses and their data are.
 #[derive(Clone, Copy, PartialEq, Eq, Debug, Drop)]
 pub struct Error<D> {
     status: Status,
@@ -44,7 +43,7 @@ pub struct Error<D> {
 }
 
 impl<D> Error<D> {
-    /// The error of this status, with this beside it.
+    /// Returns the error with this status and this data.
     pub fn new(status: Status, data: D) -> Error<D>
         ensures status { error_status result ≡ status }
         ensures beside { error_data result ≡ «data» }
@@ -52,14 +51,14 @@ impl<D> Error<D> {
         Error { status, data }
     }
 
-    /// The status.
+    /// Returns the status.
     pub fn status(&self) -> Status
         ensures { result ≡ error_status self.now }
     {
         self.status
     }
 
-    /// What stands beside the status.
+    /// Returns the data.
     pub fn data(&self) -> &D
         ensures { result.now ≡ error_data self.now }
     {

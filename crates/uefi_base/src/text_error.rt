@@ -2,26 +2,27 @@ ghost use Rattle.std.specs.Prelude.{◌≡◌};
 
 use std::alloc::AllocError;
 
-/// Why units are no text.
+/// The error for units that aren't UCS-2 text.
 ///
-/// More than 2^31 units come first. Then the first place that offends decides: one that holds a
-/// surrogate, or a zero that isn't last. Where no place offends, no unit is zero.
+/// `TooLong` takes precedence over the others. Otherwise the lowest index that holds a surrogate or
+/// a zero that isn't the last unit decides, and `NotNulTerminated` applies if there is none.
 #[derive(Clone, Copy, PartialEq, Eq, Debug)]
 pub enum FromSliceWithNulError {
     /// There are more than 2^31 units.
     TooLong,
-    /// The first place that offends is this one, and holds a surrogate, 0xd800 to 0xdfff.
+    /// The unit at this index is a surrogate, 0xd800 to 0xdfff, and all units before it are
+    /// characters.
     InvalidChar(usize),
-    /// The first place that offends is this one, and holds a zero that isn't last.
+    /// The unit at this index is zero and not the last, and all units before it are characters.
     InteriorNul(usize),
-    /// No unit is zero, or there is none.
+    /// No unit is zero, and all units are characters, of which there may be none.
     NotNulTerminated,
 }
 
-/// Why characters make no text.
+/// The error for characters that can't be made into UCS-2 text.
 ///
-/// More than 2^31 - 1 characters come first. Then the first character that has no unit of its own
-/// decides. Want of memory comes only where every character has one.
+/// `TooLong` takes precedence over the others. Otherwise the first character that has no unit of
+/// its own decides, and `Memory` is returned only if there is none.
 #[derive(Clone, Copy, PartialEq, Eq, Debug)]
 pub enum FromStrError {
     /// There are more than 2^31 - 1 characters.
@@ -30,11 +31,11 @@ pub enum FromStrError {
     InvalidChar,
     /// The first character that has no unit of its own is U+0000, whose unit is the NUL.
     InteriorNul,
-    /// Memory was refused.
+    /// An allocation failed.
     Memory,
 }
 
-/// Want of memory is [`FromStrError::Memory`].
+/// A failed allocation is [`FromStrError::Memory`].
 impl From<AllocError> for FromStrError {
     ghost use Rattle.uefi_base.specs.declared.text_error.FromStrError.TheVariants.{Memory};
 
@@ -45,39 +46,40 @@ impl From<AllocError> for FromStrError {
     }
 }
 
-/// Why units over bytes make no text: the faults of [`FromSliceWithNulError`], in the same order,
-/// and want of memory, which comes only where the units are a text.
+/// The error for bytes whose units can't be copied into UCS-2 text: an error of
+/// [`FromSliceWithNulError`], or `Memory`, which is returned only if the units are text.
 #[derive(Clone, Copy, PartialEq, Eq, Debug)]
 pub enum UnalignedCStr16Error {
     /// There are more than 2^31 units.
     TooLong,
-    /// The first place that offends is this one, and holds a surrogate, 0xd800 to 0xdfff.
+    /// The unit at this index is a surrogate, 0xd800 to 0xdfff, and all units before it are
+    /// characters.
     InvalidChar(usize),
-    /// The first place that offends is this one, and holds a zero that isn't last.
+    /// The unit at this index is zero and not the last, and all units before it are characters.
     InteriorNul(usize),
-    /// No unit is zero, or there is none.
+    /// No unit is zero, and all units are characters, of which there may be none.
     NotNulTerminated,
-    /// Memory was refused.
+    /// An allocation failed.
     Memory,
 }
 
-/// The same fault, of units over bytes.
+/// Converts each error to the variant with the same name.
 impl From<FromSliceWithNulError> for UnalignedCStr16Error {
-    ghost use Rattle.uefi_base.specs.Faults.{unaligned_fault};
+    ghost use Rattle.uefi_base.specs.Faults.{unaligned_error};
 
-    ghost from_gives = { λ fault error. error ≡ unaligned_fault fault };
+    ghost from_gives = { λ fault error. error ≡ unaligned_error fault };
 
     fn from(fault: FromSliceWithNulError) -> UnalignedCStr16Error {
         match fault {
             FromSliceWithNulError::TooLong => UnalignedCStr16Error::TooLong,
-            FromSliceWithNulError::InvalidChar(place) => UnalignedCStr16Error::InvalidChar(place),
-            FromSliceWithNulError::InteriorNul(place) => UnalignedCStr16Error::InteriorNul(place),
+            FromSliceWithNulError::InvalidChar(index) => UnalignedCStr16Error::InvalidChar(index),
+            FromSliceWithNulError::InteriorNul(index) => UnalignedCStr16Error::InteriorNul(index),
             FromSliceWithNulError::NotNulTerminated => UnalignedCStr16Error::NotNulTerminated,
         }
     }
 }
 
-/// Want of memory is [`UnalignedCStr16Error::Memory`].
+/// A failed allocation is [`UnalignedCStr16Error::Memory`].
 impl From<AllocError> for UnalignedCStr16Error {
     ghost use Rattle.uefi_base.specs.declared.text_error.UnalignedCStr16Error.TheVariants.{Memory};
 

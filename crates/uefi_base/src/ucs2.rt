@@ -5,25 +5,33 @@ ghost use Rattle.uefi_base.specs.Search.{TellsFault};
 
 use crate::text_error::FromSliceWithNulError;
 
-/// The most units of a text, its NUL among them.
+/// The largest number of units of a text, including its NUL.
 pub(crate) const MAX_UNITS: usize = 1 << 31;
 
-/// Whether the unit may stand before the NUL: it is neither a surrogate nor zero.
+/// The last character that fits one unit.
+pub(crate) const MAX_UNIT_CHARACTER: char = '\u{ffff}';
+
+/// The first and the last unit that are half of a surrogate pair of UTF-16.
+const FIRST_SURROGATE: u16 = 0xd800;
+
+const LAST_SURROGATE: u16 = 0xdfff;
+
+/// Returns whether the unit is a character: neither a surrogate nor zero.
 pub(crate) fn is_character(unit: u16) -> bool
     ensures { IsTrue result ↔ IsCharacter unit }
 {
     unit != 0 && !is_surrogate(unit)
 }
 
-// Whether the unit is half of a surrogate pair of UTF-16, and so no character of UCS-2.
+// Returns whether the unit is half of a surrogate pair of UTF-16, which UCS-2 doesn't have.
 fn is_surrogate(unit: u16) -> bool
     ensures { IsTrue result ↔ IsSurrogate unit }
 {
-    matches!(unit, 0xd800..=0xdfff)
+    matches!(unit, FIRST_SURROGATE..=LAST_SURROGATE)
 }
 
-/// Why so many units are no text, if they are none, where `first` is the first that is no
-/// character, with its place.
+/// Returns the error for `count` units that aren't text, where `first` is the first unit that isn't
+/// a character, with its index.
 pub(crate) fn fault_of(count: usize, first: Option<(usize, u16)>) -> Option<FromSliceWithNulError>
     requires { ForSome first (λ found. found.0 < count) }
     ensures { TellsFault count first result }
@@ -31,14 +39,14 @@ pub(crate) fn fault_of(count: usize, first: Option<(usize, u16)>) -> Option<From
     if count > MAX_UNITS {
         return Some(FromSliceWithNulError::TooLong);
     }
-    let Some((place, unit)) = first else {
+    let Some((index, unit)) = first else {
         return Some(FromSliceWithNulError::NotNulTerminated);
     };
     if is_surrogate(unit) {
-        return Some(FromSliceWithNulError::InvalidChar(place));
+        return Some(FromSliceWithNulError::InvalidChar(index));
     }
-    if place + 1 < count {
-        return Some(FromSliceWithNulError::InteriorNul(place));
+    if index + 1 < count {
+        return Some(FromSliceWithNulError::InteriorNul(index));
     }
     None
 }

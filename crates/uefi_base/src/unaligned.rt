@@ -2,7 +2,7 @@ ghost use Rattle.std.specs.Prelude.{◌≡◌, ◌↔◌, ◌%◌, ◌^◌, ◌<
 ghost use Rattle.std.specs.Result.{IsErrOf};
 ghost use Rattle.uefi_base.specs.Ucs2.{IsUcs2Text};
 ghost use Rattle.uefi_base.specs.Unaligned.{units_of};
-ghost use Rattle.uefi_base.specs.Faults.{HasFault, unaligned_fault};
+ghost use Rattle.uefi_base.specs.Faults.{HasFault, unaligned_error};
 ghost use Rattle.uefi_base.specs.Search.{IsFirstNonCharacter};
 ghost use Rattle.uefi_base.specs.declared.text_error.FromSliceWithNulError.{FromSliceWithNulError};
 
@@ -13,26 +13,44 @@ use crate::ucs2::{fault_of, is_character};
 use std::alloc::Allocator;
 use std::iter::{ExactSizeIterator, FusedIterator};
 
-/// Units of 16 bits over bytes, which may begin at any address.
+/// A slice of 16-bit units (UEFI 2.10, 2.3.1, `CHAR16`) in bytes, which may start at any address.
 ///
 /// | offset | bytes | field |
 /// |---|---|---|
 /// | 2 i | 2 | unit i, little-endian |
 ///
-/// Any units: whether they are a text is judged by [`UnalignedSlice::to_cstring16`]. A view: it
-/// borrows the bytes, and its iterator lives as long as they do. Two are equal where their units are.
+/// The units may be any numbers; [`to_cstring16`](Self::to_cstring16) tests whether they are UCS-2
+/// text. A view: it borrows the bytes, and its iterator lives as long as they do. Two slices are
+/// equal if their units are.
+///
+/// # Examples
+///
+/// ```
+/// use std::alloc::{AllocError, Global};
+/// use uefi_base::UnalignedSlice;
+///
+/// /// Returns the units of `bytes`, or `None` if a last byte is left over.
+/// pub fn units_in(alloc: Global, bytes: &[u8]) -> Result<Option<Vec<u16>>, AllocError> {
+///     if bytes.len() % 2 != 0 {
+///         return Ok(None);
+///     }
+///     let units = UnalignedSlice::new(bytes).iter().collect(alloc)?;
+///     Ok(Some(units))
+/// }
+/// ```
+///
+/// This function is proved in `crates/callers/src/base.rt`, which shows its contract.
 #[derive(Clone, Copy)]
 pub struct UnalignedSlice<'a> {
     bytes: &'a [u8],
     pub ghost even: { length bytes.now % 2 ≡ 0 },
 }
 
-#[tactic(auto, using(crate::proofs::UnitsOfBytes::units_count))]
+#[tactic(auto, using(crate::proofs::UnitsOfBytes::half_as_many_units))]
 impl<'a> UnalignedSlice<'a> {
     ghost use Rattle.uefi_base.specs.Views.{slice_units, units_left, owned_units};
 
-    /// The units over all the bytes, which are even in number (`bytes.len() % 2 == 0`), as no bytes
-    /// are too.
+    /// Returns the units in all of `bytes`, whose length is even.
     pub fn new(bytes: &'a [u8]) -> UnalignedSlice<'a>
         requires { length bytes.now % 2 ≡ 0 }
         ensures { slice_units result ≡ units_of bytes.now }
@@ -40,68 +58,77 @@ impl<'a> UnalignedSlice<'a> {
         UnalignedSlice { bytes }
     }
 
-    /// How many units there are.
+    /// Returns the number of units.
     pub fn len(&self) -> usize
         ensures { result ≡ length (slice_units self.now) }
     {
         self.bytes.len() / 2
     }
 
-    /// Whether there is no unit.
+    /// Returns whether there are no units.
     pub fn is_empty(&self) -> bool
         ensures { IsTrue result ↔ (slice_units self.now ≡ []) }
     {
         self.bytes.is_empty()
     }
 
-    /// The unit at the index, if there is one.
-    pub fn get(&self, i: usize) -> Option<u16>
-        ensures { result ≡ slice_get (slice_units self.now) i }
+    /// Returns the unit at `index`, or `None` if there are at most `index` units.
+    pub fn get(&self, index: usize) -> Option<u16>
+        ensures { result ≡ slice_get (slice_units self.now) index }
     {
-        if i < self.len() {
-            Some(self.unit(i))
+        if index < self.len() {
+            Some(self.unit(index))
         } else {
             None
         }
     }
 
-    // The unit at an index that there is.
-    fn unit(&self, i: usize) -> u16
-        requires { i < length (slice_units self.now) }
-        ensures { result ≡ slice_index (slice_units self.now) i }
+    // Returns the unit at an index that is known to be in bounds.
+    fn unit(&self, index: usize) -> u16
+        requires { index < length (slice_units self.now) }
+        ensures { result ≡ slice_index (slice_units self.now) index }
     {
-        u16_at(self.bytes, 2 * i)
+        u16_at(self.bytes, 2 * index)
     }
 
-    /// The units, in order.
+    /// Returns an iterator over the units, in order.
     pub fn iter(&self) -> UnalignedSliceIter<'a>
         ensures units { units_left result ≡ slice_units self.now }
         ensures countable { length (units_left result) < 2 ^ 64 }
     {
-        UnalignedSliceIter::over(self.bytes)
+        UnalignedSliceIter::new(self.bytes)
     }
 
-    /// The text that all the units are, owned.
+    /// Returns the text that consists of all the units, in an allocation of its own.
     ///
-    /// Refused as [`CStr16::from_u16_with_nul`](crate::CStr16::from_u16_with_nul) refuses the same
-    /// units, before any request for memory; so
-    /// [`Memory`](UnalignedCStr16Error::Memory) comes only where the units are a text.
+    /// # Errors
+    ///
+    /// Fails with the first of these errors that applies:
+    ///
+    /// - [`TooLong`](UnalignedCStr16Error::TooLong) if there are more than 2^31 units.
+    /// - At the lowest index that holds either a surrogate or a zero that isn't the last unit:
+    ///   [`InvalidChar`](UnalignedCStr16Error::InvalidChar) with that index if it holds a
+    ///   surrogate, [`InteriorNul`](UnalignedCStr16Error::InteriorNul) with that index if it holds
+    ///   a zero.
+    /// - [`NotNulTerminated`](UnalignedCStr16Error::NotNulTerminated) if no unit is zero.
+    /// - [`Memory`](UnalignedCStr16Error::Memory) if an allocation fails. Nothing is allocated
+    ///   before the other errors are ruled out.
     pub fn to_cstring16<A: Allocator>(&self, alloc: A) -> Result<CString16<A>, UnalignedCStr16Error>
         ensures text { IfOk result (λ text. owned_units text ≡ slice_units self.now) }
         ensures accepted { IsOk result → IsUcs2Text (slice_units self.now) }
         ensures memory { IsErrOf result UnalignedCStr16Error.Memory
             → IsUcs2Text (slice_units self.now) }
         ensures refused { (fault : FromSliceWithNulError) →
-            IsErrOf result (unaligned_fault fault) ↔ HasFault (slice_units self.now) fault }
+            IsErrOf result (unaligned_error fault) ↔ HasFault (slice_units self.now) fault }
     {
         if let Some(fault) = fault_of(self.len(), self.first_non_character()) {
             return Err(UnalignedCStr16Error::from(fault));
         }
         let units = self.iter().collect::<Vec<u16, A>>(alloc)?;
-        Ok(CString16::whole(units))
+        Ok(CString16::from_vec_with_nul_unchecked(units))
     }
 
-    // Whether the units are those of the other, in order.
+    // Returns whether both slices have the same units.
     fn has_units_of(&self, other: &UnalignedSlice<'_>) -> bool
         ensures { IsTrue result ↔ (slice_units self.now ≡ slice_units other.now) }
     {
@@ -116,7 +143,7 @@ impl<'a> UnalignedSlice<'a> {
         true
     }
 
-    // The first unit that is no character, with its place.
+    // Returns the first unit that isn't a character, with its index.
     fn first_non_character(&self) -> Option<(usize, u16)>
         ensures { IsFirstNonCharacter (slice_units self.now) result }
     {
@@ -126,7 +153,7 @@ impl<'a> UnalignedSlice<'a> {
     }
 }
 
-/// Equality of all units.
+/// Two slices are equal if all their units are.
 impl PartialEq for UnalignedSlice<'_> {
     ghost use Rattle.std.specs.Prelude.{nat_eq};
     ghost use Rattle.std.specs.Cmp.{partial_equiv_from_equiv, on_per};
@@ -150,25 +177,25 @@ impl Eq for UnalignedSlice<'_> {
     ghost laws = { on_equiv slice_units nat_list_eq_equiv };
 }
 
-/// The units over bytes, in order, each of two bytes, the low byte first.
+/// An iterator over the units of an [`UnalignedSlice`], in order.
 ///
-/// After the last unit the iterator stays ended. Its [`len`](ExactSizeIterator::len) and
+/// After the last unit it returns `None` forever. Its [`len`](ExactSizeIterator::len) and
 /// [`size_hint`](Iterator::size_hint) are exact.
 #[derive(Clone, Copy)]
 pub struct UnalignedSliceIter<'a> {
     rest: &'a [u8],
 }
 
-#[tactic(auto, using(crate::proofs::UnitsOfBytes::units_count))]
+#[tactic(auto, using(crate::proofs::UnitsOfBytes::half_as_many_units))]
 impl<'a> UnalignedSliceIter<'a> {
     ghost use Rattle.uefi_base.specs.Views.{units_left};
 
-    // The units over these bytes.
-    fn over(rest: &'a [u8]) -> UnalignedSliceIter<'a>
+    // Returns an iterator over the units in `rest`.
+    fn new(rest: &'a [u8]) -> UnalignedSliceIter<'a>
         ensures units { units_left result ≡ units_of rest.now }
         ensures countable { length rest.now < 2 ^ 64 }
     {
-        // A slice's length is a `usize`, so what its bytes hold can be counted.
+        // The length of a slice fits `usize`, so its units can be counted.
         let _length = rest.len();
         UnalignedSliceIter { rest }
     }
@@ -194,7 +221,7 @@ impl<'a> Iterator for UnalignedSliceIter<'a> {
         Some(u16::from_le_bytes([*low, *high]))
     }
 
-    /// Both bounds are how many units are left.
+    /// Returns the number of units that are left, as both bounds.
     fn size_hint(&self) -> (usize, Option<usize>)
         ensures lower { IsWithinCount result.0 (at_most (length (units_left self.now))) }
         ensures upper { IfSome result.1 (UpTo (at_most (length (units_left self.now)))) }
@@ -206,9 +233,9 @@ impl<'a> Iterator for UnalignedSliceIter<'a> {
     }
 }
 
-#[tactic(auto, using(crate::proofs::UnitsOfBytes::units_count))]
+#[tactic(auto, using(crate::proofs::UnitsOfBytes::half_as_many_units))]
 impl<'a> ExactSizeIterator for UnalignedSliceIter<'a> {
-    /// How many units are left.
+    /// Returns the number of units that are left.
     fn len(&self) -> usize {
         self.rest.len() / 2
     }

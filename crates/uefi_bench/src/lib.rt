@@ -6,6 +6,7 @@
 #![tactic(auto)]
 
 mod info;
+mod log;
 mod map;
 mod path;
 mod resources;

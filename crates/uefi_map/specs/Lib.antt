@@ -1,13 +1,2 @@
-pub mod Descriptor
-pub mod Flags
-pub mod Map
-pub mod Texts
-pub mod Views
-pub mod Keeping
-pub mod Lending
-pub mod Resource
-pub mod ResourceList
-pub mod Laws
-pub mod ResourceLaws
-pub mod Rows
-pub mod ResourceRows
+pub mod memory
+pub mod pci

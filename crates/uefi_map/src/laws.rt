@@ -1,18 +1,30 @@
-//! Laws of the definitions. Each holds of every value of them, and takes nothing to run.
+//! Laws of the definitions. Each holds for all of their values, and does nothing when it is called.
 
-ghost use Rattle.uefi_map.specs.Laws.{StrideFree};
-ghost use Rattle.uefi_map.specs.ResourceLaws.{OneList};
+ghost use Rattle.uefi_map.specs.memory.Laws.{SameEntries, WritesOne};
+ghost use Rattle.uefi_map.specs.memory.Rows as Maps;
+ghost use Rattle.uefi_map.specs.pci.Laws.{ListOrFault, NeverBoth, ListAlone, FaultAlone};
+ghost use Rattle.uefi_map.specs.pci.Rows as Lists;
 
-/// The entries of a map are told by the forty bytes of each descriptor alone, and writing a
-/// descriptor leaves all other bytes: the other descriptors', the rest of each stride, and what is
-/// behind the map.
-#[tactic(auto, using(crate::proofs::StrideFree::stride_free))]
+/// The forty bytes of each descriptor alone tell the entries of a map, and writing a descriptor
+/// leaves all other bytes: those of the other descriptors, the rest of each stride, and what follows
+/// the map.
 pub fn stride_free()
-    ensures { StrideFree }
+    ensures same_entries { SameEntries }
+    ensures writes_one { WritesOne }
 {}
 
 /// All bytes begin with exactly one list of resources, or have exactly one fault.
-#[tactic(auto, using(crate::proofs::ResourceOneList::one_list))]
 pub fn one_list()
-    ensures { OneList }
+    ensures list_or_fault { ListOrFault }
+    ensures never_both { NeverBoth }
+    ensures list_alone { ListAlone }
+    ensures fault_alone { FaultAlone }
+{}
+
+/// The definitions hold on worked rows: a firmware's map has its entries, some sizes make no map, a
+/// root bridge's resources are a list, and some bytes have a fault. Each row is a theorem.
+#[tactic(auto, using(crate::proofs::memory_lemmas::WorkedRows::rows_hold, crate::proofs::pci_lemmas::WorkedRows::rows_hold))]
+pub fn worked_rows()
+    ensures maps { Maps.RowsHold }
+    ensures lists { Lists.RowsHold }
 {}

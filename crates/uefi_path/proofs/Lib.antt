@@ -1,5 +1,6 @@
 pub mod Counts
 pub mod Cuts
+pub mod Decide
 pub mod OneFront
 pub mod Nodes
 pub mod Passing

@@ -5,6 +5,6 @@ use Rattle.uefi_path.specs.Laws.{OneFront}
 
 pub one_front : OneFront
 one_front = record {
-  no_proper_front = one_path;
-  reads_back = λ p q x path_p path_q front. (one_path q p front.0 x path_q path_p (sym front.1)).0;
+  no_proper_prefix = one_path;
+  reads_back = λ p q x path_p path_q prefix. (one_path q p prefix.0 x path_q path_p (sym prefix.1)).0;
 }

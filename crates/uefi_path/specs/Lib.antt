@@ -5,7 +5,7 @@ pub mod Header
 pub mod Views
 pub mod Texts
 pub mod Laws
-pub mod Spelling
+pub mod Encoding
 pub mod Stop
 pub mod OneNode
 pub mod OnePath

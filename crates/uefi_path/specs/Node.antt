@@ -1,10 +1,11 @@
--- Nodes of device paths, and their bytes (UEFI 2.10, 10.3.1 "Generic Device Path Structures").
-use Rattle.std.specs.Prelude.{◌≡◌, ℕ, ◌+◌, ◌≤◌, ◌<◌, List, ◌∷◌, ◌++◌, length}
+-- Nodes of device paths, and their encodings (UEFI 2.10, 10.3.1 "Generic Device Path Structures").
+use Rattle.std.specs.Prelude.{◌≡◌, ℕ, ◌+◌, ◌-◌, ◌≤◌, ◌<◌, List, ◌∷◌, ◌++◌, length}
 use Rattle.std.specs.Int.{w16, to_le_bytes}
 use Rattle.std.specs.List.{flat_map, AllByRecursion}
 use Rattle.uefi_base.specs.Prefix.{IsPrefix}
 use Rattle.uefi_path.specs.declared.device_type.TheConstants.DeviceType.{END}
 use Rattle.uefi_path.specs.declared.device_type.TheConstants.DeviceSubType.{END_ENTIRE}
+use Rattle.uefi_path.specs.declared.header.TheConstants.{HEADER_LENGTH}
 
 -- A node: its type, its subtype and its data.
 pub record Node : Type 0 where
@@ -12,20 +13,28 @@ pub record Node : Type 0 where
   pub sub_type : ℕ
   pub payload : List ℕ
 
--- The numbers fit their places: one byte each, and a length of at most 65535 in all.
+-- The largest length of a node, and of its data: a header has two bytes for the length of the node.
+abbrev pub max_length : ℕ
+max_length = 0xffff
+
+abbrev pub max_data_length : ℕ
+max_data_length = max_length - HEADER_LENGTH
+
+-- The fields fit the encoding: the type and the subtype are bytes, and the data isn't too long.
 pub record Fits (node : Node) : Type 0 where
   pub device_type : node.device_type < 256
   pub sub_type : node.sub_type < 256
-  pub payload : length node.payload ≤ 65531
+  pub payload : length node.payload ≤ max_data_length
 
--- A node's bytes: type, subtype, the length of all its bytes in two of them, low first, and the data.
+-- The encoding of a node: type, subtype, the length of the whole node in two bytes, little-endian, and the data.
 abbrev pub encoding : Node → List ℕ
-encoding node = node.device_type ∷ node.sub_type ∷ to_le_bytes w16 (4 + length node.payload) ++ node.payload
+encoding node = node.device_type ∷ node.sub_type ∷ to_le_bytes w16 (HEADER_LENGTH + length node.payload) ++ node.payload
 
--- The bytes of nodes, one node after another.
+-- The encodings of nodes, in order.
 abbrev pub joined : List Node → List ℕ
 joined nodes = flat_map encoding nodes
 
+-- The fields of each node fit its encoding.
 abbrev pub AreNodes : List Node → Type 0
 AreNodes nodes = AllByRecursion Fits nodes
 
@@ -33,7 +42,7 @@ AreNodes nodes = AllByRecursion Fits nodes
 abbrev pub IsEnd : Node → Type 0
 IsEnd node = node.device_type ≡ END.0
 
--- The node ends the path: it has the type END and the subtype END_ENTIRE, whatever its data.
+-- The node ends the path: it has the type END and the subtype END_ENTIRE, whatever its data is.
 abbrev pub IsEndEntire : Node → Type 0
 IsEndEntire node = (node.device_type ≡ END.0) × (node.sub_type ≡ END_ENTIRE.0)
 

@@ -1,51 +1,76 @@
--- Worked rows of the definitions: what the bytes of some paths are, and that some bytes begin with none.
+-- Worked rows, examples of the definitions: the bytes of some paths, and bytes that start with none.
 use Rattle.std.specs.Prelude.{◌≡◌, ℕ, List, [], ◌∷◌, ◌++◌}
-use Rattle.uefi_path.specs.Node.{Node, joined}
+use Rattle.uefi_path.specs.Node.{Node, Fits, encoding, joined, HasNode}
 use Rattle.uefi_base.specs.Prefix.{IsPrefix}
 use Rattle.uefi_path.specs.Path.{IsPath, HasPath, AreInstances, all_but_last}
 
+-- A node with these fields.
 abbrev pub node : ℕ → ℕ → List ℕ → Node
 node t s d = record { device_type = t; sub_type = s; payload = d }
 
-abbrev pub first_part : List Node
-first_part = node 0xa0 0xb0 (0x0a ∷ 0x0b ∷ []) ∷ node 0xa1 0xb1 (0x14 ∷ 0x15 ∷ 0x16 ∷ 0x17 ∷ []) ∷ node 0x7f 0x01 [] ∷ []
+-- The nodes of two instances.
+abbrev pub first_instance : List Node
+first_instance = node 0xa0 0xb0 (0x0a ∷ 0x0b ∷ []) ∷ node 0xa1 0xb1 (0x14 ∷ 0x15 ∷ 0x16 ∷ 0x17 ∷ []) ∷ node 0x7f 0x01 [] ∷ []
 
-abbrev pub second_part : List Node
-second_part = node 0xa2 0xb2 (0x1e ∷ 0x1f ∷ []) ∷ node 0xa3 0xb3 (0x28 ∷ 0x29 ∷ 0x2a ∷ 0x2b ∷ []) ∷ node 0x7f 0xff [] ∷ []
+abbrev pub second_instance : List Node
+second_instance = node 0xa2 0xb2 (0x1e ∷ 0x1f ∷ []) ∷ node 0xa3 0xb3 (0x28 ∷ 0x29 ∷ 0x2a ∷ 0x2b ∷ []) ∷ node 0x7f 0xff [] ∷ []
 
--- Two instances of two nodes each, and the nodes that end them, are these 36 bytes.
+-- Two instances, each of two nodes and the node that ends it, are these 36 bytes.
 pub record TwoInstances : Type 0 where
-  pub path : IsPath (first_part ++ second_part)
-  pub instances : AreInstances (first_part ∷ second_part ∷ []) (first_part ++ second_part)
-  pub text :
-      joined (first_part ++ second_part)
+  pub path : IsPath (first_instance ++ second_instance)
+  pub instances : AreInstances (first_instance ∷ second_instance ∷ []) (first_instance ++ second_instance)
+  pub bytes :
+      joined (first_instance ++ second_instance)
       ≡ 0xa0 ∷ 0xb0 ∷ 6 ∷ 0 ∷ 0x0a ∷ 0x0b ∷ 0xa1 ∷ 0xb1 ∷ 8 ∷ 0 ∷ 0x14 ∷ 0x15 ∷ 0x16 ∷ 0x17 ∷ 0x7f ∷ 1 ∷ 4 ∷ 0
       ∷ 0xa2 ∷ 0xb2 ∷ 6 ∷ 0 ∷ 0x1e ∷ 0x1f ∷ 0xa3 ∷ 0xb3 ∷ 8 ∷ 0 ∷ 0x28 ∷ 0x29 ∷ 0x2a ∷ 0x2b ∷ 0x7f ∷ 0xff ∷ 4 ∷ 0 ∷ []
+  pub nodes :
+      all_but_last (first_instance ++ second_instance)
+      ≡ node 0xa0 0xb0 (0x0a ∷ 0x0b ∷ [])
+      ∷ node 0xa1 0xb1 (0x14 ∷ 0x15 ∷ 0x16 ∷ 0x17 ∷ [])
+      ∷ node 0x7f 0x01 []
+      ∷ node 0xa2 0xb2 (0x1e ∷ 0x1f ∷ [])
+      ∷ node 0xa3 0xb3 (0x28 ∷ 0x29 ∷ 0x2a ∷ 0x2b ∷ [])
+      ∷ []
 
+-- A node of the type END with an unknown subtype, and an end-entire node.
 abbrev pub unknown_end : Node
 unknown_end = node 0x7f 0x02 []
 
 abbrev pub end_entire : Node
 end_entire = node 0x7f 0xff []
 
--- A node of the type END, whatever its subtype, ends an instance and not the path.
+-- A node of the type END ends an instance, whatever its subtype is; only END_ENTIRE ends the path.
 pub record AnyEnd : Type 0 where
   pub path : IsPath (unknown_end ∷ end_entire ∷ [])
   pub instances : AreInstances ((unknown_end ∷ []) ∷ (end_entire ∷ []) ∷ []) (unknown_end ∷ end_entire ∷ [])
-  pub text : joined (unknown_end ∷ end_entire ∷ []) ≡ 0x7f ∷ 0x02 ∷ 4 ∷ 0 ∷ 0x7f ∷ 0xff ∷ 4 ∷ 0 ∷ []
+  pub bytes : joined (unknown_end ∷ end_entire ∷ []) ≡ 0x7f ∷ 0x02 ∷ 4 ∷ 0 ∷ 0x7f ∷ 0xff ∷ 4 ∷ 0 ∷ []
   pub nodes : all_but_last (unknown_end ∷ end_entire ∷ []) ≡ unknown_end ∷ []
 
--- The end-entire node may have data, and anything may follow the path.
-pub record EndWithData : Type 0 where
-  pub path : IsPath (node 0x7f 0xff (0xaa ∷ 0xbb ∷ []) ∷ [])
-  pub front : IsPrefix (joined (node 0x7f 0xff (0xaa ∷ 0xbb ∷ []) ∷ [])) (0x7f ∷ 0xff ∷ 6 ∷ 0 ∷ 0xaa ∷ 0xbb ∷ 0xcc ∷ [])
+-- The nodes of a path of one end-entire node, which has two bytes of data.
+abbrev pub end_with_data : List Node
+end_with_data = node 0x7f 0xff (0xaa ∷ 0xbb ∷ []) ∷ []
 
--- No bytes, a length below 4, a length beyond the bytes, no end-entire node.
+-- The end-entire node may have data, and bytes may follow the path. The path is its one instance, and has no node before its end.
+pub record EndWithData : Type 0 where
+  pub path : IsPath end_with_data
+  pub prefix : IsPrefix (joined end_with_data) (0x7f ∷ 0xff ∷ 6 ∷ 0 ∷ 0xaa ∷ 0xbb ∷ 0xcc ∷ [])
+  pub instances : AreInstances (end_with_data ∷ []) end_with_data
+  pub nodes : all_but_last end_with_data ≡ []
+
+-- No bytes; a length below 4; a length beyond the end of the bytes; no end-entire node.
 pub record NoPath : Type 0 where
   pub empty : ¬ HasPath []
   pub short : ¬ HasPath (0xa0 ∷ 0xb0 ∷ 3 ∷ 0 ∷ [])
   pub long : ¬ HasPath (0xa0 ∷ 0xb0 ∷ 0xff ∷ 0xff ∷ [])
   pub endless : ¬ HasPath (0xa0 ∷ 0xb0 ∷ 6 ∷ 0 ∷ 0x0a ∷ 0x0b ∷ [])
 
+-- A node with two bytes of data; with a length beyond the end of the bytes or below 4 there is none.
+pub record Nodes : Type 0 where
+  pub fits : Fits (node 0xa0 0xb0 (0x0a ∷ 0x0b ∷ []))
+  pub prefix : IsPrefix (encoding (node 0xa0 0xb0 (0x0a ∷ 0x0b ∷ []))) (0xa0 ∷ 0xb0 ∷ 6 ∷ 0 ∷ 0x0a ∷ 0x0b ∷ [])
+  pub long : ¬ HasNode (0xa0 ∷ 0xb0 ∷ 7 ∷ 0 ∷ 0x0a ∷ 0x0b ∷ [])
+  pub short : ¬ HasNode (0xa0 ∷ 0xb0 ∷ 3 ∷ 0 ∷ 0x0a ∷ 0x0b ∷ [])
+
+-- All rows hold.
 abbrev pub RowsHold : Type 0
-RowsHold = TwoInstances × AnyEnd × EndWithData × NoPath
+RowsHold = TwoInstances × AnyEnd × EndWithData × NoPath × Nodes

@@ -9,7 +9,7 @@ abbrev pub Stops : StopCondition → Node → Type 0
 Stops AnyEndNode node = IsEnd node
 Stops EndEntireNode node = IsEndEntire node
 
--- There is at most one proof of that.
+-- There is at most one proof that the walk stops at the node.
 pub Stops-prop : (stop : StopCondition) (node : Node) → IsProp (Stops stop node)
 Stops-prop AnyEndNode node = IsEnd-prop node
 Stops-prop EndEntireNode node = IsEndEntire-prop node

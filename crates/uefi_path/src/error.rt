@@ -1,6 +1,7 @@
-/// The one refusal of this crate's readers.
+/// The error for bytes that don't start with the header, the node or the path that was to be read.
 #[derive(Clone, Copy, PartialEq, Eq, Debug)]
 pub enum ByteConversionError {
-    /// The bytes are too few, or a length in them doesn't fit them.
+    /// There are too few bytes, or a length that they state is below the length of a header or
+    /// beyond their end.
     InvalidLength,
 }

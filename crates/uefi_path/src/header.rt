@@ -4,7 +4,17 @@ ghost use Rattle.uefi_path.specs.Header.{header};
 use crate::device_type::{DeviceSubType, DeviceType};
 use crate::error::ByteConversionError;
 
-/// The four bytes that every node begins with (UEFI 2.10, 10.2 `EFI_DEVICE_PATH_PROTOCOL`).
+/// The offsets of a node's type, subtype and length.
+pub(crate) const DEVICE_TYPE_OFFSET: usize = 0;
+
+pub(crate) const SUB_TYPE_OFFSET: usize = 1;
+
+pub(crate) const LENGTH_OFFSET: usize = 2;
+
+/// The length of a header, which is the offset of a node's data.
+pub(crate) const HEADER_LENGTH: usize = 4;
+
+/// The header of a node, its first four bytes (UEFI 2.10, 10.2 `EFI_DEVICE_PATH_PROTOCOL`).
 ///
 /// | offset | bytes | field |
 /// |---|---|---|
@@ -12,7 +22,7 @@ use crate::error::ByteConversionError;
 /// | 1 | 1 | subtype |
 /// | 2 | 2 | length of the whole node in bytes, little-endian |
 ///
-/// A value: the length is what the bytes state, and may be below 4 or beyond them.
+/// The length is the one that the bytes state. It may be below 4, or beyond the end of the bytes.
 #[derive(Clone, Copy, PartialEq, Eq, Debug)]
 pub struct DevicePathHeader {
     device_type: DeviceType,
@@ -23,7 +33,7 @@ pub struct DevicePathHeader {
 impl DevicePathHeader {
     ghost use Rattle.uefi_path.specs.Views.{header_of};
 
-    /// The header of these fields. No length is refused.
+    /// Returns the header with these fields, whatever the length is.
     pub fn new(device_type: DeviceType, sub_type: DeviceSubType, length: u16) -> DevicePathHeader
         ensures { header_of result ≡ header device_type.0 sub_type.0 length }
     {
@@ -34,21 +44,21 @@ impl DevicePathHeader {
         }
     }
 
-    /// The type.
+    /// Returns the type.
     pub fn device_type(&self) -> DeviceType
         ensures { result.0 ≡ (header_of self.now).device_type }
     {
         self.device_type
     }
 
-    /// The subtype.
+    /// Returns the subtype.
     pub fn sub_type(&self) -> DeviceSubType
         ensures { result.0 ≡ (header_of self.now).sub_type }
     {
         self.sub_type
     }
 
-    /// The stated length of the whole node in bytes.
+    /// Returns the stated length of the whole node in bytes.
     pub fn length(&self) -> u16
         ensures { result ≡ (header_of self.now).length }
     {
@@ -56,10 +66,11 @@ impl DevicePathHeader {
     }
 }
 
-/// Reads the header in the first four bytes, whatever length they state. What follows isn't looked
-/// at.
+/// Reads the header in the first four bytes, whatever length it states, and ignores the others.
 ///
-/// Refused as [`ByteConversionError::InvalidLength`] where there are fewer than four bytes.
+/// # Errors
+///
+/// [`ByteConversionError::InvalidLength`] if there are fewer than four bytes.
 impl<'a> TryFrom<&'a [u8]> for DevicePathHeader {
     ghost use Rattle.uefi_path.specs.Views.{header_of};
     ghost use Rattle.uefi_path.specs.Header.{ReadsHeader};

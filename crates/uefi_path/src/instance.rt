@@ -1,55 +1,56 @@
 ghost use Rattle.std.specs.Prelude.{◌≡◌, ◌^◌, ◌<◌, length, IfOk};
 ghost use Rattle.uefi_path.specs.Node.{joined, IsEnd};
 ghost use Rattle.uefi_path.specs.Path.{IsInstance, all_but_last};
-ghost use Rattle.uefi_path.specs.Spelling.{IsTextOfNodes, SpellsInstance};
-ghost use Rattle.uefi_path.specs.OnePath.{SpellsInstance-prop};
+ghost use Rattle.uefi_path.specs.Encoding.{IsEncodingOfNodes, EncodesInstance};
+ghost use Rattle.uefi_path.specs.OnePath.{EncodesInstance-prop};
 
 use crate::boxed::BoxedDevicePathInstance;
 use crate::node_iter::DevicePathNodeIterator;
 use crate::walk::StopCondition;
 use std::alloc::{AllocError, Allocator};
 
-/// One instance of a device path (UEFI 2.10, 10.2): nodes of which the last, and no other, has the
-/// type END.
+/// One instance of a device path (UEFI 2.10, 10.2): nodes of which only the last has the type END.
 ///
-/// Its bytes are those of the nodes, joined. A view: it borrows the path's bytes, and what it hands
-/// out lives as long as they do.
+/// Its bytes are the encodings of its nodes, in order. A view: it borrows the bytes of the path,
+/// and what it returns lives as long as they do.
 #[derive(Clone, Copy)]
 pub struct DevicePathInstance<'a> {
     bytes: &'a [u8],
-    pub ghost nodes: { SpellsInstance bytes.now } by { SpellsInstance-prop bytes.now },
+    pub ghost nodes: { EncodesInstance bytes.now } by { EncodesInstance-prop bytes.now },
 }
 
 impl<'a> DevicePathInstance<'a> {
     ghost use Rattle.uefi_path.specs.Views.{instance_nodes, nodes_left, boxed_instance_nodes};
 
-    // The instance with these bytes.
-    pub(crate) fn whole(bytes: &'a [u8]) -> DevicePathInstance<'a>
-        requires { SpellsInstance bytes.now }
-        ensures { IsTextOfNodes IsEnd bytes.now (instance_nodes result) }
+    // Returns the instance that `bytes`, which are known to be an instance, encode.
+    pub(crate) fn new_unchecked(bytes: &'a [u8]) -> DevicePathInstance<'a>
+        requires { EncodesInstance bytes.now }
+        ensures { IsEncodingOfNodes IsEnd bytes.now (instance_nodes result) }
     {
         DevicePathInstance { bytes }
     }
 
-    /// The nodes before the one of the type END, in order.
+    /// Returns an iterator over the nodes before the one with the type END, in order.
     pub fn node_iter(&self) -> DevicePathNodeIterator<'a>
         ensures nodes { nodes_left result ≡ all_but_last (instance_nodes self.now) }
         ensures countable { length (nodes_left result) < 2 ^ 64 }
     {
-        DevicePathNodeIterator::over(self.bytes, StopCondition::AnyEndNode)
+        DevicePathNodeIterator::new(self.bytes, StopCondition::AnyEndNode)
     }
 
-    /// The same bytes, owned. The source stays as it is.
+    /// Copies the instance into an allocation of its own.
     ///
-    /// The one error is want of memory.
+    /// # Errors
+    ///
+    /// [`AllocError`] if an allocation fails.
     pub fn to_boxed<A: Allocator>(&self, alloc: A) -> Result<BoxedDevicePathInstance<A>, AllocError>
         ensures { IfOk result (λ boxed. boxed_instance_nodes boxed ≡ instance_nodes self.now) }
     {
         let bytes = Vec::from_slice(alloc, self.bytes)?;
-        Ok(BoxedDevicePathInstance::whole(bytes))
+        Ok(BoxedDevicePathInstance::new_unchecked(bytes))
     }
 
-    /// All bytes of the instance, those of the node that ends it too.
+    /// Returns all bytes of the instance, including those of its last node.
     pub fn as_bytes(&self) -> &'a [u8]
         ensures bytes { result.now ≡ joined (instance_nodes self.now) }
         ensures instance { IsInstance (instance_nodes self.now) }
@@ -58,7 +59,7 @@ impl<'a> DevicePathInstance<'a> {
     }
 }
 
-/// Equality of all bytes.
+/// Two instances are equal if all their bytes are.
 impl<'a> PartialEq for DevicePathInstance<'a> {
     ghost use Rattle.std.specs.Prelude.{nat_eq};
     ghost use Rattle.std.specs.Cmp.{partial_equiv_from_equiv, on_per};

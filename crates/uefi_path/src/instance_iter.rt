@@ -1,28 +1,28 @@
 ghost use Rattle.std.specs.Prelude.{◌^◌, ◌<◌, length};
-ghost use Rattle.uefi_path.specs.Spelling.{IsTextOfInstances, SpellsInstances};
-ghost use Rattle.uefi_path.specs.OnePath.{SpellsInstances-prop};
+ghost use Rattle.uefi_path.specs.Encoding.{IsEncodingOfInstances, EncodesInstances};
+ghost use Rattle.uefi_path.specs.OnePath.{EncodesInstances-prop};
 
 use crate::instance::DevicePathInstance;
 use crate::walk::{StopCondition, first_nodes};
 
-/// The instances of a path, in order.
+/// An iterator over the instances of a path, in order.
 ///
-/// Each instance lives as long as the source bytes, not as the iterator. After the last instance
-/// the iterator stays ended.
+/// Each instance lives as long as the source bytes, and may outlive the iterator. After the last
+/// instance the iterator returns `None` forever.
 #[derive(Clone, Copy)]
 pub struct DevicePathInstanceIterator<'a> {
     rest: &'a [u8],
-    pub ghost parts: { SpellsInstances rest.now } by { SpellsInstances-prop rest.now },
+    pub ghost instances: { EncodesInstances rest.now } by { EncodesInstances-prop rest.now },
 }
 
 impl<'a> DevicePathInstanceIterator<'a> {
-    // The instances of these bytes.
-    pub(crate) fn over(rest: &'a [u8]) -> DevicePathInstanceIterator<'a>
-        requires { SpellsInstances rest.now }
-        ensures instances { IsTextOfInstances rest.now result.parts.0 }
+    // Returns an iterator over the instances in `rest`.
+    pub(crate) fn new(rest: &'a [u8]) -> DevicePathInstanceIterator<'a>
+        requires { EncodesInstances rest.now }
+        ensures instances { IsEncodingOfInstances rest.now result.instances.0 }
         ensures countable { length rest.now < 2 ^ 64 }
     {
-        // A slice's length is a `usize`, so what its bytes hold can be counted.
+        // The length of a slice fits `usize`, so its instances can be counted.
         let _length = rest.len();
         DevicePathInstanceIterator { rest }
     }
@@ -42,8 +42,8 @@ impl<'a> Iterator for DevicePathInstanceIterator<'a> {
         if self.rest.is_empty() {
             return None;
         }
-        let (front, after) = first_nodes(self.rest, StopCondition::AnyEndNode);
-        *self = DevicePathInstanceIterator::over(after);
-        Some(DevicePathInstance::whole(front))
+        let (instance, after) = first_nodes(self.rest, StopCondition::AnyEndNode);
+        *self = DevicePathInstanceIterator::new(after);
+        Some(DevicePathInstance::new_unchecked(instance))
     }
 }

@@ -1,10 +1,19 @@
-//! Laws of the definitions. Each holds of every value of them, and takes nothing to run.
+//! Laws of the definitions. Each function states a law that holds for all values, and does nothing
+//! when it runs.
 
 ghost use Rattle.uefi_path.specs.Laws.{OneFront};
+ghost use Rattle.uefi_path.specs.Rows.{RowsHold};
 
-/// No path is a proper front of another, and a path followed by anything begins with that path and
-/// with no other.
+/// No path is a proper prefix of another, and a path followed by any bytes starts with that path
+/// and with no other.
 #[tactic(auto, using(crate::proofs::OneFront::one_front))]
 pub fn one_front()
     ensures { OneFront }
+{}
+
+/// The definitions hold on worked rows: examples of the bytes of paths, and of bytes that start with
+/// no path. Each row is a theorem.
+#[tactic(auto, using(crate::proofs::Rows::rows_hold))]
+pub fn worked_rows()
+    ensures { RowsHold }
 {}

@@ -1,15 +1,16 @@
 //! UEFI device paths, read from bytes (UEFI 2.10, chapter 10).
 //!
-//! A device path says how firmware reaches a device or a file: a row of nodes, each a step, up to
-//! an end-entire node. It may hold several instances, each a way of its own.
+//! A device path tells firmware how to reach a device or a file: a list of nodes, each of them one
+//! step, that ends with an end-entire node. It consists of one or more instances, each of them a
+//! way of its own.
 //!
-//! Begin with [`DevicePath::try_from`]: it answers the front of the bytes that is a path, and
-//! refuses exactly the bytes of which no front is one. [`DevicePath::instance_iter`] and
-//! [`DevicePath::node_iter`] then give the parts, each a view that lives as long as the source
-//! bytes. Nothing is copied, and no view takes memory.
+//! Begin with [`DevicePath::try_from`]: it returns the prefix of the bytes that is a path, and
+//! fails exactly if no prefix is one. [`DevicePath::instance_iter`] and [`DevicePath::node_iter`]
+//! then return the parts, each a view that lives as long as the source bytes. Nothing is copied,
+//! and no view allocates.
 //!
-//! The contracts speak of the nodes that the bytes are joined from: `specs/Node.antt` and
-//! `specs/Path.antt` say what a node, a path and an instance is.
+//! The contracts speak of the nodes that bytes encode: `specs/Node.antt` and `specs/Path.antt`
+//! define nodes, paths and instances.
 #![tactic(auto)]
 
 pub use self::boxed::{BoxedDevicePath, BoxedDevicePathInstance};
@@ -34,6 +35,4 @@ mod loaded_image;
 mod node;
 mod node_iter;
 mod path;
-#[cfg(test)]
-mod tests;
 mod walk;

@@ -1,15 +1,15 @@
 ghost use Rattle.std.specs.Prelude.{◌≡◌, ◌↔◌, ◌+◌, length, IsTrue};
 ghost use Rattle.uefi_path.specs.Node.{encoding, IsEndEntire};
-ghost use Rattle.uefi_path.specs.Spelling.{IsTextOfNode, SpellsNode};
-ghost use Rattle.uefi_path.specs.OneNode.{SpellsNode-prop};
+ghost use Rattle.uefi_path.specs.Encoding.{IsEncodingOfNode, EncodesNode};
+ghost use Rattle.uefi_path.specs.OneNode.{EncodesNode-prop};
 
 use crate::device_type::{DeviceSubType, DeviceType};
 use crate::error::ByteConversionError;
-use crate::header::DevicePathHeader;
+use crate::header::{
+    DEVICE_TYPE_OFFSET, DevicePathHeader, HEADER_LENGTH, LENGTH_OFFSET, SUB_TYPE_OFFSET,
+};
 use std::fmt;
-
-/// The bytes of a node before its data: type, subtype and length.
-const HEADER_LENGTH: usize = 4;
+use uefi_base::little_endian::u16_at;
 
 /// One node of a device path (UEFI 2.10, 10.3.1): a type, a subtype and data.
 ///
@@ -20,40 +20,40 @@ const HEADER_LENGTH: usize = 4;
 /// | 2 | 2 | length of the whole node in bytes, little-endian, 4 to 65535 |
 /// | 4 | length - 4 | data |
 ///
-/// A view: it borrows the bytes that it was read from, and what it hands out lives as long as they
+/// A view: it borrows the bytes that it was read from, and what it returns lives as long as they
 /// do.
 #[derive(Clone, Copy)]
 pub struct DevicePathNode<'a> {
     bytes: &'a [u8],
-    pub ghost node: { SpellsNode bytes.now } by { SpellsNode-prop bytes.now },
+    pub ghost node: { EncodesNode bytes.now } by { EncodesNode-prop bytes.now },
 }
 
 impl<'a> DevicePathNode<'a> {
     ghost use Rattle.uefi_path.specs.Views.{node_of};
 
-    // The node with these bytes.
-    pub(crate) fn whole(bytes: &'a [u8]) -> DevicePathNode<'a>
-        requires { SpellsNode bytes.now }
-        ensures { IsTextOfNode bytes.now (node_of result) }
+    // Returns the node that `bytes`, which are known to be a node, encode.
+    pub(crate) fn new_unchecked(bytes: &'a [u8]) -> DevicePathNode<'a>
+        requires { EncodesNode bytes.now }
+        ensures { IsEncodingOfNode bytes.now (node_of result) }
     {
         DevicePathNode { bytes }
     }
 
-    /// The type.
+    /// Returns the type.
     pub fn device_type(&self) -> DeviceType
         ensures { result.0 ≡ (node_of self.now).device_type }
     {
-        DeviceType(self.bytes[0])
+        DeviceType(self.bytes[DEVICE_TYPE_OFFSET])
     }
 
-    /// The subtype.
+    /// Returns the subtype.
     pub fn sub_type(&self) -> DeviceSubType
         ensures { result.0 ≡ (node_of self.now).sub_type }
     {
-        DeviceSubType(self.bytes[1])
+        DeviceSubType(self.bytes[SUB_TYPE_OFFSET])
     }
 
-    /// The type and the subtype.
+    /// Returns the type and the subtype.
     pub fn full_type(&self) -> (DeviceType, DeviceSubType)
         ensures device_type { result.0.0 ≡ (node_of self.now).device_type }
         ensures sub_type { result.1.0 ≡ (node_of self.now).sub_type }
@@ -61,22 +61,22 @@ impl<'a> DevicePathNode<'a> {
         (self.device_type(), self.sub_type())
     }
 
-    /// The length of the whole node in bytes, header included: 4 to 65535.
+    /// Returns the length of the whole node in bytes, including the header: 4 to 65535.
     pub fn length(&self) -> u16
         ensures { result ≡ HEADER_LENGTH + length (node_of self.now).payload }
     {
-        u16::from_le_bytes([self.bytes[2], self.bytes[3]])
+        u16_at(self.bytes, LENGTH_OFFSET)
     }
 
-    /// Whether the node ends the whole path: it has the type END and the subtype END_ENTIRE
-    /// (UEFI 2.10, 10.3.1), whatever its data.
+    /// Returns whether the node ends the whole path: whether it has the type END and the subtype
+    /// END_ENTIRE (UEFI 2.10, 10.3.1), whatever its data is.
     pub fn is_end_entire(&self) -> bool
         ensures { IsTrue result ↔ IsEndEntire (node_of self.now) }
     {
         self.full_type() == (DeviceType::END, DeviceSubType::END_ENTIRE)
     }
 
-    /// The bytes after the four header bytes, at most 65531.
+    /// Returns the data: the bytes after the four header bytes, at most 65531.
     pub fn data(&self) -> &'a [u8]
         ensures { result.now ≡ (node_of self.now).payload }
     {
@@ -84,7 +84,7 @@ impl<'a> DevicePathNode<'a> {
         data
     }
 
-    /// All bytes of the node, its header first.
+    /// Returns all bytes of the node, including the header.
     pub fn as_bytes(&self) -> &'a [u8]
         ensures { result.now ≡ encoding (node_of self.now) }
     {
@@ -92,11 +92,13 @@ impl<'a> DevicePathNode<'a> {
     }
 }
 
-/// Reads the node that the bytes begin with; what follows it isn't looked at.
+/// Reads the node that the bytes start with, and ignores the bytes after it.
 ///
-/// Refused as [`ByteConversionError::InvalidLength`] where there are fewer than four bytes, or
-/// where the length that the header states is below 4 or beyond the bytes: exactly where no node is
-/// a front of them.
+/// # Errors
+///
+/// [`ByteConversionError::InvalidLength`] if no prefix of the bytes is a node: if there are fewer
+/// than four bytes, or if the length that the header states is below 4 or beyond the end of the
+/// bytes.
 impl<'a> TryFrom<&'a [u8]> for DevicePathNode<'a> {
     ghost use Rattle.uefi_path.specs.Views.{node_of};
     ghost use Rattle.uefi_path.specs.Reading.{ReadsNode};
@@ -111,12 +113,12 @@ impl<'a> TryFrom<&'a [u8]> for DevicePathNode<'a> {
         if length < HEADER_LENGTH || bytes.len() < length {
             return Err(ByteConversionError::InvalidLength);
         }
-        let (front, _) = bytes.split_at(length);
-        Ok(DevicePathNode::whole(front))
+        let (node, _) = bytes.split_at(length);
+        Ok(DevicePathNode::new_unchecked(node))
     }
 }
 
-/// Equality of all bytes.
+/// Two nodes are equal if all their bytes are.
 impl<'a> PartialEq for DevicePathNode<'a> {
     ghost use Rattle.std.specs.Prelude.{nat_eq};
     ghost use Rattle.std.specs.Cmp.{partial_equiv_from_equiv, on_per};
@@ -140,7 +142,7 @@ impl<'a> Eq for DevicePathNode<'a> {
     ghost laws = { on_equiv node_bytes nat_list_eq_equiv };
 }
 
-/// `<device path node: N bytes>`, where N is the length of the data.
+/// Writes `<device path node: N bytes>`, where N is the length of the data in decimal.
 impl<'a> fmt::Display for DevicePathNode<'a> {
     ghost use Rattle.std.specs.Prelude.{Some};
     ghost use Rattle.uefi_path.specs.Texts.{node_text};

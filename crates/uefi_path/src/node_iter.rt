@@ -1,30 +1,30 @@
 ghost use Rattle.std.specs.Prelude.{◌^◌, ◌<◌, length};
 ghost use Rattle.uefi_path.specs.Stop.{Stops, Stops-prop};
-ghost use Rattle.uefi_path.specs.Spelling.{IsTextOfNodes, SpellsNodes};
-ghost use Rattle.uefi_path.specs.OnePath.{SpellsNodes-prop};
+ghost use Rattle.uefi_path.specs.Encoding.{IsEncodingOfNodes, EncodesNodes};
+ghost use Rattle.uefi_path.specs.OnePath.{EncodesNodes-prop};
 
 use crate::node::DevicePathNode;
 use crate::walk::{StopCondition, first_node};
 
-/// The nodes of a path or of an instance, in order, without the one that ends it.
+/// An iterator over the nodes of a path or of an instance, in order, without the last one.
 ///
-/// Each node lives as long as the source bytes, not as the iterator. After the last node the
-/// iterator stays ended.
+/// Each node lives as long as the source bytes, and may outlive the iterator. After the last node
+/// the iterator returns `None` forever.
 #[derive(Clone, Copy)]
 pub struct DevicePathNodeIterator<'a> {
     rest: &'a [u8],
     stop: StopCondition,
-    pub ghost nodes: { SpellsNodes (Stops stop) rest.now } by { SpellsNodes-prop (Stops stop) (Stops-prop stop) rest.now },
+    pub ghost nodes: { EncodesNodes (Stops stop) rest.now } by { EncodesNodes-prop (Stops stop) (Stops-prop stop) rest.now },
 }
 
 impl<'a> DevicePathNodeIterator<'a> {
-    // The nodes of these bytes, up to the one at which the walk stops.
-    pub(crate) fn over(rest: &'a [u8], stop: StopCondition) -> DevicePathNodeIterator<'a>
-        requires { SpellsNodes (Stops stop) rest.now }
-        ensures nodes { IsTextOfNodes (Stops stop) rest.now result.nodes.0 }
+    // Returns an iterator over the nodes in `rest`, up to the one at which the walk stops.
+    pub(crate) fn new(rest: &'a [u8], stop: StopCondition) -> DevicePathNodeIterator<'a>
+        requires { EncodesNodes (Stops stop) rest.now }
+        ensures nodes { IsEncodingOfNodes (Stops stop) rest.now result.nodes.0 }
         ensures countable { length rest.now < 2 ^ 64 }
     {
-        // A slice's length is a `usize`, so what its bytes hold can be counted.
+        // The length of a slice fits `usize`, so its nodes can be counted.
         let _length = rest.len();
         DevicePathNodeIterator { rest, stop }
     }
@@ -45,7 +45,7 @@ impl<'a> Iterator for DevicePathNodeIterator<'a> {
         if self.stop.stops_at(&node) {
             return None;
         }
-        *self = DevicePathNodeIterator::over(after, self.stop);
+        *self = DevicePathNodeIterator::new(after, self.stop);
         Some(node)
     }
 }

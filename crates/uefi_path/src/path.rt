@@ -1,77 +1,119 @@
 ghost use Rattle.std.specs.Prelude.{◌≡◌, ◌*◌, ◌^◌, ◌<◌, ◌≤◌, length, IfOk};
 ghost use Rattle.uefi_path.specs.Node.{joined, IsEndEntire};
 ghost use Rattle.uefi_path.specs.Path.{IsPath, AreInstances, all_but_last};
-ghost use Rattle.uefi_path.specs.Spelling.{IsTextOfNodes, SpellsPath};
-ghost use Rattle.uefi_path.specs.OnePath.{SpellsPath-prop};
+ghost use Rattle.uefi_path.specs.Encoding.{IsEncodingOfNodes, EncodesPath};
+ghost use Rattle.uefi_path.specs.OnePath.{EncodesPath-prop};
 
 use crate::boxed::BoxedDevicePath;
 use crate::error::ByteConversionError;
+use crate::header::HEADER_LENGTH;
 use crate::instance_iter::DevicePathInstanceIterator;
 use crate::node_iter::DevicePathNodeIterator;
 use crate::walk::{StopCondition, split_nodes};
 use std::alloc::{AllocError, Allocator};
 use std::fmt;
 
-/// A device path (UEFI 2.10, 10.2): nodes of which the last, and no other, is the end-entire node.
+/// A device path (UEFI 2.10, 10.2): nodes of which only the last is an end-entire node.
 ///
-/// Its bytes are those of the nodes, joined. A view: it borrows the bytes that it was read from,
-/// and what it hands out lives as long as they do.
+/// Its bytes are the encodings of its nodes, in order. A view: it borrows the bytes that it was
+/// read from, and what it returns lives as long as they do.
+///
+/// # Examples
+///
+/// A node borrows the source bytes, and not the path or the iterator that returned it:
+///
+/// ```
+/// use uefi_path::{ByteConversionError, DevicePath, DevicePathNode};
+///
+/// /// Returns the first node of the path that `bytes` start with, if a node precedes its end.
+/// pub fn first_node<'a>(
+///     bytes: &'a [u8],
+/// ) -> Result<Option<DevicePathNode<'a>>, ByteConversionError> {
+///     let path = DevicePath::try_from(bytes)?;
+///     Ok(path.node_iter().next())
+/// }
+/// ```
+///
+/// An iterator works with `for`, `collect` and `count`:
+///
+/// ```
+/// use std::alloc::{AllocError, Global};
+/// use uefi_path::DevicePath;
+///
+/// /// Returns the data of all nodes before the end-entire one, joined.
+/// pub fn all_data(alloc: Global, path: &DevicePath<'_>) -> Result<Vec<u8>, AllocError> {
+///     let mut bytes = Vec::new(alloc);
+///     for node in path.node_iter() {
+///         bytes.extend_from_slice(node.data())?;
+///     }
+///     Ok(bytes)
+/// }
+/// ```
+///
+/// Both functions are proved in `crates/callers/src/path.rt`, which shows their contracts.
 #[derive(Clone, Copy)]
 pub struct DevicePath<'a> {
     bytes: &'a [u8],
-    pub ghost nodes: { SpellsPath bytes.now } by { SpellsPath-prop bytes.now },
+    pub ghost nodes: { EncodesPath bytes.now } by { EncodesPath-prop bytes.now },
 }
 
 impl<'a> DevicePath<'a> {
     ghost use Rattle.uefi_path.specs.Views.{path_nodes, nodes_left, instances_left, boxed_nodes};
 
-    // The path with these bytes.
-    pub(crate) fn whole(bytes: &'a [u8]) -> DevicePath<'a>
-        requires { SpellsPath bytes.now }
-        ensures { IsTextOfNodes IsEndEntire bytes.now (path_nodes result) }
+    // Returns the path that `bytes`, which are known to be a path, encode.
+    pub(crate) fn new_unchecked(bytes: &'a [u8]) -> DevicePath<'a>
+        requires { EncodesPath bytes.now }
+        ensures { IsEncodingOfNodes IsEndEntire bytes.now (path_nodes result) }
     {
         DevicePath { bytes }
     }
 
-    /// The instances of the path, in order.
+    /// Returns an iterator over the instances of the path, in order.
     pub fn instance_iter(&self) -> DevicePathInstanceIterator<'a>
         ensures instances { AreInstances (instances_left result) (path_nodes self.now) }
         ensures countable { length (instances_left result) < 2 ^ 64 }
     {
-        DevicePathInstanceIterator::over(self.bytes)
+        DevicePathInstanceIterator::new(self.bytes)
     }
 
-    /// The nodes before the end-entire one, in order.
+    /// Returns an iterator over the nodes before the end-entire one, in order.
     pub fn node_iter(&self) -> DevicePathNodeIterator<'a>
         ensures nodes { nodes_left result ≡ all_but_last (path_nodes self.now) }
         ensures countable { length (nodes_left result) < 2 ^ 64 }
     {
-        DevicePathNodeIterator::over(self.bytes, StopCondition::EndEntireNode)
+        DevicePathNodeIterator::new(self.bytes, StopCondition::EndEntireNode)
     }
 
-    /// The same bytes, owned. The source stays as it is.
+    /// Copies the path into an allocation of its own.
     ///
-    /// The one error is want of memory.
+    /// # Errors
+    ///
+    /// [`AllocError`] if an allocation fails.
     pub fn to_boxed<A: Allocator>(&self, alloc: A) -> Result<BoxedDevicePath<A>, AllocError>
         ensures { IfOk result (λ boxed. boxed_nodes boxed ≡ path_nodes self.now) }
     {
         let bytes = Vec::from_slice(alloc, self.bytes)?;
-        Ok(BoxedDevicePath::whole(bytes))
+        Ok(BoxedDevicePath::new_unchecked(bytes))
     }
 
-    /// All bytes of the path, the end-entire node's too. A path of n bytes has at most n / 4 nodes.
+    /// Returns all bytes of the path, including those of the end-entire node. A path of n bytes has
+    /// at most n / 4 nodes.
     pub fn as_bytes(&self) -> &'a [u8]
         ensures bytes { result.now ≡ joined (path_nodes self.now) }
         ensures path { IsPath (path_nodes self.now) }
-        ensures few_nodes { 4 * length (path_nodes self.now) ≤ length result.now }
+        ensures few_nodes { HEADER_LENGTH * length (path_nodes self.now) ≤ length result.now }
     {
         self.bytes
     }
 }
 
-/// Reads the path that the bytes begin with; what follows it isn't looked at.
+/// Reads the path that the bytes start with, and ignores the bytes after it.
 ///
-/// Refused as [`ByteConversionError::InvalidLength`] exactly where no front of the bytes is a path.
+/// # Errors
+///
+/// [`ByteConversionError::InvalidLength`] if no prefix of the bytes is a path: if, before the end
+/// of an end-entire node, fewer than four bytes are left, or a header states a length that is below
+/// 4 or beyond the end of the bytes.
 impl<'a> TryFrom<&'a [u8]> for DevicePath<'a> {
     ghost use Rattle.uefi_path.specs.Views.{path_nodes};
     ghost use Rattle.uefi_path.specs.Reading.{ReadsPath};
@@ -81,12 +123,12 @@ impl<'a> TryFrom<&'a [u8]> for DevicePath<'a> {
     ghost try_from_gives = { λ bytes read. ReadsPath path_nodes bytes.now read };
 
     fn try_from(bytes: &'a [u8]) -> Result<DevicePath<'a>, ByteConversionError> {
-        let (front, _) = split_nodes(bytes, StopCondition::EndEntireNode)?;
-        Ok(DevicePath::whole(front))
+        let (path, _) = split_nodes(bytes, StopCondition::EndEntireNode)?;
+        Ok(DevicePath::new_unchecked(path))
     }
 }
 
-/// Equality of all bytes.
+/// Two paths are equal if all their bytes are.
 impl<'a> PartialEq for DevicePath<'a> {
     ghost use Rattle.std.specs.Prelude.{nat_eq};
     ghost use Rattle.std.specs.Cmp.{partial_equiv_from_equiv, on_per};
@@ -110,7 +152,7 @@ impl<'a> Eq for DevicePath<'a> {
     ghost laws = { on_equiv path_bytes nat_list_eq_equiv };
 }
 
-/// `<device path: N bytes>`, where N is the length of the whole path.
+/// Writes `<device path: N bytes>`, where N is the length of the whole path in decimal.
 impl<'a> fmt::Display for DevicePath<'a> {
     ghost use Rattle.std.specs.Prelude.{Some};
     ghost use Rattle.uefi_path.specs.Texts.{path_text};

@@ -2,12 +2,14 @@ ghost use Rattle.std.specs.Prelude.{◌≡◌, ◌↔◌, ◌++◌, IsTrue, IfOk
 ghost use Rattle.uefi_path.specs.Node.{Fits, encoding, HasNode};
 ghost use Rattle.uefi_path.specs.Path.{HasNodes};
 ghost use Rattle.uefi_path.specs.Stop.{Stops};
-ghost use Rattle.uefi_path.specs.Spelling.{SpellsNodes};
+ghost use Rattle.uefi_path.specs.Encoding.{EncodesNodes};
 ghost use Rattle.uefi_path.specs.Views.{node_of};
 
 use crate::device_type::DeviceType;
 use crate::error::ByteConversionError;
+use crate::header::LENGTH_OFFSET;
 use crate::node::DevicePathNode;
+use uefi_base::little_endian::u16_at;
 
 /// The node at which a walk over nodes stops.
 #[derive(Clone, Copy)]
@@ -19,7 +21,7 @@ pub(crate) enum StopCondition {
 }
 
 impl StopCondition {
-    /// Whether the walk stops at the node.
+    /// Returns whether the walk stops at the node.
     pub(crate) fn stops_at(self, node: &DevicePathNode<'_>) -> bool
         ensures { IsTrue result ↔ Stops self (node_of node.now) }
     {
@@ -30,7 +32,11 @@ impl StopCondition {
     }
 }
 
-/// The node at the front of the bytes, and the bytes after it.
+/// Returns the node that the bytes start with, and the bytes after it.
+///
+/// # Errors
+///
+/// [`ByteConversionError::InvalidLength`] if no prefix of the bytes is a node.
 pub(crate) fn split_node(bytes: &[u8]) -> Result<(DevicePathNode<'_>, &[u8]), ByteConversionError>
     ensures fits { IfOk result (λ r. Fits (node_of r.0)) }
     ensures split { IfOk result (λ r. bytes.now ≡ encoding (node_of r.0) ++ r.1.now) }
@@ -41,23 +47,27 @@ pub(crate) fn split_node(bytes: &[u8]) -> Result<(DevicePathNode<'_>, &[u8]), By
     Ok((node, after))
 }
 
-/// The node that the bytes are known to begin with, and the bytes after it. Nothing is tested.
+/// Returns the node that the bytes are known to start with, and the bytes after it, without a test.
 pub(crate) fn first_node(bytes: &[u8]) -> (DevicePathNode<'_>, &[u8])
     requires { HasNode bytes.now }
     ensures fits { Fits (node_of result.0) }
     ensures split { bytes.now ≡ encoding (node_of result.0) ++ result.1.now }
 {
-    let length = usize::from(u16::from_le_bytes([bytes[2], bytes[3]]));
-    let (front, after) = bytes.split_at(length);
-    (DevicePathNode::whole(front), after)
+    let length = usize::from(u16_at(bytes, LENGTH_OFFSET));
+    let (node, after) = bytes.split_at(length);
+    (DevicePathNode::new_unchecked(node), after)
 }
 
-/// The bytes of the nodes up to the first at which the walk stops, and the bytes after them.
+/// Returns the bytes of the nodes up to the first at which the walk stops, and those after them.
+///
+/// # Errors
+///
+/// [`ByteConversionError::InvalidLength`] if no prefix of the bytes is such nodes.
 pub(crate) fn split_nodes(
     bytes: &[u8],
     stop: StopCondition,
 ) -> Result<(&[u8], &[u8]), ByteConversionError>
-    ensures nodes { IfOk result (λ r. SpellsNodes (Stops stop) r.0.now) }
+    ensures nodes { IfOk result (λ r. EncodesNodes (Stops stop) r.0.now) }
     ensures split { IfOk result (λ r. bytes.now ≡ r.0.now ++ r.1.now) }
     ensures none { OnErr result (¬ HasNodes (Stops stop) bytes.now) }
 {
@@ -71,10 +81,10 @@ pub(crate) fn split_nodes(
     }
 }
 
-/// The same of bytes that are known to begin with such nodes. Nothing is tested.
+/// Returns the same for bytes that are known to start with such nodes, without a test.
 pub(crate) fn first_nodes(bytes: &[u8], stop: StopCondition) -> (&[u8], &[u8])
     requires { HasNodes (Stops stop) bytes.now }
-    ensures nodes { SpellsNodes (Stops stop) result.0.now }
+    ensures nodes { EncodesNodes (Stops stop) result.0.now }
     ensures split { bytes.now ≡ result.0.now ++ result.1.now }
 {
     let mut rest = bytes;

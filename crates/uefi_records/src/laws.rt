@@ -1,6 +1,7 @@
 //! Laws of the definitions. Each holds for all their values, and costs nothing when it runs.
 
 ghost use Rattle.uefi_records.specs.Laws.{EqualFiles, OneTime, ReadsBack, TimesReadBack, WrittenAlone};
+ghost use Rattle.uefi_records.specs.Rows.{RowsHold};
 
 /// At most one time stands in bytes: sixteen bytes determine all its fields.
 #[tactic(auto, using(crate::proofs::Times::ReadBack::one_time), unfolding(crate::specs::Time::Fields::time_bytes))]
@@ -34,4 +35,11 @@ pub fn reads_back()
 #[tactic(auto, using(crate::proofs::Files::RecordLaws::written_alone))]
 pub fn written_alone()
     ensures { WrittenAlone }
+{}
+
+/// The definitions hold on worked examples: the encodings, faults and sizes of some times and
+/// records, and the numbers of the flags. Each example is a theorem.
+#[tactic(auto, using(crate::proofs::Rows::rows_hold))]
+pub fn worked_rows()
+    ensures { RowsHold }
 {}

@@ -30,5 +30,3 @@ mod file;
 
 // What holds of all of them.
 pub mod laws;
-#[cfg(test)]
-mod tests;

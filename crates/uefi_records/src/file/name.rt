@@ -14,7 +14,7 @@ use uefi_base::{Error, Status, UnalignedSlice};
 const UNIT_LENGTH: usize = 2;
 
 // The index of the first unit that is zero, among the whole units of the bytes.
-#[tactic(auto, using(crate::proofs::Files::FirstZero::whole_units, uefi_base::proofs::UnitsOfBytes::units_count))]
+#[tactic(auto, using(crate::proofs::Files::FirstZero::whole_units, uefi_base::proofs::UnitsOfBytes::half_as_many_units))]
 fn first_zero(bytes: &[u8]) -> Option<usize>
     ensures first { result ≡ first_zero (units_of bytes.now) }
     ensures within { IfSome result

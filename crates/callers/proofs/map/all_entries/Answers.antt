@@ -1,6 +1,6 @@
 use Rattle.std.proofs.lemmas.Iterator.{items_from_collect}
 use Rattle.std.proofs.lemmas.Iterator.Consumers.{YieldsList-from_first}
-use Rattle.uefi_map.specs.Views.{entries_left}
+use Rattle.uefi_map.specs.memory.Views.{entries_left}
 use Rattle.callers.proofs.map.all_entries.Goals as goal
 
 pub returns : goal.returns

@@ -1,7 +1,7 @@
 use Rattle.std.proofs.Common.{◌≡◌, ◌+◌}
 use Rattle.std.specs.Prelude.{sum_by}
-use Rattle.uefi_map.specs.Map.{entries_of}
-use Rattle.uefi_map.specs.Views.{entries_left}
+use Rattle.uefi_map.specs.memory.Map.{entries_of}
+use Rattle.uefi_map.specs.memory.Views.{entries_left}
 use Rattle.callers.proofs.map.page_sum.Given as goal
 
 abbrev pub invariant-loop-entry : goal.invariant-loop-entry

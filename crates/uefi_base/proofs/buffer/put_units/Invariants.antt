@@ -4,4 +4,4 @@ use Rattle.uefi_base.specs.Unaligned.{unit_bytes}
 use Rattle.uefi_base.proofs.buffer.put_units.Given as goal
 
 abbrev pub invariant-loop-i : goal.invariant-loop-i
-invariant-loop-i l = l.buffer ≡ put_at l.place (unit_bytes (take l.i l.units)) l.initial.buffer
+invariant-loop-i l = l.buffer ≡ put_at l.offset (unit_bytes (take l.i l.units)) l.initial.buffer

@@ -5,4 +5,4 @@ use Rattle.uefi_path.proofs.boxed.BoxedDevicePathInstance.as_instance.Goals as g
 
 pub returns : goal.returns
 returns g c =
-    same_nodes IsEnd _ _ (instance_nodes c.whole.result) (boxed_instance_nodes c.args.self.now) c.as_slice.ensures.value c.whole.ensures c.args.self.now.nodes.1
+    same_nodes IsEnd _ _ (instance_nodes c.new_unchecked.result) (boxed_instance_nodes c.args.self.now) c.as_slice.ensures.value c.new_unchecked.ensures c.args.self.now.nodes.1

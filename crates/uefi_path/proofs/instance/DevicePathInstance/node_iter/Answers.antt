@@ -2,15 +2,15 @@ use Rattle.std.proofs.Common.{arith, ap, length}
 use Rattle.uefi_path.specs.Node.{IsEnd}
 use Rattle.uefi_path.specs.Path.{all_but_last}
 use Rattle.uefi_path.specs.Views.{instance_nodes}
-use Rattle.uefi_path.specs.OnePath.{spelled_once}
+use Rattle.uefi_path.specs.OnePath.{nodes_encoded_once}
 use Rattle.uefi_path.proofs.Counts.{four_bytes_each, length-all_but_last}
 use Rattle.uefi_path.proofs.instance.DevicePathInstance.node_iter.Goals as goal
 
 pub returns-clause-nodes : goal.returns-clause-nodes
 returns-clause-nodes c =
-    ap all_but_last (spelled_once IsEnd c.args.self.now.bytes.now c.over.result.nodes.0 (instance_nodes c.args.self.now) c.over.ensures.nodes c.args.self.now.nodes.1)
+    ap all_but_last (nodes_encoded_once IsEnd c.args.self.now.bytes.now c.new.result.nodes.0 (instance_nodes c.args.self.now) c.new.ensures.nodes c.args.self.now.nodes.1)
 
 pub returns-clause-countable : goal.returns-clause-countable
 returns-clause-countable c =
-    let left = c.over.result.nodes.0 in
-    omega (arith, length-all_but_last left, four_bytes_each left, ap length c.over.ensures.nodes.text, c.over.ensures.countable)
+    let left = c.new.result.nodes.0 in
+    omega (arith, length-all_but_last left, four_bytes_each left, ap length c.new.ensures.nodes.encoded, c.new.ensures.countable)

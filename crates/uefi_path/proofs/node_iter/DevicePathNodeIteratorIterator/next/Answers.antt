@@ -16,8 +16,8 @@ returns-then-stops_at-clause-steps c =
     none_before_end (Stops iter.stop) iter.rest.now c.first_node.result.1.now (node_of c.first_node.result.0) iter.nodes.0 iter.nodes.1 c.first_node.ensures.fits (c.stops_at.ensures.0 c.if-stops_at.true) c.first_node.ensures.split in
     (none, none)
 
-pub over-requires : goal.over-requires
-over-requires c =
+pub new-requires : goal.new-requires
+new-requires c =
     let iter = c.args.self.now in
     after_node (Stops iter.stop) iter.rest.now c.first_node.result.1.now (node_of c.first_node.result.0) iter.nodes.0 iter.nodes.1 c.first_node.ensures.fits
     (λ so. let stopped : false ≡ true = c.if-stops_at.ensures.1 so in cc) c.first_node.ensures.split
@@ -25,10 +25,10 @@ over-requires c =
 pub returns-clause-steps : goal.returns-clause-steps
 returns-clause-steps c =
     let iter = c.args.self.now in
-    next_node (Stops iter.stop) iter.rest.now c.first_node.result.1.now (node_of c.first_node.result.0) iter.nodes.0 c.over.result.nodes.0 iter.nodes.1 c.first_node.ensures.fits
-    (λ so. let stopped : false ≡ true = c.if-stops_at.ensures.1 so in cc) c.first_node.ensures.split c.over.ensures.nodes
+    next_node (Stops iter.stop) iter.rest.now c.first_node.result.1.now (node_of c.first_node.result.0) iter.nodes.0 c.new.result.nodes.0 iter.nodes.1 c.first_node.ensures.fits
+    (λ so. let stopped : false ≡ true = c.if-stops_at.ensures.1 so in cc) c.first_node.ensures.split c.new.ensures.nodes
 
 pub returns-clause-goes : goal.returns-clause-goes
 returns-clause-goes c =
-    let first : nodes_left c.args.self.now ≡ node_of c.first_node.result.0 ∷ nodes_left c.over.result = returns-clause-steps c in
+    let first : nodes_left c.args.self.now ≡ node_of c.first_node.result.0 ∷ nodes_left c.new.result = returns-clause-steps c in
     search rules

@@ -6,11 +6,11 @@ use Rattle.uefi_path.proofs.path.DevicePathTryFromRefSliceU8.try_from.Goals as g
 
 pub returns : goal.returns
 returns c =
-    let nodes = path_nodes c.whole.result in
-    let after = c.in_ok-front.field-0-1.now in
-    let spelled : c.args.bytes.now ≡ joined nodes ++ after = c.in_ok-front.ensures.split ∙ ap (λ s. s ++ after) c.whole.ensures.text in
+    let nodes = path_nodes c.new_unchecked.result in
+    let after = c.in_ok-path.field-0-1.now in
+    let encodes : c.args.bytes.now ≡ joined nodes ++ after = c.in_ok-path.ensures.split ∙ ap (λ s. s ++ after) c.new_unchecked.ensures.encoded in
     record {
-      ok = (c.whole.ensures.ended, (after, spelled));
-      only = λ others path front. (one_path others nodes front.0 after path c.whole.ensures.ended (sym front.1 ∙ spelled)).0;
+      ok = (c.new_unchecked.ensures.ended, (after, encodes));
+      only = λ others path prefix. (one_path others nodes prefix.0 after path c.new_unchecked.ensures.ended (sym prefix.1 ∙ encodes)).0;
       err = tt;
     }

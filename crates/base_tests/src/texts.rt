@@ -1,0 +1,107 @@
+use std::alloc::Global;
+use std::test::Fail;
+use test_bytes::{same, same_text};
+use uefi_base::{
+    CStr16, CString16, FromSliceWithNulError, FromStrError, UnalignedCStr16Error, UnalignedSlice,
+};
+
+/// The count of characters of a text of units, its units, and its characters.
+fn text_of(alloc: Global, units: &[u16]) -> Result<(usize, bool, String), Fail> {
+    let text = CStr16::from_u16_with_nul(units)?;
+    let characters = text.to_string(alloc)?;
+    Ok((
+        text.num_chars(),
+        text.as_u16_with_nul() == units,
+        characters,
+    ))
+}
+
+#[test]
+fn a_text_has_its_characters(rt: HostRuntime) -> Result<(), Fail> {
+    for (units, count, expected) in [
+        ([0x61u16, 0x62, 0].as_slice(), 2, "ab"),
+        // The units on both sides of the surrogates.
+        (&[0xd7ff, 0xe000, 0xffff, 0], 3, "\u{d7ff}\u{e000}\u{ffff}"),
+    ] {
+        let (characters, has_its_units, text) = text_of(rt.alloc(), units)?;
+        same(expected, &(characters, has_its_units), &(count, true))?;
+        same_text(expected, text.as_str(), expected)?;
+    }
+    Ok(())
+}
+
+/// The bytes of units, the low byte of each first.
+fn bytes_of(alloc: Global, units: &[u16]) -> Result<Vec<u8>, Fail> {
+    let mut bytes = Vec::new(alloc);
+    for unit in units {
+        bytes.extend_from_slice(&unit.to_le_bytes())?;
+    }
+    Ok(bytes)
+}
+
+/// The fault of the units in these bytes, if they are an even number of bytes and no text.
+fn unaligned_fault(alloc: Global, bytes: &[u8]) -> Option<UnalignedCStr16Error> {
+    if bytes.len() % 2 != 0 {
+        return None;
+    }
+    UnalignedSlice::new(bytes).to_cstring16(alloc).err()
+}
+
+#[test]
+fn the_first_offending_unit_decides(rt: HostRuntime) -> Result<(), Fail> {
+    use FromSliceWithNulError::{InteriorNul, InvalidChar, NotNulTerminated};
+    for (row, units, fault) in [
+        ("no unit", [].as_slice(), NotNulTerminated),
+        ("no NUL", &[0x61], NotNulTerminated),
+        ("a NUL inside", &[0x61, 0, 0x62, 0], InteriorNul(1)),
+        ("a NUL before a surrogate", &[0, 0xd800, 0], InteriorNul(0)),
+        ("a surrogate", &[0xd800, 0], InvalidChar(0)),
+        (
+            "a surrogate before a NUL",
+            &[0xdfff, 0, 0x61, 0],
+            InvalidChar(0),
+        ),
+        ("a surrogate and no NUL", &[0x61, 0xd800], InvalidChar(1)),
+    ] {
+        let found = CStr16::from_u16_with_nul(units).err();
+        same(row, &found, &Some(fault))?;
+        let bytes = bytes_of(rt.alloc(), units)?;
+        let found = unaligned_fault(rt.alloc(), bytes.as_slice());
+        same(row, &found, &Some(UnalignedCStr16Error::from(fault)))?;
+    }
+    Ok(())
+}
+
+/// Whether the text made of the characters has these units, and gives the characters back.
+fn is_made_of(alloc: Global, characters: &str, units: &[u16]) -> Result<bool, Fail> {
+    let text = CString16::from_str(alloc, characters)?;
+    let back = text.as_cstr16().to_string(alloc)?;
+    Ok(text.as_cstr16().as_u16_with_nul() == units && back.as_str() == characters)
+}
+
+#[test]
+fn characters_make_a_text(rt: HostRuntime) -> Result<(), Fail> {
+    for (characters, units) in [
+        ("", [0u16].as_slice()),
+        ("ab", &[0x61, 0x62, 0]),
+        ("\u{e9}\u{20ac}\u{ffff}", &[0xe9, 0x20ac, 0xffff, 0]),
+    ] {
+        let is_made = is_made_of(rt.alloc(), characters, units)?;
+        same(characters, &is_made, &true)?;
+    }
+    Ok(())
+}
+
+#[test]
+fn the_first_character_without_a_unit_decides(rt: HostRuntime) -> Result<(), Fail> {
+    for (characters, fault) in [
+        ("\u{1f600}", FromStrError::InvalidChar),
+        ("a\0", FromStrError::InteriorNul),
+        ("\0\u{1f600}", FromStrError::InteriorNul),
+        ("\u{10000}\0", FromStrError::InvalidChar),
+    ] {
+        let found = CString16::from_str(rt.alloc(), characters).err();
+        same(characters, &found, &Some(fault))?;
+    }
+    Ok(())
+}

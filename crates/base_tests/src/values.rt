@@ -1,0 +1,106 @@
+use std::test::Fail;
+use test_bytes::{same, same_text};
+use uefi_base::little_endian::{u16_at, u32_at, u64_at};
+use uefi_base::{Align, Error, Guid, Identify, Status, laws};
+
+/// The GUID of file information records.
+const FILE_INFO: [u8; 16] = *b"\x92\x6e\x57\x09\x3f\x6d\xd2\x11\x8e\x39\x00\xa0\xc9\x69\x72\x3b";
+
+#[test]
+fn a_guid_has_its_bytes_and_its_text(rt: HostRuntime) -> Result<(), Fail> {
+    let guid = Guid::from_bytes(FILE_INFO);
+    same("bytes", &guid.to_bytes(), &FILE_INFO)?;
+    let text = guid.to_string(rt.alloc())?;
+    same_text(
+        "text",
+        text.as_str(),
+        "09576e92-6d3f-11d2-8e39-00a0c969723b",
+    )
+}
+
+#[test]
+fn guids_are_equal_where_their_bytes_are() -> Result<(), Fail> {
+    let mut other = FILE_INFO;
+    other[15] = 0x3c;
+    let found = [
+        Guid(FILE_INFO) == Guid::from_bytes(FILE_INFO),
+        Guid(FILE_INFO) == Guid(other),
+    ];
+    same("equality", &found, &[true, false])
+}
+
+#[test]
+fn statuses_have_their_codes() -> Result<(), Fail> {
+    let found = [
+        Status::INVALID_PARAMETER.code(),
+        Status::BAD_BUFFER_SIZE.code(),
+        Status::BUFFER_TOO_SMALL.code(),
+        Status::OUT_OF_RESOURCES.code(),
+    ];
+    let expected = [
+        0x8000_0000_0000_0002,
+        0x8000_0000_0000_0004,
+        0x8000_0000_0000_0005,
+        0x8000_0000_0000_0009,
+    ];
+    same("codes", &found, &expected)
+}
+
+#[test]
+fn an_error_gives_back_its_status_and_data() -> Result<(), Fail> {
+    let error = Error::new(Status::BUFFER_TOO_SMALL, Some(88usize));
+    same("status", &error.status(), &Status::BUFFER_TOO_SMALL)?;
+    same("data", error.data(), &Some(88))?;
+    let found = [
+        error == Error::new(Status::BUFFER_TOO_SMALL, Some(88)),
+        error == Error::new(Status::BUFFER_TOO_SMALL, None),
+        error == Error::new(Status::BAD_BUFFER_SIZE, Some(88)),
+    ];
+    same("equality", &found, &[true, false, false])
+}
+
+#[test]
+fn numbers_stand_low_byte_first() -> Result<(), Fail> {
+    let bytes = [0xff, 1, 2, 3, 4, 5, 6, 7, 8];
+    same("u16", &u16_at(&bytes, 1), &0x0201)?;
+    same("u32", &u32_at(&bytes, 1), &0x0403_0201)?;
+    same("u64", &u64_at(&bytes, 1), &0x0807_0605_0403_0201)
+}
+
+/// A type with a GUID and an alignment.
+struct Label;
+
+impl Align for Label {
+    ghost alignment = { 2 };
+
+    fn alignment() -> usize {
+        2
+    }
+}
+
+impl Identify for Label {
+    ghost use Rattle.std.specs.Prelude.{replicate};
+
+    ghost identity = { record { 0 = replicate 16 7 } };
+
+    const GUID: Guid = Guid([7; 16]);
+
+    fn identity() -> Guid {
+        Self::GUID
+    }
+}
+
+#[test]
+fn a_type_has_its_guid_and_its_alignment() -> Result<(), Fail> {
+    same("alignment", &Label::alignment(), &2)?;
+    same("GUID", &Label::GUID.to_bytes(), &[7; 16])?;
+    same("identity", &Label::identity(), &Label::GUID)
+}
+
+#[test]
+fn the_laws_take_nothing_to_run() {
+    laws::numbers_read_back();
+    laws::units_read_back();
+    laws::units_by_place();
+    laws::worked_rows();
+}

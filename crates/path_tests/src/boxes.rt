@@ -1,0 +1,59 @@
+use refusing::in_turn;
+use std::alloc::Allocator;
+use std::test::Fail;
+use test_bytes::samples::TWO_INSTANCES;
+use test_bytes::{bytes, holds, same, same_bytes};
+use uefi_path::{DevicePath, DevicePathInstance};
+
+/// Whether the path in a box is the path, and its length; or `None` if memory ran out.
+fn box_path<A: Allocator>(alloc: A, path: &DevicePath<'_>) -> Option<(bool, usize)> {
+    let boxed = path.to_boxed(alloc).ok()?;
+    Some((boxed.as_path() == *path, boxed.as_path().as_bytes().len()))
+}
+
+#[test]
+fn a_box_has_the_path_or_memory_was_refused(rt: HostRuntime) -> Result<(), Fail> {
+    let input = bytes(rt.alloc(), TWO_INSTANCES)?;
+    let path = DevicePath::try_from(input.as_slice())?;
+    same(
+        "ample memory",
+        &box_path(rt.alloc(), &path),
+        &Some((true, 36)),
+    )?;
+    let requests = in_turn(rt.alloc(), &(true, 36), |heap| box_path(heap, &path))?;
+    holds("a box takes memory", requests > 0)?;
+    same_bytes("the path stays", path.as_bytes(), input.as_slice())?;
+    same("its nodes stay", &path.node_iter().count(), &5)
+}
+
+/// Whether the instance in a box is the instance, and its length; or `None` if memory ran out.
+fn box_instance<A: Allocator>(
+    alloc: A,
+    instance: &DevicePathInstance<'_>,
+) -> Option<(bool, usize)> {
+    let boxed = instance.to_boxed(alloc).ok()?;
+    Some((
+        boxed.as_instance() == *instance,
+        boxed.as_instance().as_bytes().len(),
+    ))
+}
+
+#[test]
+fn a_box_has_the_instance_or_memory_was_refused(rt: HostRuntime) -> Result<(), Fail> {
+    let input = bytes(rt.alloc(), TWO_INSTANCES)?;
+    let path = DevicePath::try_from(input.as_slice())?;
+    let instance = path.instance_iter().next().ok_or("an instance")?;
+    same(
+        "ample memory",
+        &box_instance(rt.alloc(), &instance),
+        &Some((true, 18)),
+    )?;
+    let requests = in_turn(
+        rt.alloc(),
+        &(true, 18),
+        |heap| box_instance(heap, &instance),
+    )?;
+    holds("a box takes memory", requests > 0)?;
+    same("its length stays", &instance.as_bytes().len(), &18)?;
+    same("its nodes stay", &instance.node_iter().count(), &2)
+}

@@ -1,0 +1,163 @@
+use std::alloc::Global;
+use std::test::Fail;
+use test_bytes::samples::TWO_INSTANCES;
+use test_bytes::{each_gives, each_makes, each_reads, each_shows, holds};
+use uefi_path::{
+    ByteConversionError, DevicePath, DevicePathHeader, DevicePathNode, DeviceSubType, DeviceType,
+    LoadedImageDevicePath, laws,
+};
+
+const TYPE: DeviceType = DeviceType(0xa0);
+
+const SUB_TYPE: DeviceSubType = DeviceSubType(0xb0);
+
+/// The type, the subtype, both of them, and the length of the node that the bytes begin with.
+fn header_of_node(
+    input: &[u8],
+) -> Result<(DeviceType, DeviceSubType, (DeviceType, DeviceSubType), u16), ByteConversionError> {
+    let node = DevicePathNode::try_from(input)?;
+    Ok((
+        node.device_type(),
+        node.sub_type(),
+        node.full_type(),
+        node.length(),
+    ))
+}
+
+#[test]
+fn a_node_needs_its_whole_length(rt: HostRuntime) -> Result<(), Fail> {
+    let refused = Err(ByteConversionError::InvalidLength);
+    let rows = [
+        ("a0b0 0600 0a0b", Ok((TYPE, SUB_TYPE, (TYPE, SUB_TYPE), 6))),
+        ("a0b0 0700 0a0b", refused),
+        ("a0b0 0300 0a0b", refused),
+        ("a0b0 06", refused),
+        ("a0", refused),
+    ];
+    each_reads(rt.alloc(), &rows, header_of_node)
+}
+
+/// The data of the node that the bytes begin with, and then all its bytes.
+fn data_and_bytes(alloc: Global, input: &[u8]) -> Result<Vec<u8>, Fail> {
+    let node = DevicePathNode::try_from(input)?;
+    let mut seen = Vec::from_slice(alloc, node.data())?;
+    seen.extend_from_slice(node.as_bytes())?;
+    Ok(seen)
+}
+
+#[test]
+fn a_node_has_its_data_and_its_bytes(rt: HostRuntime) -> Result<(), Fail> {
+    let rows = [
+        ("a0b0 0600 0a0b", "0a0b  a0b0 0600 0a0b"),
+        ("a0b0 0600 0a0b  cc", "0a0b  a0b0 0600 0a0b"),
+        ("a0b0 0400", "a0b0 0400"),
+    ];
+    each_makes(rt.alloc(), &rows, data_and_bytes)
+}
+
+/// Whether the node that the bytes begin with ends a path; or `None` if they begin with no node.
+fn is_end_entire(input: &[u8]) -> Option<bool> {
+    Some(DevicePathNode::try_from(input).ok()?.is_end_entire())
+}
+
+#[test]
+fn the_type_and_the_subtype_of_a_node_end_a_path(rt: HostRuntime) -> Result<(), Fail> {
+    let rows = [
+        ("7fff 0400", Some(true)),
+        ("7fff 0600 aabb", Some(true)),
+        ("7f01 0400", Some(false)),
+        ("7f02 0400", Some(false)),
+        ("a0ff 0400", Some(false)),
+    ];
+    each_reads(rt.alloc(), &rows, is_end_entire)
+}
+
+fn node_text(alloc: Global, input: &[u8]) -> Result<String, Fail> {
+    Ok(DevicePathNode::try_from(input)?.to_string(alloc)?)
+}
+
+fn path_text(alloc: Global, input: &[u8]) -> Result<String, Fail> {
+    Ok(DevicePath::try_from(input)?.to_string(alloc)?)
+}
+
+#[test]
+fn nodes_and_paths_are_displayed_by_their_lengths(rt: HostRuntime) -> Result<(), Fail> {
+    let nodes = [("a0b0 0600 0a0b", "<device path node: 2 bytes>")];
+    each_shows(rt.alloc(), &nodes, node_text)?;
+    let paths = [(TWO_INSTANCES, "<device path: 36 bytes>")];
+    each_shows(rt.alloc(), &paths, path_text)
+}
+
+/// The fields of the header that the bytes begin with.
+fn header(input: &[u8]) -> Result<(DeviceType, DeviceSubType, u16), ByteConversionError> {
+    let header = DevicePathHeader::try_from(input)?;
+    Ok((header.device_type(), header.sub_type(), header.length()))
+}
+
+#[test]
+fn a_header_has_whatever_length_its_bytes_state(rt: HostRuntime) -> Result<(), Fail> {
+    let rows = [
+        ("a0b0 0300 ff", Ok((TYPE, SUB_TYPE, 3))),
+        ("a0b0 03", Err(ByteConversionError::InvalidLength)),
+    ];
+    each_reads(rt.alloc(), &rows, header)
+}
+
+/// Whether the bytes begin with the header of [`TYPE`], [`SUB_TYPE`] and this length.
+fn is_header(input: &([u8; 4], u16)) -> bool {
+    let (bytes, length) = *input;
+    DevicePathHeader::try_from(bytes.as_slice())
+        == Ok(DevicePathHeader::new(TYPE, SUB_TYPE, length))
+}
+
+#[test]
+fn headers_are_equal_where_their_fields_are() -> Result<(), Fail> {
+    let rows = [
+        (([0xa0, 0xb0, 3, 0], 3), true),
+        (([0xa0, 0xb0, 3, 0], 0x300), false),
+    ];
+    each_gives(&rows, is_header)
+}
+
+/// Whether the two paths, their first nodes and their first instances are equal, in this order.
+fn equalities(input: &([u8; 9], [u8; 10])) -> Option<[bool; 3]> {
+    let (one, other) = input;
+    let one = DevicePath::try_from(one.as_slice()).ok()?;
+    let other = DevicePath::try_from(other.as_slice()).ok()?;
+    Some([
+        one == other,
+        one.node_iter().next() == other.node_iter().next(),
+        one.instance_iter().next() == other.instance_iter().next(),
+    ])
+}
+
+#[test]
+fn views_are_equal_where_their_bytes_are() -> Result<(), Fail> {
+    let path = [1, 1, 5, 0, 0, 0x7f, 0xff, 4, 0];
+    let rows = [
+        (
+            (path, [1, 1, 5, 0, 0, 0x7f, 0xff, 4, 0, 0]),
+            Some([true; 3]),
+        ),
+        (
+            (path, [1, 1, 5, 0, 1, 0x7f, 0xff, 4, 0, 0]),
+            Some([false; 3]),
+        ),
+    ];
+    each_gives(&rows, equalities)
+}
+
+#[test]
+fn a_loaded_image_gives_its_path_back() -> Result<(), Fail> {
+    let path = DevicePath::try_from([0x7f, 0xff, 4, 0].as_slice())?;
+    holds(
+        "a path",
+        LoadedImageDevicePath::new(path).device_path() == path,
+    )
+}
+
+#[test]
+fn the_laws_take_nothing_to_run() {
+    laws::one_front();
+    laws::worked_rows();
+}

@@ -1,0 +1,202 @@
+use crate::names::{AB, TEST_NAME, TEST_NAME2, UNITS_OF_AB, units};
+use std::alloc::Global;
+use std::test::Fail;
+use test_bytes::samples::ZERO_FILE;
+use test_bytes::{bytes, holds, same, same_bytes, same_text};
+use uefi_base::CStr16;
+use uefi_records::{
+    FileAttribute, FileInfo, FileInfoCreationError, FileSystemInfo, FileSystemVolumeLabel, Time,
+    write_file_info, write_file_system_info, write_file_system_volume_label,
+};
+
+/// A file information record of that name, of which all else is zero, over that storage.
+fn zero_file<'a>(
+    storage: &'a mut [u8],
+    name: &CStr16<'_>,
+) -> Result<FileInfo<'a>, FileInfoCreationError> {
+    let time = Time::invalid();
+    FileInfo::new(
+        storage,
+        0,
+        0,
+        time,
+        time,
+        time,
+        FileAttribute::empty(),
+        name,
+    )
+}
+
+/// Checks what stands in storage of so many bytes, each the same before, after a file information
+/// record named `ab` is written there.
+fn check_file(alloc: Global, before: u8, length: usize, after: &str) -> Result<(), Fail> {
+    let name = CStr16::from_u16_with_nul(&AB)?;
+    let mut storage = vec![in alloc; before; length]?;
+    let info = zero_file(storage.as_mut_slice(), &name)?;
+    same(
+        after,
+        &(info.size(), units(info.file_name())),
+        &(88, UNITS_OF_AB),
+    )?;
+    same_bytes(after, storage.as_slice(), bytes(alloc, after)?.as_slice())
+}
+
+#[test]
+fn a_written_file_leaves_the_bytes_that_round_it_up(rt: HostRuntime) -> Result<(), Fail> {
+    check_file(rt.alloc(), 0, 88, ZERO_FILE)?;
+    check_file(
+        rt.alloc(),
+        0xee,
+        88,
+        "5800000000000000 0000000000000000 0000000000000000 \
+            00000000000000000000000000000000 00000000000000000000000000000000 \
+            00000000000000000000000000000000 0000000000000000  6100 6200 0000  eeee",
+    )?;
+    check_file(
+        rt.alloc(),
+        0xee,
+        90,
+        "5800000000000000 0000000000000000 0000000000000000 \
+            00000000000000000000000000000000 00000000000000000000000000000000 \
+            00000000000000000000000000000000 0000000000000000  6100 6200 0000  eeeeeeee",
+    )
+}
+
+#[test]
+fn a_written_file_system_leaves_the_unused_bytes(rt: HostRuntime) -> Result<(), Fail> {
+    let label = CStr16::from_u16_with_nul(&AB)?;
+    let mut storage = [0xee; 48];
+    let info = FileSystemInfo::new(&mut storage, true, 1, 2, 3, &label)?;
+    same(
+        "size, read-only",
+        &(info.size(), info.read_only()),
+        &(48, true),
+    )?;
+    let after = "3000000000000000 01 eeeeeeeeeeeeee 0100000000000000 0200000000000000 \
+        03000000  6100 6200 0000  eeeeeeeeeeee";
+    same_bytes(after, &storage, bytes(rt.alloc(), after)?.as_slice())
+}
+
+/// Checks what stands in storage of so many bytes 0xee after the label `ab` is written there.
+fn check_label(alloc: Global, length: usize, after: &str) -> Result<(), Fail> {
+    let name = CStr16::from_u16_with_nul(&AB)?;
+    let mut storage = vec![in alloc; 0xee; length]?;
+    let label = FileSystemVolumeLabel::new(storage.as_mut_slice(), &name)?;
+    same(after, &units(label.volume_label()), &UNITS_OF_AB)?;
+    same_bytes(after, storage.as_slice(), bytes(alloc, after)?.as_slice())
+}
+
+#[test]
+fn a_written_label_leaves_what_follows(rt: HostRuntime) -> Result<(), Fail> {
+    check_label(rt.alloc(), 6, "6100 6200 0000")?;
+    check_label(rt.alloc(), 8, "6100 6200 0000 eeee")
+}
+
+/// The sizes of the records of both kinds over 128 bytes that are named `test_name` and labelled
+/// `test_name2`.
+fn sizes() -> Option<(u64, u64)> {
+    let name = CStr16::from_u16_with_nul(&TEST_NAME).ok()?;
+    let label = CStr16::from_u16_with_nul(&TEST_NAME2).ok()?;
+    let mut storage = [0; 128];
+    let file = zero_file(&mut storage, &name).ok()?.size();
+    let mut storage = [0; 128];
+    let system = FileSystemInfo::new(&mut storage, false, 0, 0, 0, &label).ok()?;
+    Some((file, system.size()))
+}
+
+#[test]
+fn a_record_has_a_size_by_its_name() -> Result<(), Fail> {
+    same("over 128 bytes", &sizes(), &Some((104, 64)))?;
+    let name = CStr16::from_u16_with_nul(&TEST_NAME)?;
+    let mut short = [0; 103];
+    let refused = zero_file(&mut short, &name).err();
+    let error = FileInfoCreationError::InsufficientStorage(104);
+    same("over 103 bytes", &refused, &Some(error))
+}
+
+/// What the writing of a record named `ab` into so many bytes leaves of its storage, and its error.
+type Refused = ([u8; 88], Option<FileInfoCreationError>);
+
+fn refused_file(name: &CStr16<'_>, length: usize) -> Refused {
+    let mut storage = [0xee; 88];
+    let error = match storage.get_mut(..length) {
+        Some(short) => zero_file(short, name).err(),
+        None => None,
+    };
+    (storage, error)
+}
+
+fn refused_file_system(name: &CStr16<'_>, length: usize) -> Refused {
+    let mut storage = [0xee; 88];
+    let error = match storage.get_mut(..length) {
+        Some(short) => FileSystemInfo::new(short, true, 1, 2, 3, name).err(),
+        None => None,
+    };
+    (storage, error)
+}
+
+fn refused_label(name: &CStr16<'_>, length: usize) -> Refused {
+    let mut storage = [0xee; 88];
+    let error = match storage.get_mut(..length) {
+        Some(short) => FileSystemVolumeLabel::new(short, name).err(),
+        None => None,
+    };
+    (storage, error)
+}
+
+/// Storage as it was, and the error that names the size.
+fn untouched(size: usize) -> Refused {
+    let error = FileInfoCreationError::InsufficientStorage(size);
+    ([0xee; 88], Some(error))
+}
+
+#[test]
+fn storage_that_is_too_short_stays_as_it_was() -> Result<(), Fail> {
+    let name = CStr16::from_u16_with_nul(&AB)?;
+    for length in 0..88 {
+        same("a file", &refused_file(&name, length), &untouched(88))?;
+    }
+    for length in 0..48 {
+        same(
+            "a file system",
+            &refused_file_system(&name, length),
+            &untouched(48),
+        )?;
+    }
+    for length in 0..6 {
+        same("a label", &refused_label(&name, length), &untouched(6))?;
+    }
+    Ok(())
+}
+
+#[test]
+fn the_writers_return_how_far_they_wrote() -> Result<(), Fail> {
+    let name = CStr16::from_u16_with_nul(&AB)?;
+    let time = Time::invalid();
+    let none = FileAttribute::empty();
+    let mut file = [0; 88];
+    let written = write_file_info(&mut file, 1, 2, time, time, time, none, &name);
+    same("a file", &written, &Ok(86))?;
+    holds("a file is read", FileInfo::from_uefi(&file, 86).is_ok())?;
+    let mut system = [0; 48];
+    let written = write_file_system_info(&mut system, true, 1, 2, 3, &name);
+    same("a file system", &written, &Ok(42))?;
+    holds(
+        "a file system is read",
+        FileSystemInfo::from_uefi(&system, 42).is_ok(),
+    )?;
+    let mut label = [0; 6];
+    let written = write_file_system_volume_label(&mut label, &name);
+    same("a label", &written, &Ok(6))?;
+    holds(
+        "a label is read",
+        FileSystemVolumeLabel::from_uefi(&label, 6).is_ok(),
+    )
+}
+
+#[test]
+fn a_refused_writing_names_the_size(rt: HostRuntime) -> Result<(), Fail> {
+    let text = FileInfoCreationError::InsufficientStorage(6).to_string(rt.alloc())?;
+    let expected = "provided buffer was too small. need at least 6 bytes";
+    same_text("6 bytes", text.as_str(), expected)
+}

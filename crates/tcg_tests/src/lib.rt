@@ -1,0 +1,12 @@
+//! Tests of the library `uefi_tcg` over its public names: worked rows, the log of a real firmware cut
+//! at every byte and asked for every last entry, and each request for memory refused.
+#![tactic(auto)]
+
+#[cfg(test)]
+mod capabilities;
+#[cfg(test)]
+mod v1_cuts;
+#[cfg(test)]
+mod v1_logs;
+#[cfg(test)]
+mod v1_writers;

@@ -1,0 +1,53 @@
+-- The path that a pair's value begins with, if it begins with one.
+use Rattle.std.proofs.Common.{◌≡◌, ℕ, List, sym, ◌∙◌, ap, subst}
+use Rattle.std.specs.Prelude.{Option, Some, None}
+use Rattle.uefi_path.specs.Path.{HasPath as BeginsWithPath}
+use Rattle.uefi_base.specs.Prefix.{IsPrefix}
+use Rattle.uefi_path.proofs.Decide.{path_or_none}
+use Rattle.uefi_path.specs.Node.{Node, joined}
+use Rattle.uefi_path.specs.OnePath.{one_path}
+use Rattle.uefi_path.specs.Path.{IsPath}
+use Rattle.uefi_hii.specs.Hex.{hex}
+use Rattle.uefi_hii.specs.Pairs.{Pair}
+use Rattle.uefi_hii.specs.Configuration.{HasPath}
+use Rattle.uefi_hii.proofs.HexBounds.{hex_small}
+
+-- A path at the beginning of bytes.
+abbrev PathOf : List ℕ → List Node → Type 0
+PathOf bytes path = IsPath path × IsPrefix (joined path) bytes
+
+-- The path, by the proof that bytes begin with one or with none.
+path_by : (bytes : List ℕ) → Dec (BeginsWithPath bytes) → Option (List Node)
+path_by bytes (yes has) = Some has.0
+path_by bytes (no none) = None
+
+path_of_value : Option (List ℕ) → Option (List Node)
+path_of_value None = None
+path_of_value (Some value) = path_by (hex value) (path_or_none (hex value) (hex_small value))
+
+pub path_in : Pair → Option (List Node)
+path_in pair = path_of_value pair.value
+
+pub path_in-some : (pair : Pair) (path : List Node) → path_in pair ≡ Some path → HasPath pair path
+unfolding path_in path_of_value path_by
+path_in-some pair path = by_value pair.value
+  where
+    by_proof : (bytes : List ℕ) (d : Dec (BeginsWithPath bytes)) → path_by bytes d ≡ Some path → PathOf bytes path
+    by_proof bytes (yes has) e = let same : has.0 ≡ path = cc in subst (PathOf bytes) same (has.1, has.2)
+    by_proof bytes (no none) e = cc
+
+    by_value : (value : Option (List ℕ)) → path_of_value value ≡ Some path → HasPath (record { key = pair.key; value = value }) path
+    by_value None e = cc
+    by_value (Some value) e = by_proof (hex value) (path_or_none (hex value) (hex_small value)) e
+
+pub path_in-is : (pair : Pair) (path : List Node) → HasPath pair path → path_in pair ≡ Some path
+unfolding path_in path_of_value path_by
+path_in-is pair path = by_value pair.value
+  where
+    by_proof : (bytes : List ℕ) (d : Dec (BeginsWithPath bytes)) → PathOf bytes path → path_by bytes d ≡ Some path
+    by_proof bytes (yes has) h = ap Some (one_path has.0 path has.2.0 h.1.0 has.1 h.0 (sym has.2.1 ∙ h.1.1)).0
+    by_proof bytes (no none) h = absurd (none (path, h.0, h.1))
+
+    by_value : (value : Option (List ℕ)) → HasPath (record { key = pair.key; value = value }) path → path_of_value value ≡ Some path
+    by_value None h = absurd h
+    by_value (Some value) h = by_proof (hex value) (path_or_none (hex value) (hex_small value)) h

@@ -1,0 +1,11 @@
+pub mod Hex
+pub mod Pairs
+pub mod Values
+pub mod Configuration
+pub mod Slots
+pub mod Group
+pub mod Cut
+pub mod Views
+pub mod Reading
+pub mod Taking
+pub mod Laws

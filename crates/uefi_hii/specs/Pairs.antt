@@ -1,0 +1,44 @@
+-- The pairs of keys and values that a text is cut into (UEFI 2.10, 35.2.1 "String Syntax").
+use Rattle.std.specs.Prelude.{ℕ, ◌==◌, Bool, List, [], ◌∷◌, Option, Some, None, map, if◌then◌else◌, length, nat_lt}
+use Rattle.std.specs.List.{slice_split, before_first, after_first, position_or_len}
+
+-- A key, and its value if it has one.
+pub record Pair : Type 0 where
+  pub key : List ℕ
+  pub value : Option (List ℕ)
+
+abbrev pub ampersand : ℕ
+ampersand = 38
+
+abbrev pub is_ampersand : ℕ → Bool
+is_ampersand c = c == ampersand
+
+abbrev pub equals_sign : ℕ
+equals_sign = 61
+
+abbrev pub is_equals_sign : ℕ → Bool
+is_equals_sign c = c == equals_sign
+
+-- The pieces of a text between its ampersands.
+abbrev pub pieces : List ℕ → List (List ℕ)
+pieces text = slice_split is_ampersand text
+
+abbrev pub without_empty_last : List (List ℕ) → List (List ℕ)
+without_empty_last [] = []
+without_empty_last ([] ∷ []) = []
+without_empty_last ((c ∷ piece) ∷ []) = (c ∷ piece) ∷ []
+without_empty_last (piece ∷ next ∷ others) = piece ∷ without_empty_last (next ∷ others)
+
+abbrev pub has_equals_sign : List ℕ → Bool
+has_equals_sign piece = nat_lt (position_or_len is_equals_sign piece) (length piece)
+
+-- A piece is cut at its first equals sign into key and value. Without one it is a key with no value.
+abbrev pub pair_of : List ℕ → Pair
+pair_of piece = record {
+  key = before_first is_equals_sign piece;
+  value = if has_equals_sign piece then Some (after_first is_equals_sign piece) else None;
+}
+
+-- The pairs of a text: its pieces, but for an empty last one, each cut into key and value.
+abbrev pub pairs : List ℕ → List Pair
+pairs text = map pair_of (without_empty_last (pieces text))

@@ -1,0 +1,73 @@
+ghost use Rattle.std.specs.Prelude.{List};
+ghost use Rattle.uefi_hii.specs.Cut.{Part, Cut};
+
+use crate::error::{ConfigHdrSection, ParseError};
+use crate::pairs::ConfigurationStringIter;
+use crate::reading::read_group;
+use crate::taking::has_no_pair;
+use std::alloc::{Allocator, Global};
+use uefi_base::Guid;
+use uefi_path::BoxedDevicePath;
+
+/// An element of a configuration: a part of its block of bytes (UEFI 2.10, 35.2.1 "String Syntax").
+///
+/// In the text it is the pairs `OFFSET`, `WIDTH` and `VALUE`, in this order.
+#[derive(Drop)]
+pub struct ConfigurationStringElement<A: Allocator = Global> {
+    /// Where the bytes begin in the block.
+    pub offset: u64,
+    /// How many bytes the element has, as `WIDTH` states. Whether `value` has as many isn't tested.
+    pub width: u64,
+    /// The bytes that `VALUE` spells, in the order of memory: those that the text spells last come
+    /// first.
+    pub value: Vec<u8, A>,
+}
+
+/// A configuration (UEFI 2.10, 35.2.1 "String Syntax"): what a driver's form holds, or an
+/// alternative of it.
+///
+/// In the text it is the pairs `GUID`, `NAME` and one with the path, perhaps `ALTCFG`, and then
+/// those of the elements. All numbers, names and bytes are spelled in hex, as the functions
+/// `parse_.._from_hex` say.
+#[derive(Drop)]
+pub struct ConfigurationString<A: Allocator = Global> {
+    /// The GUID by which the driver routes the configuration.
+    pub guid: Guid,
+    /// The name of the configuration, as UTF-8.
+    pub name: String<A>,
+    /// The device path that the value of the third pair begins with, whatever its key.
+    pub device_path: BoxedDevicePath<A>,
+    /// The low 16 bits of `ALTCFG`, which an alternative configuration has.
+    pub alt_cfg_id: Option<u16>,
+    /// The elements, in order.
+    pub elements: Vec<ConfigurationStringElement<A>, A>,
+}
+
+impl<A: Allocator + Copy> ConfigurationString<A> {
+    ghost use Rattle.uefi_hii.specs.Reading.{IsFirstResult};
+
+    /// The first configuration of a text.
+    ///
+    /// The other configurations are neither read nor tested: [`parse_all`](crate::parse_all) and
+    /// [`MultiConfigurationStringIter`](crate::MultiConfigurationStringIter) give all of them.
+    ///
+    /// # Errors
+    ///
+    /// Pairs are read in order, and the first that is missing or wrong decides:
+    ///
+    /// - [`ParseError::ConfigHdr`] with the part of the header that it is; with
+    ///   [`ConfigHdrSection::Guid`] also for a text without pairs.
+    /// - [`ParseError::BlockName`] if an element doesn't begin with `OFFSET` and `WIDTH`, both with
+    ///   a number.
+    /// - [`ParseError::BlockConfig`] if `VALUE` doesn't follow them.
+    /// - [`ParseError::Memory`] if an allocation fails, which none does before the GUID is read.
+    pub fn from_str(alloc: A, text: &str) -> Result<ConfigurationString<A>, ParseError>
+        ensures { (parts : List Part) → Cut text.now parts → IsFirstResult parts result }
+    {
+        let mut pairs = ConfigurationStringIter::new(text);
+        if has_no_pair(&pairs) {
+            return Err(ParseError::ConfigHdr(ConfigHdrSection::Guid));
+        }
+        read_group(alloc, &mut pairs)
+    }
+}

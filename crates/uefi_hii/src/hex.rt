@@ -1,0 +1,143 @@
+ghost use Rattle.std.specs.Prelude.{◌≡◌, ◌∷◌, ◌++◌, [], ◌^◌, ◌<◌, length, IfSome, MatchOption};
+ghost use Rattle.uefi_hii.specs.Hex.{hex, hex_digit as digit_of, byte_of_one as one, byte_of_two as two};
+
+use std::iter::{ExactSizeIterator, FusedIterator};
+
+/// The bytes that a text spells in hex, from either end.
+///
+/// Two characters of the text spell one byte, and so does an odd last character. Two hex digits, in
+/// either case, give their number. `+` and a digit, or a digit alone, give that digit. All else
+/// gives 0: no text is refused.
+///
+/// After the last byte the iterator stays ended. Its [`len`](ExactSizeIterator::len) and
+/// [`size_hint`](Iterator::size_hint) are exact.
+#[derive(Clone, Copy)]
+pub struct HexBytes<'a> {
+    rest: &'a [u8],
+}
+
+impl<'a> HexBytes<'a> {
+    ghost use Rattle.uefi_hii.specs.Views.{bytes_left};
+
+    /// The bytes that the text spells.
+    #[tactic(auto, using(crate::proofs::HexEnds::few_bytes))]
+    pub(crate) fn new(text: &'a str) -> HexBytes<'a>
+        ensures bytes { bytes_left result ≡ hex text.now }
+        ensures countable { length (bytes_left result) < 2 ^ 64 }
+    {
+        // The length of a text is a `usize`, so its bytes can be counted.
+        let _length = text.len();
+        HexBytes {
+            rest: text.as_bytes(),
+        }
+    }
+}
+
+impl<'a> Iterator for HexBytes<'a> {
+    ghost use Rattle.std.specs.Prelude.{◌≡◌, length, Some, IfSome};
+    ghost use Rattle.std.specs.Iterator.{YieldsFirst, item_count, at_most, UpTo};
+    ghost use Rattle.std.specs.Iterator.SizeHint.{IsWithinCount};
+    ghost use Rattle.uefi_hii.specs.Views.{bytes_left};
+
+    type Item = u8;
+
+    ghost next_gives = { YieldsFirst bytes_left };
+
+    ghost remaining = { item_count bytes_left };
+
+    fn next(&mut self) -> Option<u8> {
+        match self.rest {
+            [] => None,
+            [c] => {
+                let byte = byte_of_one(*c);
+                self.rest = &[];
+                Some(byte)
+            }
+            [c, d, rest @ ..] => {
+                let byte = byte_of_two(*c, *d);
+                self.rest = rest;
+                Some(byte)
+            }
+        }
+    }
+
+    /// Both bounds are how many bytes are left.
+    fn size_hint(&self) -> (usize, Option<usize>)
+        ensures lower { IsWithinCount result.0 (at_most (length (bytes_left self.now))) }
+        ensures upper { IfSome result.1 (UpTo (at_most (length (bytes_left self.now)))) }
+        ensures least { result.0 ≡ length (bytes_left self.now) }
+        ensures most { result.1 ≡ Some (length (bytes_left self.now)) }
+    {
+        let length = self.len();
+        (length, Some(length))
+    }
+}
+
+impl<'a> DoubleEndedIterator for HexBytes<'a> {
+    ghost use Rattle.std.specs.Iterator.{YieldsLast};
+    ghost use Rattle.uefi_hii.specs.Views.{bytes_left};
+
+    ghost next_back_gives = { YieldsLast bytes_left };
+
+    fn next_back(&mut self) -> Option<u8> {
+        let (front, byte) = split_last_byte(self.rest)?;
+        self.rest = front;
+        Some(byte)
+    }
+}
+
+impl<'a> ExactSizeIterator for HexBytes<'a> {
+    /// How many bytes are left.
+    fn len(&self) -> usize {
+        self.rest.len() / 2 + self.rest.len() % 2
+    }
+}
+
+impl<'a> FusedIterator for HexBytes<'a> {}
+
+/// The last byte that a text spells, and the text before its characters.
+fn split_last_byte(text: &[u8]) -> Option<(&[u8], u8)>
+    ensures { MatchOption result (hex text.now ≡ [])
+        (λ r. hex text.now ≡ hex r.0.now ++ r.1 ∷ []) }
+{
+    let (last, front) = text.split_last()?;
+    if text.len() % 2 != 0 {
+        return Some((front, byte_of_one(*last)));
+    }
+    let (first, front) = front.split_last()?;
+    Some((front, byte_of_two(*first, *last)))
+}
+
+/// The byte that two characters spell.
+#[tactic(auto, unfolding(crate::specs::Hex::byte_of_two, crate::specs::Hex::two_digits))]
+fn byte_of_two(c: u8, d: u8) -> u8
+    ensures { result ≡ two c d }
+{
+    match (hex_digit(c), hex_digit(d)) {
+        (Some(high), Some(low)) => high * 16 + low,
+        _ if c == b'+' => byte_of_one(d),
+        _ => 0,
+    }
+}
+
+/// The byte that one character spells.
+#[tactic(auto, unfolding(crate::specs::Hex::byte_of_one))]
+fn byte_of_one(c: u8) -> u8
+    ensures { result ≡ one c }
+{
+    hex_digit(c).unwrap_or(0)
+}
+
+/// The value of a hex digit, in either case.
+#[tactic(auto, unfolding(crate::specs::Hex::hex_digit))]
+fn hex_digit(c: u8) -> Option<u8>
+    ensures value { result ≡ digit_of c }
+    ensures small { IfSome result (λ digit. digit < 16) }
+{
+    match c {
+        b'0'..=b'9' => Some(c - b'0'),
+        b'a'..=b'f' => Some(c - b'a' + 10),
+        b'A'..=b'F' => Some(c - b'A' + 10),
+        _ => None,
+    }
+}

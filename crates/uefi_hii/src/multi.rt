@@ -1,0 +1,99 @@
+ghost use Rattle.std.specs.Prelude.{◌≡◌, ◌≢◌, ◌^◌, ◌<◌, List, Err, IfOk, length, map};
+ghost use Rattle.std.specs.Bool.{MatchBool};
+ghost use Rattle.uefi_hii.specs.declared.error.ParseError.TheVariants.{Memory};
+ghost use Rattle.uefi_hii.specs.Cut.{Part, Cut, results_of};
+ghost use Rattle.uefi_hii.specs.Pairs.{pairs};
+ghost use Rattle.uefi_hii.specs.Reading.{AreResults};
+ghost use Rattle.uefi_hii.specs.Views.{result_of};
+
+use crate::configuration::ConfigurationString;
+use crate::error::ParseError;
+use crate::pairs::ConfigurationStringIter;
+use crate::reading::read_group;
+use crate::taking::has_no_pair;
+use std::alloc::{AllocError, Allocator, Global};
+
+/// The configurations of a text, and its errors, in order: an item for each group of pairs.
+///
+/// A group is the pairs of one configuration, or the pairs up to the one that is wrong, or up to the
+/// end of a text that ends too early. After an error the next group begins at the pair after the
+/// wrong one. Every pair belongs to one group.
+///
+/// The iterator keeps the allocator and the rest of the text. It makes no list of pairs, and takes
+/// memory only for the configurations that it gives. After the last group it stays ended, and so it
+/// does after [`ParseError::Memory`].
+#[derive(Drop)]
+pub struct MultiConfigurationStringIter<'a, A: Allocator = Global> {
+    alloc: A,
+    pairs: ConfigurationStringIter<'a>,
+}
+
+impl<'a, A: Allocator> MultiConfigurationStringIter<'a, A> {
+    ghost use Rattle.uefi_hii.specs.Views.{uncut_pairs};
+
+    /// The configurations of the text. This takes no memory.
+    pub fn new(alloc: A, text: &'a str) -> MultiConfigurationStringIter<'a, A>
+        ensures pairs { uncut_pairs result ≡ pairs text.now }
+        ensures countable { length (uncut_pairs result) < 2 ^ 64 }
+    {
+        MultiConfigurationStringIter {
+            alloc,
+            pairs: ConfigurationStringIter::new(text),
+        }
+    }
+}
+
+impl<'a, A: Allocator + Copy> Iterator for MultiConfigurationStringIter<'a, A> {
+    ghost use Rattle.std.specs.Iterator.{item_count};
+    ghost use Rattle.uefi_hii.specs.Reading.{YieldsGroup};
+    ghost use Rattle.uefi_hii.specs.Views.{uncut_pairs};
+
+    type Item = Result<ConfigurationString<A>, ParseError>;
+
+    ghost next_gives = { YieldsGroup };
+
+    ghost remaining = { item_count uncut_pairs };
+
+    fn next(&mut self) -> Option<Result<ConfigurationString<A>, ParseError>> {
+        if has_no_pair(&self.pairs) {
+            return None;
+        }
+        let result = read_group(self.alloc, &mut self.pairs);
+        if is_memory(&result) {
+            self.pairs = ConfigurationStringIter::new("");
+        }
+        Some(result)
+    }
+}
+
+/// All configurations of a text, and its errors, in order: an item for each group of pairs, as
+/// [`MultiConfigurationStringIter`] gives them.
+///
+/// # Errors
+///
+/// [`AllocError`] if an allocation fails. So no item is [`ParseError::Memory`].
+pub fn parse_all<A: Allocator + Copy>(
+    alloc: A,
+    text: &str,
+) -> Result<Vec<Result<ConfigurationString<A>, ParseError>, A>, AllocError>
+    ensures cut { IfOk result (λ all. AreResults text.now all.items) }
+    ensures only { IfOk result (λ all. (parts : List Part) → Cut text.now parts
+        → map result_of all.items ≡ results_of parts) }
+{
+    let mut all = Vec::new(alloc);
+    let mut configurations = MultiConfigurationStringIter::new(alloc, text);
+    while let Some(result) = configurations.next() {
+        if is_memory(&result) {
+            return Err(AllocError);
+        }
+        all.push(result)?;
+    }
+    Ok(all)
+}
+
+/// Whether an allocation failed.
+fn is_memory<A: Allocator>(item: &Result<ConfigurationString<A>, ParseError>) -> bool
+    ensures { MatchBool result (item.now ≡ Err Memory) (item.now ≢ Err Memory) }
+{
+    matches!(item, Err(ParseError::Memory))
+}

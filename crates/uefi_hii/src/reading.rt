@@ -1,0 +1,112 @@
+//! The readers of a group of pairs: a header, and then elements.
+
+ghost use Rattle.std.specs.Prelude.{◌≡◌, ◌≢◌, [], IfOk, reverse};
+ghost use Rattle.uefi_hii.specs.Hex.{hex};
+ghost use Rattle.uefi_hii.specs.Reading.{TakesGroup};
+ghost use Rattle.uefi_hii.specs.Taking.{TakesHeader, TakesElement};
+ghost use Rattle.uefi_hii.specs.Views.{pairs_left};
+
+use crate::configuration::{ConfigurationString, ConfigurationStringElement};
+use crate::error::{ConfigHdrSection, ParseError};
+use crate::hex::HexBytes;
+use crate::keys;
+use crate::pairs::ConfigurationStringIter;
+use crate::taking::{
+    has_no_pair, is_at, skip_pairs, take_alt_cfg_id, take_guid, take_name, take_number, take_path,
+    take_value,
+};
+use std::alloc::{AllocError, Allocator};
+
+impl From<AllocError> for ParseError {
+    ghost use Rattle.std.specs.Prelude.{◌≡◌};
+    ghost use Rattle.uefi_hii.specs.declared.error.ParseError.TheVariants.{Memory};
+
+    ghost from_gives = { λ _ error. error ≡ Memory };
+
+    fn from(_error: AllocError) -> ParseError {
+        ParseError::Memory
+    }
+}
+
+/// The configuration or the error of the group that the pairs begin with. What is left are the
+/// pairs after the group.
+pub(crate) fn read_group<A: Allocator + Copy>(
+    alloc: A,
+    pairs: &mut ConfigurationStringIter<'_>,
+) -> Result<ConfigurationString<A>, ParseError>
+    requires { pairs_left pairs.old ≢ [] }
+    ensures { TakesGroup (pairs_left pairs.old) result (pairs_left pairs.new) }
+{
+    let mut configuration = read_header(alloc, pairs)?;
+    if has_no_pair(pairs) {
+        return Ok(configuration);
+    }
+    loop {
+        let element = read_element(alloc, pairs)?;
+        if configuration.elements.push(element).is_err() {
+            return Err(ParseError::Memory);
+        }
+        if !is_at(pairs, keys::OFFSET) {
+            return Ok(configuration);
+        }
+    }
+}
+
+/// The header that the pairs begin with, as a configuration without elements yet.
+fn read_header<A: Allocator + Copy>(
+    alloc: A,
+    pairs: &mut ConfigurationStringIter<'_>,
+) -> Result<ConfigurationString<A>, ParseError>
+    requires { pairs_left pairs.old ≢ [] }
+    ensures { TakesHeader (pairs_left pairs.old) result (pairs_left pairs.new) }
+{
+    let Some(guid) = take_guid(pairs) else {
+        return Err(ParseError::ConfigHdr(ConfigHdrSection::Guid));
+    };
+    let Some(name) = take_name(alloc, pairs)? else {
+        return Err(ParseError::ConfigHdr(ConfigHdrSection::Name));
+    };
+    let Some(device_path) = take_path(alloc, pairs)? else {
+        return Err(ParseError::ConfigHdr(ConfigHdrSection::Path));
+    };
+    let alt_cfg_id = take_alt_cfg_id(pairs)?;
+    Ok(ConfigurationString {
+        guid,
+        name,
+        device_path,
+        alt_cfg_id,
+        elements: Vec::new(alloc),
+    })
+}
+
+/// The element that the pairs begin with. The pairs that it skips are taken too.
+fn read_element<A: Allocator + Copy>(
+    alloc: A,
+    pairs: &mut ConfigurationStringIter<'_>,
+) -> Result<ConfigurationStringElement<A>, ParseError>
+    ensures { TakesElement (pairs_left pairs.old) result (pairs_left pairs.new) }
+{
+    let Some(offset) = take_number(pairs, keys::OFFSET) else {
+        return Err(ParseError::BlockName);
+    };
+    let Some(width) = take_number(pairs, keys::WIDTH) else {
+        return Err(ParseError::BlockName);
+    };
+    let Some(text) = take_value(pairs, keys::VALUE) else {
+        return Err(ParseError::BlockConfig);
+    };
+    let value = reversed_bytes(alloc, text)?;
+    skip_pairs(pairs);
+    Ok(ConfigurationStringElement {
+        offset,
+        width,
+        value,
+    })
+}
+
+/// The bytes that a text spells, the last first.
+fn reversed_bytes<A: Allocator>(alloc: A, text: &str) -> Result<Vec<u8, A>, AllocError>
+    ensures { IfOk result (λ bytes. bytes.items ≡ reverse (hex text.now)) }
+{
+    HexBytes::new(text).rev().collect(alloc)
+}

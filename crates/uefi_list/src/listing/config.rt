@@ -1,0 +1,166 @@
+ghost use Rattle.std.specs.Prelude.{◌≡◌, ◌≢◌, List, [], Err, flat_map, string_bytes, IfOk, OnOk};
+ghost use Rattle.uefi_hii.specs.declared.error.ParseError.TheVariants.{Memory};
+ghost use Rattle.uefi_hii.specs.Cut.{Part, Cut, results_of};
+ghost use Rattle.uefi_hii.specs.Views.{configuration_of, element_of, result_of};
+ghost use Rattle.uefi_list.specs.Listing.Text.{AppendsText};
+ghost use Rattle.uefi_list.specs.Listing.Config.{alt_line, config_lines, configuration_lines, element_line, fault_line, header_lines, item_lines, section_name, ConfigListing};
+
+use super::Outcome;
+use super::hex_text::{Hex, gap_before};
+use std::alloc::{AllocError, Allocator};
+use uefi_hii::{
+    ConfigHdrSection, ConfigurationString, ConfigurationStringElement,
+    MultiConfigurationStringIter, ParseError,
+};
+
+/// Lists the configurations of the text that the bytes are, one after another: none is kept once
+/// its lines stand in the listing.
+pub(super) fn list<A: Allocator + Copy>(
+    text: &mut String<A>,
+    alloc: A,
+    bytes: &[u8],
+) -> Result<Outcome, AllocError>
+    requires empty { string_bytes text.old ≡ [] }
+    ensures { IfOk result (λ outcome. ConfigListing bytes.now (string_bytes text.new) outcome) }
+{
+    match str::from_utf8(bytes) {
+        Ok(configurations) => {
+            push_items(text, alloc, configurations)?;
+            Ok(Outcome::Listed)
+        }
+        Err(_) => {
+            writeln!(text, "refused NotUtf8")?;
+            Ok(Outcome::Refused)
+        }
+    }
+}
+
+/// Appends the lines of all configurations and faults of a text, and their count.
+fn push_items<A: Allocator + Copy>(
+    text: &mut String<A>,
+    alloc: A,
+    input: &str,
+) -> Result<(), AllocError>
+    ensures { OnOk result ((parts : List Part) × Cut input.now parts
+        × AppendsText text.old text.new (config_lines (results_of parts))) }
+{
+    let mut items = MultiConfigurationStringIter::new(alloc, input);
+    let mut count = 0usize;
+    while let Some(item) = items.next() {
+        push_item(text, &item)?;
+        count += 1;
+    }
+    writeln!(text, "items {count}")?;
+    Ok(())
+}
+
+/// Appends the lines of a configuration, or that of the fault in its place.
+fn push_item<A: Allocator>(
+    text: &mut String<A>,
+    item: &Result<ConfigurationString<A>, ParseError>,
+) -> Result<(), AllocError>
+    ensures memory { OnOk result (item.now ≢ Err Memory) }
+    ensures lines { OnOk result
+        (AppendsText text.old text.new (item_lines (result_of item.now))) }
+{
+    match item {
+        Ok(configuration) => push_configuration(text, configuration),
+        Err(ParseError::Memory) => Err(AllocError),
+        Err(fault) => push_fault(text, *fault),
+    }
+}
+
+/// Appends the lines of a configuration: its header, and its elements.
+fn push_configuration<A: Allocator>(
+    text: &mut String<A>,
+    configuration: &ConfigurationString<A>,
+) -> Result<(), AllocError>
+    ensures { OnOk result (AppendsText text.old text.new
+        (configuration_lines (configuration_of configuration.now))) }
+{
+    push_header(text, configuration)?;
+    push_alt(text, configuration.alt_cfg_id)?;
+    push_elements(text, configuration.elements.as_slice())?;
+    Ok(())
+}
+
+/// Appends the lines of the GUID, the name and the path of a configuration.
+fn push_header<A: Allocator>(
+    text: &mut String<A>,
+    configuration: &ConfigurationString<A>,
+) -> Result<(), AllocError>
+    ensures { let c = configuration_of configuration.now in
+        OnOk result (AppendsText text.old text.new (header_lines c.guid c.name c.path)) }
+{
+    let (guid, name) = (configuration.guid, configuration.name.as_str());
+    let length = configuration.device_path.as_path().as_bytes().len();
+    writeln!(text, "config {guid}\n  name {name}\n  path {length}")
+}
+
+/// Appends the line of the identifier of an alternative configuration.
+#[tactic(auto, unfolding(crate::specs::Listing::Config::alt_line))]
+fn push_alt<A: Allocator>(text: &mut String<A>, alt_cfg_id: Option<u16>) -> Result<(), AllocError>
+    ensures { OnOk result (AppendsText text.old text.new (alt_line alt_cfg_id)) }
+{
+    match alt_cfg_id {
+        Some(id) => writeln!(text, "  alt {id}"),
+        None => Ok(()),
+    }
+}
+
+/// Appends a line for each element.
+fn push_elements<A: Allocator>(
+    text: &mut String<A>,
+    elements: &[ConfigurationStringElement<A>],
+) -> Result<(), AllocError>
+    ensures { OnOk result (AppendsText text.old text.new
+        (flat_map (λ element. element_line (element_of element)) elements.now)) }
+{
+    for element in elements {
+        push_element(text, element)?;
+    }
+    Ok(())
+}
+
+/// Appends the line of an element.
+fn push_element<A: Allocator>(
+    text: &mut String<A>,
+    element: &ConfigurationStringElement<A>,
+) -> Result<(), AllocError>
+    ensures { OnOk result (AppendsText text.old text.new (element_line (element_of element.now))) }
+{
+    let (offset, width) = (element.offset, element.width);
+    let (gap, value) = (
+        gap_before(element.value.as_slice()),
+        Hex(element.value.as_slice()),
+    );
+    writeln!(text, "  element {offset} {width}{gap}{value}")
+}
+
+/// Appends the line that names a fault. Running out of memory is none, and has no line.
+#[tactic(auto, unfolding(crate::specs::Listing::Config::fault_line))]
+fn push_fault<A: Allocator>(text: &mut String<A>, fault: ParseError) -> Result<(), AllocError>
+    ensures { OnOk result (AppendsText text.old text.new (fault_line fault)) }
+{
+    match fault {
+        ParseError::ConfigHdr(part) => {
+            let name = section_name(part);
+            writeln!(text, "fault ConfigHdr({name})")
+        }
+        ParseError::BlockName => writeln!(text, "fault BlockName"),
+        ParseError::BlockConfig => writeln!(text, "fault BlockConfig"),
+        ParseError::Memory => Ok(()),
+    }
+}
+
+/// The name of a part of a header.
+fn section_name(part: ConfigHdrSection) -> &'static str
+    ensures { result.now ≡ section_name part }
+{
+    match part {
+        ConfigHdrSection::Guid => "Guid",
+        ConfigHdrSection::Name => "Name",
+        ConfigHdrSection::Path => "Path",
+        ConfigHdrSection::DescHdr => "DescHdr",
+    }
+}

@@ -1,0 +1,6 @@
+pub mod Fields
+pub mod Parts
+pub mod Strides
+pub mod StrideFree
+pub mod Refused
+pub mod WorkedRows

@@ -1,0 +1,9 @@
+pub mod Descriptor
+pub mod Map
+pub mod Flags
+pub mod Texts
+pub mod Views
+pub mod Lending
+pub mod Laws
+pub mod Rows
+pub mod Keeping

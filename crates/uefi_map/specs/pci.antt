@@ -1,0 +1,5 @@
+pub mod Resource
+pub mod ResourceList
+pub mod Views
+pub mod Laws
+pub mod Rows
