@@ -105,14 +105,17 @@ written_alone = record {
 
 -- What file information records are compared by starts with the bytes before the name, and ends with the name.
 header_in_key : (info : FileInfo) → take file_name_offset (file_info_key info) ≡ take file_name_offset (file_info_view info)
+unfolding file_info_key
 header_in_key info =
     take_at (file_header_of info) (file_name_of info) file_name_offset (length-file_header (stated_size info) (file_fields_of info))
     ∙ sym (header_back (file_info_view info) info.are_bytes info.named.before)
 
 name_in_key : (info : FileInfo) → drop file_name_offset (file_info_key info) ≡ file_name_of info
+unfolding file_info_key
 name_in_key info = drop_at (file_header_of info) (file_name_of info) file_name_offset (length-file_header (stated_size info) (file_fields_of info))
 
 pub equal_files : EqualFiles
+unfolding file_info_key
 equal_files = record {
   keys = λ one other. (
     λ same.

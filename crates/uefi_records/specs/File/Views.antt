@@ -28,7 +28,7 @@ file_name_of info = units_from file_name_offset (file_info_view info)
 abbrev pub file_header_of : FileInfo → List ℕ
 file_header_of info = file_header (stated_size info) (file_fields_of info)
 
-abbrev pub file_info_key : FileInfo → List ℕ
+unfoldable pub file_info_key : FileInfo → List ℕ
 file_info_key info = file_header_of info ++ file_name_of info
 
 -- The fields that are passed to a writer.
