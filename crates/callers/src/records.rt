@@ -1,18 +1,31 @@
 ghost use Rattle.std.specs.Prelude.{◌≡◌, ◌↔◌, ◌≤◌, ℕ, List, Some, length, take, IsTrue, OnOk, OnErr, IfSome};
 ghost use Rattle.uefi_base.specs.Buffer.{put_prefix};
+ghost use Rattle.uefi_base.specs.Flags.{has_bits};
 ghost use Rattle.uefi_base.specs.Unaligned.{unit_bytes};
-ghost use Rattle.uefi_base.specs.Views.{text_units};
-ghost use Rattle.uefi_records.specs.File.FileInfo.{file_info_verdict};
+ghost use Rattle.uefi_base.specs.Views.{slice_units, text_units};
+ghost use Rattle.uefi_records.specs.Flags.Named.{directory_attribute};
+ghost use Rattle.uefi_records.specs.File.Name.{FitName};
+ghost use Rattle.uefi_records.specs.File.FileInfo.{file_fields, file_info_verdict};
 ghost use Rattle.uefi_records.specs.File.FileSystemInfo.{volume_label_size};
 ghost use Rattle.uefi_records.specs.File.Verdict.{accepted};
-ghost use Rattle.uefi_records.specs.File.Views.{file_info_key};
+ghost use Rattle.uefi_records.specs.File.Views.{file_fields_of, file_name_of, stated_size};
 
-use uefi_base::CStr16;
+use uefi_base::{CStr16, UnalignedSlice};
+use uefi_records::laws::equal_files;
 use uefi_records::{
     FileInfo, FileInfoCreationError, FileSystemVolumeLabel, write_file_system_volume_label,
 };
 
-/// How many units the name has of the file on which information stands in what was written.
+/// Whether the file is a directory whose record stands in the written bytes.
+pub fn is_directory_in(buffer: &[u8], written: usize) -> Option<bool>
+    ensures { IfSome result (λ is_directory. is_directory
+        ≡ has_bits (file_fields buffer.now).attribute directory_attribute) }
+{
+    let info = FileInfo::from_uefi(buffer, written).ok()?;
+    Some(info.is_directory())
+}
+
+/// How many units the name has of the file whose record stands in the written bytes.
 pub fn name_length(buffer: &[u8], written: usize) -> Option<usize>
     ensures { (name : List ℕ) →
         file_info_verdict (take written buffer.now) (length buffer.now) ≡ accepted name →
@@ -22,7 +35,14 @@ pub fn name_length(buffer: &[u8], written: usize) -> Option<usize>
     Some(info.file_name().len())
 }
 
-/// Whether a label fits the storage: exactly where its record's size is at most the storage's.
+/// The units of a file's name, of which the last is zero, and no other is.
+pub fn name_of<'a>(info: &FileInfo<'a>) -> UnalignedSlice<'a>
+    ensures { FitName (slice_units result) }
+{
+    info.file_name()
+}
+
+/// Whether a label fits the storage: exactly if its record's size is at most the storage's.
 pub fn label_fits(storage: &mut [u8], label: &CStr16<'_>) -> bool
     ensures { IsTrue result
         ↔ (volume_label_size (length (text_units label.now)) ≤ length storage.old) }
@@ -30,7 +50,7 @@ pub fn label_fits(storage: &mut [u8], label: &CStr16<'_>) -> bool
     FileSystemVolumeLabel::new(storage, label).is_ok()
 }
 
-/// Writes a label where it fits, and leaves the buffer as it was where it doesn't.
+/// Writes a label if it fits, and leaves the buffer as it was if it doesn't.
 pub fn label_written(buffer: &mut [u8], label: &CStr16<'_>) -> Result<(), FileInfoCreationError>
     ensures written { OnOk result
         (buffer.new ≡ put_prefix (unit_bytes (text_units label.now)) buffer.old) }
@@ -40,10 +60,14 @@ pub fn label_written(buffer: &mut [u8], label: &CStr16<'_>) -> Result<(), FileIn
     Ok(())
 }
 
-/// Whether two records on files are equal: exactly where their fields and names are.
+/// Whether two file information records are equal: exactly if their accessors return the same.
 pub fn is_same_file(info: &FileInfo<'_>, other: &FileInfo<'_>) -> bool
-    ensures { IsTrue result ↔ (file_info_key info.now ≡ file_info_key other.now) }
+    ensures { IsTrue result
+        ↔ ((stated_size info.now ≡ stated_size other.now)
+        × (file_fields_of info.now ≡ file_fields_of other.now)
+        × (file_name_of info.now ≡ file_name_of other.now)) }
 {
+    equal_files();
     info == other
 }
 

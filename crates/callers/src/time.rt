@@ -10,6 +10,7 @@ use uefi_records::laws::one_time;
 use uefi_records::{Daylight, FileAttribute, Time, TimeByteConversionError, TimeError, TimeParams};
 
 /// A time written and read again: the same time, with zeros in its padding.
+#[tactic(auto, unfolding(uefi_records::specs::Time::Fields::time_bytes))]
 pub fn read_back(time: &Time) -> Result<Time, TimeByteConversionError>
     ensures { IfOk result (λ again. time_of again ≡ without_pads (time_of time.now)) }
 {
