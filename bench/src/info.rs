@@ -10,21 +10,21 @@ unsafe extern "C" {
 const NAME_OFFSET: usize = 80;
 const ALIGNMENT: usize = 8;
 
-struct FileInfo<'a> {
+pub struct FileInfo<'a> {
     bytes: &'a [u8],
 }
 
 impl<'a> FileInfo<'a> {
     /// The record in the first `written` bytes, up to its name's NUL, where the buffer has room for
     /// all of it.
-    fn read(buffer: &'a [u8], written: usize) -> Option<FileInfo<'a>> {
+    pub fn read(buffer: &'a [u8], written: usize) -> Option<FileInfo<'a>> {
         let name = buffer.get(..written.min(buffer.len()))?.get(NAME_OFFSET..)?;
         let nul = name.chunks_exact(2).position(|unit| u16::from_le_bytes([unit[0], unit[1]]) == 0)?;
         let end = NAME_OFFSET + 2 * (nul + 1);
         (end.next_multiple_of(ALIGNMENT) <= buffer.len()).then(|| FileInfo { bytes: &buffer[..end] })
     }
 
-    fn name(&self) -> &'a [u8] {
+    pub fn name(&self) -> &'a [u8] {
         &self.bytes[NAME_OFFSET..]
     }
 }
@@ -34,7 +34,7 @@ fn read_info(bytes: &[u8]) -> u64 {
 }
 
 /// Information on a file with a name of so many units and the NUL.
-fn make_info(units: usize) -> Vec<u8> {
+pub fn make_info(units: usize) -> Vec<u8> {
     let mut random = Random::new();
     let mut bytes = vec![0; NAME_OFFSET];
     for _ in 0..units {

@@ -9,7 +9,7 @@ unsafe extern "C" {
 }
 
 const LENGTH: usize = 40;
-const STRIDE: usize = 48;
+pub const STRIDE: usize = 48;
 
 unsafe extern "C" fn port_entries(bytes: *const u8, length: usize) -> u64 {
     unsafe { port_map(bytes, length, STRIDE) }
@@ -20,7 +20,7 @@ unsafe extern "C" fn port_order(bytes: *const u8, length: usize) -> u64 {
 }
 
 #[derive(Clone, Copy)]
-struct Descriptor<'a> {
+pub struct Descriptor<'a> {
     bytes: &'a [u8; LENGTH],
 }
 
@@ -29,28 +29,36 @@ impl Descriptor<'_> {
         u64::from_le_bytes(self.bytes[place..place + 8].try_into().unwrap())
     }
 
-    fn ty(&self) -> u32 {
+    pub fn ty(&self) -> u32 {
         u32::from_le_bytes(self.bytes[..4].try_into().unwrap())
     }
 
-    fn phys_start(&self) -> u64 {
+    pub fn phys_start(&self) -> u64 {
         self.u64_at(8)
     }
 
-    fn page_count(&self) -> u64 {
+    pub fn virt_start(&self) -> u64 {
+        self.u64_at(16)
+    }
+
+    pub fn page_count(&self) -> u64 {
         self.u64_at(24)
+    }
+
+    pub fn attributes(&self) -> u64 {
+        self.u64_at(32)
     }
 }
 
 #[derive(Clone, Copy)]
-struct Map<'a> {
+pub struct Map<'a> {
     buffer: &'a [u8],
     stride: usize,
     length: usize,
 }
 
 impl<'a> Map<'a> {
-    fn new(buffer: &'a [u8], stride: usize) -> Option<Map<'a>> {
+    pub fn new(buffer: &'a [u8], stride: usize) -> Option<Map<'a>> {
         if stride < LENGTH || stride % 8 != 0 || buffer.len() % stride != 0 {
             return None;
         }
@@ -65,13 +73,13 @@ impl<'a> Map<'a> {
         Some(Descriptor { bytes })
     }
 
-    fn entries(&self) -> Entries<'a> {
+    pub fn entries(&self) -> Entries<'a> {
         Entries { map: *self, index: 0 }
     }
 }
 
 #[derive(Clone)]
-struct Entries<'a> {
+pub struct Entries<'a> {
     map: Map<'a>,
     index: usize,
 }
@@ -109,7 +117,7 @@ fn read_order(bytes: &[u8]) -> u64 {
 }
 
 /// Descriptors in order, at a stride of 48 bytes.
-fn make_map(count: usize) -> Vec<u8> {
+pub fn make_map(count: usize) -> Vec<u8> {
     let mut random = Random::new();
     let mut bytes = Vec::new();
     let mut start = 0u64;

@@ -15,7 +15,7 @@ const END_ENTIRE: u8 = 0xff;
 const HEADER: usize = 4;
 
 #[derive(Clone, Copy)]
-struct Node<'a> {
+pub struct Node<'a> {
     bytes: &'a [u8],
 }
 
@@ -31,21 +31,25 @@ impl<'a> Node<'a> {
         })
     }
 
-    fn device_type(&self) -> u8 {
+    pub fn device_type(&self) -> u8 {
         self.bytes[0]
+    }
+
+    pub fn sub_type(&self) -> u8 {
+        self.bytes[1]
     }
 
     fn is_end_entire(&self) -> bool {
         self.bytes[0] == END && self.bytes[1] == END_ENTIRE
     }
 
-    fn data(&self) -> &'a [u8] {
+    pub fn data(&self) -> &'a [u8] {
         &self.bytes[HEADER..]
     }
 }
 
 #[derive(Clone, Copy)]
-enum Stop {
+pub enum Stop {
     AnyEnd,
     EndEntire,
 }
@@ -60,7 +64,7 @@ impl Stop {
 }
 
 /// The bytes of the nodes up to the first at which it stops, and the bytes after them.
-fn split(bytes: &[u8], stop: Stop) -> Option<(&[u8], &[u8])> {
+pub fn split(bytes: &[u8], stop: Stop) -> Option<(&[u8], &[u8])> {
     let mut at = 0;
     loop {
         let node = Node::first(&bytes[at..])?;
@@ -71,9 +75,9 @@ fn split(bytes: &[u8], stop: Stop) -> Option<(&[u8], &[u8])> {
     }
 }
 
-struct Nodes<'a> {
-    rest: &'a [u8],
-    stop: Stop,
+pub struct Nodes<'a> {
+    pub rest: &'a [u8],
+    pub stop: Stop,
 }
 
 impl<'a> Iterator for Nodes<'a> {
@@ -90,8 +94,8 @@ impl<'a> Iterator for Nodes<'a> {
     }
 }
 
-struct Instances<'a> {
-    rest: &'a [u8],
+pub struct Instances<'a> {
+    pub rest: &'a [u8],
 }
 
 impl<'a> Iterator for Instances<'a> {
@@ -136,7 +140,7 @@ fn read_instances(bytes: &[u8]) -> u64 {
 }
 
 /// A path of a million nodes with data of 0 to 24 bytes. Each 50th ends an instance.
-fn make_path(nodes: usize) -> Vec<u8> {
+pub fn make_path(nodes: usize) -> Vec<u8> {
     let mut random = Random::new();
     let mut bytes = Vec::new();
     for i in 1..nodes {

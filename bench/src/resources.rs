@@ -8,29 +8,28 @@ unsafe extern "C" {
 }
 
 const RECORD_TAG: u8 = 0x8a;
-const RECORD_LENGTH: usize = 46;
+pub const RECORD_LENGTH: usize = 46;
 const END_TAG: u8 = 0x79;
 
 #[derive(Clone, Copy)]
-enum RangeType {
+pub enum RangeType {
     Memory,
     Io,
     Bus,
-    Unknown(#[expect(dead_code, reason = "kept as the proved reader does")] u8),
+    Unknown(u8),
 }
 
-/// A range. The sum looks at one field, and the others are read as the proved reader does.
+/// A range.
 #[derive(Clone, Copy)]
-#[expect(dead_code, reason = "kept as the proved reader does")]
-struct Range {
-    range_type: RangeType,
-    general_flags: u8,
-    type_specific_flags: u8,
-    granularity: u64,
-    address_min: u64,
-    address_max: u64,
-    translation_offset: u64,
-    address_length: u64,
+pub struct Range {
+    pub range_type: RangeType,
+    pub general_flags: u8,
+    pub type_specific_flags: u8,
+    pub granularity: u64,
+    pub address_min: u64,
+    pub address_max: u64,
+    pub translation_offset: u64,
+    pub address_length: u64,
 }
 
 fn u64_at(record: &[u8; RECORD_LENGTH], place: usize) -> u64 {
@@ -40,7 +39,7 @@ fn u64_at(record: &[u8; RECORD_LENGTH], place: usize) -> u64 {
 }
 
 impl Range {
-    fn read(record: &[u8; RECORD_LENGTH]) -> Range {
+    pub fn read(record: &[u8; RECORD_LENGTH]) -> Range {
         Range {
             range_type: match record[3] {
                 0 => RangeType::Memory,
@@ -60,7 +59,7 @@ impl Range {
 }
 
 /// The bytes before the end tag, of which each tag and length is tested.
-fn records(bytes: &[u8]) -> Option<&[u8]> {
+pub fn records(bytes: &[u8]) -> Option<&[u8]> {
     let mut rest = bytes;
     loop {
         match *rest.first()? {
@@ -89,7 +88,7 @@ fn read_resources(bytes: &[u8]) -> u64 {
 }
 
 /// Ranges of all types, and the end tag.
-fn make_list(count: usize) -> Vec<u8> {
+pub fn make_list(count: usize) -> Vec<u8> {
     let mut random = Random::new();
     let mut bytes = Vec::new();
     for _ in 0..count {

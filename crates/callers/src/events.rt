@@ -1,5 +1,5 @@
 ghost use Rattle.std.specs.Prelude.{◌≡◌, ◌↔◌, ◌+◌, ◌<◌, ◌≤◌, ◌^◌, Some, length, IsTrue, OnOk, OnErr};
-ghost use Rattle.uefi_base.specs.Buffer.{put_front};
+ghost use Rattle.uefi_base.specs.Buffer.{put_prefix};
 ghost use Rattle.uefi_tcg.specs.v1.Event.{event_bytes, header_length};
 ghost use Rattle.uefi_tcg.specs.v1.Writing.{event_given};
 
@@ -17,7 +17,7 @@ pub fn write_loader_event(
     digest: Sha1Digest,
     event_data: &[u8],
 ) -> Result<(), Error<Option<usize>>>
-    ensures written { OnOk result (buffer.new ≡ put_front
+    ensures written { OnOk result (buffer.new ≡ put_prefix
         (event_bytes (event_given register (record { 0 = 13 }) digest event_data.now)) buffer.old) }
     ensures unchanged { OnErr result (buffer.new ≡ buffer.old) }
 {

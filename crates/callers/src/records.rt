@@ -1,5 +1,5 @@
 ghost use Rattle.std.specs.Prelude.{◌≡◌, ◌↔◌, ◌≤◌, ℕ, List, Some, length, take, IsTrue, OnOk, OnErr, IfSome};
-ghost use Rattle.uefi_base.specs.Buffer.{put_front};
+ghost use Rattle.uefi_base.specs.Buffer.{put_prefix};
 ghost use Rattle.uefi_base.specs.Unaligned.{unit_bytes};
 ghost use Rattle.uefi_base.specs.Views.{text_units};
 ghost use Rattle.uefi_records.specs.File.FileInfo.{file_info_verdict};
@@ -33,7 +33,7 @@ pub fn label_fits(storage: &mut [u8], label: &CStr16<'_>) -> bool
 /// Writes a label where it fits, and leaves the buffer as it was where it doesn't.
 pub fn label_written(buffer: &mut [u8], label: &CStr16<'_>) -> Result<(), FileInfoCreationError>
     ensures written { OnOk result
-        (buffer.new ≡ put_front (unit_bytes (text_units label.now)) buffer.old) }
+        (buffer.new ≡ put_prefix (unit_bytes (text_units label.now)) buffer.old) }
     ensures unchanged { OnErr result (buffer.new ≡ buffer.old) }
 {
     write_file_system_volume_label(buffer, label)?;

@@ -5,8 +5,6 @@
 #[cfg(test)]
 mod capabilities;
 #[cfg(test)]
-mod samples;
-#[cfg(test)]
 mod v1_cuts;
 #[cfg(test)]
 mod v1_logs;

@@ -1,5 +1,5 @@
-use crate::samples::LOG1;
 use std::test::Fail;
+use test_bytes::samples::LOG1;
 use test_bytes::{bytes, holds, same};
 use uefi_tcg::v1::EventLog;
 

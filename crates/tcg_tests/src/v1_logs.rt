@@ -1,6 +1,6 @@
-use crate::samples::{CRTM_VERSION, LOG1};
 use std::alloc::{AllocError, Global};
 use std::test::Fail;
+use test_bytes::samples::{CRTM_VERSION, LOG1};
 use test_bytes::{bytes, holds, same, same_text};
 use uefi_tcg::v1::{EventLog, EventLogIter};
 

@@ -28,6 +28,7 @@ ghost use Rattle.hex.specs.Hex.{decode_of};
 
 pub use self::checks::{holds, same, same_bytes, same_text};
 pub use self::tables::{each_gives, each_gives_in, each_holds, each_makes, each_reads, each_shows};
+
 use hex::FromHexError;
 use std::alloc::Global;
 

@@ -4,7 +4,7 @@ use Rattle.std.specs.List.{AllWithin, HoldsAt}
 use Rattle.std.specs.Option.{MatchOption}
 use Rattle.std.specs.Str.{chars, IsUtf8}
 use Rattle.std.proofs.lemmas.Bool.{and_parts}
-use Rattle.std.proofs.lemmas.List.{take_more, append-nil, length_push, get_or_read, get_or_append_left, get_or_push}
+use Rattle.std.proofs.lemmas.List.{take_all, take_more, append-nil, length_push, get_or_read, get_or_append_left, get_or_push}
 use Rattle.std.proofs.lemmas.Str.{encodes-append, scalars-chars}
 use Rattle.std.proofs.Math.Utf8.{encode, encodes, scalar, scalars, scalar_cases}
 use Rattle.uefi_base.specs.Ucs2.{IsSurrogate, IsUcs2Text, HasUnit, MakeUcs2Text}
@@ -25,6 +25,10 @@ pub units_more : (units others passed cs : List ℕ) (c : ℕ) → IsNext cs pas
 units_more units others passed cs c next before pushed =
     pushed ∙ ap (λ us. us ++ c ∷ []) before ∙ ap (λ d. take (length passed) cs ++ d ∷ []) next.1 ∙ sym (take_more cs (length passed) c next.0)
     ∙ ap (λ n. take n cs) (sym (length_push passed c))
+
+-- After all characters, the units are theirs, and the NUL is one more.
+pub units_all : (units others cs : List ℕ) (n : ℕ) → units ≡ take n cs → length cs ≤ n → others ≡ units ++ 0 ∷ [] → others ≡ cs ++ 0 ∷ []
+units_all units others cs n so_far all pushed = pushed ∙ ap (λ us. us ++ 0 ∷ []) (so_far ∙ take_all n cs all)
 
 -- The character of this turn has a unit of its own.
 pub has_unit : (passed cs : List ℕ) (c : ℕ) → MakeUcs2Text cs → IsNext cs passed c → c ≤ 0xffff

@@ -10,3 +10,4 @@ pub mod UnitsOfBytes
 pub mod WalkNames
 pub mod WriterArgs
 pub mod WriterWalk
+pub mod Written

@@ -1,9 +1,11 @@
 -- Parts that are written into a buffer one after another.
-use Rattle.std.proofs.Common.{◌≡◌, ℕ, ◌+◌, ◌*◌, ◌<◌, ◌≤◌, List, [], ◌∷◌, ◌++◌, length, get_or, take, drop, sym, ◌∙◌, ap, arith, append_assoc}
+use Rattle.std.proofs.Common.{◌≡◌, ℕ, ◌+◌, ◌*◌, ◌<◌, ◌≤◌, List, [], ◌∷◌, ◌++◌, length, get_or, take, drop, true, refl, sym, ◌∙◌, ap, arith, append_assoc}
+use Rattle.std.specs.Prelude.{nat_le}
+use Rattle.std.proofs.lemmas.Bool.Decides.{nat_tests}
 use Rattle.std.proofs.lemmas.Grind.{flat_map-append}
 use Rattle.std.proofs.lemmas.List.{take_at, take_more, take-append-drop, drop-drop, length-append, length-drop, length-take-le, append-nil}
 use Rattle.std.proofs.lemmas.Slice.{drop-append-drop}
-use Rattle.uefi_base.specs.Buffer.{put_at, put_front}
+use Rattle.uefi_base.specs.Buffer.{put_at, put_prefix}
 use Rattle.uefi_base.specs.LittleEndian.{u16_bytes}
 use Rattle.uefi_base.specs.Unaligned.{unit_bytes}
 use Rattle.uefi_base.proofs.UnitsBack.{units_read_back}
@@ -37,26 +39,49 @@ units_put offset i units bytes now within room so_far =
     ∙ ap (λ part. put_at offset part bytes) more
 
 -- Writing a part at offset 0 replaces the first bytes.
-put_at-zero : (part bytes : List ℕ) → put_at 0 part bytes ≡ put_front part bytes
+put_at-zero : (part bytes : List ℕ) → put_at 0 part bytes ≡ put_prefix part bytes
 put_at-zero part bytes = let plain : 0 + length part ≡ length part = omega arith in ap (λ n. part ++ drop n bytes) plain
 
 -- Writing the first part of a record, which equals the value.
-pub put_first : (part value bytes next : List ℕ) → part ≡ value → next ≡ put_at 0 part bytes → next ≡ put_front value bytes
-put_first part value bytes next known is = is ∙ put_at-zero part bytes ∙ ap (λ p. put_front p bytes) known
+pub put_first : (part value bytes next : List ℕ) → part ≡ value → next ≡ put_at 0 part bytes → next ≡ put_prefix value bytes
+put_first part value bytes next known is = is ∙ put_at-zero part bytes ∙ ap (λ p. put_prefix p bytes) known
 
 -- Writing the next part of a record after those that are done.
-pub put_more : (offset : ℕ) (done part value bytes now next : List ℕ) → now ≡ put_front done bytes → length done ≡ offset → offset ≤ length bytes → part ≡ value → next ≡ put_at offset part now
-    → next ≡ put_front (done ++ value) bytes
+pub put_more : (offset : ℕ) (done part value bytes now next : List ℕ) → now ≡ put_prefix done bytes → length done ≡ offset → offset ≤ length bytes → part ≡ value → next ≡ put_at offset part now
+    → next ≡ put_prefix (done ++ value) bytes
 put_more offset done part value bytes now next so_far sized within known is =
     let plain : offset ≡ 0 + length done = omega (arith, sized) in
     is ∙ ap (λ b. put_at offset part b) (so_far ∙ sym (put_at-zero done bytes)) ∙ ap (λ n. put_at n part (put_at 0 done bytes)) plain
-    ∙ put_next 0 done part bytes (omega (arith, sized, within)) ∙ put_at-zero (done ++ part) bytes ∙ ap (λ p. put_front (done ++ p) bytes) known
+    ∙ put_next 0 done part bytes (omega (arith, sized, within)) ∙ put_at-zero (done ++ part) bytes ∙ ap (λ p. put_prefix (done ++ p) bytes) known
 
--- Leaving the next n bytes of a record unchanged.
-pub put_skip : (n : ℕ) (done bytes now : List ℕ) → now ≡ put_front done bytes → length done + n ≤ length bytes → now ≡ put_front (done ++ take n (drop (length done) bytes)) bytes
-put_skip n done bytes now so_far within =
-    let rest : List ℕ = drop (length done) bytes in
-    let sized : length (done ++ take n rest) ≡ length done + n = length-append done (take n rest) ∙ ap (λ m. length done + m) (length-take-le n rest (omega (arith, length-drop (length done) bytes))) in
-    let cut : drop n rest ≡ drop (length (done ++ take n rest)) bytes = drop-drop n (length done) bytes ∙ ap (λ m. drop m bytes) (sym sized) in
-    so_far ∙ ap (λ r. done ++ r) (sym (take-append-drop n rest) ∙ ap (λ r. take n rest ++ r) cut)
-    ∙ sym (append_assoc done (take n rest) (drop (length (done ++ take n rest)) bytes))
+-- A buffer, whose room is tested once for all parts, with the first ones written; then one part more, or bytes that are left as they were.
+pub record HasPut (room offset : ℕ) (done old now : List ℕ) : Type 0 where
+  pub within : room ≤ length old
+  pub sized : length done ≡ offset
+  pub is : now ≡ put_prefix done old
+
+pub none_put : (room : ℕ) (old : List ℕ) → room ≤ length old → HasPut room 0 [] old old
+none_put room old within = record { within = within; sized = refl; is = refl }
+
+pub then_put : {room offset : ℕ} {done part value old now next : List ℕ} → HasPut room offset done old now → (n : ℕ) → length value ≡ n → nat_le offset room ≡ true → part ≡ value
+    → next ≡ put_at offset part now → HasPut room (offset + n) (done ++ value) old next
+then_put {room} {offset} {done} {part} {value} {old} {now} {next} so_far n sized before known is =
+    let reaches : offset ≤ length old = grind (arith, nat_tests, before, so_far.within) in
+    record {
+      within = so_far.within;
+      sized = length-append done value ∙ (λ i. so_far.sized i + sized i);
+      is = put_more offset done part value old now next so_far.is so_far.sized reaches known is;
+    }
+
+pub then_kept : {room offset : ℕ} {done old now : List ℕ} → HasPut room offset done old now → (n : ℕ) → nat_le (offset + n) room ≡ true → HasPut room (offset + n) (done ++ take n (drop offset old)) old now
+then_kept {room} {offset} {done} {old} {now} so_far n before =
+    let rest : List ℕ = drop offset old in
+    let reaches : offset + n ≤ length old = grind (arith, nat_tests, before, so_far.within) in
+    let sized : length (done ++ take n rest) ≡ offset + n = length-append done (take n rest) ∙ (λ i. so_far.sized i + length-take-le n rest (omega (arith, reaches, length-drop offset old)) i) in
+    let cut : drop n rest ≡ drop (length (done ++ take n rest)) old = drop-drop n offset old ∙ ap (λ m. drop m old) (sym sized) in
+    record {
+      within = so_far.within;
+      sized = sized;
+      is = so_far.is ∙ (λ i. done ++ drop (so_far.sized i) old) ∙ ap (λ r. done ++ r) (sym (take-append-drop n rest) ∙ ap (λ r. take n rest ++ r) cut)
+          ∙ sym (append_assoc done (take n rest) (drop (length (done ++ take n rest)) old));
+    }

@@ -1,4 +1,4 @@
--- The worked examples hold.
+-- The worked rows hold.
 use Rattle.std.proofs.Common.{◌≡◌, ℕ, zero, suc, ◌<◌, List, [], ◌∷◌, get_or, refl, arith, lit<, lit≤}
 use Rattle.std.proofs.lemmas.List.{length-replicate}
 use Rattle.uefi_base.specs.Ucs2.{IsSurrogate, IsCharacter, AreCharactersBefore, HaveUnitsBefore}

@@ -30,20 +30,24 @@ two_bytes_of_unit (low ∷ high ∷ rest) (suc k) within =
 pub unit_at : (bytes : List ℕ) (k : ℕ) → k < length (units_of bytes) → get_or (units_of bytes) k 0 ≡ u16_at bytes (2 * k)
 unit_at bytes k within = two_bytes_of_unit bytes k within ∙ sym (two_bytes bytes (2 * k))
 
+-- Twice the successor of k.
+twice : (k : ℕ) → 2 * suc k ≡ suc (suc (2 * k))
+twice k = omega arith
+
 -- The units of the first 2 k bytes are the first k units.
 units_of-take : (bytes : List ℕ) (k : ℕ) → units_of (take (2 * k) bytes) ≡ take k (units_of bytes)
 units_of-take bytes zero = refl
-units_of-take [] (suc k) = let twice : 2 * suc k ≡ suc (suc (2 * k)) = omega arith in rw twice
-units_of-take (low ∷ []) (suc k) = let twice : 2 * suc k ≡ suc (suc (2 * k)) = omega arith in rw twice
+units_of-take [] (suc k) = rw (twice k)
+units_of-take (low ∷ []) (suc k) = rw (twice k)
 units_of-take (low ∷ high ∷ rest) (suc k) =
-    let twice : 2 * suc k ≡ suc (suc (2 * k)) = omega arith in rw twice (ap (λ units. (low + 256 * high) ∷ units) (units_of-take rest k))
+    rw (twice k) (ap (λ units. (low + 256 * high) ∷ units) (units_of-take rest k))
 
 -- The units of the bytes after them are the other units.
 units_of-drop : (bytes : List ℕ) (k : ℕ) → units_of (drop (2 * k) bytes) ≡ drop k (units_of bytes)
 units_of-drop bytes zero = refl
-units_of-drop [] (suc k) = let twice : 2 * suc k ≡ suc (suc (2 * k)) = omega arith in rw twice
-units_of-drop (low ∷ []) (suc k) = let twice : 2 * suc k ≡ suc (suc (2 * k)) = omega arith in rw twice
-units_of-drop (low ∷ high ∷ rest) (suc k) = let twice : 2 * suc k ≡ suc (suc (2 * k)) = omega arith in rw twice (units_of-drop rest k)
+units_of-drop [] (suc k) = rw (twice k)
+units_of-drop (low ∷ []) (suc k) = rw (twice k)
+units_of-drop (low ∷ high ∷ rest) (suc k) = rw (twice k) (units_of-drop rest k)
 
 -- All of this, as the law states it.
 pub units_by_place : UnitsByPlace

@@ -8,8 +8,8 @@ abbrev pub put_at : ℕ → List ℕ → List ℕ → List ℕ
 put_at offset part bytes = take offset bytes ++ part ++ drop (offset + length part) bytes
 
 -- The bytes, with the first ones replaced by the part.
-abbrev pub put_front : List ℕ → List ℕ → List ℕ
-put_front part bytes = part ++ drop (length part) bytes
+abbrev pub put_prefix : List ℕ → List ℕ → List ℕ
+put_prefix part bytes = part ++ drop (length part) bytes
 
 -- What holds of a buffer at the end of its loan, if a view has borrowed it until then.
 abbrev pub EndsAs : MutBor (List ℕ) → (List ℕ → Type 0) → Fml

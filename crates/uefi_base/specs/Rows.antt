@@ -1,4 +1,4 @@
--- Worked examples of the definitions.
+-- Worked rows: examples of the definitions.
 use Rattle.std.specs.Prelude.{ℕ, ◌≡◌, ◌<◌, ◌^◌, [], ◌∷◌, codes, replicate}
 use Rattle.uefi_base.specs.declared.status.Status.TheVariants.{BUFFER_TOO_SMALL}
 use Rattle.uefi_base.specs.declared.text_error.FromSliceWithNulError.TheVariants.{TooLong, InvalidChar, InteriorNul, NotNulTerminated}
@@ -56,6 +56,6 @@ pub record NameRows : Type 0 where
       ≡ codes "09576e92-6d3f-11d2-8e39-00a0c969723b"
   pub status : status_code BUFFER_TOO_SMALL ≡ 0x8000000000000005
 
--- All examples hold.
+-- All rows hold.
 abbrev pub RowsHold : Type 0
 RowsHold = TextRows × FaultRows × OrderRows × CharacterRows × ByteRows × NameRows

@@ -27,8 +27,8 @@ pub fn units_by_place()
     ensures { UnitsByPlace }
 {}
 
-/// The definitions hold on worked rows: some units, some characters, some GUIDs and all statuses are
-/// what they should be. Each row is a theorem.
+/// The definitions hold on worked rows: examples of units, characters, numbers in bytes, a GUID and
+/// a status. Each row is a theorem.
 #[tactic(auto, using(crate::proofs::Rows::rows_hold))]
 pub fn worked_rows()
     ensures { RowsHold }

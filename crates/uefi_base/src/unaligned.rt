@@ -13,7 +13,7 @@ use crate::ucs2::{fault_of, is_character};
 use std::alloc::Allocator;
 use std::iter::{ExactSizeIterator, FusedIterator};
 
-/// A slice of 16-bit units in bytes, which may start at any address.
+/// A slice of 16-bit units (UEFI 2.10, 2.3.1, `CHAR16`) in bytes, which may start at any address.
 ///
 /// | offset | bytes | field |
 /// |---|---|---|

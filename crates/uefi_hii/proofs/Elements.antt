@@ -12,7 +12,7 @@ use Rattle.uefi_hii.specs.Hex.{hex}
 use Rattle.uefi_hii.specs.Pairs.{Pair}
 use Rattle.uefi_hii.specs.Configuration.{Configuration, IsSkipped, Spells, number_in, value_at}
 use Rattle.uefi_hii.specs.Slots.{Expects, IsKey, OffsetSlot, ValueSlot, WidthSlot}
-use Rattle.uefi_hii.specs.Group.{EndsBefore, Gives}
+use Rattle.uefi_hii.specs.Group.{EndsBefore}
 use Rattle.uefi_hii.specs.Cut.{first_pair}
 use Rattle.uefi_hii.specs.Views.{configuration_of, element_of}
 use Rattle.uefi_hii.specs.Reading.{TakesGroup}
@@ -43,20 +43,6 @@ after_header before left c h some = record {
     by_alt None alt q rest e =
         inl (header_good h.0 (configuration_of c) h.2 alt, λ key. h.4 alt (subst (λ s. IsKey (codes "ALTCFG") (first_pair s)) (sym e) key))
     by_alt (Some id) alt q rest e = inr (inl (header_with_alt_good h.0 (configuration_of c) id h.2 alt, refl))
-
--- A header is a configuration where no pair is left.
-pub header_alone : {A : Type 0} (before left : List Pair) (c : ConfigurationString A) → TakesHeader before (Ok c) left → left ≡ [] → TakesGroup before (Ok c) left
-header_alone before left c h none =
-    let s : Spells h.0 (configuration_of c) = spells_header h.0 (configuration_of c) h.2 (ap (map element_of) h.3) in
-    let gives : Gives h.0 (first_pair left) (Ok (configuration_of c)) = (s, subst (λ x. EndsBefore (first_pair x) (configuration_of c)) (sym none) tt) in
-    (h.0, h.1, record { not_empty = spells_some h.0 (configuration_of c) s; gives = gives })
-
--- A header that fails is a group that does.
-pub header_fails : (A : Type 0) (before after : List Pair) (e : ParseError) → TakesHeader {A = A} before (Err e) after → TakesGroup {A = A} before (Err e) after
-header_fails A before after (ConfigHdr s) h = h
-header_fails A before after BlockName h = h
-header_fails A before after BlockConfig h = h
-header_fails A before after Memory h = h
 
 -- A pair of the element is missing, so the group fails.
 misses_fails : (before left after : List Pair) (c : Configuration) (e : ParseError) → before ≢ [] → ComesBefore before left c → MissesElement left after e → TakesError before e after

@@ -25,6 +25,3 @@ fails_after slot before f rest after some e next none (inr m) = (
   e ∙ ap (λ s. f ++ s) m.1 ∙ sym (append_assoc f (m.0 ∷ []) after),
   record { not_empty = push_some f m.0; gives = (slot, refl, inl (f, m.0, refl, next m.0 m.1, m.2)) },
 )
-
-pub some_not_none : {A : Type 0} (x : A) → ◌≡◌ {A = Option A} (Some x) None → ⊥
-some_not_none x e = cc

@@ -38,6 +38,3 @@ hex_small (c ∷ d ∷ text) (suc i) = hex_small text i
 -- So is the first of them, and the second.
 pub first_small : (text rest : List ℕ) (byte : ℕ) → hex text ≡ byte ∷ rest → byte < 256
 first_small text rest byte e = subst (λ bytes. get_or bytes 0 0 < 256) e (hex_small text 0)
-
-pub second_small : (text rest : List ℕ) (first byte : ℕ) → hex text ≡ first ∷ byte ∷ rest → byte < 256
-second_small text rest first byte e = subst (λ bytes. get_or bytes 1 0 < 256) e (hex_small text 1)

@@ -14,5 +14,6 @@ pub mod Joined
 pub mod Failing
 pub mod Taken
 pub mod Skipping
+pub mod Headers
 pub mod Elements
 pub mod Wholes

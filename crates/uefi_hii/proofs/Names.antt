@@ -1,10 +1,9 @@
 -- A name read unit by unit.
-use Rattle.std.proofs.Common.{◌≡◌, ◌≢◌, ℕ, ◌+◌, ◌*◌, ◌<◌, ◌%◌, Bool, true, false, List, [], ◌∷◌, ◌++◌, length, refl, sym, ◌∙◌, ap, arith, append_assoc}
+use Rattle.std.proofs.Common.{◌≡◌, ◌≢◌, ℕ, ◌+◌, ◌*◌, ◌%◌, Bool, true, false, List, [], ◌∷◌, ◌++◌, length, refl, sym, ◌∙◌, ap}
 use Rattle.std.proofs.lemmas.List.{append-nil}
-use Rattle.std.specs.Prelude.{Option, Some, None, ◌&&◌, ◌==◌, if◌then◌else◌, encode_utf8_all, encode_utf8}
+use Rattle.std.specs.Prelude.{Option, Some, None, ◌&&◌, ◌==◌, if◌then◌else◌, encode_utf8_all}
 use Rattle.std.specs.List.{list_all}
-use Rattle.std.specs.Char.{OutOfScalarRange}
-use Rattle.std.proofs.lemmas.Bool.Decides.{nat_tests, Decides-eqb}
+use Rattle.std.proofs.lemmas.Bool.Decides.{Decides-eqb}
 use Rattle.uefi_hii.specs.Hex.{hex}
 use Rattle.uefi_hii.specs.Values.{is_even, is_name_unit, is_odd_byte_zero, name, units}
 
@@ -24,17 +23,6 @@ pub record HasNamed (all left so_far : List ℕ) : Type 0 where
   pub text : so_far ++ encode_utf8_all (units left) ≡ encode_utf8_all (units all)
   pub each : list_all is_name_unit (units left) ≡ list_all is_name_unit (units all)
   pub odd : is_odd_byte_zero left ≡ is_odd_byte_zero all
-
-pub named_none : (all : List ℕ) → HasNamed all all []
-named_none all = record { text = refl; each = refl; odd = refl }
-
-pub named_more : (all left text more : List ℕ) (a b : ℕ) → HasNamed all (a ∷ b ∷ left) text → is_name_unit (a * 256 + b) ≡ true → more ≡ text ++ encode_utf8 (a * 256 + b)
-    → HasNamed all left more
-named_more all left text more a b named good is = record {
-  text = ap (λ s. s ++ encode_utf8_all (units left)) is ∙ append_assoc text (encode_utf8 (a * 256 + b)) (encode_utf8_all (units left)) ∙ named.text;
-  each = ap (λ t. t && list_all is_name_unit (units left)) (sym good) ∙ named.each;
-  odd = named.odd;
-}
 
 -- The name of a value, by its three tests.
 abbrev name_by : List ℕ → Bool → Bool → Bool → Option (List ℕ)
@@ -74,10 +62,3 @@ named_bad value left text a b named bad =
 -- There is none of an odd number of characters.
 pub named_never : (value : List ℕ) → length value % 2 ≢ 0 → name value ≡ None
 named_never value odd = ap (λ t. name_by value t (is_odd_byte_zero (hex value)) (list_all is_name_unit (units (hex value)))) (differs (length value % 2) 0 odd)
-
--- A surrogate is no unit of a name, and zero is none.
-pub surrogate_is_bad : (unit : ℕ) → OutOfScalarRange unit → unit < 65536 → is_name_unit unit ≡ false
-surrogate_is_bad unit surrogate small = grind (arith, nat_tests)
-
-pub zero_is_bad : (unit : ℕ) → unit ≡ 0 → is_name_unit unit ≡ false
-zero_is_bad unit e = ap is_name_unit e

@@ -1,9 +1,8 @@
 -- A number read byte by byte.
-use Rattle.std.proofs.Common.{◌≡◌, ℕ, zero, suc, ◌+◌, ◌*◌, ◌<◌, ◌≤◌, List, [], ◌∷◌, length, refl, sym, ◌∙◌, ap, arith, true, false}
-use Rattle.std.specs.Prelude.{fold, Some, None, if◌then◌else◌}
+use Rattle.std.proofs.Common.{◌≡◌, ℕ, zero, suc, ◌+◌, ◌*◌, ◌<◌, ◌≤◌, List, ◌∷◌, length, refl, arith, true}
+use Rattle.std.specs.Prelude.{fold}
 use Rattle.std.proofs.lemmas.Bool.Decides.{nat_tests}
-use Rattle.uefi_hii.specs.Hex.{hex}
-use Rattle.uefi_hii.specs.Values.{big_endian, is_number_length, number}
+use Rattle.uefi_hii.specs.Values.{big_endian, is_number_length}
 
 -- The numbers of so many bytes are below it.
 pub limit : ℕ → ℕ
@@ -43,10 +42,3 @@ read_fits all left n byte read small short =
 
 pub at_most_eight : (n : ℕ) → is_number_length n ≡ true → n ≤ 8
 at_most_eight n e = grind (arith, nat_tests)
-
--- The number of a value, where its bytes are as many as a number has, and where they aren't.
-pub number_none : (value : List ℕ) → is_number_length (length (hex value)) ≡ false → number value ≡ None
-number_none value e = ap (λ t. if t then Some (big_endian (hex value)) else None) e
-
-pub number_some : (value : List ℕ) (n : ℕ) → is_number_length (length (hex value)) ≡ true → HasRead (hex value) [] n → number value ≡ Some n
-number_some value n e read = ap (λ t. if t then Some (big_endian (hex value)) else None) e ∙ ap Some (sym read.number)

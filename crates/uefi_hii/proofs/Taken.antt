@@ -1,5 +1,5 @@
 -- The next pair, taken for its value.
-use Rattle.std.proofs.Common.{◌≡◌, Bool, true, false, not, List, [], ◌∷◌, refl, sym, ◌∙◌, ap, inl, inr}
+use Rattle.std.proofs.Common.{◌≡◌, Bool, true, false, not, List, ◌∷◌, refl, ap, inr}
 use Rattle.std.specs.Prelude.{ℕ, Option, Some, None, IsSome, is_some, if◌then◌else◌}
 use Rattle.std.specs.Str.{bytes_eq}
 use Rattle.uefi_hii.specs.Pairs.{Pair}

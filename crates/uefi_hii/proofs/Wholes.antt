@@ -47,9 +47,6 @@ pub record HasCut {A : Type 0} (text : List ℕ) (left : List Pair) (items : Lis
   pub each : AreGroupsBefore parts left
   pub results : map result_of items ≡ results_of parts
 
-pub cut_none : (A : Type 0) (text : List ℕ) (left : List Pair) → left ≡ pairs text → HasCut {A = A} text left []
-cut_none A text left e = record { parts = []; whole = sym e; each = tt; results = refl }
-
 -- A group that was taken, unless memory ran out.
 taken : {A : Type 0} (before after : List Pair) (r : Result (ConfigurationString A) ParseError) → r ≢ Err Memory → TakesGroup before r after
     → (g : List Pair) × (before ≡ g ++ after) × Group g (first_pair after) (result_of r)

@@ -12,12 +12,10 @@ use crate::hex::HexBytes;
 use crate::keys;
 use crate::pairs::ConfigurationStringIter;
 use crate::taking::{
-    has_no_pair, is_at, skip_pairs, take_guid, take_name, take_number, take_path, take_value,
+    has_no_pair, is_at, skip_pairs, take_alt_cfg_id, take_guid, take_name, take_number, take_path,
+    take_value,
 };
 use std::alloc::{AllocError, Allocator};
-
-/// The value below which the identifier of an alternative configuration is kept.
-const ALT_CFG_ID_LIMIT: u64 = 1 << 16;
 
 impl From<AllocError> for ParseError {
     ghost use Rattle.std.specs.Prelude.{◌≡◌};
@@ -71,13 +69,7 @@ fn read_header<A: Allocator + Copy>(
     let Some(device_path) = take_path(alloc, pairs)? else {
         return Err(ParseError::ConfigHdr(ConfigHdrSection::Path));
     };
-    let mut alt_cfg_id = None;
-    if is_at(pairs, keys::ALTCFG) {
-        let Some(number) = take_number(pairs, keys::ALTCFG) else {
-            return Err(ParseError::ConfigHdr(ConfigHdrSection::DescHdr));
-        };
-        alt_cfg_id = Some((number % ALT_CFG_ID_LIMIT) as u16);
-    }
+    let alt_cfg_id = take_alt_cfg_id(pairs)?;
     Ok(ConfigurationString {
         guid,
         name,

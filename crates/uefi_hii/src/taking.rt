@@ -5,17 +5,20 @@ ghost use Rattle.std.specs.Bool.{MatchBool};
 ghost use Rattle.uefi_hii.specs.Configuration.{value_at, guid_in, name_in, number_in, IsSkipped};
 ghost use Rattle.uefi_hii.specs.Cut.{first_pair};
 ghost use Rattle.uefi_hii.specs.Slots.{IsKey};
-ghost use Rattle.uefi_hii.specs.Taking.{Takes, TakesPath, Skips, StopsAt};
+ghost use Rattle.uefi_hii.specs.Taking.{Takes, TakesPath, TakesAlt, Skips, StopsAt};
 ghost use Rattle.uefi_hii.specs.Views.{pair_view, pairs_left};
 
 use crate::configuration::ConfigurationString;
-use crate::error::ParseError;
+use crate::error::{ConfigHdrSection, ParseError};
 use crate::hex::HexBytes;
 use crate::keys;
 use crate::pairs::ConfigurationStringIter;
 use std::alloc::{AllocError, Allocator};
 use uefi_base::Guid;
 use uefi_path::{BoxedDevicePath, DevicePath};
+
+/// An identifier is below it: the low 16 bits of a number are kept.
+const ALT_CFG_ID_LIMIT: u64 = 1 << 16;
 
 /// Whether no pair is left.
 pub(crate) fn has_no_pair(pairs: &ConfigurationStringIter<'_>) -> bool
@@ -91,6 +94,21 @@ pub(crate) fn take_path<A: Allocator + Copy>(
     match DevicePath::try_from(bytes.as_slice()) {
         Ok(path) => Ok(Some(path.to_boxed(alloc)?)),
         Err(_) => Ok(None),
+    }
+}
+
+/// The identifier of an alternative configuration, if the next key is `ALTCFG`.
+pub(crate) fn take_alt_cfg_id(
+    pairs: &mut ConfigurationStringIter<'_>,
+) -> Result<Option<u16>, ParseError>
+    ensures { TakesAlt (pairs_left pairs.old) result (pairs_left pairs.new) }
+{
+    if !is_at(pairs, keys::ALTCFG) {
+        return Ok(None);
+    }
+    match take_number(pairs, keys::ALTCFG) {
+        Some(number) => Ok(Some((number % ALT_CFG_ID_LIMIT) as u16)),
+        None => Err(ParseError::ConfigHdr(ConfigHdrSection::DescHdr)),
     }
 }
 

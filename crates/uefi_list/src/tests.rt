@@ -1,5 +1,6 @@
 //! Worked rows, outputs that fail, and requests for memory that are refused.
 
+mod logs;
 mod map_rows;
 mod memory;
 mod resources;

@@ -3,7 +3,7 @@ pub mod Map
 pub mod Flags
 pub mod Texts
 pub mod Views
+pub mod Lending
 pub mod Laws
 pub mod Rows
 pub mod Keeping
-pub mod Lending

@@ -1,4 +1,4 @@
--- The worked examples hold.
+-- The worked rows hold.
 use Rattle.std.proofs.Common.{◌≡◌, ℕ, ◌+◌, ◌*◌, ◌<◌, ◌≤◌, List, [], ◌∷◌, ◌++◌, length, refl, ◌∙◌, ap, arith, lit<, lit≤, append_assoc, length-append}
 use Rattle.std.specs.Int.{w16, to_le_bytes, from_le_bytes}
 use Rattle.uefi_path.specs.declared.header.TheConstants.{HEADER_LENGTH}

@@ -1,4 +1,4 @@
--- Worked examples of the definitions: the bytes of some paths, and bytes that start with none.
+-- Worked rows, examples of the definitions: the bytes of some paths, and bytes that start with none.
 use Rattle.std.specs.Prelude.{◌≡◌, ℕ, List, [], ◌∷◌, ◌++◌}
 use Rattle.uefi_path.specs.Node.{Node, Fits, encoding, joined, HasNode}
 use Rattle.uefi_base.specs.Prefix.{IsPrefix}
@@ -71,6 +71,6 @@ pub record Nodes : Type 0 where
   pub long : ¬ HasNode (0xa0 ∷ 0xb0 ∷ 7 ∷ 0 ∷ 0x0a ∷ 0x0b ∷ [])
   pub short : ¬ HasNode (0xa0 ∷ 0xb0 ∷ 3 ∷ 0 ∷ 0x0a ∷ 0x0b ∷ [])
 
--- All examples hold.
+-- All rows hold.
 abbrev pub RowsHold : Type 0
 RowsHold = TwoInstances × AnyEnd × EndWithData × NoPath × Nodes

@@ -1,12 +1,11 @@
--- Records, their names and their writers.
-pub mod Equality
+-- Records: their names, their bytes and their writers.
+pub mod Names
 pub mod FirstZero
-pub mod Fronts
 pub mod Judging
-pub mod FileInfoWritten
-pub mod FileSystemInfoWritten
-pub mod VolumeLabelWritten
-pub mod ReadsBack
+pub mod Prefixes
+pub mod FieldsBack
+pub mod Equality
 pub mod RecordLaws
-pub mod Writing
 pub mod Written
+pub mod WriterNames
+pub mod FileInfoArgs

@@ -1,3 +1,2 @@
 -- Times and their bytes.
-pub mod OneTime
-pub mod TimeFront
+pub mod ReadBack

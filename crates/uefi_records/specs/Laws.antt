@@ -1,34 +1,45 @@
 -- Laws of times and of records.
-use Rattle.std.specs.Prelude.{◌≡◌, ℕ, ◌+◌, ◌*◌, ◌^◌, ◌<◌, ◌≤◌, List, ◌++◌, length, take}
-use Rattle.uefi_base.specs.Unaligned.{AreUnits, unit_bytes}
-use Rattle.uefi_records.specs.Time.Fields.{TimeFields, StandsIn}
-use Rattle.uefi_records.specs.File.Name.{IsName}
+use Rattle.std.specs.Prelude.{◌≡◌, ◌↔◌, ℕ, ◌^◌, ◌<◌, ◌≤◌, List, ◌++◌, length, take}
+use Rattle.uefi_base.specs.LittleEndian.{AreBytes}
+use Rattle.uefi_records.specs.declared.file.file_info.FileInfo.{FileInfo}
+use Rattle.uefi_records.specs.Time.Fields.{TimeFields, Fits, StandsIn, time_bytes, time_in, time_length}
+use Rattle.uefi_records.specs.File.Name.{FitName, record_end}
 use Rattle.uefi_records.specs.File.Verdict.{accepted, verdict}
-use Rattle.uefi_records.specs.File.FileInfo.{FileFields, FitFile, file_fields, file_info_bytes, file_info_size, file_info_verdict, size_in}
-use Rattle.uefi_records.specs.File.FileSystemInfo.{FileSystemFields, FitFileSystem, file_system_fields, file_system_info_bytes, file_system_info_size, file_system_info_verdict, volume_label_size, volume_label_verdict}
+use Rattle.uefi_records.specs.File.FileInfo.{FileFields, FitFile, file_fields, file_info_bytes, file_info_size, file_info_verdict, file_name_offset, size_in}
+use Rattle.uefi_records.specs.File.FileSystemInfo.{FileSystemFields, FitFileSystem, file_system_fields, file_system_info_bytes, file_system_info_size, file_system_info_verdict, label_offset, lone_label_offset, unused_length, volume_label_bytes, volume_label_size, volume_label_verdict}
+use Rattle.uefi_records.specs.File.Views.{stated_size, file_fields_of, file_name_of, file_info_key}
 
 -- At most one time stands in bytes.
 abbrev pub OneTime : Type 0
 OneTime = (one other : TimeFields) (bytes : List ℕ) → StandsIn one bytes → StandsIn other bytes → one ≡ other
 
--- A record that was written reads back: for every number of written bytes that reaches over its name, in every buffer that it fits, whatever the buffer holds after it.
+-- Times and their bytes determine each other: a time reads back from its bytes, and sixteen bytes are those of the time that is read from them.
+pub record TimesReadBack : Type 0 where
+  pub written : (time : TimeFields) (rest : List ℕ) → Fits time → time_in (time_bytes time ++ rest) ≡ time
+  pub read : (bytes : List ℕ) → AreBytes bytes → time_length ≤ length bytes → StandsIn (time_in bytes) bytes
+
+-- File information records are equal exactly if their accessors return the same: the stated size, the fields and the name.
+pub record EqualFiles : Type 0 where
+  pub keys : (one other : FileInfo) → (file_info_key one ≡ file_info_key other) ↔ ((stated_size one ≡ stated_size other) × (file_fields_of one ≡ file_fields_of other) × (file_name_of one ≡ file_name_of other))
+
+-- A record that was written reads back: for every number of written bytes that covers its name, in every buffer that it fits, whatever the buffer holds after it.
 abbrev pub FileInfoReadsBack : Type 0
-FileInfoReadsBack = (fields : FileFields) (name rest : List ℕ) (written : ℕ) → FitFile fields → IsName name → AreUnits name → file_info_size (length name) < 2 ^ 64
+FileInfoReadsBack = (fields : FileFields) (name rest : List ℕ) (written : ℕ) → FitFile fields → FitName name → file_info_size (length name) < 2 ^ 64
     → let buffer = file_info_bytes fields name ++ rest in
-    80 + 2 * length name ≤ written → file_info_size (length name) ≤ length buffer
+    record_end file_name_offset (length name) ≤ written → file_info_size (length name) ≤ length buffer
     → (file_info_verdict (take written buffer) (length buffer) ≡ accepted name) × (size_in buffer ≡ file_info_size (length name)) × (file_fields buffer ≡ fields)
 
 abbrev pub FileSystemInfoReadsBack : Type 0
-FileSystemInfoReadsBack = (fields : FileSystemFields) (unused label rest : List ℕ) (written : ℕ) → length unused ≡ 7 → FitFileSystem fields → IsName label → AreUnits label
+FileSystemInfoReadsBack = (fields : FileSystemFields) (unused label rest : List ℕ) (written : ℕ) → length unused ≡ unused_length → FitFileSystem fields → FitName label
     → file_system_info_size (length label) < 2 ^ 64
     → let buffer = file_system_info_bytes fields unused label ++ rest in
-    36 + 2 * length label ≤ written → file_system_info_size (length label) ≤ length buffer
+    record_end label_offset (length label) ≤ written → file_system_info_size (length label) ≤ length buffer
     → (file_system_info_verdict (take written buffer) (length buffer) ≡ accepted label) × (size_in buffer ≡ file_system_info_size (length label)) × (file_system_fields buffer ≡ fields)
 
 abbrev pub VolumeLabelReadsBack : Type 0
-VolumeLabelReadsBack = (label rest : List ℕ) (written : ℕ) → IsName label → AreUnits label
-    → let buffer = unit_bytes label ++ rest in
-    2 * length label ≤ written → volume_label_size (length label) ≤ length buffer
+VolumeLabelReadsBack = (label rest : List ℕ) (written : ℕ) → FitName label
+    → let buffer = volume_label_bytes label ++ rest in
+    record_end lone_label_offset (length label) ≤ written → volume_label_size (length label) ≤ length buffer
     → volume_label_verdict (take written buffer) (length buffer) ≡ accepted label
 
 pub record ReadsBack : Type 0 where
@@ -36,7 +47,7 @@ pub record ReadsBack : Type 0 where
   pub file_system_info : FileSystemInfoReadsBack
   pub volume_label : VolumeLabelReadsBack
 
--- What was written decides alone: two buffers of one length that agree on the written bytes get one verdict, whatever the kind of the record, and so one name; and where a record is accepted they have one size and the same fields.
+-- Only written bytes decide: two buffers of one length that agree on the written bytes get one verdict, whatever the kind of the record, and so one name; and if a record is accepted, they have one size and the same fields.
 pub record WrittenAlone : Type 0 where
   pub verdicts : (offset alignment written : ℕ) (one other : List ℕ) → length one ≡ length other → take written one ≡ take written other
       → verdict offset alignment (take written one) (length one) ≡ verdict offset alignment (take written other) (length other)

@@ -98,7 +98,7 @@ pub record RecordSizes : Type 0 where
   pub file_system_info : file_system_info_size 11 ≡ 64
   pub volume_label : volume_label_size 3 ≡ 6
 
--- A label in four bytes, and in three, where its NUL is no whole unit.
+-- A label in four bytes, and in three, where its NUL is not a whole unit.
 pub record Labels : Type 0 where
   pub whole : volume_label_verdict (0x61 ∷ 0 ∷ 0 ∷ 0 ∷ []) 4 ≡ accepted (0x61 ∷ 0 ∷ [])
   pub cut : volume_label_verdict (0x61 ∷ 0 ∷ 0 ∷ []) 4 ≡ without_name

@@ -1,4 +1,5 @@
-//! The records that describe files and file systems.
+//! The records that describe files and file systems: views that are read from bytes or written to
+//! them.
 
 pub use self::creation_error::FileInfoCreationError;
 pub use self::file_info::FileInfo;
@@ -7,10 +8,17 @@ pub use self::file_system_volume_label::FileSystemVolumeLabel;
 pub use self::protocol_info::FileProtocolInfo;
 pub use self::write::{write_file_info, write_file_system_info, write_file_system_volume_label};
 
-mod creation_error;
+// The three records.
 mod file_info;
 mod file_system_info;
 mod file_system_volume_label;
+
+// What they share.
 mod name;
-mod protocol_info;
+
+// Their writers.
 mod write;
+
+// The error of a writer, and the trait of all three.
+mod creation_error;
+mod protocol_info;

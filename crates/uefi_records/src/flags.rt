@@ -1,4 +1,4 @@
-//! Sets of flags.
+//! Sets of flags: a value is the number whose bits are its members.
 
 pub use self::daylight::Daylight;
 pub use self::file_attribute::FileAttribute;

@@ -1,14 +1,15 @@
-//! Times as UEFI firmware keeps them, and the flag sets that its file records have (UEFI 2.10, 8.3
+//! Times, and the records in which UEFI firmware describes files and file systems (UEFI 2.10, 8.3
 //! and 13.5).
 //!
-//! A time is sixteen bytes. Begin with [`Time::try_from`], which reads it from bytes, or with
-//! [`Time::new`], which makes it from its fields; both refuse a time with fields outside their
-//! ranges, and say which they are. [`Daylight`] and [`FileAttribute`] are sets of
-//! flags. Nothing here takes memory.
+//! - [`Time`]: sixteen bytes. Begin with [`Time::try_from`] or [`Time::new`].
+//! - [`FileInfo`], [`FileSystemInfo`] and [`FileSystemVolumeLabel`]: views of records. Begin with
+//!   [`FileInfo::from_uefi`] to read one, and with [`FileInfo::new`] to write one.
+//! - [`Daylight`] and [`FileAttribute`]: sets of flags.
 //!
-//! The contracts speak of a time's fields and of a set's bits: `specs/Time.antt` says what bytes a
-//! time has, `specs/Faults.antt` which fields are at fault, and `specs/Flags.antt` which bits have a
-//! name.
+//! The contracts promise for all bytes: a reader returns the time or the record in them, or the
+//! error that they have; a writer changes the bytes of the record alone; what was written reads
+//! back ([`laws`]). Nothing here allocates memory. `specs/` has the definitions, in the order of
+//! its `Lib.antt`.
 #![tactic(auto)]
 
 pub use self::file::{

@@ -1,19 +1,46 @@
 ghost use Rattle.std.specs.Prelude.{◌≡◌, ◌≢◌, ◌≤◌, ◌↔◌, length, IsOk, IfOk, IfErr};
-ghost use Rattle.uefi_records.specs.Time.Fields.{Fits, StandsIn, time_bytes, time_in, stated_zone, without_pads, zero_time};
+ghost use Rattle.uefi_records.specs.Time.Fields.{Fits, StandsIn, time_bytes, time_in, time_length, stated_zone, without_pads, zero_time};
 ghost use Rattle.uefi_records.specs.Time.Faults.{IsValid, range_faults, is_zone_outside};
 
 pub use self::error::{TimeByteConversionError, TimeError};
 pub use self::params::TimeParams;
 use crate::flags::Daylight;
+use uefi_base::little_endian::{u16_at, u32_at};
 
 mod error;
 mod params;
 
-/// The bytes of a time.
+/// The length of a time, in bytes.
 const TIME_LENGTH: usize = 16;
 
-/// The zone that stands for none, `EFI_UNSPECIFIED_TIMEZONE`: the time is local.
+// The offsets of the fields.
+const YEAR_OFFSET: usize = 0;
+
+const MONTH_OFFSET: usize = 2;
+
+const DAY_OFFSET: usize = 3;
+
+const HOUR_OFFSET: usize = 4;
+
+const MINUTE_OFFSET: usize = 5;
+
+const SECOND_OFFSET: usize = 6;
+
+const FIRST_PAD_OFFSET: usize = 7;
+
+const NANOSECOND_OFFSET: usize = 8;
+
+const ZONE_OFFSET: usize = 12;
+
+const DAYLIGHT_OFFSET: usize = 14;
+
+const LAST_PAD_OFFSET: usize = 15;
+
+/// The zone of local time, `EFI_UNSPECIFIED_TIMEZONE`.
 const UNSPECIFIED_TIMEZONE: i16 = 0x07ff;
+
+/// The most minutes that a zone is from UTC: those of a day.
+const LARGEST_TIMEZONE: i16 = 1440;
 
 /// A date and a time of day (UEFI 2.10, 8.3 `GetTime()`, `EFI_TIME`).
 ///
@@ -31,8 +58,19 @@ const UNSPECIFIED_TIMEZONE: i16 = 0x07ff;
 /// | 14 | 1 | [`Daylight`] | |
 /// | 15 | 1 | padding | |
 ///
-/// A value, and one that may have fields outside their ranges: [`Time::is_valid`] says which. Two
-/// times are equal where all their sixteen bytes are.
+/// A value, whose fields may be outside their ranges: [`Time::is_valid`] says which are. Two times
+/// are equal if all their sixteen bytes are.
+///
+/// # Examples
+///
+/// A time, written to its sixteen bytes and read again:
+///
+/// ```
+/// pub fn read_back(time: &Time) -> Result<Time, TimeByteConversionError> {
+///     let bytes = time.to_bytes();
+///     Time::try_from(bytes.as_slice())
+/// }
+/// ```
 #[derive(Clone, Copy, Debug)]
 pub struct Time {
     year: u16,
@@ -52,10 +90,12 @@ impl Time {
     ghost use Rattle.uefi_records.specs.Time.Views.{time_of, fields_of};
     ghost use Rattle.uefi_records.specs.Flags.Views.{daylight_bits};
 
-    /// The time of these fields, with zeros in its padding. No zone is stored as 0x07ff, and
-    /// daylight as it is; so the zone 2047 reads back as none.
+    /// Makes the time of these fields, with zeros in its padding. A zone of `None` is stored as
+    /// 0x07ff, so the zone 2047 reads back as `None`.
     ///
-    /// Refused where a field but daylight is outside its range, with all that are.
+    /// # Errors
+    ///
+    /// The fields outside their ranges, if there are any. Daylight is never at fault here.
     pub fn new(params: TimeParams) -> Result<Time, TimeError>
         ensures accepted { IsOk result ↔ IsValid (fields_of params) }
         ensures made { IfOk result (λ time. time_of time ≡ fields_of params) }
@@ -80,9 +120,9 @@ impl Time {
         }
     }
 
-    /// The time of which every byte is zero. Firmware takes it for a time that isn't to be changed
-    /// (UEFI 2.10, 13.5 `EFI_FILE_PROTOCOL.SetInfo()`); its year, month and day are outside their
-    /// ranges.
+    /// Returns the time whose bytes are all zero. To firmware it means that a file's time is not to
+    /// be changed (UEFI 2.10, 13.5 `EFI_FILE_PROTOCOL.SetInfo()`). Its year, month and day are
+    /// outside their ranges.
     pub fn invalid() -> Time
         ensures { time_of result ≡ zero_time }
     {
@@ -103,7 +143,9 @@ impl Time {
 
     /// Whether each field but daylight is within its range.
     ///
-    /// Refused where one isn't, with all that aren't. Daylight is never at fault here.
+    /// # Errors
+    ///
+    /// The fields outside their ranges, if there are any. Daylight is never at fault here.
     pub fn is_valid(&self) -> Result<(), TimeError>
         ensures accepted { IsOk result ↔ IsValid (time_of self.now) }
         ensures faults { IfErr result (λ faults. faults ≡ range_faults (time_of self.now)) }
@@ -116,7 +158,7 @@ impl Time {
         }
     }
 
-    // The fields outside their ranges, daylight aside.
+    // The fields outside their ranges. Daylight is never at fault here.
     fn range_faults(&self) -> TimeError
         ensures { result ≡ range_faults (time_of self.now) }
     {
@@ -182,7 +224,7 @@ impl Time {
         self.nanosecond
     }
 
-    /// The zone in minutes from UTC, or none for local time.
+    /// The zone in minutes from UTC, or `None` for local time.
     pub fn time_zone(&self) -> Option<i16>
         ensures { result ≡ stated_zone (time_of self.now).zone }
     {
@@ -193,15 +235,15 @@ impl Time {
         }
     }
 
-    /// How daylight saving bears on the time, with all bits as they are.
+    /// How daylight saving affects the time: all bits, also those without a name.
     pub fn daylight(&self) -> Daylight
         ensures { daylight_bits result ≡ (time_of self.now).daylight }
     {
         self.daylight
     }
 
-    /// The sixteen bytes of the time, its padding too.
-    pub fn to_bytes(&self) -> [u8; 16]
+    /// The sixteen bytes of the time, with its padding.
+    pub fn to_bytes(&self) -> [u8; TIME_LENGTH]
         ensures bytes { result ≡ time_bytes (time_of self.now) }
         ensures fits { Fits (time_of self.now) }
     {
@@ -231,22 +273,22 @@ impl Time {
 
     // The time in the first sixteen bytes, whatever its fields are.
     pub(crate) fn read(bytes: &[u8]) -> Time
-        requires { TIME_LENGTH ≤ length bytes.now }
-        ensures stands { StandsIn (time_of result) bytes.now }
+        requires { time_length ≤ length bytes.now }
         ensures fields { time_of result ≡ time_in bytes.now }
+        ensures stands { StandsIn (time_of result) bytes.now }
     {
         Time {
-            year: u16::from_le_bytes([bytes[0], bytes[1]]),
-            month: bytes[2],
-            day: bytes[3],
-            hour: bytes[4],
-            minute: bytes[5],
-            second: bytes[6],
-            first_pad: bytes[7],
-            nanosecond: u32::from_le_bytes([bytes[8], bytes[9], bytes[10], bytes[11]]),
-            zone: i16::from_le_bytes([bytes[12], bytes[13]]),
-            daylight: Daylight::from_bits_retain(bytes[14]),
-            last_pad: bytes[15],
+            year: u16_at(bytes, YEAR_OFFSET),
+            month: bytes[MONTH_OFFSET],
+            day: bytes[DAY_OFFSET],
+            hour: bytes[HOUR_OFFSET],
+            minute: bytes[MINUTE_OFFSET],
+            second: bytes[SECOND_OFFSET],
+            first_pad: bytes[FIRST_PAD_OFFSET],
+            nanosecond: u32_at(bytes, NANOSECOND_OFFSET),
+            zone: u16_at(bytes, ZONE_OFFSET).cast_signed(),
+            daylight: Daylight::from_bits_retain(bytes[DAYLIGHT_OFFSET]),
+            last_pad: bytes[LAST_PAD_OFFSET],
         }
     }
 
@@ -262,20 +304,24 @@ impl Time {
     }
 }
 
-// Whether a zone is neither unspecified nor within a day from UTC.
+// Whether a zone is neither unspecified nor within a day of UTC.
 fn is_zone_outside(zone: i16) -> bool
     ensures { result ≡ is_zone_outside zone }
 {
-    zone != UNSPECIFIED_TIMEZONE && (zone < -1440 || zone > 1440)
+    zone != UNSPECIFIED_TIMEZONE && (zone < -LARGEST_TIMEZONE || zone > LARGEST_TIMEZONE)
 }
 
-/// Reads the time in the first sixteen bytes. What follows isn't looked at, and the padding becomes
+/// Reads the time in the first sixteen bytes. What follows is ignored, and the padding becomes
 /// zero.
 ///
-/// Refused, in this order: as [`TimeByteConversionError::InvalidSize`] where there are fewer than
-/// sixteen bytes; as [`TimeByteConversionError::InvalidFields`] with daylight alone where daylight
-/// has a bit without a name; and as the same with all other fields that are outside their ranges,
-/// where one is.
+/// # Errors
+///
+/// In this order:
+/// - [`TimeByteConversionError::InvalidSize`], if there are fewer than sixteen bytes.
+/// - [`TimeByteConversionError::InvalidFields`] with daylight alone, if daylight has a bit without
+///   a name.
+/// - [`TimeByteConversionError::InvalidFields`] with all fields outside their ranges, if there are
+///   any.
 impl TryFrom<&[u8]> for Time {
     ghost use Rattle.uefi_records.specs.Time.Views.{time_of};
     ghost use Rattle.uefi_records.specs.Time.Reading.{ReadsTime};
@@ -302,7 +348,7 @@ impl TryFrom<&[u8]> for Time {
     }
 }
 
-/// Equality of all sixteen bytes.
+/// Compares all sixteen bytes.
 impl PartialEq for Time {
     ghost use Rattle.std.specs.Prelude.{nat_eq};
     ghost use Rattle.std.specs.Cmp.{partial_equiv_from_equiv, on_per};

@@ -2,21 +2,17 @@
 use Rattle.std.specs.Prelude.{◌≡◌, ℕ, List, [], ◌∷◌, ◌++◌, length, codes, flat_map}
 use Rattle.std.specs.Fmt.{decimal}
 use Rattle.std.specs.declared.string.String.{String}
+use Rattle.uefi_base.specs.GuidText.{hex_byte}
 use Rattle.uefi_base.specs.Prefix.{IsPrefix}
 use Rattle.uefi_path.specs.Node.{Node, joined}
 use Rattle.uefi_path.specs.Path.{IsPath, HasPath, AreInstances, all_but_last}
 use Rattle.uefi_list.specs.declared.listing.Outcome.{Outcome}
 use Rattle.uefi_list.specs.declared.listing.Outcome.TheVariants.{Listed, Refused}
-use Rattle.uefi_list.specs.Listing.Text.{hex_of, AppendsText}
-
--- A space, if bytes follow.
-unfoldable pub gap_before : List ℕ → List ℕ
-gap_before [] = []
-gap_before (b ∷ bs) = codes " "
+use Rattle.uefi_list.specs.Listing.Text.{gap_before, hex_of, AppendsText}
 
 -- Two spaces, the type and the subtype in hex, and the data in hex.
 unfoldable pub node_line : Node → List ℕ
-node_line node = codes "  " ++ hex_of (node.device_type ∷ []) ++ codes " " ++ hex_of (node.sub_type ∷ []) ++ gap_before node.payload ++ hex_of node.payload ++ codes "\n"
+node_line node = codes "  " ++ hex_byte node.device_type ++ codes " " ++ hex_byte node.sub_type ++ gap_before node.payload ++ hex_of node.payload ++ codes "\n"
 
 -- The length of an instance in bytes, and a line for each node but the one that ends it.
 unfoldable pub instance_lines : List Node → List ℕ

@@ -1,14 +1,17 @@
 -- Text that grows, and bytes and numbers in hex.
-use Rattle.std.specs.Prelude.{◌≡◌, ℕ, ◌/◌, ◌%◌, List, [], ◌∷◌, ◌++◌, flat_map, false, string_bytes, codes}
+use Rattle.std.specs.Prelude.{◌≡◌, ℕ, List, ◌++◌, flat_map, false, string_bytes, codes}
 use Rattle.std.specs.declared.string.String.{String}
-use Rattle.std.specs.Fmt.{digit_glyph, digits}
+use Rattle.std.specs.Fmt.{digits}
+use Rattle.uefi_base.specs.GuidText.{hex_byte}
 
 -- Two lower case hex digits for each byte, joined.
-abbrev pub digits_of_byte : ℕ → List ℕ
-digits_of_byte byte = digit_glyph false (byte / 16) ∷ digit_glyph false (byte % 16) ∷ []
-
 unfoldable pub hex_of : List ℕ → List ℕ
-hex_of bytes = flat_map digits_of_byte bytes
+hex_of bytes = flat_map hex_byte bytes
+
+-- A space, if bytes follow.
+unfoldable pub gap_before : List ℕ → List ℕ
+gap_before [] = []
+gap_before (b ∷ bs) = codes " "
 
 -- A number in lower case hex without leading zeros, `0x0` for zero.
 unfoldable pub hex_number : ℕ → List ℕ

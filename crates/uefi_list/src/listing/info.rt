@@ -1,5 +1,6 @@
-ghost use Rattle.std.specs.Prelude.{◌≡◌, ◌≤◌, ◌<◌, [], ◌∷◌, length, take, slice_index, string_bytes, IfOk, OnOk, Some};
+ghost use Rattle.std.specs.Prelude.{◌≡◌, ◌≤◌, ◌-◌, ◌*◌, [], length, take, slice_range, flat_map, string_bytes, IfOk, OnOk, Some};
 ghost use Rattle.std.specs.Fmt.{DisplaysOnOk};
+ghost use Rattle.std.specs.Int.{w16, to_be_bytes};
 ghost use Rattle.uefi_base.specs.Ucs2.{characters_of};
 ghost use Rattle.uefi_base.specs.Views.{slice_units, error_data};
 ghost use Rattle.uefi_records.specs.File.Views.{stated_size, file_fields_of, file_name_of};
@@ -8,11 +9,17 @@ ghost use Rattle.uefi_list.specs.Listing.Text.{AppendsText};
 ghost use Rattle.uefi_list.specs.Listing.Info.{info_lines, stamp_text, name_field, units_hex, refused_info_line, InfoListing};
 
 use super::Outcome;
-use super::hex_text::{Hex, HexNumber};
+use super::hex_text::{Hex, HexNumber, write_hex};
 use std::alloc::{AllocError, Allocator};
 use std::fmt;
 use uefi_base::{Error, UnalignedSlice};
 use uefi_records::{FileInfo, Time};
+
+/// How many units of a name are written at a time.
+const BLOCK_UNITS: usize = 32;
+
+/// How many bytes these units have.
+const BLOCK_BYTES: usize = 64;
 
 /// Lists the file information record in the first `written` bytes.
 pub(super) fn list<A: Allocator>(
@@ -101,7 +108,7 @@ impl fmt::Display for Name<'_> {
     }
 }
 
-/// Writes four hex digits for each of the first units.
+/// Writes four hex digits for each of the first units, a block at a time.
 fn write_units<W: fmt::Write>(
     f: &mut fmt::Formatter<W>,
     units: &UnalignedSlice<'_>,
@@ -111,23 +118,28 @@ fn write_units<W: fmt::Write>(
     ensures { DisplaysOnOk W.write_str_gives f.old result
         (Some (units_hex (take count (slice_units units.now)))) f.new }
 {
-    for i in 0..count {
-        write_unit(f, units, i)?;
+    let mut start = 0;
+    while start < count {
+        let end = start + BLOCK_UNITS.min(count - start);
+        let mut room = [0; BLOCK_BYTES];
+        let bytes = &mut room[..2 * (end - start)];
+        fill_big_endian(bytes, units, start, end);
+        write_hex(f, bytes)?;
+        start = end;
     }
     Ok(())
 }
 
-/// Writes the four hex digits of a unit.
-fn write_unit<W: fmt::Write>(
-    f: &mut fmt::Formatter<W>,
-    units: &UnalignedSlice<'_>,
-    i: usize,
-) -> fmt::Result
-    requires { i < length (slice_units units.now) }
-    ensures { DisplaysOnOk W.write_str_gives f.old result
-        (Some (units_hex (slice_index (slice_units units.now) i ∷ []))) f.new }
+/// Fills the bytes with the units from one index up to another, each with its high byte first.
+fn fill_big_endian(bytes: &mut [u8], units: &UnalignedSlice<'_>, start: usize, end: usize)
+    requires order { start ≤ end }
+    requires within { end ≤ length (slice_units units.now) }
+    requires room { length bytes.old ≡ 2 * (end - start) }
+    ensures { bytes.new ≡ flat_map (to_be_bytes w16) (slice_range (slice_units units.now) start end) }
 {
-    let bytes = units.get(i).unwrap_or(0).to_be_bytes();
-    let unit = Hex(&bytes);
-    write!(f, "{unit}")
+    for i in start..end {
+        let [high, low] = units.get(i).unwrap_or(0).to_be_bytes();
+        bytes[2 * (i - start)] = high;
+        bytes[2 * (i - start) + 1] = low;
+    }
 }

@@ -1,10 +1,10 @@
 ghost use Rattle.std.specs.Prelude.{◌≡◌, [], string_bytes, IfOk, OnOk};
 ghost use Rattle.uefi_path.specs.Views.{node_of, instance_nodes, path_nodes};
 ghost use Rattle.uefi_list.specs.Listing.Text.{AppendsText};
-ghost use Rattle.uefi_list.specs.Listing.Path.{gap_before, node_line, instance_lines, AppendsPathLines, PathListing};
+ghost use Rattle.uefi_list.specs.Listing.Path.{node_line, instance_lines, AppendsPathLines, PathListing};
 
 use super::Outcome;
-use super::hex_text::Hex;
+use super::hex_text::{Hex, HexByte, gap_before};
 use std::alloc::{AllocError, Allocator};
 use uefi_path::{ByteConversionError, DevicePath, DevicePathInstance, DevicePathNode};
 
@@ -60,19 +60,7 @@ fn push_node<A: Allocator>(
     ensures { OnOk result (AppendsText text.old text.new (node_line (node_of node.now))) }
 {
     let (device_type, sub_type) = node.full_type();
-    let (device_type, sub_type) = ([device_type.0], [sub_type.0]);
-    let (device_type, sub_type) = (Hex(&device_type), Hex(&sub_type));
+    let (device_type, sub_type) = (HexByte(device_type.0), HexByte(sub_type.0));
     let (gap, data) = (gap_before(node.data()), Hex(node.data()));
     writeln!(text, "  {device_type} {sub_type}{gap}{data}")
-}
-
-/// A space, if bytes follow.
-#[tactic(auto, unfolding(crate::specs::Listing::Path::gap_before))]
-fn gap_before(bytes: &[u8]) -> &'static str
-    ensures { result.now ≡ gap_before bytes.now }
-{
-    match bytes {
-        [] => "",
-        [_, ..] => " ",
-    }
 }

@@ -46,6 +46,30 @@ fn a_number_may_be_asked_for(rt: HostRuntime) {
 }
 
 #[test]
+fn a_last_entry_may_be_missing(rt: HostRuntime) {
+    let words = [
+        ("-", Some(Command::Log1(None))),
+        ("34", Some(Command::Log1(Some(34)))),
+        (
+            "18446744073709551615",
+            Some(Command::Log1(Some(usize::MAX))),
+        ),
+        ("", None),
+        ("--", None),
+        ("-34", None),
+        ("18446744073709551616", None),
+    ];
+    for (word, command) in words {
+        assert_eq!(rt;
+            from_words(&rt, &["log1", "boot.log", word]),
+            command,
+            "{word}"
+        );
+    }
+    assert_eq!(rt; from_words(&rt, &["log1", "boot.log"]), None);
+}
+
+#[test]
 fn a_word_that_is_no_number_asks_for_nothing(rt: HostRuntime) {
     for number in [
         "",

@@ -29,20 +29,20 @@ other_bytes old new stride i j room other before after =
 pub writes_one : WritesOne
 writes_one bytes meta i d map within fits =
     let stride = meta.desc_size in
-    let place = i * stride in
+    let offset = i * stride in
     let new = with_descriptor bytes stride i d in
     let sized : length (encoding d) ≡ descriptor_length = length-encoding d in
-    let end : place + length (encoding d) ≡ place + descriptor_length = omega (arith, sized) in
-    let ends : place + descriptor_length ≤ meta.map_size = ends_within stride meta.map_size i map.room within in
-    let reaches : place + length (encoding d) ≤ length bytes = omega (arith, sized, ends, map.within) in
-    let begins : place ≤ length bytes = omega (arith, reaches) in
-    let before = before_part bytes (encoding d) (drop (place + descriptor_length) bytes) place begins in
-    let after : drop (place + descriptor_length) new ≡ drop (place + descriptor_length) bytes = rw end at (behind_part bytes (encoding d) place reaches) in
-    let part : slice_range new place (place + descriptor_length) ≡ encoding d = rw end at (the_part bytes (encoding d) (drop (place + descriptor_length) bytes) place begins) in
+    let end : offset + length (encoding d) ≡ offset + descriptor_length = omega (arith, sized) in
+    let ends : offset + descriptor_length ≤ meta.map_size = ends_within stride meta.map_size i map.room within in
+    let reaches : offset + length (encoding d) ≤ length bytes = omega (arith, sized, ends, map.within) in
+    let begins : offset ≤ length bytes = omega (arith, reaches) in
+    let before = before_part bytes (encoding d) (drop (offset + descriptor_length) bytes) offset begins in
+    let after : drop (offset + descriptor_length) new ≡ drop (offset + descriptor_length) bytes = rw end at (behind_part bytes (encoding d) offset reaches) in
+    let part : slice_range new offset (offset + descriptor_length) ≡ encoding d = rw end at (the_part bytes (encoding d) (drop (offset + descriptor_length) bytes) offset begins) in
     record {
       set = ap descriptor_in part ∙ descriptor_in-encoding d fits;
       others = λ j below other. ap descriptor_in (other_bytes bytes new stride i j map.room other before after);
       before = before;
       after = after;
-      same_length = rw end at (length-with_part bytes (encoding d) place reaches);
+      same_length = rw end at (length-with_part bytes (encoding d) offset reaches);
     }

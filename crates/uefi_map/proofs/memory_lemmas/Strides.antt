@@ -1,6 +1,6 @@
 -- The descriptors of whole strides, one stride after another.
 use Rattle.std.proofs.Common.{◌≡◌, ℕ, zero, suc, ◌+◌, ◌-◌, ◌*◌, ◌/◌, ◌%◌, ◌≤◌, ◌<◌, List, ◌∷◌, length, take, drop, refl, sym, ◌∙◌, ap, arith, length-drop}
-use Rattle.std.proofs.lemmas.List.{take-take, drop-drop, length-take-le}
+use Rattle.std.proofs.lemmas.List.{drop-drop, length-take-le}
 use Rattle.std.proofs.lemmas.Grind.{rows, common_steps}
 use Rattle.std.proofs.Math.Nat.{div-eq-sub-div, div-le_self}
 use Rattle.uefi_map.specs.declared.memory.meta.MemoryMapMeta.{MemoryMapMeta}
@@ -44,9 +44,9 @@ whole_map bytes meta map =
 -- Without the first stride, each descriptor is the next.
 next_bytes : (bytes : List ℕ) (stride i : ℕ) → descriptor_bytes (drop stride bytes) stride i ≡ descriptor_bytes bytes stride (i + 1)
 next_bytes bytes stride i =
-    let place : stride + i * stride ≡ (i + 1) * stride = grind (arith, rows) in
+    let offset : stride + i * stride ≡ (i + 1) * stride = grind (arith, rows) in
     let width : i * stride + descriptor_length - i * stride ≡ (i + 1) * stride + descriptor_length - (i + 1) * stride = omega arith in
-    ap (take (i * stride + descriptor_length - i * stride)) (drop-drop (i * stride) stride bytes ∙ ap (λ n. drop n bytes) place) ∙ ap (λ n. take n (drop ((i + 1) * stride) bytes)) width
+    ap (take (i * stride + descriptor_length - i * stride)) (drop-drop (i * stride) stride bytes ∙ ap (λ n. drop n bytes) offset) ∙ ap (λ n. take n (drop ((i + 1) * stride) bytes)) width
 
 next_from : (bytes : List ℕ) (stride i count : ℕ) → descriptors_from (drop stride bytes) stride i count ≡ descriptors_from bytes stride (i + 1) count
 next_from bytes stride i zero = refl
@@ -58,8 +58,8 @@ next_from bytes stride i (suc count) =
 -- The first descriptor has the first forty bytes.
 first_bytes : (bytes : List ℕ) (stride : ℕ) → descriptor_bytes bytes stride 0 ≡ take descriptor_length bytes
 first_bytes bytes stride =
-    let place : 0 * stride ≡ 0 = omega arith in
-    ap (λ p. take (p + descriptor_length - p) (drop p bytes)) place
+    let offset : 0 * stride ≡ 0 = omega arith in
+    ap (λ p. take (p + descriptor_length - p) (drop p bytes)) offset
 
 -- Whole strides that are not none are at least one.
 pub one_stride : (stride size : ℕ) → 0 < size → size % stride ≡ 0 → stride ≤ size

@@ -1,5 +1,5 @@
 -- All bytes begin with exactly one list, or have exactly one fault.
-use Rattle.std.proofs.Common.{◌≡◌, ℕ, suc, zero, ◌≤◌, ◌⊎◌, List, [], ◌∷◌, ◌++◌, length, take, drop, refl, sym, ◌∙◌, ap, subst, arith, inl, inr, length-append, length-drop}
+use Rattle.std.proofs.Common.{◌≡◌, ℕ, suc, zero, ◌≤◌, ◌⊎◌, List, [], ◌∷◌, ◌++◌, length, drop, refl, sym, ◌∙◌, ap, subst, arith, inl, inr, length-append, length-drop}
 use Rattle.std.proofs.lemmas.Bool.{cases_eq, cases_lt}
 use Rattle.uefi_map.specs.declared.pci.resource.QwordAddressSpaceDescriptor.{QwordAddressSpaceDescriptor}
 use Rattle.uefi_map.specs.declared.pci.resource_error.ResourceError.{ResourceError}
@@ -54,7 +54,7 @@ none_at_fault rest Memory never = absurd never
 pub list_alone : ListAlone
 list_alone bytes ds es p q = (one_walk ds es bytes p.0 q.0 p.1 q.1 (none_at_end p.0 p.2) (none_at_end q.0 q.2)).0
 
--- One place has one fault.
+-- One offset has one fault.
 same_tag : (rest : List ℕ) (t u : ℕ) → BeginWith rest t → BeginWith rest u → t ≡ u
 same_tag rest t u p q =
     let both : t ∷ p.0 ≡ u ∷ q.0 = sym p.1 ∙ q.1 in

@@ -1,23 +1,23 @@
--- Memory maps (UEFI 2.10, 7.2 "EFI_BOOT_SERVICES.GetMemoryMap()"): descriptors at equal steps, the stride, which may be more than a descriptor's forty bytes.
+-- Memory maps (UEFI 2.10, 7.2 "EFI_BOOT_SERVICES.GetMemoryMap()"): descriptors at equal distances, the stride, which may be more than a descriptor's forty bytes.
 use Rattle.std.specs.Prelude.{ℕ, zero, suc, ◌+◌, ◌*◌, ◌/◌, ◌%◌, ◌^◌, ◌≤◌, ◌<◌, ◌≡◌, ◌≢◌, List, [], ◌∷◌, length, take, drop, Option, Some, None, if◌then◌else◌, nat_lt, nat_le}
 use Rattle.uefi_map.specs.declared.memory.meta.MemoryMapMeta.{MemoryMapMeta}
 use Rattle.uefi_map.specs.declared.memory.descriptor.MemoryDescriptor.{MemoryDescriptor}
 use Rattle.uefi_map.specs.memory.Descriptor.{descriptor_length, descriptor_alignment, descriptor, with_descriptor}
 
--- So many bytes are a map with these sizes: the stride has room for a descriptor and keeps it aligned, and the map is whole strides and within the bytes.
+-- A buffer with this length has a map with these sizes: the stride has room for a descriptor and keeps it aligned, and the map is whole strides and within the buffer.
 pub record IsMap (length : ℕ) (meta : MemoryMapMeta) : Type 0 where
   pub room : descriptor_length ≤ meta.desc_size
   pub aligned : meta.desc_size % descriptor_alignment ≡ 0
   pub whole : meta.map_size % meta.desc_size ≡ 0
   pub within : meta.map_size ≤ length
 
--- The same of the sizes alone: the map is whole strides.
+-- The same of the sizes alone, for a buffer of any length.
 pub record HasWholeStrides (meta : MemoryMapMeta) : Type 0 where
   pub room : descriptor_length ≤ meta.desc_size
   pub aligned : meta.desc_size % descriptor_alignment ≡ 0
   pub whole : meta.map_size % meta.desc_size ≡ 0
 
--- The sizes of the map in so many bytes: these, or those of an empty map where the bytes have no room for it.
+-- The sizes of the map in a buffer with this length: these, or those of an empty map if the buffer is too short.
 abbrev pub meta_within : ℕ → MemoryMapMeta → MemoryMapMeta
 meta_within length meta = record meta { map_size = if nat_le meta.map_size length then meta.map_size else 0 }
 
@@ -36,11 +36,11 @@ pub record AreStrides (stride : ℕ) (bytes : List ℕ) : Type 0 where
   pub room : descriptor_length ≤ stride
   pub whole : length bytes % stride ≡ 0
 
--- How many descriptors there are.
+-- The count of descriptors.
 abbrev pub count_of : MemoryMapMeta → ℕ
 count_of meta = meta.map_size / meta.desc_size
 
--- So many descriptors, from the one at an index on.
+-- A count of descriptors, from the one at an index on.
 abbrev pub descriptors_from : List ℕ → ℕ → ℕ → ℕ → List MemoryDescriptor
 descriptors_from bytes stride i zero = []
 descriptors_from bytes stride i (suc count) = descriptor bytes stride i ∷ descriptors_from bytes stride (i + 1) count
@@ -57,11 +57,11 @@ entry_of bytes meta i = if nat_lt i (count_of meta) then Some (descriptor bytes 
 abbrev pub AreSorted : List ℕ → MemoryMapMeta → Type 0
 AreSorted bytes meta = (i : ℕ) → i + 1 < count_of meta → (descriptor bytes meta.desc_size i).phys_start ≤ (descriptor bytes meta.desc_size (i + 1)).phys_start
 
--- The new bytes are the old with the forty of descriptor i replaced by those of d.
+-- The new bytes are the old, with the forty of descriptor i replaced by those of d.
 abbrev pub IsWithDescriptor : List ℕ → MemoryMapMeta → ℕ → MemoryDescriptor → List ℕ → Type 0
 IsWithDescriptor old meta i d new = new ≡ with_descriptor old meta.desc_size i d
 
--- The new bytes are the old but for descriptor i, which is d.
+-- The new bytes are the old, but for descriptor i, which is d.
 pub record SetsOnly (old new : List ℕ) (meta : MemoryMapMeta) (i : ℕ) (d : MemoryDescriptor) : Type 0 where
   pub set : descriptor new meta.desc_size i ≡ d
   pub others : (j : ℕ) → j < count_of meta → j ≢ i → descriptor new meta.desc_size j ≡ descriptor old meta.desc_size j

@@ -1,4 +1,4 @@
--- Worked rows of the definitions: a firmware's map, writes, sizes that make no map, and the numbers of types and flags.
+-- Worked rows of the definitions: a firmware's map, a write, sizes that make no map, and the numbers of types and flags.
 use Rattle.std.specs.Prelude.{◌≡◌, ℕ, List, [], ◌∷◌, ◌++◌, length, take, drop, replicate, Some, None, true, false, codes}
 use Rattle.std.specs.List.{flat_map}
 use Rattle.uefi_base.specs.LittleEndian.{u64_bytes}
@@ -14,7 +14,7 @@ use Rattle.uefi_map.specs.memory.Flags.{named_attributes}
 use Rattle.uefi_map.specs.memory.Map.{IsMap, IsSane, AreSorted, count_of, entry_of, entries_of}
 use Rattle.uefi_map.specs.memory.Texts.{map_error_text}
 
--- A map of so many bytes at this stride.
+-- A map with this length and stride.
 abbrev pub sizes : ℕ → ℕ → MemoryMapMeta
 sizes map_size desc_size = record { map_size = map_size; desc_size = desc_size; map_key = record { 0 = 0 }; desc_version = 1 }
 
@@ -23,7 +23,7 @@ abbrev pub entry : ℕ → ℕ → ℕ → ℕ → MemoryDescriptor
 entry ty start pages attributes =
     record { ty = record { 0 = ty }; padding = 0; phys_start = start; virt_start = 0; page_count = pages; att = record { 0 = attributes } }
 
--- Ten descriptors at a stride of 48, as a firmware gave them.
+-- Ten descriptors at a stride of 48, as firmware gave them.
 abbrev pub firmware_numbers : List ℕ
 firmware_numbers =
     (3 ∷ 0 ∷ 0 ∷ 1 ∷ 15 ∷ 0 ∷ [])
@@ -60,7 +60,7 @@ pub record FirmwareMap : Type 0 where
       ∷ entry 10 0x810000 240 0xf
       ∷ []
 
--- The forty bytes of a descriptor, and a map with one written: its first stride and all from byte 88 on stay.
+-- The forty bytes of a descriptor, and a map to which one was written: its first stride and all from offset 88 on stay.
 pub record WrittenDescriptor : Type 0 where
   pub bytes :
       encoding (entry 7 0x1000 134 0xf)

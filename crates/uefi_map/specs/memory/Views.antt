@@ -1,4 +1,4 @@
--- What the crate's values stand for: words that its contracts name them by.
+-- What the values of maps stand for: words that contracts name them by.
 use Rattle.std.specs.Prelude.{ℕ, ◌≡◌, ◌/◌, List, length}
 use Rattle.std.specs.Borrow.{MutBor}
 use Rattle.std.specs.Vec.{with_items}
@@ -38,11 +38,11 @@ mut_bytes map = map.buffer.now
 abbrev pub mut_meta : MemoryMapRefMut → MemoryMapMeta
 mut_meta map = meta_within (length map.buffer.now) map.sizes
 
--- The map with these bytes in its buffer.
+-- The map with the bytes in its buffer.
 abbrev pub mut_with : MemoryMapRefMut → List ℕ → MemoryMapRefMut
 mut_with map bytes = record map { buffer = record map.buffer { now = bytes } }
 
--- What the map writes to is what the reference borrows.
+-- The map writes to what the reference borrows.
 abbrev pub WritesTo : MutBor (List ℕ) → MemoryMapRefMut → Type 0
 WritesTo buffer map = map.buffer.ghost_name ≡ buffer.ghost_name
 
@@ -57,6 +57,6 @@ owned_bytes map = map.buffer.items
 abbrev pub owned_meta : {A : Type 0} → MemoryMapOwned A → MemoryMapMeta
 owned_meta map = meta_within (length map.buffer.items) map.sizes
 
--- The map with these bytes in its buffer.
+-- The map with the bytes in its buffer.
 abbrev pub owned_with : {A : Type 0} → MemoryMapOwned A → List ℕ → MemoryMapOwned A
 owned_with map bytes = record map { buffer = with_items map.buffer bytes }

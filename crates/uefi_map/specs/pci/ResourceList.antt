@@ -5,7 +5,7 @@ use Rattle.uefi_map.specs.declared.pci.resource_error.ResourceError.{ResourceErr
 use Rattle.uefi_map.specs.declared.pci.resource_error.ResourceError.TheVariants.{NoEndTag, CutRecord, UnknownTag, Memory}
 use Rattle.uefi_map.specs.pci.Resource.{record_tag, record_length, IsRecord}
 
--- The first byte of the end tag, which ends a list. Nothing after it belongs to the list.
+-- The first byte of the end tag. Nothing after it belongs to the list.
 abbrev pub end_tag : ℕ
 end_tag = 0x79
 
@@ -53,7 +53,7 @@ pub record HaveOneFault (bytes : List ℕ) (fault : ResourceError) : Type 0 wher
   pub no_other : (other : ResourceError) → HaveFault bytes other → other ≡ fault
   pub no_list : ¬ HaveSomeList bytes
 
--- What reading the bytes returns: a view of the one list that they begin with, or the one fault that they have.
+-- The result of reading the bytes: a view of the one list that they begin with, or the one fault that they have.
 pub record ReadsList {V : Type 0} (resources_of : V → List QwordAddressSpaceDescriptor) (bytes : List ℕ) (read : Result V ResourceError) : Type 0 where
   pub list : IfOk read (λ view. HaveOneList bytes (resources_of view))
   pub fault : IfErr read (λ fault. HaveOneFault bytes fault)

@@ -1,4 +1,4 @@
--- Worked rows of lists of PCI resources.
+-- Worked rows of the definitions: a root bridge's list, and faults.
 use Rattle.std.specs.Prelude.{◌≡◌, ℕ, List, [], ◌∷◌, ◌++◌, take}
 use Rattle.uefi_map.specs.declared.pci.resource.QwordAddressSpaceDescriptor.{QwordAddressSpaceDescriptor}
 use Rattle.uefi_map.specs.declared.pci.resource.ResourceRangeType.{ResourceRangeType}
@@ -73,7 +73,7 @@ pub record ListRows : Type 0 where
   pub four_alone : HaveList (take 185 root_bridge) (ports ∷ low_memory ∷ high_memory ∷ one_bus ∷ [])
   pub none : HaveList (0x79 ∷ []) []
 
--- The bytes end where a tag is to stand, or within a record; or another tag stands there.
+-- The bytes end before a tag, or within a record, or there is another tag.
 pub record FaultRows : Type 0 where
   pub empty : HaveFault [] NoEndTag
   pub one_record : HaveFault (take 46 root_bridge) NoEndTag

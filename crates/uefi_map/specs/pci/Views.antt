@@ -1,4 +1,4 @@
--- What the values of a list stand for: words that contracts name them by.
+-- What the values of lists stand for: words that contracts name them by.
 use Rattle.std.specs.Prelude.{ℕ, zero, suc, ◌/◌, List, [], ◌∷◌, length, take, drop}
 use Rattle.uefi_map.specs.declared.pci.resource.QwordAddressSpaceDescriptor.{QwordAddressSpaceDescriptor}
 use Rattle.uefi_map.specs.declared.pci.resource_iter.ResourceIter.{ResourceIter}

@@ -1,12 +1,12 @@
--- Information on a file (UEFI 2.10, 13.5 "EFI_FILE_PROTOCOL.GetInfo()", EFI_FILE_INFO).
-use Rattle.std.specs.Prelude.{ℕ, ◌^◌, ◌<◌, List, ◌++◌, length, slice_range}
+-- File information records (UEFI 2.10, 13.5 "EFI_FILE_PROTOCOL.GetInfo()", EFI_FILE_INFO).
+use Rattle.std.specs.Prelude.{ℕ, ◌^◌, ◌<◌, List, ◌++◌, length}
 use Rattle.uefi_base.specs.LittleEndian.{u64_at, u64_bytes}
 use Rattle.uefi_base.specs.Unaligned.{unit_bytes}
-use Rattle.uefi_records.specs.Time.Fields.{TimeFields, Fits, time_bytes, time_in}
+use Rattle.uefi_records.specs.Time.Fields.{TimeFields, Fits, time_bytes, time_at}
 use Rattle.uefi_records.specs.File.Name.{record_size}
 use Rattle.uefi_records.specs.File.Verdict.{Verdict, verdict}
 
--- What the information says of the file, but for the name and its own size.
+-- The fields of the record, but for its own size and its name.
 pub record FileFields : Type 0 where
   pub file_size : ℕ
   pub physical_size : ℕ
@@ -15,7 +15,7 @@ pub record FileFields : Type 0 where
   pub modification_time : TimeFields
   pub attribute : ℕ
 
--- The numbers fit their places.
+-- Each number fits its bytes.
 pub record FitFile (fields : FileFields) : Type 0 where
   pub file_size : fields.file_size < 2 ^ 64
   pub physical_size : fields.physical_size < 2 ^ 64
@@ -24,28 +24,57 @@ pub record FitFile (fields : FileFields) : Type 0 where
   pub modification_time : Fits fields.modification_time
   pub attribute : fields.attribute < 2 ^ 64
 
--- The size that the record states, and the fields, each at its place.
+-- The offsets of the fields.
+abbrev pub size_offset : ℕ
+size_offset = 0
+
+abbrev pub file_size_offset : ℕ
+file_size_offset = 8
+
+abbrev pub physical_size_offset : ℕ
+physical_size_offset = 16
+
+abbrev pub create_time_offset : ℕ
+create_time_offset = 24
+
+abbrev pub last_access_time_offset : ℕ
+last_access_time_offset = 40
+
+abbrev pub modification_time_offset : ℕ
+modification_time_offset = 56
+
+abbrev pub attribute_offset : ℕ
+attribute_offset = 72
+
+abbrev pub file_name_offset : ℕ
+file_name_offset = 80
+
+-- The size of the record is a multiple of this.
+abbrev pub file_info_alignment : ℕ
+file_info_alignment = 8
+
+-- The size that the record states, and the other fields, each at its offset.
 abbrev pub size_in : List ℕ → ℕ
-size_in bytes = u64_at bytes 0
+size_in bytes = u64_at bytes size_offset
 
 abbrev pub file_fields : List ℕ → FileFields
 file_fields bytes = record {
-  file_size = u64_at bytes 8;
-  physical_size = u64_at bytes 16;
-  create_time = time_in (slice_range bytes 24 40);
-  last_access_time = time_in (slice_range bytes 40 56);
-  modification_time = time_in (slice_range bytes 56 72);
-  attribute = u64_at bytes 72;
+  file_size = u64_at bytes file_size_offset;
+  physical_size = u64_at bytes physical_size_offset;
+  create_time = time_at bytes create_time_offset;
+  last_access_time = time_at bytes last_access_time_offset;
+  modification_time = time_at bytes modification_time_offset;
+  attribute = u64_at bytes attribute_offset;
 }
 
--- The name stands behind them, at 80, and the record is aligned to 8 bytes.
+-- The size of the record of a name of this many units, and the verdict on bytes that were written.
 abbrev pub file_info_size : ℕ → ℕ
-file_info_size units = record_size 80 8 units
+file_info_size units = record_size file_name_offset file_info_alignment units
 
 abbrev pub file_info_verdict : List ℕ → ℕ → Verdict
-file_info_verdict front room = verdict 80 8 front room
+file_info_verdict written room = verdict file_name_offset file_info_alignment written room
 
--- The bytes before the name, and those of the whole record without the ones that round it up.
+-- The bytes before the name, and those of the whole record without its rounding bytes.
 abbrev pub file_header : ℕ → FileFields → List ℕ
 file_header size fields =
     u64_bytes size

@@ -1,4 +1,4 @@
--- The GUIDs of the three records (UEFI 2.10, 13.5 "EFI_FILE_PROTOCOL.GetInfo()", EFI_FILE_INFO_ID and its kin).
+-- The GUIDs of the three records (UEFI 2.10, 13.5 "EFI_FILE_PROTOCOL.GetInfo()", EFI_FILE_INFO_ID, EFI_FILE_SYSTEM_INFO_ID and EFI_FILE_SYSTEM_VOLUME_LABEL_ID).
 use Rattle.std.specs.Prelude.{[], ◌∷◌}
 use Rattle.uefi_base.specs.declared.guid.Guid.{Guid}
 

@@ -3,6 +3,6 @@ use Rattle.std.specs.Prelude.{List, ◌++◌, ℕ, codes, decimal}
 use Rattle.uefi_records.specs.declared.file.creation_error.FileInfoCreationError.{FileInfoCreationError}
 use Rattle.uefi_records.specs.declared.file.creation_error.FileInfoCreationError.TheVariants.{InsufficientStorage}
 
--- The text of a refusal for want of room, which names the size that the record needs.
+-- The text names the size of the record.
 abbrev pub creation_error_text : FileInfoCreationError → List ℕ
 creation_error_text (InsufficientStorage size) = codes "provided buffer was too small. need at least " ++ decimal size ++ codes " bytes"

@@ -1,20 +1,24 @@
--- Which fields of a time are outside their ranges (UEFI 2.10, 8.3 "GetTime()", EFI_TIME).
+-- Which fields of a time are at fault (UEFI 2.10, 8.3 "GetTime()", EFI_TIME).
 use Rattle.std.specs.Prelude.{◌≡◌, ℕ, ℤ, pos, neg_ℤ, Bool, false, true, not, if◌then◌else◌, ◌&&◌, ◌||◌, nat_lt, int_lt}
 use Rattle.std.specs.Ordering.{int_eq}
-use Rattle.uefi_records.specs.declared.time.error.TimeError.{TimeError}
-use Rattle.uefi_records.specs.Time.Fields.{TimeFields, unspecified_zone}
 use Rattle.uefi_base.specs.Flags.{has_bits}
+use Rattle.uefi_records.specs.declared.time.error.TimeError.{TimeError}
 use Rattle.uefi_records.specs.Flags.Named.{named_daylight}
+use Rattle.uefi_records.specs.Time.Fields.{TimeFields, unspecified_zone}
 
 -- Below the lowest or above the highest.
 abbrev pub is_outside : ℕ → ℕ → ℕ → Bool
 is_outside lowest highest n = nat_lt n lowest || nat_lt highest n
 
+-- The most minutes that a zone is from UTC: those of a day.
+abbrev pub largest_zone : ℤ
+largest_zone = pos 1440
+
 -- More than a day from UTC, to the east or to the west, and not the unspecified zone.
 abbrev pub is_zone_outside : ℤ → Bool
-is_zone_outside zone = not (int_eq zone unspecified_zone) && (int_lt zone (neg_ℤ (pos 1440)) || int_lt (pos 1440) zone)
+is_zone_outside zone = not (int_eq zone unspecified_zone) && (int_lt zone (neg_ℤ largest_zone) || int_lt largest_zone zone)
 
--- The fields outside their ranges. The pads have no range, and of daylight nothing is asked here.
+-- The fields outside their ranges. Padding has no range, and daylight is never at fault here.
 abbrev pub range_faults : TimeFields → TimeError
 range_faults time = record {
   year = is_outside 1900 9999 time.year;
@@ -52,6 +56,6 @@ daylight_alone = record no_fault { daylight = true }
 abbrev pub has_named_daylight : TimeFields → Bool
 has_named_daylight time = has_bits named_daylight time.daylight
 
--- What a reader finds wrong with a time: bits of daylight without a name, alone; else the fields outside their ranges.
+-- The faults of a time that is read from bytes: daylight alone, if it has a bit without a name; otherwise the fields outside their ranges.
 abbrev pub reading_faults : TimeFields → TimeError
 reading_faults time = if has_named_daylight time then range_faults time else daylight_alone

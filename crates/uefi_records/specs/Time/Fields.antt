@@ -1,9 +1,10 @@
 -- Times as firmware keeps them, and their bytes (UEFI 2.10, 8.3 "GetTime()", EFI_TIME).
-use Rattle.std.specs.Prelude.{◌≡◌, ℕ, ℤ, pos, ◌^◌, ◌<◌, List, [], ◌∷◌, ◌++◌, slice_index, slice_range, Option, Some, None, FitsSigned, if◌then◌else◌}
+use Rattle.std.specs.Prelude.{◌≡◌, ℕ, ℤ, pos, ◌+◌, ◌^◌, ◌<◌, List, [], ◌∷◌, ◌++◌, slice_index, slice_range, Option, Some, None, FitsSigned, if◌then◌else◌}
 use Rattle.std.specs.Ordering.{int_eq}
-use Rattle.std.specs.Int.{w16, w32, to_le_bytes, from_le_bytes, cast_signed, cast_unsigned}
+use Rattle.std.specs.Int.{w16, cast_signed, cast_unsigned}
+use Rattle.uefi_base.specs.LittleEndian.{u16_at, u16_bytes, u32_at, u32_bytes}
 
--- A time: a date, a time of day, the zone in minutes from UTC, daylight saving, and two bytes that mean nothing.
+-- A time: a date, a time of day, the zone in minutes from UTC, daylight saving, and two bytes of padding.
 pub record TimeFields : Type 0 where
   pub year : ℕ
   pub month : ℕ
@@ -17,7 +18,7 @@ pub record TimeFields : Type 0 where
   pub daylight : ℕ
   pub last_pad : ℕ
 
--- The numbers fit their places, whatever their ranges.
+-- Each number fits its bytes, whether or not it is within its range.
 pub record Fits (time : TimeFields) : Type 0 where
   pub year : time.year < 2 ^ 16
   pub month : time.month < 256
@@ -31,48 +32,89 @@ pub record Fits (time : TimeFields) : Type 0 where
   pub daylight : time.daylight < 256
   pub last_pad : time.last_pad < 256
 
--- The sixteen bytes of a time: the fields in this order, each number low byte first, the zone in two's complement.
+-- The sixteen bytes of a time: the fields in this order, little-endian, the zone in two's complement.
 abbrev pub time_bytes : TimeFields → List ℕ
 time_bytes time =
-    to_le_bytes w16 time.year
+    u16_bytes time.year
     ++ (time.month ∷ time.day ∷ time.hour ∷ time.minute ∷ time.second ∷ time.first_pad ∷ [])
-    ++ to_le_bytes w32 time.nanosecond
-    ++ to_le_bytes w16 (cast_unsigned w16 time.zone)
+    ++ u32_bytes time.nanosecond
+    ++ u16_bytes (cast_unsigned w16 time.zone)
     ++ (time.daylight ∷ time.last_pad ∷ [])
 
--- The bytes begin with the sixteen of the time.
+abbrev pub time_length : ℕ
+time_length = 16
+
+-- The bytes start with the sixteen bytes of the time.
 abbrev pub StandsIn : TimeFields → List ℕ → Type 0
 StandsIn time bytes = Fits time × ((rest : List ℕ) × (bytes ≡ time_bytes time ++ rest))
 
--- The time of sixteen bytes, each field at its place.
+-- The offsets of the fields.
+abbrev pub year_offset : ℕ
+year_offset = 0
+
+abbrev pub month_offset : ℕ
+month_offset = 2
+
+abbrev pub day_offset : ℕ
+day_offset = 3
+
+abbrev pub hour_offset : ℕ
+hour_offset = 4
+
+abbrev pub minute_offset : ℕ
+minute_offset = 5
+
+abbrev pub second_offset : ℕ
+second_offset = 6
+
+abbrev pub first_pad_offset : ℕ
+first_pad_offset = 7
+
+abbrev pub nanosecond_offset : ℕ
+nanosecond_offset = 8
+
+abbrev pub zone_offset : ℕ
+zone_offset = 12
+
+abbrev pub daylight_offset : ℕ
+daylight_offset = 14
+
+abbrev pub last_pad_offset : ℕ
+last_pad_offset = 15
+
+-- The time in the first sixteen bytes: each field at its offset.
 abbrev pub time_in : List ℕ → TimeFields
 time_in bytes = record {
-  year = from_le_bytes w16 (slice_range bytes 0 2);
-  month = slice_index bytes 2;
-  day = slice_index bytes 3;
-  hour = slice_index bytes 4;
-  minute = slice_index bytes 5;
-  second = slice_index bytes 6;
-  first_pad = slice_index bytes 7;
-  nanosecond = from_le_bytes w32 (slice_range bytes 8 12);
-  zone = cast_signed w16 (from_le_bytes w16 (slice_range bytes 12 14));
-  daylight = slice_index bytes 14;
-  last_pad = slice_index bytes 15;
+  year = u16_at bytes year_offset;
+  month = slice_index bytes month_offset;
+  day = slice_index bytes day_offset;
+  hour = slice_index bytes hour_offset;
+  minute = slice_index bytes minute_offset;
+  second = slice_index bytes second_offset;
+  first_pad = slice_index bytes first_pad_offset;
+  nanosecond = u32_at bytes nanosecond_offset;
+  zone = cast_signed w16 (u16_at bytes zone_offset);
+  daylight = slice_index bytes daylight_offset;
+  last_pad = slice_index bytes last_pad_offset;
 }
 
--- The zone that stands for none, EFI_UNSPECIFIED_TIMEZONE: the time is local.
+-- The time in the sixteen bytes at the offset.
+abbrev pub time_at : List ℕ → ℕ → TimeFields
+time_at bytes offset = time_in (slice_range bytes offset (offset + time_length))
+
+-- The zone of local time, EFI_UNSPECIFIED_TIMEZONE.
 abbrev pub unspecified_zone : ℤ
 unspecified_zone = pos 0x07ff
 
--- The zone as minutes from UTC, or none where it is unspecified.
+-- The zone in minutes from UTC, or None for local time.
 abbrev pub stated_zone : ℤ → Option ℤ
 stated_zone zone = if int_eq zone unspecified_zone then None else Some zone
 
--- The time with zeros in its pads.
+-- The time with zeros in its padding.
 abbrev pub without_pads : TimeFields → TimeFields
 without_pads time = record time { first_pad = 0; last_pad = 0 }
 
--- The time of which every byte is zero.
+-- The time whose bytes are all zero.
 abbrev pub zero_time : TimeFields
 zero_time = record {
   year = 0;

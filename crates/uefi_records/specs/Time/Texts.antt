@@ -4,11 +4,11 @@ use Rattle.uefi_records.specs.declared.time.error.TimeError.{TimeError}
 use Rattle.uefi_records.specs.declared.time.error.TimeByteConversionError.{TimeByteConversionError}
 use Rattle.uefi_records.specs.declared.time.error.TimeByteConversionError.TheVariants.{InvalidFields, InvalidSize}
 
--- The text and a newline for a field that is at fault, else nothing.
+-- The text and a newline if the field is at fault, and otherwise nothing.
 abbrev pub fault_line : Bool → List ℕ → List ℕ
 fault_line at_fault text = if at_fault then text ++ 10 ∷ [] else []
 
--- A line for each field that is at fault, in the fields' order. The month's has no closing backquote.
+-- A line for each field that is at fault, in the order of the fields. The line of the month has no closing backquote.
 abbrev pub time_error_text : TimeError → List ℕ
 time_error_text faults =
     fault_line faults.year (codes "year not within `1900..=9999`")

@@ -2,14 +2,14 @@ ghost use Rattle.std.specs.Prelude.{Some};
 
 use std::fmt;
 
-/// Why a record was not written.
+/// The error of a record that was not written.
 #[derive(Clone, Copy, PartialEq, Eq, Debug)]
 pub enum FileInfoCreationError {
-    /// The storage is shorter than the record, which needs this many bytes.
+    /// The storage is shorter than the record, whose size this is, in bytes.
     InsufficientStorage(usize),
 }
 
-/// `provided buffer was too small. need at least N bytes`, without a newline.
+/// The text `provided buffer was too small. need at least N bytes`, without a newline.
 impl fmt::Display for FileInfoCreationError {
     ghost use Rattle.uefi_records.specs.File.Texts.{creation_error_text};
 

@@ -1,71 +1,79 @@
-ghost use Rattle.std.specs.Prelude.{◌≡◌, ◌↔◌, ◌≤◌, Err, length, take, IsOk, IfOk, IfErr, MatchResult};
+ghost use Rattle.std.specs.Prelude.{◌≡◌, ◌↔◌, ◌≤◌, Err, length, take, IsOk, IfOk, IfErr, OnOk, MatchResult};
 ghost use Rattle.std.specs.Borrow.{sem};
-ghost use Rattle.uefi_base.specs.Buffer.{put_front, EndsAs};
-ghost use Rattle.uefi_base.specs.Unaligned.{unit_bytes};
+ghost use Rattle.uefi_base.specs.Buffer.{put_prefix, EndsAs};
 ghost use Rattle.uefi_base.specs.Views.{slice_units, text_units};
-ghost use Rattle.uefi_records.specs.File.Name.{EndsWithName};
-ghost use Rattle.uefi_records.specs.File.FileSystemInfo.{volume_label_size, volume_label_verdict};
-ghost use Rattle.uefi_records.specs.File.Verdict.{Answers};
+ghost use Rattle.uefi_records.specs.File.Name.{EndsWithName, FitName};
+ghost use Rattle.uefi_records.specs.File.FileSystemInfo.{lone_label_offset, volume_label_alignment, volume_label_bytes, volume_label_size, volume_label_verdict};
+ghost use Rattle.uefi_records.specs.File.Verdict.{FollowsVerdict};
 
 use crate::file::creation_error::FileInfoCreationError;
-use crate::file::name::name_end;
+use crate::file::name::{name_at, name_end};
 use crate::file::protocol_info::FileProtocolInfo;
 use crate::file::write::write_file_system_volume_label;
 use uefi_base::{Align, CStr16, Error, Guid, Identify, UnalignedSlice};
 
-/// What the record's size is a multiple of.
+// The offset of the label, and what the record's size is a multiple of.
+pub(crate) const LABEL_OFFSET: usize = 0;
+
 pub(crate) const ALIGNMENT: usize = 2;
 
-/// The label of a file system (UEFI 2.10, 13.5 `EFI_FILE_PROTOCOL.GetInfo()`,
-/// `EFI_FILE_SYSTEM_VOLUME_LABEL`).
+/// A volume label record (UEFI 2.10, 13.5 `EFI_FILE_PROTOCOL.GetInfo()`,
+/// `EFI_FILE_SYSTEM_VOLUME_LABEL`): the label of a volume, and nothing else.
 ///
 /// | offset | bytes | field |
 /// |---|---|---|
 /// | 0 | 2 a unit | label, little-endian, with its NUL |
 ///
-/// A view: it borrows the bytes that it was read from or written to, and what it hands out lives as
-/// long as they do. Two are equal where the labels' units are.
+/// A view: it borrows the bytes that it was read from or written to, and what it returns lives as
+/// long as they do. Two are equal if the units of the labels are.
 #[derive(Clone, Copy)]
 pub struct FileSystemVolumeLabel<'a> {
     bytes: &'a [u8],
-    pub ghost named: { EndsWithName 0 bytes.now },
+    pub ghost named: { EndsWithName lone_label_offset bytes.now },
 }
 
 impl<'a> FileSystemVolumeLabel<'a> {
     ghost use Rattle.uefi_records.specs.File.Views.{volume_label_view, volume_label_of};
 
-    /// The record that stands in the first `written` bytes of the buffer, or in all of it where it
-    /// is shorter.
+    /// Reads the record in the first `written` bytes of the buffer, or in the whole buffer if it is
+    /// shorter.
     ///
-    /// The label ends with the first zero unit there. Refused as
-    /// [`BAD_BUFFER_SIZE`](uefi_base::Status::BAD_BUFFER_SIZE), with no data, where there is none.
+    /// The label ends with the first zero unit there.
+    ///
+    /// # Errors
+    ///
+    /// [`BAD_BUFFER_SIZE`](uefi_base::Status::BAD_BUFFER_SIZE), with no data, if no unit there is
+    /// zero.
     pub fn from_uefi(
         buffer: &'a [u8],
         written: usize,
     ) -> Result<FileSystemVolumeLabel<'a>, Error<Option<usize>>>
-        ensures verdict { Answers volume_label_of
+        ensures verdict { FollowsVerdict volume_label_of
             (volume_label_verdict (take written buffer.now) (length buffer.now)) result }
     {
-        let end = name_end(buffer, written, 0, ALIGNMENT)?;
+        let end = name_end(buffer, written, LABEL_OFFSET, ALIGNMENT)?;
         Ok(FileSystemVolumeLabel {
             bytes: &buffer[..end],
         })
     }
 
-    /// Writes the record to the front of the storage, and answers a view of it.
+    /// Writes a record to the beginning of the storage, and returns a view of it. All that follows
+    /// stays as it was.
     ///
-    /// All that follows stays as it was. Refused as
-    /// [`FileInfoCreationError::InsufficientStorage`], with the record's size, exactly where the
-    /// storage is shorter; every byte then stays as it was.
+    /// # Errors
+    ///
+    /// [`FileInfoCreationError::InsufficientStorage`], with the record's size, exactly if the
+    /// storage is shorter. Every byte then stays as it was.
     pub fn new(
         storage: &'a mut [u8],
         volume_label: &CStr16,
     ) -> Result<FileSystemVolumeLabel<'a>, FileInfoCreationError>
         ensures* after { sem 𝓛 (EndsAs storage.entry (λ after. MatchResult result
-            (λ _. after ≡ put_front (unit_bytes (text_units volume_label.now)) storage.old)
+            (λ _. after ≡ put_prefix (volume_label_bytes (text_units volume_label.now)) storage.old)
             (λ _. after ≡ storage.old))) }
         ensures label { IfOk result
             (λ label. volume_label_of label ≡ text_units volume_label.now) }
+        ensures label_fits { OnOk result (FitName (text_units volume_label.now)) }
         ensures short { IfErr result (λ error. error ≡ FileInfoCreationError.InsufficientStorage
             (volume_label_size (length (text_units volume_label.now)))) }
         ensures fits { IsOk result
@@ -75,20 +83,22 @@ impl<'a> FileSystemVolumeLabel<'a> {
         FileSystemVolumeLabel::over(storage, written)
     }
 
-    /// The label's units, its NUL too.
+    /// The units of the label: the last is zero, the NUL, and no other is.
     pub fn volume_label(&self) -> UnalignedSlice<'a>
-        ensures { slice_units result ≡ volume_label_of self.now }
+        ensures units { slice_units result ≡ volume_label_of self.now }
+        ensures name { FitName (slice_units result) }
     {
-        UnalignedSlice::new(self.bytes)
+        name_at(self.bytes, LABEL_OFFSET)
     }
 
-    // The view of what was written, if it was.
+    // The view of the record that was written, if it was.
     fn over(
         bytes: &'a [u8],
         written: Result<usize, FileInfoCreationError>,
     ) -> Result<FileSystemVolumeLabel<'a>, FileInfoCreationError>
         requires { IfOk written
-            (λ end. (end ≤ length bytes.now) × EndsWithName 0 (take end bytes.now)) }
+            (λ end. (end ≤ length bytes.now)
+            × EndsWithName lone_label_offset (take end bytes.now)) }
         ensures seen { MatchResult written
             (λ end. IfOk result (λ label. volume_label_view label ≡ take end bytes.now))
             (λ error. result ≡ Err error) }
@@ -101,7 +111,7 @@ impl<'a> FileSystemVolumeLabel<'a> {
     }
 }
 
-/// Equality of the label's units.
+/// Compares the units of the labels.
 impl PartialEq for FileSystemVolumeLabel<'_> {
     ghost use Rattle.std.specs.Prelude.{nat_eq};
     ghost use Rattle.std.specs.Cmp.{partial_equiv_from_equiv, on_per};
@@ -126,10 +136,10 @@ impl Eq for FileSystemVolumeLabel<'_> {
 }
 
 impl Align for FileSystemVolumeLabel<'_> {
-    ghost alignment = { 2 };
+    ghost alignment = { volume_label_alignment };
 
     fn alignment() -> usize
-        ensures { result ≡ 2 }
+        ensures { result ≡ volume_label_alignment }
     {
         ALIGNMENT
     }

@@ -1,38 +1,49 @@
-//! What the three records share: the search for a name's NUL, and the verdict on what was written.
+//! What the three records share: the search for a name's NUL, the verdict on written bytes, and the
+//! room that a writer needs.
 
-ghost use Rattle.std.specs.Prelude.{◌≡◌, ◌+◌, ◌-◌, ◌*◌, ◌<◌, ◌≤◌, ◌^◌, None, Some, length, take, MatchOption, MatchResult};
+ghost use Rattle.std.specs.Prelude.{◌≡◌, ◌↔◌, ◌+◌, ◌*◌, ◌<◌, ◌≤◌, ◌^◌, length, take, IfSome, IsOk, IfOk, IfErr, MatchResult};
 ghost use Rattle.uefi_base.specs.Unaligned.{units_of};
 ghost use Rattle.uefi_base.specs.Views.{slice_units};
-ghost use Rattle.uefi_records.specs.File.Name.{EndsWithName, IsFirstZero, first_zero, record_size, round_up, units_from};
+ghost use Rattle.uefi_records.specs.File.Name.{EndsWithName, FitName, first_zero, record_end, record_size, round_up, units_from};
 ghost use Rattle.uefi_records.specs.File.Verdict.{verdict, accepted, Refuses};
 
+use crate::file::creation_error::FileInfoCreationError;
 use uefi_base::{Error, Status, UnalignedSlice};
 
-/// The bytes of a unit.
-pub(crate) const UNIT_LENGTH: usize = 2;
+/// The length of a unit, in bytes.
+const UNIT_LENGTH: usize = 2;
 
-// The first unit that is zero, with its place.
-fn first_zero(units: &UnalignedSlice<'_>) -> Option<(usize, u16)>
-    ensures { IsFirstZero (slice_units units.now) result }
-{
-    units.iter().enumerate().find(|(_, unit)| *unit == 0)
-}
-
-// How many units the name has that the bytes begin with, its NUL too.
-fn name_length(bytes: &[u8]) -> Option<usize>
-    ensures { MatchOption result (first_zero (units_of bytes.now) ≡ None)
-        (λ count. (first_zero (units_of bytes.now) ≡ Some (count - 1)) × (0 < count)
-        × (2 * count ≤ length bytes.now)) }
+// The index of the first unit that is zero, among the whole units of the bytes.
+#[tactic(auto, using(crate::proofs::Files::FirstZero::whole_units, uefi_base::proofs::UnitsOfBytes::units_count))]
+fn first_zero(bytes: &[u8]) -> Option<usize>
+    ensures first { result ≡ first_zero (units_of bytes.now) }
+    ensures within { IfSome result
+        (λ index. record_end 0 (index + 1) ≤ length bytes.now) }
 {
     let whole = bytes.len() / UNIT_LENGTH * UNIT_LENGTH;
-    match first_zero(&UnalignedSlice::new(&bytes[..whole])) {
-        Some((place, _)) => Some(place + 1),
-        None => None,
+    let mut index = 0;
+    for unit in UnalignedSlice::new(&bytes[..whole]).iter() {
+        if unit == 0 {
+            return Some(index);
+        }
+        index += 1;
     }
+    None
+}
+
+// The units of the name behind the offset.
+#[tactic(auto, using(crate::proofs::Files::Names::FitName_from))]
+pub(crate) fn name_at<'a>(bytes: &'a [u8], offset: usize) -> UnalignedSlice<'a>
+    requires { EndsWithName offset bytes.now }
+    ensures units { slice_units result ≡ units_from offset bytes.now }
+    ensures name { FitName (slice_units result) }
+{
+    let (_, name) = bytes.split_at(offset);
+    UnalignedSlice::new(name)
 }
 
 // The number, rounded up to a multiple of the alignment.
-pub(crate) fn round_up(n: usize, alignment: usize) -> usize
+fn round_up(n: usize, alignment: usize) -> usize
     requires positive { 0 < alignment }
     requires room { n + alignment < 2 ^ 64 }
     ensures { result ≡ round_up n alignment }
@@ -40,8 +51,7 @@ pub(crate) fn round_up(n: usize, alignment: usize) -> usize
     (n + (alignment - 1)) / alignment * alignment
 }
 
-// Where the name ends of the record that stands in the first `written` bytes, a name that begins at
-// the offset.
+// The end of the record in the first `written` bytes, whose name begins at the offset.
 pub(crate) fn name_end(
     buffer: &[u8],
     written: usize,
@@ -56,18 +66,45 @@ pub(crate) fn name_end(
         × (seen ≡ accepted (units_from offset (take end buffer.now))))
         (Refuses seen) }
 {
-    let front = &buffer[..written.min(buffer.len())];
-    if front.len() < offset {
+    let written = &buffer[..written.min(buffer.len())];
+    if written.len() < offset {
         return Err(Error::new(Status::BAD_BUFFER_SIZE, None));
     }
-    let Some(count) = name_length(&front[offset..]) else {
+    let Some(index) = first_zero(&written[offset..]) else {
         return Err(Error::new(Status::BAD_BUFFER_SIZE, None));
     };
-    let end = offset + UNIT_LENGTH * count;
+    let end = offset + UNIT_LENGTH * (index + 1);
     let size = round_up(end, alignment);
     if buffer.len() < size {
         Err(Error::new(Status::BUFFER_TOO_SMALL, Some(size)))
     } else {
         Ok(end)
+    }
+}
+
+// The end and the size of a record with a name of so many units, if a buffer of this length has
+// room for it.
+pub(crate) fn room_for(
+    units: usize,
+    offset: usize,
+    alignment: usize,
+    room: usize,
+) -> Result<(usize, usize), FileInfoCreationError>
+    requires positive { 0 < alignment }
+    requires small { alignment ≤ 8 }
+    requires near { offset ≤ 80 }
+    requires short { units ≤ 2 ^ 31 }
+    ensures end { IfOk result (λ place. place.0 ≡ record_end offset units) }
+    ensures size { IfOk result (λ place. place.1 ≡ record_size offset alignment units) }
+    ensures fails { IfErr result (λ error. error
+        ≡ FileInfoCreationError.InsufficientStorage (record_size offset alignment units)) }
+    ensures fits { IsOk result ↔ (record_size offset alignment units ≤ room) }
+{
+    let end = offset + UNIT_LENGTH * units;
+    let size = round_up(end, alignment);
+    if room < size {
+        Err(FileInfoCreationError::InsufficientStorage(size))
+    } else {
+        Ok((end, size))
     }
 }

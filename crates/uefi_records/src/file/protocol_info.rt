@@ -1,5 +1,5 @@
 use uefi_base::{Align, Identify};
 
-/// A record that a file's protocol gives and takes: of an alignment, and told by a GUID (UEFI 2.10,
+/// A record of the file protocol: it has an alignment, and a GUID identifies its type (UEFI 2.10,
 /// 13.5 `EFI_FILE_PROTOCOL.GetInfo()`).
 pub trait FileProtocolInfo: Align + Identify {}

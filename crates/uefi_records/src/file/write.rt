@@ -1,27 +1,35 @@
-ghost use Rattle.std.specs.Prelude.{◌≡◌, ◌↔◌, ◌+◌, ◌*◌, ◌≤◌, length, slice_range, IsOk, IfOk, IfErr, OnOk, OnErr};
-ghost use Rattle.uefi_base.specs.Buffer.{put_front};
-ghost use Rattle.uefi_base.specs.Unaligned.{AreUnits, unit_bytes};
+//! Writers that borrow the buffer for the call alone, so that a caller's proof knows what the
+//! buffer holds after it.
+
+ghost use Rattle.std.specs.Prelude.{◌≡◌, ◌↔◌, ◌≤◌, length, IsOk, IfOk, IfErr, OnOk, OnErr};
+ghost use Rattle.uefi_base.specs.Buffer.{put_prefix};
 ghost use Rattle.uefi_base.specs.Views.{text_units};
-ghost use Rattle.uefi_records.specs.File.FileInfo.{FitFile, file_info_bytes, file_info_size};
-ghost use Rattle.uefi_records.specs.File.FileSystemInfo.{FitFileSystem, file_system_info_bytes, file_system_info_size, volume_label_size};
+ghost use Rattle.uefi_records.specs.File.Name.{FitName, record_end};
+ghost use Rattle.uefi_records.specs.File.FileInfo.{FitFile, file_info_bytes, file_info_size, file_name_offset};
+ghost use Rattle.uefi_records.specs.File.FileSystemInfo.{FitFileSystem, file_system_info_bytes, file_system_info_size, label_offset, lone_label_offset, unused_bytes, volume_label_bytes, volume_label_size};
 ghost use Rattle.uefi_records.specs.File.Views.{file_fields_given, file_system_fields_given};
 
 use crate::file::creation_error::FileInfoCreationError;
-use crate::file::name::{UNIT_LENGTH, round_up};
+use crate::file::name::room_for;
 use crate::file::{file_info, file_system_info, file_system_volume_label};
 use crate::flags::FileAttribute;
 use crate::time::Time;
 use uefi_base::CStr16;
 use uefi_base::buffer::{put, put_units};
 
-/// Writes a file's information to the front of a buffer, and answers how many bytes it wrote: up to
-/// and with the name's NUL, which is what [`FileInfo::from_uefi`](crate::FileInfo::from_uefi) takes as `written`.
+/// Writes a [`FileInfo`](crate::FileInfo) record to the beginning of a buffer, and returns its end:
+/// the offset behind the name's NUL, which is what
+/// [`FileInfo::from_uefi`](crate::FileInfo::from_uefi) takes as `written`.
 ///
-/// The stated size is that of the record, rounded up; the bytes that round it up, and all that
-/// follows, stay as they were. Refused as [`FileInfoCreationError::InsufficientStorage`], with the
-/// record's size, exactly where the buffer is shorter; every byte then stays as it was.
+/// The stated size is the record's size, rounded up to a multiple of 8. The rounding bytes, and all
+/// that follows, stay as they were. [`FileInfo::new`](crate::FileInfo::new) does the same and
+/// returns a view of the record.
 ///
-/// [`FileInfo::new`](crate::FileInfo::new) does the same and answers a view of the record.
+/// # Errors
+///
+/// [`FileInfoCreationError::InsufficientStorage`], with the record's size, exactly if the buffer is
+/// shorter. Every byte then stays as it was.
+#[tactic(auto, using(crate::proofs::Files::Names::FitName_of_text))]
 pub fn write_file_info(
     buffer: &mut [u8],
     file_size: u64,
@@ -32,47 +40,56 @@ pub fn write_file_info(
     attribute: FileAttribute,
     file_name: &CStr16,
 ) -> Result<usize, FileInfoCreationError>
-    ensures end { IfOk result (λ end. end ≡ 80 + 2 * length (text_units file_name.now)) }
-    ensures written { OnOk result (buffer.new ≡ put_front
+    ensures end { IfOk result
+        (λ end. end ≡ record_end file_name_offset (length (text_units file_name.now))) }
+    ensures written { OnOk result (buffer.new ≡ put_prefix
         (file_info_bytes (file_fields_given file_size physical_size create_time
         last_access_time modification_time attribute) (text_units file_name.now)) buffer.old) }
     ensures fields_fit { OnOk result (FitFile (file_fields_given file_size physical_size
         create_time last_access_time modification_time attribute)) }
-    ensures name_fits { OnOk result (AreUnits (text_units file_name.now)) }
+    ensures name_fits { OnOk result (FitName (text_units file_name.now)) }
     ensures short { IfErr result (λ error. error ≡ FileInfoCreationError.InsufficientStorage
         (file_info_size (length (text_units file_name.now)))) }
     ensures unchanged { OnErr result (buffer.new ≡ buffer.old) }
     ensures fits { IsOk result
         ↔ (file_info_size (length (text_units file_name.now)) ≤ length buffer.old) }
 {
+    use file_info::*;
     let name = file_name.as_u16_with_nul();
-    let end = file_info::NAME_OFFSET + UNIT_LENGTH * name.len();
-    let size = round_up(end, file_info::ALIGNMENT);
-    if buffer.len() < size {
-        return Err(FileInfoCreationError::InsufficientStorage(size));
-    }
-    put(buffer, 0, &(size as u64).to_le_bytes());
-    put(buffer, 8, &file_size.to_le_bytes());
-    put(buffer, 16, &physical_size.to_le_bytes());
-    put(buffer, 24, &create_time.to_bytes());
-    put(buffer, 40, &last_access_time.to_bytes());
-    put(buffer, 56, &modification_time.to_bytes());
-    put(buffer, 72, &attribute.bits().to_le_bytes());
-    put_units(buffer, file_info::NAME_OFFSET, name);
+    let (end, size) = room_for(name.len(), NAME_OFFSET, ALIGNMENT, buffer.len())?;
+    put(buffer, SIZE_OFFSET, &(size as u64).to_le_bytes());
+    put(buffer, FILE_SIZE_OFFSET, &file_size.to_le_bytes());
+    put(buffer, PHYSICAL_SIZE_OFFSET, &physical_size.to_le_bytes());
+    put(buffer, CREATE_TIME_OFFSET, &create_time.to_bytes());
+    put(
+        buffer,
+        LAST_ACCESS_TIME_OFFSET,
+        &last_access_time.to_bytes(),
+    );
+    put(
+        buffer,
+        MODIFICATION_TIME_OFFSET,
+        &modification_time.to_bytes(),
+    );
+    put(buffer, ATTRIBUTE_OFFSET, &attribute.bits().to_le_bytes());
+    put_units(buffer, NAME_OFFSET, name);
     Ok(end)
 }
 
-/// Writes a file system's information to the front of a buffer, and answers how many bytes it
-/// reaches over: up to and with the label's NUL, which is what
+/// Writes a [`FileSystemInfo`](crate::FileSystemInfo) record to the beginning of a buffer, and
+/// returns its end: the offset behind the label's NUL, which is what
 /// [`FileSystemInfo::from_uefi`](crate::FileSystemInfo::from_uefi) takes as `written`.
 ///
-/// The stated size is that of the record, rounded up; the unused bytes 9 to 15, the bytes that round
-/// the record up, and all that follows, stay as they were. Refused as
-/// [`FileInfoCreationError::InsufficientStorage`], with the record's size, exactly where the buffer
-/// is shorter; every byte then stays as it was.
-///
-/// [`FileSystemInfo::new`](crate::FileSystemInfo::new) does the same and answers a view of the
+/// The stated size is the record's size, rounded up to a multiple of 8. The unused bytes 9 to 15,
+/// the rounding bytes, and all that follows, stay as they were.
+/// [`FileSystemInfo::new`](crate::FileSystemInfo::new) does the same and returns a view of the
 /// record.
+///
+/// # Errors
+///
+/// [`FileInfoCreationError::InsufficientStorage`], with the record's size, exactly if the buffer is
+/// shorter. Every byte then stays as it was.
+#[tactic(auto, using(crate::proofs::Files::Names::FitName_of_text))]
 pub fn write_file_system_info(
     buffer: &mut [u8],
     read_only: bool,
@@ -81,63 +98,64 @@ pub fn write_file_system_info(
     block_size: u32,
     volume_label: &CStr16,
 ) -> Result<usize, FileInfoCreationError>
-    ensures end { IfOk result (λ end. end ≡ 36 + 2 * length (text_units volume_label.now)) }
-    ensures written { OnOk result (buffer.new ≡ put_front (file_system_info_bytes
+    ensures end { IfOk result
+        (λ end. end ≡ record_end label_offset (length (text_units volume_label.now))) }
+    ensures written { OnOk result (buffer.new ≡ put_prefix (file_system_info_bytes
         (file_system_fields_given read_only volume_size free_space block_size)
-        (slice_range buffer.old 9 16) (text_units volume_label.now)) buffer.old) }
+        (unused_bytes buffer.old) (text_units volume_label.now)) buffer.old) }
     ensures fields_fit { OnOk result (FitFileSystem
         (file_system_fields_given read_only volume_size free_space block_size)) }
-    ensures label_fits { OnOk result (AreUnits (text_units volume_label.now)) }
+    ensures label_fits { OnOk result (FitName (text_units volume_label.now)) }
     ensures short { IfErr result (λ error. error ≡ FileInfoCreationError.InsufficientStorage
         (file_system_info_size (length (text_units volume_label.now)))) }
     ensures unchanged { OnErr result (buffer.new ≡ buffer.old) }
     ensures fits { IsOk result
         ↔ (file_system_info_size (length (text_units volume_label.now)) ≤ length buffer.old) }
 {
+    use file_system_info::*;
     let label = volume_label.as_u16_with_nul();
-    let end = file_system_info::LABEL_OFFSET + UNIT_LENGTH * label.len();
-    let size = round_up(end, file_system_info::ALIGNMENT);
-    if buffer.len() < size {
-        return Err(FileInfoCreationError::InsufficientStorage(size));
-    }
-    put(buffer, 0, &(size as u64).to_le_bytes());
-    put(buffer, 8, &[read_only as u8]);
-    put(buffer, 16, &volume_size.to_le_bytes());
-    put(buffer, 24, &free_space.to_le_bytes());
-    put(buffer, 32, &block_size.to_le_bytes());
-    put_units(buffer, file_system_info::LABEL_OFFSET, label);
+    let (end, size) = room_for(label.len(), LABEL_OFFSET, ALIGNMENT, buffer.len())?;
+    put(buffer, SIZE_OFFSET, &(size as u64).to_le_bytes());
+    put(buffer, READ_ONLY_OFFSET, &[read_only as u8]);
+    put(buffer, VOLUME_SIZE_OFFSET, &volume_size.to_le_bytes());
+    put(buffer, FREE_SPACE_OFFSET, &free_space.to_le_bytes());
+    put(buffer, BLOCK_SIZE_OFFSET, &block_size.to_le_bytes());
+    put_units(buffer, LABEL_OFFSET, label);
     Ok(end)
 }
 
-/// Writes a file system's label to the front of a buffer, and answers how many bytes it wrote: up to
-/// and with its NUL, which is what
-/// [`FileSystemVolumeLabel::from_uefi`](crate::FileSystemVolumeLabel::from_uefi) takes as `written`.
+/// Writes a [`FileSystemVolumeLabel`](crate::FileSystemVolumeLabel) record to the beginning of a
+/// buffer, and returns its end: the offset behind the label's NUL, which is what
+/// [`FileSystemVolumeLabel::from_uefi`](crate::FileSystemVolumeLabel::from_uefi) takes as
+/// `written`.
 ///
-/// All that follows stays as it was. Refused as [`FileInfoCreationError::InsufficientStorage`], with
-/// the record's size, exactly where the buffer is shorter; every byte then stays as it was.
+/// All that follows stays as it was.
+/// [`FileSystemVolumeLabel::new`](crate::FileSystemVolumeLabel::new) does the same and returns a
+/// view of the record.
 ///
-/// [`FileSystemVolumeLabel::new`](crate::FileSystemVolumeLabel::new) does the same and answers a view
-/// of the record.
+/// # Errors
+///
+/// [`FileInfoCreationError::InsufficientStorage`], with the record's size, exactly if the buffer is
+/// shorter. Every byte then stays as it was.
+#[tactic(auto, using(crate::proofs::Files::Names::FitName_of_text))]
 pub fn write_file_system_volume_label(
     buffer: &mut [u8],
     volume_label: &CStr16,
 ) -> Result<usize, FileInfoCreationError>
-    ensures end { IfOk result (λ end. end ≡ 2 * length (text_units volume_label.now)) }
+    ensures end { IfOk result
+        (λ end. end ≡ record_end lone_label_offset (length (text_units volume_label.now))) }
     ensures written { OnOk result
-        (buffer.new ≡ put_front (unit_bytes (text_units volume_label.now)) buffer.old) }
-    ensures label_fits { OnOk result (AreUnits (text_units volume_label.now)) }
+        (buffer.new ≡ put_prefix (volume_label_bytes (text_units volume_label.now)) buffer.old) }
+    ensures label_fits { OnOk result (FitName (text_units volume_label.now)) }
     ensures short { IfErr result (λ error. error ≡ FileInfoCreationError.InsufficientStorage
         (volume_label_size (length (text_units volume_label.now)))) }
     ensures unchanged { OnErr result (buffer.new ≡ buffer.old) }
     ensures fits { IsOk result
         ↔ (volume_label_size (length (text_units volume_label.now)) ≤ length buffer.old) }
 {
+    use file_system_volume_label::{ALIGNMENT, LABEL_OFFSET};
     let label = volume_label.as_u16_with_nul();
-    let end = UNIT_LENGTH * label.len();
-    let size = round_up(end, file_system_volume_label::ALIGNMENT);
-    if buffer.len() < size {
-        return Err(FileInfoCreationError::InsufficientStorage(size));
-    }
-    put_units(buffer, 0, label);
+    let (end, _) = room_for(label.len(), LABEL_OFFSET, ALIGNMENT, buffer.len())?;
+    put_units(buffer, LABEL_OFFSET, label);
     Ok(end)
 }

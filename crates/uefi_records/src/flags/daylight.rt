@@ -5,19 +5,19 @@ ghost use Rattle.uefi_records.specs.Flags.Named.{named_daylight};
 
 use bitflags::{Flag, Flags, bitflag_items};
 
-/// How daylight saving bears on a time: a set of flags in one byte (UEFI 2.10, 8.3 `GetTime()`,
+/// How daylight saving affects a time: a set of flags in one byte (UEFI 2.10, 8.3 `GetTime()`,
 /// `EFI_TIME`).
 ///
-/// Equality and order are those of the bits, and the default is the empty set. A bit without a name
-/// here is kept where [`Daylight::from_bits_retain`] makes the set.
+/// Equality and order are those of the bits, and the default is the empty set.
+/// [`Daylight::from_bits_retain`] keeps bits without a name.
 #[derive(Clone, Copy, PartialEq, Eq, PartialOrd, Ord, Default, Debug)]
 pub struct Daylight(u8);
 
 bitflag_items! {
     impl Daylight: u8 {
-        /// Daylight saving bears on the time: it is to be set forward where that begins.
+        /// The time is affected by daylight saving: clocks are set forward when it begins.
         const ADJUST_DAYLIGHT = 0x01;
-        /// The time was set forward for daylight saving.
+        /// The time has been set forward for daylight saving.
         const IN_DAYLIGHT = 0x02;
     }
 }
@@ -25,21 +25,21 @@ bitflag_items! {
 impl Daylight {
     ghost use Rattle.uefi_records.specs.Flags.Views.{daylight_bits};
 
-    /// The set of no flags.
+    /// Returns the set without flags.
     pub fn empty() -> Daylight
         ensures { daylight_bits result ≡ 0 }
     {
         <Daylight as Flags>::empty()
     }
 
-    /// All bits of the set, those without a name too.
+    /// All bits of the set, also those without a name.
     pub fn bits(&self) -> u8
         ensures { result ≡ daylight_bits self.now }
     {
         <Daylight as Flags>::bits(self)
     }
 
-    /// The set of these bits, or none where one of them has no name.
+    /// Returns the set of these bits, or `None` if one of them has no name.
     #[tactic(auto, using(uefi_base::proofs::NamedBits::named_bits), unfolding(bitflags::proofs::OnLiterals::bitflags_on_literals))]
     pub fn from_bits(bits: u8) -> Option<Daylight>
         ensures named { IsSome result ↔ IsTrue (has_bits named_daylight bits) }
@@ -48,7 +48,7 @@ impl Daylight {
         <Daylight as Flags>::from_bits(bits)
     }
 
-    /// The set of these bits, those without a name too.
+    /// Returns the set of these bits, also those without a name.
     pub fn from_bits_retain(bits: u8) -> Daylight
         ensures { daylight_bits result ≡ bits }
     {
@@ -62,7 +62,7 @@ impl Daylight {
         <Daylight as Flags>::contains(self, other)
     }
 
-    /// The bits of either set.
+    /// Returns the set of the bits that are in either set.
     pub fn union(self, other: Daylight) -> Daylight
         ensures { daylight_bits result ≡ bit_or (daylight_bits self) (daylight_bits other) }
     {

@@ -5,25 +5,25 @@ ghost use Rattle.uefi_records.specs.Flags.Named.{named_attributes};
 
 use bitflags::{Flag, Flags, bitflag_items};
 
-/// What a file is, and what may be done with it: a set of flags in eight bytes (UEFI 2.10, 13.5
+/// The attributes of a file: a set of flags in eight bytes (UEFI 2.10, 13.5
 /// `EFI_FILE_PROTOCOL.Open()`).
 ///
-/// Equality and order are those of the bits, and the default is the empty set. A bit without a name
-/// here is kept where [`FileAttribute::from_bits_retain`] makes the set.
+/// Equality and order are those of the bits, and the default is the empty set.
+/// [`FileAttribute::from_bits_retain`] keeps bits without a name.
 #[derive(Clone, Copy, PartialEq, Eq, PartialOrd, Ord, Default, Debug)]
 pub struct FileAttribute(u64);
 
 bitflag_items! {
     impl FileAttribute: u64 {
-        /// The file can't be written.
+        /// The file is read-only.
         const READ_ONLY = 0x01;
-        /// The file isn't meant to be listed.
+        /// The file is hidden from listings.
         const HIDDEN = 0x02;
         /// The file belongs to an operating system.
         const SYSTEM = 0x04;
         /// The file is a directory.
         const DIRECTORY = 0x10;
-        /// The file was changed since it was last archived.
+        /// The file has changed since it was last archived.
         const ARCHIVE = 0x20;
         /// All flags that have a name.
         const VALID_ATTR = 0x37;
@@ -33,21 +33,21 @@ bitflag_items! {
 impl FileAttribute {
     ghost use Rattle.uefi_records.specs.Flags.Views.{attribute_bits};
 
-    /// The set of no flags.
+    /// Returns the set without flags.
     pub fn empty() -> FileAttribute
         ensures { attribute_bits result ≡ 0 }
     {
         <FileAttribute as Flags>::empty()
     }
 
-    /// All bits of the set, those without a name too.
+    /// All bits of the set, also those without a name.
     pub fn bits(&self) -> u64
         ensures { result ≡ attribute_bits self.now }
     {
         <FileAttribute as Flags>::bits(self)
     }
 
-    /// The set of these bits, or none where one of them has no name.
+    /// Returns the set of these bits, or `None` if one of them has no name.
     #[tactic(auto, using(uefi_base::proofs::NamedBits::named_bits), unfolding(bitflags::proofs::OnLiterals::bitflags_on_literals))]
     pub fn from_bits(bits: u64) -> Option<FileAttribute>
         ensures named { IsSome result ↔ IsTrue (has_bits named_attributes bits) }
@@ -56,7 +56,7 @@ impl FileAttribute {
         <FileAttribute as Flags>::from_bits(bits)
     }
 
-    /// The set of these bits, those without a name too.
+    /// Returns the set of these bits, also those without a name.
     pub fn from_bits_retain(bits: u64) -> FileAttribute
         ensures { attribute_bits result ≡ bits }
     {
@@ -70,7 +70,7 @@ impl FileAttribute {
         <FileAttribute as Flags>::contains(self, other)
     }
 
-    /// The bits of either set.
+    /// Returns the set of the bits that are in either set.
     pub fn union(self, other: FileAttribute) -> FileAttribute
         ensures { attribute_bits result ≡ bit_or (attribute_bits self) (attribute_bits other) }
     {

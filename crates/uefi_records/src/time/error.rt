@@ -2,7 +2,7 @@ ghost use Rattle.std.specs.Prelude.{Some};
 
 use std::fmt;
 
-/// Which fields of a time are at fault: outside their ranges, or, for daylight, with bits that have
+/// Which fields of a time are at fault: outside their ranges or, for daylight, with bits that have
 /// no name. The default is no fault.
 #[derive(Clone, Copy, PartialEq, Eq, Debug, Default)]
 pub struct TimeError {
@@ -22,11 +22,11 @@ pub struct TimeError {
     pub nanosecond: bool,
     /// The zone is neither unspecified nor -1440 to 1440 minutes.
     pub timezone: bool,
-    /// Daylight has bits without a name. Only reading from bytes reports it, and then alone.
+    /// Daylight has bits without a name. Only reading from bytes reports this, and then alone.
     pub daylight: bool,
 }
 
-/// Why bytes are no time.
+/// The error of bytes that are not a time.
 #[derive(Clone, Copy, PartialEq, Eq, Debug)]
 pub enum TimeByteConversionError {
     /// These fields are at fault: daylight alone, or all others that are.
@@ -35,8 +35,8 @@ pub enum TimeByteConversionError {
     InvalidSize,
 }
 
-/// A line for each field that is at fault, in the fields' order, each with its newline. The line of
-/// the month lacks its closing backquote, as in the Rust crate.
+/// A line for each field that is at fault, in the order of the fields, each with a newline. The
+/// line of the month has no closing backquote, as in the Rust crate.
 impl fmt::Display for TimeError {
     ghost use Rattle.uefi_records.specs.Time.Texts.{time_error_text};
 
@@ -62,7 +62,7 @@ impl fmt::Display for TimeError {
     }
 }
 
-// A line of a text, there where its field is at fault.
+// A line of text, present if its field is at fault.
 #[derive(Clone, Copy)]
 struct FaultLine<'a>(bool, &'a str);
 
@@ -81,7 +81,7 @@ impl fmt::Display for FaultLine<'_> {
     }
 }
 
-/// The lines of the fields at fault, or one text without a newline where there are too few bytes.
+/// The lines of the fields at fault, or a text without a newline if there are too few bytes.
 impl fmt::Display for TimeByteConversionError {
     ghost use Rattle.uefi_records.specs.Time.Texts.{conversion_error_text};
 

@@ -1,6 +1,6 @@
 use crate::flags::Daylight;
 
-/// What [`Time::new`] makes a time of.
+/// The fields that [`Time::new`](crate::Time::new) makes a time of.
 #[derive(Clone, Copy, Debug)]
 pub struct TimeParams {
     /// 1900 to 9999.
@@ -17,8 +17,8 @@ pub struct TimeParams {
     pub second: u8,
     /// 0 to 999,999,999.
     pub nanosecond: u32,
-    /// Minutes from UTC, -1440 to 1440, or none for local time.
+    /// Minutes from UTC, -1440 to 1440, or `None` for local time.
     pub time_zone: Option<i16>,
-    /// How daylight saving bears on the time. Any bits will do.
+    /// How daylight saving affects the time: any bits, also those without a name.
     pub daylight: Daylight,
 }

@@ -1,9 +1,8 @@
-use Rattle.std.proofs.Common.{arith, ap, ◌∙◌, ℕ, List, [], ◌∷◌, ◌++◌}
+use Rattle.std.proofs.Common.{arith, ℕ, List, length}
 use Rattle.std.specs.Str.{chars}
 use Rattle.std.proofs.lemmas.Iterator.{YieldsList-from_chars}
 use Rattle.std.proofs.lemmas.Iterator.Consumers.{YieldsList-turn, YieldsList-end}
-use Rattle.std.proofs.lemmas.List.{take_all}
-use Rattle.uefi_base.proofs.Characters.{IsNext, units_more, has_unit}
+use Rattle.uefi_base.proofs.Characters.{IsNext, units_more, units_all, has_unit}
 use Rattle.uefi_base.proofs.cstring16.units_with_nul.Goals as goal
 
 pub overflow_cast-c : goal.overflow_cast-c
@@ -25,4 +24,4 @@ pub returns : goal.returns
 returns g c =
     let cs : List ℕ = chars c.args.text.now in
     let end = YieldsList-end (YieldsList-from_chars c.args.text.now c.utf8.text cc) c.loop-c.yielded _ c.loop-c.yielded_by _ _ c.in-None.is c.next.ensures.steps in
-    c.in_ok-push-2.ensures.items ∙ ap (λ (us : List ℕ). us ++ 0 ∷ []) (c.loop-c.invariant ∙ take_all _ cs (omega (arith, end.1)))
+    units_all c.loop-c.units.items c.push-2.new.self.items cs (length c.loop-c.yielded) c.loop-c.invariant (omega (arith, end.1)) c.in_ok-push-2.ensures.items

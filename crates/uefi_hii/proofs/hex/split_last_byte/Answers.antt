@@ -1,5 +1,5 @@
 use Rattle.std.proofs.Common.{sym, ◌∙◌, ap, ◌++◌, ◌∷◌, []}
-use Rattle.uefi_hii.specs.Hex.{byte_of_one, byte_of_two, hex}
+use Rattle.uefi_hii.specs.Hex.{hex}
 use Rattle.uefi_hii.proofs.HexEnds.{last_of_one, last_of_two}
 use Rattle.uefi_hii.proofs.hex.split_last_byte.Goals as goal
 

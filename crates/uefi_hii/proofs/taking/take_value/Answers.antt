@@ -1,5 +1,4 @@
 use Rattle.std.proofs.Common.{sym, ◌∙◌}
-use Rattle.uefi_hii.specs.Pairs.{pairs}
 use Rattle.uefi_hii.specs.Views.{pairs_left}
 use Rattle.uefi_hii.proofs.Taken.{misses_other, takes_same}
 use Rattle.uefi_hii.proofs.taking.take_value.Goals as goal

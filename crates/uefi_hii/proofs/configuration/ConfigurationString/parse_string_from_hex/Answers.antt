@@ -1,7 +1,6 @@
 use Rattle.std.proofs.Common.{◌∷◌, sym, ◌∙◌, ap, subst}
 use Rattle.std.specs.Prelude.{string_bytes, Some, None, option_map, if◌then◌else◌}
 use Rattle.uefi_hii.specs.Hex.{hex}
-use Rattle.uefi_hii.specs.Values.{name}
 use Rattle.uefi_hii.proofs.Names.{HasNamed, differs, equals, named_all, named_bad, named_never, named_odd}
 use Rattle.uefi_hii.proofs.configuration.ConfigurationString.parse_string_from_hex.Goals as goal
 use Rattle.uefi_hii.proofs.configuration.ConfigurationString.parse_string_from_hex.Goals.{then-high-eq0, else-high-eq0}

@@ -1,7 +1,10 @@
-use Rattle.std.proofs.Common.{take}
-use Rattle.std.specs.Fmt.{HasWritten, IsPlainFormatter}
-use Rattle.uefi_list.specs.Listing.Text.{hex_of}
+use Rattle.std.proofs.Common.{length}
+use Rattle.std.specs.Fmt.{IsPlainFormatter}
+use Rattle.uefi_list.proofs.HexBlocks.{HasRestToWrite}
 use Rattle.uefi_list.proofs.listing.hex_text.write_hex.Given as goal
 
-abbrev pub invariant-loop-byte : goal.invariant-loop-byte
-invariant-loop-byte g l = IsPlainFormatter l.initial.f → HasWritten g.W.Write.write_str_gives l.initial.f (hex_of (take l.byte-index l.bytes)) l.f
+abbrev pub invariant-loop-rest : goal.invariant-loop-rest
+invariant-loop-rest g l = IsPlainFormatter l.initial.f → HasRestToWrite g.W.Write.write_str_gives l.initial.f l.bytes l.f l.rest
+
+abbrev pub decreases-loop-rest : goal.decreases-loop-rest
+decreases-loop-rest g l = length l.rest

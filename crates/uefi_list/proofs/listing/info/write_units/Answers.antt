@@ -1,15 +1,22 @@
-use Rattle.std.proofs.Common.{arith, rules}
+use Rattle.std.proofs.Common.{◌+◌, ◌-◌, ◌≡◌, ◌/◌, ◌*◌, ◌∙◌, ℕ, arith, rules, ap, sym, refl, true, take, drop, length}
 use Rattle.std.proofs.Output.{has_written_append, has_written_of_eq}
 use Rattle.uefi_base.specs.Views.{slice_units}
 use Rattle.uefi_list.specs.Listing.Text.{hex_of}
 use Rattle.uefi_list.proofs.InfoLines.{units_hex-more}
 use Rattle.uefi_list.proofs.listing.info.write_units.Goals as goal
 
-pub loop-i-init : goal.loop-i-init
+pub loop-start-init : goal.loop-start-init
 unfolding hex_of
-loop-i-init g c = search rules
+loop-start-init g c = search rules
 
-pub loop-i-preserved : goal.loop-i-preserved
-loop-i-preserved g c p =
-    let more = units_hex-more (slice_units c.args.units.now) c.loop-i.i (omega arith) in
-    has_written_of_eq _ _ _ _ _ more (has_written_append _ _ _ _ _ _ (c.loop-i.invariant p) (search rules))
+pub loop-start-preserved : goal.loop-start-preserved
+loop-start-preserved g c =
+    let start = c.loop-start.start in
+    let units = slice_units c.args.units.now in
+    let end : ℕ = start + c.min.result in
+    record {
+      within = omega arith;
+      written = λ plain.
+          let before = c.loop-start.invariant.written plain in
+          has_written_of_eq _ _ _ _ _ (units_hex-more units c.fill_big_endian.new.bytes start end (omega arith) c.fill_big_endian.ensures) (has_written_append _ _ _ _ _ _ before (c.in_ok-write_hex.ensures before.plain (refl {a = true})));
+    }

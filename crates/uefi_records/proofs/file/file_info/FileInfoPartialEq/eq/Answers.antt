@@ -1,10 +1,16 @@
-use Rattle.uefi_records.proofs.Files.Equality.{by_fields, by_names}
+use Rattle.std.proofs.Common.{true, false, refl, sym, ◌∙◌}
+use Rattle.std.specs.Prelude.{nat_eq}
+use Rattle.std.specs.Cmp.Lexicographic.{pointwise}
+use Rattle.uefi_records.specs.File.Views.{file_name_of}
+use Rattle.uefi_records.proofs.Files.Equality.{equal_if}
 use Rattle.uefi_records.proofs.file.file_info.FileInfoPartialEq.eq.Goals as goal
 
 pub returns-then-eq : goal.returns-then-eq
 returns-then-eq c =
-    by_names c.args.self.now c.args.other.now c.fields.result.now c.fields-2.result.now c.eq.result c.fields.ensures c.fields-2.ensures c.eq.ensures
-    _ _ c.eq-then-eq.result c.if-eq.true c.file_name.ensures c.file_name-then-eq.ensures c.eq-then-eq.ensures
+    equal_if c.args.self.now c.args.other.now true c.eq-then-eq.result (sym c.if-eq.true ∙ c.eq.ensures ∙ (λ i. pointwise nat_eq (c.header.ensures i) (c.header-2.ensures i)))
+    (c.eq-then-eq.ensures ∙ (λ i. pointwise nat_eq (c.file_name.ensures.units i) (c.file_name-then-eq.ensures.units i)))
 
 pub returns-else-eq : goal.returns-else-eq
-returns-else-eq c = by_fields c.args.self.now c.args.other.now c.fields.result.now c.fields-2.result.now c.eq.result c.fields.ensures c.fields-2.ensures c.eq.ensures c.if-eq.false
+returns-else-eq c =
+    c.if-eq.false ∙ equal_if c.args.self.now c.args.other.now false (pointwise nat_eq (file_name_of c.args.self.now) (file_name_of c.args.other.now))
+    (sym c.if-eq.false ∙ c.eq.ensures ∙ (λ i. pointwise nat_eq (c.header.ensures i) (c.header-2.ensures i))) refl

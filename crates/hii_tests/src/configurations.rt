@@ -1,0 +1,179 @@
+use crate::samples::{GUID, ISCSI_TWICE, ISCSI_TWICE_ITEMS, line_of, push_item, text_of};
+use std::alloc::{AllocError, Global};
+use std::test::Fail;
+use test_bytes::{holds, same, same_text};
+use uefi_hii::{ConfigurationString, MultiConfigurationStringIter, parse_all};
+
+/// Texts, as `text_of` has them, and all their items.
+const TEXTS: [(&str, &str); 17] = [
+    ("", ""),
+    ("&", "ConfigHdr(Guid)\n"),
+    ("@", "A, 4, None\n"),
+    // Any key before a path will do, and what follows the path isn't read.
+    (
+        "GUID=16d6474bd6a852459d44ccad2e0f4cf9&NAME=0041&X=7fff0400aa",
+        "A, 4, None\n",
+    ),
+    (
+        "GUID=00&@&OFFSET=00&WIDTH=01&VALUE=1122",
+        "ConfigHdr(Guid)\nA, 4, None | 0x0 1 2211\n",
+    ),
+    ("@&@", "BlockName\nConfigHdr(Guid)\nConfigHdr(Guid)\n"),
+    ("@&OFFSET=00&WIDTH=01", "BlockConfig\n"),
+    ("@&OFFSET=00&WIDTH=01&VALUE", "BlockConfig\n"),
+    // Of the identifier the low 16 bits are kept.
+    (
+        "@&ALTCFG=12345678&OFFSET=00&WIDTH=01&VALUE=",
+        "A, 4, Some(22136) | 0x0 1 \n",
+    ),
+    ("@&ALTCFG=112233", "ConfigHdr(DescHdr)\n"),
+    // Up to the next offset, pairs are skipped.
+    (
+        "@&OFFSET=00&WIDTH=01&VALUE=00&x=1&WIDTH=02&OFFSET=01&WIDTH=01&VALUE=0a",
+        "A, 4, None | 0x0 1 00 | 0x1 1 0a\n",
+    ),
+    // A newline at the end is no digit.
+    (
+        "@&OFFSET=00&WIDTH=01&VALUE=11\n",
+        "A, 4, None | 0x0 1 0011\n",
+    ),
+    // After an error the next group begins at the pair after the wrong one.
+    (
+        "X&@&OFFSET=00&WIDTH=zzz&VALUE=00&@",
+        "ConfigHdr(Guid)\nA, 4, None | 0x0 0 00\nA, 4, None\n",
+    ),
+    (
+        "@&OFFSET=00&WIDTH=01&VALUE=00&@&OFFSET=112233&@",
+        "A, 4, None | 0x0 1 00\nBlockName\nA, 4, None\n",
+    ),
+    (ISCSI_TWICE, ISCSI_TWICE_ITEMS),
+    (
+        "#&ALTCFG=0002&OFFSET=01d8&WIDTH=0001&VALUE=00\
+            &#&ALTCFG=0001&OFFSET=01d8&WIDTH=0001&VALUE=00&OFFSET=1337&WIDTH=0005&VALUE=1122334455",
+        "ISCSI_CONFIG_IFR_NVDATA, 24, Some(2) | 0x1d8 1 00\n\
+            ISCSI_CONFIG_IFR_NVDATA, 24, Some(1) | 0x1d8 1 00 | 0x1337 5 5544332211\n",
+    ),
+    ("@&", "A, 4, None\n"),
+];
+
+/// The items that `parse_all` gives, a line each.
+fn all_items(alloc: Global, text: &str) -> Result<String, AllocError> {
+    let mut lines = String::new(alloc);
+    for item in parse_all(alloc, text)?.as_slice() {
+        push_item(&mut lines, item)?;
+    }
+    Ok(lines)
+}
+
+/// The items that the iterator gives, a line each, and a line where it doesn't stay ended.
+fn iterated_items(alloc: Global, text: &str) -> Result<String, AllocError> {
+    let mut lines = String::new(alloc);
+    let mut items = MultiConfigurationStringIter::new(alloc, text);
+    while let Some(item) = items.next() {
+        push_item(&mut lines, &item)?;
+    }
+    if items.next().is_some() || items.next().is_some() {
+        lines.push_str("not ended\n")?;
+    }
+    Ok(lines)
+}
+
+#[test]
+fn a_text_is_cut_into_configurations_and_errors(rt: HostRuntime) -> Result<(), Fail> {
+    for (row, lines) in TEXTS {
+        let text = text_of(rt.alloc(), row)?;
+        same_text(row, all_items(rt.alloc(), text.as_str())?.as_str(), lines)?;
+        same_text(
+            row,
+            iterated_items(rt.alloc(), text.as_str())?.as_str(),
+            lines,
+        )?;
+    }
+    Ok(())
+}
+
+/// The pairs that the elements of the first configuration below have behind the first.
+const TEN_ELEMENTS: &str = "&OFFSET=01d9&WIDTH=0001&VALUE=00&OFFSET=01da&WIDTH=0001&VALUE=00\
+    &OFFSET=01dc&WIDTH=0002&VALUE=03e8&OFFSET=01de&WIDTH=0001&VALUE=00\
+    &OFFSET=01df&WIDTH=0001&VALUE=00&OFFSET=05fe&WIDTH=0002&VALUE=0000\
+    &OFFSET=062a&WIDTH=0001&VALUE=00&OFFSET=062b&WIDTH=0001&VALUE=01\
+    &OFFSET=0fd4&WIDTH=0001&VALUE=00&OFFSET=0fd5&WIDTH=0001&VALUE=00";
+
+/// Their part of the line.
+const TEN_ELEMENTS_LINE: &str =
+    " | 0x1d9 1 00 | 0x1da 1 00 | 0x1dc 2 e803 | 0x1de 1 00 | 0x1df 1 00 \
+    | 0x5fe 2 0000 | 0x62a 1 00 | 0x62b 1 01 | 0xfd4 1 00 | 0xfd5 1 00\n";
+
+/// Texts, and their first items.
+const FIRST_ITEMS: [(&str, &str); 9] = [
+    ("", "ConfigHdr(Guid)\n"),
+    ("GUID=00", "ConfigHdr(Guid)\n"),
+    // Cut after each of the six pairs.
+    ("GUID=16d6474bd6a852459d44ccad2e0f4cf9", "ConfigHdr(Name)\n"),
+    (
+        "GUID=16d6474bd6a852459d44ccad2e0f4cf9&NAME=0041",
+        "ConfigHdr(Path)\n",
+    ),
+    ("@", "A, 4, None\n"),
+    ("@&OFFSET=00", "BlockName\n"),
+    ("@&OFFSET=00&WIDTH=01", "BlockConfig\n"),
+    (
+        "@&OFFSET=00&WIDTH=01&VALUE=1122",
+        "A, 4, None | 0x0 1 2211\n",
+    ),
+    (
+        ISCSI_TWICE,
+        "ISCSI_CONFIG_IFR_NVDATA, 24, None | 0x1d8 1 00\n",
+    ),
+];
+
+/// The line of the first item of a row's text.
+fn first_item(alloc: Global, row: &str) -> Result<String, Fail> {
+    let text = text_of(alloc, row)?;
+    let first = ConfigurationString::from_str(alloc, text.as_str());
+    let line = line_of(alloc, &first).ok_or("memory")?;
+    Ok(line)
+}
+
+#[test]
+fn the_first_item_is_read(rt: HostRuntime) -> Result<(), Fail> {
+    for (row, line) in FIRST_ITEMS {
+        same_text(row, first_item(rt.alloc(), row)?.as_str(), line)?;
+    }
+    Ok(())
+}
+
+#[test]
+fn eleven_elements_are_read(rt: HostRuntime) -> Result<(), Fail> {
+    let rows = [
+        (
+            "#&OFFSET=01d8&WIDTH=0002&VALUE=0011",
+            "ISCSI_CONFIG_IFR_NVDATA, 24, None | 0x1d8 2 1100",
+        ),
+        (
+            "#&ALTCFG=0001&OFFSET=01d8&WIDTH=0001&VALUE=00",
+            "ISCSI_CONFIG_IFR_NVDATA, 24, Some(1) | 0x1d8 1 00",
+        ),
+    ];
+    for (row, line) in rows {
+        let text = format!(in rt.alloc(); "{row}{TEN_ELEMENTS}")?;
+        let expected = format!(in rt.alloc(); "{line}{TEN_ELEMENTS_LINE}")?;
+        same_text(
+            row,
+            first_item(rt.alloc(), text.as_str())?.as_str(),
+            expected.as_str(),
+        )?;
+    }
+    Ok(())
+}
+
+#[test]
+fn a_configuration_has_its_guid(rt: HostRuntime) -> Result<(), Fail> {
+    let text = text_of(rt.alloc(), "@")?;
+    let Ok(configuration) = ConfigurationString::from_str(rt.alloc(), text.as_str()) else {
+        return holds("a configuration", false);
+    };
+    let guid = configuration.guid.to_string(rt.alloc())?;
+    same_text("the GUID", guid.as_str(), GUID)?;
+    same("its elements", &configuration.elements.len(), &0)
+}

@@ -1,0 +1,130 @@
+use crate::samples::{ISCSI_NAME, ISCSI_TWICE, ISCSI_TWICE_ITEMS, line_of, push_item, text_of};
+use refusing::{Refusing, in_turn, without_request};
+use std::alloc::{AllocError, Allocator, Global};
+use std::test::Fail;
+use test_bytes::holds;
+use uefi_hii::{ConfigurationString, MultiConfigurationStringIter, ParseError, parse_all};
+
+/// Whether the name in hex is the driver's; or `None` if memory ran out.
+fn is_driver<A: Allocator>(alloc: A, text: &str) -> Option<bool> {
+    let name = ConfigurationString::parse_string_from_hex(alloc, text).ok()?;
+    Some(name.as_ref().map(|name| name.as_str()) == Some("ISCSI_CONFIG_IFR_NVDATA"))
+}
+
+#[test]
+fn a_name_is_read_or_memory_was_refused(rt: HostRuntime) -> Result<(), Fail> {
+    let requests = in_turn(rt.alloc(), &true, |heap| is_driver(heap, ISCSI_NAME))?;
+    holds("a name takes memory", requests > 0)
+}
+
+#[test]
+fn the_first_item_is_read_or_memory_was_refused(rt: HostRuntime) -> Result<(), Fail> {
+    let alloc = rt.alloc();
+    let text = text_of(alloc, ISCSI_TWICE)?;
+    let text = text.as_str();
+    let line = line_of(alloc, &ConfigurationString::from_str(alloc, text)).ok_or("memory")?;
+    let requests = in_turn(
+        alloc,
+        &line,
+        |heap| line_of(alloc, &ConfigurationString::from_str(heap, text)),
+    )?;
+    holds("a configuration takes memory", requests > 0)
+}
+
+/// The lines of all items; or `None` if memory ran out.
+fn all_lines<A: Allocator + Copy>(heap: A, alloc: Global, text: &str) -> Option<String> {
+    let mut lines = String::new(alloc);
+    for item in parse_all(heap, text).ok()?.as_slice() {
+        push_item(&mut lines, item).ok()?;
+    }
+    Some(lines)
+}
+
+#[test]
+fn all_items_are_read_or_memory_was_refused(rt: HostRuntime) -> Result<(), Fail> {
+    let alloc = rt.alloc();
+    let text = text_of(alloc, ISCSI_TWICE)?;
+    let text = text.as_str();
+    let lines = String::from_str(alloc, ISCSI_TWICE_ITEMS)?;
+    let requests = in_turn(alloc, &lines, |heap| all_lines(heap, alloc, text))?;
+    holds("configurations take memory", requests > 0)
+}
+
+/// The lines of the items before memory runs out, and whether it did. Where it does, the iterator
+/// gives nothing, though it is asked twice.
+fn lines_before<A: Allocator + Copy>(
+    heap: A,
+    alloc: Global,
+    text: &str,
+) -> Result<(String, bool), Fail> {
+    let mut lines = String::new(alloc);
+    let mut items = MultiConfigurationStringIter::new(heap, text);
+    while let Some(item) = items.next() {
+        if let Err(ParseError::Memory) = &item {
+            holds("after Memory", items.next().is_none())?;
+            holds("after Memory, asked again", items.next().is_none())?;
+            return Ok((lines, true));
+        }
+        push_item(&mut lines, &item)?;
+    }
+    Ok((lines, false))
+}
+
+/// The most requests that the test below grants.
+const MOST_REQUESTS: u64 = 100;
+
+#[test]
+fn the_iterator_gives_the_items_before_memory_is_refused(rt: HostRuntime) -> Result<(), Fail> {
+    let text = text_of(rt.alloc(), ISCSI_TWICE)?;
+    for granted in 0..MOST_REQUESTS {
+        let heap = Refusing::after(rt.alloc(), granted);
+        let (lines, ran_out) = lines_before(&heap, rt.alloc(), text.as_str())?;
+        holds(
+            "memory runs out where it is refused",
+            ran_out != heap.is_waiting(),
+        )?;
+        holds(
+            "the items before",
+            ISCSI_TWICE_ITEMS.starts_with(lines.as_str()),
+        )?;
+        if !ran_out {
+            holds("all items", ISCSI_TWICE_ITEMS == lines.as_str())?;
+            return holds("configurations take memory", granted > 0);
+        }
+    }
+    holds("the items take fewer requests", false)
+}
+
+/// The line of the iterator's first item.
+fn first_line<A: Allocator + Copy>(heap: A, alloc: Global, text: &str) -> Option<String> {
+    let mut items = MultiConfigurationStringIter::new(heap, text);
+    line_of(alloc, &items.next()?)
+}
+
+#[test]
+fn a_wrong_guid_is_an_error_though_memory_is_refused(rt: HostRuntime) -> Result<(), Fail> {
+    let alloc = rt.alloc();
+    let line = Some(String::from_str(alloc, "ConfigHdr(Guid)\n")?);
+    for text in ["GUID=00", "X", "NAME=0041"] {
+        without_request(alloc, &line, |heap| first_line(heap, alloc, text))?;
+        without_request(
+            alloc,
+            &line,
+            |heap| line_of(alloc, &ConfigurationString::from_str(heap, text)),
+        )?;
+    }
+    without_request(
+        alloc,
+        &line,
+        |heap| line_of(alloc, &ConfigurationString::from_str(heap, "")),
+    )
+}
+
+#[test]
+fn an_iterator_is_made_without_memory(rt: HostRuntime) -> Result<(), Fail> {
+    without_request(
+        rt.alloc(),
+        &true,
+        |heap| MultiConfigurationStringIter::new(heap, "").next().is_none(),
+    )
+}

@@ -1,0 +1,129 @@
+use std::alloc::Global;
+use std::test::Fail;
+use test_bytes::{each_gives, holds, same, same_bytes};
+use uefi_base::Guid;
+use uefi_hii::{ConfigurationString, ConfigurationStringIter, keys};
+
+#[test]
+fn hex_is_a_number(_rt: HostRuntime) -> Result<(), Fail> {
+    let rows = [
+        ("123", Some(0x1203)),
+        ("+a", Some(10)),
+        ("112233", None),
+        ("", None),
+        ("zz", Some(0)),
+        ("fF", Some(255)),
+        ("0102030405060708", Some(0x0102030405060708)),
+        ("ffffffffffffffff", Some(u64::MAX)),
+        ("+", Some(0)),
+        ("1+", Some(0)),
+    ];
+    each_gives(
+        &rows,
+        |text| ConfigurationString::parse_number_from_hex(text),
+    )
+}
+
+/// Names in hex, and what they are.
+const NAMES: [(&str, Option<&str>); 11] = [
+    ("", Some("")),
+    ("00", Some("")),
+    ("0041", Some("A")),
+    ("004100", Some("A")),
+    ("20ac", Some("\u{20ac}")),
+    ("0000", None),
+    ("00410000", None),
+    ("d800", None),
+    ("dfff", None),
+    ("004", None),
+    ("004142", None),
+];
+
+#[test]
+fn hex_is_a_name(rt: HostRuntime) -> Result<(), Fail> {
+    for (row, expected) in NAMES {
+        let found = ConfigurationString::parse_string_from_hex(rt.alloc(), row)?;
+        let found = found.as_ref().map(|name| name.as_str());
+        same(row, &found, &expected)?;
+    }
+    Ok(())
+}
+
+#[test]
+fn hex_of_sixteen_bytes_is_a_guid(_rt: HostRuntime) -> Result<(), Fail> {
+    let bytes = [
+        0x16, 0xd6, 0x47, 0x4b, 0xd6, 0xa8, 0x52, 0x45, 0x9d, 0x44, 0xcc, 0xad, 0x2e, 0x0f, 0x4c,
+        0xf9,
+    ];
+    let rows = [
+        ("16d6474bd6a852459d44ccad2e0f4cf9", Some(Guid(bytes))),
+        ("16D6474BD6A852459D44CCAD2E0F4CF9", Some(Guid(bytes))),
+        ("16d6474bd6a852459d44ccad2e0f4c", None),
+        ("16d6474bd6a852459d44ccad2e0f4cf900", None),
+        ("", None),
+    ];
+    each_gives(&rows, |text| ConfigurationString::parse_guid_from_hex(text))
+}
+
+#[test]
+fn hex_is_read_from_both_ends(rt: HostRuntime) -> Result<(), Fail> {
+    let mut bytes = ConfigurationString::parse_bytes_from_hex("0102+azz7");
+    same("all of them", &bytes.len(), &5)?;
+    same("the last, of one digit", &bytes.next_back(), &Some(7))?;
+    same("the last of two", &bytes.next_back(), &Some(0))?;
+    same("the first", &bytes.next(), &Some(1))?;
+    same("those left", &bytes.size_hint(), &(2, Some(2)))?;
+    let rest: Vec<u8> = bytes.rev().collect(rt.alloc())?;
+    same_bytes("the rest", rest.as_slice(), &[10, 2])?;
+    let mut none = ConfigurationString::parse_bytes_from_hex("");
+    holds(
+        "ended",
+        none.next().is_none() && none.next_back().is_none() && none.next().is_none(),
+    )
+}
+
+/// Texts, and their pairs, each as `[KEY]` or `[KEY=VALUE]`.
+const PAIRS: [(&str, &str); 6] = [
+    ("a=1=2&&b&", "[a|1=2][][b]"),
+    ("", ""),
+    ("&", "[]"),
+    ("a&", "[a]"),
+    ("a&&", "[a][]"),
+    ("=", "[|]"),
+];
+
+/// The pairs of a text, as a row has them.
+fn pairs_of(alloc: Global, text: &str) -> Result<String, Fail> {
+    let mut seen = String::new(alloc);
+    let mut pairs = ConfigurationStringIter::new(text);
+    while let Some((key, value)) = pairs.next() {
+        match value {
+            Some(value) => write!(seen, "[{key}|{value}]")?,
+            None => write!(seen, "[{key}]")?,
+        }
+    }
+    holds(text, pairs.next().is_none())?;
+    Ok(seen)
+}
+
+#[test]
+fn a_text_has_pairs(rt: HostRuntime) -> Result<(), Fail> {
+    for (row, expected) in PAIRS {
+        let found = pairs_of(rt.alloc(), row)?;
+        same(row, &found.as_str(), &expected)?;
+    }
+    Ok(())
+}
+
+#[test]
+fn a_key_is_the_text_of_its_name(_rt: HostRuntime) -> Result<(), Fail> {
+    let rows = [
+        (keys::ALTCFG, "ALTCFG"),
+        (keys::GUID, "GUID"),
+        (keys::NAME, "NAME"),
+        (keys::OFFSET, "OFFSET"),
+        (keys::VALUE, "VALUE"),
+        (keys::WIDTH, "WIDTH"),
+    ];
+    each_gives(&rows, |key| *key)
+}
