@@ -1,10 +1,13 @@
-//! The listings of the program `uefi_list` by plain Rust: std alone, written as they are made.
+//! The listings of the program `uefi_list` by plain Rust: std alone, and written as they are made.
+//!
+//! For inputs that are accepted: a refusal is an error here.
 
 use crate::info::FileInfo;
 use crate::map::Map;
 use crate::path::{Instances, Nodes, Stop, split};
 use crate::resources::{Range, RangeType, records};
 use std::fmt::{self, Display, Formatter};
+use std::fs;
 use std::io::{self, BufWriter, Write};
 use std::process::ExitCode;
 
@@ -43,10 +46,12 @@ impl Display for Units<'_> {
     }
 }
 
+fn refused() -> io::Error {
+    io::Error::other("refused")
+}
+
 fn list_path(out: &mut impl Write, bytes: &[u8]) -> io::Result<()> {
-    let Some((path, _)) = split(bytes, Stop::EndEntire) else {
-        return writeln!(out, "refused InvalidLength");
-    };
+    let (path, _) = split(bytes, Stop::EndEntire).ok_or_else(refused)?;
     for instance in (Instances { rest: path }) {
         writeln!(out, "instance {}", instance.len())?;
         for node in (Nodes { rest: instance, stop: Stop::AnyEnd }) {
@@ -59,9 +64,7 @@ fn list_path(out: &mut impl Write, bytes: &[u8]) -> io::Result<()> {
 }
 
 fn list_map(out: &mut impl Write, bytes: &[u8], stride: usize) -> io::Result<()> {
-    let Some(map) = Map::new(bytes, stride) else {
-        return writeln!(out, "refused InvalidSize");
-    };
+    let map = Map::new(bytes, stride).ok_or_else(refused)?;
     let (mut sorted, mut count, mut last) = (true, 0, 0);
     for entry in map.entries() {
         let (ty, start, pages) = (entry.ty(), entry.phys_start(), entry.page_count());
@@ -86,10 +89,7 @@ impl Display for RangeType {
 }
 
 fn list_pci(out: &mut impl Write, bytes: &[u8]) -> io::Result<()> {
-    let Some(records) = records(bytes) else {
-        return writeln!(out, "refused");
-    };
-    let (records, _) = records.as_chunks();
+    let (records, _) = records(bytes).ok_or_else(refused)?.as_chunks();
     for record in records {
         let range = Range::read(record);
         let (kind, general) = (range.range_type, range.general_flags);
@@ -105,9 +105,7 @@ fn list_pci(out: &mut impl Write, bytes: &[u8]) -> io::Result<()> {
 }
 
 fn list_info(out: &mut impl Write, bytes: &[u8], written: usize) -> io::Result<()> {
-    let Some(info) = FileInfo::read(bytes, written) else {
-        return writeln!(out, "refused");
-    };
+    let info = FileInfo::read(bytes, written).ok_or_else(refused)?;
     let number = |at: usize| u64::from_le_bytes(bytes[at..at + 8].try_into().unwrap());
     writeln!(out, "size {}\nfile {}\nphysical {}", number(0), number(8), number(16))?;
     for (label, at) in [("created", 24), ("accessed", 40), ("modified", 56)] {
@@ -121,16 +119,15 @@ fn list_info(out: &mut impl Write, bytes: &[u8], written: usize) -> io::Result<(
 }
 
 /// Writes the listing that the words ask for to standard output.
-pub fn run(words: &[String]) -> io::Result<ExitCode> {
+pub fn run(words: &[&str]) -> io::Result<ExitCode> {
     let mut out = BufWriter::new(io::stdout().lock());
-    let bytes = std::fs::read(&words[1])?;
-    let number = || words[2].parse().map_err(io::Error::other);
-    match words[0].as_str() {
-        "path" => list_path(&mut out, &bytes)?,
-        "map" => list_map(&mut out, &bytes, number()?)?,
-        "pci" => list_pci(&mut out, &bytes)?,
-        "info" => list_info(&mut out, &bytes, number()?)?,
-        _ => return Ok(ExitCode::from(2)),
+    let number = |word: &str| word.parse().map_err(io::Error::other);
+    match *words {
+        ["path", file] => list_path(&mut out, &fs::read(file)?)?,
+        ["map", file, stride] => list_map(&mut out, &fs::read(file)?, number(stride)?)?,
+        ["pci", file] => list_pci(&mut out, &fs::read(file)?)?,
+        ["info", file, written] => list_info(&mut out, &fs::read(file)?, number(written)?)?,
+        _ => return Err(io::Error::other("other words")),
     }
     out.flush()?;
     Ok(ExitCode::SUCCESS)

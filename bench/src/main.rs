@@ -1,17 +1,27 @@
-//! Measures the proved readers beside plain Rust readers of the same formats.
+//! Measures the proved readers beside plain Rust readers of the same formats, and whole runs of the
+//! proved program beside plain Rust that prints the same listings.
 //!
-//! Both read the same input, made here with a fixed seed, and must answer the same sum. Each line
-//! gives the best of five rounds of each: nanoseconds an item and bytes a second of the proved
-//! reader, and its time as a ratio of the Rust reader's.
+//! Both read the same input, made here with a fixed seed, and must give the same sum or listing. A
+//! line for a reader has the best of five rounds of each: nanoseconds an item and bytes a second of
+//! the proved reader, and its time as a ratio of the Rust reader's. A line for a run has the seconds
+//! of the best of ten runs of each, and their ratio.
+//!
+//! `bench PROGRAM FOLDER` measures, with the runs' files in that folder. `bench list COMMAND FILE
+//! [ARG]` is the plain Rust that a run is measured beside.
 
 mod info;
+mod list;
 mod log;
 mod map;
 mod path;
 mod random;
 mod resources;
+mod runs;
 mod time;
 
+use std::io;
+use std::path::Path;
+use std::process::ExitCode;
 use std::time::Instant;
 
 const ROUNDS: usize = 5;
@@ -59,7 +69,8 @@ fn measure(case: &Case<'_>) -> bool {
     equal
 }
 
-fn main() {
+/// Measures all readers, and says whether the sums were equal.
+fn measure_readers() -> bool {
     let mut equal = true;
     path::with_cases(|case| equal &= measure(case));
     info::with_cases(|case| equal &= measure(case));
@@ -67,5 +78,18 @@ fn main() {
     map::with_cases(|case| equal &= measure(case));
     resources::with_cases(|case| equal &= measure(case));
     time::with_cases(|case| equal &= measure(case));
-    std::process::exit(if equal { 0 } else { 1 });
+    equal
+}
+
+fn main() -> io::Result<ExitCode> {
+    let words: Vec<String> = std::env::args().skip(1).collect();
+    let words: Vec<&str> = words.iter().map(String::as_str).collect();
+    match words.as_slice() {
+        ["list", words @ ..] => list::run(words),
+        [program, folder] => {
+            let equal = measure_readers() & runs::measure_all(Path::new(program), Path::new(folder))?;
+            Ok(ExitCode::from(u8::from(!equal)))
+        }
+        _ => Err(io::Error::other("usage: bench PROGRAM FOLDER | bench list COMMAND FILE [ARG]")),
+    }
 }

@@ -1,16 +1,42 @@
-//! Worked rows, outputs that fail, and requests for memory that are refused.
+//! Worked rows, outputs that fail, and allocations that fail.
 
+mod files;
 mod logs;
-mod map_rows;
+mod maps;
 mod memory;
+mod paths;
 mod resources;
-mod rows;
+mod times;
 mod words;
 mod writers;
 
-/// Two instances of two nodes each, and the nodes that end them.
-const TWO_INSTANCES: &str =
-    "a0b0 0600 0a0b  a1b1 0800 14151617  7f01 0400  a2b2 0600 1e1f  a3b3 0800 28292a2b  7fff 0400";
+use crate::command::Command;
+use crate::listing::{Outcome, listing};
+use crate::run::run;
+use std::alloc::Global;
+use std::test::Fail;
+use test_bytes::{bytes, same, same_text};
 
-const TWO_INSTANCES_LISTING: &[u8] = b"instance 18\n  a0 b0 0a0b\n  a1 b1 14151617\n\
+/// The listing of the two instances of [`TWO_INSTANCES`](test_bytes::samples::TWO_INSTANCES).
+const TWO_INSTANCES_LISTING: &str = "instance 18\n  a0 b0 0a0b\n  a1 b1 14151617\n\
     instance 18\n  a2 b2 1e1f\n  a3 b3 28292a2b\npath 36\n";
+
+/// A command, the bytes of its file as hex, and their listing.
+type Row<'a> = (Command, &'a str, &'a str);
+
+/// Checks that [`listing`] and [`run`] over memory both give the listing of each row, with this
+/// outcome.
+fn each_lists(alloc: Global, rows: &[Row<'_>], outcome: Outcome) -> Result<(), Fail> {
+    for (command, row, expected) in rows {
+        let input = bytes(alloc, row)?;
+        let (text, listed) = listing(alloc, command, input.as_slice())?;
+        same_text(row, str::from_utf8(text.as_slice())?, expected)?;
+        same(row, &listed, &outcome)?;
+
+        let mut out = Vec::new(alloc);
+        let ran = run(alloc, command, input.as_slice(), &mut out);
+        same(row, &ran, &Ok(outcome))?;
+        same_text(row, str::from_utf8(out.as_slice())?, expected)?;
+    }
+    Ok(())
+}

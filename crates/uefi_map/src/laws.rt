@@ -1,7 +1,9 @@
 //! Laws of the definitions. Each holds for all of their values, and does nothing when it is called.
 
 ghost use Rattle.uefi_map.specs.memory.Laws.{SameEntries, WritesOne};
+ghost use Rattle.uefi_map.specs.memory.Rows as Maps;
 ghost use Rattle.uefi_map.specs.pci.Laws.{ListOrFault, NeverBoth, ListAlone, FaultAlone};
+ghost use Rattle.uefi_map.specs.pci.Rows as Lists;
 
 /// The forty bytes of each descriptor alone tell the entries of a map, and writing a descriptor
 /// leaves all other bytes: those of the other descriptors, the rest of each stride, and what follows
@@ -17,4 +19,12 @@ pub fn one_list()
     ensures never_both { NeverBoth }
     ensures list_alone { ListAlone }
     ensures fault_alone { FaultAlone }
+{}
+
+/// The definitions hold on worked rows: a firmware's map has its entries, some sizes make no map, a
+/// root bridge's resources are a list, and some bytes have a fault. Each row is a theorem.
+#[tactic(auto, using(crate::proofs::memory_lemmas::WorkedRows::rows_hold, crate::proofs::pci_lemmas::WorkedRows::rows_hold))]
+pub fn worked_rows()
+    ensures maps { Maps.RowsHold }
+    ensures lists { Lists.RowsHold }
 {}

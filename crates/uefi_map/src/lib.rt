@@ -25,5 +25,3 @@ pub use self::pci::{
 pub mod laws;
 mod memory;
 mod pci;
-#[cfg(test)]
-mod tests;

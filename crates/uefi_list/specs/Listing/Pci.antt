@@ -35,7 +35,7 @@ resource_line range =
 abbrev pub resource_lines : List QwordAddressSpaceDescriptor → List ℕ
 resource_lines list = flat_map resource_line list ++ codes "resources " ++ decimal (length list) ++ codes "\n"
 
--- The line that names a fault. Being out of memory is none, and has no line.
+-- The line that names a fault. Running out of memory is none, and has no line.
 unfoldable pub fault_line : ResourceError → List ℕ
 fault_line NoEndTag = codes "refused NoEndTag\n"
 fault_line CutRecord = codes "refused CutRecord\n"

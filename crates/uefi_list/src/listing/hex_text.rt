@@ -11,7 +11,7 @@ const BLOCK: usize = 64;
 /// How many digits a block has.
 const BLOCK_DIGITS: usize = 128;
 
-/// How long the text of a number is at most: `0x` and sixteen digits.
+/// The most bytes that the text of a number has: `0x` and sixteen digits.
 const NUMBER_LENGTH: usize = 18;
 
 /// A byte, displayed as two lower case hex digits.
@@ -112,7 +112,7 @@ fn write_number<W: fmt::Write>(f: &mut fmt::Formatter<W>, number: u64) -> fmt::R
     f.write_str(ascii(&text[start - 3..]))
 }
 
-/// The lower case hex digit of a value below sixteen.
+/// Returns the lower case hex digit of a value below sixteen.
 fn hex_digit(value: u8) -> u8
     requires { value < 16 }
     ensures { result ≡ digit_glyph false value }
@@ -124,7 +124,7 @@ fn hex_digit(value: u8) -> u8
     }
 }
 
-/// The text that ASCII bytes are.
+/// Returns the text that ASCII bytes are.
 fn ascii(bytes: &[u8]) -> &str
     requires { IsAscii bytes.now }
     ensures { result.now ≡ bytes.now }

@@ -30,7 +30,7 @@ pub(super) fn list<A: Allocator>(
     }
 }
 
-/// What is known of a memory map that a file of this length is, at this stride.
+/// Returns what is known of a memory map that a file of this length is, at this stride.
 fn file_meta(map_size: usize, desc_size: usize) -> MemoryMapMeta
     ensures { result ≡ file_meta map_size desc_size }
 {
@@ -83,7 +83,7 @@ fn push_entry<A: Allocator>(
     writeln!(text, "entry {ty} {start} {virt_start} {pages} {attributes}")
 }
 
-/// The word for a truth value.
+/// Returns the word for a truth value.
 fn yes_or_no(value: bool) -> &'static str
     ensures { result.now ≡ yes_or_no value }
 {

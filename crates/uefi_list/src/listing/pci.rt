@@ -1,4 +1,5 @@
 ghost use Rattle.std.specs.Prelude.{◌≡◌, [], string_bytes, IfOk, OnOk, Some};
+ghost use Rattle.uefi_map.specs.pci.Views.{resources_of};
 ghost use Rattle.uefi_list.specs.Listing.Text.{AppendsText};
 ghost use Rattle.uefi_list.specs.Listing.Pci.{kind_text, resource_line, resource_lines, fault_line, PciListing};
 
@@ -6,23 +7,18 @@ use super::Outcome;
 use super::hex_text::HexNumber;
 use std::alloc::{AllocError, Allocator};
 use std::fmt;
-use uefi_map::{QwordAddressSpaceDescriptor, ResourceError, ResourceRangeType, parse};
+use uefi_map::{QwordAddressSpaceDescriptor, ResourceError, ResourceList, ResourceRangeType};
 
 /// Lists the PCI resources that the bytes begin with.
-pub(super) fn list<A: Allocator>(
-    text: &mut String<A>,
-    bytes: &[u8],
-    alloc: A,
-) -> Result<Outcome, AllocError>
+pub(super) fn list<A: Allocator>(text: &mut String<A>, bytes: &[u8]) -> Result<Outcome, AllocError>
     requires empty { string_bytes text.old ≡ [] }
     ensures { IfOk result (λ outcome. PciListing bytes.now (string_bytes text.new) outcome) }
 {
-    match parse(alloc, bytes) {
+    match ResourceList::try_from(bytes) {
         Ok(list) => {
-            push_resources(text, list.as_slice())?;
+            push_resources(text, &list)?;
             Ok(Outcome::Listed)
         }
-        Err(ResourceError::Memory) => Err(AllocError),
         Err(fault) => {
             push_fault(text, fault)?;
             Ok(Outcome::Refused)
@@ -33,14 +29,15 @@ pub(super) fn list<A: Allocator>(
 /// Appends the lines of a list of resources: its ranges, and their count.
 fn push_resources<A: Allocator>(
     text: &mut String<A>,
-    list: &[QwordAddressSpaceDescriptor],
+    list: &ResourceList<'_>,
 ) -> Result<(), AllocError>
-    ensures { OnOk result (AppendsText text.old text.new (resource_lines list.now)) }
+    ensures { OnOk result
+        (AppendsText text.old text.new (resource_lines (resources_of list.now))) }
 {
-    for range in list {
-        push_resource(text, range)?;
+    for range in list.iter() {
+        push_resource(text, &range)?;
     }
-    let count = list.len();
+    let count = list.iter().len();
     writeln!(text, "resources {count}")
 }
 
@@ -63,7 +60,7 @@ fn push_resource<A: Allocator>(
     )
 }
 
-/// Appends the line that names a fault. Being out of memory has none.
+/// Appends the line that names a fault. Running out of memory is none, and has no line.
 fn push_fault<A: Allocator>(text: &mut String<A>, fault: ResourceError) -> Result<(), AllocError>
     ensures { OnOk result (AppendsText text.old text.new (fault_line fault)) }
 {

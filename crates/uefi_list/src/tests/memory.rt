@@ -1,51 +1,67 @@
-use super::{TWO_INSTANCES, TWO_INSTANCES_LISTING};
+use super::TWO_INSTANCES_LISTING;
+use super::resources::{ROOT_BRIDGE, ROOT_BRIDGE_LISTING};
 use crate::command::Command;
 use crate::listing::{Outcome, listing};
 use crate::run::{RunError, run};
-use refusing::Refusing;
-use std::alloc::AllocError;
+use refusing::{Refusing, in_turn};
+use std::alloc::Global;
 use std::test::Fail;
-use test_bytes::bytes;
+use test_bytes::samples::TWO_INSTANCES;
+use test_bytes::{bytes, holds};
 
-#[test]
-fn listing_answers_each_refused_request(rt: HostRuntime) -> Result<(), Fail> {
-    let input = bytes(rt.alloc(), TWO_INSTANCES)?;
-    for granted in 0..100u64 {
-        let heap = Refusing::after(rt.alloc(), granted);
-        match listing(&heap, &Command::Path, input.as_slice()) {
-            Ok((text, outcome)) => {
-                assert!(rt; heap.is_waiting(), "{granted} granted");
-                assert!(rt; granted > 0, "the listing takes memory");
-                assert_eq!(rt; text.as_slice(), TWO_INSTANCES_LISTING);
-                assert_eq!(rt; outcome, Outcome::Listed);
-                return Ok(());
-            }
-            Err(AllocError) => assert!(rt; !heap.is_waiting(), "{granted} granted"),
-        }
+/// Whether the bytes are listed so, or `None` if memory ran out.
+fn is_listed(
+    heap: &Refusing<Global>,
+    (command, input): (Command, &[u8]),
+    expected: &str,
+) -> Option<bool> {
+    let (text, outcome) = listing(heap, &command, input).ok()?;
+    Some(text.as_slice() == expected.as_bytes() && outcome == Outcome::Listed)
+}
+
+/// Whether the bytes are listed so, and exactly the listing was written; or `None` if memory ran
+/// out and nothing was written.
+fn is_written(
+    alloc: Global,
+    heap: &Refusing<Global>,
+    (command, input): (Command, &[u8]),
+    expected: &str,
+) -> Option<bool> {
+    let mut out = Vec::new(alloc);
+    match run(heap, &command, input, &mut out) {
+        Ok(outcome) => { Some(out.as_slice() == expected.as_bytes() && outcome == Outcome::Listed) }
+        Err(RunError::Memory) if out.is_empty() => None,
+        Err(_) => Some(false),
     }
-    panic!(rt; "no listing ended with no request refused");
+}
+
+/// Checks that a listing is made, and written, or a request for memory was refused, with each
+/// request in turn as the first that is refused.
+fn lists_or_runs_out(
+    alloc: Global,
+    command: Command,
+    row: &str,
+    expected: &str,
+) -> Result<(), Fail> {
+    let input = bytes(alloc, row)?;
+    let asked = (command, input.as_slice());
+    let requests = in_turn(alloc, &true, |heap| is_listed(heap, asked, expected))?;
+    holds("a listing takes memory", requests > 0)?;
+    let requests = in_turn(
+        alloc,
+        &true,
+        |heap| is_written(alloc, heap, asked, expected),
+    )?;
+    holds("a run takes memory", requests > 0)
 }
 
 #[test]
-fn run_writes_nothing_where_a_request_is_refused(rt: HostRuntime) -> Result<(), Fail> {
-    let input = bytes(rt.alloc(), TWO_INSTANCES)?;
-    for granted in 0..100u64 {
-        let heap = Refusing::after(rt.alloc(), granted);
-        let mut out = Vec::new(rt.alloc());
-        match run(&heap, &Command::Path, input.as_slice(), &mut out) {
-            Ok(outcome) => {
-                assert!(rt; heap.is_waiting(), "{granted} granted");
-                assert!(rt; granted > 0, "the listing takes memory");
-                assert_eq!(rt; out.as_slice(), TWO_INSTANCES_LISTING);
-                assert_eq!(rt; outcome, Outcome::Listed);
-                return Ok(());
-            }
-            Err(error) => {
-                assert!(rt; !heap.is_waiting(), "{granted} granted");
-                assert_eq!(rt; error, RunError::Memory);
-                assert!(rt; out.is_empty(), "{granted} granted");
-            }
-        }
-    }
-    panic!(rt; "no run ended with no request refused");
+fn a_listing_is_made_and_written_or_memory_was_refused(rt: HostRuntime) -> Result<(), Fail> {
+    lists_or_runs_out(
+        rt.alloc(),
+        Command::Path,
+        TWO_INSTANCES,
+        TWO_INSTANCES_LISTING,
+    )?;
+    lists_or_runs_out(rt.alloc(), Command::Pci, ROOT_BRIDGE, ROOT_BRIDGE_LISTING)
 }

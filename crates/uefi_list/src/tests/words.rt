@@ -1,52 +1,48 @@
 use crate::command::Command;
-use std::process::Abort;
+use std::alloc::{AllocError, Global};
+use std::test::Fail;
 
-fn from_words(rt: &(impl Abort + AllocGlobal), words: &[&str]) -> Option<Command> {
-    let mut owned = Vec::new(rt.alloc());
+/// Checks which command the words ask for.
+fn asks(alloc: Global, words: &[&str], expected: Option<Command>) -> Result<(), Fail> {
+    let mut owned = Vec::new(alloc);
     for word in words {
-        let word = String::from_str(rt.alloc(), word).expect(rt, "a word");
-        owned.push(word).expect(rt, "a word");
+        let word = String::from_str(alloc, word)?;
+        owned.push(word).map_err(AllocError::from)?;
     }
-    Command::from_words(owned.as_slice())
+    let found = Command::from_words(owned.as_slice());
+    if found == expected {
+        return Ok(());
+    }
+    Err(Fail::new(format_args!("{words:?}: found {found:?}, expected {expected:?}")))
 }
 
 #[test]
-fn a_command_and_a_file_ask_for_a_listing(rt: HostRuntime) {
-    assert_eq!(rt; from_words(&rt, &["path", "boot.dp"]), Some(Command::Path));
-    assert_eq!(rt; from_words(&rt, &["path", "path"]), Some(Command::Path));
-    assert_eq!(rt;
-        from_words(&rt, &["time", "boot.time"]),
-        Some(Command::Time)
-    );
-    assert_eq!(rt; from_words(&rt, &["pci", "bridge.res"]), Some(Command::Pci));
+fn a_command_and_a_file_ask_for_a_listing(rt: HostRuntime) -> Result<(), Fail> {
+    asks(rt.alloc(), &["path", "boot.dp"], Some(Command::Path))?;
+    asks(rt.alloc(), &["path", "path"], Some(Command::Path))?;
+    asks(rt.alloc(), &["time", "boot.time"], Some(Command::Time))?;
+    asks(rt.alloc(), &["pci", "bridge.res"], Some(Command::Pci))
 }
 
 #[test]
-fn a_number_may_be_asked_for(rt: HostRuntime) {
+fn a_number_may_be_asked_for(rt: HostRuntime) -> Result<(), Fail> {
     let numbers = [
         ("0", 0),
         ("86", 86),
         ("0086", 86),
         ("18446744073709551615", usize::MAX),
     ];
-    for (number, written) in numbers {
-        let asked = Some(Command::Info(written));
-        assert_eq!(rt;
-            from_words(&rt, &["info", "boot.info", number]),
-            asked,
-            "{number}"
-        );
-        let asked = Some(Command::Map(written));
-        assert_eq!(rt;
-            from_words(&rt, &["map", "boot.map", number]),
-            asked,
-            "{number}"
-        );
+    for (word, number) in numbers {
+        let info = ["info", "boot.info", word];
+        asks(rt.alloc(), &info, Some(Command::Info(number)))?;
+        let map = ["map", "boot.map", word];
+        asks(rt.alloc(), &map, Some(Command::Map(number)))?;
     }
+    Ok(())
 }
 
 #[test]
-fn a_last_entry_may_be_missing(rt: HostRuntime) {
+fn a_last_entry_may_be_missing(rt: HostRuntime) -> Result<(), Fail> {
     let words = [
         ("-", Some(Command::Log1(None))),
         ("34", Some(Command::Log1(Some(34)))),
@@ -60,18 +56,14 @@ fn a_last_entry_may_be_missing(rt: HostRuntime) {
         ("18446744073709551616", None),
     ];
     for (word, command) in words {
-        assert_eq!(rt;
-            from_words(&rt, &["log1", "boot.log", word]),
-            command,
-            "{word}"
-        );
+        asks(rt.alloc(), &["log1", "boot.log", word], command)?;
     }
-    assert_eq!(rt; from_words(&rt, &["log1", "boot.log"]), None);
+    asks(rt.alloc(), &["log1", "boot.log"], None)
 }
 
 #[test]
-fn a_word_that_is_no_number_asks_for_nothing(rt: HostRuntime) {
-    for number in [
+fn a_word_that_is_no_number_asks_for_nothing(rt: HostRuntime) -> Result<(), Fail> {
+    let words = [
         "",
         "-",
         "+86",
@@ -80,22 +72,16 @@ fn a_word_that_is_no_number_asks_for_nothing(rt: HostRuntime) {
         "86 ",
         "0x56",
         "18446744073709551616",
-    ] {
-        assert_eq!(rt;
-            from_words(&rt, &["info", "boot.info", number]),
-            None,
-            "{number}"
-        );
-        assert_eq!(rt;
-            from_words(&rt, &["map", "boot.map", number]),
-            None,
-            "{number}"
-        );
+    ];
+    for word in words {
+        asks(rt.alloc(), &["info", "boot.info", word], None)?;
+        asks(rt.alloc(), &["map", "boot.map", word], None)?;
     }
+    Ok(())
 }
 
 #[test]
-fn all_other_words_ask_for_none(rt: HostRuntime) {
+fn all_other_words_ask_for_none(rt: HostRuntime) -> Result<(), Fail> {
     let others: [&[&str]; 13] = [
         &[],
         &["path"],
@@ -112,6 +98,7 @@ fn all_other_words_ask_for_none(rt: HostRuntime) {
         &["pci", "bridge.res", "186"],
     ];
     for words in others {
-        assert_eq!(rt; from_words(&rt, words), None);
+        asks(rt.alloc(), words, None)?;
     }
+    Ok(())
 }

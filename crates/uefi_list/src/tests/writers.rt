@@ -1,10 +1,10 @@
 use crate::command::Command;
 use crate::listing::Outcome;
 use crate::run::{RunError, run};
+use std::alloc::Global;
 use std::io::{self, ErrorKind, Write};
-use std::process::Abort;
 use std::test::Fail;
-use test_bytes::bytes;
+use test_bytes::{bytes, same, same_bytes};
 
 const INPUT: (Command, &str) = (Command::Path, "7fff 0600 aabb");
 
@@ -17,7 +17,7 @@ enum Then {
     TakesNothing,
 }
 
-/// A writer that takes at most so many bytes a call, and only so many calls.
+/// A writer that takes at most this many bytes a call, and only this many calls.
 #[derive(Drop)]
 struct Stubborn {
     taken: Vec<u8>,
@@ -45,74 +45,79 @@ impl Write for Stubborn {
     }
 }
 
-fn assert_run(
-    rt: &(impl Abort + AllocGlobal),
-    (command, input): (Command, &str),
+/// Checks how a run over a [`Stubborn`] writer ends, and what the writer took.
+fn ends(
+    alloc: Global,
+    (command, row): (Command, &str),
     (most, calls, then): (usize, u64, Then),
     (outcome, taken): (Result<Outcome, RunError>, &[u8]),
-) {
-    let input_bytes = bytes(rt.alloc(), input).expect(rt, input);
+) -> Result<(), Fail> {
+    let input = bytes(alloc, row)?;
     let mut out = Stubborn {
-        taken: Vec::new(rt.alloc()),
+        taken: Vec::new(alloc),
         most,
         calls,
         then,
     };
-    let ran = run(rt.alloc(), &command, input_bytes.as_slice(), &mut out);
-    assert_eq!(rt; ran, outcome, "{most} bytes a call, {calls} calls");
-    assert_eq!(rt;
-        out.taken.as_slice(),
-        taken,
-        "{most} bytes a call, {calls} calls"
-    );
+    let ran = run(alloc, &command, input.as_slice(), &mut out);
+    same(row, &ran, &outcome)?;
+    same_bytes(row, out.taken.as_slice(), taken)
 }
 
 #[test]
-fn a_writer_that_takes_little_gets_it_all(rt: HostRuntime) {
+fn a_writer_that_takes_little_gets_it_all(rt: HostRuntime) -> Result<(), Fail> {
     for most in 1..20usize {
-        assert_run(
-            &rt,
+        ends(
+            rt.alloc(),
             INPUT,
             (most, 100, Then::TakesNothing),
             (Ok(Outcome::Listed), LISTING),
-        );
+        )?;
     }
+    Ok(())
 }
 
 #[test]
-fn a_refused_listing_is_written_too(rt: HostRuntime) {
+fn a_refused_listing_is_written_too(rt: HostRuntime) -> Result<(), Fail> {
     for (input, line) in [
         ((Command::Path, "00"), b"refused InvalidLength\n".as_slice()),
         ((Command::Pci, ""), b"refused NoEndTag\n"),
     ] {
-        assert_run(
-            &rt,
+        ends(
+            rt.alloc(),
             input,
             (1, 100, Then::TakesNothing),
             (Ok(Outcome::Refused), line),
-        );
+        )?;
     }
+    Ok(())
 }
 
 #[test]
-fn the_first_call_that_fails_or_takes_nothing_ends_the_run(rt: HostRuntime) {
-    let ends = [
+fn the_first_call_that_fails_or_takes_nothing_ends_the_run(rt: HostRuntime) -> Result<(), Fail> {
+    let kinds = [
         Then::TakesNothing,
         Then::Fails(ErrorKind::Other),
         Then::Fails(ErrorKind::Interrupted),
     ];
-    for then in ends {
+    for then in kinds {
         let stopped = Err(RunError::Output(6));
-        assert_run(&rt, INPUT, (3, 2, then), (stopped, b"instan"));
+        ends(rt.alloc(), INPUT, (3, 2, then), (stopped, b"instan"))?;
         for calls in 0..18usize {
             let stopped = Err(RunError::Output(calls));
-            assert_run(
-                &rt,
+            ends(
+                rt.alloc(),
                 INPUT,
                 (1, calls as u64, then),
                 (stopped, &LISTING[..calls]),
-            );
+            )?;
         }
-        assert_run(&rt, INPUT, (1, 18, then), (Ok(Outcome::Listed), LISTING));
+        ends(
+            rt.alloc(),
+            INPUT,
+            (1, 18, then),
+            (Ok(Outcome::Listed), LISTING),
+        )?;
     }
+    Ok(())
 }

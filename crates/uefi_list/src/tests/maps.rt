@@ -1,6 +1,7 @@
-use super::rows::assert_listing;
+use super::{Row, each_lists};
 use crate::command::Command;
 use crate::listing::Outcome;
+use std::test::Fail;
 
 /// Ten descriptors at a stride of 48, as a firmware gave them.
 const FIRMWARE_MAP: &str = "\
@@ -15,7 +16,7 @@ const FIRMWARE_MAP: &str = "\
     0700000000000000 00c0800000000000 0000000000000000 0400000000000000 0f00000000000000 0000000000000000 \
     0a00000000000000 0000810000000000 0000000000000000 f000000000000000 0f00000000000000 0000000000000000";
 
-const FIRMWARE_LISTING: &[u8] = b"entry 3 0x0 0x0 1 0xf\nentry 7 0x1000 0x0 134 0xf\n\
+const FIRMWARE_LISTING: &str = "entry 3 0x0 0x0 1 0xf\nentry 7 0x1000 0x0 134 0xf\n\
     entry 4 0x87000 0x0 1 0xf\nentry 7 0x88000 0x0 24 0xf\nentry 7 0x100000 0x0 1792 0xf\n\
     entry 10 0x800000 0x0 8 0xf\nentry 7 0x808000 0x0 3 0xf\nentry 10 0x80b000 0x0 1 0xf\n\
     entry 7 0x80c000 0x0 4 0xf\nentry 10 0x810000 0x0 240 0xf\nsorted yes\nentries 10\n";
@@ -25,34 +26,32 @@ const FALLING_MAP: &str = "\
     ffffffff 00000000 ffffffffffffffff ffffffffffffffff ffffffffffffffff ffffffffffffffff \
     07000000 ffffffff 0010000000000000 0020000000000000 0000000000000000 0100000000000080";
 
-const FALLING_LISTING: &[u8] =
-    b"entry 4294967295 0xffffffffffffffff 0xffffffffffffffff 18446744073709551615 0xffffffffffffffff\n\
+const FALLING_LISTING: &str =
+    "entry 4294967295 0xffffffffffffffff 0xffffffffffffffff 18446744073709551615 0xffffffffffffffff\n\
     entry 7 0x1000 0x2000 0 0x8000000000000001\nsorted no\nentries 2\n";
 
 #[test]
-fn a_map_is_listed_by_its_entries(rt: HostRuntime) {
-    let rows: [(&str, usize, &[u8]); 3] = [
-        (FIRMWARE_MAP, 48, FIRMWARE_LISTING),
-        (FALLING_MAP, 40, FALLING_LISTING),
-        ("", 48, b"sorted yes\nentries 0\n"),
+fn a_map_is_listed_by_its_entries(rt: HostRuntime) -> Result<(), Fail> {
+    let rows: [Row<'_>; 3] = [
+        (Command::Map(48), FIRMWARE_MAP, FIRMWARE_LISTING),
+        (Command::Map(40), FALLING_MAP, FALLING_LISTING),
+        (Command::Map(48), "", "sorted yes\nentries 0\n"),
     ];
-    for (input, stride, text) in rows {
-        assert_listing(&rt, Command::Map(stride), input, (text, Outcome::Listed));
-    }
+    each_lists(rt.alloc(), &rows, Outcome::Listed)
 }
 
+/// The line for sizes that make no map.
+const NO_MAP: &str = "refused InvalidSize\n";
+
 #[test]
-fn sizes_that_make_no_map_are_refused(rt: HostRuntime) {
-    let rows: [(&str, usize); 6] = [
-        (FIRMWARE_MAP, 0),
-        (FIRMWARE_MAP, 32),
-        (FIRMWARE_MAP, 44),
-        (FIRMWARE_MAP, 56),
-        (FIRMWARE_MAP, usize::MAX),
-        ("", 39),
+fn sizes_that_make_no_map_are_refused(rt: HostRuntime) -> Result<(), Fail> {
+    let rows: [Row<'_>; 6] = [
+        (Command::Map(0), FIRMWARE_MAP, NO_MAP),
+        (Command::Map(32), FIRMWARE_MAP, NO_MAP),
+        (Command::Map(44), FIRMWARE_MAP, NO_MAP),
+        (Command::Map(56), FIRMWARE_MAP, NO_MAP),
+        (Command::Map(usize::MAX), FIRMWARE_MAP, NO_MAP),
+        (Command::Map(39), "", NO_MAP),
     ];
-    for (input, stride) in rows {
-        let refused = (b"refused InvalidSize\n".as_slice(), Outcome::Refused);
-        assert_listing(&rt, Command::Map(stride), input, refused);
-    }
+    each_lists(rt.alloc(), &rows, Outcome::Refused)
 }

@@ -1,0 +1,10 @@
+//! Tests of the library `uefi_map` over its public names: worked rows, and maps and resources of real
+//! firmware.
+#![tactic(auto)]
+
+#[cfg(test)]
+mod changed;
+#[cfg(test)]
+mod memory;
+#[cfg(test)]
+mod pci;

@@ -1,0 +1,50 @@
+//! Memory maps.
+
+ghost use Rattle.std.specs.Prelude.{◌≡◌};
+
+mod iterator;
+mod owned;
+mod reading;
+mod refusals;
+mod values;
+mod writing;
+
+use std::alloc::{AllocError, Global};
+use uefi_map::{MemoryDescriptor, MemoryMapKey, MemoryMapMeta};
+
+/// A map of so many bytes at this stride, with the key 7.
+fn meta_of(map_size: usize, desc_size: usize) -> MemoryMapMeta
+    ensures map_size { result.map_size ≡ map_size }
+    ensures desc_size { result.desc_size ≡ desc_size }
+{
+    MemoryMapMeta {
+        map_size,
+        desc_size,
+        map_key: MemoryMapKey::from_raw(7),
+        desc_version: MemoryDescriptor::VERSION,
+    }
+}
+
+/// A descriptor as the rows have it: its type, padding, first physical and first virtual address,
+/// count of pages and attributes.
+fn fields(descriptor: &MemoryDescriptor) -> [u64; 6] {
+    [
+        u64::from(descriptor.ty.0),
+        u64::from(descriptor.padding),
+        descriptor.phys_start,
+        descriptor.virt_start,
+        descriptor.page_count,
+        descriptor.att.bits(),
+    ]
+}
+
+/// The bytes of descriptors of free memory that begin at these addresses, forty bytes each.
+fn map_at(alloc: Global, starts: &[u64]) -> Result<Vec<u8>, AllocError> {
+    let mut bytes = Vec::new(alloc);
+    for start in starts {
+        for number in [7, *start, 0, 1, 0] {
+            bytes.extend_from_slice(&u64::to_le_bytes(number))?;
+        }
+    }
+    Ok(bytes)
+}

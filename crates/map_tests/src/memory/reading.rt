@@ -1,0 +1,255 @@
+use super::{fields, map_at, meta_of};
+use std::alloc::Global;
+use std::test::Fail;
+use test_bytes::samples::FIRMWARE_MAP;
+use test_bytes::{bytes, each_gives, each_reads, holds, same, same_bytes};
+use uefi_map::{
+    MemoryMap, MemoryMapKey, MemoryMapMeta, MemoryMapOwned, MemoryMapRef, MemoryMapRefMut,
+};
+
+/// What the map that some bytes begin with shows.
+struct MapRow {
+    name: &'static str,
+    input: &'static str,
+    /// The bytes of the map, and those of its stride.
+    sizes: (usize, usize),
+    is_sorted: bool,
+    /// Type, padding, first physical and first virtual address, count of pages and attributes.
+    entries: &'static [[u64; 6]],
+}
+
+const MAPS: [MapRow; 8] = [
+    MapRow {
+        name: "a firmware's map",
+        input: FIRMWARE_MAP,
+        sizes: (480, 48),
+        is_sorted: true,
+        entries: &[
+            [3, 0, 0x0, 0, 0x1, 0xf],
+            [7, 0, 0x1000, 0, 0x86, 0xf],
+            [4, 0, 0x87000, 0, 0x1, 0xf],
+            [7, 0, 0x88000, 0, 0x18, 0xf],
+            [7, 0, 0x100000, 0, 0x700, 0xf],
+            [10, 0, 0x800000, 0, 0x8, 0xf],
+            [7, 0, 0x808000, 0, 0x3, 0xf],
+            [10, 0, 0x80b000, 0, 0x1, 0xf],
+            [7, 0, 0x80c000, 0, 0x4, 0xf],
+            [10, 0, 0x810000, 0, 0xf0, 0xf],
+        ],
+    },
+    // Code of boot services, free memory, data of runtime services, and registers of a device.
+    MapRow {
+        name: "a virtual machine's map",
+        input: "\
+            03000000 00000000 0000000000000000 0000000000000000 0100000000000000 0f00000000000000 \
+                0000000000000000 \
+            07000000 00000000 0010000000000000 0000000000000000 9f00000000000000 0f00000000000000 \
+                0000000000000000 \
+            06000000 00000000 00f0a91e00000000 0000000000000000 0201000000000000 0f00000000000080 \
+                0000000000000000 \
+            0b000000 00000000 0000c0ff00000000 0000000000000000 0004000000000000 0100000000000080 \
+                0000000000000000",
+        sizes: (192, 48),
+        is_sorted: true,
+        entries: &[
+            [3, 0, 0x0, 0, 1, 0xf],
+            [7, 0, 0x1000, 0, 159, 0xf],
+            [6, 0, 0x1ea9_f000, 0, 258, 0x8000_0000_0000_000f],
+            [11, 0, 0xffc0_0000, 0, 1024, 0x8000_0000_0000_0001],
+        ],
+    },
+    // A type and bits without names are kept.
+    MapRow {
+        name: "each field at its place",
+        input: "01020304 05060708 090a0b0c0d0e0f10 1112131415161718 191a1b1c1d1e1f20 2122232425262728",
+        sizes: (40, 40),
+        is_sorted: true,
+        entries: &[[
+            0x0403_0201,
+            0x0807_0605,
+            0x100f_0e0d_0c0b_0a09,
+            0x1817_1615_1413_1211,
+            0x201f_1e1d_1c1b_1a19,
+            0x2827_2625_2423_2221,
+        ]],
+    },
+    MapRow {
+        name: "falling addresses",
+        input: "\
+            07000000 00000000 0030000000000000 0030000000000000 0100000000000000 0800000000000000 \
+            07000000 00000000 0020000000000000 0020000000000000 0100000000000000 0800000000000000 \
+            07000000 00000000 0010000000000000 0010000000000000 0100000000000000 0800000000000000",
+        sizes: (120, 40),
+        is_sorted: false,
+        entries: &[
+            [7, 0, 0x3000, 0x3000, 1, 8],
+            [7, 0, 0x2000, 0x2000, 1, 8],
+            [7, 0, 0x1000, 0x1000, 1, 8],
+        ],
+    },
+    MapRow {
+        name: "mixed addresses",
+        input: "\
+            00000000 00000000 d007000000000000 0000000000000000 0000000000000000 0000000000000000 \
+            00000000 00000000 b80b000000000000 0000000000000000 0000000000000000 0000000000000000 \
+            00000000 00000000 0000000000000000 0000000000000000 0000000000000000 0000000000000000 \
+            00000000 00000000 e803000000000000 0000000000000000 0000000000000000 0000000000000000",
+        sizes: (160, 40),
+        is_sorted: false,
+        entries: &[
+            [0, 0, 2000, 0, 0, 0],
+            [0, 0, 3000, 0, 0, 0],
+            [0, 0, 0, 0, 0, 0],
+            [0, 0, 1000, 0, 0, 0],
+        ],
+    },
+    MapRow {
+        name: "no bytes",
+        input: "",
+        sizes: (0, 40),
+        is_sorted: true,
+        entries: &[],
+    },
+    MapRow {
+        name: "no bytes at a stride of 48",
+        input: "",
+        sizes: (0, 48),
+        is_sorted: true,
+        entries: &[],
+    },
+    MapRow {
+        name: "none of eighty bytes",
+        input: "\
+            0000000000000000000000000000000000000000000000000000000000000000000000000000000000000000 \
+            000000000000000000000000000000000000000000000000000000000000000000000000",
+        sizes: (0, 40),
+        is_sorted: true,
+        entries: &[],
+    },
+];
+
+impl MapRow {
+    fn meta(&self) -> MemoryMapMeta {
+        let (map_size, desc_size) = self.sizes;
+        meta_of(map_size, desc_size)
+    }
+
+    fn facts(&self) -> Facts {
+        let (map_size, desc_size) = self.sizes;
+        (
+            (map_size, desc_size, 1, MemoryMapKey::from_raw(7)),
+            (self.entries.len(), self.entries.is_empty(), self.is_sorted),
+        )
+    }
+}
+
+/// What a map says of itself: its sizes, version and key; how many descriptors it has, whether it has
+/// none, and whether they are sorted.
+type Facts = ((usize, usize, u32, MemoryMapKey), (usize, bool, bool));
+
+fn facts<M: MemoryMap>(map: &M) -> Facts {
+    let meta = map.meta();
+    (
+        (meta.map_size, meta.desc_size, meta.desc_version, map.key()),
+        (map.len(), map.is_empty(), map.is_sorted()),
+    )
+}
+
+/// Whether these descriptors stand at their indices, and no other after them.
+fn has_entries<M: MemoryMap>(map: &M, entries: &[[u64; 6]]) -> bool {
+    for (i, entry) in entries.iter().enumerate() {
+        let Some(found) = map.get(i) else {
+            return false;
+        };
+        if fields(&found) != *entry {
+            return false;
+        }
+    }
+    map.get(entries.len()).is_none()
+}
+
+/// Checks a map that the bytes of the row are.
+fn check_map<M: MemoryMap>(alloc: Global, map: &M, row: &MapRow) -> Result<(), Fail> {
+    same(row.name, &facts(map), &row.facts())?;
+    holds(row.name, has_entries(map, row.entries))?;
+    let entries = map
+        .entries()
+        .map(|d| fields(&d))
+        .collect::<Vec<[u64; 6]>>(alloc)?;
+    same(row.name, &entries.as_slice(), &row.entries)
+}
+
+fn check_read(alloc: Global, input: &[u8], row: &MapRow) -> Result<(), Fail> {
+    let map = MemoryMapRef::new(input, row.meta())?;
+    check_map(alloc, &map, row)?;
+    same_bytes(row.name, map.buffer(), input)
+}
+
+fn check_written(alloc: Global, buffer: &mut [u8], row: &MapRow) -> Result<(), Fail> {
+    let map = MemoryMapRefMut::new(buffer, row.meta())?;
+    check_map(alloc, &map, row)?;
+    let input = bytes(alloc, row.input)?;
+    same_bytes(row.name, map.buffer(), input.as_slice())
+}
+
+fn check_owned(alloc: Global, buffer: Vec<u8>, row: &MapRow) -> Result<(), Fail> {
+    let Ok(map) = MemoryMapOwned::from_initialized_mem(buffer, row.meta()) else {
+        return Err(Fail::new(row.name));
+    };
+    check_map(alloc, &map, row)?;
+    let input = bytes(alloc, row.input)?;
+    let (map_size, _) = row.sizes;
+    same(row.name, &Some(map.buffer()), &input.get(..map_size))
+}
+
+#[test]
+fn each_map_has_its_entries(rt: HostRuntime) -> Result<(), Fail> {
+    for row in MAPS.iter() {
+        let mut input = bytes(rt.alloc(), row.input)?;
+        check_read(rt.alloc(), input.as_slice(), row)?;
+        check_written(rt.alloc(), input.as_mut_slice(), row)?;
+        check_owned(rt.alloc(), input, row)?;
+    }
+    Ok(())
+}
+
+/// The second descriptor, by [`MemoryMap::at`].
+fn second(input: &[u8]) -> Option<[u64; 6]> {
+    let map = MemoryMapRef::new(input, meta_of(480, 48)).ok()?;
+    if map.len() < 2 {
+        return None;
+    }
+    Some(fields(&map.at(1)))
+}
+
+#[test]
+fn a_descriptor_stands_at_its_index(rt: HostRuntime) -> Result<(), Fail> {
+    each_reads(
+        rt.alloc(),
+        &[(FIRMWARE_MAP, Some([7, 0, 0x1000, 0, 134, 0xf]))],
+        second,
+    )
+}
+
+/// Whether a map of three descriptors that begin at these addresses is sorted.
+fn is_sorted(alloc: Global, starts: &[u64; 3]) -> Option<bool> {
+    let input = map_at(alloc, starts).ok()?;
+    let map = MemoryMapRef::new(input.as_slice(), meta_of(120, 40)).ok()?;
+    Some(map.is_sorted())
+}
+
+#[test]
+fn a_map_is_sorted_where_no_descriptor_begins_below_the_one_before(
+    rt: HostRuntime,
+) -> Result<(), Fail> {
+    let rows = [
+        ([0x3000, 0x2000, 0x1000], Some(false)),
+        ([0x1000, 0x3000, 0x2000], Some(false)),
+        ([0x2000, 0x1000, 0x3000], Some(false)),
+        ([0x1000, 0x2000, 0x3000], Some(true)),
+        ([0x1000, 0x1000, 0x3000], Some(true)),
+        ([0, 0, 0], Some(true)),
+        ([0, u64::MAX, u64::MAX], Some(true)),
+    ];
+    each_gives(&rows, |starts| is_sorted(rt.alloc(), starts))
+}
