@@ -80,17 +80,19 @@ fn too_small(size: usize) -> Error<Option<usize>> {
     Error::new(Status::BUFFER_TOO_SMALL, Some(size))
 }
 
-/// What is read of the first bytes of a buffer, so many of them, of which so many were written: the
-/// units of the file's name.
+/// A buffer that is cut to its first bytes: its bytes, to how many, and how many were written.
 type Cut = (&'static str, usize, usize);
 
-fn name_in(
-    alloc: Global,
-    (row, length, written): &Cut,
-) -> Option<Result<Units, Error<Option<usize>>>> {
+/// The units of a name, or the error of bytes that are no record.
+type Read = Result<Units, Error<Option<usize>>>;
+
+/// The name of the file information record in a cut buffer.
+fn name_in(alloc: Global, (row, length, written): &Cut) -> Option<Read> {
     let input = bytes(alloc, row).ok()?;
-    let read = FileInfo::from_uefi(input.get(..*length)?, *written);
-    Some(read.map(|info| units(info.file_name())))
+    match FileInfo::from_uefi(input.get(..*length)?, *written) {
+        Ok(info) => Some(Ok(units(info.file_name()))),
+        Err(error) => Some(Err(error)),
+    }
 }
 
 #[test]
@@ -164,13 +166,12 @@ fn a_cut_buffer_is_refused_by_what_is_left(rt: HostRuntime) -> Result<(), Fail> 
 }
 
 /// The units of the label in the bytes of which so many were written.
-fn label_in(
-    alloc: Global,
-    (row, written): &(&str, usize),
-) -> Option<Result<Units, Error<Option<usize>>>> {
+fn label_in(alloc: Global, (row, written): &(&str, usize)) -> Option<Read> {
     let input = bytes(alloc, row).ok()?;
-    let read = FileSystemVolumeLabel::from_uefi(input.as_slice(), *written);
-    Some(read.map(|label| units(label.volume_label())))
+    match FileSystemVolumeLabel::from_uefi(input.as_slice(), *written) {
+        Ok(label) => Some(Ok(units(label.volume_label()))),
+        Err(error) => Some(Err(error)),
+    }
 }
 
 #[test]

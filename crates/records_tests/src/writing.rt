@@ -2,7 +2,7 @@ use crate::names::{AB, TEST_NAME, TEST_NAME2, UNITS_OF_AB, units};
 use std::alloc::Global;
 use std::test::Fail;
 use test_bytes::samples::ZERO_FILE;
-use test_bytes::{bytes, holds, same, same_bytes, same_text};
+use test_bytes::{bytes, same, same_bytes, same_text};
 use uefi_base::CStr16;
 use uefi_records::{
     FileAttribute, FileInfo, FileInfoCreationError, FileSystemInfo, FileSystemVolumeLabel, Time,
@@ -27,35 +27,31 @@ fn zero_file<'a>(
     )
 }
 
-/// Checks what stands in storage of so many bytes, each the same before, after a file information
-/// record named `ab` is written there.
-fn check_file(alloc: Global, before: u8, length: usize, after: &str) -> Result<(), Fail> {
+/// Writes a file information record named `ab`, and checks what stands in its storage then.
+fn check_file(alloc: Global, storage: &mut [u8], after: &str) -> Result<(), Fail> {
     let name = CStr16::from_u16_with_nul(&AB)?;
-    let mut storage = vec![in alloc; before; length]?;
-    let info = zero_file(storage.as_mut_slice(), &name)?;
+    let info = zero_file(storage, &name)?;
     same(
         after,
         &(info.size(), units(info.file_name())),
         &(88, UNITS_OF_AB),
     )?;
-    same_bytes(after, storage.as_slice(), bytes(alloc, after)?.as_slice())
+    same_bytes(after, storage, bytes(alloc, after)?.as_slice())
 }
 
 #[test]
 fn a_written_file_leaves_the_bytes_that_round_it_up(rt: HostRuntime) -> Result<(), Fail> {
-    check_file(rt.alloc(), 0, 88, ZERO_FILE)?;
+    check_file(rt.alloc(), &mut [0; 88], ZERO_FILE)?;
     check_file(
         rt.alloc(),
-        0xee,
-        88,
+        &mut [0xee; 88],
         "5800000000000000 0000000000000000 0000000000000000 \
             00000000000000000000000000000000 00000000000000000000000000000000 \
             00000000000000000000000000000000 0000000000000000  6100 6200 0000  eeee",
     )?;
     check_file(
         rt.alloc(),
-        0xee,
-        90,
+        &mut [0xee; 90],
         "5800000000000000 0000000000000000 0000000000000000 \
             00000000000000000000000000000000 00000000000000000000000000000000 \
             00000000000000000000000000000000 0000000000000000  6100 6200 0000  eeeeeeee",
@@ -77,19 +73,18 @@ fn a_written_file_system_leaves_the_unused_bytes(rt: HostRuntime) -> Result<(), 
     same_bytes(after, &storage, bytes(rt.alloc(), after)?.as_slice())
 }
 
-/// Checks what stands in storage of so many bytes 0xee after the label `ab` is written there.
-fn check_label(alloc: Global, length: usize, after: &str) -> Result<(), Fail> {
+/// Writes the label `ab`, and checks what stands in its storage then.
+fn check_label(alloc: Global, storage: &mut [u8], after: &str) -> Result<(), Fail> {
     let name = CStr16::from_u16_with_nul(&AB)?;
-    let mut storage = vec![in alloc; 0xee; length]?;
-    let label = FileSystemVolumeLabel::new(storage.as_mut_slice(), &name)?;
+    let label = FileSystemVolumeLabel::new(storage, &name)?;
     same(after, &units(label.volume_label()), &UNITS_OF_AB)?;
-    same_bytes(after, storage.as_slice(), bytes(alloc, after)?.as_slice())
+    same_bytes(after, storage, bytes(alloc, after)?.as_slice())
 }
 
 #[test]
 fn a_written_label_leaves_what_follows(rt: HostRuntime) -> Result<(), Fail> {
-    check_label(rt.alloc(), 6, "6100 6200 0000")?;
-    check_label(rt.alloc(), 8, "6100 6200 0000 eeee")
+    check_label(rt.alloc(), &mut [0xee; 6], "6100 6200 0000")?;
+    check_label(rt.alloc(), &mut [0xee; 8], "6100 6200 0000 eeee")
 }
 
 /// The sizes of the records of both kinds over 128 bytes that are named `test_name` and labelled
@@ -169,29 +164,39 @@ fn storage_that_is_too_short_stays_as_it_was() -> Result<(), Fail> {
     Ok(())
 }
 
+/// How far a writer wrote, and whether what it wrote is read.
+type Written = (Result<usize, FileInfoCreationError>, bool);
+
+fn written_file(name: &CStr16<'_>) -> Written {
+    let time = Time::invalid();
+    let none = FileAttribute::empty();
+    let mut buffer = [0; 88];
+    let end = write_file_info(&mut buffer, 1, 2, time, time, time, none, name);
+    (end, FileInfo::from_uefi(&buffer, 86).is_ok())
+}
+
+fn written_file_system(label: &CStr16<'_>) -> Written {
+    let mut buffer = [0; 48];
+    let end = write_file_system_info(&mut buffer, true, 1, 2, 3, label);
+    (end, FileSystemInfo::from_uefi(&buffer, 42).is_ok())
+}
+
+fn written_label(label: &CStr16<'_>) -> Written {
+    let mut buffer = [0; 6];
+    let end = write_file_system_volume_label(&mut buffer, label);
+    (end, FileSystemVolumeLabel::from_uefi(&buffer, 6).is_ok())
+}
+
 #[test]
 fn the_writers_return_how_far_they_wrote() -> Result<(), Fail> {
     let name = CStr16::from_u16_with_nul(&AB)?;
-    let time = Time::invalid();
-    let none = FileAttribute::empty();
-    let mut file = [0; 88];
-    let written = write_file_info(&mut file, 1, 2, time, time, time, none, &name);
-    same("a file", &written, &Ok(86))?;
-    holds("a file is read", FileInfo::from_uefi(&file, 86).is_ok())?;
-    let mut system = [0; 48];
-    let written = write_file_system_info(&mut system, true, 1, 2, 3, &name);
-    same("a file system", &written, &Ok(42))?;
-    holds(
-        "a file system is read",
-        FileSystemInfo::from_uefi(&system, 42).is_ok(),
+    same("a file", &written_file(&name), &(Ok(86), true))?;
+    same(
+        "a file system",
+        &written_file_system(&name),
+        &(Ok(42), true),
     )?;
-    let mut label = [0; 6];
-    let written = write_file_system_volume_label(&mut label, &name);
-    same("a label", &written, &Ok(6))?;
-    holds(
-        "a label is read",
-        FileSystemVolumeLabel::from_uefi(&label, 6).is_ok(),
-    )
+    same("a label", &written_label(&name), &(Ok(6), true))
 }
 
 #[test]
