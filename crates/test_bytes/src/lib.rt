@@ -9,7 +9,6 @@
 //!     Some(DevicePath::try_from(input).ok()?.as_bytes().len())
 //! }
 //!
-//! #[test]
 //! fn a_path_has_a_length(rt: HostRuntime) -> Result<(), Fail> {
 //!     let rows = [("7fff 0400", Some(4)), ("7fff 0600 aabb cc", Some(6)), ("7fff", None)];
 //!     each_reads(rt.alloc(), &rows, length)
