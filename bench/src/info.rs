@@ -33,7 +33,7 @@ fn read_info(bytes: &[u8]) -> u64 {
     FileInfo::read(bytes, bytes.len()).map_or(0, |info| (info.name().len() / 2 - 1) as u64)
 }
 
-/// Information on a file with a name of so many units and the NUL.
+/// A file information record with a name of this many units and the NUL.
 pub fn make_info(units: usize) -> Vec<u8> {
     let mut random = Random::new();
     let mut bytes = vec![0; NAME_OFFSET];

@@ -12,7 +12,7 @@ mod writing;
 use std::alloc::{AllocError, Global};
 use uefi_map::{MemoryDescriptor, MemoryMapKey, MemoryMapMeta};
 
-/// A map of so many bytes at this stride, with the key 7.
+/// A map of this many bytes at this stride, with the key 7.
 fn meta_of(map_size: usize, desc_size: usize) -> MemoryMapMeta
     ensures map_size { result.map_size ≡ map_size }
     ensures desc_size { result.desc_size ≡ desc_size }

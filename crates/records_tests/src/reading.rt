@@ -135,7 +135,7 @@ fn the_stated_size_is_not_trusted(rt: HostRuntime) -> Result<(), Fail> {
     each_gives_in(rt.alloc(), &rows, stated_size)
 }
 
-/// What is read of so many bytes of a record of 88 bytes, of which 86 end with the name, where so
+/// What is read of the first bytes of a record of 88 bytes, of which 86 end with the name, where so
 /// many were written.
 fn expected(length: usize, written: usize) -> Option<Error<Option<usize>>> {
     if length.min(written) < 86 {
@@ -165,7 +165,7 @@ fn a_cut_buffer_is_refused_by_what_is_left(rt: HostRuntime) -> Result<(), Fail> 
     each_holds(rt.alloc(), &[FILE, ZERO_FILE], is_judged_by_what_is_left)
 }
 
-/// The units of the label in the bytes of which so many were written.
+/// The units of the label in the bytes of which this many were written.
 fn label_in(alloc: Global, (row, written): &(&str, usize)) -> Option<Read> {
     let input = bytes(alloc, row).ok()?;
     match FileSystemVolumeLabel::from_uefi(input.as_slice(), *written) {

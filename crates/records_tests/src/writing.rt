@@ -109,7 +109,7 @@ fn a_record_has_a_size_by_its_name() -> Result<(), Fail> {
     same("over 103 bytes", &refused, &Some(error))
 }
 
-/// What the writing of a record named `ab` into so many bytes leaves of its storage, and its error.
+/// What the writing of a record named `ab` into this many bytes leaves of its storage, and its error.
 type Refused = ([u8; 88], Option<FileInfoCreationError>);
 
 fn refused_file(name: &CStr16<'_>, length: usize) -> Refused {

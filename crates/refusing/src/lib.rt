@@ -1,4 +1,4 @@
-//! An allocator for tests: it grants so many requests, and refuses every later one.
+//! An allocator for tests: it grants a number of requests, and refuses every later one.
 //!
 //! A call that allocates returns an error at whichever request is refused. [`in_turn`] shows it: it
 //! makes the call with each of its requests in turn as the first that is refused, until the call
@@ -23,7 +23,7 @@ use std::cell::Cell;
 use std::fmt::Debug;
 use std::test::Fail;
 
-/// An allocator that hands so many requests on to another, and refuses every one from then on.
+/// An allocator that hands a number of requests on to another, and refuses every one from then on.
 ///
 /// A call of [`Allocator::allocate`] is one request. A collection that grows or shrinks moves to
 /// another block, which is one request as well. Giving a block back is none, and is always handed on.

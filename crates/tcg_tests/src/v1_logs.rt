@@ -74,7 +74,7 @@ fn a_log_has_the_events_that_keep_to_the_last_entry(rt: HostRuntime) -> Result<(
     Ok(())
 }
 
-/// Whether the iterator gives so many events, then none, and none when it is asked again.
+/// Whether the iterator gives this many events, then none, and none when it is asked again.
 fn ends_after(mut events: EventLogIter<'_>, count: usize) -> bool {
     for _ in 0..count {
         if events.next().is_none() {

@@ -21,7 +21,7 @@ range-same_rest {A} n one other from to behind same =
     let cut : (xs : List A) → drop from xs ≡ drop (from - n) (drop n xs) = λ xs. ap (λ m. drop m xs) (omega arith) ∙ sym (drop-drop (from - n) n xs) in
     ap (take (to - from)) (cut one ∙ ap (drop (from - n)) same ∙ sym (cut other))
 
--- The n items from index i on, one by one; and a list of at least so many, cut behind them.
+-- The n items from index i on, one by one; and a list of at least as many, cut behind them.
 unfoldable pub items_from : ℕ → ℕ → List ℕ → List ℕ
 items_from i zero xs = []
 items_from i (suc n) xs = get_or xs i 0 ∷ items_from (suc i) n xs

@@ -12,7 +12,7 @@ abbrev pub IsFirstNonCharacter : List ℕ → Option (ℕ × ℕ) → Type 0
 IsFirstNonCharacter units None = AreCharactersBefore units (length units)
 IsFirstNonCharacter units (Some first) = (first.0 < length units) × (first.1 ≡ slice_index units first.0) × AreCharactersBefore units first.0 × ¬ IsCharacter first.1
 
--- The error of all lists of so many units with this first unit that isn't a character; at None, they are text.
+-- The error of all lists of this many units with this first unit that isn't a character; at None, they are text.
 abbrev pub TellsFault : ℕ → Option (ℕ × ℕ) → Option FromSliceWithNulError → Type 0
 TellsFault count first fault = (units : List ℕ) → length units ≡ count → IsFirstNonCharacter units first → MatchOption fault (IsUcs2Text units) (HasFault units)
 

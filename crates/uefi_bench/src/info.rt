@@ -1,6 +1,6 @@
 use uefi_records::FileInfo;
 
-/// Reads information on a file that all the bytes were written for. The sum is the number of units
+/// Reads the file information record that all the bytes were written for. The sum is the number of units
 /// of its name, without the NUL.
 #[unsafe(no_mangle)]
 pub extern "C" fn port_info(bytes: &[u8]) -> u64 {

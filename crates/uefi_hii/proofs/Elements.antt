@@ -71,7 +71,7 @@ element_fails A before left after c BlockName some g h = misses_fails before lef
 element_fails A before left after c BlockConfig some g h = misses_fails before left after c BlockConfig some g h
 element_fails A before left after c Memory some g h = spells_good before g.body left c g.spells g.whole
 
--- An error that `?` returns is the error of the group.
+-- An error that is passed on is the error of the group.
 pub residual_fails : (A : Type 0) (before after : List Pair) (r : Result (ConfigurationString A) ParseError) (e : ParseError) → IsErrAnd r (λ y. y ≡ e) → TakesGroup {A = A} before (Err e) after → TakesGroup before r after
 residual_fails A before after (Ok c) e h t = absurd h
 residual_fails A before after (Err y) e h t = subst (λ z. TakesGroup {A = A} before (Err z) after) (sym h) t

@@ -60,7 +60,7 @@ alt_fails before left after x y path e some three missed =
     subst (λ x. TakesError before x after) (sym missed.0)
     (fails_after AltSlot before (three.g ∷ three.n ∷ three.p ∷ []) left after some three.whole (λ q is. (good, key (q ∷ after) is)) (λ is. (good, key [] is)) missed.2)
 
--- The header of an error that `?` returns.
+-- The header of an error that is passed on.
 pub header_residual : {A : Type 0} (before after : List Pair) (r : Result (ConfigurationString A) ParseError) (e : ParseError) → e ≢ Memory → IsErrAnd r (λ y. y ≡ e) → TakesError before e after → TakesHeader before r after
 header_residual before after (Ok c) e kept h t = absurd h
 header_residual before after (Err (ConfigHdr s)) e kept h t = subst (λ z. TakesError before z after) (sym h) t

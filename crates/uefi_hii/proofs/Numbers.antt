@@ -4,7 +4,7 @@ use Rattle.std.specs.Prelude.{fold}
 use Rattle.std.proofs.lemmas.Bool.Decides.{nat_tests}
 use Rattle.uefi_hii.specs.Values.{big_endian, is_number_length}
 
--- The numbers of so many bytes are below it.
+-- The numbers of this many bytes are below it.
 pub limit : ℕ → ℕ
 limit zero = 1
 limit (suc k) = 256 * limit k

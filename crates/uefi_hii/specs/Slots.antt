@@ -7,7 +7,7 @@ use Rattle.uefi_hii.specs.declared.error.ConfigHdrSection.TheVariants as section
 use Rattle.uefi_hii.specs.Pairs.{Pair}
 use Rattle.uefi_hii.specs.Configuration.{Configuration, guid_in, name_in, number_in, bytes_in, HasPath, Spells}
 
--- The places of a configuration in which one pair stands.
+-- What one pair of a configuration can be.
 pub data Slot : Type 0 where
   GuidSlot : Slot
   NameSlot : Slot

@@ -15,7 +15,7 @@ use Rattle.uefi_hii.specs.Views.{element_of, result_of}
 use Rattle.uefi_hii.proofs.Wholes.{HasCut, cut_all, cut_more}
 use Rattle.uefi_list.specs.Listing.Config.{config_lines, element_line, item_lines}
 
--- The lines of the first groups of a text were appended, so many; these pairs of it are left.
+-- The lines of the first n groups of a text were appended, and these pairs of it are left.
 pub record HasListed (A : Type 0) (input : List ℕ) (left : List Pair) (old now : List ℕ) (n : ℕ) : Type 0 where
   pub items : List (Result (ConfigurationString A) ParseError)
   pub cut : HasCut input left items

@@ -18,7 +18,7 @@ pub hex_of-append : (one other : List ℕ) → hex_of (one ++ other) ≡ hex_of 
 unfolding hex_of
 hex_of-append one other = flat_map-append hex_byte one other
 
--- A digit is the same, by its place in a table and by its value.
+-- A digit is the same, by its index in a table and by its value.
 pub digit_by_place : (d : ℕ) → d < 16 → slice_index lower_digits d ≡ digit_glyph false d
 digit_by_place d small =
     let same : (slice_index lower_digits d == digit_glyph false d) ≡ true = agree_below_at (λ x. slice_index lower_digits x == digit_glyph false x) (λ x. true) 16 d refl small in

@@ -32,7 +32,7 @@ digits_before-first count n last few =
 glyph-ascii : (d : ℕ) → d < 16 → digit_glyph false d < 128
 glyph-ascii d small = grind (arith, nat_tests)
 
--- The rest of the number has digits for the places that are left.
+-- The rest of the number has digits for the room that is left.
 pub record HasFilled (number rest start : ℕ) (text : List ℕ) : Type 0 where
   pub room : length text ≡ 18
   pub low : 3 ≤ start
@@ -41,7 +41,7 @@ pub record HasFilled (number rest start : ℕ) (text : List ℕ) : Type 0 where
   pub ascii : IsAscii (drop start text)
   pub digits : digits_before (46 + start) rest (drop start text) ≡ digits 16 false number
 
--- Where a digit is left, so is a place.
+-- If a digit is left, so is room for it.
 fits_step : (left rest : ℕ) → 16 ≤ rest → rest < 16 ^ left → (2 ≤ left) × (rest / 16 < 16 ^ (left - 1))
 fits_step zero rest more fits = absurd (omega arith)
 fits_step (suc zero) rest more fits = absurd (omega arith)
@@ -83,7 +83,7 @@ filled_more number rest start text more filled =
       digits = ap (digits_before (46 + (start - 1)) (rest / 16)) cut ∙ sym (digits_before-more (46 + (start - 1)) rest (drop start text) more) ∙ ap (λ (n : ℕ). digits_before n rest (drop start text)) (sym count) ∙ filled.digits;
     }
 
--- What stands from a place on where it was set.
+-- The bytes from an index on at which a digit was set.
 drop-set_before : (text : List ℕ) (i j y : ℕ) → i + 1 ≡ j → i < length text → drop i (set text i y) ≡ y ∷ drop j text
 drop-set_before text i j y next within = drop-set text i y within ∙ ap (λ (n : ℕ). y ∷ drop n text) next
 

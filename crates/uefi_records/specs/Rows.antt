@@ -59,7 +59,7 @@ pub record FlagNumbers : Type 0 where
   pub named : (has_bits named_daylight 3 ≡ true) × (has_bits named_attributes 0x37 ≡ true)
   pub unnamed : (has_bits named_daylight 4 ≡ false) × (has_bits named_attributes 8 ≡ false)
 
--- The name `ab`, and information on a file of that name of which each other field is zero.
+-- The name `ab`, and the file information record of that name whose other fields are zero.
 abbrev pub ab : List ℕ
 ab = 0x61 ∷ 0x62 ∷ 0 ∷ []
 

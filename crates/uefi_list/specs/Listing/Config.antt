@@ -44,7 +44,7 @@ fault_line BlockName = codes "fault BlockName\n"
 fault_line BlockConfig = codes "fault BlockConfig\n"
 fault_line Memory = codes ""
 
--- The lines of a configuration, or that of the fault in its place.
+-- The lines of a configuration, or the line of the fault.
 abbrev pub item_lines : Result Configuration ParseError → List ℕ
 item_lines (Ok c) = configuration_lines c
 item_lines (Err fault) = fault_line fault

@@ -54,7 +54,7 @@ fn push_items<A: Allocator + Copy>(
     Ok(())
 }
 
-/// Appends the lines of a configuration, or that of the fault in its place.
+/// Appends the lines of a configuration, or the line of the fault.
 fn push_item<A: Allocator>(
     text: &mut String<A>,
     item: &Result<ConfigurationString<A>, ParseError>,

@@ -3,7 +3,7 @@ use Rattle.std.proofs.Common.{◌≡◌, ℕ, ◌+◌, ◌≤◌, List, ◌++◌
 use Rattle.std.proofs.lemmas.Grind.{common_steps}
 use Rattle.std.proofs.lemmas.Slice.{drop-append-drop}
 
--- A list with another part from an index on, in place of as many items: what is before it, what is behind it, the part, and the length.
+-- A list with another part from an index on, instead of as many items: what is before it, what is behind it, the part, and the length.
 pub before_part : (list part rest : List ℕ) (at : ℕ) → at ≤ length list → take at (take at list ++ (part ++ rest)) ≡ take at list
 before_part list part rest at within = grind (arith, common_steps)
 

@@ -11,6 +11,6 @@ pub use Rattle.uefi_base.proofs.WriterWalk.{lends_to, shares_with, typed, finish
 pub use Rattle.uefi_base.proofs.WriterArgs.{Arg, number64, number32, truth, text16, slots, stays, spelled, told, all_go, lawfuls, Nothings, nothings}
 pub use Rattle.uefi_records.proofs.Files.Written.{WroteRecord, MadeRecord, record_seen_in, record_made_of}
 
--- The laws of what a writer answers.
+-- The laws of what a writer returns.
 abbrev pub Written_laws : Laws (Result_row usize Error_row)
 Written_laws = Result_laws usize Error_row (of_field u64-field u64-laws refl (copy_shared u64-field u64-copy)) Error_laws

@@ -82,7 +82,7 @@ pub(crate) fn name_end(
     }
 }
 
-// The end and the size of a record with a name of so many units, if a buffer of this length has
+// The end and the size of a record with a name of this many units, if a buffer of this length has
 // room for it.
 pub(crate) fn room_for(
     units: usize,
