@@ -1,6 +1,7 @@
 -- Records: their names, their bytes and their writers.
 pub mod Names
 pub mod FirstZero
+pub mod UnitLanes
 pub mod Judging
 pub mod Prefixes
 pub mod FieldsBack

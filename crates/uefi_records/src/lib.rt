@@ -14,7 +14,7 @@
 
 pub use self::file::{
     FileInfo, FileInfoCreationError, FileProtocolInfo, FileSystemInfo, FileSystemVolumeLabel,
-    write_file_info, write_file_system_info, write_file_system_volume_label,
+    first_zero_unit, write_file_info, write_file_system_info, write_file_system_volume_label,
 };
 pub use self::flags::{Daylight, FileAttribute};
 pub use self::time::{Time, TimeByteConversionError, TimeError, TimeParams};

@@ -1,35 +1,14 @@
-//! What the three records share: the search for a name's NUL, the verdict on written bytes, and the
-//! room that a writer needs.
+//! What the three records share: the name at their end, the verdict on written bytes, and the room
+//! that a writer needs.
 
-ghost use Rattle.std.specs.Prelude.{◌≡◌, ◌↔◌, ◌+◌, ◌*◌, ◌<◌, ◌≤◌, ◌^◌, length, take, IfSome, IsOk, IfOk, IfErr, MatchResult};
-ghost use Rattle.uefi_base.specs.Unaligned.{units_of};
+ghost use Rattle.std.specs.Prelude.{◌≡◌, ◌↔◌, ◌+◌, ◌*◌, ◌<◌, ◌≤◌, ◌^◌, length, take, IsOk, IfOk, IfErr, MatchResult};
 ghost use Rattle.uefi_base.specs.Views.{slice_units};
-ghost use Rattle.uefi_records.specs.File.Name.{EndsWithName, FitName, first_zero, record_end, record_size, round_up, units_from};
+ghost use Rattle.uefi_records.specs.File.Name.{EndsWithName, FitName, record_end, record_size, round_up, units_from};
 ghost use Rattle.uefi_records.specs.File.Verdict.{verdict, accepted, Refuses};
 
 use crate::file::creation_error::FileInfoCreationError;
+use crate::file::first_zero::{UNIT_LENGTH, first_zero_unit};
 use uefi_base::{Error, Status, UnalignedSlice};
-
-/// The length of a unit, in bytes.
-const UNIT_LENGTH: usize = 2;
-
-// The index of the first unit that is zero, among the whole units of the bytes.
-#[tactic(auto, using(crate::proofs::Files::FirstZero::whole_units, uefi_base::proofs::UnitsOfBytes::half_as_many_units))]
-fn first_zero(bytes: &[u8]) -> Option<usize>
-    ensures first { result ≡ first_zero (units_of bytes.now) }
-    ensures within { IfSome result
-        (λ index. record_end 0 (index + 1) ≤ length bytes.now) }
-{
-    let whole = bytes.len() / UNIT_LENGTH * UNIT_LENGTH;
-    let mut index = 0;
-    for unit in UnalignedSlice::new(&bytes[..whole]).iter() {
-        if unit == 0 {
-            return Some(index);
-        }
-        index += 1;
-    }
-    None
-}
 
 // The units of the name behind the offset.
 #[tactic(auto, using(crate::proofs::Files::Names::FitName_from))]
@@ -70,7 +49,7 @@ pub(crate) fn name_end(
     if written.len() < offset {
         return Err(Error::new(Status::BAD_BUFFER_SIZE, None));
     }
-    let Some(index) = first_zero(&written[offset..]) else {
+    let Some(index) = first_zero_unit(&written[offset..]) else {
         return Err(Error::new(Status::BAD_BUFFER_SIZE, None));
     };
     let end = offset + UNIT_LENGTH * (index + 1);
