@@ -1,5 +1,5 @@
 -- How many bytes hex spells, and the last of them.
-use Rattle.std.proofs.Common.{◌≡◌, ◌≢◌, ℕ, ◌+◌, ◌/◌, ◌%◌, ◌≤◌, List, [], ◌∷◌, ◌++◌, length, refl, ◌∙◌, ap, arith, append_assoc, length-append}
+use Rattle.std.proofs.Common.{◌≡◌, ◌≢◌, ℕ, ◌+◌, ◌*◌, ◌/◌, ◌%◌, ◌≤◌, List, [], ◌∷◌, ◌++◌, length, refl, ◌∙◌, ap, arith, append_assoc, length-append}
 use Rattle.uefi_hii.specs.Hex.{byte_of_one, byte_of_two, hex}
 
 -- A byte for each two characters, and for an odd last one.
@@ -11,6 +11,10 @@ length-hex (c ∷ d ∷ text) = let others = length-hex text in omega (arith, ot
 -- They are at most as many as the characters.
 pub few_bytes : (text : List ℕ) → length (hex text) ≤ length text
 few_bytes text = omega (arith, length-hex text)
+
+-- Two characters spell a byte, but for an odd last one.
+pub two_a_byte : (text : List ℕ) → (2 * length (hex text) ≤ length text + 1) × (length text ≤ 2 * length (hex text))
+two_a_byte text = (omega (arith, length-hex text), omega (arith, length-hex text))
 
 -- The last byte of a text with an odd number of characters, and of one with an even number.
 hex-push_one : (front : List ℕ) (c : ℕ) → length front % 2 ≡ 0 → hex (front ++ c ∷ []) ≡ hex front ++ byte_of_one c ∷ []

@@ -1,5 +1,8 @@
 pub mod HexBounds
 pub mod HexEnds
+pub mod HexParts
+pub mod DigitLanes
+pub mod PairLanes
 pub mod Numbers
 pub mod Names
 pub mod Pieces

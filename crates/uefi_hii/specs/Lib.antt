@@ -6,6 +6,7 @@ pub mod Slots
 pub mod Group
 pub mod Cut
 pub mod Views
+pub mod Filling
 pub mod Reading
 pub mod Taking
 pub mod Laws

@@ -110,7 +110,7 @@ fn split_last_byte(text: &[u8]) -> Option<(&[u8], u8)>
 
 /// The byte that two characters spell.
 #[tactic(auto, unfolding(crate::specs::Hex::byte_of_two, crate::specs::Hex::two_digits))]
-fn byte_of_two(c: u8, d: u8) -> u8
+pub(crate) fn byte_of_two(c: u8, d: u8) -> u8
     ensures { result ≡ two c d }
 {
     match (hex_digit(c), hex_digit(d)) {
@@ -122,7 +122,7 @@ fn byte_of_two(c: u8, d: u8) -> u8
 
 /// The byte that one character spells.
 #[tactic(auto, unfolding(crate::specs::Hex::byte_of_one))]
-fn byte_of_one(c: u8) -> u8
+pub(crate) fn byte_of_one(c: u8) -> u8
     ensures { result ≡ one c }
 {
     hex_digit(c).unwrap_or(0)

@@ -15,12 +15,14 @@
 
 pub use self::configuration::{ConfigurationString, ConfigurationStringElement};
 pub use self::error::{ConfigHdrSection, ParseError};
+pub use self::filling::fill_from_hex;
 pub use self::hex::HexBytes;
 pub use self::multi::{MultiConfigurationStringIter, parse_all};
 pub use self::pairs::ConfigurationStringIter;
 
 mod configuration;
 mod error;
+mod filling;
 mod hex;
 pub mod keys;
 pub mod laws;

@@ -1,0 +1,6 @@
+use Rattle.std.proofs.Common.{◌*◌}
+use Rattle.uefi_hii.specs.Filling.{IsFilledTo}
+use Rattle.uefi_hii.proofs.filling.fill.Given as goal
+
+abbrev pub invariant-loop-block : goal.invariant-loop-block
+invariant-loop-block l = IsFilledTo (16 * l.block) l.text l.out

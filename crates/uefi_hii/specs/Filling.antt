@@ -1,0 +1,15 @@
+-- A buffer that is filled with the bytes that a text spells.
+use Rattle.std.specs.Prelude.{ℕ, ◌≡◌, ◌*◌, List, ◌++◌, take, drop, Bool, is_some}
+use Rattle.uefi_hii.specs.Hex.{hex, hex_digit}
+
+-- The characters of one byte.
+abbrev pub byte_length : ℕ
+byte_length = 2
+
+-- The first bytes of the buffer are those that the text spells, and its rest spells the others.
+abbrev pub IsFilledTo : ℕ → List ℕ → List ℕ → Type 0
+IsFilledTo count text out = take count out ++ hex (drop (byte_length * count) text) ≡ hex text
+
+-- Whether a character is a hex digit.
+abbrev pub is_hex_digit : ℕ → Bool
+is_hex_digit c = is_some (hex_digit c)

@@ -1,0 +1,133 @@
+//! Buffers filled with the bytes that a text spells in hex, sixteen at a time.
+
+ghost use Rattle.std.specs.Prelude.{◌≡◌, ◌==◌, ◌∷◌, ◌≤◌, ◌<◌, ◌+◌, ◌*◌, true, length, drop, map, IfOk};
+ghost use Rattle.std.specs.List.{list_all};
+ghost use Rattle.std.specs.Simd.Lanes.{Each1};
+ghost use Rattle.uefi_hii.specs.Hex.{hex, byte_of_one as one};
+ghost use Rattle.uefi_hii.specs.Filling.{IsFilledTo, is_hex_digit, byte_length};
+
+use crate::hex::{HexBytes, byte_of_one, byte_of_two};
+use std::alloc::{AllocError, Allocator};
+use std::simd::prelude::*;
+
+/// The characters of one byte.
+const BYTE_LENGTH: usize = 2;
+
+/// How many bytes are made at a time.
+const LANES: usize = 16;
+
+/// How many characters they are made of.
+const BLOCK: usize = 32;
+
+/// Writes the bytes that a text spells in hex, those of
+/// [`ConfigurationString::parse_bytes_from_hex`](crate::ConfigurationString::parse_bytes_from_hex),
+/// to a buffer of as many bytes.
+pub fn fill_from_hex(text: &str, out: &mut [u8])
+    requires { length out.old ≡ length (hex text.now) }
+    ensures { out.new ≡ hex text.now }
+{
+    fill(text.as_bytes(), out);
+}
+
+/// The bytes that a text spells in hex.
+pub(crate) fn hex_bytes<A: Allocator>(alloc: A, text: &str) -> Result<Vec<u8, A>, AllocError>
+    ensures { IfOk result (λ bytes. bytes.items ≡ hex text.now) }
+{
+    let mut bytes = vec![in alloc; 0; HexBytes::new(text).len()]?;
+    fill_from_hex(text, &mut bytes);
+    Ok(bytes)
+}
+
+/// Fills the buffer block by block, and what is left of it byte by byte.
+#[tactic(auto, using(crate::proofs::HexEnds::two_a_byte))]
+fn fill(text: &[u8], out: &mut [u8])
+    requires { length out.old ≡ length (hex text.now) }
+    ensures { out.new ≡ hex text.now }
+{
+    let blocks = text.len() / BLOCK;
+    for block in 0..blocks {
+        fill_block(text, out, LANES * block);
+    }
+    let end = out.len();
+    fill_each(text, out, LANES * blocks, end);
+}
+
+/// Fills sixteen bytes from `start` on: in lanes if all their characters are digits.
+fn fill_block(text: &[u8], out: &mut [u8], start: usize)
+    requires text { byte_length * start + 32 ≤ length text.now }
+    requires room { start + 16 ≤ length out.old }
+    requires so_far { IsFilledTo start text.now out.old }
+    ensures { IsFilledTo (start + 16) text.now out.new }
+{
+    let front = u8x16::from_slice(&text[BYTE_LENGTH * start..]);
+    let back = u8x16::from_slice(&text[BYTE_LENGTH * start + LANES..]);
+    let (high, low) = front.deinterleave(back);
+    if are_digits(high) && are_digits(low) {
+        let bytes = digit_values(high) * u8x16::splat(16) + digit_values(low);
+        bytes.copy_to_slice(&mut out[start..]);
+    } else {
+        fill_each(text, out, start, start + LANES);
+    }
+}
+
+/// Whether each lane is a hex digit.
+#[inline(always)]
+fn are_digits(lanes: u8x16) -> bool
+    requires count { length lanes ≡ 16 }
+    requires bytes { Each1 (λ x. x < 256) lanes }
+    ensures { result ≡ list_all is_hex_digit lanes }
+{
+    let number = lanes - u8x16::splat(b'0');
+    let letter = (lanes | u8x16::splat(0x20)) - u8x16::splat(b'a');
+    let wrong = number.simd_ge(u8x16::splat(10)) & letter.simd_ge(u8x16::splat(6));
+    is_empty(wrong.to_bitmask())
+}
+
+/// Whether a mask marks no lane.
+#[inline(always)]
+fn is_empty(mask: u64) -> bool
+    ensures { result ≡ (mask == 0) }
+{
+    mask == 0
+}
+
+/// The values of hex digits, lane by lane.
+#[inline(always)]
+fn digit_values(digits: u8x16) -> u8x16
+    requires count { length digits ≡ 16 }
+    requires bytes { Each1 (λ x. x < 256) digits }
+    requires digits { list_all is_hex_digit digits ≡ true }
+    ensures { result ≡ map one digits }
+{
+    let number = digits - u8x16::splat(b'0');
+    let letter = (digits | u8x16::splat(0x20)) - u8x16::splat(b'a' - 10);
+    number.simd_lt(u8x16::splat(10)).select(number, letter)
+}
+
+/// Fills the bytes from `start` up to `end`, one at a time.
+fn fill_each(text: &[u8], out: &mut [u8], start: usize, end: usize)
+    requires order { start ≤ end }
+    requires text { byte_length * end ≤ length text.now + 1 }
+    requires room { end ≤ length out.old }
+    requires so_far { IsFilledTo start text.now out.old }
+    ensures { IsFilledTo end text.now out.new }
+{
+    for index in start..end {
+        out[index] = byte_at(text, index);
+    }
+}
+
+/// The byte at an index.
+#[inline(always)]
+fn byte_at(text: &[u8], index: usize) -> u8
+    requires { byte_length * index < length text.now }
+    ensures { hex (drop (byte_length * index) text.now)
+        ≡ result ∷ hex (drop (byte_length * (index + 1)) text.now) }
+{
+    let offset = BYTE_LENGTH * index;
+    if offset + 1 < text.len() {
+        byte_of_two(text[offset], text[offset + 1])
+    } else {
+        byte_of_one(text[offset])
+    }
+}
