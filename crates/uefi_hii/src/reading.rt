@@ -8,7 +8,7 @@ ghost use Rattle.uefi_hii.specs.Views.{pairs_left};
 
 use crate::configuration::{ConfigurationString, ConfigurationStringElement};
 use crate::error::{ConfigHdrSection, ParseError};
-use crate::hex::HexBytes;
+use crate::filling::hex_bytes;
 use crate::keys;
 use crate::pairs::ConfigurationStringIter;
 use crate::taking::{
@@ -108,5 +108,7 @@ fn read_element<A: Allocator + Copy>(
 fn reversed_bytes<A: Allocator>(alloc: A, text: &str) -> Result<Vec<u8, A>, AllocError>
     ensures { IfOk result (λ bytes. bytes.items ≡ reverse (hex text.now)) }
 {
-    HexBytes::new(text).rev().collect(alloc)
+    let mut bytes = hex_bytes(alloc, text)?;
+    bytes.reverse();
+    Ok(bytes)
 }

@@ -10,7 +10,7 @@ ghost use Rattle.uefi_hii.specs.Views.{pair_view, pairs_left};
 
 use crate::configuration::ConfigurationString;
 use crate::error::{ConfigHdrSection, ParseError};
-use crate::hex::HexBytes;
+use crate::filling::hex_bytes;
 use crate::keys;
 use crate::pairs::ConfigurationStringIter;
 use std::alloc::{AllocError, Allocator};
@@ -67,7 +67,7 @@ pub(crate) fn take_guid(pairs: &mut ConfigurationStringIter<'_>) -> Option<Guid>
 }
 
 /// The name of the next pair, if it is one.
-pub(crate) fn take_name<A: Allocator>(
+pub(crate) fn take_name<A: Allocator + Copy>(
     alloc: A,
     pairs: &mut ConfigurationStringIter<'_>,
 ) -> Result<Option<String<A>>, AllocError>
@@ -90,7 +90,7 @@ pub(crate) fn take_path<A: Allocator + Copy>(
     let Some((_, Some(value))) = pairs.next() else {
         return Ok(None);
     };
-    let bytes: Vec<u8, A> = HexBytes::new(value).collect(alloc)?;
+    let bytes = hex_bytes(alloc, value)?;
     match DevicePath::try_from(bytes.as_slice()) {
         Ok(path) => Ok(Some(path.to_boxed(alloc)?)),
         Err(_) => Ok(None),

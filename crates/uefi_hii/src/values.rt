@@ -4,6 +4,7 @@ ghost use Rattle.uefi_hii.specs.Values.{is_number_length, is_name_unit, number, 
 ghost use Rattle.uefi_hii.specs.Views.{bytes_left};
 
 use crate::configuration::ConfigurationString;
+use crate::filling::hex_bytes;
 use crate::hex::HexBytes;
 use std::alloc::{AllocError, Allocator};
 use uefi_base::Guid;
@@ -54,7 +55,7 @@ impl ConfigurationString {
     }
 }
 
-impl<A: Allocator> ConfigurationString<A> {
+impl<A: Allocator + Copy> ConfigurationString<A> {
     /// The name that a value spells in hex: the text of its UCS-2 units, each of two bytes, the high
     /// byte first. An odd last byte has to be 0, and is the first half of a NUL that was cut.
     ///
@@ -71,13 +72,14 @@ impl<A: Allocator> ConfigurationString<A> {
         if text.len() % 2 != 0 {
             return Ok(None);
         }
+        let spelled = hex_bytes(alloc, text)?;
         let mut name = String::new(alloc);
-        let mut bytes = HexBytes::new(text);
+        let mut bytes = spelled.iter();
         while let Some(high) = bytes.next() {
             let Some(low) = bytes.next() else {
-                return Ok(if high == 0 { Some(name) } else { None });
+                return Ok(if *high == 0 { Some(name) } else { None });
             };
-            let Some(c) = character_of(high, low) else {
+            let Some(c) = character_of(*high, *low) else {
                 return Ok(None);
             };
             name.push(c)?;
