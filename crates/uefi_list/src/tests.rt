@@ -8,6 +8,7 @@ mod memory;
 mod paths;
 mod resources;
 mod times;
+mod v2_logs;
 mod words;
 mod writers;
 

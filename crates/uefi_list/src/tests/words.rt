@@ -44,22 +44,28 @@ fn a_number_may_be_asked_for(rt: HostRuntime) -> Result<(), Fail> {
 
 #[test]
 fn a_last_entry_may_be_missing(rt: HostRuntime) -> Result<(), Fail> {
-    let words = [
-        ("-", Some(Command::Log1(None))),
-        ("34", Some(Command::Log1(Some(34)))),
-        (
-            "18446744073709551615",
-            Some(Command::Log1(Some(usize::MAX))),
-        ),
-        ("", None),
-        ("--", None),
-        ("-34", None),
-        ("18446744073709551616", None),
+    let last_entries = [
+        ("-", None),
+        ("0", Some(0)),
+        ("34", Some(34)),
+        ("18446744073709551615", Some(usize::MAX)),
     ];
-    for (word, command) in words {
-        asks(rt.alloc(), &["log1", "boot.log", word], command)?;
+    for (word, last_entry) in last_entries {
+        let log1 = ["log1", "boot.log", word];
+        asks(rt.alloc(), &log1, Some(Command::Log1(last_entry)))?;
+        let log2 = ["log2", "boot.log", word];
+        asks(rt.alloc(), &log2, Some(Command::Log2(last_entry)))?;
     }
-    asks(rt.alloc(), &["log1", "boot.log"], None)
+    Ok(())
+}
+
+#[test]
+fn a_word_that_is_no_last_entry_asks_for_nothing(rt: HostRuntime) -> Result<(), Fail> {
+    for word in ["", "--", "-34", "+34", "0x22", "18446744073709551616"] {
+        asks(rt.alloc(), &["log1", "boot.log", word], None)?;
+        asks(rt.alloc(), &["log2", "boot.log", word], None)?;
+    }
+    Ok(())
 }
 
 #[test]
@@ -83,7 +89,7 @@ fn a_word_that_is_no_number_asks_for_nothing(rt: HostRuntime) -> Result<(), Fail
 
 #[test]
 fn all_other_words_ask_for_none(rt: HostRuntime) -> Result<(), Fail> {
-    let others: [&[&str]; 14] = [
+    let others: [&[&str]; 18] = [
         &[],
         &["path"],
         &["boot.dp", "path"],
@@ -95,6 +101,10 @@ fn all_other_words_ask_for_none(rt: HostRuntime) -> Result<(), Fail> {
         &["info", "boot.info"],
         &["info", "86", "boot.info"],
         &["info", "boot.info", "86", "86"],
+        &["log1", "boot.log"],
+        &["log2", "boot.log"],
+        &["log2", "-", "boot.log"],
+        &["log3", "boot.log", "-"],
         &["config", "setup.txt", "1"],
         &["pci"],
         &["pci", "bridge.res", "186"],
