@@ -1,7 +1,7 @@
 use Rattle.std.proofs.Common.{ap, ◌∙◌, ◌++◌, string_bytes}
 use Rattle.std.specs.Prelude.{flat_map}
 use Rattle.uefi_hii.specs.Views.{element_of}
-use Rattle.uefi_list.specs.Listing.Config.{alt_line, configuration_lines, element_line, header_lines}
+use Rattle.uefi_list.specs.Listing.Config.{alt_line, configuration_lines, element_line}
 use Rattle.uefi_list.proofs.ConfigLines.{configuration_listed}
 use Rattle.uefi_list.proofs.listing.config.push_configuration.Goals as goal
 

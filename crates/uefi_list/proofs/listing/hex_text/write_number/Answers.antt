@@ -1,4 +1,4 @@
-use Rattle.std.proofs.Common.{◌≡◌, ◌%◌, ◌∙◌, refl, ap, sym, length}
+use Rattle.std.proofs.Common.{◌∙◌, refl}
 use Rattle.std.proofs.Output.{has_written_of_eq}
 use Rattle.uefi_list.proofs.HexNumbers.{filled_start, filled_more, ended-ascii, ended-text}
 use Rattle.uefi_list.proofs.listing.hex_text.write_number.Goals as goal

@@ -1,4 +1,4 @@
-use Rattle.std.proofs.Common.{◌≡◌, ◌+◌, ◌-◌, ◌*◌, ◌<◌, ◌∙◌, ℕ, [], ◌∷◌, length, get_or, ap, arith, unwrap_or}
+use Rattle.std.proofs.Common.{◌≡◌, ◌+◌, ◌-◌, ◌<◌, ◌∙◌, ℕ, [], ◌∷◌, length, get_or, ap, arith, unwrap_or}
 use Rattle.std.proofs.lemmas.Option.{slice_get-get_or}
 use Rattle.uefi_base.specs.Views.{slice_units}
 use Rattle.uefi_list.proofs.InfoLines.{big_endian-more}

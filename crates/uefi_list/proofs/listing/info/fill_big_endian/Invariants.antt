@@ -1,4 +1,4 @@
-use Rattle.std.proofs.Common.{◌≡◌, ◌-◌, ◌*◌, ◌≤◌, take, drop, flat_map}
+use Rattle.std.proofs.Common.{◌≡◌, ◌-◌, ◌*◌, take, drop, flat_map}
 use Rattle.std.specs.Int.{w16, to_be_bytes}
 use Rattle.uefi_base.specs.Views.{slice_units}
 use Rattle.uefi_list.proofs.listing.info.fill_big_endian.Given as goal

@@ -1,4 +1,4 @@
-use Rattle.std.proofs.Common.{◌+◌, ◌-◌, ◌≡◌, ◌/◌, ◌*◌, ◌∙◌, ℕ, arith, rules, ap, sym, refl, true, take, drop, length}
+use Rattle.std.proofs.Common.{◌+◌, ℕ, arith, rules, refl, true}
 use Rattle.std.proofs.Output.{has_written_append, has_written_of_eq}
 use Rattle.uefi_base.specs.Views.{slice_units}
 use Rattle.uefi_list.specs.Listing.Text.{hex_of}

@@ -1,9 +1,8 @@
-use Rattle.std.proofs.Common.{◌≡◌, ◌∙◌, ℕ, List, ◌++◌, ap, subst, string_bytes}
+use Rattle.std.proofs.Common.{◌≡◌, ◌∙◌, ℕ, List, ◌++◌, ap, subst}
 use Rattle.std.specs.Prelude.{Option, Some, None, IfSome}
 use Rattle.std.specs.Option.{option_map}
 use Rattle.uefi_tcg.specs.declared.v2.header.EventLogHeader.{EventLogHeader}
 use Rattle.uefi_tcg.specs.LogInput.{LogInput}
-use Rattle.uefi_tcg.specs.v2.Event.{Event}
 use Rattle.uefi_tcg.specs.v2.Header.{Header}
 use Rattle.uefi_tcg.specs.v2.Log.{HasHeaderOf, IsLogOf}
 use Rattle.uefi_tcg.specs.v2.Views.{header_of}
