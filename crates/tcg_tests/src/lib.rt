@@ -5,8 +5,20 @@
 #[cfg(test)]
 mod capabilities;
 #[cfg(test)]
+mod texts;
+#[cfg(test)]
 mod v1_cuts;
 #[cfg(test)]
 mod v1_logs;
 #[cfg(test)]
 mod v1_writers;
+#[cfg(test)]
+mod v2_cuts;
+#[cfg(test)]
+mod v2_headers;
+#[cfg(test)]
+mod v2_logs;
+#[cfg(test)]
+mod v2_samples;
+#[cfg(test)]
+mod v2_writers;

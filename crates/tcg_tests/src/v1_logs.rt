@@ -1,3 +1,4 @@
+use crate::texts::push_hex;
 use std::alloc::{AllocError, Global};
 use std::test::Fail;
 use test_bytes::samples::{CRTM_VERSION, LOG1};
@@ -55,13 +56,6 @@ fn lines_of(alloc: Global, events: EventLogIter<'_>) -> Result<String, AllocErro
         lines.push('\n')?;
     }
     Ok(lines)
-}
-
-fn push_hex(text: &mut String, bytes: &[u8]) -> Result<(), AllocError> {
-    for byte in bytes {
-        write!(text, "{byte:02x}")?;
-    }
-    Ok(())
 }
 
 #[test]
