@@ -12,6 +12,7 @@
 mod info;
 mod list;
 mod log;
+mod log2;
 mod map;
 mod path;
 mod random;
@@ -59,7 +60,7 @@ fn measure(case: &Case<'_>) -> bool {
         equal &= port_sum == rust_sum;
     }
     println!(
-        "{:<16} {:>8.2} ns/item {:>8.2} GB/s   ratio {:>5.2}   sums {}",
+        "{:<20} {:>8.2} ns/item {:>8.2} GB/s   ratio {:>5.2}   sums {}",
         case.name,
         port_best * 1e9 / case.items as f64,
         case.input.len() as f64 / port_best / 1e9,
@@ -75,6 +76,7 @@ fn measure_readers() -> bool {
     path::with_cases(|case| equal &= measure(case));
     info::with_cases(|case| equal &= measure(case));
     log::with_cases(|case| equal &= measure(case));
+    log2::with_cases(|case| equal &= measure(case));
     map::with_cases(|case| equal &= measure(case));
     resources::with_cases(|case| equal &= measure(case));
     time::with_cases(|case| equal &= measure(case));
