@@ -9,6 +9,7 @@
 //! `bench PROGRAM FOLDER` measures, with the runs' files in that folder. `bench list COMMAND FILE
 //! [ARG]` is the plain Rust that a run is measured beside.
 
+mod config;
 mod info;
 mod list;
 mod log;
@@ -77,6 +78,7 @@ fn measure_readers() -> bool {
     info::with_cases(|case| equal &= measure(case));
     log::with_cases(|case| equal &= measure(case));
     log2::with_cases(|case| equal &= measure(case));
+    config::with_cases(|case| equal &= measure(case));
     map::with_cases(|case| equal &= measure(case));
     resources::with_cases(|case| equal &= measure(case));
     time::with_cases(|case| equal &= measure(case));

@@ -5,6 +5,7 @@
 //! proved; the readers' contracts are those of their crates.
 #![tactic(auto)]
 
+mod config;
 mod info;
 mod log;
 mod map;

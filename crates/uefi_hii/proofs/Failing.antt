@@ -1,7 +1,7 @@
 -- Groups that fail.
 use Rattle.std.proofs.Common.{◌≡◌, ◌≢◌, List, [], ◌∷◌, ◌++◌, refl, sym, ◌∙◌, ap, append_assoc, inl, inr}
 use Rattle.std.proofs.lemmas.List.{append-nil}
-use Rattle.std.specs.Prelude.{Option, Some, None}
+use Rattle.std.specs.Prelude.{Some, None}
 use Rattle.uefi_hii.specs.Pairs.{Pair}
 use Rattle.uefi_hii.specs.Slots.{Expects, IsGood, Slot, error_of}
 use Rattle.uefi_hii.specs.Cut.{first_pair}

@@ -1,0 +1,83 @@
+use std::alloc::{AllocError, Global};
+use uefi_hii::{ConfigurationString, ConfigurationStringIter, MultiConfigurationStringIter};
+
+/// The text that the bytes are; or the empty text where they aren't UTF-8.
+fn text_of(bytes: &[u8]) -> &str {
+    str::from_utf8(bytes).unwrap_or("")
+}
+
+/// Cuts the text into pairs. The sum is over the lengths of their keys and values.
+#[unsafe(no_mangle)]
+pub extern "C" fn port_config_pairs(bytes: &[u8]) -> u64 {
+    let mut sum = 0u64;
+    for (key, value) in ConfigurationStringIter::new(text_of(bytes)) {
+        sum = sum
+            .wrapping_add(key.len() as u64)
+            .wrapping_add(value.map_or(0, |value| value.len()) as u64);
+    }
+    sum
+}
+
+/// Reads all configurations of the text. The sum is over offset, width and first byte of each
+/// element.
+#[unsafe(no_mangle)]
+pub extern "C" fn port_config(alloc: Global, bytes: &[u8]) -> u64 {
+    let mut sum = 0u64;
+    for item in MultiConfigurationStringIter::new(alloc, text_of(bytes)) {
+        if let Ok(configuration) = item {
+            sum = sum.wrapping_add(element_sum(&configuration));
+        }
+    }
+    sum
+}
+
+/// The sum over offset, width and first byte of each element.
+fn element_sum(configuration: &ConfigurationString) -> u64 {
+    let mut sum = 0u64;
+    for element in configuration.elements.as_slice() {
+        sum = sum
+            .wrapping_add(element.offset)
+            .wrapping_add(element.width)
+            .wrapping_add(first_of(element.value.as_slice()));
+    }
+    sum
+}
+
+/// Reads all configurations of the text. The sum is over length and first byte of each value.
+#[unsafe(no_mangle)]
+pub extern "C" fn port_config_value(alloc: Global, bytes: &[u8]) -> u64 {
+    let mut sum = 0u64;
+    for item in MultiConfigurationStringIter::new(alloc, text_of(bytes)) {
+        if let Ok(configuration) = item {
+            sum = sum.wrapping_add(value_sum(&configuration));
+        }
+    }
+    sum
+}
+
+/// The sum over length and first byte of each value.
+fn value_sum(configuration: &ConfigurationString) -> u64 {
+    let mut sum = 0u64;
+    for element in configuration.elements.as_slice() {
+        sum = sum
+            .wrapping_add(element.value.len() as u64)
+            .wrapping_add(first_of(element.value.as_slice()));
+    }
+    sum
+}
+
+/// Collects the bytes that the text spells in hex. The sum is over their number and the first.
+#[unsafe(no_mangle)]
+pub extern "C" fn port_hex(alloc: Global, bytes: &[u8]) -> u64 {
+    let digits = ConfigurationString::parse_bytes_from_hex(text_of(bytes));
+    let spelled: Result<Vec<u8>, AllocError> = digits.collect(alloc);
+    match spelled {
+        Ok(spelled) => (spelled.len() as u64).wrapping_add(first_of(spelled.as_slice())),
+        Err(_) => 0,
+    }
+}
+
+/// The first byte, or 0 if there is none.
+fn first_of(bytes: &[u8]) -> u64 {
+    bytes.first().map_or(0, |byte| u64::from(*byte))
+}
