@@ -6,6 +6,7 @@
 #![tactic(auto)]
 
 pub mod base;
+pub mod configuration;
 pub mod events;
 pub mod full_map;
 pub mod logs;

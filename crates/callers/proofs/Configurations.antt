@@ -1,0 +1,128 @@
+-- Configurations that are read one after another, and the first element that fits.
+use Rattle.std.proofs.Common.{◌≡◌, ◌≢◌, ℕ, ◌+◌, ◌≤◌, Bool, true, false, not, cond, List, [], ◌∷◌, ◌++◌, length, map, refl, sym, ◌∙◌, ap, subst, arith, append_assoc}
+use Rattle.std.proofs.lemmas.List.{append-nil, length-append}
+use Rattle.std.specs.Prelude.{◌==◌, ◌&&◌, if◌then◌else◌, Option, Some, Result, Ok, Err, option_map, slice_get, filter, is_ok, is_err}
+use Rattle.std.specs.List.{find}
+use Rattle.uefi_hii.specs.declared.configuration.ConfigurationString.{ConfigurationString}
+use Rattle.uefi_hii.specs.declared.configuration.ConfigurationStringElement.{ConfigurationStringElement}
+use Rattle.uefi_hii.specs.declared.error.ParseError.{ParseError}
+use Rattle.uefi_hii.specs.declared.error.ParseError.TheVariants.{BlockConfig, BlockName, ConfigHdr, Memory}
+use Rattle.uefi_hii.specs.Pairs.{Pair, pairs}
+use Rattle.uefi_hii.specs.Configuration.{Configuration}
+use Rattle.uefi_hii.specs.Group.{Group}
+use Rattle.uefi_hii.specs.Cut.{AreGroups, Cut, Part, first_pair, pairs_of, results_of}
+use Rattle.uefi_hii.specs.Reading.{IsFirstResult, TakesGroup}
+use Rattle.uefi_hii.specs.Views.{configuration_of, element_of, result_of}
+use Rattle.callers.specs.Configurations.{AreCounts}
+
+-- Groups of a text were read, and these pairs are left: their groups and those to come are a cut.
+pub record HasRead (text : List ℕ) (left : List Pair) (read : List Part) : Type 0 where
+  pub joins : (rest : List Part) → pairs_of rest ≡ left → AreGroups rest → Cut text (read ++ rest)
+
+-- The part that a group and its result are.
+abbrev part : List Pair → Result Configuration ParseError → Part
+part group result = record { group = group; result = result }
+
+-- A step of the iterator that found memory takes a group.
+taken : {A : Type 0} (before after : List Pair) (item : Result (ConfigurationString A) ParseError) → item ≢ Err Memory → TakesGroup before item after
+    → (group : List Pair) × (before ≡ group ++ after) × Group group (first_pair after) (result_of item)
+taken before after (Ok c) some step = step
+taken before after (Err (ConfigHdr section)) some step = step
+taken before after (Err BlockName) some step = step
+taken before after (Err BlockConfig) some step = step
+taken before after (Err Memory) some step = absurd (some refl)
+
+-- Nothing was read yet.
+pub none_read : (text : List ℕ) (left : List Pair) → left ≡ pairs text → HasRead text left []
+none_read text left all = record { joins = λ rest whole each. record { whole = whole ∙ all; each = each } }
+
+-- With the group of one more step it was read up to the pairs after that group.
+read_more : (text : List ℕ) (left after group : List Pair) (read : List Part) (result : Result Configuration ParseError)
+    → HasRead text left read → left ≡ group ++ after → Group group (first_pair after) result → HasRead text after (read ++ part group result ∷ [])
+read_more text left after group read result so_far is is_group = record {
+  joins = λ rest whole each.
+      subst (Cut text) (sym (append_assoc read (part group result ∷ []) rest))
+      (so_far.joins (part group result ∷ rest) (ap (λ ps. group ++ ps) whole ∙ sym is)
+      (subst (λ ps. Group group (first_pair ps) result) (sym whole) is_group, each));
+}
+
+-- If no pair is left, what was read is the cut.
+pub read_all : (text : List ℕ) (left : List Pair) (read : List Part) → HasRead text left read → left ≡ [] → Cut text read
+read_all text left read so_far none = subst (Cut text) (append-nil read) (so_far.joins [] (sym none) tt)
+
+-- The bytes of the first of the elements that has this offset and this width.
+abbrev pub found_in : {A : Type 0} → ℕ → ℕ → List (ConfigurationStringElement A) → Option (List ℕ)
+found_in offset width items = option_map (λ e. e.value) (find (λ e. e.offset == offset && e.width == width) (map element_of items))
+
+-- The first result of a cut is the configuration that was read.
+pub first_is : {A : Type 0} (parts : List Part) (c : ConfigurationString A) → IsFirstResult {A = A} parts (Ok c) → slice_get (results_of parts) 0 ≡ Some (Ok (configuration_of c))
+first_is [] c first = cc
+first_is (part ∷ parts) c first = ap Some (sym first)
+
+-- The configurations and the errors among the results that were read are counted, of a text of which these pairs are left.
+pub record HasCounted (text : List ℕ) (left : List Pair) (configurations errors : ℕ) : Type 0 where
+  pub read : List Part
+  pub so_far : HasRead text left read
+  pub counts : AreCounts (configurations, errors) (results_of read)
+
+-- A list with one more result has one more that passes the test, if that does.
+count_push : (test : Result Configuration ParseError → Bool) (read : List Part) (group : List Pair) (result : Result Configuration ParseError)
+    → length (filter test (results_of (read ++ part group result ∷ []))) ≡ length (filter test (results_of read)) + (if test result then 1 else 0)
+count_push test [] group result = by_test (test result)
+  where
+    by_test : (t : Bool) → length (cond t (result ∷ []) []) ≡ 0 + (if t then 1 else 0)
+    by_test true = refl
+    by_test false = refl
+count_push test (one ∷ read) group result = by_test (test one.result) (count_push test read group result)
+  where
+    by_test : (t : Bool) → length (filter test (results_of (read ++ part group result ∷ []))) ≡ length (filter test (results_of read)) + (if test result then 1 else 0)
+        → length (cond t (one.result ∷ filter test (results_of (read ++ part group result ∷ []))) (filter test (results_of (read ++ part group result ∷ []))))
+        ≡ length (cond t (one.result ∷ filter test (results_of read)) (filter test (results_of read))) + (if test result then 1 else 0)
+    by_test true more = omega (arith, more)
+    by_test false more = more
+
+-- What an item is, its result is.
+same_kind : {A : Type 0} (item : Result (ConfigurationString A) ParseError) (found : Bool) → found ≡ is_ok item → (is_ok (result_of item) ≡ found) × (is_err (result_of item) ≡ not found)
+same_kind (Ok c) found is = (sym is, ap not (sym is))
+same_kind (Err error) found is = (sym is, ap not (sym is))
+
+-- A group that was taken leaves fewer pairs.
+fewer_left : {A : Type 0} (left after : List Pair) (item : Result (ConfigurationString A) ParseError) → item ≢ Err Memory → TakesGroup left item after → length after + 1 ≤ length left
+fewer_left left after item some step = let group = taken left after item some step in fewer group.0 group.2.not_empty group.1
+  where
+    fewer : (group : List Pair) → group ≢ [] → left ≡ group ++ after → length after + 1 ≤ length left
+    fewer [] some_pair is = absurd (some_pair refl)
+    fewer (pair ∷ group) some_pair is = omega (arith, ap length is, length-append group after)
+
+-- With one more item, one more is counted.
+more_counted : {A : Type 0} (text : List ℕ) (left after : List Pair) (configurations errors : ℕ) (item : Result (ConfigurationString A) ParseError) (found : Bool)
+    → HasCounted text left configurations errors → item ≢ Err Memory → TakesGroup left item after → found ≡ is_ok item
+    → HasCounted text after (configurations + (if found then 1 else 0)) (errors + (if not found then 1 else 0))
+more_counted text left after configurations errors item found so_far some step is =
+    let group = taken left after item some step in
+    let kind = same_kind item found is in
+    record {
+      read = so_far.read ++ part group.0 (result_of item) ∷ [];
+      so_far = read_more text left after group.0 so_far.read (result_of item) so_far.so_far group.1 group.2;
+      counts = (
+        ap (λ n. n + (if found then 1 else 0)) so_far.counts.0 ∙ ap (λ t. length (filter is_ok (results_of so_far.read)) + (if t then 1 else 0)) (sym kind.0)
+            ∙ sym (count_push is_ok so_far.read group.0 (result_of item)),
+        ap (λ n. n + (if not found then 1 else 0)) so_far.counts.1 ∙ ap (λ t. length (filter is_err (results_of so_far.read)) + (if t then 1 else 0)) (sym kind.1)
+            ∙ sym (count_push is_err so_far.read group.0 (result_of item)),
+      );
+    }
+
+-- The counts after a step, which fit since each group has a pair.
+pub counted_more : {A : Type 0} (text : List ℕ) (left after : List Pair) (old_configurations old_errors configurations errors bound : ℕ) (item : Result (ConfigurationString A) ParseError) (found : Bool)
+    → HasCounted text left old_configurations old_errors → item ≢ Err Memory → TakesGroup left item after → found ≡ is_ok item
+    → configurations ≡ old_configurations + (if found then 1 else 0) → errors ≡ old_errors + (if not found then 1 else 0) → old_configurations + old_errors + length left ≤ bound
+    → HasCounted text after configurations errors × (configurations + errors + length after ≤ bound)
+counted_more text left after old_configurations old_errors configurations errors bound item found so_far some step is c e within = (
+  subst (λ n. HasCounted text after n errors) (sym c)
+      (subst (HasCounted text after (old_configurations + (if found then 1 else 0))) (sym e) (more_counted text left after old_configurations old_errors item found so_far some step is)),
+  by_kind found c e,
+)
+  where
+    by_kind : (found : Bool) → configurations ≡ old_configurations + (if found then 1 else 0) → errors ≡ old_errors + (if not found then 1 else 0) → configurations + errors + length after ≤ bound
+    by_kind true c e = omega (arith, c, e, within, fewer_left left after item some step)
+    by_kind false c e = omega (arith, c, e, within, fewer_left left after item some step)

@@ -1,0 +1,98 @@
+ghost use Rattle.std.specs.Prelude.{◌≡◌, ◌≢◌, ◌++◌, List, Ok, Err, Some, IfOk, OnOk, is_ok, option_map, slice_get, string_bytes, codes};
+ghost use Rattle.uefi_hii.specs.declared.error.ParseError.TheVariants.{Memory};
+ghost use Rattle.uefi_hii.specs.Configuration.{Configuration};
+ghost use Rattle.uefi_hii.specs.Cut.{Part, Cut, first_pair, results_of};
+ghost use Rattle.uefi_hii.specs.Laws.{EndsWithAmpersand, EndsWithElement};
+ghost use Rattle.uefi_hii.specs.Pairs.{pairs};
+ghost use Rattle.uefi_hii.specs.Slots.{IsKey};
+ghost use Rattle.uefi_hii.specs.Views.{configuration_of};
+ghost use Rattle.callers.specs.Configurations.{value_at, AreCounts};
+
+use std::alloc::{AllocError, Global};
+use uefi_hii::laws::one_cut;
+use uefi_hii::{ConfigurationString, MultiConfigurationStringIter, ParseError};
+
+/// Returns the bytes of the first element that has this offset and this width, if there is one.
+pub fn value_of(configuration: &ConfigurationString, offset: u64, width: u64) -> Option<&[u8]>
+    ensures { option_map (λ bytes. bytes.now) result
+        ≡ value_at offset width (configuration_of configuration.now) }
+{
+    for element in configuration.elements.as_slice() {
+        if element.offset == offset && element.width == width {
+            return Some(element.value.as_slice());
+        }
+    }
+    None
+}
+
+/// Returns the bytes of that element of the first configuration of a text.
+pub fn first_value(
+    alloc: Global,
+    text: &str,
+    offset: u64,
+    width: u64,
+) -> Result<Option<Vec<u8>>, ParseError>
+    ensures { IfOk result (λ found. (parts : List Part) → Cut text.now parts
+        → (first : Configuration) × (slice_get (results_of parts) 0 ≡ Some (Ok first))
+        × (option_map (λ bytes. bytes.items) found ≡ value_at offset width first)) }
+{
+    let configuration = ConfigurationString::from_str(alloc, text)?;
+    match value_of(&configuration, offset, width) {
+        Some(bytes) => Ok(Some(Vec::from_slice(alloc, bytes)?)),
+        None => Ok(None),
+    }
+}
+
+/// Returns how many configurations and how many errors a text has, by `for`: those of its cut.
+pub fn item_counts(alloc: Global, text: &str) -> Result<(usize, usize), AllocError>
+    ensures { IfOk result (λ counts. (parts : List Part) × Cut text.now parts
+        × AreCounts counts (results_of parts)) }
+{
+    let mut configurations = 0usize;
+    let mut errors = 0usize;
+    for item in MultiConfigurationStringIter::new(alloc, text) {
+        if is_configuration(item)? {
+            configurations += 1;
+        } else {
+            errors += 1;
+        }
+    }
+    Ok((configurations, errors))
+}
+
+/// Returns the same counts. By the law `one_cut` a text has no other cut, so they are those of every
+/// list that is one.
+pub fn counts_of_every_cut(alloc: Global, text: &str) -> Result<(usize, usize), AllocError>
+    ensures { IfOk result (λ counts. (parts : List Part) → Cut text.now parts
+        → AreCounts counts (results_of parts)) }
+{
+    one_cut();
+    let counts = item_counts(alloc, text)?;
+    Ok(counts)
+}
+
+/// Returns whether an item is a configuration, and no error of the text.
+fn is_configuration(item: Result<ConfigurationString, ParseError>) -> Result<bool, AllocError>
+    ensures memory { OnOk result (item ≢ Err Memory) }
+    ensures kind { IfOk result (λ found. found ≡ is_ok item) }
+{
+    match item {
+        Ok(_) => Ok(true),
+        Err(ParseError::Memory) => Err(AllocError),
+        Err(_) => Ok(false),
+    }
+}
+
+/// Joins two texts by an ampersand. The cut of the joined text is that of both, one after another,
+/// where the law `one_cut` says so.
+pub fn joined_texts(alloc: Global, text: &str, other: &str) -> Result<String, AllocError>
+    ensures { IfOk result (λ joined. (parts others : List Part)
+        → Cut text.now parts → Cut other.now others
+        → ¬ EndsWithAmpersand text.now → EndsWithElement parts
+        → IsKey (codes "GUID") (first_pair (pairs other.now))
+        → Cut (string_bytes joined) (parts ++ others)) }
+{
+    one_cut();
+    let joined = format!(in alloc; "{text}&{other}")?;
+    Ok(joined)
+}
