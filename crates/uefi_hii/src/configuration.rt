@@ -29,6 +29,41 @@ pub struct ConfigurationStringElement<A: Allocator = Global> {
 /// In the text it is the pairs `GUID`, `NAME` and one with the path, perhaps `ALTCFG`, and then
 /// those of the elements. All numbers, names and bytes are spelled in hex, as the functions
 /// `parse_.._from_hex` say.
+///
+/// # Examples
+///
+/// A setting is the value at an offset and a width:
+///
+/// ```
+/// use std::alloc::Global;
+/// use uefi_hii::{ConfigurationString, ParseError};
+///
+/// /// Returns the bytes of the first element that has this offset and this width, if there is one.
+/// pub fn value_of(configuration: &ConfigurationString, offset: u64, width: u64) -> Option<&[u8]> {
+///     for element in configuration.elements.as_slice() {
+///         if element.offset == offset && element.width == width {
+///             return Some(element.value.as_slice());
+///         }
+///     }
+///     None
+/// }
+///
+/// /// Returns the bytes of that element of the first configuration of a text.
+/// pub fn first_value(
+///     alloc: Global,
+///     text: &str,
+///     offset: u64,
+///     width: u64,
+/// ) -> Result<Option<Vec<u8>>, ParseError> {
+///     let configuration = ConfigurationString::from_str(alloc, text)?;
+///     match value_of(&configuration, offset, width) {
+///         Some(bytes) => Ok(Some(Vec::from_slice(alloc, bytes)?)),
+///         None => Ok(None),
+///     }
+/// }
+/// ```
+///
+/// Both functions are proved in `crates/callers/src/configuration.rt`, which shows their contracts.
 #[derive(Drop)]
 pub struct ConfigurationString<A: Allocator = Global> {
     /// The GUID by which the driver routes the configuration.

@@ -22,6 +22,40 @@ use std::alloc::{AllocError, Allocator, Global};
 /// The iterator keeps the allocator and the rest of the text. It makes no list of pairs, and takes
 /// memory only for the configurations that it gives. After the last group it stays ended, and so it
 /// does after [`ParseError::Memory`].
+///
+/// # Examples
+///
+/// An item is a configuration, an error of the text, or an allocation that failed:
+///
+/// ```
+/// use std::alloc::{AllocError, Global};
+/// use uefi_hii::{ConfigurationString, MultiConfigurationStringIter, ParseError};
+///
+/// /// Returns how many configurations and how many errors a text has.
+/// pub fn item_counts(alloc: Global, text: &str) -> Result<(usize, usize), AllocError> {
+///     let mut configurations = 0usize;
+///     let mut errors = 0usize;
+///     for item in MultiConfigurationStringIter::new(alloc, text) {
+///         if is_configuration(item)? {
+///             configurations += 1;
+///         } else {
+///             errors += 1;
+///         }
+///     }
+///     Ok((configurations, errors))
+/// }
+///
+/// /// Returns whether an item is a configuration, and no error of the text.
+/// fn is_configuration(item: Result<ConfigurationString, ParseError>) -> Result<bool, AllocError> {
+///     match item {
+///         Ok(_) => Ok(true),
+///         Err(ParseError::Memory) => Err(AllocError),
+///         Err(_) => Ok(false),
+///     }
+/// }
+/// ```
+///
+/// Both functions are proved in `crates/callers/src/configuration.rt`, which shows their contracts.
 #[derive(Drop)]
 pub struct MultiConfigurationStringIter<'a, A: Allocator = Global> {
     alloc: A,
