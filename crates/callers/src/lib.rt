@@ -7,7 +7,9 @@
 
 pub mod base;
 pub mod configuration;
+pub mod digest_logs;
 pub mod events;
+pub mod flags;
 pub mod full_map;
 pub mod logs;
 pub mod map;
