@@ -1,11 +1,17 @@
-ghost use Rattle.std.specs.Prelude.{◌≡◌, ◌==◌, List, Some, map, count_by, IfOk};
+ghost use Rattle.std.specs.Prelude.{◌≡◌, ◌==◌, ◌+◌, ◌-◌, ◌/◌, ◌<◌, ◌≤◌, ℕ, List, ◌++◌, Option, Some, count_by, length, map, option_map, slice_get, IfOk};
+ghost use Rattle.std.specs.Option.{option_and_then};
+ghost use Rattle.uefi_base.specs.Prefix.{IsPrefix};
+ghost use Rattle.uefi_tcg.specs.v1.Laws.{SameUpTo};
 ghost use Rattle.uefi_tcg.specs.v2.Event.{Event};
-ghost use Rattle.uefi_tcg.specs.v2.Log.{IsLogOf};
-ghost use Rattle.uefi_tcg.specs.v2.Views.{event_of};
+ghost use Rattle.uefi_tcg.specs.v2.Header.{Header, HasHeader, events_start};
+ghost use Rattle.uefi_tcg.specs.v2.Laws.{end_of, least_length, least_start};
+ghost use Rattle.uefi_tcg.specs.v2.Log.{EventsKeep, IsLog, IsLogOf};
+ghost use Rattle.uefi_tcg.specs.v2.Views.{digest_of, event_of};
 
 use std::alloc::{AllocError, Global};
-use uefi_tcg::PcrIndex;
+use uefi_tcg::laws::{bound_v2, cut_v2, local_v2, one_log_v2};
 use uefi_tcg::v2::{EventLog, PcrEvent};
+use uefi_tcg::{AlgorithmId, PcrIndex};
 
 /// The events of a log of version 2, by `collect`: they are the log under its own header's table.
 pub fn collected_events<'a>(
@@ -21,6 +27,63 @@ pub fn collected_events<'a>(
         .collect(alloc)
 }
 
+/// The events of a log of version 2: every list of events under the header's table that keeps to
+/// the last entry is a prefix of them.
+pub fn every_event<'a>(
+    alloc: Global,
+    bytes: &'a [u8],
+    last_entry: usize,
+) -> Result<Vec<PcrEvent<'a>>, AllocError>
+    ensures { IfOk result (λ events. (header : Header) (others : List Event)
+        → HasHeader bytes.now last_entry header
+        → EventsKeep header.table others (events_start header) last_entry bytes.now
+        → IsPrefix others (map event_of events.items)) }
+{
+    one_log_v2();
+    collected_events(alloc, bytes, last_entry)
+}
+
+/// The events of a log of version 2 that may have grown: they begin with those of each earlier log,
+/// the same up to its last entry, that ended at that entry or before it.
+pub fn events_so_far<'a>(
+    alloc: Global,
+    bytes: &'a [u8],
+    last_entry: usize,
+) -> Result<Vec<PcrEvent<'a>>, AllocError>
+    ensures { IfOk result (λ events. (earlier : List ℕ) (entry : ℕ) (header : Header)
+        (ended rest : List Event) → SameUpTo entry earlier bytes.now → entry ≤ last_entry
+        → IsLog earlier entry (Some header) (ended ++ rest) → end_of header ended ≤ entry
+        → IsPrefix ended (map event_of events.items)) }
+{
+    local_v2();
+    collected_events(alloc, bytes, last_entry)
+}
+
+/// The events of a log of version 2 of which only the first bytes are there: a prefix of the log.
+pub fn events_of_part<'a>(
+    alloc: Global,
+    bytes: &'a [u8],
+    count: usize,
+    last_entry: usize,
+) -> Result<Vec<PcrEvent<'a>>, AllocError>
+    requires { count ≤ length bytes.now }
+    ensures { IfOk result (λ events. (header : Option Header) (log : List Event)
+        → IsLog bytes.now last_entry header log → IsPrefix (map event_of events.items) log) }
+{
+    cut_v2();
+    collected_events(alloc, &bytes[..count], last_entry)
+}
+
+/// How many events a log of version 2 has, by `count`.
+pub fn event_count(bytes: &[u8], last_entry: usize) -> usize
+    ensures none { last_entry < least_start → result ≡ 0 }
+    ensures few { result ≤ (last_entry - least_start) / least_length + 1 }
+{
+    bound_v2();
+    let log = EventLog::new(Some(bytes), Some(last_entry), false);
+    log.iter().count()
+}
+
 /// How many events of a log of version 2 are of a register.
 pub fn count_of_register(bytes: &[u8], last_entry: usize, register: PcrIndex) -> usize
     ensures { (events : List Event) × IsLogOf (Some bytes.now) (Some last_entry) events
@@ -34,4 +97,18 @@ pub fn count_of_register(bytes: &[u8], last_entry: usize, register: PcrIndex) ->
         }
     }
     count
+}
+
+/// Returns the first digest of the first event of a log of version 2, with its algorithm. The
+/// digest borrows `bytes` alone, and outlives the log, the iterators and the event.
+pub fn first_digest<'a>(bytes: &'a [u8], last_entry: usize) -> Option<(AlgorithmId, &'a [u8])>
+    ensures { (events : List Event) × IsLogOf (Some bytes.now) (Some last_entry) events
+        × (option_map digest_of result
+        ≡ option_and_then (λ event. slice_get event.digests 0) (slice_get events 0)) }
+{
+    let log = EventLog::new(Some(bytes), Some(last_entry), false);
+    let Some(event) = log.iter().next() else {
+        return None;
+    };
+    event.digests().into_iter().next()
 }

@@ -1,11 +1,15 @@
-ghost use Rattle.std.specs.Prelude.{◌≡◌, ◌+◌, ◌/◌, ◌≤◌, [], ◌∷◌, ◌++◌, length, map, IfOk};
+ghost use Rattle.std.specs.Prelude.{◌≡◌, ◌↔◌, ◌+◌, ◌/◌, ◌^◌, ◌<◌, ◌≤◌, ℕ, List, [], ◌∷◌, ◌++◌, length, map, IfOk, IfSome, IsSome};
+ghost use Rattle.uefi_base.specs.Prefix.{IsPrefix};
 ghost use Rattle.uefi_tcg.specs.v1.Event.{Event, header_length};
 ghost use Rattle.uefi_tcg.specs.v1.Log.{EventsKeep, IsLog};
+ghost use Rattle.uefi_tcg.specs.v1.Laws.{SameUpTo, bytes_of};
 ghost use Rattle.uefi_tcg.specs.v1.Views.{event_of};
+ghost use Rattle.uefi_tcg.specs.v1.Writing.{event_given};
 
 use std::alloc::{AllocError, Global};
-use uefi_tcg::laws::bound_v1;
-use uefi_tcg::v1::{EventLog, PcrEvent};
+use uefi_tcg::laws::{bound_v1, cut_v1, local_v1, one_log_v1, written_event};
+use uefi_tcg::v1::{EventLog, PcrEvent, Sha1Digest, write_event};
+use uefi_tcg::{EventType, PcrIndex};
 
 /// The events of a log, by `for`: they keep to the last entry, and no event can be added to them.
 pub fn audited_events<'a>(
@@ -37,6 +41,74 @@ pub fn collected_events<'a>(
     EventLog::new(Some(bytes), Some(last_entry), false)
         .iter()
         .collect(alloc)
+}
+
+/// The events of a log: every list of events that keeps to the last entry is a prefix of them.
+pub fn every_event<'a>(
+    alloc: Global,
+    bytes: &'a [u8],
+    last_entry: usize,
+) -> Result<Vec<PcrEvent<'a>>, AllocError>
+    ensures { IfOk result (λ events. (others : List Event)
+        → EventsKeep others 0 last_entry bytes.now
+        → IsPrefix others (map event_of events.items)) }
+{
+    one_log_v1();
+    collected_events(alloc, bytes, last_entry)
+}
+
+/// The events of a log that may have grown: they begin with those of each earlier log, the same up
+/// to its last entry, that ended at that entry or before it.
+pub fn events_so_far<'a>(
+    alloc: Global,
+    bytes: &'a [u8],
+    last_entry: usize,
+) -> Result<Vec<PcrEvent<'a>>, AllocError>
+    ensures { IfOk result (λ events. (earlier : List ℕ) (entry : ℕ) (ended rest : List Event)
+        → SameUpTo entry earlier bytes.now → entry ≤ last_entry
+        → IsLog earlier entry (ended ++ rest) → bytes_of ended ≤ entry
+        → IsPrefix ended (map event_of events.items)) }
+{
+    local_v1();
+    collected_events(alloc, bytes, last_entry)
+}
+
+/// The events of a log of which only the first bytes are there: a prefix of the log.
+pub fn events_of_part<'a>(
+    alloc: Global,
+    bytes: &'a [u8],
+    count: usize,
+    last_entry: usize,
+) -> Result<Vec<PcrEvent<'a>>, AllocError>
+    requires { count ≤ length bytes.now }
+    ensures { IfOk result (λ events. (log : List Event) → IsLog bytes.now last_entry log
+        → IsPrefix (map event_of events.items) log) }
+{
+    cut_v1();
+    collected_events(alloc, &bytes[..count], last_entry)
+}
+
+/// Writes an event to a buffer, if it fits, and reads the log that its bytes are: this event.
+pub fn event_read_back<'a>(
+    buffer: &'a mut [u8],
+    register: PcrIndex,
+    digest: Sha1Digest,
+    event_data: &[u8],
+) -> Option<PcrEvent<'a>>
+    ensures event { IfSome result (λ event. event_of event
+        ≡ event_given register (record { 0 = 13 }) digest event_data.now) }
+    ensures fits { IsSome result ↔ (length event_data.now < 2 ^ 32)
+        × (header_length + length event_data.now ≤ length buffer.old) }
+{
+    one_log_v1();
+    written_event();
+    let written = write_event(buffer, register, EventType::IPL, digest, event_data);
+    let Ok(end) = written else {
+        return None;
+    };
+    EventLog::new(Some(&buffer[..end]), Some(0), false)
+        .iter()
+        .next()
 }
 
 /// How many events a log has, by `count`: not more than fit before its last entry, and one.

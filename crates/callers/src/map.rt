@@ -1,6 +1,6 @@
-ghost use Rattle.std.specs.Prelude.{◌≡◌, ◌^◌, ◌<◌, ◌≤◌, ◌↔◌, length, sum_by, slice_set, string_bytes, SomeIff, Some, IsTrue, IsNone, IsSome, IfSome, IfOk};
+ghost use Rattle.std.specs.Prelude.{◌≡◌, ◌≢◌, ◌^◌, ◌<◌, ◌≤◌, ◌↔◌, ℕ, List, length, sum_by, slice_set, string_bytes, SomeIff, Some, IsTrue, IsNone, IsSome, IfSome, IfOk};
 ghost use Rattle.std.specs.Ordering.{nat_cmp};
-ghost use Rattle.uefi_map.specs.memory.Descriptor.{zero_descriptor};
+ghost use Rattle.uefi_map.specs.memory.Descriptor.{descriptor_bytes, zero_descriptor};
 ghost use Rattle.uefi_base.specs.Flags.{has_bits};
 ghost use Rattle.uefi_map.specs.memory.Map.{IsMap, IsWithDescriptor, count_of, entries_of};
 ghost use Rattle.uefi_map.specs.memory.Texts.{map_error_text};
@@ -8,6 +8,7 @@ ghost use Rattle.uefi_map.specs.memory.Views.{attribute_bits, entries_left, key_
 
 use std::alloc::{AllocError, Global};
 use std::cmp::Ordering;
+use uefi_map::laws::stride_free;
 use uefi_map::{
     MemoryAttribute, MemoryDescriptor, MemoryMap, MemoryMapError, MemoryMapIter, MemoryMapKey,
     MemoryMapMeta, MemoryMapMut, MemoryMapOwned, MemoryMapRef, MemoryMapRefMut,
@@ -70,6 +71,21 @@ pub fn pages_in(buffer: &[u8], meta: MemoryMapMeta) -> Option<u64>
     Some(pages)
 }
 
+/// All entries of a map: those of every map with the same forty bytes of each descriptor, whatever
+/// the rest of each stride and the bytes after the map are.
+pub fn entries_of_strides(
+    alloc: Global,
+    map: &MemoryMapRef<'_>,
+) -> Result<Vec<MemoryDescriptor>, AllocError>
+    ensures { let meta = ref_meta map.now in IfOk result (λ entries. (other : List ℕ)
+        → ((i : ℕ) → i < count_of meta → descriptor_bytes other meta.desc_size i
+        ≡ descriptor_bytes (ref_bytes map.now) meta.desc_size i)
+        → entries.items ≡ entries_of other meta) }
+{
+    stride_free();
+    all_entries(alloc, map)
+}
+
 /// How many entries a map has, by `count`.
 pub fn entry_count(map: &MemoryMapRef<'_>) -> usize
     ensures { result ≡ length (entries_of (ref_bytes map.now) (ref_meta map.now)) }
@@ -101,8 +117,28 @@ pub fn set_and_get<M: MemoryMapMut>(map: &mut M, i: usize, d: MemoryDescriptor) 
     map.at(i)
 }
 
-/// The same of a map that is made over a buffer: `None` for a buffer that is no map, or without
-/// such a descriptor.
+/// Whether a descriptor stays as it was when another is set: always.
+pub fn stays_beside<M: MemoryMapMut>(
+    map: &mut M,
+    i: usize,
+    d: MemoryDescriptor,
+    other: usize,
+) -> bool
+    requires index { i < count_of (M.MemoryMap.meta map.old) }
+    requires other { other < count_of (M.MemoryMap.meta map.old) }
+    requires apart { other ≢ i }
+    ensures { IsTrue result }
+{
+    stride_free();
+    // The sizes are those of a map.
+    let _meta = map.meta();
+    let before = map.at(other);
+    map.set_at(i, d);
+    map.at(other) == before
+}
+
+/// What [`set_and_get`] does, for a map that is made over a buffer: `None` for a buffer that is no
+/// map, or without such a descriptor.
 pub fn set_and_get_in(
     buffer: &mut [u8],
     meta: MemoryMapMeta,

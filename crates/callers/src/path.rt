@@ -6,6 +6,7 @@ ghost use Rattle.uefi_path.specs.Texts.{node_text};
 ghost use Rattle.uefi_path.specs.Views.{node_of, header_of, path_nodes, path_bytes, instance_nodes};
 
 use std::alloc::{AllocError, Global};
+use uefi_path::laws::one_front;
 use uefi_path::{
     ByteConversionError, DevicePath, DevicePathHeader, DevicePathInstance, DevicePathNode,
 };
@@ -110,4 +111,19 @@ pub fn node_label(alloc: Global, node: &DevicePathNode<'_>) -> Result<String, Al
     ensures { IfOk result (λ text. string_bytes text ≡ node_text node.now) }
 {
     node.to_string(alloc)
+}
+
+/// Returns whether a path is read back from its bytes, whatever follows them: always, unless an
+/// allocation fails.
+pub fn is_read_before(alloc: Global, path: &DevicePath<'_>, rest: &[u8]) -> Result<bool, AllocError>
+    ensures { IfOk result (λ same. IsTrue same) }
+{
+    one_front();
+    let mut bytes = Vec::new(alloc);
+    bytes.extend_from_slice(path.as_bytes())?;
+    bytes.extend_from_slice(rest)?;
+    match DevicePath::try_from(bytes.as_slice()) {
+        Ok(read) => Ok(read == *path),
+        Err(_) => Ok(false),
+    }
 }

@@ -1,19 +1,21 @@
-ghost use Rattle.std.specs.Prelude.{◌≡◌, ◌↔◌, ◌≤◌, ℕ, List, Some, length, take, IsTrue, OnOk, OnErr, IfSome};
+ghost use Rattle.std.specs.Prelude.{◌≡◌, ◌↔◌, ◌≤◌, ℕ, List, Some, length, take, IsSome, IsTrue, OnOk, OnErr, IfSome};
 ghost use Rattle.uefi_base.specs.Buffer.{put_prefix};
 ghost use Rattle.uefi_base.specs.Flags.{has_bits};
 ghost use Rattle.uefi_base.specs.Unaligned.{unit_bytes};
 ghost use Rattle.uefi_base.specs.Views.{slice_units, text_units};
 ghost use Rattle.uefi_records.specs.Flags.Named.{directory_attribute};
 ghost use Rattle.uefi_records.specs.File.Name.{FitName};
-ghost use Rattle.uefi_records.specs.File.FileInfo.{file_fields, file_info_verdict};
+ghost use Rattle.uefi_records.specs.File.FileInfo.{file_fields, file_info_size, file_info_verdict};
 ghost use Rattle.uefi_records.specs.File.FileSystemInfo.{volume_label_size};
 ghost use Rattle.uefi_records.specs.File.Verdict.{accepted};
-ghost use Rattle.uefi_records.specs.File.Views.{file_fields_of, file_name_of, stated_size};
+ghost use Rattle.uefi_records.specs.File.Views.{file_fields_given, file_fields_of, file_name_of, stated_size};
 
+use crate::base::is_same_error;
 use uefi_base::{CStr16, UnalignedSlice};
-use uefi_records::laws::equal_files;
+use uefi_records::laws::{equal_files, reads_back, written_alone};
 use uefi_records::{
-    FileInfo, FileInfoCreationError, FileSystemVolumeLabel, write_file_system_volume_label,
+    FileAttribute, FileInfo, FileInfoCreationError, FileSystemVolumeLabel, Time, write_file_info,
+    write_file_system_volume_label,
 };
 
 /// Whether the file is a directory whose record stands in the written bytes.
@@ -58,6 +60,60 @@ pub fn label_written(buffer: &mut [u8], label: &CStr16<'_>) -> Result<(), FileIn
 {
     write_file_system_volume_label(buffer, label)?;
     Ok(())
+}
+
+/// Writes a record if it fits, and reads it back: the fields and the name are those that were passed.
+pub fn file_read_back<'a>(
+    buffer: &'a mut [u8],
+    file_size: u64,
+    physical_size: u64,
+    create_time: Time,
+    last_access_time: Time,
+    modification_time: Time,
+    attribute: FileAttribute,
+    file_name: &CStr16<'_>,
+) -> Option<FileInfo<'a>>
+    ensures fields { IfSome result (λ info. file_fields_of info
+        ≡ file_fields_given file_size physical_size create_time last_access_time
+        modification_time attribute) }
+    ensures name { IfSome result (λ info. file_name_of info ≡ text_units file_name.now) }
+    ensures size { IfSome result
+        (λ info. stated_size info ≡ file_info_size (length (text_units file_name.now))) }
+    ensures fits { IsSome result
+        ↔ (file_info_size (length (text_units file_name.now)) ≤ length buffer.old) }
+{
+    reads_back();
+    let written = write_file_info(
+        buffer,
+        file_size,
+        physical_size,
+        create_time,
+        last_access_time,
+        modification_time,
+        attribute,
+        file_name,
+    );
+    let Ok(end) = written else {
+        return None;
+    };
+    FileInfo::from_uefi(buffer, end).ok()
+}
+
+/// Whether two buffers of one length that agree on the written bytes are read alike: always.
+pub fn are_read_alike(one: &[u8], other: &[u8], written: usize) -> bool
+    requires lengths { length one.now ≡ length other.now }
+    requires same { take written one.now ≡ take written other.now }
+    ensures { IsTrue result }
+{
+    written_alone();
+    match (
+        FileInfo::from_uefi(one, written),
+        FileInfo::from_uefi(other, written),
+    ) {
+        (Ok(one), Ok(other)) => is_same_file(&one, &other),
+        (Err(one), Err(other)) => is_same_error(&one, &other),
+        _ => false,
+    }
 }
 
 /// Whether two file information records are equal: exactly if their accessors return the same.

@@ -5,6 +5,7 @@ ghost use Rattle.uefi_map.specs.pci.ResourceList.{HaveList, HaveFault, HaveSomeL
 ghost use Rattle.uefi_map.specs.pci.Views.{resources_left};
 
 use std::alloc::{AllocError, Global};
+use uefi_map::laws::one_list;
 use uefi_map::{
     QwordAddressSpaceDescriptor, ResourceError, ResourceIter, ResourceList, ResourceRangeType,
     parse,
@@ -58,6 +59,23 @@ pub fn addresses_in(bytes: &[u8]) -> Option<u64>
         addresses = addresses.checked_add(range.address_length)?;
     }
     Some(addresses)
+}
+
+/// Returns the count of ranges that the bytes list, and the count of addresses in them. Each of the
+/// two calls speaks of some list that the bytes begin with; it is the same one.
+pub fn ranges_and_addresses(alloc: Global, bytes: &[u8]) -> Option<(usize, u64)>
+    ensures { IfSome result (λ counts. (list : List QwordAddressSpaceDescriptor)
+        × HaveList bytes.now list × (counts.0 ≡ length list)
+        × (counts.1 ≡ sum_by (λ range. range.address_length) list)) }
+{
+    one_list();
+    let Ok(ranges) = range_count(alloc, bytes) else {
+        return None;
+    };
+    let Some(addresses) = addresses_in(bytes) else {
+        return None;
+    };
+    Some((ranges, addresses))
 }
 
 /// Returns the count of resources that are left, by `len`.

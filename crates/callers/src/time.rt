@@ -1,12 +1,12 @@
 ghost use Rattle.std.specs.Prelude.{◌≡◌, ◌≤◌, ◌↔◌, string_bytes, IsTrue, IsOk, IfOk};
-ghost use Rattle.uefi_records.specs.Time.Fields.{without_pads};
+ghost use Rattle.uefi_records.specs.Time.Fields.{time_in, without_pads};
 ghost use Rattle.uefi_base.specs.Flags.{has_bits};
 ghost use Rattle.uefi_records.specs.Time.Texts.{time_error_text};
 ghost use Rattle.uefi_records.specs.Time.Views.{time_of, bytes_of_time};
 ghost use Rattle.uefi_records.specs.Flags.Views.{attribute_bits};
 
 use std::alloc::{AllocError, Global};
-use uefi_records::laws::one_time;
+use uefi_records::laws::{one_time, times_read_back};
 use uefi_records::{Daylight, FileAttribute, Time, TimeByteConversionError, TimeError, TimeParams};
 
 /// A time written and read again: the same time, with zeros in its padding.
@@ -17,6 +17,14 @@ pub fn read_back(time: &Time) -> Result<Time, TimeByteConversionError>
     one_time();
     let bytes = time.to_bytes();
     Time::try_from(bytes.as_slice())
+}
+
+/// The time in the first sixteen bytes: each field at its offset, with zeros in the padding.
+pub fn first_time(bytes: &[u8]) -> Result<Time, TimeByteConversionError>
+    ensures { IfOk result (λ time. time_of time ≡ without_pads (time_in bytes.now)) }
+{
+    times_read_back();
+    Time::try_from(bytes)
 }
 
 /// The first noon of a year, local time.
