@@ -4,6 +4,8 @@
 #[cfg(test)]
 mod configurations;
 #[cfg(test)]
+mod filling;
+#[cfg(test)]
 mod memory;
 #[cfg(test)]
 mod samples;

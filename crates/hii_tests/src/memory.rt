@@ -6,7 +6,7 @@ use test_bytes::holds;
 use uefi_hii::{ConfigurationString, MultiConfigurationStringIter, ParseError, parse_all};
 
 /// Whether the name in hex is the driver's; or `None` if memory ran out.
-fn is_driver<A: Allocator>(alloc: A, text: &str) -> Option<bool> {
+fn is_driver<A: Allocator + Copy>(alloc: A, text: &str) -> Option<bool> {
     let name = ConfigurationString::parse_string_from_hex(alloc, text).ok()?;
     Some(name.as_ref().map(|name| name.as_str()) == Some("ISCSI_CONFIG_IFR_NVDATA"))
 }

@@ -10,6 +10,8 @@ mod names;
 #[cfg(test)]
 mod reading;
 #[cfg(test)]
+mod searching;
+#[cfg(test)]
 mod times;
 #[cfg(test)]
 mod writing;

@@ -92,3 +92,27 @@ fn has_no_header(input: &[u8]) -> bool {
 fn another_event_has_no_header(rt: HostRuntime) -> Result<(), Fail> {
     each_holds(rt.alloc(), &OTHERS, has_no_header)
 }
+
+/// A header with eleven rows: SHA-1 and the algorithms 1 to 9 have a row each, SHA-1 one more at the
+/// end.
+const ELEVEN_ROWS: &str = "00000000 03000000 0000000000000000000000000000000000000000 49000000 \
+    53706563204944204576656e74303300 00000000 00020002 0b000000 \
+    04001400 01000100 02000200 03000300 05000500 06000600 07000700 08000800 09000900 0a000a00 \
+    04000400 00";
+
+#[test]
+fn a_row_after_the_first_eight_algorithms_is_found(rt: HostRuntime) -> Result<(), Fail> {
+    let input = bytes(rt.alloc(), ELEVEN_ROWS)?;
+    let log = EventLog::new(Some(input.as_slice()), Some(0), false);
+    let sizes = log.header().ok_or("the header")?.algorithm_digest_sizes();
+    for algorithm in 0..=12u16 {
+        let size = match algorithm {
+            4 => Some(20),
+            0 | 11 | 12 => None,
+            other => Some(other),
+        };
+        let found = (algorithm, sizes.get_size(AlgorithmId(algorithm)));
+        same("a size", &found, &(algorithm, size))?;
+    }
+    same("the rows", &sizes.len(), &11)
+}

@@ -53,10 +53,26 @@ const TWO_DIGESTS: &str = "00000000 08000000 02000000 \
 const CUT_DATA: &str = "00000000 08000000 01000000 \
     0400 1111111111111111111111111111111111111111 00010000 0000";
 
+/// A header of 101 bytes with ten rows: algorithm and size are 1 to 9, and then algorithm 9 has
+/// another size. Then the same without the last row, of 97 bytes.
+const TEN_ROWS: &str = "00000000 03000000 0000000000000000000000000000000000000000 45000000 \
+    53706563204944204576656e74303300 00000000 00020002 0a000000 \
+    01000100 02000200 03000300 04000400 05000500 06000600 07000700 08000800 09000900 \
+    09000100 00";
+
+const NINE_ROWS: &str = "00000000 03000000 0000000000000000000000000000000000000000 41000000 \
+    53706563204944204576656e74303300 00000000 00020002 09000000 \
+    01000100 02000200 03000300 04000400 05000500 06000600 07000700 08000800 09000900 00";
+
+/// An event of one digest, of algorithm 9 and of nine bytes.
+const NINTH: &str = "00000000 08000000 01000000 0900 aaaaaaaaaaaaaaaaaa 00000000";
+
+const NINTH_LINE: &str = "0 0x00000008  0009:aaaaaaaaaaaaaaaaaa\n";
+
 const ZERO_EVENT: &str = "00000000 00000000 00000000 00000000";
 
 /// The parts of a log, a last entry, where the events start if there is a header, and their lines.
-const LOGS: [(&[&str], Option<usize>, Option<usize>, &[&str]); 17] = [
+const LOGS: [(&[&str], Option<usize>, Option<usize>, &[&str]); 19] = [
     (&[SHA1_HEADER], Some(0), Some(65), &[]),
     (&[SHA1_HEADER], None, None, &[]),
     (&[MOST_ROWS], Some(0), None, &[]),
@@ -112,6 +128,8 @@ const LOGS: [(&[&str], Option<usize>, Option<usize>, &[&str]); 17] = [
         Some(65),
         &[],
     ),
+    (&[TEN_ROWS, NINTH], Some(101), Some(101), &[NINTH_LINE]),
+    (&[NINE_ROWS, NINTH], Some(97), Some(97), &[NINTH_LINE]),
     (&[""], Some(0), None, &[]),
 ];
 

@@ -1,0 +1,71 @@
+use std::alloc::{AllocError, Global};
+use std::test::Fail;
+use test_bytes::same;
+use uefi_records::first_zero_unit;
+
+/// The bytes of this many units `a`, and of the NUL.
+fn label(alloc: Global, units: usize) -> Result<Vec<u8>, AllocError> {
+    let mut bytes = Vec::new(alloc);
+    for _ in 0..units {
+        bytes.extend_from_slice(&[0x61, 0])?;
+    }
+    bytes.extend_from_slice(&[0, 0])?;
+    Ok(bytes)
+}
+
+#[test]
+fn the_nul_of_a_label_is_found_once_it_is_whole(rt: HostRuntime) -> Result<(), Fail> {
+    for units in [0usize, 15, 16, 17, 31, 32, 33] {
+        let mut bytes = label(rt.alloc(), units)?;
+        same("whole", &first_zero_unit(bytes.as_slice()), &Some(units))?;
+        let _last = bytes.pop();
+        same(
+            "cut",
+            &(units, first_zero_unit(bytes.as_slice())),
+            &(units, None),
+        )?;
+    }
+    Ok(())
+}
+
+/// How many bytes the longest input has.
+const LONGEST: usize = 100;
+
+/// This many bytes, of units that are not zero though one of their bytes is, in turn the low and the
+/// high one; but for the unit at the index, which is zero.
+fn zero_at(alloc: Global, length: usize, index: usize) -> Result<Vec<u8>, AllocError> {
+    let mut bytes = Vec::new(alloc);
+    for i in 0..length {
+        let is_zero = i / 2 == index || i % 4 == 0 || i % 4 == 3;
+        bytes.push(if is_zero { 0 } else { 0x61 })?;
+    }
+    Ok(bytes)
+}
+
+/// The index of the first zero unit, by a search one unit at a time.
+fn one_by_one(bytes: &[u8]) -> Option<usize> {
+    for index in 0..bytes.len() / 2 {
+        if bytes[2 * index] == 0 && bytes[2 * index + 1] == 0 {
+            return Some(index);
+        }
+    }
+    None
+}
+
+/// Checks that a zero unit at each index is found where a search one unit at a time finds it.
+fn each_index_is_found(alloc: Global, length: usize) -> Result<(), Fail> {
+    for index in 0..=length / 2 {
+        let bytes = zero_at(alloc, length, index)?;
+        let expected = one_by_one(bytes.as_slice());
+        same("a zero unit", &first_zero_unit(bytes.as_slice()), &expected)?;
+    }
+    Ok(())
+}
+
+#[test]
+fn a_zero_unit_at_each_index_is_found_as_one_by_one(rt: HostRuntime) -> Result<(), Fail> {
+    for length in 0..=LONGEST {
+        each_index_is_found(rt.alloc(), length)?;
+    }
+    Ok(())
+}
