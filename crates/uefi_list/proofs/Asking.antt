@@ -4,7 +4,7 @@ use Rattle.std.specs.Prelude.{codes, Option, Some}
 use Rattle.uefi_list.specs.declared.command.Command.TheVariants.{Path, Log1, Log2, Config, Pci, Time, Map, Info}
 use Rattle.uefi_list.specs.Words.{IsDecimal, IsLastEntry, AskForNothing}
 
--- A word among words that are equal to others is one of those.
+-- Equal lists of words have the same word at an index.
 same_word : (words others : List (List ℕ)) (word : List ℕ) (i : ℕ) → word ≡ get_or words i [] → words ≡ others → get_or others i [] ≡ word
 same_word words others word i is same = ap (λ (w : List (List ℕ)). get_or w i []) (sym same) ∙ sym is
 
