@@ -18,7 +18,7 @@ pub fn write_loader_event(
     event_data: &[u8],
 ) -> Result<(), Error<Option<usize>>>
     ensures written { OnOk result (buffer.new ≡ put_prefix
-        (event_bytes (event_given register (record { 0 = 13 }) digest event_data.now)) buffer.old) }
+        (event_bytes (event_given register EventType.IPL digest event_data.now)) buffer.old) }
     ensures unchanged { OnErr result (buffer.new ≡ buffer.old) }
 {
     write_event(buffer, register, EventType::IPL, digest, event_data)?;

@@ -96,7 +96,7 @@ pub fn event_read_back<'a>(
     event_data: &[u8],
 ) -> Option<PcrEvent<'a>>
     ensures event { IfSome result (λ event. event_of event
-        ≡ event_given register (record { 0 = 13 }) digest event_data.now) }
+        ≡ event_given register EventType.IPL digest event_data.now) }
     ensures fits { IsSome result ↔ (length event_data.now < 2 ^ 32)
         × (header_length + length event_data.now ≤ length buffer.old) }
 {

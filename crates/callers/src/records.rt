@@ -62,7 +62,8 @@ pub fn label_written(buffer: &mut [u8], label: &CStr16<'_>) -> Result<(), FileIn
     Ok(())
 }
 
-/// Writes a record if it fits, and reads it back: the fields and the name are those that were passed.
+/// Writes a record, if it fits, and reads it back: the fields and the name are those that were
+/// passed.
 pub fn file_read_back<'a>(
     buffer: &'a mut [u8],
     file_size: u64,

@@ -44,8 +44,8 @@ pub fn is_decoded(alloc: Global, bytes: &[u8], address: u64) -> Result<bool, Res
     Ok(list.iter().any(|range| range.address_min <= address && address <= range.address_max))
 }
 
-/// Returns the count of addresses in all ranges that the bytes list, or `None` if they begin with no
-/// list or the sum doesn't fit.
+/// Returns the count of addresses in all ranges that the bytes list, or `None` if they begin with
+/// no list or the sum doesn't fit.
 pub fn addresses_in(bytes: &[u8]) -> Option<u64>
     ensures { IfSome result (λ addresses. (list : List QwordAddressSpaceDescriptor)
         × HaveList bytes.now list
@@ -62,7 +62,7 @@ pub fn addresses_in(bytes: &[u8]) -> Option<u64>
 }
 
 /// Returns the count of ranges that the bytes list, and the count of addresses in them. Each of the
-/// two calls speaks of some list that the bytes begin with; it is the same one.
+/// two calls names some list that the bytes begin with; it is the same one.
 pub fn ranges_and_addresses(alloc: Global, bytes: &[u8]) -> Option<(usize, u64)>
     ensures { IfSome result (λ counts. (list : List QwordAddressSpaceDescriptor)
         × HaveList bytes.now list × (counts.0 ≡ length list)

@@ -3,6 +3,7 @@ ghost use Rattle.uefi_records.specs.Time.Fields.{time_in, without_pads};
 ghost use Rattle.uefi_base.specs.Flags.{has_bits};
 ghost use Rattle.uefi_records.specs.Time.Texts.{time_error_text};
 ghost use Rattle.uefi_records.specs.Time.Views.{time_of, bytes_of_time};
+ghost use Rattle.uefi_records.specs.Flags.Named.{directory_attribute};
 ghost use Rattle.uefi_records.specs.Flags.Views.{attribute_bits};
 
 use std::alloc::{AllocError, Global};
@@ -54,7 +55,7 @@ pub fn is_same_time(time: &Time, other: &Time) -> bool
 
 /// Whether a file is a directory.
 pub fn is_directory(attribute: FileAttribute) -> bool
-    ensures { result ≡ has_bits (attribute_bits attribute) 0x10 }
+    ensures { result ≡ has_bits (attribute_bits attribute) directory_attribute }
 {
     attribute.contains(FileAttribute::DIRECTORY)
 }

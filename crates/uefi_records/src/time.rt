@@ -36,6 +36,13 @@ const DAYLIGHT_OFFSET: usize = 14;
 
 const LAST_PAD_OFFSET: usize = 15;
 
+/// The first and the last year of the range, and the last nanosecond of a second.
+const FIRST_YEAR: u16 = 1900;
+
+const LAST_YEAR: u16 = 9999;
+
+const LAST_NANOSECOND: u32 = 999_999_999;
+
 /// The zone of local time, `EFI_UNSPECIFIED_TIMEZONE`.
 const UNSPECIFIED_TIMEZONE: i16 = 0x07ff;
 
@@ -163,13 +170,13 @@ impl Time {
         ensures { result ≡ range_faults (time_of self.now) }
     {
         TimeError {
-            year: self.year < 1900 || self.year > 9999,
+            year: self.year < FIRST_YEAR || self.year > LAST_YEAR,
             month: self.month < 1 || self.month > 12,
             day: self.day < 1 || self.day > 31,
             hour: self.hour > 23,
             minute: self.minute > 59,
             second: self.second > 59,
-            nanosecond: self.nanosecond > 999_999_999,
+            nanosecond: self.nanosecond > LAST_NANOSECOND,
             timezone: is_zone_outside(self.zone),
             daylight: false,
         }

@@ -10,6 +10,16 @@ use Rattle.uefi_records.specs.Time.Fields.{TimeFields, unspecified_zone}
 abbrev pub is_outside : ℕ → ℕ → ℕ → Bool
 is_outside lowest highest n = nat_lt n lowest || nat_lt highest n
 
+-- The first and the last year of the range, and the last nanosecond of a second.
+abbrev pub first_year : ℕ
+first_year = 1900
+
+abbrev pub last_year : ℕ
+last_year = 9999
+
+abbrev pub last_nanosecond : ℕ
+last_nanosecond = 999999999
+
 -- The most minutes that a zone is from UTC: those of a day.
 abbrev pub largest_zone : ℤ
 largest_zone = pos 1440
@@ -21,13 +31,13 @@ is_zone_outside zone = not (int_eq zone unspecified_zone) && (int_lt zone (neg_�
 -- The fields outside their ranges. Padding has no range, and daylight is never at fault here.
 abbrev pub range_faults : TimeFields → TimeError
 range_faults time = record {
-  year = is_outside 1900 9999 time.year;
+  year = is_outside first_year last_year time.year;
   month = is_outside 1 12 time.month;
   day = is_outside 1 31 time.day;
   hour = is_outside 0 23 time.hour;
   minute = is_outside 0 59 time.minute;
   second = is_outside 0 59 time.second;
-  nanosecond = is_outside 0 999999999 time.nanosecond;
+  nanosecond = is_outside 0 last_nanosecond time.nanosecond;
   timezone = is_zone_outside time.zone;
   daylight = false;
 }

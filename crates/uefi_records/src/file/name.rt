@@ -3,6 +3,7 @@
 
 ghost use Rattle.std.specs.Prelude.{◌≡◌, ◌↔◌, ◌+◌, ◌*◌, ◌<◌, ◌≤◌, ◌^◌, length, take, IsOk, IfOk, IfErr, MatchResult};
 ghost use Rattle.uefi_base.specs.Views.{slice_units};
+ghost use Rattle.uefi_records.specs.File.FileInfo.{file_info_alignment, file_name_offset};
 ghost use Rattle.uefi_records.specs.File.Name.{EndsWithName, FitName, record_end, record_size, round_up, units_from};
 ghost use Rattle.uefi_records.specs.File.Verdict.{verdict, accepted, Refuses};
 
@@ -38,7 +39,7 @@ pub(crate) fn name_end(
     alignment: usize,
 ) -> Result<usize, Error<Option<usize>>>
     requires positive { 0 < alignment }
-    requires small { alignment ≤ 8 }
+    requires small { alignment ≤ file_info_alignment }
     ensures { let seen = verdict offset alignment (take written buffer.now) (length buffer.now) in
         MatchResult result
         (λ end. (end ≤ length buffer.now) × EndsWithName offset (take end buffer.now)
@@ -70,8 +71,8 @@ pub(crate) fn room_for(
     room: usize,
 ) -> Result<(usize, usize), FileInfoCreationError>
     requires positive { 0 < alignment }
-    requires small { alignment ≤ 8 }
-    requires near { offset ≤ 80 }
+    requires small { alignment ≤ file_info_alignment }
+    requires near { offset ≤ file_name_offset }
     requires short { units ≤ 2 ^ 31 }
     ensures end { IfOk result (λ place. place.0 ≡ record_end offset units) }
     ensures size { IfOk result (λ place. place.1 ≡ record_size offset alignment units) }

@@ -3,6 +3,7 @@ use Rattle.std.specs.Prelude.{Option, Some, None, IfSome, IsSome}
 use Rattle.std.specs.Iterator.{YieldsFirstBy}
 use Rattle.std.proofs.lemmas.List.{length-append, take_at}
 use Rattle.uefi_base.specs.Buffer.{put_prefix}
+use Rattle.uefi_tcg.specs.declared.event_type.TheConstants.EventType.{IPL}
 use Rattle.uefi_tcg.specs.LogInput.{LogInput}
 use Rattle.uefi_tcg.specs.v1.Event.{Event, IsEvent, event_bytes, header_length}
 use Rattle.uefi_tcg.specs.v1.Laws.{OneLog, WrittenIsLog}
@@ -32,7 +33,7 @@ yields view rest before after None only yielded left = let no : [] ≡ only ∷ 
 yields view rest before after (Some x) only yielded left = let first : view x ∷ rest after ≡ only ∷ [] = sym yielded ∙ left in (refl, cc)
 
 -- The iterator yields the event that was written.
-read : (c : goal.After-next) → IsSome c.next.result × IfSome c.next.result (λ event. event_of event ≡ event_given c.args.register (record { 0 = 13 }) c.args.digest c.args.event_data.now)
+read : (c : goal.After-next) → IsSome c.next.result × IfSome c.next.result (λ event. event_of event ≡ event_given c.args.register IPL c.args.digest c.args.event_data.now)
 read c =
     let wrote = c.in-Ok.ensures in
     let log = subst (λ (input : LogInput). IsLogOf input.bytes input.last_entry c.iter.result.events) c.new.ensures c.iter.ensures.log in
