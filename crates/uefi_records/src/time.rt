@@ -97,7 +97,7 @@ impl Time {
     ghost use Rattle.uefi_records.specs.Time.Views.{time_of, fields_of};
     ghost use Rattle.uefi_records.specs.Flags.Views.{daylight_bits};
 
-    /// Makes the time of these fields, with zeros in its padding. A zone of `None` is stored as
+    /// Makes the time with these fields, and zeros in its padding. A zone of `None` is stored as
     /// 0x07ff, so the zone 2047 reads back as `None`.
     ///
     /// # Errors
@@ -242,7 +242,7 @@ impl Time {
         }
     }
 
-    /// How daylight saving affects the time: all bits, also those without a name.
+    /// How daylight saving affects the time: all bits, including those without a name.
     pub fn daylight(&self) -> Daylight
         ensures { daylight_bits result ≡ (time_of self.now).daylight }
     {

@@ -196,7 +196,7 @@ impl<'a> FileInfo<'a> {
         Time::read(&self.bytes[MODIFICATION_TIME_OFFSET..ATTRIBUTE_OFFSET])
     }
 
-    /// The file's attributes: all bits, also those without a name.
+    /// The file's attributes: all bits, including those without a name.
     pub fn attribute(&self) -> FileAttribute
         ensures { attribute_bits result ≡ (file_fields_of self.now).attribute }
     {

@@ -32,7 +32,7 @@ impl Daylight {
         <Daylight as Flags>::empty()
     }
 
-    /// All bits of the set, also those without a name.
+    /// All bits of the set, including those without a name.
     pub fn bits(&self) -> u8
         ensures { result ≡ daylight_bits self.now }
     {
@@ -48,7 +48,7 @@ impl Daylight {
         <Daylight as Flags>::from_bits(bits)
     }
 
-    /// Returns the set of these bits, also those without a name.
+    /// Returns the set of these bits, including those without a name.
     pub fn from_bits_retain(bits: u8) -> Daylight
         ensures { daylight_bits result ≡ bits }
     {

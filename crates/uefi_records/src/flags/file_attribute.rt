@@ -40,7 +40,7 @@ impl FileAttribute {
         <FileAttribute as Flags>::empty()
     }
 
-    /// All bits of the set, also those without a name.
+    /// All bits of the set, including those without a name.
     pub fn bits(&self) -> u64
         ensures { result ≡ attribute_bits self.now }
     {
@@ -56,7 +56,7 @@ impl FileAttribute {
         <FileAttribute as Flags>::from_bits(bits)
     }
 
-    /// Returns the set of these bits, also those without a name.
+    /// Returns the set of these bits, including those without a name.
     pub fn from_bits_retain(bits: u64) -> FileAttribute
         ensures { attribute_bits result ≡ bits }
     {

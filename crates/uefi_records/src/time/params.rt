@@ -1,6 +1,6 @@
 use crate::flags::Daylight;
 
-/// The fields that [`Time::new`](crate::Time::new) makes a time of.
+/// The fields from which [`Time::new`](crate::Time::new) makes a time.
 #[derive(Clone, Copy, Debug)]
 pub struct TimeParams {
     /// 1900 to 9999.
@@ -19,6 +19,6 @@ pub struct TimeParams {
     pub nanosecond: u32,
     /// Minutes from UTC, -1440 to 1440, or `None` for local time.
     pub time_zone: Option<i16>,
-    /// How daylight saving affects the time: any bits, also those without a name.
+    /// How daylight saving affects the time: any bits, including those without a name.
     pub daylight: Daylight,
 }
