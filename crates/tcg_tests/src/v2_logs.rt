@@ -3,6 +3,7 @@ use crate::v2_samples::{FOUR_EVENTS, FOUR_HEADER, SHA1_HEADER};
 use std::alloc::{AllocError, Global};
 use std::test::Fail;
 use test_bytes::{bytes, holds, same, same_text};
+use uefi_tcg::AlgorithmId;
 use uefi_tcg::v2::{EventLog, EventLogIter, PcrEventDigests};
 
 /// The lines of both events of `FOUR_EVENTS`.
@@ -151,10 +152,15 @@ fn lines_of(alloc: Global, events: EventLogIter<'_>) -> Result<String, AllocErro
     Ok(lines)
 }
 
+/// Appends a digest after its algorithm.
+fn push_digest(text: &mut String, algorithm: AlgorithmId, digest: &[u8]) -> Result<(), AllocError> {
+    write!(text, " {:04x}:", algorithm.0)?;
+    push_hex(text, digest)
+}
+
 fn push_digests(text: &mut String, digests: PcrEventDigests<'_>) -> Result<(), AllocError> {
     for (algorithm, digest) in digests {
-        write!(text, " {:04x}:", algorithm.0)?;
-        push_hex(text, digest)?;
+        push_digest(text, algorithm, digest)?;
     }
     Ok(())
 }
