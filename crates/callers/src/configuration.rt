@@ -60,8 +60,8 @@ pub fn item_counts(alloc: Global, text: &str) -> Result<(usize, usize), AllocErr
     Ok((configurations, errors))
 }
 
-/// Returns the same counts. By the law `one_cut` a text has no other cut, so they are those of every
-/// list that is one.
+/// Returns the same counts. By the law `one_cut` a text has no other cut, so they are those of
+/// every list that is one.
 pub fn counts_of_every_cut(alloc: Global, text: &str) -> Result<(usize, usize), AllocError>
     ensures { IfOk result (λ counts. (parts : List Part) → Cut text.now parts
         → AreCounts counts (results_of parts)) }

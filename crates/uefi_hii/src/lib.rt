@@ -6,11 +6,12 @@
 //! Begin with [`ConfigurationString::from_str`] for the first configuration of a text, with
 //! [`MultiConfigurationStringIter`] for one after another, or with [`parse_all`] for all of them.
 //! Each gives a configuration that owns its memory, or the error of a group of pairs in which one
-//! is missing or wrong. [`ConfigurationStringIter`] gives the pairs themselves, and takes no memory.
+//! is missing or wrong. [`ConfigurationStringIter`] gives the pairs themselves, and takes no
+//! memory.
 //!
 //! The contracts speak of the one cut of a text into groups: `specs/Slots.antt` says which pair has
-//! to come next, `specs/Group.antt` what a group is, and `specs/Cut.antt` what the cut is. That each
-//! text has exactly one is a law.
+//! to come next, `specs/Group.antt` what a group is, and `specs/Cut.antt` what the cut is. That
+//! each text has exactly one is a law.
 #![tactic(auto)]
 
 pub use self::configuration::{ConfigurationString, ConfigurationStringElement};

@@ -15,9 +15,9 @@ use std::alloc::{AllocError, Allocator, Global};
 
 /// The configurations of a text, and its errors, in order: an item for each group of pairs.
 ///
-/// A group is the pairs of one configuration, or the pairs up to the one that is wrong, or up to the
-/// end of a text that ends too early. After an error the next group begins at the pair after the
-/// wrong one. Every pair belongs to one group.
+/// A group is the pairs of one configuration, or the pairs up to the one that is wrong, or up to
+/// the end of a text that ends too early. After an error the next group begins at the pair after
+/// the wrong one. Every pair belongs to one group.
 ///
 /// The iterator keeps the allocator and the rest of the text. It makes no list of pairs, and takes
 /// memory only for the configurations that it gives. After the last group it stays ended, and so it

@@ -22,8 +22,8 @@ impl ConfigurationString {
         HexBytes::new(text)
     }
 
-    /// The number that a value spells in hex, the highest byte first. `None` where it spells another
-    /// count of bytes than 1, 2, 4 or 8.
+    /// The number that a value spells in hex, the highest byte first. `None` where it spells
+    /// another count of bytes than 1, 2, 4 or 8.
     pub fn parse_number_from_hex(text: &str) -> Option<u64>
         ensures { result ≡ number text.now }
     {
@@ -56,8 +56,8 @@ impl ConfigurationString {
 }
 
 impl<A: Allocator + Copy> ConfigurationString<A> {
-    /// The name that a value spells in hex: the text of its UCS-2 units, each of two bytes, the high
-    /// byte first. An odd last byte has to be 0, and is the first half of a NUL that was cut.
+    /// The name that a value spells in hex: the text of its UCS-2 units, each of two bytes, the
+    /// high byte first. An odd last byte has to be 0, and is the first half of a NUL that was cut.
     ///
     /// `None` where the value has an odd number of characters, where an odd last byte isn't 0, and
     /// where a unit is zero or a surrogate.
@@ -88,8 +88,8 @@ impl<A: Allocator + Copy> ConfigurationString<A> {
     }
 }
 
-/// The character that a unit of a name is, of which the two bytes are given. `None` for zero and for
-/// surrogates.
+/// The character that a unit of a name is, of which the two bytes are given. `None` for zero and
+/// for surrogates.
 fn character_of(high: u8, low: u8) -> Option<char>
     ensures { MatchOption result (is_name_unit (high * 256 + low) ≡ false)
         (λ c. (is_name_unit (high * 256 + low) ≡ true) × (c ≡ high * 256 + low)) }
