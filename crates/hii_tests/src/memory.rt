@@ -7,8 +7,10 @@ use uefi_hii::{ConfigurationString, MultiConfigurationStringIter, ParseError, pa
 
 /// Whether the name in hex is the driver's; or `None` if memory ran out.
 fn is_driver<A: Allocator + Copy>(alloc: A, text: &str) -> Option<bool> {
-    let name = ConfigurationString::parse_string_from_hex(alloc, text).ok()?;
-    Some(name.as_ref().map(|name| name.as_str()) == Some("ISCSI_CONFIG_IFR_NVDATA"))
+    match ConfigurationString::parse_string_from_hex(alloc, text).ok()? {
+        Some(name) => Some(name.as_str() == "ISCSI_CONFIG_IFR_NVDATA"),
+        None => Some(false),
+    }
 }
 
 #[test]
@@ -17,17 +19,18 @@ fn a_name_is_read_or_memory_was_refused(rt: HostRuntime) -> Result<(), Fail> {
     holds("a name takes memory", requests > 0)
 }
 
+/// The line of the item that `from_str` gives; or `None` if memory ran out.
+fn first_line<A: Allocator + Copy>(heap: A, alloc: Global, text: &str) -> Option<String> {
+    line_of(alloc, &ConfigurationString::from_str(heap, text))
+}
+
 #[test]
 fn the_first_item_is_read_or_memory_was_refused(rt: HostRuntime) -> Result<(), Fail> {
     let alloc = rt.alloc();
     let text = text_of(alloc, ISCSI_TWICE)?;
     let text = text.as_str();
-    let line = line_of(alloc, &ConfigurationString::from_str(alloc, text)).ok_or("memory")?;
-    let requests = in_turn(
-        alloc,
-        &line,
-        |heap| line_of(alloc, &ConfigurationString::from_str(heap, text)),
-    )?;
+    let line = first_line(alloc, alloc, text).ok_or("memory")?;
+    let requests = in_turn(alloc, &line, |heap| first_line(heap, alloc, text))?;
     holds("a configuration takes memory", requests > 0)
 }
 
@@ -50,6 +53,14 @@ fn all_items_are_read_or_memory_was_refused(rt: HostRuntime) -> Result<(), Fail>
     holds("configurations take memory", requests > 0)
 }
 
+/// Checks that the iterator gives nothing, though it is asked twice.
+fn stays_ended<A: Allocator + Copy>(
+    items: &mut MultiConfigurationStringIter<'_, A>,
+) -> Result<(), Fail> {
+    holds("after Memory", items.next().is_none())?;
+    holds("after Memory, asked again", items.next().is_none())
+}
+
 /// The lines of the items before memory runs out, and whether it did. Where it does, the iterator
 /// gives nothing, though it is asked twice.
 fn lines_before<A: Allocator + Copy>(
@@ -61,8 +72,7 @@ fn lines_before<A: Allocator + Copy>(
     let mut items = MultiConfigurationStringIter::new(heap, text);
     while let Some(item) = items.next() {
         if let Err(ParseError::Memory) = &item {
-            holds("after Memory", items.next().is_none())?;
-            holds("after Memory, asked again", items.next().is_none())?;
+            stays_ended(&mut items)?;
             return Ok((lines, true));
         }
         push_item(&mut lines, &item)?;
@@ -96,7 +106,7 @@ fn the_iterator_gives_the_items_before_memory_is_refused(rt: HostRuntime) -> Res
 }
 
 /// The line of the iterator's first item.
-fn first_line<A: Allocator + Copy>(heap: A, alloc: Global, text: &str) -> Option<String> {
+fn iterated_line<A: Allocator + Copy>(heap: A, alloc: Global, text: &str) -> Option<String> {
     let mut items = MultiConfigurationStringIter::new(heap, text);
     line_of(alloc, &items.next()?)
 }
@@ -106,18 +116,10 @@ fn a_wrong_guid_is_an_error_though_memory_is_refused(rt: HostRuntime) -> Result<
     let alloc = rt.alloc();
     let line = Some(String::from_str(alloc, "ConfigHdr(Guid)\n")?);
     for text in ["GUID=00", "X", "NAME=0041"] {
+        without_request(alloc, &line, |heap| iterated_line(heap, alloc, text))?;
         without_request(alloc, &line, |heap| first_line(heap, alloc, text))?;
-        without_request(
-            alloc,
-            &line,
-            |heap| line_of(alloc, &ConfigurationString::from_str(heap, text)),
-        )?;
     }
-    without_request(
-        alloc,
-        &line,
-        |heap| line_of(alloc, &ConfigurationString::from_str(heap, "")),
-    )
+    without_request(alloc, &line, |heap| first_line(heap, alloc, ""))
 }
 
 #[test]

@@ -1,5 +1,5 @@
 use std::alloc::{AllocError, Allocator, Global};
-use uefi_hii::{ConfigurationString, ParseError};
+use uefi_hii::{ConfigurationString, ConfigurationStringElement, ParseError};
 
 /// The GUID of the headers below, as `Guid` displays it.
 pub(crate) const GUID: &str = "4b47d616-a8d6-4552-9d44-ccad2e0f4cf9";
@@ -52,12 +52,20 @@ fn push_configuration<A: Allocator>(
     let length = configuration.device_path.as_path().as_bytes().len();
     write!(lines, "{name}, {length}, {:?}", configuration.alt_cfg_id)?;
     for element in configuration.elements.as_slice() {
-        write!(lines, " | 0x{:x} {} ", element.offset, element.width)?;
-        for byte in element.value.as_slice() {
-            write!(lines, "{byte:02x}")?;
-        }
+        push_element(lines, element)?;
     }
     writeln!(lines)
+}
+
+fn push_element<A: Allocator>(
+    lines: &mut String,
+    element: &ConfigurationStringElement<A>,
+) -> Result<(), AllocError> {
+    write!(lines, " | 0x{:x} {} ", element.offset, element.width)?;
+    for byte in element.value.as_slice() {
+        write!(lines, "{byte:02x}")?;
+    }
+    Ok(())
 }
 
 /// The line of an item; or `None` if memory ran out.

@@ -68,10 +68,18 @@ fn hex_of_sixteen_bytes_is_a_guid(_rt: HostRuntime) -> Result<(), Fail> {
 #[test]
 fn hex_is_read_from_both_ends(rt: HostRuntime) -> Result<(), Fail> {
     let mut bytes = ConfigurationString::parse_bytes_from_hex("0102+azz7");
-    same("all of them", &bytes.len(), &5)?;
-    same("the last, of one digit", &bytes.next_back(), &Some(7))?;
-    same("the last of two", &bytes.next_back(), &Some(0))?;
-    same("the first", &bytes.next(), &Some(1))?;
+    // The last byte is spelled by one digit, and the one before it by two that are none.
+    let ends = (
+        bytes.len(),
+        bytes.next_back(),
+        bytes.next_back(),
+        bytes.next(),
+    );
+    same(
+        "how many, two of the end, the first",
+        &ends,
+        &(5, Some(7), Some(0), Some(1)),
+    )?;
     same("those left", &bytes.size_hint(), &(2, Some(2)))?;
     let rest: Vec<u8> = bytes.rev().collect(rt.alloc())?;
     same_bytes("the rest", rest.as_slice(), &[10, 2])?;
