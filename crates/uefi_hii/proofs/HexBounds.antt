@@ -5,7 +5,7 @@ use Rattle.std.proofs.lemmas.Bool.Decides.{nat_tests}
 use Rattle.uefi_hii.specs.Hex.{byte_of_one, byte_of_two, hex, hex_digit, plus_sign, two_digits}
 
 -- A digit is below 16.
-hex_digit_small : (c : ℕ) → unwrap_or (hex_digit c) 0 < 16
+pub hex_digit_small : (c : ℕ) → unwrap_or (hex_digit c) 0 < 16
 unfolding hex_digit
 hex_digit_small c = grind (arith, nat_tests)
 

@@ -1,4 +1,5 @@
 pub mod HexBounds
+pub mod HexTable
 pub mod HexEnds
 pub mod HexParts
 pub mod DigitLanes

@@ -1,6 +1,7 @@
-ghost use Rattle.std.specs.Prelude.{◌≡◌, ◌∷◌, ◌++◌, [], ◌^◌, ◌<◌, length, IfSome, MatchOption};
-ghost use Rattle.uefi_hii.specs.Hex.{hex, hex_digit as digit_of, byte_of_one as one, byte_of_two as two};
+ghost use Rattle.std.specs.Prelude.{◌≡◌, ◌∷◌, ◌++◌, [], ◌^◌, ◌<◌, length, MatchOption};
+ghost use Rattle.uefi_hii.specs.Hex.{hex, byte_of_one as one, byte_of_two as two};
 
+use crate::digit::hex_digit;
 use std::iter::{ExactSizeIterator, FusedIterator};
 
 /// The bytes that a text spells in hex, from either end.
@@ -126,18 +127,4 @@ pub(crate) fn byte_of_one(c: u8) -> u8
     ensures { result ≡ one c }
 {
     hex_digit(c).unwrap_or(0)
-}
-
-/// The value of a hex digit, in either case.
-#[tactic(auto, unfolding(crate::specs::Hex::hex_digit))]
-fn hex_digit(c: u8) -> Option<u8>
-    ensures value { result ≡ digit_of c }
-    ensures small { IfSome result (λ digit. digit < 16) }
-{
-    match c {
-        b'0'..=b'9' => Some(c - b'0'),
-        b'a'..=b'f' => Some(c - b'a' + 10),
-        b'A'..=b'F' => Some(c - b'A' + 10),
-        _ => None,
-    }
 }

@@ -22,6 +22,7 @@ pub use self::multi::{MultiConfigurationStringIter, parse_all};
 pub use self::pairs::ConfigurationStringIter;
 
 mod configuration;
+mod digit;
 mod error;
 mod filling;
 mod hex;
