@@ -81,13 +81,9 @@ impl Align for Label {
 impl Identify for Label {
     ghost use Rattle.std.specs.Prelude.{replicate};
 
-    ghost identity = { record { 0 = replicate 16 7 } };
+    ghost GUID = { record { 0 = replicate 16 7 } };
 
     const GUID: Guid = Guid([7; 16]);
-
-    fn identity() -> Guid {
-        Self::GUID
-    }
 }
 
 #[test]

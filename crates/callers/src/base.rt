@@ -122,9 +122,16 @@ pub fn is_same_guid(guid: &Guid, other: &Guid) -> bool
     guid == other
 }
 
-/// Returns the GUID of a type.
+/// Returns the GUID of a type, by its constant.
 pub fn guid_of<T: Identify>() -> Guid
-    ensures { result ≡ T.identity }
+    ensures { result ≡ T.GUID }
+{
+    T::GUID
+}
+
+/// Returns the same GUID, by the call.
+pub fn identity_of<T: Identify>() -> Guid
+    ensures { result ≡ T.GUID }
 {
     T::identity()
 }

@@ -4,19 +4,27 @@ ghost use Rattle.uefi_base.specs.Flags.{has_bits};
 ghost use Rattle.uefi_base.specs.Unaligned.{unit_bytes};
 ghost use Rattle.uefi_base.specs.Views.{slice_units, text_units};
 ghost use Rattle.uefi_records.specs.Flags.Named.{directory_attribute};
+ghost use Rattle.uefi_records.specs.File.Identity.{file_info_guid};
 ghost use Rattle.uefi_records.specs.File.Name.{FitName};
 ghost use Rattle.uefi_records.specs.File.FileInfo.{file_fields, file_info_size, file_info_verdict};
 ghost use Rattle.uefi_records.specs.File.FileSystemInfo.{volume_label_size};
 ghost use Rattle.uefi_records.specs.File.Verdict.{accepted};
 ghost use Rattle.uefi_records.specs.File.Views.{file_fields_given, file_fields_of, file_name_of, stated_size};
 
-use crate::base::is_same_error;
-use uefi_base::{CStr16, UnalignedSlice};
+use crate::base::{guid_of, is_same_error};
+use uefi_base::{CStr16, Guid, UnalignedSlice};
 use uefi_records::laws::{equal_files, reads_back, written_alone};
 use uefi_records::{
     FileAttribute, FileInfo, FileInfoCreationError, FileSystemVolumeLabel, Time, write_file_info,
     write_file_system_volume_label,
 };
+
+/// Returns the GUID of file information records, by code that is generic over the record.
+pub fn guid_of_file_info() -> Guid
+    ensures { result ≡ file_info_guid }
+{
+    guid_of::<FileInfo<'_>>()
+}
 
 /// Whether the file is a directory whose record stands in the written bytes.
 pub fn is_directory_in(buffer: &[u8], written: usize) -> Option<bool>

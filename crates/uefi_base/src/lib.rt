@@ -14,7 +14,7 @@ pub use self::align::Align;
 pub use self::cstr16::CStr16;
 pub use self::cstring16::CString16;
 pub use self::guid::Guid;
-pub use self::identify::Identify;
+pub use self::identify::{IdentifiedBy, Identify};
 pub use self::status::{Error, Status};
 pub use self::text_error::{FromSliceWithNulError, FromStrError, UnalignedCStr16Error};
 pub use self::unaligned::{UnalignedSlice, UnalignedSliceIter};

@@ -14,8 +14,9 @@ mod file_info;
 mod file_system_info;
 mod file_system_volume_label;
 
-// What they share.
+// What they share, and their GUIDs.
 mod first_zero;
+mod identity;
 mod name;
 
 // Their writers.

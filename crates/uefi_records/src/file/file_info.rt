@@ -10,13 +10,14 @@ ghost use Rattle.uefi_records.specs.File.FileInfo.{FitFile, size_in, file_fields
 ghost use Rattle.uefi_records.specs.File.Verdict.{FollowsVerdict};
 
 use crate::file::creation_error::FileInfoCreationError;
+use crate::file::identity::FileInfoIdentity;
 use crate::file::name::{name_at, name_end};
 use crate::file::protocol_info::FileProtocolInfo;
 use crate::file::write::write_file_info;
 use crate::flags::FileAttribute;
 use crate::time::Time;
 use uefi_base::little_endian::u64_at;
-use uefi_base::{Align, CStr16, Error, Guid, Identify, UnalignedSlice};
+use uefi_base::{Align, CStr16, Error, IdentifiedBy, UnalignedSlice};
 
 // The offsets of the fields, and what the record's size is a multiple of.
 pub(crate) const SIZE_OFFSET: usize = 0;
@@ -287,21 +288,8 @@ impl Align for FileInfo<'_> {
     }
 }
 
-impl Identify for FileInfo<'_> {
-    ghost use Rattle.uefi_records.specs.File.Identity.{file_info_guid};
-
-    ghost identity = { file_info_guid };
-
-    const GUID: Guid = Guid([
-        0x92, 0x6e, 0x57, 0x09, 0x3f, 0x6d, 0xd2, 0x11, 0x8e, 0x39, 0x00, 0xa0, 0xc9, 0x69, 0x72,
-        0x3b,
-    ]);
-
-    fn identity() -> Guid
-        ensures { result ≡ file_info_guid }
-    {
-        Self::GUID
-    }
+impl IdentifiedBy for FileInfo<'_> {
+    type Identity = FileInfoIdentity;
 }
 
 impl FileProtocolInfo for FileInfo<'_> {}

@@ -8,11 +8,12 @@ ghost use Rattle.uefi_records.specs.File.FileSystemInfo.{FitFileSystem, file_sys
 ghost use Rattle.uefi_records.specs.File.Verdict.{FollowsVerdict};
 
 use crate::file::creation_error::FileInfoCreationError;
+use crate::file::identity::FileSystemInfoIdentity;
 use crate::file::name::{name_at, name_end};
 use crate::file::protocol_info::FileProtocolInfo;
 use crate::file::write::write_file_system_info;
 use uefi_base::little_endian::{u32_at, u64_at};
-use uefi_base::{Align, CStr16, Error, Guid, Identify, UnalignedSlice};
+use uefi_base::{Align, CStr16, Error, IdentifiedBy, UnalignedSlice};
 
 // The offsets of the fields, and what the record's size is a multiple of.
 pub(crate) const SIZE_OFFSET: usize = 0;
@@ -241,21 +242,8 @@ impl Align for FileSystemInfo<'_> {
     }
 }
 
-impl Identify for FileSystemInfo<'_> {
-    ghost use Rattle.uefi_records.specs.File.Identity.{file_system_info_guid};
-
-    ghost identity = { file_system_info_guid };
-
-    const GUID: Guid = Guid([
-        0x93, 0x6e, 0x57, 0x09, 0x3f, 0x6d, 0xd2, 0x11, 0x8e, 0x39, 0x00, 0xa0, 0xc9, 0x69, 0x72,
-        0x3b,
-    ]);
-
-    fn identity() -> Guid
-        ensures { result ≡ file_system_info_guid }
-    {
-        Self::GUID
-    }
+impl IdentifiedBy for FileSystemInfo<'_> {
+    type Identity = FileSystemInfoIdentity;
 }
 
 impl FileProtocolInfo for FileSystemInfo<'_> {}

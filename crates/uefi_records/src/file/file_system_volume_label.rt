@@ -7,10 +7,11 @@ ghost use Rattle.uefi_records.specs.File.FileSystemInfo.{lone_label_offset, volu
 ghost use Rattle.uefi_records.specs.File.Verdict.{FollowsVerdict};
 
 use crate::file::creation_error::FileInfoCreationError;
+use crate::file::identity::FileSystemVolumeLabelIdentity;
 use crate::file::name::{name_at, name_end};
 use crate::file::protocol_info::FileProtocolInfo;
 use crate::file::write::write_file_system_volume_label;
-use uefi_base::{Align, CStr16, Error, Guid, Identify, UnalignedSlice};
+use uefi_base::{Align, CStr16, Error, IdentifiedBy, UnalignedSlice};
 
 // The offset of the label, and what the record's size is a multiple of.
 pub(crate) const LABEL_OFFSET: usize = 0;
@@ -145,21 +146,8 @@ impl Align for FileSystemVolumeLabel<'_> {
     }
 }
 
-impl Identify for FileSystemVolumeLabel<'_> {
-    ghost use Rattle.uefi_records.specs.File.Identity.{volume_label_guid};
-
-    ghost identity = { volume_label_guid };
-
-    const GUID: Guid = Guid([
-        0xd3, 0xd7, 0x47, 0xdb, 0x81, 0xfe, 0xd3, 0x11, 0x9a, 0x35, 0x00, 0x90, 0x27, 0x3f, 0xc1,
-        0x4d,
-    ]);
-
-    fn identity() -> Guid
-        ensures { result ≡ volume_label_guid }
-    {
-        Self::GUID
-    }
+impl IdentifiedBy for FileSystemVolumeLabel<'_> {
+    type Identity = FileSystemVolumeLabelIdentity;
 }
 
 impl FileProtocolInfo for FileSystemVolumeLabel<'_> {}
