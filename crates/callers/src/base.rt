@@ -1,13 +1,17 @@
-ghost use Rattle.std.specs.Prelude.{◌≡◌, ◌↔◌, ◌==◌, ◌%◌, length, encode_utf8_all, string_bytes, filter, not, IsTrue, IsNone, IsSome, IfOk, IfSome};
+ghost use Rattle.std.specs.Prelude.{◌≡◌, ◌↔◌, ◌==◌, ◌+◌, ◌*◌, ◌%◌, ◌≤◌, length, encode_utf8_all, string_bytes, filter, not, IsTrue, IsNone, IsSome, IfOk, IfSome};
 ghost use Rattle.uefi_base.specs.declared.status.Status.TheVariants.{BUFFER_TOO_SMALL};
 ghost use Rattle.uefi_base.specs.declared.text_error.FromSliceWithNulError.{FromSliceWithNulError};
 ghost use Rattle.uefi_base.specs.Ucs2.{IsUcs2Text, characters_of};
 ghost use Rattle.uefi_base.specs.Faults.{HasFault};
+ghost use Rattle.uefi_base.specs.LittleEndian.{u16_at};
 ghost use Rattle.uefi_base.specs.Unaligned.{units_of};
 ghost use Rattle.uefi_base.specs.GuidText.{guid_text};
 ghost use Rattle.uefi_base.specs.Views.{slice_units, units_left, error_status, error_data};
 
 use std::alloc::{AllocError, Global};
+use uefi_base::buffer::{put, put_units};
+use uefi_base::laws::{numbers_read_back, units_by_place, units_read_back};
+use uefi_base::little_endian::u32_at;
 use uefi_base::{
     Align, CStr16, CString16, Error, FromSliceWithNulError, Guid, Identify, Status, UnalignedSlice,
     UnalignedSliceIter,
@@ -106,6 +110,37 @@ pub fn nonzero_units(alloc: Global, slice: &UnalignedSlice<'_>) -> Result<Vec<u1
         }
     }
     Ok(units)
+}
+
+/// Writes a number to a buffer at an offset and reads it back: the same number.
+pub fn number_read_back(buffer: &mut [u8], offset: usize, number: u32) -> u32
+    requires { offset + 4 ≤ length buffer.old }
+    ensures { result ≡ number }
+{
+    numbers_read_back();
+    put(buffer, offset, &number.to_le_bytes());
+    u32_at(buffer, offset)
+}
+
+/// Writes units to the beginning of a buffer and returns them as they stand there.
+pub fn units_in_buffer<'a>(buffer: &'a mut [u8], units: &[u16]) -> UnalignedSlice<'a>
+    requires { 2 * length units.now ≤ length buffer.old }
+    ensures { slice_units result ≡ units.now }
+{
+    units_read_back();
+    put_units(buffer, 0, units);
+    UnalignedSlice::new(&buffer[..2 * units.len()])
+}
+
+/// Returns the unit at an index, or `None` if there is none: the number at twice the index.
+pub fn unit_in(bytes: &[u8], index: usize) -> Option<u16>
+    ensures { IfSome result (λ unit. unit ≡ u16_at bytes.now (2 * index)) }
+{
+    units_by_place();
+    if bytes.len() % 2 != 0 {
+        return None;
+    }
+    UnalignedSlice::new(bytes).get(index)
 }
 
 /// Returns the text of a GUID.

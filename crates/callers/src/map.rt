@@ -73,7 +73,7 @@ pub fn pages_in(buffer: &[u8], meta: MemoryMapMeta) -> Option<u64>
 
 /// All entries of a map: those of every map with the same forty bytes of each descriptor, whatever
 /// the rest of each stride and the bytes after the map are.
-pub fn entries_of_strides(
+pub fn entries_by_descriptors(
     alloc: Global,
     map: &MemoryMapRef<'_>,
 ) -> Result<Vec<MemoryDescriptor>, AllocError>
@@ -118,7 +118,7 @@ pub fn set_and_get<M: MemoryMapMut>(map: &mut M, i: usize, d: MemoryDescriptor) 
 }
 
 /// Whether a descriptor stays as it was when another is set: always.
-pub fn stays_beside<M: MemoryMapMut>(
+pub fn other_entry_stays<M: MemoryMapMut>(
     map: &mut M,
     i: usize,
     d: MemoryDescriptor,

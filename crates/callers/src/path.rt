@@ -115,7 +115,7 @@ pub fn node_label(alloc: Global, node: &DevicePathNode<'_>) -> Result<String, Al
 
 /// Returns whether a path is read back from its bytes, whatever follows them: always, unless an
 /// allocation fails.
-pub fn is_read_before(alloc: Global, path: &DevicePath<'_>, rest: &[u8]) -> Result<bool, AllocError>
+pub fn is_read_back(alloc: Global, path: &DevicePath<'_>, rest: &[u8]) -> Result<bool, AllocError>
     ensures { IfOk result (λ same. IsTrue same) }
 {
     one_front();

@@ -88,8 +88,8 @@ impl<'a> FileInfo<'a> {
     /// # Errors
     ///
     /// In this order:
-    /// - [`BAD_BUFFER_SIZE`](uefi_base::Status::BAD_BUFFER_SIZE), with no data, if those bytes are
-    ///   fewer than 80 or no unit from there on is zero.
+    /// - [`BAD_BUFFER_SIZE`](uefi_base::Status::BAD_BUFFER_SIZE), with no data, if there are fewer
+    ///   than 80 such bytes, or no unit from offset 80 on is zero.
     /// - [`BUFFER_TOO_SMALL`](uefi_base::Status::BUFFER_TOO_SMALL), with the size of the record of
     ///   that name, if the whole buffer is shorter.
     pub fn from_uefi(buffer: &'a [u8], written: usize) -> Result<FileInfo<'a>, Error<Option<usize>>>

@@ -66,8 +66,8 @@ impl<'a> FileSystemInfo<'a> {
     /// # Errors
     ///
     /// In this order:
-    /// - [`BAD_BUFFER_SIZE`](uefi_base::Status::BAD_BUFFER_SIZE), with no data, if those bytes are
-    ///   fewer than 36 or no unit from there on is zero.
+    /// - [`BAD_BUFFER_SIZE`](uefi_base::Status::BAD_BUFFER_SIZE), with no data, if there are fewer
+    ///   than 36 such bytes, or no unit from offset 36 on is zero.
     /// - [`BUFFER_TOO_SMALL`](uefi_base::Status::BUFFER_TOO_SMALL), with the size of the record of
     ///   that label, if the whole buffer is shorter.
     pub fn from_uefi(
