@@ -10,7 +10,7 @@ ghost use Rattle.uefi_base.specs.Views.{slice_units, units_left, error_status, e
 
 use std::alloc::{AllocError, Global};
 use uefi_base::buffer::{put, put_units};
-use uefi_base::laws::{numbers_read_back, units_by_place, units_read_back};
+use uefi_base::laws::{units_by_place, units_read_back};
 use uefi_base::little_endian::u32_at;
 use uefi_base::{
     Align, CStr16, CString16, Error, FromSliceWithNulError, Guid, Identify, Status, UnalignedSlice,
@@ -117,7 +117,6 @@ pub fn number_read_back(buffer: &mut [u8], offset: usize, number: u32) -> u32
     requires { offset + 4 ≤ length buffer.old }
     ensures { result ≡ number }
 {
-    numbers_read_back();
     put(buffer, offset, &number.to_le_bytes());
     u32_at(buffer, offset)
 }

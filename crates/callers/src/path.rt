@@ -1,4 +1,4 @@
-ghost use Rattle.std.specs.Prelude.{◌≡◌, ◌↔◌, List, length, map, flat_map, slice_get, option_map, string_bytes, IsTrue, IfOk, OnErr};
+ghost use Rattle.std.specs.Prelude.{◌≡◌, ◌↔◌, List, ◌++◌, length, map, flat_map, slice_get, option_map, string_bytes, IsTrue, IfOk, OnErr};
 ghost use Rattle.uefi_base.specs.Prefix.{IsPrefix};
 ghost use Rattle.uefi_path.specs.Node.{Node, joined};
 ghost use Rattle.uefi_path.specs.Path.{IsPath, HasPath, AreInstances, all_but_last};
@@ -118,7 +118,6 @@ pub fn node_label(alloc: Global, node: &DevicePathNode<'_>) -> Result<String, Al
 pub fn is_read_back(alloc: Global, path: &DevicePath<'_>, rest: &[u8]) -> Result<bool, AllocError>
     ensures { IfOk result (λ same. IsTrue same) }
 {
-    one_front();
     let mut bytes = Vec::new(alloc);
     bytes.extend_from_slice(path.as_bytes())?;
     bytes.extend_from_slice(rest)?;
@@ -126,4 +125,19 @@ pub fn is_read_back(alloc: Global, path: &DevicePath<'_>, rest: &[u8]) -> Result
         Ok(read) => Ok(read == *path),
         Err(_) => Ok(false),
     }
+}
+
+/// Returns whether two paths are equal, and so are the bytes after them, where all bytes together are
+/// the same: always.
+pub fn have_same_parts(
+    path: &DevicePath<'_>,
+    rest: &[u8],
+    other: &DevicePath<'_>,
+    other_rest: &[u8],
+) -> bool
+    requires { path_bytes path.now ++ rest.now ≡ path_bytes other.now ++ other_rest.now }
+    ensures { IsTrue result }
+{
+    one_front();
+    path.as_bytes() == other.as_bytes() && rest == other_rest
 }

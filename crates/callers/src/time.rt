@@ -1,5 +1,5 @@
 ghost use Rattle.std.specs.Prelude.{◌≡◌, ◌≤◌, ◌↔◌, string_bytes, IsTrue, IsOk, IfOk};
-ghost use Rattle.uefi_records.specs.Time.Fields.{time_in, without_pads};
+ghost use Rattle.uefi_records.specs.Time.Fields.{StandsIn, time_in, without_pads};
 ghost use Rattle.uefi_base.specs.Flags.{has_bits};
 ghost use Rattle.uefi_records.specs.Time.Texts.{time_error_text};
 ghost use Rattle.uefi_records.specs.Time.Views.{time_of, bytes_of_time};
@@ -15,9 +15,18 @@ use uefi_records::{Daylight, FileAttribute, Time, TimeByteConversionError, TimeE
 pub fn read_back(time: &Time) -> Result<Time, TimeByteConversionError>
     ensures { IfOk result (λ again. time_of again ≡ without_pads (time_of time.now)) }
 {
-    one_time();
     let bytes = time.to_bytes();
     Time::try_from(bytes.as_slice())
+}
+
+/// Reads the time in bytes that are known to begin with those of a time: that time, with zeros in the
+/// padding.
+pub fn known_time(bytes: &[u8], time: &Time) -> Result<Time, TimeByteConversionError>
+    requires { StandsIn (time_of time.now) bytes.now }
+    ensures { IfOk result (λ read. time_of read ≡ without_pads (time_of time.now)) }
+{
+    one_time();
+    Time::try_from(bytes)
 }
 
 /// The time in the first sixteen bytes: each field at its offset, with zeros in the padding.
