@@ -7,6 +7,7 @@ mod maps;
 mod memory;
 mod paths;
 mod resources;
+mod runs;
 mod times;
 mod v2_logs;
 mod words;

@@ -1,9 +1,7 @@
 use super::{each_lists, lists};
 use crate::command::Command;
-use crate::listing::{Outcome, listing};
-use refusing::in_turn;
+use crate::listing::Outcome;
 use std::test::Fail;
-use test_bytes::holds;
 
 /// The header of a configuration with the name A and a path of 4 bytes, for which `@` stands in a
 /// row.
@@ -82,22 +80,4 @@ fn each_part_of_a_header_has_its_fault(rt: HostRuntime) -> Result<(), Fail> {
 fn bytes_that_are_no_text_are_refused(rt: HostRuntime) -> Result<(), Fail> {
     let rows = [(Command::Config, "ff", "refused NotUtf8\n")];
     each_lists(rt.alloc(), &rows, Outcome::Refused)
-}
-
-/// Two elements of a configuration, and its listing.
-const TWO_ELEMENTS: (&str, &str) = (
-    "GUID=16d6474bd6a852459d44ccad2e0f4cf9&NAME=0041&PATH=7fff0400\
-        &OFFSET=00&WIDTH=01&VALUE=00&x=1&WIDTH=02&OFFSET=01&WIDTH=01&VALUE=0a",
-    "config 4b47d616-a8d6-4552-9d44-ccad2e0f4cf9\n  name A\n  path 4\n  element 0 1 00\n  \
-        element 1 1 0a\nitems 1\n",
-);
-
-#[test]
-fn configurations_are_listed_or_memory_was_refused(rt: HostRuntime) -> Result<(), Fail> {
-    let (input, expected) = TWO_ELEMENTS;
-    let requests = in_turn(rt.alloc(), &true, |heap| {
-        let (text, _) = listing(heap, &Command::Config, input.as_bytes()).ok()?;
-        Some(text.as_slice() == expected.as_bytes())
-    })?;
-    holds("a listing takes memory", requests > 1)
 }

@@ -4,11 +4,11 @@ use crate::listing::Outcome;
 use std::test::Fail;
 
 /// The record of a file named `ab`, of which all else is zero, rounded up to 88 bytes.
-const AB_FILE: &str = "58000000 00000000 00000000 00000000 00000000 00000000 \
+pub(super) const AB_FILE: &str = "58000000 00000000 00000000 00000000 00000000 00000000 \
     00000000 00000000 00000000 00000000 00000000 00000000 00000000 00000000 00000000 00000000 \
     00000000 00000000 00000000 00000000 6100 6200 0000 0000";
 
-const AB_FILE_LISTING: &str = "size 88\nfile 0\nphysical 0\n\
+pub(super) const AB_FILE_LISTING: &str = "size 88\nfile 0\nphysical 0\n\
     created 00000000000000000000000000000000\n\
     accessed 00000000000000000000000000000000\n\
     modified 00000000000000000000000000000000\n\

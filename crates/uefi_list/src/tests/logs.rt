@@ -4,7 +4,8 @@ use crate::listing::Outcome;
 use std::test::Fail;
 use test_bytes::samples::{CRTM_VERSION, FIRMWARE_BLOB, LOG1};
 
-const LOG1_LISTING: &str = "event 0 0x00000008 1489f923c4dca729178b3e3233458550d8dddf29 0000\n\
+pub(super) const LOG1_LISTING: &str =
+    "event 0 0x00000008 1489f923c4dca729178b3e3233458550d8dddf29 0000\n\
     event 0 0x80000008 c706e7dd36392984eb06aaa08ff336844077b3ed \
     000082000000000000000e0000000000\nevents 2\n";
 

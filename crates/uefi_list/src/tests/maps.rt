@@ -22,11 +22,11 @@ const FIRMWARE_LISTING: &str = "entry 3 0x0 0x0 1 0xf\nentry 7 0x1000 0x0 134 0x
     entry 7 0x80c000 0x0 4 0xf\nentry 10 0x810000 0x0 240 0xf\nsorted yes\nentries 10\n";
 
 /// Two descriptors at a stride of 40, the first with every bit set.
-const FALLING_MAP: &str = "\
+pub(super) const FALLING_MAP: &str = "\
     ffffffff 00000000 ffffffffffffffff ffffffffffffffff ffffffffffffffff ffffffffffffffff \
     07000000 ffffffff 0010000000000000 0020000000000000 0000000000000000 0100000000000080";
 
-const FALLING_LISTING: &str =
+pub(super) const FALLING_LISTING: &str =
     "entry 4294967295 0xffffffffffffffff 0xffffffffffffffff 18446744073709551615 0xffffffffffffffff\n\
     entry 7 0x1000 0x2000 0 0x8000000000000001\nsorted no\nentries 2\n";
 
@@ -41,7 +41,7 @@ fn a_map_is_listed_by_its_entries(rt: HostRuntime) -> Result<(), Fail> {
 }
 
 /// The line for sizes that make no map.
-const NO_MAP: &str = "refused InvalidSize\n";
+pub(super) const NO_MAP: &str = "refused InvalidSize\n";
 
 #[test]
 fn sizes_that_make_no_map_are_refused(rt: HostRuntime) -> Result<(), Fail> {

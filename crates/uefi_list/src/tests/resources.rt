@@ -30,7 +30,7 @@ const CUT_IN_A_RECORD: &str = "\
     8a 2b00 00 00 00  4000";
 
 /// The four records of the same list, without the end tag.
-const CUT_BEFORE_THE_END_TAG: &str = "\
+pub(super) const CUT_BEFORE_THE_END_TAG: &str = "\
     8a 2b00 01 00 00  0000000000000000 0060000000000000 ff6f000000000000 \
         0000000000000000 0010000000000000 \
     8a 2b00 00 00 00  2000000000000000 0000008000000000 ffff0f8100000000 \

@@ -47,7 +47,7 @@ const SECOND_LINES: &str = "event 0 0x80000008 000082000000000000000e0000000000\
     840975aff0e1b69820075ee429798b5dbbe5d1a27436ab49f19b7a0411d2962c\n";
 
 /// The listing of a log without a header.
-const NO_HEADER: &str = "header none\nevents 0\n";
+pub(super) const NO_HEADER: &str = "header none\nevents 0\n";
 
 /// The texts, one after another.
 fn joined(alloc: Global, parts: &[&str]) -> Result<String, AllocError> {
@@ -150,6 +150,19 @@ fn a_header_is_listed_by_its_fields(rt: HostRuntime) -> Result<(), Fail> {
     each_lists(rt.alloc(), &rows, Outcome::Listed)
 }
 
+/// A header of 69 bytes with two rows for SHA-1, and an event of two digests.
+pub(super) const TWO_DIGESTS: &str = "00000000 03000000 0000000000000000000000000000000000000000 \
+    25000000 53706563204944204576656e74303300 00000000 00020002 \
+    02000000 04001400 04000400 00 \
+    00000000 08000000 02000000 \
+    0400 1111111111111111111111111111111111111111 \
+    0400 2222222222222222222222222222222222222222 00000000";
+
+pub(super) const TWO_DIGESTS_LISTING: &str =
+    "header 0 2.0.0 2\n  algorithm 0x0004 20\n  algorithm 0x0004 4\nvendor\n\
+    event 0 0x00000008\n  digest 0x0004 1111111111111111111111111111111111111111\n  \
+    digest 0x0004 2222222222222222222222222222222222222222\nevents 1\n";
+
 #[test]
 fn digests_have_the_sizes_of_the_first_rows(rt: HostRuntime) -> Result<(), Fail> {
     let rows: [Row<'_>; 6] = [
@@ -189,18 +202,7 @@ fn digests_have_the_sizes_of_the_first_rows(rt: HostRuntime) -> Result<(), Fail>
             SHA1_LISTING,
         ),
         // The same under two rows.
-        (
-            Command::Log2(Some(69)),
-            "00000000 03000000 0000000000000000000000000000000000000000 \
-             25000000 53706563204944204576656e74303300 00000000 00020002 \
-             02000000 04001400 04000400 00 \
-             00000000 08000000 02000000 \
-             0400 1111111111111111111111111111111111111111 \
-             0400 2222222222222222222222222222222222222222 00000000",
-            "header 0 2.0.0 2\n  algorithm 0x0004 20\n  algorithm 0x0004 4\nvendor\n\
-             event 0 0x00000008\n  digest 0x0004 1111111111111111111111111111111111111111\n  \
-             digest 0x0004 2222222222222222222222222222222222222222\nevents 1\n",
-        ),
+        (Command::Log2(Some(69)), TWO_DIGESTS, TWO_DIGESTS_LISTING),
         // An event with more data than there are bytes.
         (
             Command::Log2(Some(105)),

@@ -1,14 +1,12 @@
+use super::runs::{RUNS, Run, input_of};
 use crate::command::Command;
 use crate::listing::Outcome;
 use crate::run::{RunError, run};
-use std::alloc::Global;
+use refusing::in_turn;
+use std::alloc::{Allocator, Global};
 use std::io::{self, ErrorKind, Write};
 use std::test::Fail;
-use test_bytes::{bytes, same, same_bytes};
-
-const INPUT: (Command, &str) = (Command::Path, "7fff 0600 aabb");
-
-const LISTING: &[u8] = b"instance 6\npath 6\n";
+use test_bytes::{bytes, holds, same, same_bytes};
 
 /// What a call of [`Stubborn`] does once it has had enough.
 #[derive(Clone, Copy)]
@@ -17,18 +15,39 @@ enum Then {
     TakesNothing,
 }
 
-/// A writer that takes at most this many bytes a call, and only this many calls.
+/// How a writer behaves: how many bytes it takes at most a call, how many calls it takes, and what
+/// each later call does.
+type Manner = (usize, usize, Then);
+
+/// A writer that takes a few bytes a call, and only a few calls.
 #[derive(Drop)]
 struct Stubborn {
     taken: Vec<u8>,
     most: usize,
-    calls: u64,
+    calls: usize,
     then: Then,
+    was_called: bool,
+    has_stopped: bool,
+}
+
+impl Stubborn {
+    fn new(alloc: Global, (most, calls, then): Manner) -> Stubborn {
+        Stubborn {
+            taken: Vec::new(alloc),
+            most,
+            calls,
+            then,
+            was_called: false,
+            has_stopped: false,
+        }
+    }
 }
 
 impl Write for Stubborn {
     fn write(&mut self, buf: &[u8]) -> io::Result<usize> {
+        self.was_called = true;
         if self.calls == 0 {
+            self.has_stopped = true;
             return match self.then {
                 Then::Fails(kind) => Err(io::Error::from(kind)),
                 Then::TakesNothing => Ok(0),
@@ -45,79 +64,115 @@ impl Write for Stubborn {
     }
 }
 
-/// Checks how a run over a [`Stubborn`] writer ends, and what the writer took.
-fn ends(
+/// How the run of the row below ends over a writer, and what the writer took.
+fn check_row(
     alloc: Global,
-    (command, row): (Command, &str),
-    (most, calls, then): (usize, u64, Then),
-    (outcome, taken): (Result<Outcome, RunError>, &[u8]),
+    manner: Manner,
+    (ended, taken): (Result<Outcome, RunError>, &str),
 ) -> Result<(), Fail> {
+    let row = "7fff 0600 aabb";
     let input = bytes(alloc, row)?;
-    let mut out = Stubborn {
-        taken: Vec::new(alloc),
-        most,
-        calls,
-        then,
-    };
-    let ran = run(alloc, &command, input.as_slice(), &mut out);
-    same(row, &ran, &outcome)?;
-    same_bytes(row, out.taken.as_slice(), taken)
+    let mut out = Stubborn::new(alloc, manner);
+    let ran = run(alloc, &Command::Path, input.as_slice(), &mut out);
+    same(row, &ran, &ended)?;
+    same_bytes(row, out.taken.as_slice(), taken.as_bytes())
 }
 
 #[test]
-fn a_writer_that_takes_little_gets_it_all(rt: HostRuntime) -> Result<(), Fail> {
-    for most in 1..20usize {
-        ends(
-            rt.alloc(),
-            INPUT,
-            (most, 100, Then::TakesNothing),
-            (Ok(Outcome::Listed), LISTING),
-        )?;
-    }
-    Ok(())
-}
-
-#[test]
-fn a_refused_listing_is_written_too(rt: HostRuntime) -> Result<(), Fail> {
-    for (input, line) in [
-        ((Command::Path, "00"), b"refused InvalidLength\n".as_slice()),
-        ((Command::Pci, ""), b"refused NoEndTag\n"),
+fn a_writer_gets_what_it_takes_of_the_listing(rt: HostRuntime) -> Result<(), Fail> {
+    let fails = Then::Fails(ErrorKind::Other);
+    let interrupted = Then::Fails(ErrorKind::Interrupted);
+    let listed = (Ok(Outcome::Listed), "instance 6\npath 6\n");
+    let stopped = (Err(RunError::Output(6)), "instan");
+    let nothing = (Err(RunError::Output(0)), "");
+    for (manner, expected) in [
+        ((1, 18, fails), listed),
+        ((3, 2, fails), stopped),
+        ((3, 2, interrupted), stopped),
+        ((3, 2, Then::TakesNothing), stopped),
+        ((3, 0, fails), nothing),
+        ((3, 0, interrupted), nothing),
+        ((3, 0, Then::TakesNothing), nothing),
     ] {
-        ends(
-            rt.alloc(),
-            input,
-            (1, 100, Then::TakesNothing),
-            (Ok(Outcome::Refused), line),
-        )?;
+        check_row(rt.alloc(), manner, expected)?;
+    }
+    Ok(())
+}
+
+/// How a run ended: what it returned, how many bytes of the listing its writer took, if it took
+/// nothing else, and whether a call of the writer failed or took nothing.
+type End = (Result<Outcome, RunError>, Option<usize>, bool);
+
+/// How a run over a writer has to end whose listing has this length and this outcome.
+fn expected_end(length: usize, outcome: Outcome, (most, calls, _): Manner) -> End {
+    let reach = most.saturating_mul(calls);
+    if reach < length {
+        (Err(RunError::Output(reach)), Some(reach), true)
+    } else {
+        (Ok(outcome), Some(length), false)
+    }
+}
+
+/// How a run over a writer ends; or `None` if memory ran out before the writer was called.
+fn end_of<A: Allocator + Copy>(
+    alloc: Global,
+    heap: A,
+    (command, input, listing): (&Command, &[u8], &[u8]),
+    manner: Manner,
+) -> Option<End> {
+    let mut out = Stubborn::new(alloc, manner);
+    let ran = run(heap, command, input, &mut out);
+    if ran == Err(RunError::Memory) && !out.was_called {
+        return None;
+    }
+    let taken = out.taken.as_slice();
+    let count = if listing.starts_with(taken) {
+        Some(taken.len())
+    } else {
+        None
+    };
+    Some((ran, count, out.has_stopped))
+}
+
+/// Checks the runs over writers that take up to this many bytes a call, and stop so at the first
+/// call, at the second, and so on until none is left, with each request for memory refused in turn.
+fn check_calls(
+    alloc: Global,
+    asked: (&Command, &[u8], &[u8]),
+    outcome: Outcome,
+    (most, then): (usize, Then),
+) -> Result<(), Fail> {
+    let length = asked.2.len();
+    for calls in 0..=length {
+        let manner = (most, calls, then);
+        let expected = expected_end(length, outcome, manner);
+        let requests = in_turn(alloc, &expected, |heap| end_of(alloc, heap, asked, manner))?;
+        holds("a run takes memory", requests > 0)?;
+        if expected.0.is_ok() {
+            return Ok(());
+        }
+    }
+    holds("the writer takes it all", false)
+}
+
+/// Checks a run over writers that stop in each manner.
+fn check_run(alloc: Global, run: &Run, most: usize) -> Result<(), Fail> {
+    let (command, _, listing, outcome) = run;
+    let input = input_of(alloc, run)?;
+    let asked = (command, input.as_slice(), listing.as_bytes());
+    check_calls(alloc, asked, *outcome, (most, Then::TakesNothing))?;
+    for kind in [ErrorKind::Other, ErrorKind::Interrupted] {
+        check_calls(alloc, asked, *outcome, (most, Then::Fails(kind)))?;
     }
     Ok(())
 }
 
 #[test]
-fn the_first_call_that_fails_or_takes_nothing_ends_the_run(rt: HostRuntime) -> Result<(), Fail> {
-    let kinds = [
-        Then::TakesNothing,
-        Then::Fails(ErrorKind::Other),
-        Then::Fails(ErrorKind::Interrupted),
-    ];
-    for then in kinds {
-        let stopped = Err(RunError::Output(6));
-        ends(rt.alloc(), INPUT, (3, 2, then), (stopped, b"instan"))?;
-        for calls in 0..18usize {
-            let stopped = Err(RunError::Output(calls));
-            ends(
-                rt.alloc(),
-                INPUT,
-                (1, calls as u64, then),
-                (stopped, &LISTING[..calls]),
-            )?;
+fn output_comes_only_where_a_write_failed_or_took_nothing(rt: HostRuntime) -> Result<(), Fail> {
+    for run in &RUNS {
+        for most in [1, 2, 3, 5, 8, 13, 21, 1000, usize::MAX] {
+            check_run(rt.alloc(), run, most)?;
         }
-        ends(
-            rt.alloc(),
-            INPUT,
-            (1, 18, then),
-            (Ok(Outcome::Listed), LISTING),
-        )?;
     }
     Ok(())
 }

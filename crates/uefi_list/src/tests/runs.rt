@@ -1,0 +1,107 @@
+use super::TWO_INSTANCES_LISTING;
+use super::files::{AB_FILE, AB_FILE_LISTING};
+use super::logs::LOG1_LISTING;
+use super::maps::{FALLING_LISTING, FALLING_MAP, NO_MAP};
+use super::resources::{CUT_BEFORE_THE_END_TAG, ROOT_BRIDGE, ROOT_BRIDGE_LISTING};
+use super::v2_logs::{NO_HEADER, TWO_DIGESTS, TWO_DIGESTS_LISTING};
+use crate::command::Command;
+use crate::listing::Outcome;
+use std::alloc::Global;
+use std::test::Fail;
+use test_bytes::bytes;
+use test_bytes::samples::{LAST_OF_FEBRUARY, LOG1, TWO_INSTANCES};
+
+/// The text of a configuration with two elements.
+const TWO_ELEMENTS: &str = "GUID=16d6474bd6a852459d44ccad2e0f4cf9&NAME=0041&PATH=7fff0400\
+    &OFFSET=00&WIDTH=01&VALUE=00&x=1&WIDTH=02&OFFSET=01&WIDTH=01&VALUE=0a";
+
+const TWO_ELEMENTS_LISTING: &str =
+    "config 4b47d616-a8d6-4552-9d44-ccad2e0f4cf9\n  name A\n  path 4\n  element 0 1 00\n  \
+    element 1 1 0a\nitems 1\n";
+
+/// A command, its input as [`input_of`] reads it, its listing and its outcome.
+pub(super) type Run = (Command, &'static str, &'static str, Outcome);
+
+/// Runs of each command, and of each that can be refused a refused one too.
+pub(super) const RUNS: [Run; 17] = [
+    (
+        Command::Path,
+        "7fff 0600 aabb",
+        "instance 6\npath 6\n",
+        Outcome::Listed,
+    ),
+    (
+        Command::Path,
+        TWO_INSTANCES,
+        TWO_INSTANCES_LISTING,
+        Outcome::Listed,
+    ),
+    (
+        Command::Path,
+        "",
+        "refused InvalidLength\n",
+        Outcome::Refused,
+    ),
+    (Command::Log1(Some(34)), LOG1, LOG1_LISTING, Outcome::Listed),
+    (Command::Log1(None), LOG1, "events 0\n", Outcome::Listed),
+    (
+        Command::Log2(Some(69)),
+        TWO_DIGESTS,
+        TWO_DIGESTS_LISTING,
+        Outcome::Listed,
+    ),
+    (
+        Command::Log2(Some(68)),
+        TWO_DIGESTS,
+        NO_HEADER,
+        Outcome::Listed,
+    ),
+    (
+        Command::Config,
+        TWO_ELEMENTS,
+        TWO_ELEMENTS_LISTING,
+        Outcome::Listed,
+    ),
+    (Command::Config, "ff", "refused NotUtf8\n", Outcome::Refused),
+    (
+        Command::Map(40),
+        FALLING_MAP,
+        FALLING_LISTING,
+        Outcome::Listed,
+    ),
+    (Command::Map(39), FALLING_MAP, NO_MAP, Outcome::Refused),
+    (
+        Command::Pci,
+        ROOT_BRIDGE,
+        ROOT_BRIDGE_LISTING,
+        Outcome::Listed,
+    ),
+    (
+        Command::Pci,
+        CUT_BEFORE_THE_END_TAG,
+        "refused NoEndTag\n",
+        Outcome::Refused,
+    ),
+    (
+        Command::Time,
+        LAST_OF_FEBRUARY,
+        "time 2024-02-31 00:00:00.000000000 local 0\n",
+        Outcome::Listed,
+    ),
+    (Command::Time, "", "refused InvalidSize\n", Outcome::Refused),
+    (Command::Info(86), AB_FILE, AB_FILE_LISTING, Outcome::Listed),
+    (
+        Command::Info(85),
+        AB_FILE,
+        "refused BAD_BUFFER_SIZE\n",
+        Outcome::Refused,
+    ),
+];
+
+/// The bytes of a run's input: the text of configurations that are listed as it stands, else hex.
+pub(super) fn input_of(alloc: Global, (command, input, _, outcome): &Run) -> Result<Vec<u8>, Fail> {
+    match (command, outcome) {
+        (Command::Config, Outcome::Listed) => Ok(Vec::from_slice(alloc, input.as_bytes())?),
+        _ => Ok(bytes(alloc, input)?),
+    }
+}
