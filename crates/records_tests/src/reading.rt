@@ -147,17 +147,25 @@ fn expected(length: usize, written: usize) -> Option<Error<Option<usize>>> {
     }
 }
 
-/// Whether each number of the first bytes is read as [`expected`], whatever number was written.
-fn is_judged_by_what_is_left(input: &[u8]) -> bool {
-    for length in 0..input.len() + 1 {
-        for written in 0..=90 {
-            let read = FileInfo::from_uefi(&input[..length], written);
-            if read.err() != expected(length, written) {
-                return false;
-            }
+/// Whether each number of the first bytes is read as [`expected`], if this many were written.
+fn is_judged_where_written(input: &[u8], written: usize) -> bool {
+    for length in 0..=input.len() {
+        let read = FileInfo::from_uefi(&input[..length], written);
+        if read.err() != expected(length, written) {
+            return false;
         }
     }
     input.len() == 88
+}
+
+/// Whether that holds whatever number was written.
+fn is_judged_by_what_is_left(input: &[u8]) -> bool {
+    for written in 0..=90 {
+        if !is_judged_where_written(input, written) {
+            return false;
+        }
+    }
+    is_judged_where_written(input, 1000) && is_judged_where_written(input, usize::MAX)
 }
 
 #[test]
