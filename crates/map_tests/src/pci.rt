@@ -228,13 +228,10 @@ fn check_error(alloc: Global, input: &[u8], error: ResourceError) -> Result<(), 
 #[test]
 fn an_error_of_the_bytes_asks_for_no_memory(rt: HostRuntime) -> Result<(), Fail> {
     let mut input = bytes(rt.alloc(), ROOT_BRIDGE)?;
-    for (length, error) in [
-        (0, ResourceError::NoEndTag),
-        (183, ResourceError::CutRecord),
-        (184, ResourceError::NoEndTag),
-    ] {
-        let cut = input.get(..length).ok_or("a length")?;
-        check_error(rt.alloc(), cut, error)?;
+    for length in 0..=input.len() {
+        if let Err(error) = cut_list(length) {
+            check_error(rt.alloc(), &input[..length], error)?;
+        }
     }
     *input.get_mut(184).ok_or("the end tag")? = 0x78;
     check_error(
