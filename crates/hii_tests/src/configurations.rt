@@ -1,4 +1,7 @@
-use crate::samples::{GUID, ISCSI_TWICE, ISCSI_TWICE_ITEMS, line_of, push_item, text_of};
+use crate::samples::{
+    GUID, ISCSI_ALTERNATIVES, ISCSI_ALTERNATIVES_ITEMS, ISCSI_TWICE, ISCSI_TWICE_ITEMS, line_of,
+    push_item, text_of,
+};
 use std::alloc::{AllocError, Global};
 use std::test::Fail;
 use test_bytes::{holds, same, same_text};
@@ -47,12 +50,7 @@ const TEXTS: [(&str, &str); 17] = [
         "A, 4, None | 0x0 1 00\nBlockName\nA, 4, None\n",
     ),
     (ISCSI_TWICE, ISCSI_TWICE_ITEMS),
-    (
-        "#&ALTCFG=0002&OFFSET=01d8&WIDTH=0001&VALUE=00\
-            &#&ALTCFG=0001&OFFSET=01d8&WIDTH=0001&VALUE=00&OFFSET=1337&WIDTH=0005&VALUE=1122334455",
-        "ISCSI_CONFIG_IFR_NVDATA, 24, Some(2) | 0x1d8 1 00\n\
-            ISCSI_CONFIG_IFR_NVDATA, 24, Some(1) | 0x1d8 1 00 | 0x1337 5 5544332211\n",
-    ),
+    (ISCSI_ALTERNATIVES, ISCSI_ALTERNATIVES_ITEMS),
     ("@&", "A, 4, None\n"),
 ];
 
@@ -78,16 +76,17 @@ fn iterated_items(alloc: Global, text: &str) -> Result<String, AllocError> {
     Ok(lines)
 }
 
+/// Checks the items of a row's text, as `parse_all` and the iterator give them.
+fn check_items(alloc: Global, row: &str, lines: &str) -> Result<(), Fail> {
+    let text = text_of(alloc, row)?;
+    same_text(row, all_items(alloc, text.as_str())?.as_str(), lines)?;
+    same_text(row, iterated_items(alloc, text.as_str())?.as_str(), lines)
+}
+
 #[test]
 fn a_text_is_cut_into_configurations_and_errors(rt: HostRuntime) -> Result<(), Fail> {
     for (row, lines) in TEXTS {
-        let text = text_of(rt.alloc(), row)?;
-        same_text(row, all_items(rt.alloc(), text.as_str())?.as_str(), lines)?;
-        same_text(
-            row,
-            iterated_items(rt.alloc(), text.as_str())?.as_str(),
-            lines,
-        )?;
+        check_items(rt.alloc(), row, lines)?;
     }
     Ok(())
 }
@@ -105,25 +104,16 @@ const TEN_ELEMENTS_LINE: &str =
     | 0x5fe 2 0000 | 0x62a 1 00 | 0x62b 1 01 | 0xfd4 1 00 | 0xfd5 1 00\n";
 
 /// Texts, and their first items.
-const FIRST_ITEMS: [(&str, &str); 9] = [
+const FIRST_ITEMS: [(&str, &str); 4] = [
     ("", "ConfigHdr(Guid)\n"),
     ("GUID=00", "ConfigHdr(Guid)\n"),
-    // Cut after each of the six pairs.
-    ("GUID=16d6474bd6a852459d44ccad2e0f4cf9", "ConfigHdr(Name)\n"),
-    (
-        "GUID=16d6474bd6a852459d44ccad2e0f4cf9&NAME=0041",
-        "ConfigHdr(Path)\n",
-    ),
-    ("@", "A, 4, None\n"),
-    ("@&OFFSET=00", "BlockName\n"),
-    ("@&OFFSET=00&WIDTH=01", "BlockConfig\n"),
-    (
-        "@&OFFSET=00&WIDTH=01&VALUE=1122",
-        "A, 4, None | 0x0 1 2211\n",
-    ),
     (
         ISCSI_TWICE,
         "ISCSI_CONFIG_IFR_NVDATA, 24, None | 0x1d8 1 00\n",
+    ),
+    (
+        ISCSI_ALTERNATIVES,
+        "ISCSI_CONFIG_IFR_NVDATA, 24, Some(2) | 0x1d8 1 00\n",
     ),
 ];
 
@@ -139,6 +129,31 @@ fn first_item(alloc: Global, row: &str) -> Result<String, Fail> {
 fn the_first_item_is_read(rt: HostRuntime) -> Result<(), Fail> {
     for (row, line) in FIRST_ITEMS {
         same_text(row, first_item(rt.alloc(), row)?.as_str(), line)?;
+    }
+    Ok(())
+}
+
+/// A configuration of six pairs cut after each of them, and what it is read as.
+const CUTS: [(&str, &str); 6] = [
+    ("GUID=16d6474bd6a852459d44ccad2e0f4cf9", "ConfigHdr(Name)\n"),
+    (
+        "GUID=16d6474bd6a852459d44ccad2e0f4cf9&NAME=0041",
+        "ConfigHdr(Path)\n",
+    ),
+    ("@", "A, 4, None\n"),
+    ("@&OFFSET=00", "BlockName\n"),
+    ("@&OFFSET=00&WIDTH=01", "BlockConfig\n"),
+    (
+        "@&OFFSET=00&WIDTH=01&VALUE=1122",
+        "A, 4, None | 0x0 1 2211\n",
+    ),
+];
+
+#[test]
+fn a_configuration_that_is_cut_is_read_up_to_there(rt: HostRuntime) -> Result<(), Fail> {
+    for (row, line) in CUTS {
+        same_text(row, first_item(rt.alloc(), row)?.as_str(), line)?;
+        check_items(rt.alloc(), row, line)?;
     }
     Ok(())
 }

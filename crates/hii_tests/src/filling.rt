@@ -53,7 +53,7 @@ fn text_with(
 ) -> Result<String, AllocError> {
     let mut text = String::new(alloc);
     for i in 0..length {
-        let digit = DIGITS[7 * i % 22] as char;
+        let digit = DIGITS[7 * (i % 22) % 22] as char;
         text.push(if i == index { other } else { digit })?;
     }
     Ok(text)

@@ -1,8 +1,11 @@
-use crate::samples::{ISCSI_NAME, ISCSI_TWICE, ISCSI_TWICE_ITEMS, line_of, push_item, text_of};
+use crate::samples::{
+    ISCSI_ALTERNATIVES, ISCSI_ALTERNATIVES_ITEMS, ISCSI_NAME, ISCSI_TWICE, ISCSI_TWICE_ITEMS,
+    line_of, push_item, text_of,
+};
 use refusing::{Refusing, in_turn, without_request};
 use std::alloc::{AllocError, Allocator, Global};
 use std::test::Fail;
-use test_bytes::holds;
+use test_bytes::{holds, same_text};
 use uefi_hii::{ConfigurationString, MultiConfigurationStringIter, ParseError, parse_all};
 
 /// Whether the name in hex is the driver's; or `None` if memory ran out.
@@ -24,14 +27,29 @@ fn first_line<A: Allocator + Copy>(heap: A, alloc: Global, text: &str) -> Option
     line_of(alloc, &ConfigurationString::from_str(heap, text))
 }
 
-#[test]
-fn the_first_item_is_read_or_memory_was_refused(rt: HostRuntime) -> Result<(), Fail> {
-    let alloc = rt.alloc();
-    let text = text_of(alloc, ISCSI_TWICE)?;
+/// Texts, as `text_of` has them, and all their items.
+const TEXTS: [(&str, &str); 3] = [
+    (ISCSI_TWICE, ISCSI_TWICE_ITEMS),
+    (ISCSI_ALTERNATIVES, ISCSI_ALTERNATIVES_ITEMS),
+    (
+        "GUID=00&@&OFFSET=00&WIDTH=01&VALUE=1122",
+        "ConfigHdr(Guid)\nA, 4, None | 0x0 1 2211\n",
+    ),
+];
+
+/// Checks that the first item of a row's text is read, or memory was refused.
+fn check_first(alloc: Global, row: &str) -> Result<(), Fail> {
+    let text = text_of(alloc, row)?;
     let text = text.as_str();
     let line = first_line(alloc, alloc, text).ok_or("memory")?;
     let requests = in_turn(alloc, &line, |heap| first_line(heap, alloc, text))?;
     holds("a configuration takes memory", requests > 0)
+}
+
+#[test]
+fn the_first_item_is_read_or_memory_was_refused(rt: HostRuntime) -> Result<(), Fail> {
+    check_first(rt.alloc(), ISCSI_TWICE)?;
+    check_first(rt.alloc(), ISCSI_ALTERNATIVES)
 }
 
 /// The lines of all items; or `None` if memory ran out.
@@ -43,14 +61,21 @@ fn all_lines<A: Allocator + Copy>(heap: A, alloc: Global, text: &str) -> Option<
     Some(lines)
 }
 
-#[test]
-fn all_items_are_read_or_memory_was_refused(rt: HostRuntime) -> Result<(), Fail> {
-    let alloc = rt.alloc();
-    let text = text_of(alloc, ISCSI_TWICE)?;
+/// Checks that all items of a row's text are read, or memory was refused.
+fn check_all(alloc: Global, row: &str, items: &str) -> Result<(), Fail> {
+    let text = text_of(alloc, row)?;
     let text = text.as_str();
-    let lines = String::from_str(alloc, ISCSI_TWICE_ITEMS)?;
+    let lines = String::from_str(alloc, items)?;
     let requests = in_turn(alloc, &lines, |heap| all_lines(heap, alloc, text))?;
     holds("configurations take memory", requests > 0)
+}
+
+#[test]
+fn all_items_are_read_or_memory_was_refused(rt: HostRuntime) -> Result<(), Fail> {
+    for (row, items) in TEXTS {
+        check_all(rt.alloc(), row, items)?;
+    }
+    Ok(())
 }
 
 /// Checks that the iterator gives nothing, though it is asked twice.
@@ -83,26 +108,31 @@ fn lines_before<A: Allocator + Copy>(
 /// The most requests that the test below grants.
 const MOST_REQUESTS: u64 = 100;
 
-#[test]
-fn the_iterator_gives_the_items_before_memory_is_refused(rt: HostRuntime) -> Result<(), Fail> {
-    let text = text_of(rt.alloc(), ISCSI_TWICE)?;
+/// Checks the items before memory runs out, with each request in turn as the first that is refused.
+fn check_items_before(alloc: Global, row: &str, items: &str) -> Result<(), Fail> {
+    let text = text_of(alloc, row)?;
     for granted in 0..MOST_REQUESTS {
-        let heap = Refusing::after(rt.alloc(), granted);
-        let (lines, ran_out) = lines_before(&heap, rt.alloc(), text.as_str())?;
+        let heap = Refusing::after(alloc, granted);
+        let (lines, ran_out) = lines_before(&heap, alloc, text.as_str())?;
         holds(
             "memory runs out where it is refused",
             ran_out != heap.is_waiting(),
         )?;
-        holds(
-            "the items before",
-            ISCSI_TWICE_ITEMS.starts_with(lines.as_str()),
-        )?;
+        holds("the items before", items.starts_with(lines.as_str()))?;
         if !ran_out {
-            holds("all items", ISCSI_TWICE_ITEMS == lines.as_str())?;
+            same_text("all items", lines.as_str(), items)?;
             return holds("configurations take memory", granted > 0);
         }
     }
     holds("the items take fewer requests", false)
+}
+
+#[test]
+fn the_iterator_gives_the_items_before_memory_is_refused(rt: HostRuntime) -> Result<(), Fail> {
+    for (row, items) in TEXTS {
+        check_items_before(rt.alloc(), row, items)?;
+    }
+    Ok(())
 }
 
 /// The line of the iterator's first item.

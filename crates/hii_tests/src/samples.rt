@@ -26,6 +26,15 @@ pub(crate) const ISCSI_TWICE: &str = "#&OFFSET=01d8&WIDTH=0001&VALUE=00\
 pub(crate) const ISCSI_TWICE_ITEMS: &str = "ISCSI_CONFIG_IFR_NVDATA, 24, None | 0x1d8 1 00\n\
     ISCSI_CONFIG_IFR_NVDATA, 24, None | 0x1d8 1 00 | 0x1337 5 5544332211\n";
 
+/// The same as alternatives of a configuration, each with its identifier.
+pub(crate) const ISCSI_ALTERNATIVES: &str = "#&ALTCFG=0002&OFFSET=01d8&WIDTH=0001&VALUE=00\
+    &#&ALTCFG=0001&OFFSET=01d8&WIDTH=0001&VALUE=00&OFFSET=1337&WIDTH=0005&VALUE=1122334455";
+
+/// The items of them.
+pub(crate) const ISCSI_ALTERNATIVES_ITEMS: &str =
+    "ISCSI_CONFIG_IFR_NVDATA, 24, Some(2) | 0x1d8 1 00\n\
+    ISCSI_CONFIG_IFR_NVDATA, 24, Some(1) | 0x1d8 1 00 | 0x1337 5 5544332211\n";
+
 /// The text of a row, in which `@` stands for the short header, and `#` for the driver's.
 pub(crate) fn text_of(alloc: Global, row: &str) -> Result<String, AllocError> {
     let text = row.replace(alloc, '@', SHORT_HEADER)?;
