@@ -23,7 +23,7 @@ const TWO_ELEMENTS_LISTING: &str =
 pub(super) type Run = (Command, &'static str, &'static str, Outcome);
 
 /// Runs of each command, and of each that can be refused a refused one too.
-pub(super) const RUNS: [Run; 17] = [
+pub(super) const RUNS: [Run; 18] = [
     (
         Command::Path,
         "7fff 0600 aabb",
@@ -38,7 +38,7 @@ pub(super) const RUNS: [Run; 17] = [
     ),
     (
         Command::Path,
-        "",
+        "00",
         "refused InvalidLength\n",
         Outcome::Refused,
     ),
@@ -82,6 +82,7 @@ pub(super) const RUNS: [Run; 17] = [
         "refused NoEndTag\n",
         Outcome::Refused,
     ),
+    (Command::Pci, "", "refused NoEndTag\n", Outcome::Refused),
     (
         Command::Time,
         LAST_OF_FEBRUARY,
