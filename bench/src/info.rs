@@ -1,32 +1,11 @@
-//! Information on files: a plain reader, and the input.
+//! Information on files: the reader that is measured, and the input.
 
 use crate::Case;
 use crate::random::Random;
+use crate::readers::info::{ALIGNMENT, FileInfo, NAME_OFFSET};
 
 unsafe extern "C" {
     fn port_info(bytes: *const u8, length: usize) -> u64;
-}
-
-const NAME_OFFSET: usize = 80;
-const ALIGNMENT: usize = 8;
-
-pub struct FileInfo<'a> {
-    bytes: &'a [u8],
-}
-
-impl<'a> FileInfo<'a> {
-    /// The record in the first `written` bytes, up to its name's NUL, where the buffer has room for
-    /// all of it.
-    pub fn read(buffer: &'a [u8], written: usize) -> Option<FileInfo<'a>> {
-        let name = buffer.get(..written.min(buffer.len()))?.get(NAME_OFFSET..)?;
-        let nul = name.chunks_exact(2).position(|unit| u16::from_le_bytes([unit[0], unit[1]]) == 0)?;
-        let end = NAME_OFFSET + 2 * (nul + 1);
-        (end.next_multiple_of(ALIGNMENT) <= buffer.len()).then(|| FileInfo { bytes: &buffer[..end] })
-    }
-
-    pub fn name(&self) -> &'a [u8] {
-        &self.bytes[NAME_OFFSET..]
-    }
 }
 
 fn read_info(bytes: &[u8]) -> u64 {

@@ -1,7 +1,8 @@
-//! Event logs of version 2: a plain reader of borrowed events, which tests each bound, and the inputs.
+//! Event logs of version 2: the readers that are measured, and the inputs.
 
 use crate::Case;
 use crate::random::Random;
+use crate::readers::log2::{Digests, Events, Header, NO_ACTION, ROW_LENGTH, SIGNATURE};
 
 unsafe extern "C" {
     fn port_log2(bytes: *const u8, length: usize, last_entry: usize, digests: u32) -> u64;
@@ -16,159 +17,6 @@ unsafe extern "C" fn port_digests(bytes: *const u8, length: usize) -> u64 {
     unsafe { port_log2(bytes, length, length, 1) }
 }
 
-const HEADER_EVENT_LENGTH: usize = 32;
-const NO_ACTION: u32 = 3;
-const SIGNATURE: &[u8] = b"Spec ID Event03\0";
-const ROW_LENGTH: usize = 4;
-
-/// Bytes that are read from the front.
-#[derive(Clone, Copy)]
-struct Reader<'a> {
-    bytes: &'a [u8],
-}
-
-impl<'a> Reader<'a> {
-    fn take(&mut self, length: usize) -> Option<&'a [u8]> {
-        let (part, rest) = self.bytes.split_at_checked(length)?;
-        self.bytes = rest;
-        Some(part)
-    }
-
-    fn array<const N: usize>(&mut self) -> Option<[u8; N]> {
-        let (part, rest) = self.bytes.split_first_chunk()?;
-        self.bytes = rest;
-        Some(*part)
-    }
-
-    fn u8(&mut self) -> Option<u8> {
-        self.array().map(u8::from_le_bytes)
-    }
-
-    fn u16(&mut self) -> Option<u16> {
-        self.array().map(u16::from_le_bytes)
-    }
-
-    fn u32(&mut self) -> Option<u32> {
-        self.array().map(u32::from_le_bytes)
-    }
-}
-
-/// The table of a header: rows of an algorithm and the size of its digests.
-#[derive(Clone, Copy)]
-struct Rows<'a>(&'a [u8]);
-
-impl Rows<'_> {
-    fn len(&self) -> usize {
-        self.0.len() / ROW_LENGTH
-    }
-
-    /// The size in the first row of an algorithm.
-    fn size_of(&self, algorithm: u16) -> Option<usize> {
-        let numbers = |row: &[u8]| (u16::from_le_bytes([row[0], row[1]]), u16::from_le_bytes([row[2], row[3]]));
-        let mut rows = self.0.chunks_exact(ROW_LENGTH).map(numbers);
-        rows.find(|row| row.0 == algorithm).map(|row| usize::from(row.1))
-    }
-}
-
-/// The table of a log, and where its events start.
-fn read_header(bytes: &[u8], last_entry: usize) -> Option<(Rows<'_>, usize)> {
-    let mut event = Reader { bytes };
-    let (pcr_index, event_type, digest) = (event.u32()?, event.u32()?, event.array::<20>()?);
-    let length = event.u32()? as usize;
-    let mut data = Reader { bytes: event.take(length)? };
-    let keeps = last_entry == 0 || HEADER_EVENT_LENGTH + length <= last_entry;
-    if !keeps || pcr_index != 0 || event_type != NO_ACTION || digest != [0; 20] {
-        return None;
-    }
-    if data.take(SIGNATURE.len())? != SIGNATURE {
-        return None;
-    }
-    let [_class, _version] = [data.u32()?, data.u32()?];
-    let count = data.u32()? as usize;
-    let rows = Rows(data.take(count.checked_mul(ROW_LENGTH)?)?);
-    let vendor_length = usize::from(data.u8()?);
-    data.take(vendor_length)?;
-    Some((rows, HEADER_EVENT_LENGTH + length - data.bytes.len()))
-}
-
-#[derive(Clone, Copy)]
-struct Event<'a> {
-    pcr_index: u32,
-    event_type: u32,
-    digests: Digests<'a>,
-    data: &'a [u8],
-}
-
-/// The digests of an event that are left.
-#[derive(Clone, Copy)]
-struct Digests<'a> {
-    rows: Rows<'a>,
-    count: u32,
-    rest: Reader<'a>,
-}
-
-impl<'a> Digests<'a> {
-    fn first(&mut self) -> Option<(u16, &'a [u8])> {
-        let algorithm = self.rest.u16()?;
-        let size = self.rows.size_of(algorithm)?;
-        Some((algorithm, self.rest.take(size)?))
-    }
-}
-
-impl<'a> Iterator for Digests<'a> {
-    type Item = (u16, &'a [u8]);
-
-    fn next(&mut self) -> Option<(u16, &'a [u8])> {
-        self.count = self.count.checked_sub(1)?;
-        self.first()
-    }
-}
-
-/// The events of a log, each of which starts at the last entry at the latest, and also ends there at
-/// the latest if it starts before.
-struct Events<'a> {
-    bytes: &'a [u8],
-    rows: Rows<'a>,
-    last_entry: usize,
-    offset: usize,
-}
-
-impl<'a> Events<'a> {
-    /// The event at the offset, and where it ends.
-    fn read(&self) -> Option<(Event<'a>, usize)> {
-        let mut rest = Reader { bytes: self.bytes.get(self.offset..)? };
-        let (pcr_index, event_type, count) = (rest.u32()?, rest.u32()?, rest.u32()?);
-        if self.rows.len() < count as usize {
-            return None;
-        }
-        let digests = Digests { rows: self.rows, count, rest };
-        let mut after = digests;
-        for _ in 0..count {
-            after.first()?;
-        }
-        rest = after.rest;
-        let length = rest.u32()? as usize;
-        let data = rest.take(length)?;
-        Some((Event { pcr_index, event_type, digests, data }, self.bytes.len() - rest.bytes.len()))
-    }
-}
-
-impl<'a> Iterator for Events<'a> {
-    type Item = Event<'a>;
-
-    fn next(&mut self) -> Option<Event<'a>> {
-        if self.offset > self.last_entry {
-            return None;
-        }
-        let (event, end) = self.read()?;
-        if self.offset < self.last_entry && end > self.last_entry {
-            return None;
-        }
-        self.offset = end;
-        Some(event)
-    }
-}
-
 fn digest_sum(digests: Digests<'_>) -> u64 {
     let mut sum = 0u64;
     for (algorithm, digest) in digests {
@@ -180,7 +28,7 @@ fn digest_sum(digests: Digests<'_>) -> u64 {
 
 fn log_sum(bytes: &[u8], with_digests: bool) -> u64 {
     let last_entry = std::hint::black_box(bytes.len());
-    let Some((rows, offset)) = read_header(bytes, last_entry) else {
+    let Some(Header { rows, end: offset, .. }) = Header::read(bytes, last_entry) else {
         return 0;
     };
     let mut sum = 0u64;

@@ -12,11 +12,13 @@
 mod config;
 mod info;
 mod list;
+mod listings;
 mod log;
 mod log2;
 mod map;
 mod path;
 mod random;
+mod readers;
 mod resources;
 mod runs;
 mod time;

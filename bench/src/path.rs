@@ -1,111 +1,13 @@
-//! Device paths: a plain reader of borrowed parts, which tests each bound, and the input.
+//! Device paths: the readers that are measured, and the input.
 
 use crate::Case;
 use crate::random::Random;
+use crate::readers::path::{END, END_ENTIRE, END_INSTANCE, HEADER, Instances, Nodes, Stop, split};
 
 unsafe extern "C" {
     fn port_path(bytes: *const u8, length: usize) -> u64;
     fn port_nodes(bytes: *const u8, length: usize) -> u64;
     fn port_instances(bytes: *const u8, length: usize) -> u64;
-}
-
-const END: u8 = 0x7f;
-const END_INSTANCE: u8 = 0x01;
-const END_ENTIRE: u8 = 0xff;
-const HEADER: usize = 4;
-
-#[derive(Clone, Copy)]
-pub struct Node<'a> {
-    bytes: &'a [u8],
-}
-
-impl<'a> Node<'a> {
-    /// The node that the bytes begin with.
-    fn first(bytes: &'a [u8]) -> Option<Node<'a>> {
-        let length = usize::from(u16::from_le_bytes([*bytes.get(2)?, *bytes.get(3)?]));
-        if length < HEADER {
-            return None;
-        }
-        Some(Node {
-            bytes: bytes.get(..length)?,
-        })
-    }
-
-    pub fn device_type(&self) -> u8 {
-        self.bytes[0]
-    }
-
-    pub fn sub_type(&self) -> u8 {
-        self.bytes[1]
-    }
-
-    fn is_end_entire(&self) -> bool {
-        self.bytes[0] == END && self.bytes[1] == END_ENTIRE
-    }
-
-    pub fn data(&self) -> &'a [u8] {
-        &self.bytes[HEADER..]
-    }
-}
-
-#[derive(Clone, Copy)]
-pub enum Stop {
-    AnyEnd,
-    EndEntire,
-}
-
-impl Stop {
-    fn stops_at(self, node: &Node<'_>) -> bool {
-        match self {
-            Stop::AnyEnd => node.device_type() == END,
-            Stop::EndEntire => node.is_end_entire(),
-        }
-    }
-}
-
-/// The bytes of the nodes up to the first at which it stops, and the bytes after them.
-pub fn split(bytes: &[u8], stop: Stop) -> Option<(&[u8], &[u8])> {
-    let mut at = 0;
-    loop {
-        let node = Node::first(&bytes[at..])?;
-        at += node.bytes.len();
-        if stop.stops_at(&node) {
-            return Some(bytes.split_at(at));
-        }
-    }
-}
-
-pub struct Nodes<'a> {
-    pub rest: &'a [u8],
-    pub stop: Stop,
-}
-
-impl<'a> Iterator for Nodes<'a> {
-    type Item = Node<'a>;
-
-    fn next(&mut self) -> Option<Node<'a>> {
-        let node = Node::first(self.rest)?;
-        if self.stop.stops_at(&node) {
-            self.rest = &[];
-            return None;
-        }
-        self.rest = &self.rest[node.bytes.len()..];
-        Some(node)
-    }
-}
-
-pub struct Instances<'a> {
-    pub rest: &'a [u8],
-}
-
-impl<'a> Iterator for Instances<'a> {
-    type Item = &'a [u8];
-
-    fn next(&mut self) -> Option<&'a [u8]> {
-        let (front, after) = split(self.rest, Stop::AnyEnd)?;
-        self.rest = after;
-        Some(front)
-    }
 }
 
 fn read_path(bytes: &[u8]) -> u64 {

@@ -4,7 +4,12 @@ pub struct Random(u64);
 
 impl Random {
     pub fn new() -> Random {
-        Random(0x9e37_79b9_7f4a_7c15)
+        Random::seeded(0x9e37_79b9_7f4a_7c15)
+    }
+
+    /// Numbers from a seed other than 0.
+    pub fn seeded(seed: u64) -> Random {
+        Random(seed)
     }
 
     /// The next number (xorshift64*).

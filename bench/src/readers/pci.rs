@@ -1,0 +1,71 @@
+//! Lists of PCI resources: a plain reader.
+
+pub const RECORD_TAG: u8 = 0x8a;
+pub const RECORD_LENGTH: usize = 46;
+pub const END_TAG: u8 = 0x79;
+
+/// What stands where neither a whole record nor the end tag does.
+pub enum Fault {
+    NoEndTag,
+    CutRecord,
+    UnknownTag(u8),
+}
+
+#[derive(Clone, Copy)]
+pub enum RangeType {
+    Memory,
+    Io,
+    Bus,
+    Unknown(u8),
+}
+
+/// A range.
+#[derive(Clone, Copy)]
+pub struct Range {
+    pub range_type: RangeType,
+    pub general_flags: u8,
+    pub type_specific_flags: u8,
+    pub granularity: u64,
+    pub address_min: u64,
+    pub address_max: u64,
+    pub translation_offset: u64,
+    pub address_length: u64,
+}
+
+fn u64_at(record: &[u8; RECORD_LENGTH], place: usize) -> u64 {
+    let mut number = [0; 8];
+    number.copy_from_slice(&record[place..place + 8]);
+    u64::from_le_bytes(number)
+}
+
+impl Range {
+    pub fn read(record: &[u8; RECORD_LENGTH]) -> Range {
+        Range {
+            range_type: match record[3] {
+                0 => RangeType::Memory,
+                1 => RangeType::Io,
+                2 => RangeType::Bus,
+                other => RangeType::Unknown(other),
+            },
+            general_flags: record[4],
+            type_specific_flags: record[5],
+            granularity: u64_at(record, 6),
+            address_min: u64_at(record, 14),
+            address_max: u64_at(record, 22),
+            translation_offset: u64_at(record, 30),
+            address_length: u64_at(record, 38),
+        }
+    }
+}
+
+/// The bytes before the end tag, of which each tag and length is tested.
+pub fn records(bytes: &[u8]) -> Result<&[u8], Fault> {
+    let mut rest = bytes;
+    loop {
+        match *rest.first().ok_or(Fault::NoEndTag)? {
+            RECORD_TAG => rest = rest.get(RECORD_LENGTH..).ok_or(Fault::CutRecord)?,
+            END_TAG => return Ok(&bytes[..bytes.len() - rest.len()]),
+            tag => return Err(Fault::UnknownTag(tag)),
+        }
+    }
+}

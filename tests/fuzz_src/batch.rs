@@ -1,0 +1,180 @@
+//! A batch: many inputs in one process.
+
+use crate::commands::{COMMANDS, Command};
+use crate::counts::Counts;
+use crate::expected;
+use crate::input::Input;
+use crate::mutate::Mutator;
+use crate::program::{self, Ending, FILES};
+use crate::random::Random;
+use std::collections::HashSet;
+use std::fs;
+use std::hash::{DefaultHasher, Hash, Hasher};
+use std::io;
+use std::path::{Path, PathBuf};
+use std::process::ExitCode;
+use std::sync::atomic::{AtomicU64, Ordering};
+use std::thread;
+use std::time::{Duration, Instant};
+
+const INPUTS: u64 = 200_000;
+
+/// An input that takes longer hangs.
+const INPUT_LIMIT: Duration = Duration::from_secs(20);
+
+/// One input in so many is also listed by the program in a process of its own.
+const PROCESS_SHARE: u64 = 1000;
+
+/// The most inputs that a command's pool grows to.
+const POOL: usize = 400;
+
+/// The exit status after a hang.
+pub const HANGS: u8 = 3;
+
+/// How many inputs are done.
+static DONE: AtomicU64 = AtomicU64::new(0);
+
+/// Which batch it is; its inputs follow from the seed and the index alone.
+pub struct Batch<'a> {
+    pub program: &'a str,
+    pub samples: &'a str,
+    pub room: &'a str,
+    pub seed: u64,
+    pub index: u64,
+    /// How long it may take. It then ends early.
+    pub milliseconds: u64,
+    /// Whether each input is written to a file first, where it is found after a crash.
+    pub is_traced: bool,
+}
+
+/// The inputs that mutations of a command begin with.
+struct Pool {
+    command: &'static Command,
+    inputs: Vec<Input>,
+    /// What was listed so far, by the first words of its lines.
+    shapes: HashSet<u64>,
+    counts: Counts,
+}
+
+/// The inputs of the samples of a command.
+fn samples(command: &Command, folder: &str) -> io::Result<Vec<Input>> {
+    let Some((extension, third_word)) = command.samples else {
+        return Ok(Vec::new());
+    };
+    let paths: Result<Vec<PathBuf>, io::Error> = fs::read_dir(folder)?.map(|entry| Ok(entry?.path())).collect();
+    let mut paths = paths?;
+    paths.retain(|path| path.extension().is_some_and(|it| it == extension));
+    paths.sort();
+    let third_word = || third_word.map(|word| word.as_bytes().to_vec());
+    let input = |path| Ok(Input { bytes: fs::read(path)?, third_word: third_word() });
+    paths.into_iter().map(input).collect()
+}
+
+impl Pool {
+    fn new(command: &'static Command, folder: &str) -> io::Result<Pool> {
+        let mut inputs = (command.seeds)();
+        inputs.extend(samples(command, folder)?);
+        Ok(Pool { command, inputs, shapes: HashSet::new(), counts: Counts::default() })
+    }
+
+    /// Counts an input, and takes it up if its listing has another shape than those before.
+    fn keep(&mut self, input: Input, ending: &Ending) {
+        let mut lines = 0;
+        let mut shape = DefaultHasher::new();
+        for line in ending.output.split_inclusive(|c| *c == b'\n') {
+            lines += 1;
+            if lines <= 40 {
+                line.split(|c| *c == b' ').find(|word| !word.is_empty()).hash(&mut shape);
+            }
+        }
+        match ending.status {
+            0 => self.counts.listed += 1,
+            1 => self.counts.refused += 1,
+            _ => self.counts.other_words += 1,
+        }
+        self.counts.lines += lines;
+        if ending.status == 0 && self.inputs.len() < POOL && self.shapes.insert(shape.finish()) {
+            self.inputs.push(input);
+        }
+    }
+}
+
+/// Ends the process where an input hangs.
+fn watch() {
+    let mut last = (DONE.load(Ordering::Relaxed), Instant::now());
+    loop {
+        thread::sleep(Duration::from_millis(500));
+        let done = DONE.load(Ordering::Relaxed);
+        if done != last.0 {
+            last = (done, Instant::now());
+        } else if last.1.elapsed() > INPUT_LIMIT {
+            std::process::exit(HANGS.into());
+        }
+    }
+}
+
+fn show(title: &str, ending: &Ending) -> String {
+    let (output, message) = (String::from_utf8_lossy(&ending.output), String::from_utf8_lossy(&ending.message));
+    format!("{title}: status {}\n{output}{message}", ending.status)
+}
+
+impl Batch<'_> {
+    /// The file that the batch writes a difference to.
+    pub fn difference(&self) -> PathBuf {
+        Path::new(self.room).join(format!("difference-{}", self.index))
+    }
+
+    /// The file that a traced batch writes each input to.
+    pub fn trace(&self) -> PathBuf {
+        Path::new(self.room).join(format!("trace-{}", self.index))
+    }
+
+    fn random(&self) -> Random {
+        let mut hasher = DefaultHasher::new();
+        (self.seed, self.index).hash(&mut hasher);
+        Random::seeded(hasher.finish() | 1)
+    }
+
+    /// Runs the batch, and prints the counts of each command.
+    pub fn start(&self) -> io::Result<ExitCode> {
+        let mut pools = COMMANDS.iter().map(|command| Pool::new(command, self.samples)).collect::<Result<Vec<_>, _>>()?;
+        let mut random = self.random();
+        let (start, limit) = (Instant::now(), Duration::from_millis(self.milliseconds));
+        thread::spawn(watch);
+        let mut differs = false;
+        while !differs && DONE.load(Ordering::Relaxed) < INPUTS && start.elapsed() < limit {
+            let index = random.below(pools.len() as u64) as usize;
+            differs = self.step(&mut pools[index], &mut random)?;
+            DONE.fetch_add(1, Ordering::Relaxed);
+        }
+        for pool in &pools {
+            println!("{} {}", pool.command.name, pool.counts);
+        }
+        Ok(ExitCode::SUCCESS)
+    }
+
+    /// Runs one input, and says whether the program differed.
+    fn step(&self, pool: &mut Pool, random: &mut Random) -> io::Result<bool> {
+        let input = Mutator { command: pool.command, pool: &pool.inputs, random }.input();
+        let file = FILES[random.below(FILES.len() as u64) as usize];
+        let part = if random.below(8) == 0 { 1 + random.below(200) as usize } else { usize::MAX };
+        if self.is_traced {
+            fs::write(self.trace(), format!("command: {}\n{input}", pool.command.name))?;
+        }
+        let expected = expected::ending(pool.command, &input)?;
+        let mut ending = program::run(pool.command.name, file, &input, part);
+        if ending == expected && random.below(PROCESS_SHARE) == 0 {
+            let file = Path::new(self.room).join(format!("input-{}", self.index));
+            ending = program::run_process(Path::new(self.program), pool.command.name, &file, &input)?;
+        }
+        if ending == expected {
+            pool.keep(input, &ending);
+            return Ok(false);
+        }
+        pool.counts.differed += 1;
+        let (rust, proved) = (show("plain Rust", &expected), show("the program", &ending));
+        let report = format!("command: {}\n{input}{rust}{proved}", pool.command.name);
+        fs::write(self.difference(), report)?;
+        Ok(true)
+    }
+}

@@ -1,0 +1,52 @@
+//! The commands of the program: a module each, and a line in [`COMMANDS`].
+
+use crate::input::Input;
+use crate::listings::Outcome;
+use crate::random::Random;
+use std::io;
+
+mod config;
+mod info;
+mod log1;
+mod log2;
+mod map;
+mod path;
+mod pci;
+mod time;
+
+pub const COMMANDS: [Command; 8] = [
+    path::COMMAND,
+    log1::COMMAND,
+    log2::COMMAND,
+    config::COMMAND,
+    map::COMMAND,
+    pci::COMMAND,
+    time::COMMAND,
+    info::COMMAND,
+];
+
+/// What a command takes after FILE.
+#[derive(Clone, Copy)]
+pub enum ThirdWord {
+    None,
+    Number,
+    /// A number, or `-` for none.
+    LastEntry,
+}
+
+pub struct Command {
+    pub name: &'static str,
+    pub third_word: ThirdWord,
+    /// What mutations begin with.
+    pub seeds: fn() -> Vec<Input>,
+    /// The extension of the samples that are seeds too, and their third word.
+    pub samples: Option<(&'static str, Option<&'static str>)>,
+    /// Bytes that mutations put in.
+    pub parts: &'static [&'static [u8]],
+    /// Numbers that mutations write, beside those that are at the edge in each format.
+    pub numbers: &'static [u64],
+    /// A mutation of this command's own.
+    pub mutate: Option<fn(&mut Input, &mut Random)>,
+    /// The listing by plain Rust. The number is that of the third word.
+    pub list: fn(&mut Vec<u8>, &[u8], Option<usize>) -> io::Result<Outcome>,
+}

@@ -1,0 +1,35 @@
+//! `path FILE`.
+
+use super::{Command, ThirdWord};
+use crate::input::{Input, hex};
+use crate::listings;
+
+pub const COMMAND: Command = Command {
+    name: "path",
+    third_word: ThirdWord::None,
+    seeds,
+    samples: Some(("dp", None)),
+    parts: &[
+        b"\x7f\xff\x04\0",
+        b"\x7f\x01\x04\0",
+        b"\x7f\0\x04\0",
+        b"\x7f\xff",
+        b"\xa0\xb0\x04\0",
+        b"\x01\x01\x06\0\0\0",
+        b"\x04\0",
+        b"\x03\0",
+        b"\0\x01",
+    ],
+    numbers: &[3, 4, 5, 0x7f, 0xffff],
+    mutate: None,
+    list: |out, bytes, _| listings::path::list(out, bytes),
+};
+
+fn seeds() -> Vec<Input> {
+    let two_instances = "a0b006000a0b a1b1080014151617 7f010400 a2b206001e1f a3b3080028292a2b 7fff0400";
+    let mut long_node = hex("a0b02c01");
+    long_node.extend((0..296).map(|i| i as u8));
+    long_node.extend(hex("7fff0400"));
+    let texts = [two_instances, "7f020400 7fff0400", "7fff0600aabbcc", "a0b0ffff", "a0b00600 0a0b"];
+    texts.map(hex).into_iter().chain([long_node]).map(Input::new).collect()
+}

@@ -1,0 +1,39 @@
+//! What plain Rust expects a run of the program to end with.
+
+use crate::commands::{Command, ThirdWord};
+use crate::input::Input;
+use crate::listings::Outcome;
+use crate::program::Ending;
+use std::io;
+
+const USAGE: &[u8] = b"usage: uefi_list COMMAND FILE [ARG]\n";
+const OTHER_WORDS: i32 = 2;
+
+/// The number that a word is: digits alone, and at most 2^64 - 1.
+fn decimal(word: &[u8]) -> Option<usize> {
+    if word.is_empty() || !word.iter().all(u8::is_ascii_digit) {
+        return None;
+    }
+    word.iter().try_fold(0usize, |number, c| number.checked_mul(10)?.checked_add(usize::from(c - b'0')))
+}
+
+/// The number that the third word is, if it is a word that the command takes.
+fn argument(kind: ThirdWord, word: Option<&[u8]>) -> Option<Option<usize>> {
+    match (kind, word) {
+        (ThirdWord::None, None) | (ThirdWord::LastEntry, Some(b"-")) => Some(None),
+        (ThirdWord::Number | ThirdWord::LastEntry, Some(word)) => decimal(word).map(Some),
+        _ => None,
+    }
+}
+
+pub fn ending(command: &Command, input: &Input) -> io::Result<Ending> {
+    let Some(argument) = argument(command.third_word, input.third_word.as_deref()) else {
+        return Ok(Ending { status: OTHER_WORDS, output: Vec::new(), message: USAGE.to_vec() });
+    };
+    let mut output = Vec::new();
+    let status = match (command.list)(&mut output, &input.bytes, argument)? {
+        Outcome::Listed => 0,
+        Outcome::Refused => 1,
+    };
+    Ok(Ending { status, output, message: Vec::new() })
+}

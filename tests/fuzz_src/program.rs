@@ -1,0 +1,145 @@
+//! The proved program: linked into this process, and as a process of its own.
+//!
+//! The object file that the program is linked from is linked here too, with `main` and the functions
+//! of the C library for files renamed (`tests/fuzz`). So its `main` is called many times in one
+//! process, and reads and writes what stands in [`Streams`].
+
+use crate::input::Input;
+use std::cell::RefCell;
+use std::ffi::{CStr, OsStr, c_char, c_int};
+use std::fs;
+use std::io;
+use std::os::unix::ffi::OsStrExt;
+use std::path::Path;
+use std::process::{Command, Stdio};
+
+/// What a run of the program ends with.
+#[derive(PartialEq, Eq, Default)]
+pub struct Ending {
+    pub status: i32,
+    pub output: Vec<u8>,
+    pub message: Vec<u8>,
+}
+
+unsafe extern "C" {
+    fn uefi_list_main(count: c_int, words: *const *const c_char) -> c_int;
+    fn rattle_set_errno(error: c_int);
+}
+
+/// The names by which the program is asked for a file. The first is read by the handle of standard
+/// input, the second is opened.
+pub const FILES: [&str; 2] = ["/dev/stdin", "input"];
+const OPENED: &CStr = c"input";
+
+const STANDARD_INPUT: c_int = 0;
+const STANDARD_OUTPUT: c_int = 1;
+const STANDARD_ERROR: c_int = 2;
+const OPENED_FILE: c_int = 3;
+
+const NO_SUCH_FILE: c_int = 2;
+const BAD_HANDLE: c_int = 9;
+const NOT_SEEKABLE: c_int = 29;
+
+/// What the program is given, and what it wrote.
+#[derive(Default)]
+struct Streams {
+    words: Vec<Vec<u8>>,
+    input: Vec<u8>,
+    /// How many bytes of the input were read.
+    taken: usize,
+    /// How many bytes a read or a write takes at most.
+    part: usize,
+    output: Vec<u8>,
+    message: Vec<u8>,
+}
+
+thread_local! {
+    static STREAMS: RefCell<Streams> = RefCell::default();
+}
+
+fn fail(error: c_int) -> isize {
+    unsafe { rattle_set_errno(error) };
+    -1
+}
+
+/// The word at an index: its length, -1 if there is none, -2 if it is longer than the room.
+#[unsafe(no_mangle)]
+extern "C" fn rattle_arg(index: usize, room: *mut u8, length: usize) -> isize {
+    STREAMS.with_borrow(|streams| match streams.words.get(index) {
+        None => -1,
+        Some(word) if word.len() > length => -2,
+        Some(word) => {
+            unsafe { room.copy_from_nonoverlapping(word.as_ptr(), word.len()) };
+            word.len() as isize
+        }
+    })
+}
+
+#[unsafe(no_mangle)]
+extern "C" fn fuzz_open(path: *const c_char, _flags: c_int) -> c_int {
+    if unsafe { CStr::from_ptr(path) } == OPENED { OPENED_FILE } else { fail(NO_SUCH_FILE) as c_int }
+}
+
+#[unsafe(no_mangle)]
+extern "C" fn fuzz_close(_handle: c_int) -> c_int {
+    0
+}
+
+/// Standard input is as a pipe is.
+#[unsafe(no_mangle)]
+extern "C" fn fuzz_lseek(_handle: c_int, _offset: i64, _whence: c_int) -> i64 {
+    fail(NOT_SEEKABLE) as i64
+}
+
+#[unsafe(no_mangle)]
+extern "C" fn fuzz_read(handle: c_int, room: *mut u8, length: usize) -> isize {
+    if !matches!(handle, STANDARD_INPUT | OPENED_FILE) {
+        return fail(BAD_HANDLE);
+    }
+    STREAMS.with_borrow_mut(|streams| {
+        let rest = &streams.input[streams.taken..];
+        let count = rest.len().min(length).min(streams.part);
+        unsafe { room.copy_from_nonoverlapping(rest.as_ptr(), count) };
+        streams.taken += count;
+        count as isize
+    })
+}
+
+#[unsafe(no_mangle)]
+extern "C" fn fuzz_write(handle: c_int, bytes: *const u8, length: usize) -> isize {
+    STREAMS.with_borrow_mut(|streams| {
+        let count = length.min(streams.part);
+        let bytes = unsafe { std::slice::from_raw_parts(bytes, count) };
+        match handle {
+            STANDARD_OUTPUT => streams.output.extend_from_slice(bytes),
+            STANDARD_ERROR => streams.message.extend_from_slice(bytes),
+            _ => return fail(BAD_HANDLE),
+        }
+        count as isize
+    })
+}
+
+/// Runs the program in this process. Reads and writes take at most this many bytes.
+pub fn run(command: &str, file: &str, input: &Input, part: usize) -> Ending {
+    let words = ["uefi_list", command, file].map(Vec::from).into_iter();
+    let words = words.chain(input.third_word.clone()).collect();
+    STREAMS.set(Streams { words, input: input.bytes.clone(), part, ..Streams::default() });
+    let status = unsafe { uefi_list_main(0, std::ptr::null()) };
+    let streams = STREAMS.take();
+    Ending { status, output: streams.output, message: streams.message }
+}
+
+/// Runs the program in a process of its own, with the input in this file.
+pub fn run_process(program: &Path, command: &str, file: &Path, input: &Input) -> io::Result<Ending> {
+    fs::write(file, &input.bytes)?;
+    let third_word = input.third_word.as_deref().map(OsStr::from_bytes);
+    let ran = Command::new(program)
+        .arg(command)
+        .arg(file)
+        .args(third_word)
+        .stdin(Stdio::null())
+        .output()?;
+    // A signal isn't a status of the program.
+    let status = ran.status.code().unwrap_or(-1);
+    Ok(Ending { status, output: ran.stdout, message: ran.stderr })
+}

@@ -1,0 +1,139 @@
+//! A whole run: batches on each thread until the time is over, and what they found.
+
+use crate::batch::{Batch, HANGS};
+use crate::commands::COMMANDS;
+use crate::counts::Counts;
+use std::fs;
+use std::io;
+use std::path::Path;
+use std::process::{Command, ExitCode, Output};
+use std::sync::Mutex;
+use std::sync::atomic::{AtomicBool, AtomicU64, Ordering};
+use std::thread;
+use std::time::{Duration, Instant};
+
+pub struct Run<'a> {
+    pub program: &'a str,
+    pub samples: &'a str,
+    pub room: &'a str,
+    pub seconds: u64,
+    pub seed: u64,
+    pub threads: u64,
+}
+
+/// What the threads of a run share.
+struct Shared {
+    end: Instant,
+    next_batch: AtomicU64,
+    has_ended: AtomicBool,
+    counts: Mutex<[Counts; COMMANDS.len()]>,
+    reports: Mutex<Vec<String>>,
+}
+
+impl Shared {
+    /// Adds what a batch printed. `None` if that isn't a line for each command.
+    fn add(&self, lines: &str) -> Option<()> {
+        let mut lines = lines.lines();
+        let mut counts = self.counts.lock().unwrap();
+        for (command, sum) in COMMANDS.iter().zip(counts.iter_mut()) {
+            let mut words = lines.next()?.split(' ');
+            if words.next()? != command.name {
+                return None;
+            }
+            *sum += Counts::from_words(words)?;
+        }
+        Some(())
+    }
+
+    fn report(&self, report: String) {
+        self.reports.lock().unwrap().push(report);
+        self.has_ended.store(true, Ordering::Relaxed);
+    }
+}
+
+impl Run<'_> {
+    fn batch(&self, index: u64, left: Duration, is_traced: bool) -> Batch<'_> {
+        let Run { program, samples, room, seed, .. } = *self;
+        Batch { program, samples, room, seed, index, milliseconds: left.as_millis() as u64, is_traced }
+    }
+
+    /// Runs a batch in a process of its own.
+    fn process(&self, batch: &Batch<'_>) -> io::Result<Output> {
+        let numbers = [batch.seed, batch.index, batch.milliseconds].map(|number| number.to_string());
+        Command::new(std::env::current_exe()?)
+            .args(["batch", batch.program, batch.samples, batch.room])
+            .args(numbers)
+            .args(batch.is_traced.then_some("trace"))
+            .output()
+    }
+
+    /// Runs batches until the time is over or one found something.
+    fn work(&self, shared: &Shared) -> io::Result<()> {
+        loop {
+            let left = shared.end.saturating_duration_since(Instant::now());
+            if left.is_zero() || shared.has_ended.load(Ordering::Relaxed) {
+                return Ok(());
+            }
+            let batch = self.batch(shared.next_batch.fetch_add(1, Ordering::Relaxed), left, false);
+            let ran = self.process(&batch)?;
+            let counted = ran.status.success() && shared.add(&String::from_utf8_lossy(&ran.stdout)).is_some();
+            if !counted {
+                shared.report(self.seek_crash(batch.index, &ran)?);
+            } else if let Ok(report) = fs::read_to_string(batch.difference()) {
+                shared.report(report);
+            }
+        }
+    }
+
+    /// Runs a batch again that crashed or hung, with each input in a file, so that the last is found.
+    fn seek_crash(&self, index: u64, ran: &Output) -> io::Result<String> {
+        let batch = self.batch(index, Duration::MAX, true);
+        let again = self.process(&batch)?;
+        let what = if ran.status.code() == Some(HANGS.into()) { "hangs" } else { "crashes" };
+        let input = fs::read_to_string(batch.trace()).unwrap_or("no input was found\n".into());
+        let messages = String::from_utf8_lossy(&ran.stderr);
+        Ok(format!("{what} in batch {index} ({}; again: {})\n{input}{messages}", ran.status, again.status))
+    }
+
+    /// Prints the counts, and what differed.
+    fn tell(&self, shared: &Shared, took: Duration) -> io::Result<ExitCode> {
+        let counts = shared.counts.lock().unwrap();
+        let reports = shared.reports.lock().unwrap();
+        let mut all = Counts::default();
+        for (command, counts) in COMMANDS.iter().zip(counts.iter()) {
+            println!("fuzz: {:<7} {}", command.name, table_line(counts));
+            all += *counts;
+        }
+        for (i, report) in reports.iter().enumerate() {
+            fs::write(Path::new(self.room).join(format!("report-{i}")), report)?;
+            println!("fuzz: DIFFERENCE\n{report}");
+        }
+        let (inputs, seconds) = (all.inputs(), took.as_secs());
+        println!("fuzz: {inputs} inputs in {seconds} seconds, seed {}: {} differed", self.seed, reports.len());
+        Ok(ExitCode::from(u8::from(!reports.is_empty())))
+    }
+
+    pub fn start(&self) -> io::Result<ExitCode> {
+        let start = Instant::now();
+        let shared = Shared {
+            end: start + Duration::from_secs(self.seconds),
+            next_batch: AtomicU64::new(0),
+            has_ended: AtomicBool::new(false),
+            counts: Mutex::default(),
+            reports: Mutex::default(),
+        };
+        thread::scope(|scope| {
+            let threads: Vec<_> = (0..self.threads).map(|_| scope.spawn(|| self.work(&shared))).collect();
+            threads.into_iter().try_for_each(|thread| thread.join().expect("a thread that ends"))
+        })?;
+        self.tell(&shared, start.elapsed())
+    }
+}
+
+fn table_line(counts: &Counts) -> String {
+    let Counts { listed, refused, other_words, differed, lines } = counts;
+    format!(
+        "{:>10} inputs: {listed:>10} listed ({lines:>11} lines), {refused:>10} refused, {other_words:>8} other words, {differed} differed",
+        counts.inputs()
+    )
+}
