@@ -9,11 +9,12 @@ use Rattle.uefi_hii.specs.Hex.{hex}
 use Rattle.uefi_hii.specs.Pairs.{Pair}
 use Rattle.uefi_hii.specs.Values.{number, guid, name}
 
--- An element: where its bytes stand in the block of the configuration, how many they are, and the bytes.
+-- An element: where its bytes stand in the block of the configuration, how many they are, the bytes, and the pairs that follow them.
 pub record Element : Type 0 where
   pub offset : ℕ
   pub width : ℕ
   pub value : List ℕ
+  pub nvconfig : List Pair
 
 -- A configuration: the GUID, name and device path of its header, the identifier of an alternative one, and its elements.
 pub record Configuration : Type 0 where
@@ -61,10 +62,11 @@ SpellsHeader _ c = ⊥
 abbrev pub IsSkipped : Pair → Type 0
 IsSkipped pair = (pair.key ≢ codes "OFFSET") × (pair.key ≢ codes "GUID")
 
--- An element: offset, width and value, and then skipped pairs.
+-- An element: offset, width and value, and then skipped pairs, which it keeps in order.
 abbrev pub SpellsElement : List Pair → Element → Type 0
 SpellsElement (o ∷ w ∷ v ∷ skipped) e =
-    (number_in (codes "OFFSET") o ≡ Some e.offset) × (number_in (codes "WIDTH") w ≡ Some e.width) × (bytes_in v ≡ Some e.value) × AllByRecursion IsSkipped skipped
+    (number_in (codes "OFFSET") o ≡ Some e.offset) × (number_in (codes "WIDTH") w ≡ Some e.width) × (bytes_in v ≡ Some e.value)
+    × (skipped ≡ e.nvconfig) × AllByRecursion IsSkipped skipped
 SpellsElement _ e = ⊥
 
 -- Elements, one after another.

@@ -60,9 +60,9 @@ abbrev pub StopsAt : List Pair → Type 0
 StopsAt [] = ⊤
 StopsAt (pair ∷ pairs) = ¬ IsSkipped pair
 
--- Pairs were skipped up to the next that isn't.
-abbrev pub Skips : List Pair → List Pair → Type 0
-Skips before after = (skipped : List Pair) × (before ≡ skipped ++ after) × AllByRecursion IsSkipped skipped × StopsAt after
+-- These pairs were skipped, up to the next that isn't.
+abbrev pub Skips : List Pair → List Pair → List Pair → Type 0
+Skips before skipped after = (before ≡ skipped ++ after) × AllByRecursion IsSkipped skipped × StopsAt after
 
 -- The pairs begin with an element, with all that it skips; or one of its pairs is missing, or memory ran out.
 abbrev pub TakesElement : {A : Type 0} → List Pair → Result (ConfigurationStringElement A) ParseError → List Pair → Type 0

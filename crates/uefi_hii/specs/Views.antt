@@ -4,6 +4,7 @@ use Rattle.std.specs.Borrow.{Bor}
 use Rattle.uefi_path.specs.Views.{boxed_nodes}
 use Rattle.uefi_hii.specs.declared.configuration.ConfigurationString.{ConfigurationString}
 use Rattle.uefi_hii.specs.declared.configuration.ConfigurationStringElement.{ConfigurationStringElement}
+use Rattle.uefi_hii.specs.declared.configuration.NvPair.{NvPair}
 use Rattle.uefi_hii.specs.declared.error.ParseError.{ParseError}
 use Rattle.uefi_hii.specs.declared.hex.HexBytes.{HexBytes}
 use Rattle.uefi_hii.specs.declared.multi.MultiConfigurationStringIter.{MultiConfigurationStringIter}
@@ -28,8 +29,12 @@ pairs_left iter = pairs iter.rest.now
 abbrev pub uncut_pairs : {A : Type 0} → MultiConfigurationStringIter A → List Pair
 uncut_pairs iter = pairs_left iter.pairs
 
+-- A pair, as texts of its own.
+abbrev pub nv_pair_of : {A : Type 0} → NvPair A → Pair
+nv_pair_of pair = record { key = string_bytes pair.key; value = option_map string_bytes pair.value }
+
 abbrev pub element_of : {A : Type 0} → ConfigurationStringElement A → Element
-element_of e = record { offset = e.offset; width = e.width; value = e.value.items }
+element_of e = record { offset = e.offset; width = e.width; value = e.value.items; nvconfig = map nv_pair_of e.nvconfig.items }
 
 abbrev pub configuration_of : {A : Type 0} → ConfigurationString A → Configuration
 configuration_of c = record {

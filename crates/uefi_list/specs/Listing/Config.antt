@@ -7,6 +7,7 @@ use Rattle.uefi_hii.specs.declared.error.ConfigHdrSection.{ConfigHdrSection}
 use Rattle.uefi_hii.specs.declared.error.ConfigHdrSection.TheVariants as section
 use Rattle.uefi_hii.specs.declared.error.ParseError.{ParseError}
 use Rattle.uefi_hii.specs.declared.error.ParseError.TheVariants.{ConfigHdr, BlockName, BlockConfig, Memory}
+use Rattle.uefi_hii.specs.Pairs.{Pair}
 use Rattle.uefi_hii.specs.Configuration.{Configuration, Element}
 use Rattle.uefi_hii.specs.Cut.{Part, Cut, results_of}
 use Rattle.uefi_list.specs.declared.listing.Outcome.{Outcome}
@@ -28,8 +29,21 @@ unfoldable pub element_line : Element → List ℕ
 element_line element =
     codes "  element " ++ decimal element.offset ++ codes " " ++ decimal element.width ++ gap_before element.value ++ hex_of element.value ++ codes "\n"
 
+-- An equals sign and the value, if there is one.
+unfoldable pub equals_value : Option (List ℕ) → List ℕ
+equals_value None = codes ""
+equals_value (Some value) = codes "=" ++ value
+
+-- A pair that an element keeps: its key, and its value if it has one. After `nv` a space stands, also before an empty key.
+unfoldable pub nv_line : Pair → List ℕ
+nv_line pair = codes "  nv " ++ pair.key ++ equals_value pair.value ++ codes "\n"
+
+-- The line of an element, and a line for each pair that it keeps.
+unfoldable pub element_lines : Element → List ℕ
+element_lines element = element_line element ++ flat_map nv_line element.nvconfig
+
 unfoldable pub configuration_lines : Configuration → List ℕ
-configuration_lines c = header_lines c.guid c.name c.path ++ alt_line c.alt_cfg_id ++ flat_map element_line c.elements
+configuration_lines c = header_lines c.guid c.name c.path ++ alt_line c.alt_cfg_id ++ flat_map element_lines c.elements
 
 -- The name of an error; running out of memory has none, since it is not listed.
 abbrev pub section_name : ConfigHdrSection → List ℕ
