@@ -14,7 +14,7 @@ use Rattle.uefi_hii.specs.Configuration.{Configuration, IsSkipped, Spells, numbe
 use Rattle.uefi_hii.specs.Slots.{Expects, IsKey, OffsetSlot, ValueSlot, WidthSlot}
 use Rattle.uefi_hii.specs.Group.{EndsBefore}
 use Rattle.uefi_hii.specs.Cut.{first_pair}
-use Rattle.uefi_hii.specs.Views.{configuration_of, element_of}
+use Rattle.uefi_hii.specs.Views.{configuration_of, element_of, nv_pair_of}
 use Rattle.uefi_hii.specs.Reading.{TakesGroup}
 use Rattle.uefi_hii.specs.Taking.{MissesElement, Skips, StopsAt, Takes, TakesElement, TakesError, TakesHeader}
 use Rattle.uefi_hii.proofs.Failing.{fails_after}
@@ -124,10 +124,10 @@ ends before after c g other = (g.body, g.whole, record { not_empty = spells_some
 -- The pairs of an element, one after another.
 pub takes_element : {A : Type 0} (before one two three after : List Pair) (e : ConfigurationStringElement A) (text : List ℕ)
     → Takes (number_in (codes "OFFSET")) before (Some e.offset) one → Takes (number_in (codes "WIDTH")) one (Some e.width) two → Takes (value_at (codes "VALUE")) two (Some text) three
-    → e.value.items ≡ reverse (hex text) → Skips three after → TakesElement before (Ok e) after
+    → e.value.items ≡ reverse (hex text) → Skips three (map nv_pair_of e.nvconfig.items) after → TakesElement before (Ok e) after
 takes_element before one two three after e text o w v is s = (
-  o.0 ∷ w.0 ∷ v.0 ∷ s.0,
-  o.1 ∙ ap (λ x. o.0 ∷ x) (w.1 ∙ ap (λ x. w.0 ∷ x) (v.1 ∙ ap (λ x. v.0 ∷ x) s.1)),
-  (o.2, w.2, ap (option_map (λ x. reverse (hex x))) v.2 ∙ ap Some (sym is), s.2),
-  s.3,
+  o.0 ∷ w.0 ∷ v.0 ∷ map nv_pair_of e.nvconfig.items,
+  o.1 ∙ ap (λ x. o.0 ∷ x) (w.1 ∙ ap (λ x. w.0 ∷ x) (v.1 ∙ ap (λ x. v.0 ∷ x) s.0)),
+  (o.2, w.2, ap (option_map (λ x. reverse (hex x))) v.2 ∙ ap Some (sym is), refl, s.1),
+  s.2,
 )

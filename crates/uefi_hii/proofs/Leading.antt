@@ -10,7 +10,7 @@ use Rattle.uefi_hii.specs.Pairs.{Pair}
 use Rattle.uefi_hii.specs.Values.{number}
 use Rattle.uefi_hii.specs.Configuration.{Configuration, Element, HasPath, IsSkipped, Spells, SpellsElement, SpellsElements, SpellsHeader, guid_in, name_in, number_in}
 use Rattle.uefi_hii.specs.Slots.{AltSlot, GuidSlot, NameSlot, OffsetSlot, PathSlot, Slot, ValueSlot, WidthSlot}
-use Rattle.uefi_hii.proofs.Machine.{AfterGuid, AfterName, AfterOffset, AfterWidth, InBody, Leads, Next, Start, State, Stop, element, expect, header_of, in_body, leads_on, leads_one, step, with_alt, with_element}
+use Rattle.uefi_hii.proofs.Machine.{AfterGuid, AfterName, AfterOffset, AfterWidth, InBody, Leads, Next, Start, State, Stop, element, expect, header_of, in_body, last_with_pair, leads_on, leads_one, step, with_alt, with_element, with_pair, with_skipped}
 use Rattle.uefi_hii.proofs.PathIn.{path_in-is}
 
 -- The test of a key, where the pair has it, and where it has another.
@@ -64,16 +64,16 @@ step-offset c p n e =
     let key : p.key ≡ codes "OFFSET" = number_key (codes "OFFSET") p n e in
     in_body-offset c c.elements c.alt_cfg_id _ _ _ p n (apart p.key _ (codes "ALTCFG") key refl) (is_key p.key _ key) e
 
--- Behind an element, a pair of neither key is skipped.
+-- Behind an element, a pair of neither key is skipped, and the last element keeps it.
 in_body-skip : (c : Configuration) (es : List Element) (alt : Option ℕ) (a o g : Bool) (p : Pair) → es ≢ [] → o ≡ false → g ≡ false
-    → in_body c es alt a o g p ≡ Next (InBody c)
+    → in_body c es alt a o g p ≡ Next (InBody (with_skipped c p))
 unfolding in_body
 in_body-skip c [] alt a o g p some o_is g_is = absurd (some refl)
 in_body-skip c (x ∷ es) alt a true g p some o_is g_is = cc
 in_body-skip c (x ∷ es) alt a false true p some o_is g_is = cc
 in_body-skip c (x ∷ es) alt a false false p some o_is g_is = refl
 
-step-skip : (c : Configuration) (p : Pair) → c.elements ≢ [] → IsSkipped p → step (InBody c) p ≡ Next (InBody c)
+step-skip : (c : Configuration) (p : Pair) → c.elements ≢ [] → IsSkipped p → step (InBody c) p ≡ Next (InBody (with_skipped c p))
 unfolding step
 step-skip c p some s = in_body-skip c c.elements c.alt_cfg_id _ _ _ p some (is_not_key p.key _ s.0) (is_not_key p.key _ s.1)
 
@@ -135,11 +135,27 @@ leads_header (g ∷ n ∷ p ∷ a ∷ []) c s =
     (leads_on Start _ _ (g ∷ n ∷ p ∷ []) (a ∷ []) (leads_three g n p c s.0 s.1 s.2) (leads_one _ _ a (step-alt c.guid c.name c.path a s.3.0 s.3.1)))
 leads_header (g ∷ n ∷ p ∷ a ∷ b ∷ h) c s = absurd s
 
--- Skipped pairs lead nowhere else.
-leads_skipped : (ps : List Pair) (c : Configuration) → c.elements ≢ [] → AllByRecursion IsSkipped ps → Leads (InBody c) ps (InBody c)
+-- The last of elements skips a pair more.
+last_with_pair-push : (es : List Element) (e : Element) (p : Pair) → last_with_pair (es ++ e ∷ []) p ≡ es ++ with_pair e p ∷ []
+last_with_pair-push [] e p = refl
+last_with_pair-push (f ∷ []) e p = refl
+last_with_pair-push (f ∷ g ∷ es) e p = ap (λ x. f ∷ x) (last_with_pair-push (g ∷ es) e p)
+
+-- An element, and pairs more that it skips.
+abbrev with_pairs : Element → List Pair → Element
+with_pairs e ps = record e { nvconfig = e.nvconfig ++ ps }
+
+-- Skipped pairs lead to the configuration whose last element has them.
+leads_skipped : (ps : List Pair) (c : Configuration) (e : Element) → AllByRecursion IsSkipped ps
+    → Leads (InBody (with_element c e)) ps (InBody (with_element c (with_pairs e ps)))
 unfolding Leads
-leads_skipped [] c some s = refl
-leads_skipped (p ∷ ps) c some s = (InBody c, step-skip c p some s.0, leads_skipped ps c some s.1)
+leads_skipped [] c e s = ap (λ x. InBody (with_element c (record e { nvconfig = x }))) (sym (append-nil e.nvconfig))
+leads_skipped (p ∷ ps) c e s = (
+  InBody (with_element c (with_pair e p)),
+  step-skip (with_element c e) p (push_some c.elements e) s.0 ∙ ap (λ x. Next (InBody (record c { elements = x }))) (last_with_pair-push c.elements e p),
+  subst (λ x. Leads (InBody (with_element c (with_pair e p))) ps (InBody (with_element c (record e { nvconfig = x })))) (append_assoc e.nvconfig (p ∷ []) ps)
+      (leads_skipped ps c (with_pair e p) s.1),
+)
 
 -- An element leads to the configuration with it, and elements to that with all of them.
 leads_element : (ps : List Pair) (e : Element) (c : Configuration) → SpellsElement ps e → Leads (InBody c) ps (InBody (with_element c e))
@@ -154,9 +170,10 @@ leads_element (o ∷ w ∷ v ∷ ps) e c s = (
     AfterWidth c e.offset e.width,
     expect-some WidthSlot (AfterWidth c e.offset) _ e.width s.1,
     (
-      InBody (with_element c e),
+      InBody (with_element c (element e.offset e.width e.value)),
       expect-some ValueSlot (λ x. InBody (with_element c (element e.offset e.width x))) _ e.value s.2,
-      leads_skipped ps (with_element c e) (push_some c.elements e) s.3,
+      subst (λ x. Leads (InBody (with_element c (element e.offset e.width e.value))) ps (InBody (with_element c (record e { nvconfig = x })))) s.3
+          (leads_skipped ps c (element e.offset e.width e.value) s.4),
     ),
   ),
 )

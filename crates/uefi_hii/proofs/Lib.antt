@@ -17,7 +17,6 @@ pub mod Cuts
 pub mod Joined
 pub mod Failing
 pub mod Taken
-pub mod Skipping
 pub mod Headers
 pub mod Elements
 pub mod Wholes

@@ -12,7 +12,7 @@ use Rattle.uefi_hii.proofs.PathIn.{path_in}
 
 -- The parts of a configuration, as pairs add them.
 abbrev pub element : ℕ → ℕ → List ℕ → Element
-element o w v = record { offset = o; width = w; value = v }
+element o w v = record { offset = o; width = w; value = v; nvconfig = [] }
 
 abbrev pub header_of : List ℕ → List ℕ → List Node → Configuration
 header_of g n path = record { guid = g; name = n; path = path; alt_cfg_id = None; elements = [] }
@@ -22,6 +22,18 @@ with_alt c id = record c { alt_cfg_id = Some (low_16_bits id) }
 
 abbrev pub with_element : Configuration → Element → Configuration
 with_element c e = record c { elements = c.elements ++ e ∷ [] }
+
+-- An element, and a pair more that it skips; elements, of which the last skips it; and a configuration with them.
+abbrev pub with_pair : Element → Pair → Element
+with_pair e p = record e { nvconfig = e.nvconfig ++ p ∷ [] }
+
+abbrev pub last_with_pair : List Element → Pair → List Element
+last_with_pair [] p = []
+last_with_pair (e ∷ []) p = with_pair e p ∷ []
+last_with_pair (e ∷ f ∷ es) p = e ∷ last_with_pair (f ∷ es) p
+
+abbrev pub with_skipped : Configuration → Pair → Configuration
+with_skipped c p = record c { elements = last_with_pair c.elements p }
 
 -- What was read of the group so far.
 pub data State : Type 0 where
@@ -50,7 +62,7 @@ in_body c [] None false o g p = expect OffsetSlot (AfterOffset c) (number_in (co
 in_body c [] (Some id) a o g p = expect OffsetSlot (AfterOffset c) (number_in (codes "OFFSET") p)
 in_body c (e ∷ es) alt a true g p = expect OffsetSlot (AfterOffset c) (number_in (codes "OFFSET") p)
 in_body c (e ∷ es) alt a false true p = Stop
-in_body c (e ∷ es) alt a false false p = Next (InBody c)
+in_body c (e ∷ es) alt a false false p = Next (InBody (with_skipped c p))
 
 unfoldable pub step : State → Pair → Step
 step Start p = expect GuidSlot AfterGuid (guid_in p)

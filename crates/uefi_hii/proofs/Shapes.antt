@@ -7,11 +7,12 @@ use Rattle.uefi_hii.specs.Pairs.{Pair}
 use Rattle.uefi_hii.specs.Configuration.{Configuration, Element, IsSkipped, Spells, SpellsElement, SpellsElements, SpellsHeader, guid_in, low_16_bits, number_in}
 use Rattle.uefi_hii.specs.Slots.{IsHeader, IsHeaderWithAlt}
 use Rattle.uefi_hii.specs.Reading.{MayRunOut}
+use Rattle.uefi_hii.proofs.Machine.{last_with_pair, with_pair, with_skipped}
 
 pub some_is : {A : Type 0} (o : Option A) (x : A) → o ≡ Some x → IsSome o
 some_is o x e = ap is_some e
 
-pub AllByRecursion-push : {A : Type 0} (P : A → Type 0) (xs : List A) (x : A) → AllByRecursion P xs → P x → AllByRecursion P (xs ++ x ∷ [])
+AllByRecursion-push : {A : Type 0} (P : A → Type 0) (xs : List A) (x : A) → AllByRecursion P xs → P x → AllByRecursion P (xs ++ x ∷ [])
 AllByRecursion-push P [] x p q = (q, tt)
 AllByRecursion-push P (y ∷ xs) x p q = (p.0, AllByRecursion-push P xs x p.1 q)
 
@@ -52,13 +53,13 @@ header_push_alt (g ∷ n ∷ p ∷ b ∷ []) c a id s e f = let k = s.3.2 in cc
 header_push_alt (g ∷ n ∷ p ∷ b ∷ d ∷ h) c a id s e f = absurd s
 
 -- An element and a pair that it skips, and elements and a pair that the last skips.
-element_push_skipped : (ps : List Pair) (e : Element) (p : Pair) → SpellsElement ps e → IsSkipped p → SpellsElement (ps ++ p ∷ []) e
+element_push_skipped : (ps : List Pair) (e : Element) (p : Pair) → SpellsElement ps e → IsSkipped p → SpellsElement (ps ++ p ∷ []) (with_pair e p)
 element_push_skipped [] e p s k = absurd s
 element_push_skipped (o ∷ []) e p s k = absurd s
 element_push_skipped (o ∷ w ∷ []) e p s k = absurd s
-element_push_skipped (o ∷ w ∷ v ∷ ps) e p s k = (s.0, s.1, s.2, AllByRecursion-push IsSkipped ps p s.3 k)
+element_push_skipped (o ∷ w ∷ v ∷ ps) e p s k = (s.0, s.1, s.2, ap (λ x. x ++ p ∷ []) s.3, AllByRecursion-push IsSkipped ps p s.4 k)
 
-elements_push_skipped : (ps : List Pair) (es : List Element) (p : Pair) → es ≢ [] → SpellsElements ps es → IsSkipped p → SpellsElements (ps ++ p ∷ []) es
+elements_push_skipped : (ps : List Pair) (es : List Element) (p : Pair) → es ≢ [] → SpellsElements ps es → IsSkipped p → SpellsElements (ps ++ p ∷ []) (last_with_pair es p)
 elements_push_skipped ps [] p some s k = absurd (some refl)
 elements_push_skipped ps (e ∷ []) p some s k =
     (s.0 ++ p ∷ [], [], ap (λ x. x ++ p ∷ []) (s.2 ∙ ap (λ x. s.0 ++ x) s.4 ∙ append-nil s.0) ∙ sym (append-nil (s.0 ++ p ∷ [])), element_push_skipped s.0 e p s.3 k, refl)
@@ -71,12 +72,12 @@ elements_push ps qs [] e s t = (qs, [], ap (λ x. x ++ qs) s ∙ sym (append-nil
 elements_push ps qs (f ∷ es) e s t = (s.0, s.1 ++ qs, ap (λ x. x ++ qs) s.2 ∙ append_assoc s.0 s.1 qs, s.3, elements_push s.1 qs es e s.4 t)
 
 -- A configuration, and a pair that it skips, or an element more.
-pub spells_skipped : (f : List Pair) (c : Configuration) (p : Pair) → Spells f c → c.elements ≢ [] → IsSkipped p → Spells (f ++ p ∷ []) c
+pub spells_skipped : (f : List Pair) (c : Configuration) (p : Pair) → Spells f c → c.elements ≢ [] → IsSkipped p → Spells (f ++ p ∷ []) (with_skipped c p)
 spells_skipped f c p s some k = record {
   header = s.header;
   rest = s.rest ++ p ∷ [];
   whole = ap (λ x. x ++ p ∷ []) s.whole ∙ append_assoc s.header s.rest (p ∷ []);
-  is_header = s.is_header;
+  is_header = header_of_other s.header c (last_with_pair c.elements p) s.is_header;
   elements = elements_push_skipped s.rest c.elements p some s.elements k;
 }
 

@@ -11,7 +11,7 @@ use Rattle.uefi_hii.specs.Slots.{AltSlot, AreGood, Expects, GuidSlot, IsGood, Na
 use Rattle.uefi_hii.specs.Group.{Gives, Group}
 use Rattle.uefi_hii.specs.Cut.{first_pair}
 use Rattle.uefi_hii.proofs.Leading.{is_other, push_some}
-use Rattle.uefi_hii.proofs.Machine.{AfterGuid, AfterName, AfterOffset, AfterWidth, Fail, InBody, Next, Outcome, Start, State, Step, Stop, element, expect, header_of, in_body, result_at_end, run, run-end, run-fail, run-next, run-stop, step, with_alt, with_element}
+use Rattle.uefi_hii.proofs.Machine.{AfterGuid, AfterName, AfterOffset, AfterWidth, Fail, InBody, Next, Outcome, Start, State, Step, Stop, element, expect, header_of, in_body, result_at_end, run, run-end, run-fail, run-next, run-stop, step, with_alt, with_element, with_skipped}
 use Rattle.uefi_hii.proofs.PathIn.{path_in, path_in-is, path_in-some}
 use Rattle.uefi_hii.proofs.Shapes.{header_good, header_push_alt, header_with_alt_good, some_is, spells_bare, spells_element, spells_header, spells_skipped, spells_some}
 use Rattle.uefi_hii.proofs.Taken.{nothing_in}
@@ -30,7 +30,7 @@ WasRead f (AfterWidth c n m) =
 data BodyStep (c : Configuration) (es : List Element) (alt : Option ℕ) (a o g : Bool) (p : Pair) : Step → Type 0 where
   takes_alt : (id : ℕ) → es ≡ [] → alt ≡ None → number_in (codes "ALTCFG") p ≡ Some id → BodyStep c es alt a o g p (Next (InBody (with_alt c id)))
   takes_offset : (n : ℕ) → number_in (codes "OFFSET") p ≡ Some n → BodyStep c es alt a o g p (Next (AfterOffset c n))
-  skips : es ≢ [] → o ≡ false → g ≡ false → BodyStep c es alt a o g p (Next (InBody c))
+  skips : es ≢ [] → o ≡ false → g ≡ false → BodyStep c es alt a o g p (Next (InBody (with_skipped c p)))
   lacks_alt : es ≡ [] → alt ≡ None → a ≡ true → number_in (codes "ALTCFG") p ≡ None → BodyStep c es alt a o g p (Fail AltSlot)
   lacks_offset : number_in (codes "OFFSET") p ≡ None → ((es ≡ []) × (alt ≡ None) × (a ≡ false)) ⊎ ((es ≡ []) × ((id : ℕ) × (alt ≡ Some id))) ⊎ ((es ≢ []) × (o ≡ true)) → BodyStep c es alt a o g p (Fail OffsetSlot)
   closes : es ≢ [] → g ≡ true → BodyStep c es alt a o g p Stop
@@ -72,7 +72,7 @@ unfolding WasRead
 body_says f c p st s (takes_alt id es alt e) =
     says_next (InBody (with_alt c id)) (spells_header (f ++ p ∷ []) (with_alt c id) (header_push_alt f c p id (spells_bare f c s es) alt e) es)
 body_says f c p st s (takes_offset n e) = says_next (AfterOffset c n) (f, p, refl, s, e)
-body_says f c p st s (skips es o g) = says_next (InBody c) (spells_skipped f c p s es (is_other p.key _ o, is_other p.key _ g))
+body_says f c p st s (skips es o g) = says_next (InBody (with_skipped c p)) (spells_skipped f c p s es (is_other p.key _ o, is_other p.key _ g))
 body_says f c p st s (lacks_alt es alt a e) =
     says_fail AltSlot (header_good f c (spells_bare f c s es) alt, (bytes_eq-Decides p.key (codes "ALTCFG")).0 a) (nothing_in _ e)
 body_says f c p st s (lacks_offset e (inl h)) =
@@ -123,7 +123,7 @@ step_says f (AfterWidth c n m) p h = by_value (bytes_in p) refl
     by_value (Some x) e =
         says_next (InBody (with_element c (element n m x)))
         (subst (λ y. Spells y (with_element c (element n m x))) (sym (push_third f h.0 h.1 h.2 p h.3))
-        (spells_element h.0 (h.1 ∷ h.2 ∷ p ∷ []) c (element n m x) h.4 (h.5, h.6, e, tt)))
+        (spells_element h.0 (h.1 ∷ h.2 ∷ p ∷ []) c (element n m x) h.4 (h.5, h.6, e, refl, tt)))
     by_value None e = says_fail ValueSlot (h.0, h.1 ∷ h.2 ∷ [], h.3, (c, h.4), (some_is _ _ h.5, (some_is _ _ h.6, tt))) (nothing_in _ e)
 
 -- Where no pair is left, the result is that of the pairs that were read.

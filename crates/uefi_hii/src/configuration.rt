@@ -11,7 +11,8 @@ use uefi_path::BoxedDevicePath;
 
 /// An element of a configuration: a part of its block of bytes (UEFI 2.10, 35.2.1 "String Syntax").
 ///
-/// In the text it is the pairs `OFFSET`, `WIDTH` and `VALUE`, in this order.
+/// In the text it is the pairs `OFFSET`, `WIDTH` and `VALUE`, in this order, and the pairs that
+/// follow them, up to the next `OFFSET` or `GUID`.
 #[derive(Drop)]
 pub struct ConfigurationStringElement<A: Allocator = Global> {
     /// Where the bytes begin in the block.
@@ -21,6 +22,20 @@ pub struct ConfigurationStringElement<A: Allocator = Global> {
     /// The bytes that `VALUE` spells, in the order of memory: those that the text spells last come
     /// first.
     pub value: Vec<u8, A>,
+    /// The pairs that follow `VALUE`, up to the next whose key is `OFFSET` or `GUID`, in order. A
+    /// key that comes again is kept again.
+    pub nvconfig: Vec<NvPair<A>, A>,
+}
+
+/// A pair that follows the value of an element (UEFI 2.10, 35.2.1 "String Syntax", `NvConfig`).
+///
+/// Key and value are kept as the text has them: nothing is read as hex.
+#[derive(Drop)]
+pub struct NvPair<A: Allocator = Global> {
+    /// The text before the first `=`, or the whole piece where it has none. It may be empty.
+    pub key: String<A>,
+    /// The text after the first `=`, if there is one.
+    pub value: Option<String<A>>,
 }
 
 /// A configuration (UEFI 2.10, 35.2.1 "String Syntax"): what a driver's form holds, or an

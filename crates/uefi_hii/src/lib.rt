@@ -14,7 +14,7 @@
 //! each text has exactly one is a law.
 #![tactic(auto)]
 
-pub use self::configuration::{ConfigurationString, ConfigurationStringElement};
+pub use self::configuration::{ConfigurationString, ConfigurationStringElement, NvPair};
 pub use self::error::{ConfigHdrSection, ParseError};
 pub use self::filling::fill_from_hex;
 pub use self::hex::HexBytes;

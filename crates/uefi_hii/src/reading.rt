@@ -12,8 +12,8 @@ use crate::filling::hex_bytes;
 use crate::keys;
 use crate::pairs::ConfigurationStringIter;
 use crate::taking::{
-    has_no_pair, is_at, skip_pairs, take_alt_cfg_id, take_guid, take_name, take_number, take_path,
-    take_value,
+    has_no_pair, is_at, take_alt_cfg_id, take_guid, take_name, take_number, take_nvconfig,
+    take_path, take_value,
 };
 use std::alloc::{AllocError, Allocator};
 
@@ -79,7 +79,7 @@ fn read_header<A: Allocator + Copy>(
     })
 }
 
-/// The element that the pairs begin with. The pairs that it skips are taken too.
+/// The element that the pairs begin with, with the pairs that it skips.
 fn read_element<A: Allocator + Copy>(
     alloc: A,
     pairs: &mut ConfigurationStringIter<'_>,
@@ -96,11 +96,12 @@ fn read_element<A: Allocator + Copy>(
         return Err(ParseError::BlockConfig);
     };
     let value = reversed_bytes(alloc, text)?;
-    skip_pairs(pairs);
+    let nvconfig = take_nvconfig(alloc, pairs)?;
     Ok(ConfigurationStringElement {
         offset,
         width,
         value,
+        nvconfig,
     })
 }
 

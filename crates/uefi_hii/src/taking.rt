@@ -1,14 +1,14 @@
 //! Helpers of the readers: each takes the next pair, if it is the one that has to come.
 
-ghost use Rattle.std.specs.Prelude.{◌≡◌, ◌≢◌, ◌∷◌, [], ◌↔◌, IsTrue, IfOk, MatchOption, codes, option_map, string_bytes};
+ghost use Rattle.std.specs.Prelude.{◌≡◌, ◌≢◌, ◌∷◌, [], ◌↔◌, IsTrue, IfOk, MatchOption, codes, map, option_map, string_bytes};
 ghost use Rattle.std.specs.Bool.{MatchBool};
 ghost use Rattle.uefi_hii.specs.Configuration.{value_at, guid_in, name_in, number_in, IsSkipped};
 ghost use Rattle.uefi_hii.specs.Cut.{first_pair};
 ghost use Rattle.uefi_hii.specs.Slots.{IsKey};
 ghost use Rattle.uefi_hii.specs.Taking.{Takes, TakesPath, TakesAlt, Skips, StopsAt};
-ghost use Rattle.uefi_hii.specs.Views.{pair_view, pairs_left};
+ghost use Rattle.uefi_hii.specs.Views.{nv_pair_of, pair_view, pairs_left};
 
-use crate::configuration::ConfigurationString;
+use crate::configuration::{ConfigurationString, NvPair};
 use crate::error::{ConfigHdrSection, ParseError};
 use crate::filling::hex_bytes;
 use crate::keys;
@@ -112,11 +112,36 @@ pub(crate) fn take_alt_cfg_id(
     }
 }
 
-/// Skips the pairs up to the next whose key is `OFFSET` or `GUID`, or to the end.
-pub(crate) fn skip_pairs(pairs: &mut ConfigurationStringIter<'_>)
-    ensures { Skips (pairs_left pairs.old) (pairs_left pairs.new) }
+/// The pairs up to the next whose key is `OFFSET` or `GUID`, or to the end, in order.
+pub(crate) fn take_nvconfig<A: Allocator + Copy>(
+    alloc: A,
+    pairs: &mut ConfigurationStringIter<'_>,
+) -> Result<Vec<NvPair<A>, A>, AllocError>
+    ensures { IfOk result (λ nvconfig. Skips (pairs_left pairs.old)
+        (map nv_pair_of nvconfig.items) (pairs_left pairs.new)) }
 {
-    while let Some(_pair) = next_skipped(pairs) {}
+    let mut nvconfig = Vec::new(alloc);
+    while let Some((key, value)) = next_skipped(pairs) {
+        let pair = nv_pair(alloc, key, value)?;
+        nvconfig.push(pair)?;
+    }
+    Ok(nvconfig)
+}
+
+/// A pair that owns its key and its value.
+fn nv_pair<A: Allocator + Copy>(
+    alloc: A,
+    key: &str,
+    value: Option<&str>,
+) -> Result<NvPair<A>, AllocError>
+    ensures { IfOk result (λ pair. nv_pair_of pair ≡ pair_view (key.entry, value.entry)) }
+{
+    let key = String::from_str(alloc, key)?;
+    let value = match value {
+        Some(value) => Some(String::from_str(alloc, value)?),
+        None => None,
+    };
+    Ok(NvPair { key, value })
 }
 
 /// The next pair, if an element skips it.

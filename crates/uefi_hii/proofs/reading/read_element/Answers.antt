@@ -4,6 +4,6 @@ use Rattle.uefi_hii.proofs.reading.read_element.Goals as goal
 
 pub returns : goal.returns
 returns g c =
-    takes_element (pairs_left c.args.pairs.now) (pairs_left c.take_number.new.pairs) (pairs_left c.take_number-2.new.pairs) (pairs_left c.take_value.new.pairs) (pairs_left c.skip_pairs.new.pairs)
-    (record { offset = c.in-Some.offset; width = c.in-Some-take_number.width; value = c.in_ok-value.value }) c.in-Some-take_value.text.now
-    c.in-Some.ensures c.in-Some-take_number.ensures c.in-Some-take_value.ensures c.in_ok-value.ensures c.skip_pairs.ensures
+    takes_element (pairs_left c.args.pairs.now) (pairs_left c.take_number.new.pairs) (pairs_left c.take_number-2.new.pairs) (pairs_left c.take_value.new.pairs) (pairs_left c.take_nvconfig.new.pairs)
+    (record { offset = c.in-Some.offset; width = c.in-Some-take_number.width; value = c.in_ok-value.value; nvconfig = c.in_ok-nvconfig.nvconfig }) c.in-Some-take_value.text.now
+    c.in-Some.ensures c.in-Some-take_number.ensures c.in-Some-take_value.ensures c.in_ok-value.ensures c.in_ok-nvconfig.ensures
