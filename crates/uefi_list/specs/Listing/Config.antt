@@ -29,14 +29,14 @@ unfoldable pub element_line : Element → List ℕ
 element_line element =
     codes "  element " ++ decimal element.offset ++ codes " " ++ decimal element.width ++ gap_before element.value ++ hex_of element.value ++ codes "\n"
 
--- An equals sign and the value, if there is one.
-unfoldable pub equals_value : Option (List ℕ) → List ℕ
-equals_value None = codes ""
-equals_value (Some value) = codes "=" ++ value
+-- A line to its end: an equals sign and the value, if there is one.
+unfoldable pub value_and_end : Option (List ℕ) → List ℕ
+value_and_end None = codes "\n"
+value_and_end (Some value) = codes "=" ++ value ++ codes "\n"
 
--- A pair that an element keeps: its key, and its value if it has one. After `nv` a space stands, also before an empty key.
+-- A pair that an element keeps: its key, and its value if it has one. A space comes before the key, also before an empty one.
 unfoldable pub nv_line : Pair → List ℕ
-nv_line pair = codes "  nv " ++ pair.key ++ equals_value pair.value ++ codes "\n"
+nv_line pair = codes "  nv " ++ pair.key ++ value_and_end pair.value
 
 -- The line of an element, and a line for each pair that it keeps.
 unfoldable pub element_lines : Element → List ℕ

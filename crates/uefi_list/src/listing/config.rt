@@ -1,16 +1,16 @@
 ghost use Rattle.std.specs.Prelude.{◌≡◌, ◌≢◌, List, [], Err, flat_map, string_bytes, IfOk, OnOk};
 ghost use Rattle.uefi_hii.specs.declared.error.ParseError.TheVariants.{Memory};
 ghost use Rattle.uefi_hii.specs.Cut.{Part, Cut, results_of};
-ghost use Rattle.uefi_hii.specs.Views.{configuration_of, element_of, result_of};
+ghost use Rattle.uefi_hii.specs.Views.{configuration_of, element_of, nv_pair_of, result_of};
 ghost use Rattle.uefi_list.specs.Listing.Text.{AppendsText};
-ghost use Rattle.uefi_list.specs.Listing.Config.{alt_line, config_lines, configuration_lines, element_line, fault_line, header_lines, item_lines, section_name, ConfigListing};
+ghost use Rattle.uefi_list.specs.Listing.Config.{alt_line, config_lines, configuration_lines, element_line, element_lines, fault_line, header_lines, item_lines, nv_line, section_name, ConfigListing};
 
 use super::Outcome;
 use super::hex_text::{Hex, gap_before};
 use std::alloc::{AllocError, Allocator};
 use uefi_hii::{
     ConfigHdrSection, ConfigurationString, ConfigurationStringElement,
-    MultiConfigurationStringIter, ParseError,
+    MultiConfigurationStringIter, NvPair, ParseError,
 };
 
 /// Lists the configurations of the text that the bytes are, one after another: none is kept once
@@ -108,13 +108,13 @@ fn push_alt<A: Allocator>(text: &mut String<A>, alt_cfg_id: Option<u16>) -> Resu
     }
 }
 
-/// Appends a line for each element.
+/// Appends the lines of each element.
 fn push_elements<A: Allocator>(
     text: &mut String<A>,
     elements: &[ConfigurationStringElement<A>],
 ) -> Result<(), AllocError>
     ensures { OnOk result (AppendsText text.old text.new
-        (flat_map (λ element. element_line (element_of element)) elements.now)) }
+        (flat_map (λ element. element_lines (element_of element)) elements.now)) }
 {
     for element in elements {
         push_element(text, element)?;
@@ -122,8 +122,20 @@ fn push_elements<A: Allocator>(
     Ok(())
 }
 
-/// Appends the line of an element.
+/// Appends the lines of an element: its own, and a line for each pair that it keeps.
 fn push_element<A: Allocator>(
+    text: &mut String<A>,
+    element: &ConfigurationStringElement<A>,
+) -> Result<(), AllocError>
+    ensures { OnOk result (AppendsText text.old text.new (element_lines (element_of element.now))) }
+{
+    push_element_line(text, element)?;
+    push_nvconfig(text, element.nvconfig.as_slice())?;
+    Ok(())
+}
+
+/// Appends the line of an element without its pairs.
+fn push_element_line<A: Allocator>(
     text: &mut String<A>,
     element: &ConfigurationStringElement<A>,
 ) -> Result<(), AllocError>
@@ -135,6 +147,34 @@ fn push_element<A: Allocator>(
         Hex(element.value.as_slice()),
     );
     writeln!(text, "  element {offset} {width}{gap}{value}")
+}
+
+/// Appends a line for each pair.
+fn push_nvconfig<A: Allocator>(
+    text: &mut String<A>,
+    nvconfig: &[NvPair<A>],
+) -> Result<(), AllocError>
+    ensures { OnOk result (AppendsText text.old text.new
+        (flat_map (λ pair. nv_line (nv_pair_of pair)) nvconfig.now)) }
+{
+    for pair in nvconfig {
+        push_nv_pair(text, pair)?;
+    }
+    Ok(())
+}
+
+/// Appends the line of a pair: its key, and its value if it has one.
+fn push_nv_pair<A: Allocator>(text: &mut String<A>, pair: &NvPair<A>) -> Result<(), AllocError>
+    ensures { OnOk result (AppendsText text.old text.new (nv_line (nv_pair_of pair.now))) }
+{
+    let key = pair.key.as_str();
+    match &pair.value {
+        Some(value) => {
+            let value = value.as_str();
+            writeln!(text, "  nv {key}={value}")
+        }
+        None => writeln!(text, "  nv {key}"),
+    }
 }
 
 /// Appends the line that names a fault. Running out of memory is none, and has no line.

@@ -1,6 +1,6 @@
 use Rattle.std.proofs.Common.{append_assoc}
 use Rattle.uefi_list.specs.Listing.Config.{element_line}
-use Rattle.uefi_list.proofs.listing.config.push_element.Goals as goal
+use Rattle.uefi_list.proofs.listing.config.push_element_line.Goals as goal
 
 pub returns : goal.returns
 unfolding element_line
