@@ -1,9 +1,9 @@
--- What `log2` lists: the version 2 event log that the bytes are, and its header.
+-- What `log2` and `log2after` list: the version 2 event log that the bytes are, from one of its two starts, and its header.
 use Rattle.std.specs.Prelude.{◌≡◌, ℕ, List, ◌++◌, length, codes, flat_map, Option, None, Some}
 use Rattle.std.specs.Fmt.{decimal}
 use Rattle.std.specs.Int.{w16, w32, to_be_bytes}
 use Rattle.uefi_tcg.specs.v2.Event.{Digest, Event}
-use Rattle.uefi_tcg.specs.v2.Header.{Header}
+use Rattle.uefi_tcg.specs.v2.Header.{Header, Start}
 use Rattle.uefi_tcg.specs.v2.Log.{HasHeaderOf, IsLogOf}
 use Rattle.uefi_list.specs.declared.listing.Outcome.{Outcome}
 use Rattle.uefi_list.specs.declared.listing.Outcome.TheVariants.{Listed, Refused}
@@ -59,13 +59,13 @@ abbrev pub IsHeaderOf : Option ℕ → List ℕ → Option Header → Type 0
 IsHeaderOf last_entry bytes (Some header) = HasHeaderOf (Some bytes) last_entry header
 IsHeaderOf last_entry bytes None = (header : Header) → HasHeaderOf (Some bytes) last_entry header → ⊥
 
--- The text lists the log of the bytes with the last entry, and its header before it.
-pub record ListsLog (last_entry : Option ℕ) (bytes text : List ℕ) (header : Option Header) (events : List Event) : Type 0 where
+-- The text lists the log of the bytes with the last entry, whose events begin at the start, and its header before it.
+pub record ListsLog (start : Start) (last_entry : Option ℕ) (bytes text : List ℕ) (header : Option Header) (events : List Event) : Type 0 where
   pub is_header : IsHeaderOf last_entry bytes header
-  pub log : IsLogOf (Some bytes) last_entry events
+  pub log : IsLogOf start (Some bytes) last_entry events
   pub lines : text ≡ log_header_lines header ++ log_lines events
 
 -- No bytes are refused: each have a log, which may have neither a header nor events.
-abbrev pub Log2Listing : Option ℕ → List ℕ → List ℕ → Outcome → Type 0
-Log2Listing last_entry bytes text Listed = (header : Option Header) × (events : List Event) × ListsLog last_entry bytes text header events
-Log2Listing last_entry bytes text Refused = ⊥
+abbrev pub Log2Listing : Start → Option ℕ → List ℕ → List ℕ → Outcome → Type 0
+Log2Listing start last_entry bytes text Listed = (header : Option Header) × (events : List Event) × ListsLog start last_entry bytes text header events
+Log2Listing start last_entry bytes text Refused = ⊥
