@@ -1,1 +1,2 @@
 pub mod Configurations
+pub mod DigestLogs

@@ -3,13 +3,13 @@ ghost use Rattle.std.specs.Option.{option_and_then};
 ghost use Rattle.uefi_base.specs.Prefix.{IsPrefix};
 ghost use Rattle.uefi_tcg.specs.v1.Laws.{SameUpTo};
 ghost use Rattle.uefi_tcg.specs.v2.Event.{Event};
-ghost use Rattle.uefi_tcg.specs.v2.Header.{Header, HasHeader, events_start};
+ghost use Rattle.uefi_tcg.specs.v2.Header.{Header, HasHeader, HeaderEvent, IsHeaderEvent, after_event, after_header, event_end, events_start, header_bytes};
 ghost use Rattle.uefi_tcg.specs.v2.Laws.{end_of, least_length, least_start};
 ghost use Rattle.uefi_tcg.specs.v2.Log.{EventsKeep, IsLog, IsLogOf};
 ghost use Rattle.uefi_tcg.specs.v2.Views.{digest_of, event_of};
 
 use std::alloc::{AllocError, Global};
-use uefi_tcg::laws::{bound_v2, cut_v2, local_v2, one_log_v2};
+use uefi_tcg::laws::{bound_v2, cut_v2, local_v2, one_log_v2, same_where_nothing_follows};
 use uefi_tcg::v2::{EventLog, PcrEvent};
 use uefi_tcg::{AlgorithmId, PcrIndex};
 
@@ -20,11 +20,57 @@ pub fn collected_events<'a>(
     last_entry: usize,
 ) -> Result<Vec<PcrEvent<'a>>, AllocError>
     ensures { IfOk result
-        (λ events. IsLogOf (Some bytes.now) (Some last_entry) (map event_of events.items)) }
+        (λ events. IsLogOf after_header (Some bytes.now) (Some last_entry) (map event_of events.items)) }
 {
     EventLog::new(Some(bytes), Some(last_entry), false)
         .iter()
         .collect(alloc)
+}
+
+/// The same of the events that follow the header event.
+pub fn events_after_header_event<'a>(
+    alloc: Global,
+    bytes: &'a [u8],
+    last_entry: usize,
+) -> Result<Vec<PcrEvent<'a>>, AllocError>
+    ensures { IfOk result
+        (λ events. IsLogOf after_event (Some bytes.now) (Some last_entry) (map event_of events.items)) }
+{
+    EventLog::new(Some(bytes), Some(last_entry), false)
+        .iter_after_header_event()
+        .collect(alloc)
+}
+
+/// How many events a log of version 2 has from either start, where its header event has nothing but
+/// the header: the same number.
+pub fn counts_from_both_starts(bytes: &[u8], last_entry: usize) -> (usize, usize)
+    requires { (found : HeaderEvent) → IsHeaderEvent bytes.now last_entry found.event found.header
+        → found.event.event_data ≡ header_bytes found.header }
+    ensures { result.0 ≡ result.1 }
+{
+    same_where_nothing_follows();
+    (
+        count_of_log(bytes, last_entry),
+        count_after_header_event(bytes, last_entry),
+    )
+}
+
+/// How many events a log of version 2 has, by `count`: as many as its list.
+pub fn count_of_log(bytes: &[u8], last_entry: usize) -> usize
+    ensures { (events : List Event) × IsLogOf after_header (Some bytes.now) (Some last_entry) events
+        × (result ≡ length events) }
+{
+    let log = EventLog::new(Some(bytes), Some(last_entry), false);
+    log.iter().count()
+}
+
+/// The same of the events that follow the header event.
+pub fn count_after_header_event(bytes: &[u8], last_entry: usize) -> usize
+    ensures { (events : List Event) × IsLogOf after_event (Some bytes.now) (Some last_entry) events
+        × (result ≡ length events) }
+{
+    let log = EventLog::new(Some(bytes), Some(last_entry), false);
+    log.iter_after_header_event().count()
 }
 
 /// The events of a log of version 2: every list of events under the header's table that keeps to
@@ -50,9 +96,10 @@ pub fn events_so_far<'a>(
     bytes: &'a [u8],
     last_entry: usize,
 ) -> Result<Vec<PcrEvent<'a>>, AllocError>
-    ensures { IfOk result (λ events. (earlier : List ℕ) (entry : ℕ) (header : Header)
+    ensures { IfOk result (λ events. (earlier : List ℕ) (entry : ℕ) (found : HeaderEvent)
         (ended rest : List Event) → SameUpTo entry earlier bytes.now → entry ≤ last_entry
-        → IsLog earlier entry (Some header) (ended ++ rest) → end_of header ended ≤ entry
+        → IsLog after_header earlier entry (Some found) (ended ++ rest)
+        → end_of after_header found ended ≤ entry
         → IsPrefix ended (map event_of events.items)) }
 {
     local_v2();
@@ -67,8 +114,9 @@ pub fn events_of_part<'a>(
     last_entry: usize,
 ) -> Result<Vec<PcrEvent<'a>>, AllocError>
     requires { count ≤ length bytes.now }
-    ensures { IfOk result (λ events. (header : Option Header) (log : List Event)
-        → IsLog bytes.now last_entry header log → IsPrefix (map event_of events.items) log) }
+    ensures { IfOk result (λ events. (found : Option HeaderEvent) (log : List Event)
+        → IsLog after_header bytes.now last_entry found log
+        → IsPrefix (map event_of events.items) log) }
 {
     cut_v2();
     collected_events(alloc, &bytes[..count], last_entry)
@@ -84,9 +132,24 @@ pub fn event_count(bytes: &[u8], last_entry: usize) -> usize
     log.iter().count()
 }
 
+/// How many events of a log of version 2 follow the header event: none if the last entry is before
+/// that event's end.
+pub fn event_count_after_header_event(bytes: &[u8], last_entry: usize) -> usize
+    ensures none { (found : HeaderEvent)
+        → IsHeaderEvent bytes.now last_entry found.event found.header
+        → last_entry < event_end found.event → result ≡ 0 }
+    ensures few { (found : HeaderEvent)
+        → IsHeaderEvent bytes.now last_entry found.event found.header
+        → result ≤ (last_entry - event_end found.event) / least_length + 1 }
+{
+    one_log_v2();
+    bound_v2();
+    count_after_header_event(bytes, last_entry)
+}
+
 /// How many events of a log of version 2 are of a register.
 pub fn count_of_register(bytes: &[u8], last_entry: usize, register: PcrIndex) -> usize
-    ensures { (events : List Event) × IsLogOf (Some bytes.now) (Some last_entry) events
+    ensures { (events : List Event) × IsLogOf after_header (Some bytes.now) (Some last_entry) events
         × (result ≡ count_by (λ event. event.pcr_index == register.0) events) }
 {
     let log = EventLog::new(Some(bytes), Some(last_entry), false);
@@ -102,7 +165,7 @@ pub fn count_of_register(bytes: &[u8], last_entry: usize, register: PcrIndex) ->
 /// Returns the first digest of the first event of a log of version 2, with its algorithm. The
 /// digest borrows `bytes` alone, and outlives the log, the iterators and the event.
 pub fn first_digest<'a>(bytes: &'a [u8], last_entry: usize) -> Option<(AlgorithmId, &'a [u8])>
-    ensures { (events : List Event) × IsLogOf (Some bytes.now) (Some last_entry) events
+    ensures { (events : List Event) × IsLogOf after_header (Some bytes.now) (Some last_entry) events
         × (option_map digest_of result
         ≡ option_and_then (λ event. slice_get event.digests 0) (slice_get events 0)) }
 {
