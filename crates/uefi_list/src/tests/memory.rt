@@ -6,7 +6,8 @@ use std::alloc::{Allocator, Global};
 use std::test::Fail;
 use test_bytes::holds;
 
-/// Whether the listing of the bytes is the expected one, and its outcome; or `None` if memory ran out.
+/// Whether the listing of the bytes is the expected one, and its outcome; or `None` if memory ran
+/// out.
 fn listed<A: Allocator + Copy>(
     heap: A,
     (command, input): (&Command, &[u8]),
