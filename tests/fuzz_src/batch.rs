@@ -4,7 +4,7 @@ use crate::commands::{COMMANDS, Command};
 use crate::counts::Counts;
 use crate::expected;
 use crate::input::Input;
-use crate::mutate::Mutator;
+use crate::mutate::{MAX_LENGTH, Mutator};
 use crate::program::{self, Ending, FILES};
 use crate::random::Random;
 use std::collections::HashSet;
@@ -27,6 +27,9 @@ const PROCESS_SHARE: u64 = 1000;
 
 /// The most inputs that a command's pool grows to.
 const POOL: usize = 400;
+
+/// How many lines of a listing make its shape.
+const SHAPE_LINES: usize = 40;
 
 /// The exit status after a hang.
 pub const HANGS: u8 = 3;
@@ -61,7 +64,8 @@ fn samples(command: &Command, folder: &str) -> io::Result<Vec<Input>> {
     let Some((extension, third_word)) = command.samples else {
         return Ok(Vec::new());
     };
-    let paths: Result<Vec<PathBuf>, io::Error> = fs::read_dir(folder)?.map(|entry| Ok(entry?.path())).collect();
+    let paths: Result<Vec<PathBuf>, io::Error> =
+        fs::read_dir(folder)?.map(|entry| Ok(entry?.path())).collect();
     let mut paths = paths?;
     paths.retain(|path| path.extension().is_some_and(|it| it == extension));
     paths.sort();
@@ -77,26 +81,36 @@ impl Pool {
         Ok(Pool { command, inputs, shapes: HashSet::new(), counts: Counts::default() })
     }
 
-    /// Counts an input, and takes it up if its listing has another shape than those before.
-    fn keep(&mut self, input: Input, ending: &Ending) {
-        let mut lines = 0;
-        let mut shape = DefaultHasher::new();
-        for line in ending.output.split_inclusive(|c| *c == b'\n') {
-            lines += 1;
-            if lines <= 40 {
-                line.split(|c| *c == b' ').find(|word| !word.is_empty()).hash(&mut shape);
-            }
-        }
+    fn count(&mut self, ending: &Ending) {
         match ending.status {
             0 => self.counts.listed += 1,
             1 => self.counts.refused += 1,
             _ => self.counts.other_words += 1,
         }
-        self.counts.lines += lines;
-        if ending.status == 0 && self.inputs.len() < POOL && self.shapes.insert(shape.finish()) {
+        self.counts.lines += lines(&ending.output).count() as u64;
+    }
+
+    /// Takes up an input if its listing has another shape than those before.
+    fn keep(&mut self, input: Input, ending: &Ending) {
+        let is_wanted =
+            ending.status == 0 && input.bytes.len() <= MAX_LENGTH && self.inputs.len() < POOL;
+        if is_wanted && self.shapes.insert(shape(&ending.output)) {
             self.inputs.push(input);
         }
     }
+}
+
+fn lines(listing: &[u8]) -> impl Iterator<Item = &[u8]> {
+    listing.split_inclusive(|c| *c == b'\n')
+}
+
+/// A number for the first words of the first lines of a listing.
+fn shape(listing: &[u8]) -> u64 {
+    let mut hasher = DefaultHasher::new();
+    for line in lines(listing).take(SHAPE_LINES) {
+        line.split(|c| *c == b' ').find(|word| !word.is_empty()).hash(&mut hasher);
+    }
+    hasher.finish()
 }
 
 /// Ends the process where an input hangs.
@@ -114,7 +128,8 @@ fn watch() {
 }
 
 fn show(title: &str, ending: &Ending) -> String {
-    let (output, message) = (String::from_utf8_lossy(&ending.output), String::from_utf8_lossy(&ending.message));
+    let (output, message) =
+        (String::from_utf8_lossy(&ending.output), String::from_utf8_lossy(&ending.message));
     format!("{title}: status {}\n{output}{message}", ending.status)
 }
 
@@ -137,7 +152,10 @@ impl Batch<'_> {
 
     /// Runs the batch, and prints the counts of each command.
     pub fn start(&self) -> io::Result<ExitCode> {
-        let mut pools = COMMANDS.iter().map(|command| Pool::new(command, self.samples)).collect::<Result<Vec<_>, _>>()?;
+        let mut pools = COMMANDS
+            .iter()
+            .map(|command| Pool::new(command, self.samples))
+            .collect::<Result<Vec<_>, _>>()?;
         let mut random = self.random();
         let (start, limit) = (Instant::now(), Duration::from_millis(self.milliseconds));
         thread::spawn(watch);
@@ -166,8 +184,10 @@ impl Batch<'_> {
         if ending == expected && random.below(PROCESS_SHARE) == 0 {
             let file = Path::new(self.room).join(format!("input-{}", self.index));
             ending = program::run_process(Path::new(self.program), pool.command.name, &file, &input)?;
+            pool.counts.processes += 1;
         }
         if ending == expected {
+            pool.count(&ending);
             pool.keep(input, &ending);
             return Ok(false);
         }

@@ -12,6 +12,8 @@ pub struct Counts {
     pub differed: u64,
     /// The lines of all listings.
     pub lines: u64,
+    /// The inputs that went to the program in a process of its own too.
+    pub processes: u64,
 }
 
 impl Counts {
@@ -22,17 +24,17 @@ impl Counts {
     /// The counts that the words of a line are.
     pub fn from_words<'a>(words: impl Iterator<Item = &'a str>) -> Option<Counts> {
         let numbers: Vec<u64> = words.map(str::parse).collect::<Result<_, _>>().ok()?;
-        let [listed, refused, other_words, differed, lines] = numbers[..] else {
+        let [listed, refused, other_words, differed, lines, processes] = numbers[..] else {
             return None;
         };
-        Some(Counts { listed, refused, other_words, differed, lines })
+        Some(Counts { listed, refused, other_words, differed, lines, processes })
     }
 }
 
 impl Display for Counts {
     fn fmt(&self, f: &mut Formatter<'_>) -> fmt::Result {
-        let Counts { listed, refused, other_words, differed, lines } = self;
-        write!(f, "{listed} {refused} {other_words} {differed} {lines}")
+        let Counts { listed, refused, other_words, differed, lines, processes } = self;
+        write!(f, "{listed} {refused} {other_words} {differed} {lines} {processes}")
     }
 }
 
@@ -43,5 +45,6 @@ impl AddAssign for Counts {
         self.other_words += other.other_words;
         self.differed += other.differed;
         self.lines += other.lines;
+        self.processes += other.processes;
     }
 }

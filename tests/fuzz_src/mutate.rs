@@ -5,8 +5,8 @@ use crate::input::Input;
 use crate::random::Random;
 use crate::third_word;
 
-/// The most bytes of an input, but for a few that a program can't read at once.
-const MAX_LENGTH: usize = 8192;
+/// The most bytes of an input, but for a few, which the program can't read at once.
+pub const MAX_LENGTH: usize = 8192;
 const MANY_BYTES: usize = 70_000;
 
 /// Bytes and numbers at the edge of many formats.
@@ -70,7 +70,7 @@ impl Mutator<'_> {
             self.mutate(&mut input);
             more = self.below(5) < 2;
         }
-        input.bytes.truncate(MAX_LENGTH);
+        input.bytes.truncate(if self.below(50) == 0 { MANY_BYTES } else { MAX_LENGTH });
         if self.below(4000) == 0 && !input.bytes.is_empty() {
             input.bytes = input.bytes.repeat(MANY_BYTES / input.bytes.len() + 1);
         }
@@ -109,7 +109,8 @@ impl Mutator<'_> {
     fn insert(&mut self, bytes: &mut Vec<u8>) {
         let (start, count) = (self.below(bytes.len() + 1), self.length(64));
         let (byte, is_random) = (self.byte(), self.below(2) == 0);
-        let new: Vec<u8> = (0..count).map(|_| if is_random { self.random.byte() } else { byte }).collect();
+        let new: Vec<u8> =
+            (0..count).map(|_| if is_random { self.random.byte() } else { byte }).collect();
         drop(bytes.splice(start..start, new));
     }
 

@@ -133,12 +133,8 @@ pub fn run(command: &str, file: &str, input: &Input, part: usize) -> Ending {
 pub fn run_process(program: &Path, command: &str, file: &Path, input: &Input) -> io::Result<Ending> {
     fs::write(file, &input.bytes)?;
     let third_word = input.third_word.as_deref().map(OsStr::from_bytes);
-    let ran = Command::new(program)
-        .arg(command)
-        .arg(file)
-        .args(third_word)
-        .stdin(Stdio::null())
-        .output()?;
+    let ran =
+        Command::new(program).arg(command).arg(file).args(third_word).stdin(Stdio::null()).output()?;
     // A signal isn't a status of the program.
     let status = ran.status.code().unwrap_or(-1);
     Ok(Ending { status, output: ran.stdout, message: ran.stderr })

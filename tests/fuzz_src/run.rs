@@ -76,7 +76,8 @@ impl Run<'_> {
             }
             let batch = self.batch(shared.next_batch.fetch_add(1, Ordering::Relaxed), left, false);
             let ran = self.process(&batch)?;
-            let counted = ran.status.success() && shared.add(&String::from_utf8_lossy(&ran.stdout)).is_some();
+            let counted =
+                ran.status.success() && shared.add(&String::from_utf8_lossy(&ran.stdout)).is_some();
             if !counted {
                 shared.report(self.seek_crash(batch.index, &ran)?);
             } else if let Ok(report) = fs::read_to_string(batch.difference()) {
@@ -92,7 +93,10 @@ impl Run<'_> {
         let what = if ran.status.code() == Some(HANGS.into()) { "hangs" } else { "crashes" };
         let input = fs::read_to_string(batch.trace()).unwrap_or("no input was found\n".into());
         let messages = String::from_utf8_lossy(&ran.stderr);
-        Ok(format!("{what} in batch {index} ({}; again: {})\n{input}{messages}", ran.status, again.status))
+        Ok(format!(
+            "{what} in batch {index} ({}; again: {})\n{input}{messages}",
+            ran.status, again.status
+        ))
     }
 
     /// Prints the counts, and what differed.
@@ -105,11 +109,20 @@ impl Run<'_> {
             all += *counts;
         }
         for (i, report) in reports.iter().enumerate() {
-            fs::write(Path::new(self.room).join(format!("report-{i}")), report)?;
-            println!("fuzz: DIFFERENCE\n{report}");
+            let file = Path::new(self.room).join(format!("report-{i}"));
+            fs::write(&file, report)?;
+            println!("fuzz: DIFFERENCE, in {}\n{report}", file.display());
         }
         let (inputs, seconds) = (all.inputs(), took.as_secs());
-        println!("fuzz: {inputs} inputs in {seconds} seconds, seed {}: {} differed", self.seed, reports.len());
+        println!(
+            "fuzz: {} of the inputs went to the program in a process of its own too",
+            all.processes
+        );
+        println!(
+            "fuzz: {inputs} inputs in {seconds} seconds, seed {}: {} differed",
+            self.seed,
+            reports.len()
+        );
         Ok(ExitCode::from(u8::from(!reports.is_empty())))
     }
 
@@ -123,7 +136,8 @@ impl Run<'_> {
             reports: Mutex::default(),
         };
         thread::scope(|scope| {
-            let threads: Vec<_> = (0..self.threads).map(|_| scope.spawn(|| self.work(&shared))).collect();
+            let threads: Vec<_> =
+                (0..self.threads).map(|_| scope.spawn(|| self.work(&shared))).collect();
             threads.into_iter().try_for_each(|thread| thread.join().expect("a thread that ends"))
         })?;
         self.tell(&shared, start.elapsed())
@@ -131,7 +145,7 @@ impl Run<'_> {
 }
 
 fn table_line(counts: &Counts) -> String {
-    let Counts { listed, refused, other_words, differed, lines } = counts;
+    let Counts { listed, refused, other_words, differed, lines, .. } = counts;
     format!(
         "{:>10} inputs: {listed:>10} listed ({lines:>11} lines), {refused:>10} refused, {other_words:>8} other words, {differed} differed",
         counts.inputs()

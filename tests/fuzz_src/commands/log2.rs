@@ -45,7 +45,8 @@ const FOUR_ALGORITHMS: &str = "00000000 03000000 0000000000000000000000000000000
          840975aff0e1b69820075ee429798b5dbbe5d1a27436ab49f19b7a0411d2962c
     10000000 000082000000000000000e0000000000";
 
-const EVENT: &str = "00000000 08000000 01000000 0400 1489f923c4dca729178b3e3233458550d8dddf29 02000000 0000";
+const EVENT: &str =
+    "00000000 08000000 01000000 0400 1489f923c4dca729178b3e3233458550d8dddf29 02000000 0000";
 
 /// The header with the bytes at an offset replaced, and what follows it.
 fn changed(offset: usize, bytes: &str, rest: &str) -> Vec<u8> {
@@ -71,8 +72,14 @@ fn seeds() -> Vec<Input> {
         Input::with_word(hex(FOUR_ALGORITHMS), "267"),
         Input::with_length(hex(FOUR_ALGORITHMS)),
         Input::with_length(changed(0, "", &EVENT.repeat(4))),
-        Input::with_word(changed(0, "", &format!("00000000 08000000 02000000 {ones} {twos} 00000000")), "65"),
-        Input::with_word(changed(0, "", &format!("00000000 08000000 01000000 {ones} 00010000 0000")), "105"),
+        Input::with_word(
+            changed(0, "", &format!("00000000 08000000 02000000 {ones} {twos} 00000000")),
+            "65",
+        ),
+        Input::with_word(
+            changed(0, "", &format!("00000000 08000000 01000000 {ones} 00010000 0000")),
+            "105",
+        ),
         Input::with_word(two_rows, "69"),
         Input::with_length(vendor),
         Input::with_word(changed(28, "31000000", &"00".repeat(32)), "81"),

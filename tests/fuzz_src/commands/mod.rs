@@ -34,6 +34,9 @@ pub enum ThirdWord {
     LastEntry,
 }
 
+/// The listing of bytes by plain Rust. The number is that of the third word.
+pub type List = fn(&mut Vec<u8>, &[u8], Option<usize>) -> io::Result<Outcome>;
+
 pub struct Command {
     pub name: &'static str,
     pub third_word: ThirdWord,
@@ -47,6 +50,5 @@ pub struct Command {
     pub numbers: &'static [u64],
     /// A mutation of this command's own.
     pub mutate: Option<fn(&mut Input, &mut Random)>,
-    /// The listing by plain Rust. The number is that of the third word.
-    pub list: fn(&mut Vec<u8>, &[u8], Option<usize>) -> io::Result<Outcome>,
+    pub list: List,
 }

@@ -3,6 +3,7 @@
 use super::{Command, ThirdWord};
 use crate::input::{Input, hex};
 use crate::listings;
+use crate::random::Random;
 
 pub const COMMAND: Command = Command {
     name: "path",
@@ -21,7 +22,7 @@ pub const COMMAND: Command = Command {
         b"\0\x01",
     ],
     numbers: &[3, 4, 5, 0x7f, 0xffff],
-    mutate: None,
+    mutate: Some(mutate),
     list: |out, bytes, _| listings::path::list(out, bytes),
 };
 
@@ -32,4 +33,15 @@ fn seeds() -> Vec<Input> {
     long_node.extend(hex("7fff0400"));
     let texts = [two_instances, "7f020400 7fff0400", "7fff0600aabbcc", "a0b0ffff", "a0b00600 0a0b"];
     texts.map(hex).into_iter().chain([long_node]).map(Input::new).collect()
+}
+
+/// Puts a node first, which may have any length up to the greatest.
+fn mutate(input: &mut Input, random: &mut Random) {
+    let scale = 1 << random.below(17);
+    let length = (4 + random.below(scale)).min(0xffff) as u16;
+    let (device_type, filling) = (random.byte() & 0x7f, random.byte());
+    let mut node = vec![device_type, random.byte()];
+    node.extend(length.to_le_bytes());
+    node.resize(length.into(), filling);
+    drop(input.bytes.splice(..0, node));
 }
