@@ -1,6 +1,6 @@
 use crate::samples::{
-    GUID, ISCSI_ALTERNATIVES, ISCSI_ALTERNATIVES_ITEMS, ISCSI_TWICE, ISCSI_TWICE_ITEMS, line_of,
-    push_item, text_of,
+    GUID, ISCSI_ALTERNATIVES, ISCSI_ALTERNATIVES_ITEMS, ISCSI_TWICE, ISCSI_TWICE_ITEMS, KEPT_PAIRS,
+    KEPT_PAIRS_ITEMS, line_of, push_item, text_of,
 };
 use std::alloc::{AllocError, Global};
 use std::test::Fail;
@@ -8,7 +8,7 @@ use test_bytes::{holds, same, same_text};
 use uefi_hii::{ConfigurationString, MultiConfigurationStringIter, parse_all};
 
 /// Texts, as `text_of` has them, and all their items.
-const TEXTS: [(&str, &str); 17] = [
+const TEXTS: [(&str, &str); 24] = [
     ("", ""),
     ("&", "ConfigHdr(Guid)\n"),
     ("@", "A, 4, None\n"),
@@ -30,10 +30,41 @@ const TEXTS: [(&str, &str); 17] = [
         "A, 4, Some(22136) | 0x0 1 \n",
     ),
     ("@&ALTCFG=112233", "ConfigHdr(DescHdr)\n"),
-    // Up to the next offset, pairs are skipped.
+    // Up to the next offset, an element keeps the pairs that it skips.
     (
         "@&OFFSET=00&WIDTH=01&VALUE=00&x=1&WIDTH=02&OFFSET=01&WIDTH=01&VALUE=0a",
-        "A, 4, None | 0x0 1 00 | 0x1 1 0a\n",
+        "A, 4, None | 0x0 1 00 [x=1] [WIDTH=02] | 0x1 1 0a\n",
+    ),
+    // The first equals sign ends the key, and a key that comes again is kept again.
+    (
+        "@&OFFSET=00&WIDTH=01&VALUE=00&&b&b&c=1=2",
+        "A, 4, None | 0x0 1 00 [] [b] [b] [c=1=2]\n",
+    ),
+    // An empty value is one, and an empty last piece is no pair.
+    (
+        "@&OFFSET=00&WIDTH=01&VALUE=00&b=&=&&",
+        "A, 4, None | 0x0 1 00 [b=] [=] []\n",
+    ),
+    // Keys of other places are kept, and so is a key in lower case.
+    (
+        "@&OFFSET=00&WIDTH=01&VALUE=00&VALUE=01&ALTCFG=0001&NAME&offset=01",
+        "A, 4, None | 0x0 1 00 [VALUE=01] [ALTCFG=0001] [NAME] [offset=01]\n",
+    ),
+    // Keys and values are text.
+    (
+        "@&OFFSET=00&WIDTH=01&VALUE=00&\u{e9}=\u{20ac}\n",
+        "A, 4, None | 0x0 1 00 [\u{e9}=\u{20ac}\n]\n",
+    ),
+    // Up to the next GUID, too, and up to one that is wrong.
+    (KEPT_PAIRS, KEPT_PAIRS_ITEMS),
+    (
+        "@&OFFSET=00&WIDTH=01&VALUE=00&x=1&GUID&y=1&@",
+        "A, 4, None | 0x0 1 00 [x=1]\nConfigHdr(Guid)\nConfigHdr(Guid)\nA, 4, None\n",
+    ),
+    // A configuration that fails later has none of its pairs.
+    (
+        "@&OFFSET=00&WIDTH=01&VALUE=00&x=1&OFFSET=112233&@",
+        "BlockName\nA, 4, None\n",
     ),
     // A newline at the end is no digit.
     (

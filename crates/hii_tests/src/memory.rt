@@ -1,6 +1,6 @@
 use crate::samples::{
     ISCSI_ALTERNATIVES, ISCSI_ALTERNATIVES_ITEMS, ISCSI_NAME, ISCSI_TWICE, ISCSI_TWICE_ITEMS,
-    line_of, push_item, text_of,
+    KEPT_PAIRS, KEPT_PAIRS_ITEMS, line_of, push_item, text_of,
 };
 use refusing::{Refusing, in_turn, without_request};
 use std::alloc::{AllocError, Allocator, Global};
@@ -28,9 +28,10 @@ fn first_line<A: Allocator + Copy>(heap: A, alloc: Global, text: &str) -> Option
 }
 
 /// Texts, as `text_of` has them, and all their items.
-const TEXTS: [(&str, &str); 3] = [
+const TEXTS: [(&str, &str); 4] = [
     (ISCSI_TWICE, ISCSI_TWICE_ITEMS),
     (ISCSI_ALTERNATIVES, ISCSI_ALTERNATIVES_ITEMS),
+    (KEPT_PAIRS, KEPT_PAIRS_ITEMS),
     (
         "GUID=00&@&OFFSET=00&WIDTH=01&VALUE=1122",
         "ConfigHdr(Guid)\nA, 4, None | 0x0 1 2211\n",
@@ -49,7 +50,8 @@ fn check_first(alloc: Global, row: &str) -> Result<(), Fail> {
 #[test]
 fn the_first_item_is_read_or_memory_was_refused(rt: HostRuntime) -> Result<(), Fail> {
     check_first(rt.alloc(), ISCSI_TWICE)?;
-    check_first(rt.alloc(), ISCSI_ALTERNATIVES)
+    check_first(rt.alloc(), ISCSI_ALTERNATIVES)?;
+    check_first(rt.alloc(), KEPT_PAIRS)
 }
 
 /// The lines of all items; or `None` if memory ran out.

@@ -1,5 +1,5 @@
 use std::alloc::{AllocError, Allocator, Global};
-use uefi_hii::{ConfigurationString, ConfigurationStringElement, ParseError};
+use uefi_hii::{ConfigurationString, ConfigurationStringElement, NvPair, ParseError};
 
 /// The GUID of the headers below, as `Guid` displays it.
 pub(crate) const GUID: &str = "4b47d616-a8d6-4552-9d44-ccad2e0f4cf9";
@@ -35,6 +35,14 @@ pub(crate) const ISCSI_ALTERNATIVES_ITEMS: &str =
     "ISCSI_CONFIG_IFR_NVDATA, 24, Some(2) | 0x1d8 1 00\n\
     ISCSI_CONFIG_IFR_NVDATA, 24, Some(1) | 0x1d8 1 00 | 0x1337 5 5544332211\n";
 
+/// A configuration whose elements keep pairs, one of them twice, and one after it.
+pub(crate) const KEPT_PAIRS: &str = "@&OFFSET=00&WIDTH=01&VALUE=00&&b&b&c=1=2\
+    &OFFSET=01&WIDTH=01&VALUE=0a&x=1&@";
+
+/// The items of them.
+pub(crate) const KEPT_PAIRS_ITEMS: &str =
+    "A, 4, None | 0x0 1 00 [] [b] [b] [c=1=2] | 0x1 1 0a [x=1]\nA, 4, None\n";
+
 /// The text of a row, in which `@` stands for the short header, and `#` for the driver's.
 pub(crate) fn text_of(alloc: Global, row: &str) -> Result<String, AllocError> {
     let text = row.replace(alloc, '@', SHORT_HEADER)?;
@@ -42,7 +50,8 @@ pub(crate) fn text_of(alloc: Global, row: &str) -> Result<String, AllocError> {
 }
 
 /// Appends a line for what a reader gives: a configuration's name, the length of its path, its
-/// identifier and its elements, each as offset, width and bytes; or an error.
+/// identifier and its elements, each as offset, width, bytes and the pairs that it keeps, in
+/// brackets; or an error.
 pub(crate) fn push_item<A: Allocator>(
     lines: &mut String,
     item: &Result<ConfigurationString<A>, ParseError>,
@@ -73,6 +82,20 @@ fn push_element<A: Allocator>(
     write!(lines, " | 0x{:x} {} ", element.offset, element.width)?;
     for byte in element.value.as_slice() {
         write!(lines, "{byte:02x}")?;
+    }
+    push_nvconfig(lines, element.nvconfig.as_slice())
+}
+
+fn push_nvconfig<A: Allocator>(
+    lines: &mut String,
+    nvconfig: &[NvPair<A>],
+) -> Result<(), AllocError> {
+    for pair in nvconfig {
+        let key = pair.key.as_str();
+        match &pair.value {
+            Some(value) => write!(lines, " [{key}={}]", value.as_str())?,
+            None => write!(lines, " [{key}]")?,
+        }
     }
     Ok(())
 }
