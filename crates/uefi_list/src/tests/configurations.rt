@@ -1,3 +1,4 @@
+use super::runs::{TWO_ELEMENTS, TWO_ELEMENTS_LISTING};
 use super::{each_lists, lists};
 use crate::command::Command;
 use crate::listing::Outcome;
@@ -14,7 +15,7 @@ const ISCSI_HEADER: &str = "GUID=16d6474bd6a852459d44ccad2e0f4cf9\
     &PATH=0104140016d6474bd6a852459d44ccad2e0f4cf97fff0400";
 
 /// Texts, and their listings.
-const TEXTS: [(&str, &str); 7] = [
+const TEXTS: [(&str, &str); 10] = [
     (
         "GUID=00&@&OFFSET=00&WIDTH=01&VALUE=1122",
         "fault ConfigHdr(Guid)\nconfig 4b47d616-a8d6-4552-9d44-ccad2e0f4cf9\n  name A\n  path 4\n  \
@@ -32,6 +33,19 @@ const TEXTS: [(&str, &str); 7] = [
             element 472 1 00\nconfig 4b47d616-a8d6-4552-9d44-ccad2e0f4cf9\n  \
             name ISCSI_CONFIG_IFR_NVDATA\n  path 24\n  element 472 1 00\n  \
             element 4919 5 5544332211\nitems 2\n",
+    ),
+    (TWO_ELEMENTS, TWO_ELEMENTS_LISTING),
+    // Before a key a space stands, also before an empty one.
+    (
+        "@&OFFSET=00&WIDTH=01&VALUE=00&&b&b&c=1=2",
+        "config 4b47d616-a8d6-4552-9d44-ccad2e0f4cf9\n  name A\n  path 4\n  element 0 1 00\n  \
+            nv \n  nv b\n  nv b\n  nv c=1=2\nitems 1\n",
+    ),
+    (
+        "@&OFFSET=00&WIDTH=01&VALUE=00&x=&\u{e9}=\u{20ac}&@",
+        "config 4b47d616-a8d6-4552-9d44-ccad2e0f4cf9\n  name A\n  path 4\n  element 0 1 00\n  \
+            nv x=\n  nv \u{e9}=\u{20ac}\n\
+            config 4b47d616-a8d6-4552-9d44-ccad2e0f4cf9\n  name A\n  path 4\nitems 2\n",
     ),
     (
         "@&@",

@@ -11,13 +11,13 @@ use std::test::Fail;
 use test_bytes::bytes;
 use test_bytes::samples::{LAST_OF_FEBRUARY, LOG1, TWO_INSTANCES};
 
-/// The text of a configuration with two elements.
-const TWO_ELEMENTS: &str = "GUID=16d6474bd6a852459d44ccad2e0f4cf9&NAME=0041&PATH=7fff0400\
+/// The text of a configuration with two elements, of which the first keeps two pairs.
+pub(super) const TWO_ELEMENTS: &str = "GUID=16d6474bd6a852459d44ccad2e0f4cf9&NAME=0041&PATH=7fff0400\
     &OFFSET=00&WIDTH=01&VALUE=00&x=1&WIDTH=02&OFFSET=01&WIDTH=01&VALUE=0a";
 
-const TWO_ELEMENTS_LISTING: &str =
+pub(super) const TWO_ELEMENTS_LISTING: &str =
     "config 4b47d616-a8d6-4552-9d44-ccad2e0f4cf9\n  name A\n  path 4\n  element 0 1 00\n  \
-    element 1 1 0a\nitems 1\n";
+    nv x=1\n  nv WIDTH=02\n  element 1 1 0a\nitems 1\n";
 
 /// A command, its input as [`input_of`] reads it, its listing and its outcome.
 pub(super) type Run = (Command, &'static str, &'static str, Outcome);
