@@ -33,6 +33,12 @@ fn list_configuration(out: &mut impl Write, configuration: &Configuration) -> io
         let (offset, width) = (element.offset, element.width);
         let (gap, value) = (gap_before(&element.value), Hex(&element.value));
         writeln!(out, "  element {offset} {width}{gap}{value}")?;
+        for (key, value) in &element.nvconfig {
+            match value {
+                Some(value) => writeln!(out, "  nv {key}={value}")?,
+                None => writeln!(out, "  nv {key}")?,
+            }
+        }
     }
     Ok(())
 }

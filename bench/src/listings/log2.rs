@@ -5,13 +5,31 @@ use super::hex::{Hex, gap_before};
 use crate::readers::log2::{Event, Events, Header};
 use std::io::{self, Write};
 
-/// A log without a last entry has neither header nor event.
 pub fn list(out: &mut impl Write, bytes: &[u8], last_entry: Option<usize>) -> io::Result<Outcome> {
+    list_from(out, bytes, last_entry, |header| header.end)
+}
+
+/// The same, of the events after the header event.
+pub fn list_after_header_event(
+    out: &mut impl Write,
+    bytes: &[u8],
+    last_entry: Option<usize>,
+) -> io::Result<Outcome> {
+    list_from(out, bytes, last_entry, |header| header.event_end)
+}
+
+/// A log without a last entry has neither header nor event.
+fn list_from(
+    out: &mut impl Write,
+    bytes: &[u8],
+    last_entry: Option<usize>,
+    start: fn(&Header<'_>) -> usize,
+) -> io::Result<Outcome> {
     let header = last_entry.and_then(|last| Some((Header::read(bytes, last)?, last)));
     let mut count = 0;
     if let Some((header, last_entry)) = header {
         list_header(out, &header)?;
-        for event in (Events { bytes, rows: header.rows, last_entry, offset: header.end }) {
+        for event in (Events { bytes, rows: header.rows, last_entry, offset: start(&header) }) {
             list_event(out, &event)?;
             count += 1;
         }

@@ -89,6 +89,8 @@ pub struct Element {
     pub offset: u64,
     pub width: u64,
     pub value: Vec<u8>,
+    /// The pairs that follow the value, up to the next offset or GUID.
+    pub nvconfig: Vec<(String, Option<String>)>,
 }
 
 pub struct Configuration {
@@ -147,8 +149,12 @@ impl<'a> Configurations<'a> {
         let offset = self.take("OFFSET").and_then(number).ok_or(Fault::BlockName)?;
         let width = self.take("WIDTH").and_then(number).ok_or(Fault::BlockName)?;
         let value = hex(self.take("VALUE").ok_or(Fault::BlockConfig)?).rev().collect();
-        while self.pairs.next_if(|(key, _)| !matches!(*key, "OFFSET" | "GUID")).is_some() {}
-        Ok(Element { offset, width, value })
+        let mut nvconfig = Vec::new();
+        let is_skipped = |(key, _): &(&str, _)| !matches!(*key, "OFFSET" | "GUID");
+        while let Some((key, value)) = self.pairs.next_if(is_skipped) {
+            nvconfig.push((key.to_owned(), value.map(str::to_owned)));
+        }
+        Ok(Element { offset, width, value, nvconfig })
     }
 }
 

@@ -1,4 +1,4 @@
-//! `log2 FILE LAST`.
+//! `log2 FILE LAST` and `log2after FILE LAST`.
 
 use super::{Command, ThirdWord};
 use crate::input::{Input, hex};
@@ -19,6 +19,12 @@ pub const COMMAND: Command = Command {
     numbers: &[3, 4, 16, 20, 33, 61, 65, 77],
     mutate: None,
     list: |out, bytes, last_entry| listings::log2::list(out, bytes, last_entry),
+};
+
+pub const AFTER_HEADER_EVENT: Command = Command {
+    name: "log2after",
+    list: |out, bytes, last_entry| listings::log2::list_after_header_event(out, bytes, last_entry),
+    ..COMMAND
 };
 
 /// A header with SHA-1 alone, of 65 bytes.

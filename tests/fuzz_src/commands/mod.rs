@@ -1,4 +1,5 @@
-//! The commands of the program: a module each, and a line in [`COMMANDS`].
+//! The commands of the program: a module for each, or for two that are alike, and a line in
+//! [`COMMANDS`].
 
 use crate::input::Input;
 use crate::listings::Outcome;
@@ -14,10 +15,11 @@ mod path;
 mod pci;
 mod time;
 
-pub const COMMANDS: [Command; 8] = [
+pub const COMMANDS: [Command; 9] = [
     path::COMMAND,
     log1::COMMAND,
     log2::COMMAND,
+    log2::AFTER_HEADER_EVENT,
     config::COMMAND,
     map::COMMAND,
     pci::COMMAND,
