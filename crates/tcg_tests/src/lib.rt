@@ -21,4 +21,6 @@ mod v2_logs;
 #[cfg(test)]
 mod v2_samples;
 #[cfg(test)]
+mod v2_starts;
+#[cfg(test)]
 mod v2_writers;

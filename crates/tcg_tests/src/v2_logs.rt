@@ -7,7 +7,7 @@ use uefi_tcg::AlgorithmId;
 use uefi_tcg::v2::{EventLog, EventLogIter, PcrEventDigests};
 
 /// The lines of both events of `FOUR_EVENTS`.
-const FIRST: &str = "0 0x00000008 0000 \
+pub const FIRST: &str = "0 0x00000008 0000 \
     0004:1489f923c4dca729178b3e3233458550d8dddf29 \
     000b:96a296d224f285c67bee93c30f8a309157f0daa35dc5b87e410b78630a09cfc7 \
     000c:1dd6f7b457ad880d840d41c961283bab688e94e4b59359ea\
@@ -15,7 +15,7 @@ const FIRST: &str = "0 0x00000008 0000 \
     000d:5ea71dc6d0b4f57bf39aadd07c208c35f06cd2bac5fde210397f70de11d439c6\
     2ec1cdf3183758865fd387fcea0bada2f6c37a4a17851dd1d78fefe6f204ee54\n";
 
-const SECOND: &str = "0 0x80000008 000082000000000000000e0000000000 \
+pub const SECOND: &str = "0 0x80000008 000082000000000000000e0000000000 \
     0004:c706e7dd36392984eb06aaa08ff336844077b3ed \
     000b:3a308e958784bfd0f6e3f1bd4d4214d30a4c5500a45b06da96fc90338f69b361 \
     000c:c0d07596c59a907b79716fc9f36aad8f0f26f202675b425a\
@@ -41,7 +41,7 @@ const NO_DIGEST_BYTES: &str = "00000000 03000000 0000000000000000000000000000000
     53706563204944204576656e74303300 00000000 00020002 01000000 04000000 00";
 
 /// `SHA1_HEADER` in an event of 81 bytes: 16 zero bytes follow the header.
-const LONG_EVENT: &str = "00000000 03000000 0000000000000000000000000000000000000000 31000000 \
+pub const LONG_EVENT: &str = "00000000 03000000 0000000000000000000000000000000000000000 31000000 \
     53706563204944204576656e74303300 00000000 00020002 01000000 04001400 00 \
     00000000000000000000000000000000";
 
@@ -70,10 +70,11 @@ const NINTH: &str = "00000000 08000000 01000000 0900 aaaaaaaaaaaaaaaaaa 00000000
 
 const NINTH_LINE: &str = "0 0x00000008  0009:aaaaaaaaaaaaaaaaaa\n";
 
-const ZERO_EVENT: &str = "00000000 00000000 00000000 00000000";
+pub const ZERO_EVENT: &str = "00000000 00000000 00000000 00000000";
 
-/// The parts of a log, a last entry, where the events start if there is a header, and their lines.
-const LOGS: [(&[&str], Option<usize>, Option<usize>, &[&str]); 19] = [
+/// The parts of a log, a last entry, where the header ends if there is one, and the lines of the
+/// events from there on.
+pub const LOGS: [(&[&str], Option<usize>, Option<usize>, &[&str]); 19] = [
     (&[SHA1_HEADER], Some(0), Some(65), &[]),
     (&[SHA1_HEADER], None, None, &[]),
     (&[MOST_ROWS], Some(0), None, &[]),
@@ -136,7 +137,7 @@ const LOGS: [(&[&str], Option<usize>, Option<usize>, &[&str]); 19] = [
 
 /// The events that an iterator gives, one a line: register, type, data, and each digest after its
 /// algorithm.
-fn lines_of(alloc: Global, events: EventLogIter<'_>) -> Result<String, AllocError> {
+pub fn lines_of(alloc: Global, events: EventLogIter<'_>) -> Result<String, AllocError> {
     let mut lines = String::new(alloc);
     for event in events {
         write!(
@@ -165,7 +166,7 @@ fn push_digests(text: &mut String, digests: PcrEventDigests<'_>) -> Result<(), A
     Ok(())
 }
 
-/// Checks where the events of a log start, and what they are.
+/// Checks where the header of a log ends, and what the events from there on are.
 fn check_log(
     alloc: Global,
     row: &str,
