@@ -12,7 +12,8 @@ use test_bytes::bytes;
 use test_bytes::samples::{LAST_OF_FEBRUARY, LOG1, TWO_INSTANCES};
 
 /// The text of a configuration with two elements, of which the first keeps two pairs.
-pub(super) const TWO_ELEMENTS: &str = "GUID=16d6474bd6a852459d44ccad2e0f4cf9&NAME=0041&PATH=7fff0400\
+pub(super) const TWO_ELEMENTS: &str =
+    "GUID=16d6474bd6a852459d44ccad2e0f4cf9&NAME=0041&PATH=7fff0400\
     &OFFSET=00&WIDTH=01&VALUE=00&x=1&WIDTH=02&OFFSET=01&WIDTH=01&VALUE=0a";
 
 pub(super) const TWO_ELEMENTS_LISTING: &str =
@@ -23,7 +24,7 @@ pub(super) const TWO_ELEMENTS_LISTING: &str =
 pub(super) type Run = (Command, &'static str, &'static str, Outcome);
 
 /// Runs of each command, and of each that can be refused a refused one too.
-pub(super) const RUNS: [Run; 18] = [
+pub(super) const RUNS: [Run; 19] = [
     (
         Command::Path,
         "7fff 0600 aabb",
@@ -54,6 +55,12 @@ pub(super) const RUNS: [Run; 18] = [
         Command::Log2(Some(68)),
         TWO_DIGESTS,
         NO_HEADER,
+        Outcome::Listed,
+    ),
+    (
+        Command::Log2After(Some(69)),
+        TWO_DIGESTS,
+        TWO_DIGESTS_LISTING,
         Outcome::Listed,
     ),
     (
