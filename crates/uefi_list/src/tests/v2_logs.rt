@@ -79,8 +79,11 @@ fn a_log_is_listed_by_its_header_and_events(rt: HostRuntime) -> Result<(), Fail>
     ];
     for (row, last_entry, parts) in rows {
         let expected = joined(rt.alloc(), parts)?;
-        let row = (Command::Log2(last_entry), row, expected.as_str());
-        lists(rt.alloc(), &row, input.as_slice(), Outcome::Listed)?;
+        // Nothing follows the header in its event, so the events after that are the same.
+        for command in [Command::Log2(last_entry), Command::Log2After(last_entry)] {
+            let row = (command, row, expected.as_str());
+            lists(rt.alloc(), &row, input.as_slice(), Outcome::Listed)?;
+        }
     }
     Ok(())
 }
@@ -230,18 +233,41 @@ const LONG_HEADER_EVENT: &str = "00000000 03000000 00000000000000000000000000000
     31000000 53706563204944204576656e74303300 00000000 00020002 01000000 04001400 00 \
     00000000000000000000000000000000 00000000000000000000000000000000";
 
+const TWO_EVENTS: &str = "header 0 2.0.0 2\n  algorithm 0x0004 20\nvendor\n\
+    event 0 0x00000000\nevent 0 0x00000000\nevents 2\n";
+
+const ONE_EVENT: &str =
+    "header 0 2.0.0 2\n  algorithm 0x0004 20\nvendor\nevent 0 0x00000000\nevents 1\n";
+
 #[test]
 fn events_begin_where_the_header_ends(rt: HostRuntime) -> Result<(), Fail> {
-    let rows: [Row<'_>; 2] = [
+    let rows: [Row<'_>; 4] = [
         // The first event stands in the one that has the header.
-        (
-            Command::Log2(Some(81)),
-            LONG_HEADER_EVENT,
-            "header 0 2.0.0 2\n  algorithm 0x0004 20\nvendor\n\
-             event 0 0x00000000\nevent 0 0x00000000\nevents 2\n",
-        ),
+        (Command::Log2(Some(81)), LONG_HEADER_EVENT, TWO_EVENTS),
+        (Command::Log2(Some(97)), LONG_HEADER_EVENT, TWO_EVENTS),
+        (Command::Log2(Some(96)), LONG_HEADER_EVENT, ONE_EVENT),
         // The event that has the header doesn't keep to the last entry.
         (Command::Log2(Some(65)), LONG_HEADER_EVENT, NO_HEADER),
+    ];
+    each_lists(rt.alloc(), &rows, Outcome::Listed)
+}
+
+#[test]
+fn events_may_begin_where_the_header_event_ends(rt: HostRuntime) -> Result<(), Fail> {
+    let rows: [Row<'_>; 8] = [
+        (Command::Log2After(Some(81)), LONG_HEADER_EVENT, ONE_EVENT),
+        (Command::Log2After(Some(97)), LONG_HEADER_EVENT, ONE_EVENT),
+        // The only event after the header event doesn't keep to the last entry.
+        (
+            Command::Log2After(Some(96)),
+            LONG_HEADER_EVENT,
+            SHA1_LISTING,
+        ),
+        (Command::Log2After(Some(0)), LONG_HEADER_EVENT, SHA1_LISTING),
+        (Command::Log2After(Some(65)), LONG_HEADER_EVENT, NO_HEADER),
+        (Command::Log2After(None), LONG_HEADER_EVENT, NO_HEADER),
+        (Command::Log2After(Some(0)), SHA1_HEADER, SHA1_LISTING),
+        (Command::Log2After(Some(34)), LOG1, NO_HEADER),
     ];
     each_lists(rt.alloc(), &rows, Outcome::Listed)
 }

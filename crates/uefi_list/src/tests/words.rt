@@ -55,6 +55,8 @@ fn a_last_entry_may_be_missing(rt: HostRuntime) -> Result<(), Fail> {
         asks(rt.alloc(), &log1, Some(Command::Log1(last_entry)))?;
         let log2 = ["log2", "boot.log", word];
         asks(rt.alloc(), &log2, Some(Command::Log2(last_entry)))?;
+        let log2after = ["log2after", "boot.log", word];
+        asks(rt.alloc(), &log2after, Some(Command::Log2After(last_entry)))?;
     }
     Ok(())
 }
@@ -64,6 +66,7 @@ fn a_word_that_is_no_last_entry_asks_for_nothing(rt: HostRuntime) -> Result<(), 
     for word in ["", "--", "-34", "+34", "0x22", "18446744073709551616"] {
         asks(rt.alloc(), &["log1", "boot.log", word], None)?;
         asks(rt.alloc(), &["log2", "boot.log", word], None)?;
+        asks(rt.alloc(), &["log2after", "boot.log", word], None)?;
     }
     Ok(())
 }
@@ -89,7 +92,7 @@ fn a_word_that_is_no_number_asks_for_nothing(rt: HostRuntime) -> Result<(), Fail
 
 #[test]
 fn all_other_words_ask_for_none(rt: HostRuntime) -> Result<(), Fail> {
-    let others: [&[&str]; 18] = [
+    let others: [&[&str]; 20] = [
         &[],
         &["path"],
         &["boot.dp", "path"],
@@ -104,6 +107,8 @@ fn all_other_words_ask_for_none(rt: HostRuntime) -> Result<(), Fail> {
         &["log1", "boot.log"],
         &["log2", "boot.log"],
         &["log2", "-", "boot.log"],
+        &["log2after", "boot.log"],
+        &["log2 after", "boot.log", "-"],
         &["log3", "boot.log", "-"],
         &["config", "setup.txt", "1"],
         &["pci"],
