@@ -166,66 +166,68 @@ pub(super) const TWO_DIGESTS_LISTING: &str =
     event 0 0x00000008\n  digest 0x0004 1111111111111111111111111111111111111111\n  \
     digest 0x0004 2222222222222222222222222222222222222222\nevents 1\n";
 
+/// Logs whose digests have the sizes of the first rows, and logs whose event isn't whole.
+const DIGESTS: [Row<'_>; 6] = [
+    // More algorithms than are kept beside the rows, the ninth with two rows and with one.
+    (
+        Command::Log2(Some(101)),
+        "00000000 03000000 0000000000000000000000000000000000000000 \
+         45000000 53706563204944204576656e74303300 00000000 00020002 0a000000 \
+         01000100 02000200 03000300 04000400 05000500 06000600 07000700 08000800 09000900 \
+         09000100 00 00000000 08000000 01000000 0900 aaaaaaaaaaaaaaaaaa 00000000",
+        "header 0 2.0.0 2\n  algorithm 0x0001 1\n  algorithm 0x0002 2\n  \
+         algorithm 0x0003 3\n  algorithm 0x0004 4\n  algorithm 0x0005 5\n  \
+         algorithm 0x0006 6\n  algorithm 0x0007 7\n  algorithm 0x0008 8\n  \
+         algorithm 0x0009 9\n  algorithm 0x0009 1\nvendor\n\
+         event 0 0x00000008\n  digest 0x0009 aaaaaaaaaaaaaaaaaa\nevents 1\n",
+    ),
+    (
+        Command::Log2(Some(97)),
+        "00000000 03000000 0000000000000000000000000000000000000000 \
+         41000000 53706563204944204576656e74303300 00000000 00020002 09000000 \
+         01000100 02000200 03000300 04000400 05000500 06000600 07000700 08000800 09000900 00 \
+         00000000 08000000 01000000 0900 aaaaaaaaaaaaaaaaaa 00000000",
+        "header 0 2.0.0 2\n  algorithm 0x0001 1\n  algorithm 0x0002 2\n  \
+         algorithm 0x0003 3\n  algorithm 0x0004 4\n  algorithm 0x0005 5\n  \
+         algorithm 0x0006 6\n  algorithm 0x0007 7\n  algorithm 0x0008 8\n  \
+         algorithm 0x0009 9\nvendor\n\
+         event 0 0x00000008\n  digest 0x0009 aaaaaaaaaaaaaaaaaa\nevents 1\n",
+    ),
+    // An event with more digests than rows.
+    (
+        Command::Log2(Some(65)),
+        "00000000 03000000 0000000000000000000000000000000000000000 \
+         21000000 53706563204944204576656e74303300 00000000 00020002 01000000 04001400 00 \
+         00000000 08000000 02000000 \
+         0400 1111111111111111111111111111111111111111 \
+         0400 2222222222222222222222222222222222222222 00000000",
+        SHA1_LISTING,
+    ),
+    // The same under two rows.
+    (Command::Log2(Some(69)), TWO_DIGESTS, TWO_DIGESTS_LISTING),
+    // An event with more data than there are bytes.
+    (
+        Command::Log2(Some(105)),
+        "00000000 03000000 0000000000000000000000000000000000000000 \
+         21000000 53706563204944204576656e74303300 00000000 00020002 01000000 04001400 00 \
+         00000000 08000000 01000000 \
+         0400 1111111111111111111111111111111111111111 00010000 0000",
+        SHA1_LISTING,
+    ),
+    // A digest of no bytes.
+    (
+        Command::Log2(Some(65)),
+        "00000000 03000000 0000000000000000000000000000000000000000 \
+         21000000 53706563204944204576656e74303300 00000000 00020002 01000000 04000000 00 \
+         00000000 08000000 01000000 0400 00000000",
+        "header 0 2.0.0 2\n  algorithm 0x0004 0\nvendor\nevent 0 0x00000008\n  \
+         digest 0x0004\nevents 1\n",
+    ),
+];
+
 #[test]
 fn digests_have_the_sizes_of_the_first_rows(rt: HostRuntime) -> Result<(), Fail> {
-    let rows: [Row<'_>; 6] = [
-        // More algorithms than are kept beside the rows, the ninth with two rows and with one.
-        (
-            Command::Log2(Some(101)),
-            "00000000 03000000 0000000000000000000000000000000000000000 \
-             45000000 53706563204944204576656e74303300 00000000 00020002 0a000000 \
-             01000100 02000200 03000300 04000400 05000500 06000600 07000700 08000800 09000900 \
-             09000100 00 00000000 08000000 01000000 0900 aaaaaaaaaaaaaaaaaa 00000000",
-            "header 0 2.0.0 2\n  algorithm 0x0001 1\n  algorithm 0x0002 2\n  \
-             algorithm 0x0003 3\n  algorithm 0x0004 4\n  algorithm 0x0005 5\n  \
-             algorithm 0x0006 6\n  algorithm 0x0007 7\n  algorithm 0x0008 8\n  \
-             algorithm 0x0009 9\n  algorithm 0x0009 1\nvendor\n\
-             event 0 0x00000008\n  digest 0x0009 aaaaaaaaaaaaaaaaaa\nevents 1\n",
-        ),
-        (
-            Command::Log2(Some(97)),
-            "00000000 03000000 0000000000000000000000000000000000000000 \
-             41000000 53706563204944204576656e74303300 00000000 00020002 09000000 \
-             01000100 02000200 03000300 04000400 05000500 06000600 07000700 08000800 09000900 00 \
-             00000000 08000000 01000000 0900 aaaaaaaaaaaaaaaaaa 00000000",
-            "header 0 2.0.0 2\n  algorithm 0x0001 1\n  algorithm 0x0002 2\n  \
-             algorithm 0x0003 3\n  algorithm 0x0004 4\n  algorithm 0x0005 5\n  \
-             algorithm 0x0006 6\n  algorithm 0x0007 7\n  algorithm 0x0008 8\n  \
-             algorithm 0x0009 9\nvendor\n\
-             event 0 0x00000008\n  digest 0x0009 aaaaaaaaaaaaaaaaaa\nevents 1\n",
-        ),
-        // An event with more digests than rows.
-        (
-            Command::Log2(Some(65)),
-            "00000000 03000000 0000000000000000000000000000000000000000 \
-             21000000 53706563204944204576656e74303300 00000000 00020002 01000000 04001400 00 \
-             00000000 08000000 02000000 \
-             0400 1111111111111111111111111111111111111111 \
-             0400 2222222222222222222222222222222222222222 00000000",
-            SHA1_LISTING,
-        ),
-        // The same under two rows.
-        (Command::Log2(Some(69)), TWO_DIGESTS, TWO_DIGESTS_LISTING),
-        // An event with more data than there are bytes.
-        (
-            Command::Log2(Some(105)),
-            "00000000 03000000 0000000000000000000000000000000000000000 \
-             21000000 53706563204944204576656e74303300 00000000 00020002 01000000 04001400 00 \
-             00000000 08000000 01000000 \
-             0400 1111111111111111111111111111111111111111 00010000 0000",
-            SHA1_LISTING,
-        ),
-        // A digest of no bytes.
-        (
-            Command::Log2(Some(65)),
-            "00000000 03000000 0000000000000000000000000000000000000000 \
-             21000000 53706563204944204576656e74303300 00000000 00020002 01000000 04000000 00 \
-             00000000 08000000 01000000 0400 00000000",
-            "header 0 2.0.0 2\n  algorithm 0x0004 0\nvendor\nevent 0 0x00000008\n  \
-             digest 0x0004\nevents 1\n",
-        ),
-    ];
-    each_lists(rt.alloc(), &rows, Outcome::Listed)
+    each_lists(rt.alloc(), &DIGESTS, Outcome::Listed)
 }
 
 /// A header of 65 bytes in an event of 81, and 16 zero bytes after it.
