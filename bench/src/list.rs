@@ -20,6 +20,9 @@ pub fn run(words: &[&str]) -> io::Result<ExitCode> {
         ["path", file] => path::list(&mut out, &fs::read(file)?)?,
         ["log1", file, last] => log1::list(&mut out, &fs::read(file)?, last_entry(last)?)?,
         ["log2", file, last] => log2::list(&mut out, &fs::read(file)?, last_entry(last)?)?,
+        ["log2after", file, last] => {
+            log2::list_after_header_event(&mut out, &fs::read(file)?, last_entry(last)?)?
+        }
         ["config", file] => config::list(&mut out, &fs::read(file)?)?,
         ["map", file, stride] => map::list(&mut out, &fs::read(file)?, number(stride)?)?,
         ["pci", file] => pci::list(&mut out, &fs::read(file)?)?,
