@@ -20,7 +20,8 @@ pub fn collected_events<'a>(
     last_entry: usize,
 ) -> Result<Vec<PcrEvent<'a>>, AllocError>
     ensures { IfOk result
-        (λ events. IsLogOf after_header (Some bytes.now) (Some last_entry) (map event_of events.items)) }
+        (λ events. IsLogOf after_header (Some bytes.now) (Some last_entry)
+        (map event_of events.items)) }
 {
     EventLog::new(Some(bytes), Some(last_entry), false)
         .iter()
@@ -34,7 +35,8 @@ pub fn events_after_header_event<'a>(
     last_entry: usize,
 ) -> Result<Vec<PcrEvent<'a>>, AllocError>
     ensures { IfOk result
-        (λ events. IsLogOf after_event (Some bytes.now) (Some last_entry) (map event_of events.items)) }
+        (λ events. IsLogOf after_event (Some bytes.now) (Some last_entry)
+        (map event_of events.items)) }
 {
     EventLog::new(Some(bytes), Some(last_entry), false)
         .iter_after_header_event()
