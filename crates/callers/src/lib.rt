@@ -12,6 +12,8 @@ pub mod events;
 pub mod flags;
 pub mod full_map;
 pub mod logs;
+#[cfg(test)]
+mod machine_log;
 pub mod map;
 pub mod path;
 pub mod records;
