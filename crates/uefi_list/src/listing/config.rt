@@ -182,15 +182,16 @@ fn push_nv_pair<A: Allocator>(text: &mut String<A>, pair: &NvPair<A>) -> Result<
 fn push_fault<A: Allocator>(text: &mut String<A>, fault: ParseError) -> Result<(), AllocError>
     ensures { OnOk result (AppendsText text.old text.new (fault_line fault)) }
 {
-    match fault {
+    let line = match fault {
         ParseError::ConfigHdr(part) => {
             let name = section_name(part);
-            writeln!(text, "fault ConfigHdr({name})")
+            return writeln!(text, "fault ConfigHdr({name})");
         }
-        ParseError::BlockName => writeln!(text, "fault BlockName"),
-        ParseError::BlockConfig => writeln!(text, "fault BlockConfig"),
-        ParseError::Memory => Ok(()),
-    }
+        ParseError::BlockName => "fault BlockName\n",
+        ParseError::BlockConfig => "fault BlockConfig\n",
+        ParseError::Memory => "",
+    };
+    text.push_str(line)
 }
 
 /// The name of a part of a header.

@@ -81,11 +81,12 @@ impl fmt::Display for Kind {
     ghost output = { λ kind. Some (kind_text kind.0) };
 
     fn fmt<W: fmt::Write>(&self, f: &mut fmt::Formatter<W>) -> fmt::Result {
-        match self.0 {
-            ResourceRangeType::Memory => write!(f, "Memory"),
-            ResourceRangeType::Io => write!(f, "Io"),
-            ResourceRangeType::Bus => write!(f, "Bus"),
-            ResourceRangeType::Unknown(number) => write!(f, "Unknown({number})"),
-        }
+        let name = match self.0 {
+            ResourceRangeType::Memory => "Memory",
+            ResourceRangeType::Io => "Io",
+            ResourceRangeType::Bus => "Bus",
+            ResourceRangeType::Unknown(number) => return write!(f, "Unknown({number})"),
+        };
+        f.write_str(name)
     }
 }
