@@ -1,5 +1,7 @@
 use std::alloc::{AllocError, Global};
-use uefi_hii::{ConfigurationString, ConfigurationStringIter, MultiConfigurationStringIter};
+use uefi_hii::{
+    ConfigurationString, ConfigurationStringIter, MultiConfigurationStringIter, fill_from_hex,
+};
 
 /// The text that the bytes are; or the empty text where they aren't UTF-8.
 fn text_of(bytes: &[u8]) -> &str {
@@ -66,13 +68,17 @@ fn value_sum(configuration: &ConfigurationString) -> u64 {
     sum
 }
 
-/// Collects the bytes that the text spells in hex. The sum is over their number and the first.
+/// Fills memory with the bytes that the text spells in hex. The sum is over their number and the first.
 #[unsafe(no_mangle)]
 pub extern "C" fn port_hex(alloc: Global, bytes: &[u8]) -> u64 {
-    let digits = ConfigurationString::parse_bytes_from_hex(text_of(bytes));
-    let spelled: Result<Vec<u8>, AllocError> = digits.collect(alloc);
-    match spelled {
-        Ok(spelled) => (spelled.len() as u64).wrapping_add(first_of(spelled.as_slice())),
+    let text = text_of(bytes);
+    let count = ConfigurationString::parse_bytes_from_hex(text).len();
+    let filled: Result<Vec<u8>, AllocError> = vec![in alloc; 0; count];
+    match filled {
+        Ok(mut filled) => {
+            fill_from_hex(text, &mut filled);
+            (filled.len() as u64).wrapping_add(first_of(filled.as_slice()))
+        }
         Err(_) => 0,
     }
 }
