@@ -22,7 +22,7 @@ const INPUTS: u64 = 200_000;
 /// An input that takes longer hangs.
 const INPUT_LIMIT: Duration = Duration::from_secs(20);
 
-/// One input in so many is also listed by the program in a process of its own.
+/// One input in this many is also listed by the program in a process of its own.
 const PROCESS_SHARE: u64 = 1000;
 
 /// The most inputs that a command's pool grows to.

@@ -8,8 +8,8 @@ pub struct Descriptor<'a> {
 }
 
 impl Descriptor<'_> {
-    fn u64_at(&self, place: usize) -> u64 {
-        u64::from_le_bytes(self.bytes[place..place + 8].try_into().unwrap())
+    fn u64_at(&self, offset: usize) -> u64 {
+        u64::from_le_bytes(self.bytes[offset..offset + 8].try_into().unwrap())
     }
 
     pub fn ty(&self) -> u32 {

@@ -32,9 +32,9 @@ pub struct Range {
     pub address_length: u64,
 }
 
-fn u64_at(record: &[u8; RECORD_LENGTH], place: usize) -> u64 {
+fn u64_at(record: &[u8; RECORD_LENGTH], offset: usize) -> u64 {
     let mut number = [0; 8];
-    number.copy_from_slice(&record[place..place + 8]);
+    number.copy_from_slice(&record[offset..offset + 8]);
     u64::from_le_bytes(number)
 }
 

@@ -1,7 +1,7 @@
 use std::alloc::{AllocError, Global};
 
 /// Appends two hex digits for each byte.
-pub fn push_hex(text: &mut String, bytes: &[u8]) -> Result<(), AllocError> {
+pub(crate) fn push_hex(text: &mut String, bytes: &[u8]) -> Result<(), AllocError> {
     for byte in bytes {
         write!(text, "{byte:02x}")?;
     }
@@ -9,7 +9,7 @@ pub fn push_hex(text: &mut String, bytes: &[u8]) -> Result<(), AllocError> {
 }
 
 /// The texts, one after another.
-pub fn joined(alloc: Global, texts: &[&str]) -> Result<String, AllocError> {
+pub(crate) fn joined(alloc: Global, texts: &[&str]) -> Result<String, AllocError> {
     let mut whole = String::new(alloc);
     for text in texts {
         whole.push_str(text)?;

@@ -137,7 +137,7 @@ pub const LOGS: [(&[&str], Option<usize>, Option<usize>, &[&str]); 19] = [
 
 /// The events that an iterator gives, one a line: register, type, data, and each digest after its
 /// algorithm.
-pub fn lines_of(alloc: Global, events: EventLogIter<'_>) -> Result<String, AllocError> {
+pub(crate) fn lines_of(alloc: Global, events: EventLogIter<'_>) -> Result<String, AllocError> {
     let mut lines = String::new(alloc);
     for event in events {
         write!(

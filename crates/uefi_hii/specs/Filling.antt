@@ -1,4 +1,4 @@
--- A buffer that is filled with the bytes that a text spells.
+-- A buffer that is filled with the bytes that a text spells in hex (UEFI 2.10, 35.2.1 "String Syntax").
 use Rattle.std.specs.Prelude.{ℕ, ◌≡◌, ◌*◌, List, ◌++◌, take, drop, Bool, is_some}
 use Rattle.uefi_hii.specs.Hex.{hex, hex_digit}
 

@@ -59,9 +59,9 @@ fn fill_block(text: &[u8], out: &mut [u8], start: usize)
     requires so_far { IsFilledTo start text.now out.old }
     ensures { IsFilledTo (start + 16) text.now out.new }
 {
-    let front = u8x16::from_slice(&text[BYTE_LENGTH * start..]);
-    let back = u8x16::from_slice(&text[BYTE_LENGTH * start + LANES..]);
-    let (high, low) = front.deinterleave(back);
+    let first = u8x16::from_slice(&text[BYTE_LENGTH * start..]);
+    let second = u8x16::from_slice(&text[BYTE_LENGTH * start + LANES..]);
+    let (high, low) = first.deinterleave(second);
     if are_digits(high) && are_digits(low) {
         let bytes = digit_values(high) * u8x16::splat(16) + digit_values(low);
         bytes.copy_to_slice(&mut out[start..]);
