@@ -101,9 +101,7 @@ const ELEVEN_ROWS: &str = "00000000 03000000 00000000000000000000000000000000000
     04000400 00";
 
 #[test]
-fn each_algorithm_of_a_long_table_has_the_size_of_its_first_row(
-    rt: HostRuntime,
-) -> Result<(), Fail> {
+fn a_row_after_the_first_eight_algorithms_is_found(rt: HostRuntime) -> Result<(), Fail> {
     let input = bytes(rt.alloc(), ELEVEN_ROWS)?;
     let log = EventLog::new(Some(input.as_slice()), Some(0), false);
     let sizes = log.header().ok_or("the header")?.algorithm_digest_sizes();

@@ -168,7 +168,7 @@ pub(super) const TWO_DIGESTS_LISTING: &str =
 
 /// Logs whose digests have the sizes of the first rows, and logs whose event isn't whole.
 const DIGESTS: [Row<'_>; 6] = [
-    // Nine algorithms, the last with two rows and with one.
+    // More algorithms than are kept beside the rows, the ninth with two rows and with one.
     (
         Command::Log2(Some(101)),
         "00000000 03000000 0000000000000000000000000000000000000000 \
