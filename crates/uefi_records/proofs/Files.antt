@@ -2,6 +2,7 @@
 pub mod Names
 pub mod FirstZero
 pub mod UnitLanes
+pub mod NonzeroPages
 pub mod Judging
 pub mod Prefixes
 pub mod FieldsBack

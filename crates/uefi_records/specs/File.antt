@@ -4,5 +4,6 @@ pub mod Verdict
 pub mod FileInfo
 pub mod FileSystemInfo
 pub mod Identity
+pub mod Nonzero
 pub mod Texts
 pub mod Views
