@@ -52,12 +52,16 @@ fn one_by_one(bytes: &[u8]) -> Option<usize> {
     None
 }
 
-/// Checks that a zero unit at each index is found where a search one unit at a time finds it.
+/// Checks that a zero unit at the index is found where a search one unit at a time finds it.
+fn is_found(alloc: Global, length: usize, index: usize) -> Result<(), Fail> {
+    let bytes = zero_at(alloc, length, index)?;
+    let expected = one_by_one(bytes.as_slice());
+    same("a zero unit", &first_zero_unit(bytes.as_slice()), &expected)
+}
+
 fn each_index_is_found(alloc: Global, length: usize) -> Result<(), Fail> {
     for index in 0..=length / 2 {
-        let bytes = zero_at(alloc, length, index)?;
-        let expected = one_by_one(bytes.as_slice());
-        same("a zero unit", &first_zero_unit(bytes.as_slice()), &expected)?;
+        is_found(alloc, length, index)?;
     }
     Ok(())
 }
@@ -66,6 +70,22 @@ fn each_index_is_found(alloc: Global, length: usize) -> Result<(), Fail> {
 fn a_zero_unit_at_each_index_is_found_as_one_by_one(rt: HostRuntime) -> Result<(), Fail> {
     for length in 0..=LONGEST {
         each_index_is_found(rt.alloc(), length)?;
+    }
+    Ok(())
+}
+
+/// The bytes of more than twice eight pages, of which each has 2048 units.
+const MANY_PAGES: usize = 70_001;
+
+/// Indices about the ends of pages, and behind all units.
+const ABOUT_PAGES: [usize; 13] = [
+    0, 15, 16, 2_047, 2_048, 14_336, 16_383, 16_384, 18_432, 32_767, 32_768, 34_999, 35_000,
+];
+
+#[test]
+fn a_zero_unit_about_the_end_of_a_page_is_found_as_one_by_one(rt: HostRuntime) -> Result<(), Fail> {
+    for index in ABOUT_PAGES {
+        is_found(rt.alloc(), MANY_PAGES, index)?;
     }
     Ok(())
 }
