@@ -42,10 +42,10 @@ pub fn first_zero_unit(bytes: &[u8]) -> Option<usize>
     first_zero_from(bytes, index)
 }
 
-/// How many units come before the first eight pages with a zero, or with too few bytes.
+/// How many units come before the first eight pages in which a unit is zero, or bytes are missing.
 ///
-/// A processor reads ahead within a page alone. So the memory answers sooner where several pages are
-/// read side by side.
+/// A processor reads ahead within a page alone, so eight pages side by side are read sooner than one
+/// after another.
 fn nonzero_pages(bytes: &[u8]) -> usize
     ensures within { unit_length * result ≤ length bytes.now }
     ensures nonzero { first_zero (units_of bytes.now) ≡ position_from (λ unit. unit == 0) result
