@@ -1,5 +1,5 @@
 ghost use Rattle.std.specs.Prelude.{◌≡◌};
-ghost use Rattle.uefi_path.specs.Header.{header};
+ghost use Rattle.uefi_path.specs.Header.{header, ReadsHeader};
 
 use crate::device_type::{DeviceSubType, DeviceType};
 use crate::error::ByteConversionError;
@@ -73,7 +73,6 @@ impl DevicePathHeader {
 /// [`ByteConversionError::InvalidLength`] if there are fewer than four bytes.
 impl<'a> TryFrom<&'a [u8]> for DevicePathHeader {
     ghost use Rattle.uefi_path.specs.Views.{header_of};
-    ghost use Rattle.uefi_path.specs.Header.{ReadsHeader};
 
     type Error = ByteConversionError;
 

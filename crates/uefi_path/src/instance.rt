@@ -1,4 +1,6 @@
-ghost use Rattle.std.specs.Prelude.{◌≡◌, ◌^◌, ◌<◌, length, IfOk};
+ghost use Rattle.std.specs.Prelude.{◌≡◌, ◌^◌, ◌<◌, length, IfOk, nat_eq};
+ghost use Rattle.std.specs.Cmp.{partial_equiv_from_equiv, on_per, on_equiv};
+ghost use Rattle.std.specs.Cmp.Lexicographic.{pointwise, nat_list_eq_equiv};
 ghost use Rattle.uefi_path.specs.Node.{joined, IsEnd};
 ghost use Rattle.uefi_path.specs.Path.{IsInstance, all_but_last};
 ghost use Rattle.uefi_path.specs.Encoding.{IsEncodingOfNodes, EncodesInstance};
@@ -61,9 +63,6 @@ impl<'a> DevicePathInstance<'a> {
 
 /// Two instances are equal if all their bytes are.
 impl<'a> PartialEq for DevicePathInstance<'a> {
-    ghost use Rattle.std.specs.Prelude.{nat_eq};
-    ghost use Rattle.std.specs.Cmp.{partial_equiv_from_equiv, on_per};
-    ghost use Rattle.std.specs.Cmp.Lexicographic.{pointwise, nat_list_eq_equiv};
     ghost use Rattle.uefi_path.specs.Views.{instance_bytes};
 
     ghost eq = { λ x y. pointwise nat_eq (instance_bytes x) (instance_bytes y) };
@@ -76,8 +75,6 @@ impl<'a> PartialEq for DevicePathInstance<'a> {
 }
 
 impl<'a> Eq for DevicePathInstance<'a> {
-    ghost use Rattle.std.specs.Cmp.{on_equiv};
-    ghost use Rattle.std.specs.Cmp.Lexicographic.{nat_list_eq_equiv};
     ghost use Rattle.uefi_path.specs.Views.{instance_bytes};
 
     ghost laws = { on_equiv instance_bytes nat_list_eq_equiv };

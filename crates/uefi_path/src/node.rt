@@ -1,4 +1,6 @@
-ghost use Rattle.std.specs.Prelude.{◌≡◌, ◌↔◌, ◌+◌, length, IsTrue};
+ghost use Rattle.std.specs.Prelude.{◌≡◌, ◌↔◌, ◌+◌, length, IsTrue, nat_eq, Some};
+ghost use Rattle.std.specs.Cmp.{partial_equiv_from_equiv, on_per, on_equiv};
+ghost use Rattle.std.specs.Cmp.Lexicographic.{pointwise, nat_list_eq_equiv};
 ghost use Rattle.uefi_path.specs.Node.{encoding, IsEndEntire};
 ghost use Rattle.uefi_path.specs.Encoding.{IsEncodingOfNode, EncodesNode};
 ghost use Rattle.uefi_path.specs.OneNode.{EncodesNode-prop};
@@ -120,9 +122,6 @@ impl<'a> TryFrom<&'a [u8]> for DevicePathNode<'a> {
 
 /// Two nodes are equal if all their bytes are.
 impl<'a> PartialEq for DevicePathNode<'a> {
-    ghost use Rattle.std.specs.Prelude.{nat_eq};
-    ghost use Rattle.std.specs.Cmp.{partial_equiv_from_equiv, on_per};
-    ghost use Rattle.std.specs.Cmp.Lexicographic.{pointwise, nat_list_eq_equiv};
     ghost use Rattle.uefi_path.specs.Views.{node_bytes};
 
     ghost eq = { λ x y. pointwise nat_eq (node_bytes x) (node_bytes y) };
@@ -135,8 +134,6 @@ impl<'a> PartialEq for DevicePathNode<'a> {
 }
 
 impl<'a> Eq for DevicePathNode<'a> {
-    ghost use Rattle.std.specs.Cmp.{on_equiv};
-    ghost use Rattle.std.specs.Cmp.Lexicographic.{nat_list_eq_equiv};
     ghost use Rattle.uefi_path.specs.Views.{node_bytes};
 
     ghost laws = { on_equiv node_bytes nat_list_eq_equiv };
@@ -144,7 +141,6 @@ impl<'a> Eq for DevicePathNode<'a> {
 
 /// Writes `<device path node: N bytes>`, where N is the length of the data in decimal.
 impl<'a> fmt::Display for DevicePathNode<'a> {
-    ghost use Rattle.std.specs.Prelude.{Some};
     ghost use Rattle.uefi_path.specs.Texts.{node_text};
 
     ghost output = { λ view. Some (node_text view) };

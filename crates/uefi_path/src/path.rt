@@ -1,4 +1,6 @@
-ghost use Rattle.std.specs.Prelude.{◌≡◌, ◌*◌, ◌^◌, ◌<◌, ◌≤◌, length, IfOk};
+ghost use Rattle.std.specs.Prelude.{◌≡◌, ◌*◌, ◌^◌, ◌<◌, ◌≤◌, length, IfOk, nat_eq, Some};
+ghost use Rattle.std.specs.Cmp.{partial_equiv_from_equiv, on_per, on_equiv};
+ghost use Rattle.std.specs.Cmp.Lexicographic.{pointwise, nat_list_eq_equiv};
 ghost use Rattle.uefi_path.specs.Node.{joined, IsEndEntire};
 ghost use Rattle.uefi_path.specs.Path.{IsPath, AreInstances, all_but_last};
 ghost use Rattle.uefi_path.specs.Encoding.{IsEncodingOfNodes, EncodesPath};
@@ -130,9 +132,6 @@ impl<'a> TryFrom<&'a [u8]> for DevicePath<'a> {
 
 /// Two paths are equal if all their bytes are.
 impl<'a> PartialEq for DevicePath<'a> {
-    ghost use Rattle.std.specs.Prelude.{nat_eq};
-    ghost use Rattle.std.specs.Cmp.{partial_equiv_from_equiv, on_per};
-    ghost use Rattle.std.specs.Cmp.Lexicographic.{pointwise, nat_list_eq_equiv};
     ghost use Rattle.uefi_path.specs.Views.{path_bytes};
 
     ghost eq = { λ x y. pointwise nat_eq (path_bytes x) (path_bytes y) };
@@ -145,8 +144,6 @@ impl<'a> PartialEq for DevicePath<'a> {
 }
 
 impl<'a> Eq for DevicePath<'a> {
-    ghost use Rattle.std.specs.Cmp.{on_equiv};
-    ghost use Rattle.std.specs.Cmp.Lexicographic.{nat_list_eq_equiv};
     ghost use Rattle.uefi_path.specs.Views.{path_bytes};
 
     ghost laws = { on_equiv path_bytes nat_list_eq_equiv };
@@ -154,7 +151,6 @@ impl<'a> Eq for DevicePath<'a> {
 
 /// Writes `<device path: N bytes>`, where N is the length of the whole path in decimal.
 impl<'a> fmt::Display for DevicePath<'a> {
-    ghost use Rattle.std.specs.Prelude.{Some};
     ghost use Rattle.uefi_path.specs.Texts.{path_text};
 
     ghost output = { λ view. Some (path_text view) };
