@@ -7,15 +7,15 @@ use Rattle.uefi_path.specs.Node.{Node, Fits, encoding, joined, HasNode, IsEndEnt
 use Rattle.uefi_path.specs.Path.{HasNodes, HasPath}
 use Rattle.uefi_path.specs.OneNode.{stated_length}
 use Rattle.uefi_path.proofs.Nodes.{header_prefix, node_prefix}
-use Rattle.uefi_path.proofs.Passing.{HasNodes-node, HasNodes-after}
-use Rattle.uefi_path.proofs.Steps.{AreEndedBy-cons}
+use Rattle.uefi_path.proofs.Passing.{HasNodes-after}
+use Rattle.uefi_path.proofs.Steps.{HasNodes-node, AreEndedBy-one, AreEndedBy-cons}
 
 -- The length that bytes 2 and 3 state.
-abbrev stated : List ℕ → ℕ
+abbrev pub stated : List ℕ → ℕ
 stated bytes = get_or bytes 2 0 + get_or bytes 3 0 * 256
 
 -- Bytes that start with a node state a length of at least 4, and are at least that long.
-node_states : (bytes : List ℕ) → HasNode bytes → (4 ≤ length bytes) × (4 ≤ stated bytes) × (stated bytes ≤ length bytes)
+pub node_states : (bytes : List ℕ) → HasNode bytes → (4 ≤ length bytes) × (4 ≤ stated bytes) × (stated bytes ≤ length bytes)
 node_states bytes has =
     let node = has.0 in
     let rest = has.2.0 in
@@ -49,7 +49,7 @@ nodes_or_none P d zero bytes short small = no (λ has. absurd (omega (arith, sho
 nodes_or_none P d (suc k) bytes short small = by_node (node_or_none bytes small) (λ after less fit. nodes_or_none P d k after (omega (arith, less, short)) fit)
   where
     by_stop : (n : Node) (after : List ℕ) → Fits n → bytes ≡ encoding n ++ after → Dec (P n) → Dec (HasNodes P after) → Dec (HasNodes P bytes)
-    by_stop n after f e (yes so) more = yes (n ∷ [], record { each = (f, tt); end = so }, (after, e ∙ sym (append_assoc (encoding n) [] after)))
+    by_stop n after f e (yes so) more = yes (n ∷ [], AreEndedBy-one P n f so, (after, e ∙ sym (append_assoc (encoding n) [] after)))
     by_stop n after f e (no not_so) (yes m) =
         yes (n ∷ m.0, AreEndedBy-cons P n m.0 f not_so m.1, (m.2.0, e ∙ ap (λ s. encoding n ++ s) m.2.1 ∙ sym (append_assoc (encoding n) (joined m.0) m.2.0)))
     by_stop n after f e (no not_so) (no none) = no (λ has. none (HasNodes-after P bytes after n has f not_so e))

@@ -1,12 +1,12 @@
 -- The header and the node that bytes start with.
-use Rattle.std.proofs.Common.{◌≡◌, ℕ, suc, ◌+◌, ◌-◌, ◌*◌, ◌<◌, ◌≤◌, List, [], ◌∷◌, ◌++◌, length, take, get_or, sym, ◌∙◌, ap, subst, arith}
-use Rattle.std.specs.Int.{w16, to_le_bytes}
+use Rattle.std.proofs.Common.{◌≡◌, ℕ, ◌+◌, ◌-◌, ◌*◌, ◌<◌, ◌≤◌, List, [], ◌∷◌, ◌++◌, length, take, drop, get_or, sym, ◌∙◌, ap, arith}
 use Rattle.std.proofs.lemmas.List.{length-take-le}
-use Rattle.std.proofs.Math.Seq.{take-append_seam}
+use Rattle.std.proofs.Math.Seq.{take-append_seam, take-append-add}
 use Rattle.uefi_path.specs.Node.{encoding, HasNode}
-use Rattle.uefi_base.specs.LittleEndian.{u16_at}
+use Rattle.uefi_base.specs.LittleEndian.{u16_at, u16_bytes}
 use Rattle.uefi_base.specs.Prefix.{IsPrefix}
 use Rattle.uefi_base.proofs.NumbersBack.{two_bytes}
+use Rattle.uefi_base.proofs.Ranges.{items_from, drop-items_from}
 use Rattle.uefi_path.specs.declared.header.TheConstants.{LENGTH_OFFSET, HEADER_LENGTH}
 use Rattle.uefi_path.specs.Header.{header, header_bytes}
 use Rattle.uefi_path.specs.OneNode.{stated_length}
@@ -15,40 +15,30 @@ use Rattle.uefi_path.specs.Encoding.{EncodesNode}
 -- The first four bytes are a header.
 pub header_prefix : (bytes : List ℕ) (n : ℕ) → ((i : ℕ) → get_or bytes i 0 < 256) → 4 ≤ length bytes → n ≡ get_or bytes 2 0 + get_or bytes 3 0 * 256
     → IsPrefix (header_bytes (header (get_or bytes 0 0) (get_or bytes 1 0) n)) bytes
-header_prefix [] n small enough made = absurd (omega arith)
-header_prefix (a ∷ []) n small enough made = absurd (omega arith)
-header_prefix (a ∷ b ∷ []) n small enough made = absurd (omega arith)
-header_prefix (a ∷ b ∷ c ∷ []) n small enough made = absurd (omega arith)
-header_prefix (a ∷ b ∷ c ∷ d ∷ s) n small enough made =
-    (s, ap (λ two. a ∷ b ∷ two ++ s) (sym (two_bytes c d n (small 2) (small 3) made)))
-
--- A header that states the length 4 + m, and the m bytes after it, encode a node.
-node_of_parts : (t u m : ℕ) (s : List ℕ) → t < 256 → u < 256 → m ≤ length s → m ≤ 65531
-    → EncodesNode (take (suc (suc (suc (suc m)))) (header_bytes (header t u (4 + m)) ++ s))
-node_of_parts t u m s type_fits sub_type_fits within fits =
-    let data_length : length (take m s) ≡ m = length-take-le m s within in
-    let same_length : to_le_bytes w16 (4 + length (take m s)) ≡ to_le_bytes w16 (4 + m) = ap (λ k. to_le_bytes w16 (4 + k)) data_length in (
-      record { device_type = t; sub_type = u; payload = take m s },
-      record {
-        fits = record { device_type = type_fits; sub_type = sub_type_fits; payload = omega (arith, data_length) };
-        encoded = cc;
-      },
-    )
+unfolding items_from
+header_prefix bytes n small enough made =
+    let two : u16_bytes n ≡ get_or bytes 2 0 ∷ get_or bytes 3 0 ∷ [] = two_bytes (get_or bytes 2 0) (get_or bytes 3 0) n (small 2) (small 3) made in
+    (drop 4 bytes, drop-items_from 0 4 4 bytes (omega arith) enough ∙ ap (λ s. get_or bytes 0 0 ∷ get_or bytes 1 0 ∷ s ++ drop 4 bytes) (sym two))
 
 -- A prefix with the length that its header states encodes a node.
 pub node_prefix : (bytes : List ℕ) (t u n : ℕ) → ((i : ℕ) → get_or bytes i 0 < 256) → IsPrefix (header_bytes (header t u n)) bytes → 4 ≤ n → n ≤ length bytes → n < 65536
     → EncodesNode (take n bytes)
 node_prefix bytes t u n small prefix whole_header within fits =
-    let s = prefix.0 in
+    let bytes_of_header = header_bytes (header t u n) in
+    let payload = take (n - 4) prefix.0 in
     let first : get_or bytes 0 0 ≡ t = ap (λ b. get_or b 0 0) prefix.1 in
     let second : get_or bytes 1 0 ≡ u = ap (λ b. get_or b 1 0) prefix.1 in
-    let all : length bytes ≡ 4 + length s = omega (arith, ap length prefix.1) in
-    let from_data : suc (suc (suc (suc (n - 4)))) ≡ n = omega arith in
-    let stated : 4 + (n - 4) ≡ n = omega arith in
-    let parts = node_of_parts t u (n - 4) s (omega (arith, first, small 0)) (omega (arith, second, small 1)) (omega (arith, all)) (omega arith) in
-    subst (λ b. EncodesNode (take n b)) (sym prefix.1)
-    (subst (λ k. EncodesNode (take k (header_bytes (header t u n) ++ s))) from_data
-    (subst (λ m. EncodesNode (take (suc (suc (suc (suc (n - 4))))) (header_bytes (header t u m) ++ s))) stated parts))
+    let sized : length payload ≡ n - 4 = length-take-le (n - 4) prefix.0 (omega (arith, ap length prefix.1)) in
+    let stated : n ≡ 4 + length payload = omega (arith, sized) in
+    let cut : n ≡ length bytes_of_header + (n - 4) = omega arith in (
+      record { device_type = t; sub_type = u; payload = payload },
+      record {
+        fits = record { device_type = omega (arith, first, small 0); sub_type = omega (arith, second, small 1); payload = omega (arith, sized) };
+        encoded =
+            ap (take n) prefix.1 ∙ ap (λ k. take k (bytes_of_header ++ prefix.0)) cut ∙ take-append-add bytes_of_header prefix.0 (n - 4)
+            ∙ ap (λ k. header_bytes (header t u k) ++ payload) stated;
+      },
+    )
 
 -- If bytes start with a node, the prefix with the length that they state encodes it.
 pub stated_prefix : (bytes : List ℕ) (n : ℕ) → HasNode bytes → n ≡ u16_at bytes LENGTH_OFFSET → EncodesNode (take n bytes)

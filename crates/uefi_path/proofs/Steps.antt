@@ -1,35 +1,49 @@
 -- One step of the iterators.
-use Rattle.std.proofs.Common.{◌≡◌, ℕ, List, [], ◌∷◌, ◌++◌, length, refl, sym, ◌∙◌, ap, subst, arith}
+use Rattle.std.proofs.Common.{◌≡◌, ℕ, List, [], ◌∷◌, ◌++◌, length, refl, sym, ◌∙◌, ap, subst, append_assoc}
+use Rattle.std.proofs.lemmas.List.{append-nil, nil_from_length}
+use Rattle.uefi_base.specs.Prefix.{IsPrefix}
 use Rattle.uefi_path.specs.Node.{Node, Fits, encoding, joined, HasNode, IsEnd}
 use Rattle.uefi_path.specs.Path.{AreEndedBy, HasNodes, concat, all_but_last}
 use Rattle.uefi_path.specs.Encoding.{IsEncodingOfNodes, EncodesNodes, IsEncodingOfInstances, EncodesInstances}
-use Rattle.uefi_path.specs.OneNode.{one_encoding}
-use Rattle.uefi_path.specs.OnePath.{one_ended, nodes_encoded_once, instances_encoded_once, joined-append, some_bytes}
+use Rattle.uefi_path.specs.OnePath.{same_first, one_ended, nodes_encoded_once, instances_encoded_once, joined-append, some_bytes}
 
--- Bytes that encode such nodes start with a node.
-pub has_first_node : (P : Node → Type 0) (bytes : List ℕ) (nodes : List Node) → IsEncodingOfNodes P bytes nodes → HasNode bytes
-has_first_node P bytes [] encodes = absurd encodes.ended.end
-has_first_node P bytes (n ∷ nodes) encodes = (n, encodes.ended.each.0, (joined nodes, encodes.encoded))
+-- Bytes that start with such nodes start with a node.
+pub HasNodes-node : (P : Node → Type 0) (bytes : List ℕ) → HasNodes P bytes → HasNode bytes
+HasNodes-node P bytes has = go has.0 has.1 has.2
+  where
+    go : (nodes : List Node) → AreEndedBy P nodes → IsPrefix (joined nodes) bytes → HasNode bytes
+    go [] ended prefix = absurd ended.end
+    go (n ∷ nodes) ended prefix = (n, ended.each.0, (joined nodes ++ prefix.0, prefix.1 ∙ append_assoc (encoding n) (joined nodes) prefix.0))
+
+-- Bytes that encode such nodes start with them.
+pub HasNodes-encoded : (P : Node → Type 0) (bytes : List ℕ) (nodes : List Node) → IsEncodingOfNodes P bytes nodes → HasNodes P bytes
+HasNodes-encoded P bytes nodes encodes = (nodes, encodes.ended, ([], encodes.encoded ∙ sym (append-nil (joined nodes))))
+
+-- One node that satisfies P is such nodes.
+pub AreEndedBy-one : (P : Node → Type 0) (n : Node) → Fits n → P n → AreEndedBy P (n ∷ [])
+AreEndedBy-one P n fits so = record { each = (fits, tt); end = so }
 
 -- No node precedes the one that ends the list.
 pub none_before_end : (P : Node → Type 0) (bytes after : List ℕ) (n : Node) (nodes : List Node) → IsEncodingOfNodes P bytes nodes → Fits n → P n
     → bytes ≡ encoding n ++ after → all_but_last nodes ≡ []
-none_before_end P bytes after n [] encodes fits so e = refl
-none_before_end P bytes after n (m ∷ []) encodes fits so e = refl
-none_before_end P bytes after n (m ∷ k ∷ nodes) encodes fits so e =
-    let first = one_encoding n m after (joined (k ∷ nodes)) fits encodes.ended.each.0 (sym e ∙ encodes.encoded) in
-    absurd (encodes.ended.end.0 (subst P first.0 so))
+none_before_end P bytes after n nodes encodes fits so e =
+    let same : joined nodes ++ [] ≡ joined (n ∷ []) ++ after = append-nil (joined nodes) ∙ sym encodes.encoded ∙ e ∙ sym (append_assoc (encoding n) [] after) in
+    ap all_but_last (one_ended P nodes (n ∷ []) [] after encodes.ended (AreEndedBy-one P n fits so) same).0
 
--- After a node that doesn't end the list, the bytes encode the other nodes.
+-- After a node that doesn't end such nodes, the others follow.
+pub after_first : (P : Node → Type 0) (n : Node) (nodes : List Node) (after x : List ℕ) → Fits n → (P n → ⊥) → AreEndedBy P nodes → encoding n ++ after ≡ joined nodes ++ x
+    → (others : List Node) × AreEndedBy P others × (after ≡ joined others ++ x)
+after_first P n [] after x fits not_so ended e = absurd ended.end
+after_first P n (m ∷ []) after x fits not_so ended e = absurd (not_so (subst P (sym (same_first n m [] after x fits ended.each.0 e).0) ended.end))
+after_first P n (m ∷ k ∷ nodes) after x fits not_so ended e =
+    (k ∷ nodes, record { each = ended.each.1; end = ended.end.1 }, (same_first n m (k ∷ nodes) after x fits ended.each.0 e).1)
+
+-- So the bytes after it encode the others.
 pub after_node : (P : Node → Type 0) (bytes after : List ℕ) (n : Node) (nodes : List Node) → IsEncodingOfNodes P bytes nodes → Fits n → (P n → ⊥)
     → bytes ≡ encoding n ++ after → EncodesNodes P after
-after_node P bytes after n [] encodes fits not_so e = absurd encodes.ended.end
-after_node P bytes after n (m ∷ []) encodes fits not_so e =
-    let first = one_encoding n m after [] fits encodes.ended.each.0 (sym e ∙ encodes.encoded) in
-    absurd (not_so (subst P (sym first.0) encodes.ended.end))
-after_node P bytes after n (m ∷ k ∷ nodes) encodes fits not_so e =
-    let first = one_encoding n m after (joined (k ∷ nodes)) fits encodes.ended.each.0 (sym e ∙ encodes.encoded) in
-    (k ∷ nodes, record { ended = record { each = encodes.ended.each.1; end = encodes.ended.end.1 }; encoded = first.1 })
+after_node P bytes after n nodes encodes fits not_so e =
+    let others = after_first P n nodes after [] fits not_so encodes.ended (sym e ∙ encodes.encoded ∙ sym (append-nil (joined nodes))) in
+    (others.0, record { ended = others.1; encoded = others.2 ∙ append-nil (joined others.0) })
 
 -- One more node before such nodes.
 pub AreEndedBy-cons : (P : Node → Type 0) (n : Node) (others : List Node) → Fits n → (P n → ⊥) → AreEndedBy P others → AreEndedBy P (n ∷ others)
@@ -53,11 +67,7 @@ next_node P bytes after n nodes others encodes fits not_so e left =
 pub no_instance : (bytes : List ℕ) (instances : List (List Node)) → IsEncodingOfInstances bytes instances → length bytes ≡ 0 → instances ≡ []
 no_instance bytes [] encodes none = refl
 no_instance bytes (p ∷ instances) encodes none =
-    absurd (some_bytes p (joined (concat instances)) encodes.each.0 (sym (encodes.encoded ∙ joined-append p (concat instances)) ∙ no_element bytes none))
-  where
-    no_element : (s : List ℕ) → length s ≡ 0 → s ≡ []
-    no_element [] e = refl
-    no_element (b ∷ s) e = absurd (omega arith)
+    absurd (some_bytes p (joined (concat instances)) encodes.each.0 (sym (encodes.encoded ∙ joined-append p (concat instances)) ∙ nil_from_length bytes none))
 
 -- If bytes are left, they start with an instance.
 pub some_instance : (bytes : List ℕ) (instances : List (List Node)) → IsEncodingOfInstances bytes instances → (length bytes ≡ 0 → ⊥) → HasNodes IsEnd bytes

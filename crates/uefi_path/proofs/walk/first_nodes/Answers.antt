@@ -1,7 +1,8 @@
 use Rattle.std.proofs.Common.{◌≡◌, true, false}
 use Rattle.uefi_path.specs.Stop.{Stops}
 use Rattle.uefi_path.specs.Views.{node_of}
-use Rattle.uefi_path.proofs.Passing.{HasNodes-node, HasNodes-after, passed_more, passed_end}
+use Rattle.uefi_path.proofs.Passing.{HasNodes-after, passed_more, passed_end}
+use Rattle.uefi_path.proofs.Steps.{HasNodes-node}
 use Rattle.uefi_path.proofs.walk.first_nodes.Goals as goal
 
 pub first_node-requires : goal.first_node-requires

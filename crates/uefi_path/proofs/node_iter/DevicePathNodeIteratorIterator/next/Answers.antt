@@ -1,13 +1,13 @@
 use Rattle.std.proofs.Common.{◌≡◌, [], ◌∷◌, true, false, rules}
 use Rattle.uefi_path.specs.Stop.{Stops}
 use Rattle.uefi_path.specs.Views.{node_of, nodes_left}
-use Rattle.uefi_path.proofs.Steps.{has_first_node, none_before_end, after_node, next_node}
+use Rattle.uefi_path.proofs.Steps.{HasNodes-node, HasNodes-encoded, none_before_end, after_node, next_node}
 use Rattle.uefi_path.proofs.node_iter.DevicePathNodeIteratorIterator.next.Goals as goal
 
 pub first_node-requires : goal.first_node-requires
 first_node-requires c =
     let iter = c.args.self.now in
-    has_first_node (Stops iter.stop) iter.rest.now iter.nodes.0 iter.nodes.1
+    HasNodes-node (Stops iter.stop) iter.rest.now (HasNodes-encoded (Stops iter.stop) iter.rest.now iter.nodes.0 iter.nodes.1)
 
 pub returns-then-stops_at-clause-steps : goal.returns-then-stops_at-clause-steps
 returns-then-stops_at-clause-steps c =
