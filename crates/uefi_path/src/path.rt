@@ -71,6 +71,7 @@ impl<'a> DevicePath<'a> {
     }
 
     /// Returns an iterator over the instances of the path, in order.
+    #[tactic(auto, using(crate::proofs::Cuts::are_instances, crate::proofs::Counts::few_instances))]
     pub fn instance_iter(&self) -> DevicePathInstanceIterator<'a>
         ensures instances { AreInstances (instances_left result) (path_nodes self.now) }
         ensures countable { length (instances_left result) < 2 ^ 64 }
@@ -79,6 +80,7 @@ impl<'a> DevicePath<'a> {
     }
 
     /// Returns an iterator over the nodes before the end-entire one, in order.
+    #[tactic(auto, using(crate::specs::OnePath::same_nodes, crate::proofs::Counts::few_before_end))]
     pub fn node_iter(&self) -> DevicePathNodeIterator<'a>
         ensures nodes { nodes_left result ≡ all_but_last (path_nodes self.now) }
         ensures countable { length (nodes_left result) < 2 ^ 64 }
@@ -91,6 +93,7 @@ impl<'a> DevicePath<'a> {
     /// # Errors
     ///
     /// [`AllocError`] if an allocation fails.
+    #[tactic(auto, using(crate::specs::OnePath::same_nodes))]
     pub fn to_boxed<A: Allocator>(&self, alloc: A) -> Result<BoxedDevicePath<A>, AllocError>
         ensures { IfOk result (λ boxed. boxed_nodes boxed ≡ path_nodes self.now) }
     {
@@ -100,6 +103,7 @@ impl<'a> DevicePath<'a> {
 
     /// Returns all bytes of the path, including those of the end-entire node. A path of n bytes has
     /// at most n / 4 nodes.
+    #[tactic(auto, using(crate::proofs::Counts::four_bytes_each))]
     pub fn as_bytes(&self) -> &'a [u8]
         ensures bytes { result.now ≡ joined (path_nodes self.now) }
         ensures path { IsPath (path_nodes self.now) }
@@ -124,6 +128,7 @@ impl<'a> TryFrom<&'a [u8]> for DevicePath<'a> {
 
     ghost try_from_gives = { λ bytes read. ReadsPath path_nodes bytes.now read };
 
+    #[tactic(auto, using(crate::specs::OnePath::one_path))]
     fn try_from(bytes: &'a [u8]) -> Result<DevicePath<'a>, ByteConversionError> {
         let (path, _) = split_nodes(bytes, StopCondition::EndEntireNode)?;
         Ok(DevicePath::new_unchecked(path))
