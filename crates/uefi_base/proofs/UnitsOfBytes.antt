@@ -11,28 +11,26 @@ half_as_many_units [] = refl
 half_as_many_units (low ∷ []) = refl
 half_as_many_units (low ∷ high ∷ rest) = let counted = half_as_many_units rest in omega arith
 
+-- Twice the successor of k.
+twice : (k : ℕ) → 2 * suc k ≡ suc (suc (2 * k))
+twice k = omega arith
+
 -- A number of two bytes is the low byte and 256 times the high one.
 two_bytes : (bytes : List ℕ) (offset : ℕ) → u16_at bytes offset ≡ get_or bytes offset 0 + 256 * get_or bytes (offset + 1) 0
 two_bytes bytes offset = grind (arith, common_steps)
 
 -- A unit is the low byte and 256 times the high one at twice its index.
-two_bytes_of_unit : (bytes : List ℕ) (k : ℕ) → k < length (units_of bytes) → get_or (units_of bytes) k 0 ≡ get_or bytes (2 * k) 0 + 256 * get_or bytes (2 * k + 1) 0
+two_bytes_of_unit : (bytes : List ℕ) (k : ℕ) → k < length (units_of bytes) → get_or (units_of bytes) k 0 ≡ get_or bytes (2 * k) 0 + 256 * get_or bytes (suc (2 * k)) 0
 two_bytes_of_unit [] k within = absurd (omega arith)
 two_bytes_of_unit (low ∷ []) k within = absurd (omega arith)
 two_bytes_of_unit (low ∷ high ∷ rest) zero within = refl
-two_bytes_of_unit (low ∷ high ∷ rest) (suc k) within =
-    let low_offset : suc (suc (2 * k)) ≡ 2 * suc k = omega arith in
-    let high_offset : suc (suc (2 * k + 1)) ≡ 2 * suc k + 1 = omega arith in
-    two_bytes_of_unit rest k (omega arith) ∙ ap (λ i. get_or (low ∷ high ∷ rest) i 0 + 256 * get_or rest (2 * k + 1) 0) low_offset
-    ∙ ap (λ i. get_or (low ∷ high ∷ rest) (2 * suc k) 0 + 256 * get_or (low ∷ high ∷ rest) i 0) high_offset
+two_bytes_of_unit (low ∷ high ∷ rest) (suc k) within = rw (twice k) (two_bytes_of_unit rest k (omega arith))
 
 -- A unit is the number at twice its index.
 pub unit_at : (bytes : List ℕ) (k : ℕ) → k < length (units_of bytes) → get_or (units_of bytes) k 0 ≡ u16_at bytes (2 * k)
-unit_at bytes k within = two_bytes_of_unit bytes k within ∙ sym (two_bytes bytes (2 * k))
-
--- Twice the successor of k.
-twice : (k : ℕ) → 2 * suc k ≡ suc (suc (2 * k))
-twice k = omega arith
+unit_at bytes k within =
+    let high : suc (2 * k) ≡ 2 * k + 1 = omega arith in
+    two_bytes_of_unit bytes k within ∙ ap (λ i. get_or bytes (2 * k) 0 + 256 * get_or bytes i 0) high ∙ sym (two_bytes bytes (2 * k))
 
 -- The units of the first 2 k bytes are the first k units.
 units_of-take : (bytes : List ℕ) (k : ℕ) → units_of (take (2 * k) bytes) ≡ take k (units_of bytes)

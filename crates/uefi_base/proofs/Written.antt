@@ -4,14 +4,10 @@ use Rattle.std.specs.Prelude.{Result, Ok, Err, IfOk, OnOk, IfErr, OnErr, IsOk, M
 use Rattle.std.proofs.lemmas.List.{take_at, length-append}
 use Rattle.uefi_base.specs.Buffer.{put_prefix}
 
--- What holds of one value of a result holds with what else does, and what follows from it.
+-- What holds of one value of a result holds with what else does.
 pub and_also : {T E : Type 0} (P Q : Type 0) (r : Result T E) → OnOk r P → OnOk r Q → OnOk r (P × Q)
 and_also P Q (Ok v) p q = (p, q)
 and_also P Q (Err e) p q = tt
-
-pub if_ok : {T E : Type 0} {P Q : T → Type 0} → ((v : T) → P v → Q v) → (r : Result T E) → IfOk r P → IfOk r Q
-if_ok follows (Ok v) p = follows v p
-if_ok follows (Err e) p = tt
 
 -- What a writer ensures: where the record ends, what the buffer holds, what holds of the record, and when the writer fails and how.
 pub record Wrote {E : Type 0} (part old new : List ℕ) (size : ℕ) (Is Fits : Type 0) (Fails : E → Type 0) (written : Result ℕ E) : Type 0 where

@@ -1,4 +1,5 @@
-ghost use Rattle.std.specs.Prelude.{◌≡◌};
+ghost use Rattle.std.specs.Prelude.{◌≡◌, ◌++◌, Some};
+ghost use Rattle.uefi_base.specs.GuidText.{guid_text, hex_byte};
 
 use std::fmt;
 
@@ -36,9 +37,6 @@ impl Guid {
 /// `09576e92-6d3f-11d2-8e39-00a0c969723b`. The first three groups are the little-endian numbers of
 /// the table above, so their bytes appear in reverse order.
 impl fmt::Display for Guid {
-    ghost use Rattle.std.specs.Prelude.{Some};
-    ghost use Rattle.uefi_base.specs.GuidText.{guid_text};
-
     ghost output = { λ guid. Some (guid_text guid.0) };
 
     fn fmt<W: fmt::Write>(&self, f: &mut fmt::Formatter<W>) -> fmt::Result {
@@ -59,9 +57,6 @@ impl fmt::Display for Guid {
 struct HexPair(u8, u8);
 
 impl fmt::Display for HexPair {
-    ghost use Rattle.std.specs.Prelude.{Some, ◌++◌};
-    ghost use Rattle.uefi_base.specs.GuidText.{hex_byte};
-
     ghost output = { λ pair. Some (hex_byte pair.0 ++ hex_byte pair.1) };
 
     fn fmt<W: fmt::Write>(&self, f: &mut fmt::Formatter<W>) -> fmt::Result {

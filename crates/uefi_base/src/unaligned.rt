@@ -1,4 +1,6 @@
-ghost use Rattle.std.specs.Prelude.{◌≡◌, ◌↔◌, ◌%◌, ◌^◌, ◌<◌, [], length, slice_get, slice_index, IsTrue, IsOk, IfOk};
+ghost use Rattle.std.specs.Prelude.{◌≡◌, ◌↔◌, ◌%◌, ◌^◌, ◌<◌, [], length, slice_get, slice_index, IsTrue, IsOk, IfOk, Some, IfSome, nat_eq};
+ghost use Rattle.std.specs.Cmp.{partial_equiv_from_equiv, on_per, on_equiv};
+ghost use Rattle.std.specs.Cmp.Lexicographic.{pointwise, nat_list_eq_equiv};
 ghost use Rattle.std.specs.Result.{IsErrOf};
 ghost use Rattle.uefi_base.specs.Ucs2.{IsUcs2Text};
 ghost use Rattle.uefi_base.specs.Unaligned.{units_of};
@@ -155,9 +157,6 @@ impl<'a> UnalignedSlice<'a> {
 
 /// Two slices are equal if all their units are.
 impl PartialEq for UnalignedSlice<'_> {
-    ghost use Rattle.std.specs.Prelude.{nat_eq};
-    ghost use Rattle.std.specs.Cmp.{partial_equiv_from_equiv, on_per};
-    ghost use Rattle.std.specs.Cmp.Lexicographic.{pointwise, nat_list_eq_equiv};
     ghost use Rattle.uefi_base.specs.Views.{slice_units};
 
     ghost eq = { λ x y. pointwise nat_eq (slice_units x) (slice_units y) };
@@ -170,8 +169,6 @@ impl PartialEq for UnalignedSlice<'_> {
 }
 
 impl Eq for UnalignedSlice<'_> {
-    ghost use Rattle.std.specs.Cmp.{on_equiv};
-    ghost use Rattle.std.specs.Cmp.Lexicographic.{nat_list_eq_equiv};
     ghost use Rattle.uefi_base.specs.Views.{slice_units};
 
     ghost laws = { on_equiv slice_units nat_list_eq_equiv };
@@ -202,7 +199,6 @@ impl<'a> UnalignedSliceIter<'a> {
 }
 
 impl<'a> Iterator for UnalignedSliceIter<'a> {
-    ghost use Rattle.std.specs.Prelude.{◌≡◌, length, Some, IfSome};
     ghost use Rattle.std.specs.Iterator.{YieldsFirst, item_count, at_most, UpTo};
     ghost use Rattle.std.specs.Iterator.SizeHint.{IsWithinCount};
     ghost use Rattle.uefi_base.specs.Views.{units_left};
