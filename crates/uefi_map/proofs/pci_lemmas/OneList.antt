@@ -1,5 +1,6 @@
 -- All bytes begin with exactly one list, or have exactly one fault.
 use Rattle.std.proofs.Common.{◌≡◌, ℕ, suc, zero, ◌≤◌, ◌⊎◌, List, [], ◌∷◌, ◌++◌, length, drop, refl, sym, ◌∙◌, ap, subst, arith, inl, inr, length-append, length-drop}
+use Rattle.std.proofs.lemmas.List.{append_cancel_left}
 use Rattle.std.proofs.lemmas.Bool.{cases_eq, cases_lt}
 use Rattle.uefi_map.specs.declared.pci.resource.QwordAddressSpaceDescriptor.{QwordAddressSpaceDescriptor}
 use Rattle.uefi_map.specs.declared.pci.resource_error.ResourceError.{ResourceError}
@@ -7,7 +8,7 @@ use Rattle.uefi_map.specs.declared.pci.resource_error.ResourceError.TheVariants.
 use Rattle.uefi_map.specs.pci.Resource.{record_tag, record_length, resource_in, IsRecord}
 use Rattle.uefi_map.specs.pci.ResourceList.{BeginWithRecords, BeginWith, end_tag, HaveList, IsFaultOf, HaveFault, HaveSomeList, HaveSomeFault, HaveOneList, HaveOneFault}
 use Rattle.uefi_map.specs.pci.Laws.{ListOrFault, NeverBoth, ListAlone, FaultAlone}
-use Rattle.uefi_map.proofs.pci_lemmas.Records.{same_part, same_after, more_records, first_record}
+use Rattle.uefi_map.proofs.pci_lemmas.Records.{same_part, more_records, first_record}
 
 -- The bytes begin with no record.
 abbrev NoRecord : List ℕ → Type 0
@@ -23,7 +24,7 @@ one_walk (d ∷ ds) (e ∷ es) bytes r s p q none_r none_s =
     let whole : p.0 ++ p.1 ≡ q.0 ++ q.1 = sym p.4 ∙ q.4 in
     let size : length p.0 ≡ length q.0 = p.2.size ∙ sym q.2.size in
     let text : p.0 ≡ q.0 = same_part p.0 q.0 p.1 q.1 size whole in
-    let after : p.1 ≡ q.1 = same_after p.0 q.0 p.1 q.1 size whole in
+    let after : p.1 ≡ q.1 = append_cancel_left q.0 p.1 q.1 (ap (λ b. b ++ p.1) (sym text) ∙ whole) in
     let rest = one_walk ds es q.1 r s (subst (λ b. BeginWithRecords b ds r) after p.3) q.3 none_r none_s in
     let first : d ≡ e = p.2.fields ∙ ap resource_in text ∙ sym q.2.fields in
     let others : ds ≡ es = rest.0 in

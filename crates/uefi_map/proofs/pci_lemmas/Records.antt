@@ -2,18 +2,15 @@
 use Rattle.std.proofs.Common.{◌≡◌, ℕ, zero, suc, ◌-◌, ◌/◌, ◌≤◌, ◌<◌, List, [], ◌∷◌, ◌++◌, length, take, drop, refl, sym, ◌∙◌, ap, subst, arith, append_assoc, length-append, length-drop}
 use Rattle.std.proofs.Math.Nat.{div-eq-sub-div}
 use Rattle.std.proofs.Math.Seq.{take-append_seam, drop-append_seam}
-use Rattle.std.proofs.lemmas.List.{take-append-drop, length-take-le}
+use Rattle.std.proofs.lemmas.List.{take_at, take-append-drop, length-take-le}
 use Rattle.uefi_map.specs.declared.pci.resource.QwordAddressSpaceDescriptor.{QwordAddressSpaceDescriptor}
 use Rattle.uefi_map.specs.pci.Resource.{record_tag, record_length, resource_in, IsRecord}
 use Rattle.uefi_map.specs.pci.ResourceList.{BeginWithRecords, BeginWith}
 use Rattle.uefi_map.specs.pci.Views.{resources, resources_in}
 
--- Where one list begins with two lists of the same length, these are one, and so is what follows them.
+-- Where one list begins with two lists of the same length, these are one.
 pub same_part : (a b x y : List ℕ) → length a ≡ length b → a ++ x ≡ b ++ y → a ≡ b
 same_part a b x y same e = sym (take-append_seam a x) ∙ ap (λ n. take n (a ++ x)) same ∙ ap (take (length b)) e ∙ take-append_seam b y
-
-pub same_after : (a b x y : List ℕ) → length a ≡ length b → a ++ x ≡ b ++ y → x ≡ y
-same_after a b x y same e = sym (drop-append_seam a x) ∙ ap (λ n. drop n (a ++ x)) same ∙ ap (drop (length b)) e ∙ drop-append_seam b y
 
 -- Records, and then more records.
 pub more_records : (bytes rest after : List ℕ) (ds es : List QwordAddressSpaceDescriptor) → BeginWithRecords bytes ds rest → BeginWithRecords rest es after
@@ -70,8 +67,8 @@ text_of bytes rest (d ∷ ds) records =
 pub are_read : (bytes rest : List ℕ) (ds : List QwordAddressSpaceDescriptor) → BeginWithRecords bytes ds rest → resources_in (take (length bytes - length rest) bytes) ≡ ds
 are_read bytes rest ds records =
     let text = text_of bytes rest ds records in
-    let seam : length bytes - length rest ≡ length text.0 = omega (arith, ap length text.1, length-append text.0 rest) in
-    ap resources_in (ap (λ b. take (length bytes - length rest) b) text.1 ∙ ap (λ n. take n (text.0 ++ rest)) seam ∙ take-append_seam text.0 rest) ∙ text.2
+    let size = length bytes - length rest in
+    ap resources_in (ap (take size) text.1 ∙ take_at text.0 rest size (omega (arith, ap length text.1, length-append text.0 rest))) ∙ text.2
 
 -- What follows records is no longer than the whole.
 pub rest_within : (bytes rest : List ℕ) (ds : List QwordAddressSpaceDescriptor) → BeginWithRecords bytes ds rest → length rest ≤ length bytes

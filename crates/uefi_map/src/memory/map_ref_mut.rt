@@ -1,4 +1,4 @@
-ghost use Rattle.std.specs.Prelude.{◌≡◌, ◌↔◌, length, Err, IsOk, IfOk, IfErr, IsTrue};
+ghost use Rattle.std.specs.Prelude.{◌≡◌, ◌↔◌, length, Err, IsOk, IfOk, IfErr, IsTrue, refl};
 ghost use Rattle.std.specs.Borrow.{sem};
 ghost use Rattle.uefi_map.specs.memory.Map.{IsMap};
 
@@ -105,11 +105,9 @@ impl<'a> MemoryMap for MemoryMapRefMut<'a> {
 }
 
 impl<'a> MemoryMapMut for MemoryMapRefMut<'a> {
-    ghost use Rattle.std.specs.Prelude.{refl};
     ghost use Rattle.std.proofs.Common.{◌∙◌};
-    ghost use Rattle.uefi_map.specs.memory.Views.{mut_with};
+    ghost use Rattle.uefi_map.specs.memory.Views.{mut_with, WriteToTheSame};
     ghost use Rattle.uefi_map.specs.memory.Keeping.{mut_meta-with};
-    ghost use Rattle.uefi_map.specs.memory.Views.{WriteToTheSame};
 
     ghost same_buffer = { WriteToTheSame };
 

@@ -1,4 +1,4 @@
-ghost use Rattle.std.specs.Prelude.{◌≡◌, ◌^◌, ◌<◌, length};
+ghost use Rattle.std.specs.Prelude.{◌≡◌, ◌^◌, ◌<◌, length, Some, IfSome};
 
 use super::resource::{QwordAddressSpaceDescriptor, RECORD_LENGTH};
 use std::iter::{ExactSizeIterator, FusedIterator};
@@ -28,7 +28,6 @@ impl<'a> ResourceIter<'a> {
 }
 
 impl<'a> Iterator for ResourceIter<'a> {
-    ghost use Rattle.std.specs.Prelude.{◌≡◌, length, Some, IfSome};
     ghost use Rattle.std.specs.Iterator.{YieldsFirst, item_count, at_most, UpTo};
     ghost use Rattle.std.specs.Iterator.SizeHint.{IsWithinCount};
     ghost use Rattle.uefi_map.specs.pci.Views.{resources_left};
@@ -39,6 +38,7 @@ impl<'a> Iterator for ResourceIter<'a> {
 
     ghost remaining = { item_count resources_left };
 
+    #[tactic(auto, using(crate::proofs::pci_lemmas::Records::next_resource))]
     fn next(&mut self) -> Option<QwordAddressSpaceDescriptor> {
         let (record, rest) = self.rest.split_at_checked(RECORD_LENGTH)?;
         self.rest = rest;

@@ -1,6 +1,6 @@
 ghost use Rattle.std.specs.Prelude.{◌≢◌, ◌≡◌, ◌^◌, ◌<◌, [], ◌∷◌, length, IfOk, IfErr, IfSome, IsNone};
 ghost use Rattle.std.specs.Result.{IsErrOf};
-ghost use Rattle.uefi_map.specs.pci.ResourceList.{BeginWithRecords, BeginWith, end_tag, IsFaultOf, HaveSomeFault, HaveOneList, HaveOneFault};
+ghost use Rattle.uefi_map.specs.pci.ResourceList.{BeginWithRecords, BeginWith, end_tag, IsFaultOf, HaveSomeFault, HaveOneList, HaveOneFault, ReadsList};
 
 use super::resource::{QwordAddressSpaceDescriptor, RECORD_LENGTH};
 use super::resource_error::ResourceError;
@@ -70,13 +70,13 @@ impl<'a> ResourceList<'a> {
 ///
 /// It allocates nothing, so [`Memory`](ResourceError::Memory) never comes.
 impl<'a> TryFrom<&'a [u8]> for ResourceList<'a> {
-    ghost use Rattle.uefi_map.specs.pci.ResourceList.{ReadsList};
     ghost use Rattle.uefi_map.specs.pci.Views.{resources_of};
 
     type Error = ResourceError;
 
     ghost try_from_gives = { λ bytes read. ReadsList resources_of bytes.now read };
 
+    #[tactic(auto, using(crate::proofs::pci_lemmas::Records::rest_within))]
     fn try_from(bytes: &'a [u8]) -> Result<ResourceList<'a>, ResourceError> {
         let mut rest = bytes;
         while let Some(after) = skip_record(rest)? {

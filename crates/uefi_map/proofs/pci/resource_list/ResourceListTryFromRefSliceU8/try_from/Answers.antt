@@ -3,7 +3,7 @@ use Rattle.std.proofs.lemmas.Result.{err_from_is_err_and}
 use Rattle.uefi_map.specs.pci.ResourceList.{BeginWith, end_tag, HaveOneList, ReadsList}
 use Rattle.uefi_map.specs.pci.Views.{resources_of, resources_in}
 use Rattle.uefi_map.proofs.pci_lemmas.OneList.{have_one_fault, have_one_list}
-use Rattle.uefi_map.proofs.pci_lemmas.Records.{more_records, are_read, rest_within}
+use Rattle.uefi_map.proofs.pci_lemmas.Records.{more_records, are_read}
 use Rattle.uefi_map.proofs.pci.resource_list.ResourceListTryFromRefSliceU8.try_from.Goals as goal
 
 pub returns-in_err-after : goal.returns-in_err-after
@@ -19,11 +19,6 @@ loop-after-preserved c =
     let passed = c.loop-after.invariant in
     let next = rw c.in-Some.is at c.in_ok-after.ensures.record in
     (passed.0 ++ next.0 ∷ [], more_records c.args.bytes.now c.loop-after.rest.now c.in-Some.after.now passed.0 (next.0 ∷ []) passed.1 next.1)
-
-pub overflow_sub-bytes : goal.overflow_sub-bytes
-overflow_sub-bytes c =
-    let passed = c.loop-after.invariant in
-    rest_within c.args.bytes.now c.loop-after.rest.now passed.0 passed.1
 
 pub returns : goal.returns
 returns c =
