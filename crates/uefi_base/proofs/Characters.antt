@@ -4,7 +4,7 @@ use Rattle.std.specs.List.{AllWithin, HoldsAt}
 use Rattle.std.specs.Option.{MatchOption}
 use Rattle.std.specs.Str.{chars, IsUtf8}
 use Rattle.std.proofs.lemmas.Bool.{and_parts}
-use Rattle.std.proofs.lemmas.List.{take_all, take_more, append-nil, length_push, get_or_read, get_or_append_left, get_or_push}
+use Rattle.std.proofs.lemmas.List.{take_more, append-nil, length_push, get_or_read, get_or_append_left, get_or_push}
 use Rattle.std.proofs.lemmas.Str.{encodes-append, scalars-chars}
 use Rattle.std.proofs.Math.Utf8.{encode, encodes, scalar, scalars, scalar_cases}
 use Rattle.uefi_base.specs.Ucs2.{IsSurrogate, IsUcs2Text, HasUnit, MakeUcs2Text}
@@ -15,26 +15,11 @@ pub encodes_more : (cs : List ℕ) (i : ℕ) → i < length cs → encodes (take
 encodes_more cs i within =
     ap encodes (take_more cs i 0 within) ∙ encodes-append (take i cs) (get_or cs i 0 ∷ []) ∙ ap (λ bytes. encodes (take i cs) ++ bytes) (append-nil (encode (get_or cs i 0)))
 
--- The character of this turn of a loop is the one after those that the loop has passed.
-abbrev pub IsNext : List ℕ → List ℕ → ℕ → Type 0
-IsNext cs passed c = (length passed < length cs) × (c ≡ get_or cs (length passed) c)
-
--- With one more unit, the units are those of one more character.
-pub units_more : (units others passed cs : List ℕ) (c : ℕ) → IsNext cs passed c → units ≡ take (length passed) cs → others ≡ units ++ c ∷ []
-    → others ≡ take (length (passed ++ c ∷ [])) cs
-units_more units others passed cs c next before pushed =
-    pushed ∙ ap (λ us. us ++ c ∷ []) before ∙ ap (λ d. take (length passed) cs ++ d ∷ []) next.1 ∙ sym (take_more cs (length passed) c next.0)
-    ∙ ap (λ n. take n cs) (sym (length_push passed c))
-
--- After all characters, the units are theirs, and the NUL is one more.
-pub units_all : (units others cs : List ℕ) (n : ℕ) → units ≡ take n cs → length cs ≤ n → others ≡ units ++ 0 ∷ [] → others ≡ cs ++ 0 ∷ []
-units_all units others cs n so_far all pushed = pushed ∙ ap (λ us. us ++ 0 ∷ []) (so_far ∙ take_all n cs all)
-
--- The character of this turn has a unit of its own.
-pub has_unit : (passed cs : List ℕ) (c : ℕ) → MakeUcs2Text cs → IsNext cs passed c → c ≤ 0xffff
-has_unit passed cs c make next =
-    let here : c ≡ get_or cs (length passed) 0 = get_or_read cs (length passed) c next.0 next.1 0 in
-    let unit = make.have_units (length passed) next.0 in
+-- Each of the characters that make text has a unit of its own.
+pub has_unit : (cs : List ℕ) (i c : ℕ) → MakeUcs2Text cs → (i < length cs) × (c ≡ get_or cs i c) → c ≤ 0xffff
+has_unit cs i c make here =
+    let read : c ≡ get_or cs i 0 = get_or_read cs i c here.0 here.1 0 in
+    let unit = make.have_units i here.0 in
     omega arith
 
 -- A character of Rust isn't a surrogate.
