@@ -1,4 +1,6 @@
-ghost use Rattle.std.specs.Prelude.{◌≡◌, ◌≢◌, ◌≤◌, ◌↔◌, length, IsOk, IfOk, IfErr};
+ghost use Rattle.std.specs.Prelude.{◌≡◌, ◌≢◌, ◌≤◌, ◌↔◌, length, IsOk, IfOk, IfErr, nat_eq};
+ghost use Rattle.std.specs.Cmp.{partial_equiv_from_equiv, on_per, on_equiv};
+ghost use Rattle.std.specs.Cmp.Lexicographic.{pointwise, nat_list_eq_equiv};
 ghost use Rattle.uefi_records.specs.Time.Fields.{Fits, StandsIn, time_bytes, time_in, time_length, stated_zone, without_pads, zero_time};
 ghost use Rattle.uefi_records.specs.Time.Faults.{IsValid, range_faults, is_zone_outside};
 
@@ -358,9 +360,6 @@ impl TryFrom<&[u8]> for Time {
 
 /// Compares all sixteen bytes.
 impl PartialEq for Time {
-    ghost use Rattle.std.specs.Prelude.{nat_eq};
-    ghost use Rattle.std.specs.Cmp.{partial_equiv_from_equiv, on_per};
-    ghost use Rattle.std.specs.Cmp.Lexicographic.{pointwise, nat_list_eq_equiv};
     ghost use Rattle.uefi_records.specs.Time.Views.{bytes_of_time};
 
     ghost eq = { λ x y. pointwise nat_eq (bytes_of_time x) (bytes_of_time y) };
@@ -373,8 +372,6 @@ impl PartialEq for Time {
 }
 
 impl Eq for Time {
-    ghost use Rattle.std.specs.Cmp.{on_equiv};
-    ghost use Rattle.std.specs.Cmp.Lexicographic.{nat_list_eq_equiv};
     ghost use Rattle.uefi_records.specs.Time.Views.{bytes_of_time};
 
     ghost laws = { on_equiv bytes_of_time nat_list_eq_equiv };

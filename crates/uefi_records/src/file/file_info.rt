@@ -1,4 +1,6 @@
-ghost use Rattle.std.specs.Prelude.{◌≡◌, ◌↔◌, ◌≤◌, length, take, not, Err, IsOk, IfOk, IfErr, OnOk, MatchResult};
+ghost use Rattle.std.specs.Prelude.{◌≡◌, ◌↔◌, ◌≤◌, length, take, not, Err, IsOk, IfOk, IfErr, OnOk, MatchResult, nat_eq};
+ghost use Rattle.std.specs.Cmp.{partial_equiv_from_equiv, on_per, on_equiv};
+ghost use Rattle.std.specs.Cmp.Lexicographic.{pointwise, nat_list_eq_equiv};
 ghost use Rattle.std.specs.Borrow.{sem};
 ghost use Rattle.uefi_base.specs.Buffer.{put_prefix, EndsAs};
 ghost use Rattle.uefi_base.specs.LittleEndian.{AreBytes};
@@ -256,9 +258,6 @@ impl<'a> FileInfo<'a> {
 
 /// Compares the stated sizes, all fields, and the units of the names.
 impl PartialEq for FileInfo<'_> {
-    ghost use Rattle.std.specs.Prelude.{nat_eq};
-    ghost use Rattle.std.specs.Cmp.{partial_equiv_from_equiv, on_per};
-    ghost use Rattle.std.specs.Cmp.Lexicographic.{pointwise, nat_list_eq_equiv};
     ghost use Rattle.uefi_records.specs.File.Views.{file_info_key};
 
     ghost eq = { λ x y. pointwise nat_eq (file_info_key x) (file_info_key y) };
@@ -271,8 +270,6 @@ impl PartialEq for FileInfo<'_> {
 }
 
 impl Eq for FileInfo<'_> {
-    ghost use Rattle.std.specs.Cmp.{on_equiv};
-    ghost use Rattle.std.specs.Cmp.Lexicographic.{nat_list_eq_equiv};
     ghost use Rattle.uefi_records.specs.File.Views.{file_info_key};
 
     ghost laws = { on_equiv file_info_key nat_list_eq_equiv };

@@ -1,4 +1,6 @@
-ghost use Rattle.std.specs.Prelude.{◌≡◌, ◌↔◌, ◌≤◌, Err, length, take, IsOk, IfOk, IfErr, OnOk, MatchResult};
+ghost use Rattle.std.specs.Prelude.{◌≡◌, ◌↔◌, ◌≤◌, Err, length, take, IsOk, IfOk, IfErr, OnOk, MatchResult, nat_eq};
+ghost use Rattle.std.specs.Cmp.{partial_equiv_from_equiv, on_per, on_equiv};
+ghost use Rattle.std.specs.Cmp.Lexicographic.{pointwise, nat_list_eq_equiv};
 ghost use Rattle.std.specs.Borrow.{sem};
 ghost use Rattle.uefi_base.specs.Buffer.{put_prefix, EndsAs};
 ghost use Rattle.uefi_base.specs.Views.{slice_units, text_units};
@@ -210,9 +212,6 @@ impl<'a> FileSystemInfo<'a> {
 
 /// Compares the stated sizes, all fields, and the units of the labels, but not the unused bytes.
 impl PartialEq for FileSystemInfo<'_> {
-    ghost use Rattle.std.specs.Prelude.{nat_eq};
-    ghost use Rattle.std.specs.Cmp.{partial_equiv_from_equiv, on_per};
-    ghost use Rattle.std.specs.Cmp.Lexicographic.{pointwise, nat_list_eq_equiv};
     ghost use Rattle.uefi_records.specs.File.Views.{file_system_info_key};
 
     ghost eq = { λ x y. pointwise nat_eq (file_system_info_key x) (file_system_info_key y) };
@@ -225,8 +224,6 @@ impl PartialEq for FileSystemInfo<'_> {
 }
 
 impl Eq for FileSystemInfo<'_> {
-    ghost use Rattle.std.specs.Cmp.{on_equiv};
-    ghost use Rattle.std.specs.Cmp.Lexicographic.{nat_list_eq_equiv};
     ghost use Rattle.uefi_records.specs.File.Views.{file_system_info_key};
 
     ghost laws = { on_equiv file_system_info_key nat_list_eq_equiv };

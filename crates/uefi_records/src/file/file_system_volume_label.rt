@@ -1,4 +1,6 @@
-ghost use Rattle.std.specs.Prelude.{◌≡◌, ◌↔◌, ◌≤◌, Err, length, take, IsOk, IfOk, IfErr, OnOk, MatchResult};
+ghost use Rattle.std.specs.Prelude.{◌≡◌, ◌↔◌, ◌≤◌, Err, length, take, IsOk, IfOk, IfErr, OnOk, MatchResult, nat_eq};
+ghost use Rattle.std.specs.Cmp.{partial_equiv_from_equiv, on_per, on_equiv};
+ghost use Rattle.std.specs.Cmp.Lexicographic.{pointwise, nat_list_eq_equiv};
 ghost use Rattle.std.specs.Borrow.{sem};
 ghost use Rattle.uefi_base.specs.Buffer.{put_prefix, EndsAs};
 ghost use Rattle.uefi_base.specs.Views.{slice_units, text_units};
@@ -114,9 +116,6 @@ impl<'a> FileSystemVolumeLabel<'a> {
 
 /// Compares the units of the labels.
 impl PartialEq for FileSystemVolumeLabel<'_> {
-    ghost use Rattle.std.specs.Prelude.{nat_eq};
-    ghost use Rattle.std.specs.Cmp.{partial_equiv_from_equiv, on_per};
-    ghost use Rattle.std.specs.Cmp.Lexicographic.{pointwise, nat_list_eq_equiv};
     ghost use Rattle.uefi_records.specs.File.Views.{volume_label_of};
 
     ghost eq = { λ x y. pointwise nat_eq (volume_label_of x) (volume_label_of y) };
@@ -129,8 +128,6 @@ impl PartialEq for FileSystemVolumeLabel<'_> {
 }
 
 impl Eq for FileSystemVolumeLabel<'_> {
-    ghost use Rattle.std.specs.Cmp.{on_equiv};
-    ghost use Rattle.std.specs.Cmp.Lexicographic.{nat_list_eq_equiv};
     ghost use Rattle.uefi_records.specs.File.Views.{volume_label_of};
 
     ghost laws = { on_equiv volume_label_of nat_list_eq_equiv };
