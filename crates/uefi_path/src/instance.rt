@@ -21,6 +21,7 @@ pub struct DevicePathInstance<'a> {
     pub ghost nodes: { EncodesInstance bytes.now } by { EncodesInstance-prop bytes.now },
 }
 
+#[tactic(auto, using(crate::specs::OnePath::same_nodes, crate::proofs::Counts::few_before_end))]
 impl<'a> DevicePathInstance<'a> {
     ghost use Rattle.uefi_path.specs.Views.{instance_nodes, nodes_left, boxed_instance_nodes};
 
@@ -33,7 +34,6 @@ impl<'a> DevicePathInstance<'a> {
     }
 
     /// Returns an iterator over the nodes before the one with the type END, in order.
-    #[tactic(auto, using(crate::specs::OnePath::same_nodes, crate::proofs::Counts::few_before_end))]
     pub fn node_iter(&self) -> DevicePathNodeIterator<'a>
         ensures nodes { nodes_left result ≡ all_but_last (instance_nodes self.now) }
         ensures countable { length (nodes_left result) < 2 ^ 64 }
@@ -46,7 +46,6 @@ impl<'a> DevicePathInstance<'a> {
     /// # Errors
     ///
     /// [`AllocError`] if an allocation fails.
-    #[tactic(auto, using(crate::specs::OnePath::same_nodes))]
     pub fn to_boxed<A: Allocator>(&self, alloc: A) -> Result<BoxedDevicePathInstance<A>, AllocError>
         ensures { IfOk result (λ boxed. boxed_instance_nodes boxed ≡ instance_nodes self.now) }
     {

@@ -59,6 +59,7 @@ pub struct DevicePath<'a> {
     pub ghost nodes: { EncodesPath bytes.now } by { EncodesPath-prop bytes.now },
 }
 
+#[tactic(auto, using(crate::specs::OnePath::same_nodes, crate::proofs::Counts::few_before_end))]
 impl<'a> DevicePath<'a> {
     ghost use Rattle.uefi_path.specs.Views.{path_nodes, nodes_left, instances_left, boxed_nodes};
 
@@ -80,7 +81,6 @@ impl<'a> DevicePath<'a> {
     }
 
     /// Returns an iterator over the nodes before the end-entire one, in order.
-    #[tactic(auto, using(crate::specs::OnePath::same_nodes, crate::proofs::Counts::few_before_end))]
     pub fn node_iter(&self) -> DevicePathNodeIterator<'a>
         ensures nodes { nodes_left result ≡ all_but_last (path_nodes self.now) }
         ensures countable { length (nodes_left result) < 2 ^ 64 }
@@ -93,7 +93,6 @@ impl<'a> DevicePath<'a> {
     /// # Errors
     ///
     /// [`AllocError`] if an allocation fails.
-    #[tactic(auto, using(crate::specs::OnePath::same_nodes))]
     pub fn to_boxed<A: Allocator>(&self, alloc: A) -> Result<BoxedDevicePath<A>, AllocError>
         ensures { IfOk result (λ boxed. boxed_nodes boxed ≡ path_nodes self.now) }
     {
