@@ -7,7 +7,7 @@ use Rattle.uefi_hii.specs.declared.configuration.ConfigurationString.{Configurat
 use Rattle.uefi_hii.specs.declared.configuration.ConfigurationStringElement.{ConfigurationStringElement}
 use Rattle.uefi_hii.specs.declared.error.ParseError.{ParseError}
 use Rattle.uefi_hii.specs.declared.error.ParseError.TheVariants.{BlockConfig, BlockName, ConfigHdr, Memory}
-use Rattle.uefi_hii.specs.Pairs.{Pair, pairs}
+use Rattle.uefi_hii.specs.Pairs.{Pair}
 use Rattle.uefi_hii.specs.Configuration.{Configuration}
 use Rattle.uefi_hii.specs.Group.{Group}
 use Rattle.uefi_hii.specs.Cut.{AreGroups, Cut, Part, first_pair, pairs_of, results_of}
@@ -31,10 +31,6 @@ taken before after (Err (ConfigHdr section)) some step = step
 taken before after (Err BlockName) some step = step
 taken before after (Err BlockConfig) some step = step
 taken before after (Err Memory) some step = absurd (some refl)
-
--- Nothing was read yet.
-pub none_read : (text : List ℕ) (left : List Pair) → left ≡ pairs text → HasRead text left []
-none_read text left all = record { joins = λ rest whole each. record { whole = whole ∙ all; each = each } }
 
 -- With the group of one more step it was read up to the pairs after that group.
 read_more : (text : List ℕ) (left after group : List Pair) (read : List Part) (result : Result Configuration ParseError)

@@ -7,7 +7,7 @@ use Rattle.uefi_path.specs.Path.{AreEndedBy, HasNodes, concat, all_but_last}
 use Rattle.uefi_path.specs.Encoding.{IsEncodingOfNodes, EncodesNodes, IsEncodingOfInstances, EncodesInstances}
 use Rattle.uefi_path.specs.OnePath.{same_first, one_ended, nodes_encoded_once, instances_encoded_once, joined-append, some_bytes}
 
--- Bytes that start with such nodes start with a node.
+-- Bytes that start with nodes of which only the last satisfies P start with a node.
 pub HasNodes-node : (P : Node → Type 0) (bytes : List ℕ) → HasNodes P bytes → HasNode bytes
 HasNodes-node P bytes has = go has.0 has.1 has.2
   where
