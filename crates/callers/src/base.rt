@@ -1,7 +1,8 @@
-ghost use Rattle.std.specs.Prelude.{◌≡◌, ◌↔◌, ◌==◌, ◌+◌, ◌*◌, ◌%◌, ◌≤◌, length, encode_utf8_all, string_bytes, filter, not, IsTrue, IsNone, IsSome, IfOk, IfSome};
+ghost use Rattle.std.specs.Prelude.{◌≡◌, ◌↔◌, ◌==◌, ◌+◌, ◌*◌, ◌%◌, ◌<◌, ◌≤◌, length, encode_utf8_all, string_bytes, filter, not, IsTrue, IsNone, IsSome, IfOk, IfSome, SomeIff};
+ghost use Rattle.std.specs.Str.{chars};
 ghost use Rattle.uefi_base.specs.declared.status.Status.TheVariants.{BUFFER_TOO_SMALL};
 ghost use Rattle.uefi_base.specs.declared.text_error.FromSliceWithNulError.{FromSliceWithNulError};
-ghost use Rattle.uefi_base.specs.Ucs2.{IsUcs2Text, characters_of};
+ghost use Rattle.uefi_base.specs.Ucs2.{IsUcs2Text, MakeUcs2Text, characters_of};
 ghost use Rattle.uefi_base.specs.Faults.{HasFault};
 ghost use Rattle.uefi_base.specs.LittleEndian.{u16_at};
 ghost use Rattle.uefi_base.specs.Unaligned.{units_of};
@@ -13,8 +14,8 @@ use uefi_base::buffer::{put, put_units};
 use uefi_base::laws::{units_by_place, units_read_back};
 use uefi_base::little_endian::u32_at;
 use uefi_base::{
-    Align, CStr16, CString16, Error, FromSliceWithNulError, Guid, Identify, Status, UnalignedSlice,
-    UnalignedSliceIter,
+    Align, CStr16, CString16, Error, FromSliceWithNulError, FromStrError, Guid, Identify, Status,
+    UnalignedSlice, UnalignedSliceIter,
 };
 
 /// Returns whether `units` are text.
@@ -45,13 +46,17 @@ pub fn characters(alloc: Global, units: &[u16]) -> Result<Option<String>, AllocE
     Ok(Some(text.to_string(alloc)?))
 }
 
-/// Makes text from characters and returns its characters: the same ones, if they can be text.
+/// Makes text from characters and returns its characters, the same ones, or `None` if they can't be
+/// text.
 pub fn written_and_read(alloc: Global, text: &str) -> Result<Option<String>, AllocError>
-    ensures { IfOk result
+    ensures accepted { IfOk result (λ read. IsSome read ↔ MakeUcs2Text (chars text.now)) }
+    ensures same { IfOk result
         (λ read. IfSome read (λ back. string_bytes back ≡ text.now)) }
 {
-    let Ok(made) = CString16::from_str(alloc, text) else {
-        return Ok(None);
+    let made = match CString16::from_str(alloc, text) {
+        Ok(made) => made,
+        Err(FromStrError::Memory) => return Err(AllocError),
+        Err(_) => return Ok(None),
     };
     Ok(Some(made.as_cstr16().to_string(alloc)?))
 }
@@ -131,9 +136,11 @@ pub fn units_in_buffer<'a>(buffer: &'a mut [u8], units: &[u16]) -> UnalignedSlic
     UnalignedSlice::new(&buffer[..2 * units.len()])
 }
 
-/// Returns the unit at an index, or `None` if there is none: the number at twice the index.
+/// Returns the unit at an index, the number at twice the index, or `None` if there is none or a last
+/// byte is left over.
 pub fn unit_in(bytes: &[u8], index: usize) -> Option<u16>
-    ensures { IfSome result (λ unit. unit ≡ u16_at bytes.now (2 * index)) }
+    ensures { SomeIff result ((length bytes.now % 2 ≡ 0) × (2 * index < length bytes.now))
+        (u16_at bytes.now (2 * index)) }
 {
     units_by_place();
     if bytes.len() % 2 != 0 {

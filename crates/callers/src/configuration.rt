@@ -1,5 +1,6 @@
-ghost use Rattle.std.specs.Prelude.{◌≡◌, ◌≢◌, ◌++◌, List, Ok, Err, Some, IfOk, OnOk, is_ok, option_map, slice_get, string_bytes, codes};
-ghost use Rattle.uefi_hii.specs.declared.error.ParseError.TheVariants.{Memory};
+ghost use Rattle.std.specs.Prelude.{◌≡◌, ◌≢◌, ◌++◌, List, Ok, Err, Some, IfOk, IfErr, OnOk, is_ok, option_map, slice_get, slice_index_or, string_bytes, codes};
+ghost use Rattle.uefi_hii.specs.declared.error.ConfigHdrSection.TheVariants.{Guid};
+ghost use Rattle.uefi_hii.specs.declared.error.ParseError.TheVariants.{ConfigHdr, Memory};
 ghost use Rattle.uefi_hii.specs.Configuration.{Configuration};
 ghost use Rattle.uefi_hii.specs.Cut.{Part, Cut, first_pair, results_of};
 ghost use Rattle.uefi_hii.specs.Laws.{EndsWithAmpersand, EndsWithElement};
@@ -25,16 +26,20 @@ pub fn value_of(configuration: &ConfigurationString, offset: u64, width: u64) ->
     None
 }
 
-/// Returns the bytes of that element of the first configuration of a text.
+/// Returns the bytes of that element of the first configuration of a text, or the error of the
+/// first. A text without pairs has no GUID.
 pub fn first_value(
     alloc: Global,
     text: &str,
     offset: u64,
     width: u64,
 ) -> Result<Option<Vec<u8>>, ParseError>
-    ensures { IfOk result (λ found. (parts : List Part) → Cut text.now parts
+    ensures read { IfOk result (λ found. (parts : List Part) → Cut text.now parts
         → (first : Configuration) × (slice_get (results_of parts) 0 ≡ Some (Ok first))
         × (option_map (λ bytes. bytes.items) found ≡ value_at offset width first)) }
+    ensures refused { IfErr result (λ error. error ≢ Memory
+        → (parts : List Part) → Cut text.now parts
+        → slice_index_or (results_of parts) 0 (Err (ConfigHdr Guid)) ≡ Err error) }
 {
     let configuration = ConfigurationString::from_str(alloc, text)?;
     match value_of(&configuration, offset, width) {

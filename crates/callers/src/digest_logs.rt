@@ -1,4 +1,4 @@
-ghost use Rattle.std.specs.Prelude.{◌≡◌, ◌==◌, ◌+◌, ◌-◌, ◌/◌, ◌<◌, ◌≤◌, ℕ, List, ◌++◌, Option, Some, count_by, length, map, option_map, slice_get, IfOk};
+ghost use Rattle.std.specs.Prelude.{◌≡◌, ◌==◌, ◌+◌, ◌-◌, ◌/◌, ◌<◌, ◌≤◌, ℕ, List, ◌++◌, Option, Some, count_by, length, map, option_map, slice_get, take, IfOk};
 ghost use Rattle.std.specs.Option.{option_and_then};
 ghost use Rattle.uefi_base.specs.Prefix.{IsPrefix};
 ghost use Rattle.uefi_tcg.specs.v1.Laws.{SameUpTo};
@@ -44,11 +44,14 @@ pub fn events_after_header_event<'a>(
 }
 
 /// How many events a log of version 2 has from either start, where its header event has nothing but
-/// the header: the same number.
+/// the header: the same number, that of its events.
 pub fn counts_from_both_starts(bytes: &[u8], last_entry: usize) -> (usize, usize)
     requires { (found : HeaderEvent) → IsHeaderEvent bytes.now last_entry found.event found.header
         → found.event.event_data ≡ header_bytes found.header }
-    ensures { result.0 ≡ result.1 }
+    ensures same { result.0 ≡ result.1 }
+    ensures count { (events : List Event)
+        × IsLogOf after_header (Some bytes.now) (Some last_entry) events
+        × (result.0 ≡ length events) }
 {
     same_where_nothing_follows();
     (
@@ -108,7 +111,7 @@ pub fn events_so_far<'a>(
     collected_events(alloc, bytes, last_entry)
 }
 
-/// The events of a log of version 2 of which only the first bytes are there: a prefix of the log.
+/// The events of the first bytes of a log of version 2: a prefix of the log.
 pub fn events_of_part<'a>(
     alloc: Global,
     bytes: &'a [u8],
@@ -116,7 +119,10 @@ pub fn events_of_part<'a>(
     last_entry: usize,
 ) -> Result<Vec<PcrEvent<'a>>, AllocError>
     requires { count ≤ length bytes.now }
-    ensures { IfOk result (λ events. (found : Option HeaderEvent) (log : List Event)
+    ensures of_part { IfOk result
+        (λ events. IsLogOf after_header (Some (take count bytes.now)) (Some last_entry)
+        (map event_of events.items)) }
+    ensures prefix { IfOk result (λ events. (found : Option HeaderEvent) (log : List Event)
         → IsLog after_header bytes.now last_entry found log
         → IsPrefix (map event_of events.items) log) }
 {
@@ -124,8 +130,12 @@ pub fn events_of_part<'a>(
     collected_events(alloc, &bytes[..count], last_entry)
 }
 
-/// How many events a log of version 2 has, by `count`.
+/// How many events a log of version 2 has, by `count`: none if its last entry is before the least
+/// start, else not more than fit from there, and one.
 pub fn event_count(bytes: &[u8], last_entry: usize) -> usize
+    ensures count { (events : List Event)
+        × IsLogOf after_header (Some bytes.now) (Some last_entry) events
+        × (result ≡ length events) }
     ensures none { last_entry < least_start → result ≡ 0 }
     ensures few { result ≤ (last_entry - least_start) / least_length + 1 }
 {
@@ -137,6 +147,9 @@ pub fn event_count(bytes: &[u8], last_entry: usize) -> usize
 /// How many events of a log of version 2 follow the header event: none if the last entry is before
 /// that event's end.
 pub fn event_count_after_header_event(bytes: &[u8], last_entry: usize) -> usize
+    ensures count { (events : List Event)
+        × IsLogOf after_event (Some bytes.now) (Some last_entry) events
+        × (result ≡ length events) }
     ensures none { (found : HeaderEvent)
         → IsHeaderEvent bytes.now last_entry found.event found.header
         → last_entry < event_end found.event → result ≡ 0 }

@@ -1,4 +1,4 @@
-ghost use Rattle.std.specs.Prelude.{◌≡◌, ◌↔◌, ◌+◌, ◌/◌, ◌^◌, ◌<◌, ◌≤◌, ℕ, List, [], ◌∷◌, ◌++◌, length, map, IfOk, IfSome, IsSome};
+ghost use Rattle.std.specs.Prelude.{◌≡◌, ◌↔◌, ◌+◌, ◌/◌, ◌^◌, ◌<◌, ◌≤◌, ℕ, List, [], ◌∷◌, ◌++◌, length, map, option_map, slice_get, take, IfOk, IfSome, IsSome};
 ghost use Rattle.uefi_base.specs.Prefix.{IsPrefix};
 ghost use Rattle.uefi_tcg.specs.v1.Event.{Event, header_length};
 ghost use Rattle.uefi_tcg.specs.v1.Log.{EventsKeep, IsLog};
@@ -73,7 +73,7 @@ pub fn events_so_far<'a>(
     collected_events(alloc, bytes, last_entry)
 }
 
-/// The events of a log of which only the first bytes are there: a prefix of the log.
+/// The events of the first bytes of a log: a prefix of the log.
 pub fn events_of_part<'a>(
     alloc: Global,
     bytes: &'a [u8],
@@ -81,7 +81,9 @@ pub fn events_of_part<'a>(
     last_entry: usize,
 ) -> Result<Vec<PcrEvent<'a>>, AllocError>
     requires { count ≤ length bytes.now }
-    ensures { IfOk result (λ events. (log : List Event) → IsLog bytes.now last_entry log
+    ensures of_part { IfOk result
+        (λ events. IsLog (take count bytes.now) last_entry (map event_of events.items)) }
+    ensures prefix { IfOk result (λ events. (log : List Event) → IsLog bytes.now last_entry log
         → IsPrefix (map event_of events.items) log) }
 {
     cut_v1();
@@ -113,7 +115,9 @@ pub fn event_read_back<'a>(
 
 /// How many events a log has, by `count`: not more than fit before its last entry, and one.
 pub fn event_count(bytes: &[u8], last_entry: usize) -> usize
-    ensures { result ≤ last_entry / header_length + 1 }
+    ensures count { (events : List Event) × IsLog bytes.now last_entry events
+        × (result ≡ length events) }
+    ensures few { result ≤ last_entry / header_length + 1 }
 {
     bound_v1();
     let log = EventLog::new(Some(bytes), Some(last_entry), false);
@@ -127,8 +131,14 @@ pub fn count_without_last_entry(bytes: &[u8]) -> usize
     EventLog::new(Some(bytes), None, false).iter().count()
 }
 
-/// An event and its data, which live as long as the bytes: the log and the iterator are gone.
-pub fn first_event(bytes: &[u8], last_entry: usize) -> Option<(PcrEvent<'_>, &[u8])> {
+/// The first event of a log and its data, which live as long as the bytes: the log and the iterator
+/// are gone.
+pub fn first_event(bytes: &[u8], last_entry: usize) -> Option<(PcrEvent<'_>, &[u8])>
+    ensures event { (events : List Event) × IsLog bytes.now last_entry events
+        × (option_map (λ found. event_of found.0) result ≡ slice_get events 0) }
+    ensures event_data { IfSome result
+        (λ found. found.1.now ≡ (event_of found.0).event_data) }
+{
     let log = EventLog::new(Some(bytes), Some(last_entry), false);
     let event = log.iter().next()?;
     Some((event, event.event_data()))

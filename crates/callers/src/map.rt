@@ -1,10 +1,10 @@
-ghost use Rattle.std.specs.Prelude.{◌≡◌, ◌≢◌, ◌^◌, ◌<◌, ◌≤◌, ◌↔◌, ℕ, List, length, sum_by, slice_set, string_bytes, SomeIff, Some, IsTrue, IsNone, IsSome, IfSome, IfOk};
+ghost use Rattle.std.specs.Prelude.{◌≡◌, ◌≢◌, ◌^◌, ◌<◌, ◌≤◌, ◌↔◌, ℕ, List, length, sum_by, slice_get, slice_set, string_bytes, SomeIff, Some, IsTrue, IsNone, IsSome, IfSome, IfOk, OnSome};
 ghost use Rattle.std.specs.Ordering.{nat_cmp};
 ghost use Rattle.uefi_map.specs.memory.Descriptor.{descriptor_bytes, zero_descriptor};
 ghost use Rattle.uefi_base.specs.Flags.{has_bits};
 ghost use Rattle.uefi_map.specs.memory.Map.{IsMap, IsWithDescriptor, count_of, entries_of};
 ghost use Rattle.uefi_map.specs.memory.Texts.{map_error_text};
-ghost use Rattle.uefi_map.specs.memory.Views.{attribute_bits, entries_left, key_number, ref_bytes, ref_meta};
+ghost use Rattle.uefi_map.specs.memory.Views.{attribute_bits, entries_left, key_number, mut_bytes, mut_meta, ref_bytes, ref_meta};
 
 use std::alloc::{AllocError, Global};
 use std::cmp::Ordering;
@@ -60,6 +60,9 @@ pub fn pages_in(buffer: &[u8], meta: MemoryMapMeta) -> Option<u64>
     ensures sum { let entries = entries_of buffer.now meta in
         IfSome result (λ pages. pages ≡ sum_by (λ d. d.page_count) entries) }
     ensures map { IsSome result → IsMap (length buffer.now) meta }
+    ensures too_many { let entries = entries_of buffer.now meta in
+        IsNone result → IsMap (length buffer.now) meta
+        → 2 ^ 64 ≤ sum_by (λ d. d.page_count) entries }
 {
     let Ok(map) = MemoryMapRef::new(buffer, meta) else {
         return None;
@@ -108,10 +111,13 @@ pub fn bounds_of_left(entries: &MemoryMapIter<'_>) -> (usize, Option<usize>)
     entries.size_hint()
 }
 
-/// A descriptor that is set in any map is the one that is read there afterwards.
+/// A descriptor that is set in any map is the one that is read there afterwards, and its forty bytes
+/// alone are written.
 pub fn set_and_get<M: MemoryMapMut>(map: &mut M, i: usize, d: MemoryDescriptor) -> MemoryDescriptor
     requires { i < count_of (M.MemoryMap.meta map.old) }
-    ensures { result ≡ d }
+    ensures read { result ≡ d }
+    ensures written { let bytes = M.MemoryMap.bytes in
+        IsWithDescriptor (bytes map.old) (M.MemoryMap.meta map.old) i d (bytes map.new) }
 {
     map.set_at(i, d);
     map.at(i)
@@ -127,7 +133,9 @@ pub fn other_entry_stays<M: MemoryMapMut>(
     requires index { i < count_of (M.MemoryMap.meta map.old) }
     requires other { other < count_of (M.MemoryMap.meta map.old) }
     requires apart { other ≢ i }
-    ensures { IsTrue result }
+    ensures stays { IsTrue result }
+    ensures written { let bytes = M.MemoryMap.bytes in
+        IsWithDescriptor (bytes map.old) (M.MemoryMap.meta map.old) i d (bytes map.new) }
 {
     stride_free();
     // The sizes are those of a map.
@@ -154,8 +162,10 @@ pub fn set_and_get_in(
     map.get(i)
 }
 
-/// A descriptor set in a buffer that is a map: of what the caller lent, its forty bytes changed.
+/// A descriptor set in a buffer that is a map: of what the caller lent, its forty bytes changed. For
+/// a buffer that is no map, or without such a descriptor, it stays as it was.
 pub fn set_in(buffer: &mut [u8], meta: MemoryMapMeta, i: usize, d: MemoryDescriptor) -> bool
+    ensures accepted { IsTrue result ↔ (IsMap (length buffer.old) meta × (i < count_of meta)) }
     ensures written { IsTrue result → IsWithDescriptor buffer.old meta i d buffer.new }
     ensures unchanged { (IsTrue result → ⊥) → buffer.new ≡ buffer.old }
 {
@@ -262,7 +272,12 @@ pub fn map_fault_text(alloc: Global, error: &MemoryMapError) -> Result<String, A
 
 /// Returns the first entry of a map and clears it. An entry is a value, so the map can be written
 /// to while the entry is still in use.
-pub fn take_first(map: &mut MemoryMapRefMut<'_>) -> Option<MemoryDescriptor> {
+pub fn take_first(map: &mut MemoryMapRefMut<'_>) -> Option<MemoryDescriptor>
+    ensures first { result ≡ slice_get (entries_of (mut_bytes map.old) (mut_meta map.old)) 0 }
+    ensures cleared { OnSome result
+        (IsWithDescriptor (mut_bytes map.old) (mut_meta map.old) 0 zero_descriptor
+        (mut_bytes map.new)) }
+{
     let first = map.entries().next();
     let _before = map.set(0, MemoryDescriptor::default());
     first

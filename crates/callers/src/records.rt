@@ -1,4 +1,4 @@
-ghost use Rattle.std.specs.Prelude.{◌≡◌, ◌↔◌, ◌≤◌, ℕ, List, Some, length, take, IsSome, IsTrue, OnOk, OnErr, IfSome};
+ghost use Rattle.std.specs.Prelude.{◌≡◌, ◌↔◌, ◌≤◌, ℕ, List, Some, length, take, IsOk, IsSome, IsTrue, OnOk, OnErr, IfErr, IfSome, SomeIff};
 ghost use Rattle.uefi_base.specs.Buffer.{put_prefix};
 ghost use Rattle.uefi_base.specs.Flags.{has_bits};
 ghost use Rattle.uefi_base.specs.Unaligned.{unit_bytes};
@@ -26,20 +26,27 @@ pub fn guid_of_file_info() -> Guid
     guid_of::<FileInfo<'_>>()
 }
 
-/// Whether the file is a directory whose record stands in the written bytes.
+/// Whether the file is a directory whose record stands in the written bytes, or `None` if there is no
+/// record.
 pub fn is_directory_in(buffer: &[u8], written: usize) -> Option<bool>
-    ensures { IfSome result (λ is_directory. is_directory
-        ≡ has_bits (file_fields buffer.now).attribute directory_attribute) }
+    ensures found { (name : List ℕ) →
+        file_info_verdict (take written buffer.now) (length buffer.now) ≡ accepted name →
+        result ≡ Some (has_bits (file_fields buffer.now).attribute directory_attribute) }
+    ensures accepted { IsSome result → (name : List ℕ)
+        × (file_info_verdict (take written buffer.now) (length buffer.now) ≡ accepted name) }
 {
     let info = FileInfo::from_uefi(buffer, written).ok()?;
     Some(info.is_directory())
 }
 
-/// How many units the name has of the file whose record stands in the written bytes.
+/// How many units the name has of the file whose record stands in the written bytes, or `None` if
+/// there is no record.
 pub fn name_length(buffer: &[u8], written: usize) -> Option<usize>
-    ensures { (name : List ℕ) →
+    ensures found { (name : List ℕ) →
         file_info_verdict (take written buffer.now) (length buffer.now) ≡ accepted name →
         result ≡ Some (length name) }
+    ensures accepted { IsSome result → (name : List ℕ)
+        × (file_info_verdict (take written buffer.now) (length buffer.now) ≡ accepted name) }
 {
     let info = FileInfo::from_uefi(buffer, written).ok()?;
     Some(info.file_name().len())
@@ -65,6 +72,10 @@ pub fn label_written(buffer: &mut [u8], label: &CStr16<'_>) -> Result<(), FileIn
     ensures written { OnOk result
         (buffer.new ≡ put_prefix (unit_bytes (text_units label.now)) buffer.old) }
     ensures unchanged { OnErr result (buffer.new ≡ buffer.old) }
+    ensures fits { IsOk result
+        ↔ (volume_label_size (length (text_units label.now)) ≤ length buffer.old) }
+    ensures short { IfErr result (λ error. error ≡ FileInfoCreationError.InsufficientStorage
+        (volume_label_size (length (text_units label.now)))) }
 {
     write_file_system_volume_label(buffer, label)?;
     Ok(())
@@ -139,7 +150,8 @@ pub fn is_same_file(info: &FileInfo<'_>, other: &FileInfo<'_>) -> bool
 /// Returns the number of units in the record of a label, if 64 bytes have room for it. The storage
 /// can be written to again once the record is no longer in use.
 pub fn unit_count(label: &CStr16<'_>) -> Option<usize>
-    ensures { IfSome result (λ count. count ≡ length (text_units label.now)) }
+    ensures { let units = length (text_units label.now) in
+        SomeIff result (volume_label_size units ≤ 64) units }
 {
     let mut storage = [0; 64];
     let count = match FileSystemVolumeLabel::new(&mut storage, label) {

@@ -1,4 +1,4 @@
-ghost use Rattle.std.specs.Prelude.{◌≡◌, ◌↔◌, ◌≤◌, List, length, sum_by, IsTrue, IsNone, IfOk, IfSome};
+ghost use Rattle.std.specs.Prelude.{◌≡◌, ◌≢◌, ◌↔◌, ◌^◌, ◌<◌, ◌≤◌, List, length, sum_by, IsTrue, IsNone, IsSome, IfOk, IfErr, IfSome};
 ghost use Rattle.std.specs.List.{Any};
 ghost use Rattle.uefi_map.specs.declared.pci.resource.QwordAddressSpaceDescriptor.{QwordAddressSpaceDescriptor};
 ghost use Rattle.uefi_map.specs.pci.ResourceList.{HaveList, HaveFault, HaveSomeList};
@@ -13,8 +13,10 @@ use uefi_map::{
 
 /// How many ranges the bytes list.
 pub fn range_count(alloc: Global, bytes: &[u8]) -> Result<usize, ResourceError>
-    ensures { IfOk result (λ count. (list : List QwordAddressSpaceDescriptor)
+    ensures list { IfOk result (λ count. (list : List QwordAddressSpaceDescriptor)
         × HaveList bytes.now list × (count ≡ length list)) }
+    ensures fault { IfErr result
+        (λ fault. fault ≢ ResourceError.Memory → HaveFault bytes.now fault) }
 {
     let list = parse(alloc, bytes)?;
     Ok(list.len())
@@ -35,10 +37,12 @@ pub fn fault_of(alloc: Global, bytes: &[u8]) -> Result<Option<ResourceError>, Al
 
 /// Whether one of the ranges that the bytes list has the address.
 pub fn is_decoded(alloc: Global, bytes: &[u8], address: u64) -> Result<bool, ResourceError>
-    ensures { IfOk result (λ found. (list : List QwordAddressSpaceDescriptor)
+    ensures list { IfOk result (λ found. (list : List QwordAddressSpaceDescriptor)
         × HaveList bytes.now list
         × (IsTrue found ↔ Any (λ range.
         (range.address_min ≤ address) × (address ≤ range.address_max)) list)) }
+    ensures fault { IfErr result
+        (λ fault. fault ≢ ResourceError.Memory → HaveFault bytes.now fault) }
 {
     let list = parse(alloc, bytes)?;
     Ok(list.iter().any(|range| range.address_min <= address && address <= range.address_max))
@@ -47,9 +51,11 @@ pub fn is_decoded(alloc: Global, bytes: &[u8], address: u64) -> Result<bool, Res
 /// Returns the count of addresses in all ranges that the bytes list, or `None` if they begin with
 /// no list or the sum doesn't fit.
 pub fn addresses_in(bytes: &[u8]) -> Option<u64>
-    ensures { IfSome result (λ addresses. (list : List QwordAddressSpaceDescriptor)
+    ensures sum { IfSome result (λ addresses. (list : List QwordAddressSpaceDescriptor)
         × HaveList bytes.now list
         × (addresses ≡ sum_by (λ range. range.address_length) list)) }
+    ensures fits { (list : List QwordAddressSpaceDescriptor) → HaveList bytes.now list
+        → sum_by (λ range. range.address_length) list < 2 ^ 64 → IsSome result }
 {
     let Ok(list) = ResourceList::try_from(bytes) else {
         return None;

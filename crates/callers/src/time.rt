@@ -1,6 +1,8 @@
-ghost use Rattle.std.specs.Prelude.{◌≡◌, ◌≤◌, ◌↔◌, string_bytes, IsTrue, IsOk, IfOk};
-ghost use Rattle.uefi_records.specs.Time.Fields.{StandsIn, time_in, without_pads};
+ghost use Rattle.std.specs.Prelude.{◌≡◌, ◌≤◌, ◌↔◌, string_bytes, true, IsTrue, IsOk, IfOk, IfErr};
+ghost use Rattle.uefi_records.specs.Time.Fields.{StandsIn, time_bytes, time_in, without_pads};
 ghost use Rattle.uefi_base.specs.Flags.{has_bits};
+ghost use Rattle.uefi_records.specs.Time.Faults.{no_fault};
+ghost use Rattle.uefi_records.specs.Time.Reading.{RefusesTime};
 ghost use Rattle.uefi_records.specs.Time.Texts.{time_error_text};
 ghost use Rattle.uefi_records.specs.Time.Views.{time_of, bytes_of_time};
 ghost use Rattle.uefi_records.specs.Flags.Named.{directory_attribute};
@@ -13,7 +15,8 @@ use uefi_records::{Daylight, FileAttribute, Time, TimeByteConversionError, TimeE
 /// A time written and read again: the same time, with zeros in its padding.
 #[tactic(auto, unfolding(uefi_records::specs::Time::Fields::time_bytes))]
 pub fn read_back(time: &Time) -> Result<Time, TimeByteConversionError>
-    ensures { IfOk result (λ again. time_of again ≡ without_pads (time_of time.now)) }
+    ensures same { IfOk result (λ again. time_of again ≡ without_pads (time_of time.now)) }
+    ensures refused { IfErr result (RefusesTime (time_bytes (time_of time.now))) }
 {
     let bytes = time.to_bytes();
     Time::try_from(bytes.as_slice())
@@ -23,7 +26,8 @@ pub fn read_back(time: &Time) -> Result<Time, TimeByteConversionError>
 /// padding.
 pub fn known_time(bytes: &[u8], time: &Time) -> Result<Time, TimeByteConversionError>
     requires { StandsIn (time_of time.now) bytes.now }
-    ensures { IfOk result (λ read. time_of read ≡ without_pads (time_of time.now)) }
+    ensures same { IfOk result (λ read. time_of read ≡ without_pads (time_of time.now)) }
+    ensures refused { IfErr result (RefusesTime bytes.now) }
 {
     one_time();
     Time::try_from(bytes)
@@ -31,7 +35,8 @@ pub fn known_time(bytes: &[u8], time: &Time) -> Result<Time, TimeByteConversionE
 
 /// The time in the first sixteen bytes: each field at its offset, with zeros in the padding.
 pub fn first_time(bytes: &[u8]) -> Result<Time, TimeByteConversionError>
-    ensures { IfOk result (λ time. time_of time ≡ without_pads (time_in bytes.now)) }
+    ensures fields { IfOk result (λ time. time_of time ≡ without_pads (time_in bytes.now)) }
+    ensures refused { IfErr result (RefusesTime bytes.now) }
 {
     times_read_back();
     Time::try_from(bytes)
@@ -41,6 +46,7 @@ pub fn first_time(bytes: &[u8]) -> Result<Time, TimeByteConversionError>
 pub fn first_noon(year: u16) -> Result<Time, TimeError>
     ensures made { IfOk result (λ time. (time_of time).year ≡ year) }
     ensures accepted { IsOk result ↔ ((1900 ≤ year) × (year ≤ 9999)) }
+    ensures faults { IfErr result (λ faults. faults ≡ record no_fault { year = true }) }
 {
     Time::new(TimeParams {
         year,

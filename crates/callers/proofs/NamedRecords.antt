@@ -1,0 +1,12 @@
+-- Records that were read.
+use Rattle.std.proofs.Common.{◌≡◌, ℕ, List}
+use Rattle.std.specs.Prelude.{Option, Some, Result, Ok, Err}
+use Rattle.std.specs.Result.{result_ok}
+use Rattle.uefi_base.specs.declared.status.Error.{Error}
+use Rattle.uefi_records.specs.File.Verdict.{Verdict, FollowsVerdict, accepted}
+
+-- A record that was read has a name.
+pub has_name : {V : Type 0} (name_of : V → List ℕ) (verdict : Verdict) (result : Result V (Error (Option ℕ))) (read : V) → FollowsVerdict name_of verdict result
+    → Some read ≡ result_ok result → (name : List ℕ) × (verdict ≡ accepted name)
+has_name name_of verdict (Ok view) read follows is = (name_of view, follows)
+has_name name_of verdict (Err error) read follows is = cc

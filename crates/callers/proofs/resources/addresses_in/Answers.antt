@@ -1,0 +1,14 @@
+use Rattle.std.proofs.Common.{arith, ap, ◌∙◌, List, ℕ, sum_by}
+use Rattle.std.proofs.lemmas.List.Sums.{sum_by-cons}
+use Rattle.uefi_map.specs.declared.pci.resource.QwordAddressSpaceDescriptor.{QwordAddressSpaceDescriptor}
+use Rattle.uefi_map.specs.pci.Views.{resources_left}
+use Rattle.callers.proofs.resources.addresses_in.Goals as goal
+
+-- A list that the bytes begin with is the one that is summed, whose sum doesn't fit.
+pub returns-in_err-addresses-clause-fits : goal.returns-in_err-addresses-clause-fits
+returns-in_err-addresses-clause-fits c = λ list has fits.
+    let sum : List QwordAddressSpaceDescriptor → ℕ = sum_by (λ range. range.address_length) in
+    let same = ap sum (c.in-Ok.ensures.list.no_other list has) in
+    let all = ap (λ iter. sum (resources_left iter)) c.into_iter-range-iterator.ensures.into_iter_gives ∙ ap sum c.iter-range-items.ensures.resources in
+    let next = ap sum c.in-Some.ensures.steps ∙ sum_by-cons _ c.in-Some.range (resources_left c.next.new.self) in
+    absurd (c.in_err-addresses.ensures (omega (arith, fits, same, all, next)))
