@@ -67,21 +67,29 @@ pub fn addresses_in(bytes: &[u8]) -> Option<u64>
     Some(addresses)
 }
 
-/// Returns the count of ranges that the bytes list, and the count of addresses in them. Each of the
-/// two calls names some list that the bytes begin with; it is the same one.
-pub fn ranges_and_addresses(alloc: Global, bytes: &[u8]) -> Option<(usize, u64)>
-    ensures { IfSome result (λ counts. (list : List QwordAddressSpaceDescriptor)
+/// Returns the count of ranges that the bytes list, and the count of addresses in them, or `None` if
+/// the second doesn't fit. Each of the two calls names some list that the bytes begin with; it is
+/// the same one.
+pub fn ranges_and_addresses(
+    alloc: Global,
+    bytes: &[u8],
+) -> Result<Option<(usize, u64)>, ResourceError>
+    ensures counts { IfOk result
+        (λ found. IfSome found (λ counts. (list : List QwordAddressSpaceDescriptor)
         × HaveList bytes.now list × (counts.0 ≡ length list)
-        × (counts.1 ≡ sum_by (λ range. range.address_length) list)) }
+        × (counts.1 ≡ sum_by (λ range. range.address_length) list))) }
+    ensures fits { IfOk result
+        (λ found. (list : List QwordAddressSpaceDescriptor) → HaveList bytes.now list
+        → sum_by (λ range. range.address_length) list < 2 ^ 64 → IsSome found) }
+    ensures fault { IfErr result
+        (λ fault. fault ≢ ResourceError.Memory → HaveFault bytes.now fault) }
 {
     one_list();
-    let Ok(ranges) = range_count(alloc, bytes) else {
-        return None;
-    };
+    let ranges = range_count(alloc, bytes)?;
     let Some(addresses) = addresses_in(bytes) else {
-        return None;
+        return Ok(None);
     };
-    Some((ranges, addresses))
+    Ok(Some((ranges, addresses)))
 }
 
 /// Returns the count of resources that are left, by `len`.
