@@ -4,7 +4,8 @@ ghost use Rattle.uefi_base.specs.declared.status.Status.TheVariants.{BUFFER_TOO_
 ghost use Rattle.uefi_base.specs.declared.text_error.FromSliceWithNulError.{FromSliceWithNulError};
 ghost use Rattle.uefi_base.specs.Ucs2.{IsUcs2Text, MakeUcs2Text, characters_of};
 ghost use Rattle.uefi_base.specs.Faults.{HasFault};
-ghost use Rattle.uefi_base.specs.LittleEndian.{u16_at};
+ghost use Rattle.uefi_base.specs.Buffer.{put_at};
+ghost use Rattle.uefi_base.specs.LittleEndian.{u16_at, u32_bytes};
 ghost use Rattle.uefi_base.specs.Unaligned.{units_of};
 ghost use Rattle.uefi_base.specs.GuidText.{guid_text};
 ghost use Rattle.uefi_base.specs.Views.{slice_units, units_left, error_status, error_data};
@@ -120,7 +121,8 @@ pub fn nonzero_units(alloc: Global, slice: &UnalignedSlice<'_>) -> Result<Vec<u1
 /// Writes a number to a buffer at an offset and reads it back: the same number.
 pub fn number_read_back(buffer: &mut [u8], offset: usize, number: u32) -> u32
     requires { offset + 4 ≤ length buffer.old }
-    ensures { result ≡ number }
+    ensures read { result ≡ number }
+    ensures written { buffer.new ≡ put_at offset (u32_bytes number) buffer.old }
 {
     put(buffer, offset, &number.to_le_bytes());
     u32_at(buffer, offset)

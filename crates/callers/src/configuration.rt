@@ -26,8 +26,8 @@ pub fn value_of(configuration: &ConfigurationString, offset: u64, width: u64) ->
     None
 }
 
-/// Returns the bytes of that element of the first configuration of a text, or the error of the
-/// first. A text without pairs has no GUID.
+/// Returns the bytes of that element of the first configuration of a text. If the first group of
+/// pairs is no configuration, it fails with that group's error; a text without pairs lacks the GUID.
 pub fn first_value(
     alloc: Global,
     text: &str,

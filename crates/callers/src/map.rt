@@ -162,8 +162,8 @@ pub fn set_and_get_in(
     map.get(i)
 }
 
-/// A descriptor set in a buffer that is a map: of what the caller lent, its forty bytes changed. For
-/// a buffer that is no map, or without such a descriptor, it stays as it was.
+/// A descriptor set in a buffer that is a map: of what the caller lent, its forty bytes changed. A
+/// buffer that is no map, or has no such descriptor, stays as it was.
 pub fn set_in(buffer: &mut [u8], meta: MemoryMapMeta, i: usize, d: MemoryDescriptor) -> bool
     ensures accepted { IsTrue result ↔ (IsMap (length buffer.old) meta × (i < count_of meta)) }
     ensures written { IsTrue result → IsWithDescriptor buffer.old meta i d buffer.new }

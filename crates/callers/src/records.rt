@@ -52,9 +52,10 @@ pub fn name_length(buffer: &[u8], written: usize) -> Option<usize>
     Some(info.file_name().len())
 }
 
-/// The units of a file's name, of which the last is zero, and no other is.
+/// The units of a file's name. The last is zero, and no other is.
 pub fn name_of<'a>(info: &FileInfo<'a>) -> UnalignedSlice<'a>
-    ensures { FitName (slice_units result) }
+    ensures units { slice_units result ≡ file_name_of info.now }
+    ensures name { FitName (slice_units result) }
 {
     info.file_name()
 }
