@@ -1,4 +1,6 @@
 ghost use Rattle.std.specs.Prelude.{◌≡◌, ◌↔◌, ◌+◌, ◌<◌, ◌≤◌, ◌^◌, Some, length, IsTrue, OnOk, OnErr};
+ghost use Rattle.std.specs.Hash as fed;
+ghost use Rattle.std.specs.List.{fold};
 ghost use Rattle.uefi_base.specs.Buffer.{put_prefix};
 ghost use Rattle.uefi_tcg.specs.v1.Event.{event_bytes, header_length};
 ghost use Rattle.uefi_tcg.specs.v1.Writing.{event_given};
@@ -96,11 +98,12 @@ pub fn is_lower_register(one: &PcrIndex, other: &PcrIndex) -> bool
     one < other
 }
 
-/// Equal registers have equal hashes.
+/// Equal registers have equal hashes: those of their numbers.
 pub fn hashes<H: Hasher>(one: &PcrIndex, other: &PcrIndex, mut first: H, mut second: H) -> (H, H)
     requires registers { one.now ≡ other.now }
     requires hashers { first ≡ second }
-    ensures { result.0 ≡ result.1 }
+    ensures same { result.0 ≡ result.1 }
+    ensures number { result.0 ≡ fold H.write first (fed.u32 one.now.0) }
 {
     one.hash(&mut first);
     other.hash(&mut second);
