@@ -1,5 +1,5 @@
 -- The listing of configurations, one item after another.
-use Rattle.std.proofs.Common.{◌≡◌, ◌≢◌, ℕ, ◌+◌, ◌≤◌, List, [], ◌∷◌, ◌++◌, length, map, refl, sym, ◌∙◌, ap, arith, append_assoc}
+use Rattle.std.proofs.Common.{◌≡◌, ◌≢◌, ℕ, ◌+◌, ◌≤◌, List, [], ◌∷◌, ◌++◌, length, refl, sym, ◌∙◌, ap, arith, append_assoc}
 use Rattle.std.specs.Prelude.{Result, Ok, Err, codes, flat_map}
 use Rattle.std.specs.Fmt.{decimal}
 use Rattle.std.proofs.lemmas.List.{append-nil, flat_map_more, length-append, length-map}
@@ -7,14 +7,12 @@ use Rattle.std.proofs.lemmas.List.Folds.{flat_map-map}
 use Rattle.uefi_hii.specs.declared.configuration.ConfigurationString.{ConfigurationString}
 use Rattle.uefi_hii.specs.declared.error.ParseError.{ParseError}
 use Rattle.uefi_hii.specs.declared.error.ParseError.TheVariants.{BlockConfig, BlockName, ConfigHdr, Memory}
-use Rattle.uefi_hii.specs.declared.configuration.ConfigurationStringElement.{ConfigurationStringElement}
-use Rattle.uefi_hii.specs.declared.configuration.NvPair.{NvPair}
 use Rattle.uefi_hii.specs.Pairs.{Pair, pairs}
 use Rattle.uefi_hii.specs.Cut.{Part, Cut, results_of}
 use Rattle.uefi_hii.specs.Reading.{TakesGroup}
-use Rattle.uefi_hii.specs.Views.{element_of, nv_pair_of, result_of}
+use Rattle.uefi_hii.specs.Views.{result_of}
 use Rattle.uefi_hii.proofs.Wholes.{HasCut, cut_all, cut_more}
-use Rattle.uefi_list.specs.Listing.Config.{config_lines, element_lines, item_lines, nv_line}
+use Rattle.uefi_list.specs.Listing.Config.{config_lines, item_lines}
 
 -- The lines of the first n groups of a text were appended, and these pairs of it are left.
 pub record HasListed (A : Type 0) (input : List ℕ) (left : List Pair) (old now : List ℕ) (n : ℕ) : Type 0 where
@@ -55,23 +53,6 @@ none_listed input left old all = record {
   lines = sym (append-nil old);
   count = refl;
 }
-
--- An element's lines, appended part by part.
-pub element_listed : {A : Type 0} (text0 text1 text2 line : List ℕ) (pairs : List (NvPair A)) → text1 ≡ text0 ++ line
-    → text2 ≡ text1 ++ flat_map (λ pair. nv_line (nv_pair_of pair)) pairs → text2 ≡ text0 ++ (line ++ flat_map nv_line (map nv_pair_of pairs))
-element_listed text0 text1 text2 line pairs first second =
-    let lines : List ℕ = flat_map (λ pair. nv_line (nv_pair_of pair)) pairs in
-    second ∙ ap (λ t. t ++ lines) first ∙ append_assoc text0 line lines ∙ ap (λ t. text0 ++ (line ++ t)) (sym (flat_map-map nv_line nv_pair_of pairs))
-
--- A configuration's lines, appended part by part.
-pub configuration_listed : {A : Type 0} (text0 text1 text2 text3 header alt : List ℕ) (elements : List (ConfigurationStringElement A)) → text1 ≡ text0 ++ header → text2 ≡ text1 ++ alt
-    → text3 ≡ text2 ++ flat_map (λ element. element_lines (element_of element)) elements → text3 ≡ text0 ++ (header ++ alt ++ flat_map element_lines (map element_of elements))
-configuration_listed text0 text1 text2 text3 header alt elements first second third =
-    let lines : List ℕ = flat_map (λ element. element_lines (element_of element)) elements in
-    third ∙ ap (λ t. t ++ lines) (second ∙ ap (λ t. t ++ alt) first)
-    ∙ ap (λ t. t ++ lines) (append_assoc text0 header alt)
-    ∙ append_assoc text0 (header ++ alt) lines
-    ∙ ap (λ t. text0 ++ (header ++ alt ++ t)) (sym (flat_map-map element_lines element_of elements))
 
 -- If no pair is left, the lines are those of the text's cut; their count comes last.
 pub listed_all : {A : Type 0} (input : List ℕ) (left : List Pair) (old now new : List ℕ) (count : ℕ) → HasListed A input left old now count → left ≡ []

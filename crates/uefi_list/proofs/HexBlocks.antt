@@ -40,9 +40,6 @@ pub record HasRestToWrite {W : Type 0} (took : W → List ℕ → W → Type 0) 
   pub plain : IsPlainFormatter now
   pub whole : (end : Formatter W) → HasWritten took now (hex_of rest) end → HasWritten took start (hex_of bytes) end
 
-pub rest_at_start : {W : Type 0} (took : W → List ℕ → W → Type 0) (f : Formatter W) (bytes : List ℕ) → IsPlainFormatter f → HasRestToWrite took f bytes f bytes
-rest_at_start took f bytes plain = record { plain = plain; whole = λ end written. written }
-
 pub rest_after_block : {W : Type 0} (took : W → List ℕ → W → Type 0) (start f g : Formatter W) (bytes rest block after : List ℕ)
     → block ++ after ≡ rest → HasRestToWrite took start bytes f rest → HasWritten took f (hex_of block) g → HasRestToWrite took start bytes g after
 rest_after_block took start f g bytes rest block after cut before written =

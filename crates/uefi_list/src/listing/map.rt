@@ -43,6 +43,7 @@ fn file_meta(map_size: usize, desc_size: usize) -> MemoryMapMeta
 }
 
 /// Appends the lines of a map: its entries, whether they are sorted, and their count.
+#[tactic(auto, unfolding(crate::specs::Listing::Map::map_lines))]
 fn push_map<A: Allocator>(
     text: &mut String<A>,
     map: &MemoryMapRef<'_>,

@@ -37,6 +37,7 @@ fn push_path<A: Allocator>(text: &mut String<A>, path: &DevicePath<'_>) -> Resul
 }
 
 /// Appends the lines of an instance: its length in bytes, and its nodes but the one that ends it.
+#[tactic(auto, unfolding(crate::specs::Listing::Path::instance_lines))]
 fn push_instance<A: Allocator>(
     text: &mut String<A>,
     instance: &DevicePathInstance<'_>,
@@ -53,6 +54,7 @@ fn push_instance<A: Allocator>(
 }
 
 /// Appends the line of a node: type and subtype, and its data if it has any.
+#[tactic(auto, unfolding(crate::specs::Listing::Path::node_line))]
 fn push_node<A: Allocator>(
     text: &mut String<A>,
     node: &DevicePathNode<'_>,

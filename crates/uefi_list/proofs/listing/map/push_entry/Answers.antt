@@ -4,4 +4,4 @@ use Rattle.uefi_list.proofs.listing.map.push_entry.Goals as goal
 
 pub returns : goal.returns
 unfolding entry_line
-returns g c = simp append_assoc (simp (c.bits.ensures, append_assoc) at c.writeln.ensures.bytes)
+returns g c = simp append_assoc (simp c.bits.ensures at c.writeln.ensures.bytes)

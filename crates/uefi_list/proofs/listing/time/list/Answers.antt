@@ -1,6 +1,5 @@
-use Rattle.std.proofs.Common.{◌≡◌, ◌∙◌, ap, refl, ◌++◌, List, ℕ}
+use Rattle.std.proofs.Common.{◌≡◌, refl}
 use Rattle.uefi_records.specs.Time.Fields.{TimeFields, without_pads}
-use Rattle.uefi_records.specs.Time.Views.{time_of}
 use Rattle.uefi_list.specs.Listing.Time.{date_text, clock_text, zone_text, time_line}
 use Rattle.uefi_list.proofs.listing.time.list.Goals as goal
 
@@ -12,11 +11,5 @@ time_line-without_pads time = refl
 pub returns-in_ok-push_time-in-Ok : goal.returns-in_ok-push_time-in-Ok
 returns-in_ok-push_time-in-Ok g c =
     let read = c.in-Ok.ensures.ok in
-    let appended = c.in_ok-push_time-in-Ok.ensures ∙ ap (λ (old : List ℕ). old ++ time_line (time_of c.in-Ok.time)) c.requires.empty in (
-      read.0,
-      record {
-        stands = read.1;
-        faultless = read.3;
-        line = appended ∙ ap time_line read.2 ∙ time_line-without_pads read.0;
-      },
-    )
+    let line = rw (c.requires.empty, read.2, time_line-without_pads read.0) at c.in_ok-push_time-in-Ok.ensures in
+    (read.0, record { stands = read.1; faultless = read.3; line = line })
