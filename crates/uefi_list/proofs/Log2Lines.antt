@@ -1,6 +1,5 @@
 -- A listing of a version 2 log, from what its reader returned.
-use Rattle.std.proofs.Common.{◌≡◌, ℕ, List}
-use Rattle.std.specs.Prelude.{Option, Some, None, IfSome}
+use Rattle.std.specs.Prelude.{◌≡◌, ℕ, List, Option, Some, None, IfSome}
 use Rattle.std.specs.Option.{option_map}
 use Rattle.uefi_tcg.specs.declared.v2.header.EventLogHeader.{EventLogHeader}
 use Rattle.uefi_tcg.specs.v2.Header.{Header}

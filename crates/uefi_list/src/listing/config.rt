@@ -165,7 +165,6 @@ fn push_nvconfig<A: Allocator>(
 }
 
 /// Appends the line of a pair: its key, and its value if it has one.
-#[tactic(auto, unfolding(crate::specs::Listing::Config::nv_line, crate::specs::Listing::Config::value_and_end))]
 fn push_nv_pair<A: Allocator>(text: &mut String<A>, pair: &NvPair<A>) -> Result<(), AllocError>
     ensures { OnOk result (AppendsText text.old text.new (nv_line (nv_pair_of pair.now))) }
 {

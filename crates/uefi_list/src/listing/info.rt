@@ -62,7 +62,6 @@ fn push_info<A: Allocator>(text: &mut String<A>, info: &FileInfo<'_>) -> Result<
 }
 
 /// Appends the line of a refusal.
-#[tactic(auto, unfolding(crate::specs::Listing::Info::refused_info_line))]
 fn push_refusal<A: Allocator>(
     text: &mut String<A>,
     error: &Error<Option<usize>>,

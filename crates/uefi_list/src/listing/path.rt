@@ -54,7 +54,6 @@ fn push_instance<A: Allocator>(
 }
 
 /// Appends the line of a node: type and subtype, and its data if it has any.
-#[tactic(auto, unfolding(crate::specs::Listing::Path::node_line))]
 fn push_node<A: Allocator>(
     text: &mut String<A>,
     node: &DevicePathNode<'_>,

@@ -61,7 +61,6 @@ fn push_resource<A: Allocator>(
 }
 
 /// Appends the line that names a fault. Running out of memory is none, and has no line.
-#[tactic(auto, unfolding(crate::specs::Listing::Pci::fault_line))]
 fn push_fault<A: Allocator>(text: &mut String<A>, fault: ResourceError) -> Result<(), AllocError>
     ensures { OnOk result (AppendsText text.old text.new (fault_line fault)) }
 {

@@ -30,7 +30,6 @@ pub(super) fn list<A: Allocator>(text: &mut String<A>, bytes: &[u8]) -> Result<O
 }
 
 /// Appends the line of a time.
-#[tactic(auto, unfolding(crate::specs::Listing::Time::time_line))]
 fn push_time<A: Allocator>(text: &mut String<A>, time: &Time) -> Result<(), AllocError>
     ensures { OnOk result (AppendsText text.old text.new (time_line (time_of time.now))) }
 {
