@@ -29,7 +29,7 @@ pub enum FromStrError {
     TooLong,
     /// The first character that has no unit of its own is above U+FFFF.
     InvalidChar,
-    /// The first character that has no unit of its own is U+0000, whose unit is the NUL.
+    /// The first character that has no unit of its own is U+0000, since zero is the NUL's unit.
     InteriorNul,
     /// An allocation failed.
     Memory,

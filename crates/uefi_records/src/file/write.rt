@@ -18,7 +18,7 @@ use uefi_base::CStr16;
 use uefi_base::buffer::{put, put_units};
 
 /// Writes a [`FileInfo`](crate::FileInfo) record to the beginning of a buffer, and returns its end:
-/// the offset behind the name's NUL, which is what
+/// the offset after the name's NUL, which is what
 /// [`FileInfo::from_uefi`](crate::FileInfo::from_uefi) takes as `written`.
 ///
 /// The stated size is the record's size, rounded up to a multiple of 8. The rounding bytes, and all
@@ -28,7 +28,7 @@ use uefi_base::buffer::{put, put_units};
 /// # Errors
 ///
 /// [`FileInfoCreationError::InsufficientStorage`], with the record's size, exactly if the buffer is
-/// shorter. Every byte then stays as it was.
+/// shorter than that. Every byte then stays as it was.
 #[tactic(auto, using(crate::proofs::Files::Names::FitName_of_text))]
 pub fn write_file_info(
     buffer: &mut [u8],
@@ -77,7 +77,7 @@ pub fn write_file_info(
 }
 
 /// Writes a [`FileSystemInfo`](crate::FileSystemInfo) record to the beginning of a buffer, and
-/// returns its end: the offset behind the label's NUL, which is what
+/// returns its end: the offset after the label's NUL, which is what
 /// [`FileSystemInfo::from_uefi`](crate::FileSystemInfo::from_uefi) takes as `written`.
 ///
 /// The stated size is the record's size, rounded up to a multiple of 8. The unused bytes 9 to 15,
@@ -88,7 +88,7 @@ pub fn write_file_info(
 /// # Errors
 ///
 /// [`FileInfoCreationError::InsufficientStorage`], with the record's size, exactly if the buffer is
-/// shorter. Every byte then stays as it was.
+/// shorter than that. Every byte then stays as it was.
 #[tactic(auto, using(crate::proofs::Files::Names::FitName_of_text))]
 pub fn write_file_system_info(
     buffer: &mut [u8],
@@ -125,7 +125,7 @@ pub fn write_file_system_info(
 }
 
 /// Writes a [`FileSystemVolumeLabel`](crate::FileSystemVolumeLabel) record to the beginning of a
-/// buffer, and returns its end: the offset behind the label's NUL, which is what
+/// buffer, and returns its end: the offset after the label's NUL, which is what
 /// [`FileSystemVolumeLabel::from_uefi`](crate::FileSystemVolumeLabel::from_uefi) takes as
 /// `written`.
 ///
@@ -136,7 +136,7 @@ pub fn write_file_system_info(
 /// # Errors
 ///
 /// [`FileInfoCreationError::InsufficientStorage`], with the record's size, exactly if the buffer is
-/// shorter. Every byte then stays as it was.
+/// shorter than that. Every byte then stays as it was.
 #[tactic(auto, using(crate::proofs::Files::Names::FitName_of_text))]
 pub fn write_file_system_volume_label(
     buffer: &mut [u8],
