@@ -177,24 +177,24 @@ pub fn set_in(buffer: &mut [u8], meta: MemoryMapMeta, i: usize, d: MemoryDescrip
 }
 
 /// A byte written through the buffer of any map: the map's sizes stay.
-pub fn write_byte<M: MemoryMapMut>(map: &mut M, place: usize, byte: u8)
-    requires { place < length (M.MemoryMap.bytes map.old) }
+pub fn write_byte<M: MemoryMapMut>(map: &mut M, offset: usize, byte: u8)
+    requires { offset < length (M.MemoryMap.bytes map.old) }
     ensures bytes { let bytes = M.MemoryMap.bytes in
-        bytes map.new ≡ slice_set (bytes map.old) place byte }
+        bytes map.new ≡ slice_set (bytes map.old) offset byte }
     ensures meta { M.MemoryMap.meta map.new ≡ M.MemoryMap.meta map.old }
     ensures same_buffer { M.same_buffer map.old map.new }
 {
-    map.buffer_mut()[place] = byte;
+    map.buffer_mut()[offset] = byte;
 }
 
 /// The same of a buffer that the caller lent.
-pub fn write_byte_in(buffer: &mut [u8], meta: MemoryMapMeta, place: usize, byte: u8)
+pub fn write_byte_in(buffer: &mut [u8], meta: MemoryMapMeta, offset: usize, byte: u8)
     requires map { IsMap (length buffer.old) meta }
-    requires within { place < length buffer.old }
-    ensures { buffer.new ≡ slice_set buffer.old place byte }
+    requires within { offset < length buffer.old }
+    ensures { buffer.new ≡ slice_set buffer.old offset byte }
 {
     let mut map = MemoryMapRefMut::over(buffer, meta);
-    write_byte(&mut map, place, byte);
+    write_byte(&mut map, offset, byte);
 }
 
 /// How many entries a map of a vector's bytes has: as many as it was made with.

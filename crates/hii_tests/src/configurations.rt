@@ -45,7 +45,7 @@ const TEXTS: [(&str, &str); 24] = [
         "@&OFFSET=00&WIDTH=01&VALUE=00&b=&=&&",
         "A, 4, None | 0x0 1 00 [b=] [=] []\n",
     ),
-    // Keys of other places are kept, and so is a key in lower case.
+    // Keys of other slots are kept, and so is a key in lower case.
     (
         "@&OFFSET=00&WIDTH=01&VALUE=00&VALUE=01&ALTCFG=0001&NAME&offset=01",
         "A, 4, None | 0x0 1 00 [VALUE=01] [ALTCFG=0001] [NAME] [offset=01]\n",
@@ -122,7 +122,7 @@ fn a_text_is_cut_into_configurations_and_errors(rt: HostRuntime) -> Result<(), F
     Ok(())
 }
 
-/// The pairs that the elements of the first configuration below have behind the first.
+/// The pairs that the elements of the first configuration below have after the first.
 const TEN_ELEMENTS: &str = "&OFFSET=01d9&WIDTH=0001&VALUE=00&OFFSET=01da&WIDTH=0001&VALUE=00\
     &OFFSET=01dc&WIDTH=0002&VALUE=03e8&OFFSET=01de&WIDTH=0001&VALUE=00\
     &OFFSET=01df&WIDTH=0001&VALUE=00&OFFSET=05fe&WIDTH=0002&VALUE=0000\

@@ -77,7 +77,7 @@ fn a_zero_unit_at_each_index_is_found_as_one_by_one(rt: HostRuntime) -> Result<(
 /// The bytes of more than twice eight pages, of which each has 2048 units.
 const MANY_PAGES: usize = 70_001;
 
-/// Indices about the ends of pages, and behind all units.
+/// Indices about the ends of pages, and past all units.
 const ABOUT_PAGES: [usize; 13] = [
     0, 15, 16, 2_047, 2_048, 14_336, 16_383, 16_384, 18_432, 32_767, 32_768, 34_999, 35_000,
 ];

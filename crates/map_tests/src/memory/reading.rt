@@ -60,7 +60,7 @@ const MAPS: [MapRow; 8] = [
     },
     // A type and bits without names are kept.
     MapRow {
-        name: "each field at its place",
+        name: "each field at its offset",
         input: "01020304 05060708 090a0b0c0d0e0f10 1112131415161718 191a1b1c1d1e1f20 2122232425262728",
         sizes: (40, 40),
         is_sorted: true,

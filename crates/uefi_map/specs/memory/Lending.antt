@@ -4,7 +4,7 @@ use Rattle.std.specs.Borrow.{Lends, RestsIfErr, MutBor, Fml, Array, u8 as byte, 
 use Rattle.uefi_map.specs.declared.memory.map_error.MemoryMapError.{MemoryMapError}
 use Rattle.uefi_map.specs.declared.memory.map_ref_mut.MemoryMapRefMut.{MemoryMapRefMut}
 
--- The map, of whatever type, ends with the last bytes behind the reference in its buffer.
+-- The map, of whatever type, ends with the last bytes that the reference lends in its buffer.
 abbrev pub LendsBuffer : (R : RattleType) → MutBor R.Denot → (List ℕ → R.Denot) → MutBor (List ℕ) → Fml
 LendsBuffer R map with_bytes r = Lends R (Array byte 0) map r with_bytes
 

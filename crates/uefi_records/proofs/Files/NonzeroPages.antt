@@ -51,7 +51,7 @@ whole_pages units each k within =
     let i : page_units * (k / page_units) + 0 + k % page_units ≡ 0 + k = omega arith in
     λ is. each (k / page_units) (omega arith) (k % page_units) (omega arith) (ap (λ j. get_or units j 0) i ∙ is)
 
--- The search goes on behind units of which none is zero.
+-- The search goes on after units of which none is zero.
 pub passes_nonzero : (bytes : List ℕ) (index n : ℕ) → 2 * index + 2 * n ≤ length bytes → AreNonzero 0 n (units_of (chunk (2 * index) (2 * n) bytes))
     → position_from (λ unit. unit == 0) index (units_of (drop (2 * index) bytes)) ≡ position_from (λ unit. unit == 0) (index + n) (units_of (drop (2 * (index + n)) bytes))
 passes_nonzero bytes index n within nonzero =

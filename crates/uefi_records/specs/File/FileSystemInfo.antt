@@ -18,7 +18,7 @@ pub record FitFileSystem (fields : FileSystemFields) : Type 0 where
   pub free_space : fields.free_space < 2 ^ 64
   pub block_size : fields.block_size < 2 ^ 32
 
--- The offsets of the fields, behind the size that the record states; and of the bytes that have no meaning.
+-- The offsets of the fields after the size that the record states; and of the bytes that have no meaning.
 abbrev pub read_only_offset : ℕ
 read_only_offset = 8
 

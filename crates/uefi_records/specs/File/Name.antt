@@ -32,7 +32,7 @@ pub record EndsWithName (offset : ℕ) (bytes : List ℕ) : Type 0 where
   pub whole_units : length (drop offset bytes) % unit_length ≡ 0
   pub name : IsName (units_from offset bytes)
 
--- The offset behind a name of this many units, the NUL too: where the record's last field ends.
+-- The offset after a name of this many units, the NUL too: where the record's last field ends.
 abbrev pub record_end : ℕ → ℕ → ℕ
 record_end offset units = offset + unit_length * units
 

@@ -1,4 +1,4 @@
--- Stretches of units that are not zero, and pages of them that are read side by side.
+-- Stretches of units that are not zero, and pages of them that are read side by side: words of the search alone, which no public contract cites.
 use Rattle.std.specs.Prelude.{ℕ, ◌≢◌, ◌+◌, ◌*◌, ◌<◌, List, slice_index}
 
 -- The units of a page of memory, and how many pages are read side by side.
@@ -8,7 +8,7 @@ page_units = 2048
 abbrev pub pages : ℕ
 pages = 8
 
--- None of so many units from the index on is zero.
+-- None of this many units from the index on is zero.
 abbrev pub AreNonzero : ℕ → ℕ → List ℕ → Type 0
 AreNonzero start count units = (k : ℕ) → k < count → slice_index units (start + k) ≢ 0
 

@@ -11,7 +11,7 @@ use crate::file::creation_error::FileInfoCreationError;
 use crate::file::first_zero::{UNIT_LENGTH, first_zero_unit};
 use uefi_base::{Error, Status, UnalignedSlice};
 
-// The units of the name behind the offset.
+// The units of the name from the offset on.
 #[tactic(auto, using(crate::proofs::Files::Names::FitName_from))]
 pub(crate) fn name_at<'a>(bytes: &'a [u8], offset: usize) -> UnalignedSlice<'a>
     requires { EndsWithName offset bytes.now }
@@ -74,8 +74,8 @@ pub(crate) fn room_for(
     requires small { alignment ≤ file_info_alignment }
     requires near { offset ≤ file_name_offset }
     requires short { units ≤ 2 ^ 31 }
-    ensures end { IfOk result (λ place. place.0 ≡ record_end offset units) }
-    ensures size { IfOk result (λ place. place.1 ≡ record_size offset alignment units) }
+    ensures end { IfOk result (λ ends. ends.0 ≡ record_end offset units) }
+    ensures size { IfOk result (λ ends. ends.1 ≡ record_size offset alignment units) }
     ensures fails { IfErr result (λ error. error
         ≡ FileInfoCreationError.InsufficientStorage (record_size offset alignment units)) }
     ensures fits { IsOk result ↔ (record_size offset alignment units ≤ room) }
