@@ -1,40 +1,11 @@
 -- What `info` lists: the file information record in the bytes that were written.
-use Rattle.std.specs.Prelude.{◌≡◌, ℕ, Option, None, Some, List, [], ◌∷◌, ◌++◌, length, take, codes, flat_map}
+use Rattle.std.specs.Prelude.{◌≡◌, ℕ, Option, None, Some, List, ◌++◌, length, take, codes}
 use Rattle.std.specs.Fmt.{decimal}
-use Rattle.std.specs.Int.{w16, to_be_bytes}
-use Rattle.uefi_base.specs.Ucs2.{characters_of}
-use Rattle.uefi_records.specs.Time.Fields.{TimeFields, time_bytes}
-use Rattle.uefi_records.specs.File.FileInfo.{FileFields, file_fields, file_info_verdict, size_in}
+use Rattle.uefi_records.specs.File.FileInfo.{file_fields, file_info_verdict, size_in}
 use Rattle.uefi_records.specs.File.Verdict.{Verdict, without_name, too_small, accepted}
+use Rattle.uefi_lines.specs.Info.{info_lines}
 use Rattle.uefi_list.specs.declared.listing.Outcome.{Outcome}
 use Rattle.uefi_list.specs.declared.listing.Outcome.TheVariants.{Listed, Refused}
-use Rattle.uefi_list.specs.Listing.Text.{hex_of, hex_number}
-
--- Four hex digits for each unit, joined.
-abbrev pub units_hex : List ℕ → List ℕ
-units_hex units = hex_of (flat_map (to_be_bytes w16) units)
-
--- A space and the characters of the name in hex; nothing if it has none.
-unfoldable pub name_field : List ℕ → List ℕ
-name_field [] = []
-name_field (unit ∷ units) = codes " " ++ units_hex (unit ∷ units)
-
--- The sixteen bytes of a time in hex.
-unfoldable pub stamp_text : TimeFields → List ℕ
-stamp_text time = hex_of (time_bytes time)
-
--- The size that the record states, the fields, and the name without its NUL.
-unfoldable pub info_lines : ℕ → FileFields → List ℕ → List ℕ
-info_lines size fields name =
-    codes "size " ++ decimal size
-    ++ codes "\nfile " ++ decimal fields.file_size
-    ++ codes "\nphysical " ++ decimal fields.physical_size
-    ++ codes "\ncreated " ++ stamp_text fields.create_time
-    ++ codes "\naccessed " ++ stamp_text fields.last_access_time
-    ++ codes "\nmodified " ++ stamp_text fields.modification_time
-    ++ codes "\nattribute " ++ hex_number fields.attribute
-    ++ codes "\nname" ++ name_field (characters_of name)
-    ++ codes "\n"
 
 -- The line of a refusal, by the size that the record needs, if there is a name.
 unfoldable pub refused_info_line : Option ℕ → List ℕ

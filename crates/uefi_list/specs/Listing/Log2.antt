@@ -1,58 +1,11 @@
 -- What `log2` and `log2after` list: the version 2 event log that the bytes are, from one of its two starts, and its header.
-use Rattle.std.specs.Prelude.{◌≡◌, ℕ, List, ◌++◌, length, codes, flat_map, Option, None, Some}
-use Rattle.std.specs.Fmt.{decimal}
-use Rattle.std.specs.Int.{w16, w32, to_be_bytes}
-use Rattle.uefi_tcg.specs.v2.Event.{Digest, Event}
+use Rattle.std.specs.Prelude.{◌≡◌, ℕ, List, ◌++◌, Option, None, Some}
+use Rattle.uefi_tcg.specs.v2.Event.{Event}
 use Rattle.uefi_tcg.specs.v2.Header.{Header, Start}
 use Rattle.uefi_tcg.specs.v2.Log.{HasHeaderOf, IsLogOf}
+use Rattle.tcg_lines.specs.V2.{log_header_lines, log_lines}
 use Rattle.uefi_list.specs.declared.listing.Outcome.{Outcome}
 use Rattle.uefi_list.specs.declared.listing.Outcome.TheVariants.{Listed, Refused}
-use Rattle.uefi_list.specs.Listing.Text.{gap_before, hex_of}
-
--- The platform class, the version of the specification and the size of a `UINTN`, in decimal.
-unfoldable pub fields_line : Header → List ℕ
-fields_line header =
-    codes "header " ++ decimal header.platform_class
-    ++ codes " " ++ decimal header.major ++ codes "." ++ decimal header.minor ++ codes "." ++ decimal header.errata
-    ++ codes " " ++ decimal header.uintn_size
-    ++ codes "\n"
-
--- Two spaces, an algorithm as `0x` and four hex digits, and the size of its digests in decimal.
-unfoldable pub row_line : ℕ × ℕ → List ℕ
-row_line row = codes "  algorithm 0x" ++ hex_of (to_be_bytes w16 row.0) ++ codes " " ++ decimal row.1 ++ codes "\n"
-
--- The vendor's bytes in hex, if there are any.
-unfoldable pub vendor_line : List ℕ → List ℕ
-vendor_line vendor = codes "vendor" ++ gap_before vendor ++ hex_of vendor ++ codes "\n"
-
--- The lines of a header: its fields, a line for each row of its table, and the vendor's bytes.
-unfoldable pub header_lines : Header → List ℕ
-header_lines header = fields_line header ++ flat_map row_line header.table ++ vendor_line header.vendor
-
--- The lines of a log's header, or the line for a log without one.
-unfoldable pub log_header_lines : Option Header → List ℕ
-log_header_lines None = codes "header none\n"
-log_header_lines (Some header) = header_lines header
-
--- The register in decimal, the type as `0x` and eight hex digits, and the data in hex if there is any.
-unfoldable pub event_line : Event → List ℕ
-event_line event =
-    codes "event " ++ decimal event.pcr_index
-    ++ codes " 0x" ++ hex_of (to_be_bytes w32 event.event_type)
-    ++ gap_before event.event_data ++ hex_of event.event_data
-    ++ codes "\n"
-
--- Two spaces, an algorithm as `0x` and four hex digits, and the digest in hex if it has any bytes.
-unfoldable pub digest_line : Digest → List ℕ
-digest_line digest = codes "  digest 0x" ++ hex_of (to_be_bytes w16 digest.algorithm) ++ gap_before digest.bytes ++ hex_of digest.bytes ++ codes "\n"
-
--- The line of an event, and a line for each of its digests.
-unfoldable pub event_lines : Event → List ℕ
-event_lines event = event_line event ++ flat_map digest_line event.digests
-
--- The lines of the events, and their count.
-abbrev pub log_lines : List Event → List ℕ
-log_lines events = flat_map event_lines events ++ codes "events " ++ decimal (length events) ++ codes "\n"
 
 -- The header of the log of the bytes with the last entry, if it has one.
 abbrev pub IsHeaderOf : Option ℕ → List ℕ → Option Header → Type 0

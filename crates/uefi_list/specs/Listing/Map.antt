@@ -1,33 +1,10 @@
 -- What `map` lists: the memory map that all the bytes are at a stride.
-use Rattle.std.specs.Prelude.{◌≡◌, ◌↔◌, ℕ, Bool, List, ◌++◌, length, codes, flat_map, IsTrue, if◌then◌else◌}
-use Rattle.std.specs.Fmt.{decimal}
-use Rattle.uefi_map.specs.declared.memory.descriptor.MemoryDescriptor.{MemoryDescriptor}
+use Rattle.std.specs.Prelude.{◌≡◌, ◌↔◌, ℕ, Bool, List, length, codes, IsTrue}
 use Rattle.uefi_map.specs.declared.memory.meta.MemoryMapMeta.{MemoryMapMeta}
 use Rattle.uefi_map.specs.memory.Map.{IsMap, AreSorted, entries_of}
-use Rattle.uefi_map.specs.memory.Views.{attribute_bits}
+use Rattle.uefi_lines.specs.Map.{map_lines}
 use Rattle.uefi_list.specs.declared.listing.Outcome.{Outcome}
 use Rattle.uefi_list.specs.declared.listing.Outcome.TheVariants.{Listed, Refused}
-use Rattle.uefi_list.specs.Listing.Text.{hex_number}
-
--- The type and the page count in decimal, the addresses and the attributes in hex.
-unfoldable pub entry_line : MemoryDescriptor → List ℕ
-entry_line entry =
-    codes "entry " ++ decimal entry.ty.0
-    ++ codes " " ++ hex_number entry.phys_start
-    ++ codes " " ++ hex_number entry.virt_start
-    ++ codes " " ++ decimal entry.page_count
-    ++ codes " " ++ hex_number (attribute_bits entry.att)
-    ++ codes "\n"
-
-abbrev pub yes_or_no : Bool → List ℕ
-yes_or_no value = if value then codes "yes" else codes "no"
-
--- The lines of the entries, whether they are sorted, and their count.
-unfoldable pub map_lines : List MemoryDescriptor → Bool → List ℕ
-map_lines entries sorted =
-    flat_map entry_line entries
-    ++ codes "sorted " ++ yes_or_no sorted
-    ++ codes "\nentries " ++ decimal (length entries) ++ codes "\n"
 
 -- What is known of a memory map that a file of this length is, at this stride: the key is 0, the version 1.
 abbrev pub file_meta : ℕ → ℕ → MemoryMapMeta

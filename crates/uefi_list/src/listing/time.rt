@@ -1,11 +1,9 @@
-ghost use Rattle.std.specs.Prelude.{◌≡◌, [], string_bytes, IfOk, OnOk, Some};
-ghost use Rattle.uefi_records.specs.Time.Views.{time_of};
-ghost use Rattle.uefi_list.specs.Listing.Text.{AppendsText};
-ghost use Rattle.uefi_list.specs.Listing.Time.{date_text, clock_text, zone_text, time_line, TimeListing};
+ghost use Rattle.std.specs.Prelude.{◌≡◌, [], string_bytes, IfOk};
+ghost use Rattle.uefi_list.specs.Listing.Time.{TimeListing};
 
 use super::Outcome;
 use std::alloc::{AllocError, Allocator};
-use std::fmt;
+use uefi_lines::push_time;
 use uefi_records::{Time, TimeByteConversionError};
 
 /// Lists the time in the first sixteen bytes.
@@ -25,58 +23,6 @@ pub(super) fn list<A: Allocator>(text: &mut String<A>, bytes: &[u8]) -> Result<O
         Err(TimeByteConversionError::InvalidFields(_)) => {
             writeln!(text, "refused InvalidFields")?;
             Ok(Outcome::Refused)
-        }
-    }
-}
-
-/// Appends the line of a time.
-fn push_time<A: Allocator>(text: &mut String<A>, time: &Time) -> Result<(), AllocError>
-    ensures { OnOk result (AppendsText text.old text.new (time_line (time_of time.now))) }
-{
-    let (date, clock, zone) = (Date(time), Clock(time), Zone(time));
-    let daylight = time.daylight().bits();
-    writeln!(text, "time {date} {clock} {zone} {daylight}")
-}
-
-/// The year, the month and the day of a time, displayed with leading zeros.
-#[derive(Clone, Copy)]
-struct Date<'a>(&'a Time);
-
-impl fmt::Display for Date<'_> {
-    ghost output = { λ date. Some (date_text (time_of date.0.now)) };
-
-    fn fmt<W: fmt::Write>(&self, f: &mut fmt::Formatter<W>) -> fmt::Result {
-        let (year, month, day) = (self.0.year(), self.0.month(), self.0.day());
-        write!(f, "{year:04}-{month:02}-{day:02}")
-    }
-}
-
-/// The hour, the minute, the second and the nanosecond of a time, displayed with leading zeros.
-#[derive(Clone, Copy)]
-struct Clock<'a>(&'a Time);
-
-impl fmt::Display for Clock<'_> {
-    ghost output = { λ clock. Some (clock_text (time_of clock.0.now)) };
-
-    fn fmt<W: fmt::Write>(&self, f: &mut fmt::Formatter<W>) -> fmt::Result {
-        let (hour, minute, second) = (self.0.hour(), self.0.minute(), self.0.second());
-        let nanosecond = self.0.nanosecond();
-        write!(f, "{hour:02}:{minute:02}:{second:02}.{nanosecond:09}")
-    }
-}
-
-/// The zone of a time, displayed in minutes from UTC, or as `local` if it is unspecified.
-#[derive(Clone, Copy)]
-struct Zone<'a>(&'a Time);
-
-#[tactic(auto, unfolding(crate::specs::Listing::Time::zone_text))]
-impl fmt::Display for Zone<'_> {
-    ghost output = { λ zone. Some (zone_text (time_of zone.0.now)) };
-
-    fn fmt<W: fmt::Write>(&self, f: &mut fmt::Formatter<W>) -> fmt::Result {
-        match self.0.time_zone() {
-            None => write!(f, "local"),
-            Some(zone) => write!(f, "{zone}"),
         }
     }
 }

@@ -1,6 +1,6 @@
 use Rattle.std.proofs.Common.{◌≡◌, refl}
 use Rattle.uefi_records.specs.Time.Fields.{TimeFields, without_pads}
-use Rattle.uefi_list.specs.Listing.Time.{date_text, clock_text, zone_text, time_line}
+use Rattle.uefi_lines.specs.Time.{date_text, clock_text, zone_text, time_line}
 use Rattle.uefi_list.proofs.listing.time.list.Goals as goal
 
 -- A line shows no padding.

@@ -1,0 +1,2 @@
+pub mod HexBlocks
+pub mod HexNumbers

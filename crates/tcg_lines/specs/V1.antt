@@ -1,0 +1,19 @@
+-- The lines of a version 1 event log.
+use Rattle.std.specs.Prelude.{ℕ, List, ◌++◌, length, codes, flat_map}
+use Rattle.std.specs.Fmt.{decimal}
+use Rattle.std.specs.Int.{w32, to_be_bytes}
+use Rattle.uefi_tcg.specs.v1.Event.{Event}
+use Rattle.lines_base.specs.Text.{gap_before, hex_of}
+
+-- The register in decimal, the type as `0x` and eight hex digits, the digest in hex, and the data in hex if there is any.
+unfoldable pub event_line : Event → List ℕ
+event_line event =
+    codes "event " ++ decimal event.pcr_index
+    ++ codes " 0x" ++ hex_of (to_be_bytes w32 event.event_type)
+    ++ codes " " ++ hex_of event.digest
+    ++ gap_before event.event_data ++ hex_of event.event_data
+    ++ codes "\n"
+
+-- A line for each event, and their count.
+abbrev pub log_lines : List Event → List ℕ
+log_lines events = flat_map event_line events ++ codes "events " ++ decimal (length events) ++ codes "\n"

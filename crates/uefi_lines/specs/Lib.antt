@@ -1,0 +1,6 @@
+pub mod Path
+pub mod Config
+pub mod Map
+pub mod Pci
+pub mod Time
+pub mod Info

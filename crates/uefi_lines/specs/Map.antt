@@ -1,0 +1,26 @@
+-- The lines of a memory map.
+use Rattle.std.specs.Prelude.{ℕ, Bool, List, ◌++◌, length, codes, flat_map, if◌then◌else◌}
+use Rattle.std.specs.Fmt.{decimal}
+use Rattle.uefi_map.specs.declared.memory.descriptor.MemoryDescriptor.{MemoryDescriptor}
+use Rattle.uefi_map.specs.memory.Views.{attribute_bits}
+use Rattle.lines_base.specs.Text.{hex_number}
+
+-- The type and the page count in decimal, the addresses and the attributes in hex.
+unfoldable pub entry_line : MemoryDescriptor → List ℕ
+entry_line entry =
+    codes "entry " ++ decimal entry.ty.0
+    ++ codes " " ++ hex_number entry.phys_start
+    ++ codes " " ++ hex_number entry.virt_start
+    ++ codes " " ++ decimal entry.page_count
+    ++ codes " " ++ hex_number (attribute_bits entry.att)
+    ++ codes "\n"
+
+abbrev pub yes_or_no : Bool → List ℕ
+yes_or_no value = if value then codes "yes" else codes "no"
+
+-- The lines of the entries, whether they are sorted, and their count.
+unfoldable pub map_lines : List MemoryDescriptor → Bool → List ℕ
+map_lines entries sorted =
+    flat_map entry_line entries
+    ++ codes "sorted " ++ yes_or_no sorted
+    ++ codes "\nentries " ++ decimal (length entries) ++ codes "\n"
