@@ -1,9 +1,12 @@
 -- The lines of a memory map.
-use Rattle.std.specs.Prelude.{ℕ, Bool, List, ◌++◌, length, codes, flat_map, if◌then◌else◌}
+use Rattle.std.specs.Prelude.{◌↔◌, ℕ, Bool, List, ◌++◌, length, codes, flat_map, IsTrue, if◌then◌else◌}
 use Rattle.std.specs.Fmt.{decimal}
+use Rattle.std.specs.declared.string.String.{String}
+use Rattle.lines_base.specs.Text.{hex_number, AppendsText}
 use Rattle.uefi_map.specs.declared.memory.descriptor.MemoryDescriptor.{MemoryDescriptor}
+use Rattle.uefi_map.specs.declared.memory.meta.MemoryMapMeta.{MemoryMapMeta}
+use Rattle.uefi_map.specs.memory.Map.{AreSorted, entries_of}
 use Rattle.uefi_map.specs.memory.Views.{attribute_bits}
-use Rattle.lines_base.specs.Text.{hex_number}
 
 -- The type and the page count in decimal, the addresses and the attributes in hex.
 unfoldable pub entry_line : MemoryDescriptor → List ℕ
@@ -24,3 +27,8 @@ map_lines entries sorted =
     flat_map entry_line entries
     ++ codes "sorted " ++ yes_or_no sorted
     ++ codes "\nentries " ++ decimal (length entries) ++ codes "\n"
+
+-- The text grows by the lines of the map that the bytes are.
+abbrev pub AppendsMapLines : {A : Type 0} → String A → String A → List ℕ → MemoryMapMeta → Type 0
+AppendsMapLines old new bytes meta =
+    (sorted : Bool) × (IsTrue sorted ↔ AreSorted bytes meta) × AppendsText old new (map_lines (entries_of bytes meta) sorted)

@@ -12,7 +12,12 @@ use uefi_hii::{
     MultiConfigurationStringIter, NvPair, ParseError,
 };
 
-/// Appends the lines of all configurations and faults of a text, and their count.
+/// Appends the lines of all configurations and faults of a text, and last `items N`, their count.
+///
+/// A configuration has the lines `config GUID`, `  name NAME`, `  path N` with the length of its
+/// path in bytes, and `  alt N` if it is an alternative one; then for each element
+/// `  element OFFSET WIDTH VALUE`, the value in hex, and for each pair that it keeps
+/// `  nv KEY=VALUE`, or `  nv KEY` for a pair without a value. A fault has the line `fault NAME`.
 ///
 /// # Errors
 ///

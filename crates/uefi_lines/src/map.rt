@@ -2,29 +2,30 @@ ghost use Rattle.std.specs.Prelude.{◌≡◌, flat_map, OnOk};
 ghost use Rattle.lines_base.specs.Text.{AppendsText};
 ghost use Rattle.uefi_map.specs.memory.Map.{entries_of};
 ghost use Rattle.uefi_map.specs.memory.Views.{ref_bytes, ref_meta};
-ghost use Rattle.uefi_lines.specs.Map.{entry_line, yes_or_no, map_lines};
+ghost use Rattle.uefi_lines.specs.Map.{entry_line, yes_or_no, AppendsMapLines};
 
 use lines_base::HexNumber;
 use std::alloc::{AllocError, Allocator};
 use uefi_map::{MemoryDescriptor, MemoryMap, MemoryMapRef};
 
-/// Appends the lines of a map: its entries, whether they are sorted, and their count.
+/// Appends the lines of a memory map: for each descriptor `entry TYPE PHYS VIRT PAGES ATTRIBUTES`,
+/// type and page count in decimal, the others as `0x` and hex; `sorted yes` or `sorted no`, as the
+/// descriptors stand in the order of their addresses or not; last `entries N`, their count.
 ///
 /// # Errors
 ///
 /// [`AllocError`] if an allocation fails. The text may have grown then.
-#[tactic(auto, unfolding(crate::specs::Map::map_lines))]
 pub fn push_map<A: Allocator>(
     text: &mut String<A>,
     map: &MemoryMapRef<'_>,
-    sorted: bool,
 ) -> Result<(), AllocError>
-    ensures { OnOk result (AppendsText text.old text.new
-        (map_lines (entries_of (ref_bytes map.now) (ref_meta map.now)) sorted)) }
+    ensures { OnOk result
+        (AppendsMapLines text.old text.new (ref_bytes map.now) (ref_meta map.now)) }
 {
     push_entries(text, map)?;
-    let (sorted, count) = (yes_or_no(sorted), map.entries().len());
-    writeln!(text, "sorted {sorted}\nentries {count}")
+    let (sorted, count) = (yes_or_no(map.is_sorted()), map.entries().len());
+    writeln!(text, "sorted {sorted}\nentries {count}")?;
+    Ok(())
 }
 
 /// Appends the lines of a map's entries.

@@ -8,7 +8,11 @@ use std::alloc::{AllocError, Allocator};
 use std::fmt;
 use uefi_map::{QwordAddressSpaceDescriptor, ResourceList, ResourceRangeType};
 
-/// Appends the lines of a list of resources: its ranges, and their count.
+/// Appends the lines of a list of PCI resources: for each range `resource KIND GENERAL SPECIFIC
+/// GRANULARITY MIN MAX OFFSET LENGTH`, both flags in decimal, the numbers after them as `0x` and hex;
+/// last `resources N`, the count of ranges.
+///
+/// KIND is `Memory`, `Io`, `Bus` or `Unknown(N)`.
 ///
 /// # Errors
 ///

@@ -7,7 +7,9 @@ use std::alloc::{AllocError, Allocator};
 use std::fmt;
 use uefi_records::Time;
 
-/// Appends the line of a time.
+/// Appends the line of a time, `time YYYY-MM-DD HH:MM:SS.NNNNNNNNN ZONE DAYLIGHT`.
+///
+/// ZONE is the minutes from UTC in decimal, or `local`; DAYLIGHT the bits of the flag set in decimal.
 ///
 /// # Errors
 ///

@@ -4,7 +4,7 @@ ghost use Rattle.uefi_list.specs.Listing.Map.{file_meta, MapListing};
 use super::Outcome;
 use std::alloc::{AllocError, Allocator};
 use uefi_lines::push_map;
-use uefi_map::{MemoryDescriptor, MemoryMap, MemoryMapKey, MemoryMapMeta, MemoryMapRef};
+use uefi_map::{MemoryDescriptor, MemoryMapKey, MemoryMapMeta, MemoryMapRef};
 
 /// Lists the memory map that all the bytes are at this stride.
 pub(super) fn list<A: Allocator>(
@@ -17,7 +17,7 @@ pub(super) fn list<A: Allocator>(
 {
     match MemoryMapRef::new(bytes, file_meta(bytes.len(), stride)) {
         Ok(map) => {
-            push_map(text, &map, map.is_sorted())?;
+            push_map(text, &map)?;
             Ok(Outcome::Listed)
         }
         Err(_) => {
