@@ -72,8 +72,7 @@ pub fn counts_of_every_cut(alloc: Global, text: &str) -> Result<(usize, usize), 
         → AreCounts counts (results_of parts)) }
 {
     one_cut();
-    let counts = item_counts(alloc, text)?;
-    Ok(counts)
+    item_counts(alloc, text)
 }
 
 /// Returns whether an item is a configuration, and no error of the text.
@@ -98,6 +97,5 @@ pub fn joined_texts(alloc: Global, text: &str, other: &str) -> Result<String, Al
         → Cut (string_bytes joined) (parts ++ others)) }
 {
     one_cut();
-    let joined = format!(in alloc; "{text}&{other}")?;
-    Ok(joined)
+    format!(in alloc; "{text}&{other}")
 }

@@ -55,21 +55,12 @@ pub fn counts_from_both_starts(bytes: &[u8], last_entry: usize) -> (usize, usize
 {
     same_where_nothing_follows();
     (
-        count_of_log(bytes, last_entry),
+        event_count(bytes, last_entry),
         count_after_header_event(bytes, last_entry),
     )
 }
 
-/// How many events a log of version 2 has, by `count`: as many as its list.
-pub fn count_of_log(bytes: &[u8], last_entry: usize) -> usize
-    ensures { (events : List Event) × IsLogOf after_header (Some bytes.now) (Some last_entry) events
-        × (result ≡ length events) }
-{
-    let log = EventLog::new(Some(bytes), Some(last_entry), false);
-    log.iter().count()
-}
-
-/// The same of the events that follow the header event.
+/// How many events of a log of version 2 follow the header event, by `count`: as many as its list.
 pub fn count_after_header_event(bytes: &[u8], last_entry: usize) -> usize
     ensures { (events : List Event) × IsLogOf after_event (Some bytes.now) (Some last_entry) events
         × (result ≡ length events) }

@@ -118,8 +118,7 @@ pub fn node_label(alloc: Global, node: &DevicePathNode<'_>) -> Result<String, Al
 pub fn is_read_back(alloc: Global, path: &DevicePath<'_>, rest: &[u8]) -> Result<bool, AllocError>
     ensures { IfOk result (λ same. IsTrue same) }
 {
-    let mut bytes = Vec::new(alloc);
-    bytes.extend_from_slice(path.as_bytes())?;
+    let mut bytes = Vec::from_slice(alloc, path.as_bytes())?;
     bytes.extend_from_slice(rest)?;
     match DevicePath::try_from(bytes.as_slice()) {
         Ok(read) => Ok(read == *path),

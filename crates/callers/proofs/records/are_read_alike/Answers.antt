@@ -34,3 +34,8 @@ returns-in-Err-Err c =
     let one = c.in-Err-Err.ensures in
     let other = c.in-Err-Err.ensures' in
     c.is_same_error.ensures.1 (same_error _ _ _ (subst (λ v. Refuses v c.in-Err-Err.one) both one.verdict) other.verdict)
+
+pub returns-in_default : goal.returns-in_default
+returns-in_default c =
+    let both = c.written_alone.ensures.verdicts file_name_offset file_info_alignment c.args.written c.args.one.now c.args.other.now c.requires.lengths c.requires.same in
+    absurd (subst (λ v. Refuses v c.in_default.field-0-1) (sym both ∙ c.in_default.ensures.verdict) c.in_default.ensures'.verdict)
