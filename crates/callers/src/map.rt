@@ -1,4 +1,4 @@
-ghost use Rattle.std.specs.Prelude.{◌≡◌, ◌≢◌, ◌^◌, ◌<◌, ◌≤◌, ◌↔◌, ℕ, List, length, sum_by, slice_get, slice_set, string_bytes, SomeIff, Some, IsTrue, IsNone, IsSome, IfSome, IfOk, OnSome};
+ghost use Rattle.std.specs.Prelude.{◌≡◌, ◌≢◌, ◌^◌, ◌<◌, ◌≤◌, ◌↔◌, ℕ, List, length, sum_by, slice_get, slice_set, string_bytes, SomeIff, Some, IsTrue, IsNone, IsSome, IfNone, IfSome, IfOk, OnSome};
 ghost use Rattle.std.specs.Ordering.{nat_cmp};
 ghost use Rattle.uefi_map.specs.memory.Descriptor.{descriptor_bytes, zero_descriptor};
 ghost use Rattle.uefi_base.specs.Flags.{has_bits};
@@ -270,13 +270,14 @@ pub fn map_fault_text(alloc: Global, error: &MemoryMapError) -> Result<String, A
     error.to_string(alloc)
 }
 
-/// Returns the first entry of a map and clears it. An entry is a value, so the map can be written
-/// to while the entry is still in use.
+/// Returns the first entry of a map and clears it; a map without entries stays as it was. An entry
+/// is a value, so the map can be written to while the entry is still in use.
 pub fn take_first(map: &mut MemoryMapRefMut<'_>) -> Option<MemoryDescriptor>
     ensures first { result ≡ slice_get (entries_of (mut_bytes map.old) (mut_meta map.old)) 0 }
     ensures cleared { OnSome result
         (IsWithDescriptor (mut_bytes map.old) (mut_meta map.old) 0 zero_descriptor
         (mut_bytes map.new)) }
+    ensures unchanged { IfNone result (mut_bytes map.new ≡ mut_bytes map.old) }
 {
     let first = map.entries().next();
     let _before = map.set(0, MemoryDescriptor::default());

@@ -48,7 +48,9 @@ pub fn name_length(buffer: &[u8], written: usize) -> Option<usize>
     ensures accepted { IsSome result → (name : List ℕ)
         × (file_info_verdict (take written buffer.now) (length buffer.now) ≡ accepted name) }
 {
-    let info = FileInfo::from_uefi(buffer, written).ok()?;
+    let Ok(info) = FileInfo::from_uefi(buffer, written) else {
+        return None;
+    };
     Some(info.file_name().len())
 }
 

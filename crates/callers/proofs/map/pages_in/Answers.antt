@@ -1,4 +1,4 @@
-use Rattle.std.proofs.Common.{arith}
+use Rattle.std.proofs.Common.{arith, true, false, ◌≡◌}
 use Rattle.std.proofs.lemmas.List.Sums.{sum_by-cons}
 use Rattle.callers.proofs.map.pages_in.Goals as goal
 
@@ -14,3 +14,12 @@ returns-in_err-pages-clause-too_many c = λ none is_map.
 
 pub returns-clause-sum : goal.returns-clause-sum
 returns-clause-sum c = let sum = rw c.in-None.ensures.steps.0 at c.loop-entry.invariant in omega arith
+
+pub returns-in_default-clause-too_many : goal.returns-in_default-clause-too_many
+returns-in_default-clause-too_many c = λ none is_map. let accepted : false ≡ true = c.in_default.ensures.accepted.1 is_map in cc
+
+pub returns-clause-map : goal.returns-clause-map
+returns-clause-map c = c.in-Ok.ensures.accepted.0
+
+pub loop-entry-init : goal.loop-entry-init
+loop-entry-init c = simp (c.into_iter-entry-iterator.ensures.into_iter_gives, c.entries-entry-items.ensures.entries, c.in-Ok.ensures.buffer, c.in-Ok.ensures.meta) (omega arith)

@@ -22,3 +22,9 @@ pub returns-clause-sum : goal.returns-clause-sum
 returns-clause-sum c =
     let sum = simp (c.in-None.ensures.steps.0, c.into_iter-range-iterator.ensures.into_iter_gives, c.iter-range-items.ensures.resources) at c.loop-range.invariant in
     (resources_of c.in-Ok.list, c.in-Ok.ensures.list.stands, omega (arith, sum))
+
+pub returns-in_default-clause-fits : goal.returns-in_default-clause-fits
+returns-in_default-clause-fits c = λ list has fits. absurd (c.in_default.ensures.fault.no_list (list, has))
+
+pub loop-range-init : goal.loop-range-init
+loop-range-init c = omega arith
