@@ -120,10 +120,8 @@ pub fn is_read_back(alloc: Global, path: &DevicePath<'_>, rest: &[u8]) -> Result
 {
     let mut bytes = Vec::from_slice(alloc, path.as_bytes())?;
     bytes.extend_from_slice(rest)?;
-    match DevicePath::try_from(bytes.as_slice()) {
-        Ok(read) => Ok(read == *path),
-        Err(_) => Ok(false),
-    }
+    let read = DevicePath::try_from(bytes.as_slice());
+    Ok(read == Ok(*path))
 }
 
 /// Returns whether two paths are equal, and so are the bytes after them, where all bytes together are
