@@ -1,4 +1,4 @@
-use Rattle.std.proofs.Common.{subst, sym, ◌∙◌, ◌≡◌, ℕ, Option}
+use Rattle.std.proofs.Common.{subst, sym, ◌∙◌, ◌≡◌, ℕ, List, Option}
 use Rattle.uefi_base.specs.declared.status.Error.{Error}
 use Rattle.uefi_base.specs.declared.status.Status.{Status}
 use Rattle.uefi_base.specs.Views.{error_status, error_data}
@@ -19,14 +19,18 @@ same_error without_name one other said also = by_parts one other (said.0 ∙ sym
 same_error (too_small size) one other said also = by_parts one other (said.0 ∙ sym also.0) (said.1 ∙ sym also.1)
 same_error (accepted name) one other said also = absurd said
 
+-- Verdicts with one name have the same name.
+same_name : (one other : List ℕ) → accepted one ≡ accepted other → one ≡ other
+same_name one other same = cc
+
 pub returns-in-Ok-Ok : goal.returns-in-Ok-Ok
 returns-in-Ok-Ok c =
     let both = c.written_alone.ensures.verdicts file_name_offset file_info_alignment c.args.written c.args.one.now c.args.other.now c.requires.lengths c.requires.same in
     let one = c.in-Ok-Ok.ensures in
     let other = c.in-Ok-Ok.ensures' in
     let same = c.written_alone.ensures.file_info c.args.written c.args.one.now c.args.other.now _ c.requires.same one.verdict in
-    let names : accepted (file_name_of c.in-Ok-Ok.one) ≡ accepted (file_name_of c.in-Ok-Ok.other) = sym one.verdict ∙ (both ∙ other.verdict) in
-    c.is_same_file.ensures.1 (one.size ∙ (same.0 ∙ sym other.size), one.fields ∙ (same.1 ∙ sym other.fields), cc)
+    let names = same_name (file_name_of c.in-Ok-Ok.one) (file_name_of c.in-Ok-Ok.other) (sym one.verdict ∙ (both ∙ other.verdict)) in
+    c.is_same_file.ensures.1 (one.size ∙ (same.0 ∙ sym other.size), one.fields ∙ (same.1 ∙ sym other.fields), names)
 
 pub returns-in-Err-Err : goal.returns-in-Err-Err
 returns-in-Err-Err c =
