@@ -1,3 +1,2 @@
 pub mod Configurations
-pub mod DigestLogs
 pub mod NamedRecords

@@ -2,18 +2,14 @@
 //!
 //! Each function calls a library of this repository and ensures what it then knows of its whole
 //! input. The proofs cite no proof of a library. Some of the functions are the examples in the
-//! documentation of the libraries.
+//! documentation of the libraries. Those that read and write event logs stand in the crate
+//! `tcg_callers`.
 #![tactic(auto)]
 
 pub mod base;
 pub mod configuration;
-pub mod digest_logs;
-pub mod events;
 pub mod flags;
 pub mod full_map;
-pub mod logs;
-#[cfg(test)]
-mod machine_log;
 pub mod map;
 pub mod path;
 pub mod records;

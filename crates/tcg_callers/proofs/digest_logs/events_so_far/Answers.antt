@@ -7,7 +7,7 @@ use Rattle.uefi_tcg.specs.v2.Event.{Event}
 use Rattle.uefi_tcg.specs.v2.Header.{HeaderEvent, after_header}
 use Rattle.uefi_tcg.specs.v2.Laws.{IsLocal, end_of}
 use Rattle.uefi_tcg.specs.v2.Log.{IsLog}
-use Rattle.callers.proofs.digest_logs.events_so_far.Goals as goal
+use Rattle.tcg_callers.proofs.digest_logs.events_so_far.Goals as goal
 
 -- A log begins with the events of an earlier one that had ended.
 had_ended : IsLocal → (bytes : List ℕ) (last_entry : ℕ) (also : Option HeaderEvent) (log : List Event) → IsLog after_header bytes last_entry also log

@@ -1,5 +1,5 @@
 use Rattle.std.proofs.lemmas.Result.{IfOk-weaker}
-use Rattle.callers.proofs.logs.events_so_far.Goals as goal
+use Rattle.tcg_callers.proofs.logs.events_so_far.Goals as goal
 
 pub returns : goal.returns
 returns c =

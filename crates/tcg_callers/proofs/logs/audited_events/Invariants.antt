@@ -1,7 +1,7 @@
 use Rattle.std.proofs.Common.{◌++◌, map}
 use Rattle.uefi_tcg.specs.v1.Log.{IsLog}
 use Rattle.uefi_tcg.specs.v1.Views.{event_of}
-use Rattle.callers.proofs.logs.audited_events.Given as goal
+use Rattle.tcg_callers.proofs.logs.audited_events.Given as goal
 
 -- The events so far and those to come are the log.
 abbrev pub invariant-loop-event : goal.invariant-loop-event

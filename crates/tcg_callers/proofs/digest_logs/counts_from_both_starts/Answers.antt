@@ -1,6 +1,6 @@
 use Rattle.std.proofs.Common.{◌∙◌, sym, length, ap}
-use Rattle.callers.proofs.DigestLogs.{nothing_follows}
-use Rattle.callers.proofs.digest_logs.counts_from_both_starts.Goals as goal
+use Rattle.tcg_callers.proofs.DigestLogs.{nothing_follows}
+use Rattle.tcg_callers.proofs.digest_logs.counts_from_both_starts.Goals as goal
 
 pub returns-clause-same : goal.returns-clause-same
 returns-clause-same c =

@@ -6,7 +6,7 @@ use Rattle.uefi_tcg.specs.v2.Event.{Event}
 use Rattle.uefi_tcg.specs.v2.Header.{Header, HasHeader, HeaderEvent, after_header, events_start}
 use Rattle.uefi_tcg.specs.v2.Laws.{OneLog}
 use Rattle.uefi_tcg.specs.v2.Log.{EventsKeep, IsLog}
-use Rattle.callers.proofs.digest_logs.every_event.Goals as goal
+use Rattle.tcg_callers.proofs.digest_logs.every_event.Goals as goal
 
 -- A list that keeps under a header is a prefix of the log, whose header is that one.
 every : OneLog → (bytes : List ℕ) (last_entry : ℕ) (found : Option HeaderEvent) (log : List Event) → IsLog after_header bytes last_entry found log → (header : Header) (others : List Event)

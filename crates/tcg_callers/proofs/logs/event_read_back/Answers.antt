@@ -10,7 +10,7 @@ use Rattle.uefi_tcg.specs.v1.Laws.{OneLog, WrittenIsLog}
 use Rattle.uefi_tcg.specs.v1.Log.{IsLog, IsLogOf}
 use Rattle.uefi_tcg.specs.v1.Views.{event_of}
 use Rattle.uefi_tcg.specs.v1.Writing.{event_given}
-use Rattle.callers.proofs.logs.event_read_back.Goals as goal
+use Rattle.tcg_callers.proofs.logs.event_read_back.Goals as goal
 
 -- An event's encoding is its header and its data.
 length-event_bytes : (event : Event) → IsEvent event → length (event_bytes event) ≡ header_length + length event.event_data

@@ -1,6 +1,6 @@
 use Rattle.std.proofs.Common.{length, ap, arith}
-use Rattle.callers.proofs.DigestLogs.{bound_after_event}
-use Rattle.callers.proofs.digest_logs.event_count_after_header_event.Goals as goal
+use Rattle.tcg_callers.proofs.DigestLogs.{bound_after_event}
+use Rattle.tcg_callers.proofs.digest_logs.event_count_after_header_event.Goals as goal
 
 pub returns-clause-none : goal.returns-clause-none
 returns-clause-none c = λ found is below.

@@ -1,6 +1,6 @@
 use Rattle.std.proofs.Common.{◌≡◌, ◌+◌, ◌≤◌, length}
 use Rattle.std.specs.Prelude.{◌==◌, count_by}
-use Rattle.callers.proofs.digest_logs.count_of_register.Given as goal
+use Rattle.tcg_callers.proofs.digest_logs.count_of_register.Given as goal
 
 -- Those that were counted and those among the events to come are all of the register.
 abbrev pub invariant-loop-event : goal.invariant-loop-event

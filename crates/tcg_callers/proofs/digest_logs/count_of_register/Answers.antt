@@ -2,7 +2,7 @@ use Rattle.std.proofs.Common.{arith, true, false, sym, ◌≡◌, ◌+◌, cond,
 use Rattle.std.specs.Prelude.{◌==◌, count_by}
 use Rattle.std.proofs.lemmas.List.Sums.{sum_by-cons}
 use Rattle.uefi_tcg.specs.v2.Event.{Event}
-use Rattle.callers.proofs.digest_logs.count_of_register.Goals as goal
+use Rattle.tcg_callers.proofs.digest_logs.count_of_register.Goals as goal
 
 -- The first of the events to come is counted if it passes.
 counted_more : (test : Event → Bool) (count total : ℕ) (event : Event) (events rest : List Event) (passes : Bool) → events ≡ event ∷ rest → test event ≡ passes

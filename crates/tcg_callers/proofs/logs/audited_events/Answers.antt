@@ -1,7 +1,7 @@
 use Rattle.std.proofs.Common.{arith, append_assoc, [], ◌∷◌, ◌++◌, map}
 use Rattle.std.proofs.lemmas.List.{append-nil, length_push, map-append}
 use Rattle.uefi_tcg.specs.v1.Views.{event_of}
-use Rattle.callers.proofs.logs.audited_events.Goals as goal
+use Rattle.tcg_callers.proofs.logs.audited_events.Goals as goal
 
 pub loop-event-init : goal.loop-event-init
 loop-event-init c = simp (c.new-events.ensures.items, c.into_iter-event-iterator.ensures.into_iter_gives) (rw c.new-log.ensures at c.iter-event-items.ensures.log)
