@@ -8,5 +8,3 @@
 pub mod digest_logs;
 pub mod events;
 pub mod logs;
-#[cfg(test)]
-mod machine_log;

@@ -5,6 +5,8 @@
 #[cfg(test)]
 mod capabilities;
 #[cfg(test)]
+mod machine_log;
+#[cfg(test)]
 mod texts;
 #[cfg(test)]
 mod v1_cuts;

@@ -1,5 +1,5 @@
-use crate::digest_logs::count_of_register;
 use std::test::Fail;
+use tcg_callers::digest_logs::count_of_register;
 use test_bytes::{bytes, same};
 use uefi_tcg::PcrIndex;
 
