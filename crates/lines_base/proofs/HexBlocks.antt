@@ -19,8 +19,8 @@ unfolding hex_of
 hex_of-append one other = flat_map-append hex_byte one other
 
 -- A digit is the same, by its index in a table and by its value.
-pub digit_by_place : (d : ℕ) → d < 16 → slice_index lower_digits d ≡ digit_glyph false d
-digit_by_place d small =
+pub digit_by_index : (d : ℕ) → d < 16 → slice_index lower_digits d ≡ digit_glyph false d
+digit_by_index d small =
     let same : (slice_index lower_digits d == digit_glyph false d) ≡ true = agree_below_at (λ x. slice_index lower_digits x == digit_glyph false x) (λ x. true) 16 d refl small in
     grind (arith, nat_tests)
 
@@ -30,8 +30,8 @@ unfolding hex_of encode_with
 encode_lower-hex_of [] small = refl
 encode_lower-hex_of (byte ∷ bytes) small =
     let fits : byte < 256 = small 0 in
-    let high = digit_by_place (byte / 16) (omega arith) in
-    let low = digit_by_place (byte % 16) (omega arith) in
+    let high = digit_by_index (byte / 16) (omega arith) in
+    let low = digit_by_index (byte % 16) (omega arith) in
     let others = encode_lower-hex_of bytes (λ i. small (suc i)) in
     λ i. high i ∷ low i ∷ others i
 

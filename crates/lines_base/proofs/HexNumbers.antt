@@ -68,9 +68,9 @@ filled_start number text fits room =
 pub filled_more : (number rest start : ℕ) (text : List ℕ) → 16 ≤ rest → HasFilled number rest start text → HasFilled number (rest / 16) (start - 1) (set text (start - 1) (digit_glyph false (rest % 16)))
 filled_more number rest start text more filled =
     let step = fits_step (start - 2) rest more filled.fits in
-    let place : start - 1 < length text = omega (arith, filled.room, filled.low, filled.high) in
+    let in_text : start - 1 < length text = omega (arith, filled.room, filled.low, filled.high) in
     let next : start - 1 + 1 ≡ start = omega (arith, filled.low) in
-    let cut : drop (start - 1) (set text (start - 1) (digit_glyph false (rest % 16))) ≡ digit_glyph false (rest % 16) ∷ drop start text = drop-set text (start - 1) (digit_glyph false (rest % 16)) place ∙ ap (λ (n : ℕ). digit_glyph false (rest % 16) ∷ drop n text) next in
+    let cut : drop (start - 1) (set text (start - 1) (digit_glyph false (rest % 16))) ≡ digit_glyph false (rest % 16) ∷ drop start text = drop-set text (start - 1) (digit_glyph false (rest % 16)) in_text ∙ ap (λ (n : ℕ). digit_glyph false (rest % 16) ∷ drop n text) next in
     let count : 46 + start ≡ suc (46 + (start - 1)) = omega (arith, filled.low) in
     let less : start - 1 - 2 ≡ start - 2 - 1 = omega arith in
     record {

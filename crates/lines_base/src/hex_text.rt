@@ -120,7 +120,7 @@ fn write_number<W: fmt::Write>(f: &mut fmt::Formatter<W>, number: u64) -> fmt::R
 }
 
 /// Returns the lower case hex digit of a value below sixteen.
-#[tactic(auto, using(crate::proofs::HexBlocks::digit_by_place))]
+#[tactic(auto, using(crate::proofs::HexBlocks::digit_by_index))]
 fn hex_digit(value: u8) -> u8
     requires { value < 16 }
     ensures { result ≡ digit_glyph false value }

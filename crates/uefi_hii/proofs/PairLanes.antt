@@ -21,7 +21,7 @@ odds [] = []
 odds (x ∷ []) = []
 odds (x ∷ y ∷ v) = y ∷ odds v
 
--- n places from i on, each two above the one before
+-- n indices from i on, each two above the one before
 abbrev twos : ℕ → ℕ → List ℕ
 twos i zero = []
 twos i (suc n) = i ∷ twos (suc (suc i)) n

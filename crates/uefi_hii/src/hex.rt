@@ -81,8 +81,8 @@ impl<'a> DoubleEndedIterator for HexBytes<'a> {
     ghost next_back_gives = { YieldsLast bytes_left };
 
     fn next_back(&mut self) -> Option<u8> {
-        let (front, byte) = split_last_byte(self.rest)?;
-        self.rest = front;
+        let (before, byte) = split_last_byte(self.rest)?;
+        self.rest = before;
         Some(byte)
     }
 }
@@ -101,12 +101,12 @@ fn split_last_byte(text: &[u8]) -> Option<(&[u8], u8)>
     ensures { MatchOption result (hex text.now ≡ [])
         (λ r. hex text.now ≡ hex r.0.now ++ r.1 ∷ []) }
 {
-    let (last, front) = text.split_last()?;
+    let (last, before) = text.split_last()?;
     if text.len() % 2 != 0 {
-        return Some((front, byte_of_one(*last)));
+        return Some((before, byte_of_one(*last)));
     }
-    let (first, front) = front.split_last()?;
-    Some((front, byte_of_two(*first, *last)))
+    let (first, before) = before.split_last()?;
+    Some((before, byte_of_two(*first, *last)))
 }
 
 /// The byte that two characters spell.

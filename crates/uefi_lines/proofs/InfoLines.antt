@@ -32,10 +32,10 @@ units_hex-more units block start end order bytes =
 pub big_endian-more : (bytes units : List ℕ) (k start i unit high low : ℕ) → 2 * k + 1 < length bytes → start + k ≡ i → i < length units
     → unit ≡ get_or units i 0 → high ∷ low ∷ [] ≡ to_be_bytes w16 unit → take (2 * k) bytes ≡ flat_map (to_be_bytes w16) (take k (drop start units))
     → take (2 * (k + 1)) (set (set bytes (2 * k) high) (2 * k + 1) low) ≡ flat_map (to_be_bytes w16) (take (k + 1) (drop start units))
-big_endian-more bytes units k start i unit high low room place within is_unit are_bytes before =
+big_endian-more bytes units k start i unit high low room at_index within is_unit are_bytes before =
     let rest : List ℕ = drop start units in
     let next : 2 * (k + 1) ≡ 2 * k + 2 = omega arith in
-    let value : unit ≡ get_or rest k 0 = is_unit ∙ ap (λ (n : ℕ). get_or units n 0) (sym place) ∙ sym (get_or-drop start units k 0) in
+    let value : unit ≡ get_or rest k 0 = is_unit ∙ ap (λ (n : ℕ). get_or units n 0) (sym at_index) ∙ sym (get_or-drop start units k 0) in
     let rest_length = length-drop start units in
     let joined = flat_map_more (to_be_bytes w16) [] (take k rest) (get_or rest k 0) ∙ ap (flat_map (to_be_bytes w16)) (sym (take_more rest k 0 (omega (arith, rest_length)))) in
     rw next (take-two_writes bytes (2 * k) high low room ∙ (λ j. before j ++ (are_bytes ∙ ap (to_be_bytes w16) value) j) ∙ joined)
