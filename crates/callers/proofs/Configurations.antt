@@ -1,19 +1,22 @@
 -- Configurations that are read one after another, and the first element that fits.
 use Rattle.std.proofs.Common.{◌≡◌, ◌≢◌, ℕ, ◌+◌, ◌≤◌, Bool, true, false, not, cond, List, [], ◌∷◌, ◌++◌, length, map, refl, sym, ◌∙◌, ap, subst, arith, append_assoc}
-use Rattle.std.proofs.lemmas.List.{append-nil, length-append}
-use Rattle.std.specs.Prelude.{◌==◌, ◌&&◌, if◌then◌else◌, Option, Some, Result, Ok, Err, option_map, slice_get, filter, is_ok, is_err}
-use Rattle.std.specs.List.{find}
+use Rattle.std.proofs.lemmas.List.{append-nil, length-append, map-append}
+use Rattle.std.proofs.lemmas.List.Elements.{All-cons, All-head, All-nil, All-same, All-tail}
+use Rattle.std.specs.Prelude.{◌==◌, ◌&&◌, if◌then◌else◌, Option, Some, None, MatchOption, Result, Ok, Err, option_map, slice_get, filter, is_ok, is_err}
+use Rattle.std.specs.List.{All, find}
 use Rattle.uefi_hii.specs.declared.configuration.ConfigurationString.{ConfigurationString}
 use Rattle.uefi_hii.specs.declared.configuration.ConfigurationStringElement.{ConfigurationStringElement}
+use Rattle.uefi_hii.specs.declared.multi.MultiConfigurationStringIter.{MultiConfigurationStringIter}
 use Rattle.uefi_hii.specs.declared.error.ParseError.{ParseError}
 use Rattle.uefi_hii.specs.declared.error.ParseError.TheVariants.{BlockConfig, BlockName, ConfigHdr, Memory}
-use Rattle.uefi_hii.specs.Pairs.{Pair}
+use Rattle.uefi_hii.specs.Pairs.{Pair, pairs}
 use Rattle.uefi_hii.specs.Configuration.{Configuration}
 use Rattle.uefi_hii.specs.Group.{Group}
 use Rattle.uefi_hii.specs.Cut.{AreGroups, Cut, Part, first_pair, pairs_of, results_of}
-use Rattle.uefi_hii.specs.Reading.{IsFirstResult, TakesGroup}
-use Rattle.uefi_hii.specs.Views.{configuration_of, element_of, result_of}
-use Rattle.callers.specs.Configurations.{AreCounts}
+use Rattle.uefi_hii.specs.Laws.{OneGroup}
+use Rattle.uefi_hii.specs.Reading.{AreResults, IsFirstResult, TakesGroup, YieldsGroup}
+use Rattle.uefi_hii.specs.Views.{configuration_of, element_of, result_of, uncut_pairs}
+use Rattle.callers.specs.Configurations.{AreCounts, IsOnlyResult}
 
 -- Groups of a text were read, and these pairs are left: their groups and those to come are a cut.
 pub record HasRead (text : List ℕ) (left : List Pair) (read : List Part) : Type 0 where
@@ -22,6 +25,13 @@ pub record HasRead (text : List ℕ) (left : List Pair) (read : List Part) : Typ
 -- The part that a group and its result are.
 abbrev part : List Pair → Result Configuration ParseError → Part
 part group result = record { group = group; result = result }
+
+-- What holds of each item of a list with one more at its end holds of each before it, and of that one.
+all_and_last : {X : Type 0} (P : X → Type 0) (items : List X) (last : X) → All P (items ++ last ∷ []) → All P items × P last
+all_and_last P [] last each = (All-nil P, All-head P last [] each)
+all_and_last P (item ∷ items) last each =
+    let rest = all_and_last P items last (All-tail P item (items ++ last ∷ []) each) in
+    (All-cons P item items (All-head P item (items ++ last ∷ []) each) rest.0, rest.1)
 
 -- A step of the iterator that found memory takes a group.
 taken : {A : Type 0} (before after : List Pair) (item : Result (ConfigurationString A) ParseError) → item ≢ Err Memory → TakesGroup before item after
@@ -45,6 +55,57 @@ read_more text left after group read result so_far is is_group = record {
 -- If no pair is left, what was read is the cut.
 pub read_all : (text : List ℕ) (left : List Pair) (read : List Part) → HasRead text left read → left ≡ [] → Cut text read
 read_all text left read so_far none = subst (Cut text) (append-nil read) (so_far.joins [] (sym none) tt)
+
+-- The items are the results of groups that were read of a text of which these pairs are left.
+pub record HasItems {A : Type 0} (text : List ℕ) (left : List Pair) (items : List (Result (ConfigurationString A) ParseError)) : Type 0 where
+  pub read : List Part
+  pub so_far : HasRead text left read
+  pub results : map result_of items ≡ results_of read
+
+-- No item says that memory ran out.
+abbrev pub HaveNoMemory : {A : Type 0} → List (Result (ConfigurationString A) ParseError) → Type 0
+HaveNoMemory items = All (λ item. item ≢ Err Memory) items
+
+-- Before the first step all pairs are left.
+pub no_items : {A : Type 0} (text : List ℕ) (left : List Pair) (items : List (Result (ConfigurationString A) ParseError)) → left ≡ pairs text → items ≡ []
+    → HasItems text left items
+no_items text left items all none = record {
+  read = [];
+  so_far = record { joins = λ rest whole each. record { whole = whole ∙ all; each = each } };
+  results = ap (map result_of) none;
+}
+
+-- A step adds the result of one more group, unless memory runs out.
+pub items_more : {A : Type 0} (text : List ℕ) (left after : List Pair) (items more : List (Result (ConfigurationString A) ParseError)) (item : Result (ConfigurationString A) ParseError)
+    → (HaveNoMemory items → HasItems text left items) → TakesGroup left item after → more ≡ items ++ item ∷ [] → HaveNoMemory more → HasItems text after more
+items_more text left after items more item so_far step pushed some =
+    let each = all_and_last (λ x. x ≢ Err Memory) items item (All-same (λ x. x ≢ Err Memory) (items ++ item ∷ []) more (sym pushed) some) in
+    let before = so_far each.0 in
+    let group = taken left after item each.1 step in
+    record {
+      read = before.read ++ part group.0 (result_of item) ∷ [];
+      so_far = read_more text left after group.0 before.read (result_of item) before.so_far group.1 group.2;
+      results =
+          ap (map result_of) pushed ∙ map-append result_of items (item ∷ []) ∙ ap (λ rs. rs ++ result_of item ∷ []) before.results
+          ∙ sym (map-append (λ e. e.result) before.read (part group.0 (result_of item) ∷ []));
+    }
+
+-- If no pair is left, the items are the results of the cut.
+pub items_all : {A : Type 0} (text : List ℕ) (left : List Pair) (items : List (Result (ConfigurationString A) ParseError)) → HasItems text left items → left ≡ []
+    → AreResults text items
+items_all text left items so_far none = (so_far.read, read_all text left so_far.read so_far.so_far none, so_far.results)
+
+-- The item of a step is the result of each group that the pairs begin with.
+pub one_item : {A : Type 0} (ps : List Pair) (old new : MultiConfigurationStringIter A) (item : Option (Result (ConfigurationString A) ParseError))
+    → OneGroup → uncut_pairs old ≡ ps → YieldsGroup old item new → MatchOption item (ps ≡ []) (IsOnlyResult ps)
+one_item {A} ps old new item one all step = subst (λ qs. MatchOption item (qs ≡ []) (IsOnlyResult qs)) all (by_item item step)
+  where
+    by_item : (item : Option (Result (ConfigurationString A) ParseError)) → YieldsGroup old item new → MatchOption item (uncut_pairs old ≡ []) (IsOnlyResult (uncut_pairs old))
+    by_item None step = step.0
+    by_item (Some item) step = λ some group result begins.
+        let first = taken (uncut_pairs old) (uncut_pairs new) item some step.1 in
+        let only = one (uncut_pairs old) step.0 in
+        (only.no_other first.0 (result_of item) (uncut_pairs new, first.1, first.2)).1 ∙ sym (only.no_other group result begins).1
 
 -- The bytes of the first of the elements that has this offset and this width.
 abbrev pub found_in : {A : Type 0} → ℕ → ℕ → List (ConfigurationStringElement A) → Option (List ℕ)

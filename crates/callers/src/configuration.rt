@@ -1,16 +1,18 @@
-ghost use Rattle.std.specs.Prelude.{◌≡◌, ◌≢◌, ◌++◌, List, Ok, Err, Some, IfOk, IfErr, OnOk, is_ok, option_map, slice_get, slice_index_or, string_bytes, codes};
+ghost use Rattle.std.specs.Prelude.{◌≡◌, ◌≢◌, ◌++◌, List, [], Ok, Err, Some, IfOk, IfErr, OnOk, MatchOption, is_ok, option_map, slice_get, slice_index_or, string_bytes, codes};
+ghost use Rattle.std.specs.List.{All};
 ghost use Rattle.uefi_hii.specs.declared.error.ConfigHdrSection.TheVariants.{Guid};
 ghost use Rattle.uefi_hii.specs.declared.error.ParseError.TheVariants.{ConfigHdr, Memory};
 ghost use Rattle.uefi_hii.specs.Configuration.{Configuration};
 ghost use Rattle.uefi_hii.specs.Cut.{Part, Cut, first_pair, results_of};
 ghost use Rattle.uefi_hii.specs.Laws.{EndsWithAmpersand, EndsWithElement};
 ghost use Rattle.uefi_hii.specs.Pairs.{pairs};
+ghost use Rattle.uefi_hii.specs.Reading.{AreResults};
 ghost use Rattle.uefi_hii.specs.Slots.{IsKey};
 ghost use Rattle.uefi_hii.specs.Views.{configuration_of};
-ghost use Rattle.callers.specs.Configurations.{value_at, AreCounts};
+ghost use Rattle.callers.specs.Configurations.{value_at, AreCounts, IsOnlyResult};
 
 use std::alloc::{AllocError, Global};
-use uefi_hii::laws::one_cut;
+use uefi_hii::laws::{one_cut, one_group};
 use uefi_hii::{ConfigurationString, MultiConfigurationStringIter, ParseError};
 
 /// Returns the bytes of the first element that has this offset and this width, if there is one.
@@ -46,6 +48,31 @@ pub fn first_value(
         Some(bytes) => Ok(Some(Vec::from_slice(alloc, bytes)?)),
         None => Ok(None),
     }
+}
+
+/// Returns the first item of a text. It is the result of every group that the text's pairs begin
+/// with, of which by the law `one_group` there is one.
+pub fn first_item(alloc: Global, text: &str) -> Option<Result<ConfigurationString, ParseError>>
+    ensures { MatchOption result (pairs text.now ≡ []) (IsOnlyResult (pairs text.now)) }
+{
+    one_group();
+    MultiConfigurationStringIter::new(alloc, text).next()
+}
+
+/// Returns all items of a text, up to the end of the iterator. If none of them is `Memory`, they
+/// are the results of the text's cut, in order.
+pub fn all_items(
+    alloc: Global,
+    text: &str,
+) -> Result<Vec<Result<ConfigurationString, ParseError>>, AllocError>
+    ensures { IfOk result (λ all. All (λ item. item ≢ Err Memory) all.items
+        → AreResults text.now all.items) }
+{
+    let mut all = Vec::new(alloc);
+    for item in MultiConfigurationStringIter::new(alloc, text) {
+        all.push(item)?;
+    }
+    Ok(all)
 }
 
 /// Returns how many configurations and how many errors a text has, by `for`: those of its cut.

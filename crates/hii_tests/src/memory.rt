@@ -154,10 +154,23 @@ fn a_wrong_guid_is_an_error_though_memory_is_refused(rt: HostRuntime) -> Result<
     without_request(alloc, &line, |heap| first_line(heap, alloc, ""))
 }
 
+/// Checks that an iterator over the text is made without a request for memory.
+fn check_made(alloc: Global, text: &str) -> Result<(), Fail> {
+    without_request(alloc, &true, |heap| {
+        let _items = MultiConfigurationStringIter::new(heap, text);
+        true
+    })
+}
+
 #[test]
 fn an_iterator_is_made_without_memory(rt: HostRuntime) -> Result<(), Fail> {
+    let alloc = rt.alloc();
+    check_made(alloc, "")?;
+    for (row, _) in TEXTS {
+        check_made(alloc, text_of(alloc, row)?.as_str())?;
+    }
     without_request(
-        rt.alloc(),
+        alloc,
         &true,
         |heap| MultiConfigurationStringIter::new(heap, "").next().is_none(),
     )

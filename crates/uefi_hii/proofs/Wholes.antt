@@ -2,9 +2,12 @@
 use Rattle.std.proofs.Common.{◌≡◌, ◌≢◌, ℕ, List, [], ◌∷◌, ◌++◌, map, refl, sym, ◌∙◌, ap, subst, append_assoc}
 use Rattle.std.proofs.lemmas.List.{append-nil, map-append}
 use Rattle.std.proofs.lemmas.List.Concat.{flat_map-append}
+use Rattle.std.proofs.lemmas.List.Elements.{All-nil, All-push, All-same}
+use Rattle.std.specs.List.{All}
 use Rattle.std.specs.Prelude.{Result, Ok, Err, ⊤}
 use Rattle.uefi_hii.specs.declared.configuration.ConfigurationString.{ConfigurationString}
 use Rattle.uefi_hii.specs.declared.error.ConfigHdrSection.{ConfigHdrSection}
+use Rattle.uefi_hii.specs.declared.error.ConfigHdrSection.TheVariants.{Guid}
 use Rattle.uefi_hii.specs.declared.error.ParseError.{ParseError}
 use Rattle.uefi_hii.specs.declared.error.ParseError.TheVariants.{BlockConfig, BlockName, ConfigHdr, Memory}
 use Rattle.uefi_hii.specs.Pairs.{Pair, pairs}
@@ -14,7 +17,7 @@ use Rattle.uefi_hii.specs.Cut.{AreGroups, Cut, Part, first_pair, pairs_of, resul
 use Rattle.uefi_hii.specs.Views.{result_of}
 use Rattle.uefi_hii.specs.Reading.{AreResults, IsFirstResult, MayRunOut, TakesGroup}
 use Rattle.uefi_hii.specs.Laws.{BeginsWith}
-use Rattle.uefi_hii.proofs.Cuts.{cut_once, one_group, part}
+use Rattle.uefi_hii.proofs.Cuts.{cut_once, group_some, has_one_cut, one_group, part}
 
 -- Groups with these pairs behind the last.
 abbrev pub AreGroupsBefore : List Part → List Pair → Type 0
@@ -46,6 +49,18 @@ pub record HasCut {A : Type 0} (text : List ℕ) (left : List Pair) (items : Lis
   pub whole : pairs text ≡ pairs_of parts ++ left
   pub each : AreGroupsBefore parts left
   pub results : map result_of items ≡ results_of parts
+  pub no_memory : All (λ item. item ≢ Err Memory) items
+
+-- Before the first group all pairs are left.
+pub cut_none : {A : Type 0} (text : List ℕ) (left : List Pair) (items : List (Result (ConfigurationString A) ParseError)) → left ≡ pairs text → items ≡ []
+    → HasCut text left items
+cut_none text left items all none = record {
+  parts = [];
+  whole = sym all;
+  each = tt;
+  results = ap (map result_of) none;
+  no_memory = All-same (λ x. x ≢ Err Memory) items [] none (All-nil (λ x. x ≢ Err Memory));
+}
 
 -- A group that was taken, unless memory ran out.
 taken : {A : Type 0} (before after : List Pair) (r : Result (ConfigurationString A) ParseError) → r ≢ Err Memory → TakesGroup before r after
@@ -66,6 +81,7 @@ cut_more text left after items item c some t =
       whole = c.whole ∙ ap (λ x. pairs_of c.parts ++ x) g.1 ∙ sym (pairs_of-push c.parts g.0 after r);
       each = groups_push c.parts g.0 after r (subst (AreGroupsBefore c.parts) g.1 c.each) g.2;
       results = map-append result_of items (item ∷ []) ∙ ap (λ x. x ++ r ∷ []) c.results ∙ sym (map-append (λ e. e.result) c.parts (part g.0 r ∷ []));
+      no_memory = All-push (λ x. x ≢ Err Memory) items item c.no_memory some;
     }
 
 -- Where no pair is left, they are the results of the text's cut, and of no other.
@@ -118,3 +134,13 @@ is_first {A} text after (Ok x) some t (e ∷ parts) c = first_is text after (Ok 
 is_first {A} text after (Err (ConfigHdr s)) some t (e ∷ parts) c = first_is text after (Err (ConfigHdr s)) e parts some (header_kept A s) t c
 is_first {A} text after (Err BlockName) some t (e ∷ parts) c = first_is text after (Err BlockName) e parts some (name_kept A) t c
 is_first {A} text after (Err BlockConfig) some t (e ∷ parts) c = first_is text after (Err BlockConfig) e parts some (value_kept A) t c
+
+-- Where a text has no pairs, its cut has no parts.
+pub none_first : (A : Type 0) (text : List ℕ) → pairs text ≡ [] → (parts : List Part) → Cut text parts → IsFirstResult {A = A} parts (Err (ConfigHdr Guid))
+none_first A text none [] c = refl
+none_first A text none (e ∷ parts) c = absurd (group_some e.group (pairs_of parts) _ e.result c.each.0 (c.whole ∙ none))
+
+-- What every cut of a text has as its first result, its one cut has.
+pub of_the_cut : {A : Type 0} (text : List ℕ) (r : Result (ConfigurationString A) ParseError) → ((parts : List Part) → Cut text parts → IsFirstResult parts r)
+    → (parts : List Part) × Cut text parts × IsFirstResult parts r
+of_the_cut text r every = let one = has_one_cut text in (one.parts, one.cut, every one.parts one.cut)

@@ -110,9 +110,12 @@ impl<A: Allocator + Copy> ConfigurationString<A> {
     /// - [`ParseError::BlockName`] if an element doesn't begin with `OFFSET` and `WIDTH`, both with
     ///   a number.
     /// - [`ParseError::BlockConfig`] if `VALUE` doesn't follow them.
-    /// - [`ParseError::Memory`] if an allocation fails, which none does before the GUID is read.
+    /// - [`ParseError::Memory`] if an allocation fails before an error is found. None is made before
+    ///   the GUID is read. For a name and for a path memory is asked before the value is judged, so
+    ///   a wrong one may be [`ParseError::Memory`]; every other pair is judged first.
     pub fn from_str(alloc: A, text: &str) -> Result<ConfigurationString<A>, ParseError>
-        ensures { (parts : List Part) → Cut text.now parts → IsFirstResult parts result }
+        ensures cut { (parts : List Part) × Cut text.now parts × IsFirstResult parts result }
+        ensures only { (parts : List Part) → Cut text.now parts → IsFirstResult parts result }
     {
         let mut pairs = ConfigurationStringIter::new(text);
         if has_no_pair(&pairs) {

@@ -13,8 +13,14 @@ pub enum ConfigHdrSection {
 
 /// Why no configuration was read from a group of pairs.
 ///
-/// The first pair that is missing or wrong decides. [`Memory`](ParseError::Memory) comes only where
-/// an allocation fails before that pair.
+/// The first pair that is missing or wrong decides, unless an allocation fails before it is found.
+///
+/// While a group's first pair isn't a good GUID, no memory is asked for, so
+/// `ConfigHdr(ConfigHdrSection::Guid)` is never replaced by [`Memory`](ParseError::Memory). After a
+/// good GUID every reader of configurations may return `Memory` although a later pair is missing or
+/// wrong: the name, the path and each element take memory as they are read. For a name and for a
+/// path memory is asked before the value is judged, so even a wrong one may be `Memory`; the pairs
+/// `ALTCFG`, `OFFSET`, `WIDTH` and `VALUE` are judged first, and then memory is asked.
 #[derive(Clone, Copy, PartialEq, Eq, Debug)]
 pub enum ParseError {
     /// A pair of the header is missing or wrong.

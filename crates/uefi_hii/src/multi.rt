@@ -1,5 +1,6 @@
 ghost use Rattle.std.specs.Prelude.{◌≡◌, ◌≢◌, ◌^◌, ◌<◌, List, Err, IfOk, length, map};
 ghost use Rattle.std.specs.Bool.{MatchBool};
+ghost use Rattle.std.specs.List.{All};
 ghost use Rattle.uefi_hii.specs.declared.error.ParseError.TheVariants.{Memory};
 ghost use Rattle.uefi_hii.specs.Cut.{Part, Cut, results_of};
 ghost use Rattle.uefi_hii.specs.Pairs.{pairs};
@@ -21,7 +22,9 @@ use std::alloc::{AllocError, Allocator, Global};
 ///
 /// The iterator keeps the allocator and the rest of the text. It makes no list of pairs, and takes
 /// memory only for the configurations that it gives. After the last group it stays ended, and so it
-/// does after [`ParseError::Memory`].
+/// does after [`ParseError::Memory`]. That item may stand for a group that has an error of its own,
+/// if the group begins with a good GUID: [`ParseError`] says which pairs are judged before memory is
+/// asked for.
 ///
 /// # Examples
 ///
@@ -105,7 +108,8 @@ impl<'a, A: Allocator + Copy> Iterator for MultiConfigurationStringIter<'a, A> {
 ///
 /// # Errors
 ///
-/// [`AllocError`] if an allocation fails. So no item is [`ParseError::Memory`].
+/// [`AllocError`] if an allocation fails, whatever errors the text has. So no item is
+/// [`ParseError::Memory`].
 pub fn parse_all<A: Allocator + Copy>(
     alloc: A,
     text: &str,
@@ -113,6 +117,7 @@ pub fn parse_all<A: Allocator + Copy>(
     ensures cut { IfOk result (λ all. AreResults text.now all.items) }
     ensures only { IfOk result (λ all. (parts : List Part) → Cut text.now parts
         → map result_of all.items ≡ results_of parts) }
+    ensures no_memory { IfOk result (λ all. All (λ item. item ≢ Err Memory) all.items) }
 {
     let mut all = Vec::new(alloc);
     let mut configurations = MultiConfigurationStringIter::new(alloc, text);
