@@ -1,2 +1,3 @@
 pub mod HexBlocks
 pub mod HexNumbers
+pub mod Appending

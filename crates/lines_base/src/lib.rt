@@ -11,5 +11,3 @@
 pub use self::hex_text::{Hex, HexByte, HexNumber, gap_before, write_hex};
 
 mod hex_text;
-#[cfg(test)]
-mod tests;

@@ -2,8 +2,11 @@
 use Rattle.std.specs.Prelude.{ℕ, List, ◌++◌, length, codes, flat_map}
 use Rattle.std.specs.Fmt.{decimal}
 use Rattle.std.specs.Int.{w32, to_be_bytes}
+use Rattle.std.specs.declared.string.String.{String}
+use Rattle.uefi_tcg.specs.LogInput.{LogInput}
 use Rattle.uefi_tcg.specs.v1.Event.{Event}
-use Rattle.lines_base.specs.Text.{gap_before, hex_of}
+use Rattle.uefi_tcg.specs.v1.Log.{IsLogOf}
+use Rattle.lines_base.specs.Text.{gap_before, hex_of, AppendsText}
 
 -- The register in decimal, the type as `0x` and eight hex digits, the digest in hex, and the data in hex if there is any.
 unfoldable pub event_line : Event → List ℕ
@@ -17,3 +20,7 @@ event_line event =
 -- A line for each event, and their count.
 abbrev pub log_lines : List Event → List ℕ
 log_lines events = flat_map event_line events ++ codes "events " ++ decimal (length events) ++ codes "\n"
+
+-- The text grows by the lines of the log's events.
+abbrev pub AppendsLogLines : {A : Type 0} → String A → String A → LogInput → Type 0
+AppendsLogLines old new log = (events : List Event) × IsLogOf log.bytes log.last_entry events × AppendsText old new (log_lines events)

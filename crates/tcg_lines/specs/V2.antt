@@ -2,9 +2,15 @@
 use Rattle.std.specs.Prelude.{ℕ, List, ◌++◌, length, codes, flat_map, Option, None, Some}
 use Rattle.std.specs.Fmt.{decimal}
 use Rattle.std.specs.Int.{w16, w32, to_be_bytes}
+use Rattle.std.specs.declared.string.String.{String}
+use Rattle.uefi_tcg.specs.LogInput.{LogInput}
 use Rattle.uefi_tcg.specs.v2.Event.{Digest, Event}
+use Rattle.uefi_tcg.specs.v2.Header as header
 use Rattle.uefi_tcg.specs.v2.Header.{Header}
-use Rattle.lines_base.specs.Text.{gap_before, hex_of}
+use Rattle.uefi_tcg.specs.v2.Log.{HasHeaderOf, IsLogOf}
+use Rattle.lines_base.specs.Text.{gap_before, hex_of, AppendsText}
+use Rattle.tcg_lines.specs.declared.v2.Start.{Start}
+use Rattle.tcg_lines.specs.declared.v2.Start.TheVariants.{AfterHeader, AfterEvent}
 
 -- The platform class, the version of the specification and the size of a `UINTN`, in decimal.
 unfoldable pub fields_line : Header → List ℕ
@@ -50,3 +56,19 @@ event_lines event = event_line event ++ flat_map digest_line event.digests
 -- The lines of the events, and their count.
 abbrev pub log_lines : List Event → List ℕ
 log_lines events = flat_map event_lines events ++ codes "events " ++ decimal (length events) ++ codes "\n"
+
+-- The start that the value names.
+abbrev pub start_of : Start → header.Start
+start_of AfterHeader = header.after_header
+start_of AfterEvent = header.after_event
+
+-- The header of the log of bytes with a last entry, if it has one.
+abbrev pub IsHeaderOf : Option (List ℕ) → Option ℕ → Option Header → Type 0
+IsHeaderOf bytes last_entry (Some header) = HasHeaderOf bytes last_entry header
+IsHeaderOf bytes last_entry None = (header : Header) → HasHeaderOf bytes last_entry header → ⊥
+
+-- The text grows by the lines of the log's header, if it has one, and of its events, which begin at the start.
+abbrev pub AppendsLogLines : {A : Type 0} → header.Start → String A → String A → LogInput → Type 0
+AppendsLogLines start old new log =
+    (header : Option Header) × (events : List Event) × IsHeaderOf log.bytes log.last_entry header × IsLogOf start log.bytes log.last_entry events
+    × AppendsText old new (log_header_lines header ++ log_lines events)

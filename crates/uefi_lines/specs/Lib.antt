@@ -1,5 +1,4 @@
 pub mod Path
-pub mod Config
 pub mod Map
 pub mod Pci
 pub mod Time

@@ -12,7 +12,7 @@ use Rattle.uefi_hii.specs.Cut.{Part, Cut, results_of}
 use Rattle.uefi_hii.specs.Reading.{TakesGroup}
 use Rattle.uefi_hii.specs.Views.{result_of}
 use Rattle.uefi_hii.proofs.Wholes.{HasCut, cut_all, cut_more}
-use Rattle.uefi_lines.specs.Config.{config_lines, item_lines}
+use Rattle.config_lines.specs.Config.{config_lines, item_lines}
 
 -- The lines of the first n groups of a text were appended, and these pairs of it are left.
 pub record HasListed (A : Type 0) (input : List ℕ) (left : List Pair) (old now : List ℕ) (n : ℕ) : Type 0 where

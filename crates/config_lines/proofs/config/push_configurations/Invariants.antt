@@ -1,7 +1,7 @@
 use Rattle.std.proofs.Common.{◌+◌, ◌≤◌, length, string_bytes}
 use Rattle.uefi_hii.specs.Views.{uncut_pairs}
-use Rattle.uefi_lines.proofs.ConfigLines.{HasListed}
-use Rattle.uefi_lines.proofs.config.push_configurations.Given as goal
+use Rattle.config_lines.proofs.ConfigLines.{HasListed}
+use Rattle.config_lines.proofs.config.push_configurations.Given as goal
 
 -- The lines of the first groups were appended, of which there are at most as many as pairs.
 abbrev pub invariant-loop-item : goal.invariant-loop-item

@@ -1,7 +1,7 @@
 use Rattle.std.proofs.Common.{◌≡◌, ◌++◌, take, string_bytes, flat_map}
 use Rattle.uefi_hii.specs.Views.{nv_pair_of}
-use Rattle.uefi_lines.specs.Config.{nv_line}
-use Rattle.uefi_lines.proofs.config.push_nvconfig.Given as goal
+use Rattle.config_lines.specs.Config.{nv_line}
+use Rattle.config_lines.proofs.config.push_nvconfig.Given as goal
 
 abbrev pub invariant-loop-pair : goal.invariant-loop-pair
 invariant-loop-pair g l =

@@ -3,7 +3,7 @@ ghost use Rattle.lines_base.specs.Text.{AppendsText};
 ghost use Rattle.uefi_hii.specs.declared.error.ParseError.TheVariants.{Memory};
 ghost use Rattle.uefi_hii.specs.Cut.{Part, Cut, results_of};
 ghost use Rattle.uefi_hii.specs.Views.{configuration_of, element_of, nv_pair_of, result_of};
-ghost use Rattle.uefi_lines.specs.Config.{alt_line, config_lines, configuration_lines, element_line, element_lines, fault_line, header_lines, item_lines, nv_line, section_name};
+ghost use Rattle.config_lines.specs.Config.{alt_line, config_lines, configuration_lines, element_line, element_lines, fault_line, header_lines, item_lines, nv_line, section_name};
 
 use lines_base::{Hex, gap_before};
 use std::alloc::{AllocError, Allocator};

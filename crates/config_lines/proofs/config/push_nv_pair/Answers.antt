@@ -1,5 +1,5 @@
-use Rattle.uefi_lines.specs.Config.{nv_line, value_and_end}
-use Rattle.uefi_lines.proofs.config.push_nv_pair.Goals as goal
+use Rattle.config_lines.specs.Config.{nv_line, value_and_end}
+use Rattle.config_lines.proofs.config.push_nv_pair.Goals as goal
 
 pub returns-in-Some : goal.returns-in-Some
 unfolding nv_line value_and_end

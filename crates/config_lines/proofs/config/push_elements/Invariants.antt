@@ -1,7 +1,7 @@
 use Rattle.std.proofs.Common.{◌≡◌, ◌++◌, take, string_bytes, flat_map}
 use Rattle.uefi_hii.specs.Views.{element_of}
-use Rattle.uefi_lines.specs.Config.{element_lines}
-use Rattle.uefi_lines.proofs.config.push_elements.Given as goal
+use Rattle.config_lines.specs.Config.{element_lines}
+use Rattle.config_lines.proofs.config.push_elements.Given as goal
 
 abbrev pub invariant-loop-element : goal.invariant-loop-element
 invariant-loop-element g l =

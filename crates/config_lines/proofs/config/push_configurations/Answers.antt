@@ -1,7 +1,7 @@
 use Rattle.std.proofs.Common.{◌<◌, append_assoc, arith, length, rules, string_bytes}
 use Rattle.uefi_hii.specs.Views.{uncut_pairs}
-use Rattle.uefi_lines.proofs.ConfigLines.{listed_all, listed_more, none_listed}
-use Rattle.uefi_lines.proofs.config.push_configurations.Goals as goal
+use Rattle.config_lines.proofs.ConfigLines.{listed_all, listed_more, none_listed}
+use Rattle.config_lines.proofs.config.push_configurations.Goals as goal
 
 pub loop-item-init : goal.loop-item-init
 loop-item-init g c = record {

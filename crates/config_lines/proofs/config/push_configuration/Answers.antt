@@ -2,8 +2,8 @@ use Rattle.std.proofs.Common.{arith}
 use Rattle.std.proofs.lemmas.Grind.{common_steps}
 use Rattle.std.proofs.lemmas.List.Folds.{flat_map-map}
 use Rattle.uefi_hii.specs.Views.{element_of}
-use Rattle.uefi_lines.specs.Config.{configuration_lines, element_lines}
-use Rattle.uefi_lines.proofs.config.push_configuration.Goals as goal
+use Rattle.config_lines.specs.Config.{configuration_lines, element_lines}
+use Rattle.config_lines.proofs.config.push_configuration.Goals as goal
 
 pub returns : goal.returns
 unfolding configuration_lines

@@ -1,5 +1,5 @@
-use Rattle.uefi_lines.specs.Config.{fault_line}
-use Rattle.uefi_lines.proofs.config.push_fault.Goals as goal
+use Rattle.config_lines.specs.Config.{fault_line}
+use Rattle.config_lines.proofs.config.push_fault.Goals as goal
 
 pub returns-in-ConfigHdr : goal.returns-in-ConfigHdr
 unfolding fault_line
