@@ -1,0 +1,4 @@
+pub mod Words
+pub mod Listing
+pub mod Running
+pub mod Appending

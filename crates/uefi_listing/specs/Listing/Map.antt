@@ -1,0 +1,26 @@
+-- What `map` lists: the memory map that all the bytes are at a stride.
+use Rattle.std.specs.Prelude.{◌≡◌, ◌↔◌, ℕ, Bool, List, length, codes, IsTrue}
+use Rattle.uefi_map.specs.declared.memory.meta.MemoryMapMeta.{MemoryMapMeta}
+use Rattle.uefi_map.specs.memory.Map.{IsMap, AreSorted, entries_of}
+use Rattle.uefi_lines.specs.Map.{map_lines}
+use Rattle.uefi_listing.specs.declared.listing.Outcome.{Outcome}
+use Rattle.uefi_listing.specs.declared.listing.Outcome.TheVariants.{Listed, Refused}
+
+-- What is known of a memory map that a file of this length is, at this stride: the key is 0, the version 1.
+abbrev pub file_meta : ℕ → ℕ → MemoryMapMeta
+file_meta size stride = record { map_size = size; desc_size = stride; map_key = record { 0 = 0 }; desc_version = 1 }
+
+-- The text lists the memory map that all the bytes are at this stride.
+pub record ListsMap (stride : ℕ) (bytes text : List ℕ) (sorted : Bool) : Type 0 where
+  pub map : IsMap (length bytes) (file_meta (length bytes) stride)
+  pub order : IsTrue sorted ↔ AreSorted bytes (file_meta (length bytes) stride)
+  pub lines : text ≡ map_lines (entries_of bytes (file_meta (length bytes) stride)) sorted
+
+-- The bytes are no memory map at this stride, and the text says that they are refused.
+pub record RefusesMap (stride : ℕ) (bytes text : List ℕ) : Type 0 where
+  pub none : ¬ IsMap (length bytes) (file_meta (length bytes) stride)
+  pub line : text ≡ codes "refused InvalidSize\n"
+
+abbrev pub MapListing : ℕ → List ℕ → List ℕ → Outcome → Type 0
+MapListing stride bytes text Listed = (sorted : Bool) × ListsMap stride bytes text sorted
+MapListing stride bytes text Refused = RefusesMap stride bytes text

@@ -1,0 +1,24 @@
+-- What `path` lists: the device path that is a prefix of the bytes.
+use Rattle.std.specs.Prelude.{◌≡◌, ℕ, List, codes}
+use Rattle.uefi_base.specs.Prefix.{IsPrefix}
+use Rattle.uefi_path.specs.Node.{Node, joined}
+use Rattle.uefi_path.specs.Path.{IsPath, HasPath, AreInstances}
+use Rattle.uefi_lines.specs.Path.{path_lines}
+use Rattle.uefi_listing.specs.declared.listing.Outcome.{Outcome}
+use Rattle.uefi_listing.specs.declared.listing.Outcome.TheVariants.{Listed, Refused}
+
+-- The text lists the path that is a prefix of the bytes, and its instances.
+pub record ListsPath (bytes text : List ℕ) (nodes : List Node) (parts : List (List Node)) : Type 0 where
+  pub path : IsPath nodes
+  pub stands : IsPrefix (joined nodes) bytes
+  pub instances : AreInstances parts nodes
+  pub lines : text ≡ path_lines nodes parts
+
+-- No prefix of the bytes is a path, and the text says that they are refused.
+pub record RefusesPath (bytes text : List ℕ) : Type 0 where
+  pub none : ¬ HasPath bytes
+  pub line : text ≡ codes "refused InvalidLength\n"
+
+abbrev pub PathListing : List ℕ → List ℕ → Outcome → Type 0
+PathListing bytes text Listed = (nodes : List Node) × (parts : List (List Node)) × ListsPath bytes text nodes parts
+PathListing bytes text Refused = RefusesPath bytes text

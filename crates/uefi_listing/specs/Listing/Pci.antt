@@ -1,0 +1,31 @@
+-- What `pci` lists: the PCI resources that the bytes begin with.
+use Rattle.std.specs.Prelude.{◌≡◌, ℕ, List, [], ◌++◌, codes}
+use Rattle.std.specs.Fmt.{decimal}
+use Rattle.uefi_map.specs.declared.pci.resource.QwordAddressSpaceDescriptor.{QwordAddressSpaceDescriptor}
+use Rattle.uefi_map.specs.declared.pci.resource_error.ResourceError.{ResourceError}
+use Rattle.uefi_map.specs.declared.pci.resource_error.ResourceError.TheVariants.{NoEndTag, CutRecord, UnknownTag, Memory}
+use Rattle.uefi_map.specs.pci.ResourceList.{HaveList, HaveFault}
+use Rattle.uefi_lines.specs.Pci.{resource_lines}
+use Rattle.uefi_listing.specs.declared.listing.Outcome.{Outcome}
+use Rattle.uefi_listing.specs.declared.listing.Outcome.TheVariants.{Listed, Refused}
+
+-- The line that names a fault. Running out of memory is none, and has no line.
+unfoldable pub fault_line : ResourceError → List ℕ
+fault_line NoEndTag = codes "refused NoEndTag\n"
+fault_line CutRecord = codes "refused CutRecord\n"
+fault_line (UnknownTag tag) = codes "refused UnknownTag(" ++ decimal tag ++ codes ")\n"
+fault_line Memory = []
+
+-- The text lists the resources that the bytes begin with.
+pub record ListsResources (bytes text : List ℕ) (list : List QwordAddressSpaceDescriptor) : Type 0 where
+  pub stands : HaveList bytes list
+  pub lines : text ≡ resource_lines list
+
+-- The bytes begin with no list of resources, and the text names their fault.
+pub record RefusesResources (bytes text : List ℕ) (fault : ResourceError) : Type 0 where
+  pub stands : HaveFault bytes fault
+  pub line : text ≡ fault_line fault
+
+abbrev pub PciListing : List ℕ → List ℕ → Outcome → Type 0
+PciListing bytes text Listed = (list : List QwordAddressSpaceDescriptor) × ListsResources bytes text list
+PciListing bytes text Refused = (fault : ResourceError) × RefusesResources bytes text fault

@@ -1,0 +1,29 @@
+-- What `time` lists: the time in the first sixteen bytes.
+use Rattle.std.specs.Prelude.{◌≡◌, ℕ, List, codes}
+use Rattle.uefi_records.specs.declared.time.error.TimeByteConversionError.{TimeByteConversionError}
+use Rattle.uefi_records.specs.declared.time.error.TimeByteConversionError.TheVariants.{InvalidFields, InvalidSize}
+use Rattle.uefi_records.specs.Time.Fields.{TimeFields, StandsIn}
+use Rattle.uefi_records.specs.Time.Faults.{reading_faults, no_fault}
+use Rattle.uefi_records.specs.Time.Reading.{RefusesTime}
+use Rattle.uefi_lines.specs.Time.{time_line}
+use Rattle.uefi_listing.specs.declared.listing.Outcome.{Outcome}
+use Rattle.uefi_listing.specs.declared.listing.Outcome.TheVariants.{Listed, Refused}
+
+abbrev pub refused_time_line : TimeByteConversionError → List ℕ
+refused_time_line InvalidSize = codes "refused InvalidSize\n"
+refused_time_line (InvalidFields faults) = codes "refused InvalidFields\n"
+
+-- The text lists the time in the first sixteen bytes, with which a reader finds no fault.
+pub record ListsTime (bytes text : List ℕ) (time : TimeFields) : Type 0 where
+  pub stands : StandsIn time bytes
+  pub faultless : reading_faults time ≡ no_fault
+  pub line : text ≡ time_line time
+
+-- No time without a fault stands in the bytes, and the text says why.
+pub record RefusesTimeLine (bytes text : List ℕ) (refusal : TimeByteConversionError) : Type 0 where
+  pub none : RefusesTime bytes refusal
+  pub line : text ≡ refused_time_line refusal
+
+abbrev pub TimeListing : List ℕ → List ℕ → Outcome → Type 0
+TimeListing bytes text Listed = (time : TimeFields) × ListsTime bytes text time
+TimeListing bytes text Refused = (refusal : TimeByteConversionError) × RefusesTimeLine bytes text refusal

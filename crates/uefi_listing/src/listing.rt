@@ -1,0 +1,65 @@
+ghost use Rattle.std.specs.Prelude.{IfOk};
+ghost use Rattle.uefi_listing.specs.Appending.{AppendsListing};
+ghost use Rattle.uefi_listing.specs.Listing.{Listing};
+
+use crate::command::Command;
+use std::alloc::{AllocError, Allocator};
+use tcg_lines::v2::Start;
+
+mod config;
+mod info;
+mod log1;
+mod log2;
+mod map;
+mod path;
+mod pci;
+mod time;
+
+/// Whether the bytes were what the command lists.
+#[derive(Clone, Copy, PartialEq, Eq, Debug)]
+pub enum Outcome {
+    /// The listing has what the bytes hold.
+    Listed,
+    /// The listing is one line, which names the error that the bytes were refused with.
+    Refused,
+}
+
+/// Makes the listing of the bytes in memory, and returns it with whether they were refused.
+///
+/// # Errors
+///
+/// [`AllocError`] if an allocation fails.
+pub fn listing<A: Allocator + Copy>(
+    alloc: A,
+    command: &Command,
+    bytes: &[u8],
+) -> Result<(Vec<u8, A>, Outcome), AllocError>
+    ensures { IfOk result (λ r. Listing command.now bytes.now r.0.items r.1) }
+{
+    let mut text = String::new(alloc);
+    let outcome = push_listing(&mut text, alloc, command, bytes)?;
+    Ok((text.into_bytes(), outcome))
+}
+
+/// Appends the listing of the bytes to a text.
+#[tactic(auto, unfolding(crate::specs::Listing::Listing))]
+fn push_listing<A: Allocator + Copy>(
+    text: &mut String<A>,
+    alloc: A,
+    command: &Command,
+    bytes: &[u8],
+) -> Result<Outcome, AllocError>
+    ensures { IfOk result (AppendsListing (Listing command.now bytes.now) text.old text.new) }
+{
+    match command {
+        Command::Path => path::push_path_listing(text, bytes),
+        Command::Log1(last) => log1::push_log1_listing(text, bytes, *last),
+        Command::Log2(last) => log2::push_log2_listing(text, bytes, *last, Start::AfterHeader),
+        Command::Log2After(last) => log2::push_log2_listing(text, bytes, *last, Start::AfterEvent),
+        Command::Config => config::push_config_listing(text, alloc, bytes),
+        Command::Map(stride) => map::push_map_listing(text, bytes, *stride),
+        Command::Pci => pci::push_pci_listing(text, bytes),
+        Command::Time => time::push_time_listing(text, bytes),
+        Command::Info(written) => info::push_info_listing(text, bytes, *written),
+    }
+}

@@ -1,0 +1,28 @@
+ghost use Rattle.std.specs.Prelude.{IfOk};
+ghost use Rattle.uefi_listing.specs.Appending.{AppendsListing};
+ghost use Rattle.uefi_listing.specs.Listing.Config.{ConfigListing};
+
+use super::Outcome;
+use config_lines::push_configurations;
+use std::alloc::{AllocError, Allocator};
+
+/// Appends the listing of the bytes as a configuration text. Its configurations are read one after
+/// another, and none is kept once its lines are appended.
+pub(super) fn push_config_listing<A: Allocator + Copy>(
+    text: &mut String<A>,
+    alloc: A,
+    bytes: &[u8],
+) -> Result<Outcome, AllocError>
+    ensures { IfOk result (AppendsListing (ConfigListing bytes.now) text.old text.new) }
+{
+    match str::from_utf8(bytes) {
+        Ok(configurations) => {
+            push_configurations(text, alloc, configurations)?;
+            Ok(Outcome::Listed)
+        }
+        Err(_) => {
+            writeln!(text, "refused NotUtf8")?;
+            Ok(Outcome::Refused)
+        }
+    }
+}
