@@ -1,9 +1,9 @@
 -- The worked rows hold.
-use Rattle.std.proofs.Common.{◌≡◌, ℕ, zero, suc, ◌<◌, List, [], ◌∷◌, get_or, refl, arith, lit<, lit≤}
-use Rattle.std.proofs.lemmas.List.{length-replicate}
-use Rattle.uefi_base.specs.Ucs2.{IsSurrogate, IsCharacter, AreCharactersBefore, HaveUnitsBefore}
+use Rattle.std.proofs.Common.{◌≡◌, ℕ, zero, suc, ◌+◌, ◌<◌, List, [], ◌∷◌, ◌++◌, length, replicate, get_or, refl, ◌∙◌, sym, subst, arith, lit<, lit≤}
+use Rattle.std.proofs.lemmas.List.{length-replicate, get_or-replicate, get_or_append_left, get_or_push, length_push}
+use Rattle.uefi_base.specs.Ucs2.{IsSurrogate, IsCharacter, AreCharactersBefore, HasUnit, HaveUnitsBefore}
 use Rattle.uefi_base.specs.Faults.{OffendsFirst}
-use Rattle.uefi_base.specs.Rows.{TextRows, FaultRows, OrderRows, CharacterRows, ByteRows, NameRows, RowsHold}
+use Rattle.uefi_base.specs.Rows.{TextRows, FaultRows, LimitRows, OrderRows, CharacterRows, ByteRows, NameRows, RowsHold}
 
 -- A unit between zero and the surrogates is a character.
 low : (unit : ℕ) → 0 < unit → unit < 0xd800 → IsCharacter unit
@@ -38,6 +38,32 @@ fault_rows = record {
   surrogate = (record { short = lit≤ tt; within = lit< tt; before = none_before (0xd800 ∷ 0 ∷ []) }, (lit≤ tt, lit≤ tt));
   surrogate_without_nul = (record { short = lit≤ tt; within = lit< tt; before = one_before 0x61 (0xd800 ∷ []) (low 0x61 (lit< tt) (lit< tt)) }, (lit≤ tt, lit≤ tt));
   too_many_surrogates = λ n above. omega (arith, length-replicate {A = ℕ} n 0xd800);
+}
+
+-- This many letters; with a NUL after them, the length and each unit before the NUL.
+abbrev letters : ℕ → List ℕ
+letters n = replicate n 0x61
+
+length-letters : (n : ℕ) → length (letters n ++ 0 ∷ []) ≡ n + 1
+length-letters n = omega (arith, length_push (letters n) 0, length-replicate {A = ℕ} n 0x61)
+
+letter_at : (n k : ℕ) → k < n → get_or (letters n ++ 0 ∷ []) k 0 ≡ 0x61
+letter_at n k before = get_or_append_left (letters n) (0 ∷ []) 0 k (omega (arith, length-replicate {A = ℕ} n 0x61)) ∙ get_or-replicate n k 0x61 0 before
+
+limit_rows : LimitRows
+limit_rows = record {
+  longest_text = λ n most. record {
+    short = omega (arith, length-letters n);
+    not_empty = omega (arith, length-letters n);
+    nul = get_or_push (letters n) 0 0 _ (omega (arith, length-letters n, length-replicate {A = ℕ} n 0x61));
+    characters = λ k before. subst IsCharacter (sym (letter_at n k (omega (arith, length-letters n)))) (low 0x61 (lit< tt) (lit< tt));
+  };
+  one_unit_more = λ n many. omega (arith, length-letters n);
+  most_characters = λ n most. record {
+    short = omega (arith, length-replicate {A = ℕ} n 0x61);
+    have_units = λ k before. subst HasUnit (sym (get_or-replicate n k 0x61 0 (omega (arith, length-replicate {A = ℕ} n 0x61)))) (lit< tt, lit≤ tt);
+  };
+  one_character_more = λ n many. omega (arith, length-replicate {A = ℕ} n 0x61);
 }
 
 -- A surrogate isn't a character.
@@ -87,4 +113,4 @@ name_rows : NameRows
 name_rows = record { guid = refl; status = refl }
 
 pub rows_hold : RowsHold
-rows_hold = (text_rows, fault_rows, order_rows, character_rows, byte_rows, name_rows)
+rows_hold = (text_rows, fault_rows, limit_rows, order_rows, character_rows, byte_rows, name_rows)

@@ -1,10 +1,10 @@
 -- Worked rows: examples of the definitions.
-use Rattle.std.specs.Prelude.{ℕ, ◌≡◌, ◌<◌, ◌^◌, [], ◌∷◌, codes, replicate}
+use Rattle.std.specs.Prelude.{ℕ, ◌≡◌, ◌+◌, ◌<◌, ◌^◌, [], ◌∷◌, ◌++◌, codes, replicate}
 use Rattle.uefi_base.specs.declared.status.Status.TheVariants.{BUFFER_TOO_SMALL}
 use Rattle.uefi_base.specs.declared.text_error.FromSliceWithNulError.TheVariants.{TooLong, InvalidChar, InteriorNul, NotNulTerminated}
 use Rattle.uefi_base.specs.Ucs2.{IsUcs2Text, characters_of, MakeUcs2Text}
 use Rattle.uefi_base.specs.Unaligned.{units_of, unit_bytes}
-use Rattle.uefi_base.specs.Faults.{HasFault, OffendsFirst}
+use Rattle.uefi_base.specs.Faults.{HasFault, AreTooMany, OffendsFirst}
 use Rattle.uefi_base.specs.LittleEndian.{u16_at, u32_at, u64_at}
 use Rattle.uefi_base.specs.GuidText.{guid_text}
 use Rattle.uefi_base.specs.StatusCode.{status_code}
@@ -24,6 +24,13 @@ pub record FaultRows : Type 0 where
   pub surrogate : HasFault (0xd800 ∷ 0 ∷ []) (InvalidChar 0)
   pub surrogate_without_nul : HasFault (0x61 ∷ 0xd800 ∷ []) (InvalidChar 1)
   pub too_many_surrogates : (n : ℕ) → 2 ^ 31 < n → HasFault (replicate n 0xd800) TooLong
+
+-- Exactly 2^31 units can be text, and one more can't; so 2^31 - 1 characters make text, and one more don't.
+pub record LimitRows : Type 0 where
+  pub longest_text : (n : ℕ) → n + 1 ≡ 2 ^ 31 → IsUcs2Text (replicate n 0x61 ++ 0 ∷ [])
+  pub one_unit_more : (n : ℕ) → n ≡ 2 ^ 31 → HasFault (replicate n 0x61 ++ 0 ∷ []) TooLong
+  pub most_characters : (n : ℕ) → n + 1 ≡ 2 ^ 31 → MakeUcs2Text (replicate n 0x61)
+  pub one_character_more : (n : ℕ) → n ≡ 2 ^ 31 → AreTooMany (replicate n 0x61)
 
 -- Errors that units don't have: the lowest offending index decides; the missing NUL counts only if no index offends; no index counts if there are too many units.
 pub record OrderRows : Type 0 where
@@ -58,4 +65,4 @@ pub record NameRows : Type 0 where
 
 -- All rows hold.
 abbrev pub RowsHold : Type 0
-RowsHold = TextRows × FaultRows × OrderRows × CharacterRows × ByteRows × NameRows
+RowsHold = TextRows × FaultRows × LimitRows × OrderRows × CharacterRows × ByteRows × NameRows

@@ -1,10 +1,9 @@
 -- What the searches through units and characters find, and which error follows: for private contracts alone.
 use Rattle.std.specs.Prelude.{ℕ, ◌≡◌, ◌<◌, Option, None, Some, MatchOption, List, length, slice_index}
-use Rattle.uefi_base.specs.declared.ucs2.TheConstants.{MAX_UNIT_CHARACTER}
 use Rattle.uefi_base.specs.declared.text_error.FromSliceWithNulError.{FromSliceWithNulError}
 use Rattle.uefi_base.specs.declared.text_error.FromStrError.{FromStrError}
 use Rattle.uefi_base.specs.declared.text_error.FromStrError.TheVariants.{TooLong, InvalidChar, InteriorNul, Memory}
-use Rattle.uefi_base.specs.Ucs2.{IsCharacter, AreCharactersBefore, IsUcs2Text, HasUnit, HaveUnitsBefore}
+use Rattle.uefi_base.specs.Ucs2.{last_character, IsCharacter, AreCharactersBefore, IsUcs2Text, HasUnit, HaveUnitsBefore}
 use Rattle.uefi_base.specs.Faults.{HasFault, AreTooMany, OffendsFirst}
 
 -- The first unit that isn't a character, with its index; at None, all are.
@@ -25,6 +24,6 @@ IsFirstWithoutUnit characters (Some first) =
 -- The error that characters have, which is never Memory.
 abbrev pub HasStrFault : List ℕ → FromStrError → Type 0
 HasStrFault characters TooLong = AreTooMany characters
-HasStrFault characters InvalidChar = OffendsFirst characters (λ character. MAX_UNIT_CHARACTER < character)
+HasStrFault characters InvalidChar = OffendsFirst characters (λ character. last_character < character)
 HasStrFault characters InteriorNul = OffendsFirst characters (λ character. character ≡ 0)
 HasStrFault characters Memory = ⊥

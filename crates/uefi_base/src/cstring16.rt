@@ -1,7 +1,7 @@
 ghost use Rattle.std.specs.Prelude.{◌≡◌, ◌↔◌, ◌<◌, [], ◌∷◌, ◌++◌, length, IsTrue, IsOk, IfOk, MatchOption};
 ghost use Rattle.std.specs.Result.{IsErrOf};
 ghost use Rattle.std.specs.Str.{chars};
-ghost use Rattle.uefi_base.specs.Ucs2.{HasUnit, IsUcs2Text, MakeUcs2Text};
+ghost use Rattle.uefi_base.specs.Ucs2.{last_character, HasUnit, IsUcs2Text, MakeUcs2Text};
 ghost use Rattle.uefi_base.specs.Faults.{AreTooMany, OffendsFirst};
 ghost use Rattle.uefi_base.specs.Search.{HasStrFault, IsFirstWithoutUnit};
 
@@ -40,7 +40,7 @@ impl<A: Allocator> CString16<A> {
         // Each of the other errors is returned exactly if it applies.
         ensures too_long { IsErrOf result FromStrError.TooLong ↔ AreTooMany (chars text.now) }
         ensures invalid_char { IsErrOf result FromStrError.InvalidChar
-            ↔ OffendsFirst (chars text.now) (λ character. MAX_UNIT_CHARACTER < character) }
+            ↔ OffendsFirst (chars text.now) (λ character. last_character < character) }
         ensures interior_nul { IsErrOf result FromStrError.InteriorNul
             ↔ OffendsFirst (chars text.now) (λ character. character ≡ 0) }
     {

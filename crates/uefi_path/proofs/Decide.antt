@@ -2,8 +2,7 @@
 use Rattle.std.proofs.Common.{◌≡◌, ℕ, zero, suc, ◌+◌, ◌*◌, ◌<◌, ◌≤◌, List, [], ◌∷◌, ◌++◌, length, drop, get_or, refl, sym, ◌∙◌, ap, arith, append_assoc, length-append}
 use Rattle.std.proofs.Math.Decide.{dec_le, ℕ_discrete}
 use Rattle.std.proofs.lemmas.List.{take-append-drop, get_or-append-add}
-use Rattle.uefi_path.specs.declared.header.TheConstants.{HEADER_LENGTH}
-use Rattle.uefi_path.specs.Node.{Node, Fits, encoding, joined, HasNode, IsEndEntire}
+use Rattle.uefi_path.specs.Node.{header_length, Node, Fits, encoding, joined, HasNode, IsEndEntire}
 use Rattle.uefi_path.specs.Path.{HasNodes, HasPath}
 use Rattle.uefi_path.specs.OneNode.{stated_length}
 use Rattle.uefi_path.proofs.Nodes.{header_prefix, node_prefix}
@@ -19,8 +18,8 @@ pub node_states : (bytes : List ℕ) → HasNode bytes → (4 ≤ length bytes) 
 node_states bytes has =
     let node = has.0 in
     let rest = has.2.0 in
-    let whole : length bytes ≡ HEADER_LENGTH + (length node.payload + length rest) = omega (arith, ap length has.2.1, length-append node.payload rest) in
-    let states : stated bytes ≡ HEADER_LENGTH + length node.payload = ap stated has.2.1 ∙ stated_length node has.1 in
+    let whole : length bytes ≡ header_length + (length node.payload + length rest) = omega (arith, ap length has.2.1, length-append node.payload rest) in
+    let states : stated bytes ≡ header_length + length node.payload = ap stated has.2.1 ∙ stated_length node has.1 in
     (omega (arith, whole), omega (arith, states), omega (arith, states, whole))
 
 -- Bytes start with a node, or with none.

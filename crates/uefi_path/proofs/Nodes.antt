@@ -2,12 +2,12 @@
 use Rattle.std.proofs.Common.{◌≡◌, ℕ, ◌+◌, ◌-◌, ◌*◌, ◌<◌, ◌≤◌, List, [], ◌∷◌, ◌++◌, length, take, drop, get_or, sym, ◌∙◌, ap, arith}
 use Rattle.std.proofs.lemmas.List.{length-take-le}
 use Rattle.std.proofs.Math.Seq.{take-append_seam, take-append-add}
-use Rattle.uefi_path.specs.Node.{encoding, HasNode}
+use Rattle.uefi_path.specs.Node.{header_length, encoding, HasNode}
 use Rattle.uefi_base.specs.LittleEndian.{u16_at, u16_bytes}
 use Rattle.uefi_base.specs.Prefix.{IsPrefix}
 use Rattle.uefi_base.proofs.NumbersBack.{two_bytes}
 use Rattle.uefi_base.proofs.Ranges.{items_from, drop-items_from}
-use Rattle.uefi_path.specs.declared.header.TheConstants.{LENGTH_OFFSET, HEADER_LENGTH}
+use Rattle.uefi_path.specs.declared.header.TheConstants.{LENGTH_OFFSET}
 use Rattle.uefi_path.specs.Header.{header, header_bytes}
 use Rattle.uefi_path.specs.OneNode.{stated_length}
 use Rattle.uefi_path.specs.Encoding.{EncodesNode}
@@ -45,6 +45,6 @@ pub stated_prefix : (bytes : List ℕ) (n : ℕ) → HasNode bytes → n ≡ u16
 stated_prefix bytes n has made =
     let node = has.0 in
     let rest = has.2.0 in
-    let stated : u16_at bytes LENGTH_OFFSET ≡ HEADER_LENGTH + length node.payload = ap (λ b. u16_at b LENGTH_OFFSET) has.2.1 ∙ stated_length node has.1 in
+    let stated : u16_at bytes LENGTH_OFFSET ≡ header_length + length node.payload = ap (λ b. u16_at b LENGTH_OFFSET) has.2.1 ∙ stated_length node has.1 in
     let whole : n ≡ length (encoding node) = omega (arith, made, stated) in
     (node, record { fits = has.1; encoded = ap (λ b. take n b) has.2.1 ∙ ap (λ k. take k (encoding node ++ rest)) whole ∙ take-append_seam (encoding node) rest })

@@ -2,7 +2,7 @@
 use Rattle.std.proofs.Common.{ℕ, ◌<◌, ◌≤◌, List, [], ◌∷◌, ◌++◌, length, refl, arith, lit<, lit≤}
 use Rattle.uefi_path.specs.Node.{Node, Fits, max_data_length, IsEnd, IsEndEntire}
 use Rattle.uefi_path.specs.Path.{IsPath, HasPath}
-use Rattle.uefi_path.specs.Rows.{node, first_instance, second_instance, unknown_end, end_entire, TwoInstances, AnyEnd, EndWithData, NoPath, Nodes, RowsHold}
+use Rattle.uefi_path.specs.Rows.{node, first_instance, second_instance, unknown_end, end_entire, TwoInstances, AnyEnd, EndWithData, NoPath, Nodes, TypeNumbers, RowsHold}
 use Rattle.uefi_path.proofs.Decide.{stated, node_states}
 use Rattle.uefi_path.proofs.Passing.{HasNodes-after}
 use Rattle.uefi_path.proofs.Steps.{HasNodes-node, AreEndedBy-one, AreEndedBy-cons}
@@ -90,5 +90,8 @@ nodes = record {
   short = λ has. absurd (omega (arith, (node_states (0xa0 ∷ 0xb0 ∷ 3 ∷ 0 ∷ 0x0a ∷ 0x0b ∷ []) has).1));
 }
 
+type_numbers : TypeNumbers
+type_numbers = record { types = (refl, refl, refl, refl, refl, refl); sub_types = (refl, refl) }
+
 pub rows_hold : RowsHold
-rows_hold = (two_instances, any_end, end_with_data, no_path, nodes)
+rows_hold = (two_instances, any_end, end_with_data, no_path, nodes, type_numbers)

@@ -2,7 +2,7 @@
 use Rattle.std.specs.Prelude.{ℕ, ◌<◌, List, ◌∷◌, length, IfOk, OnErr, Result}
 use Rattle.std.specs.Int.{w16, to_le_bytes}
 use Rattle.uefi_base.specs.Prefix.{IsPrefix}
-use Rattle.uefi_path.specs.declared.header.TheConstants.{HEADER_LENGTH}
+use Rattle.uefi_path.specs.Node.{header_length}
 
 -- A header: type, subtype and the stated length of the whole node.
 pub record Header : Type 0 where
@@ -21,4 +21,4 @@ header_bytes h = h.device_type ∷ h.sub_type ∷ to_le_bytes w16 h.length
 -- At Ok, the header in the first four bytes, whatever length it states; at Err, there are fewer bytes.
 pub record ReadsHeader {V E : Type 0} (header_of : V → Header) (bytes : List ℕ) (read : Result V E) : Type 0 where
   pub ok : IfOk read (λ view. IsPrefix (header_bytes (header_of view)) bytes)
-  pub err : OnErr read (length bytes < HEADER_LENGTH)
+  pub err : OnErr read (length bytes < header_length)

@@ -3,9 +3,6 @@ use Rattle.std.specs.Prelude.{◌≡◌, ℕ, ◌+◌, ◌-◌, ◌≤◌, ◌<�
 use Rattle.std.specs.Int.{w16, to_le_bytes}
 use Rattle.std.specs.List.{flat_map, AllByRecursion}
 use Rattle.uefi_base.specs.Prefix.{IsPrefix}
-use Rattle.uefi_path.specs.declared.device_type.TheConstants.DeviceType.{END}
-use Rattle.uefi_path.specs.declared.device_type.TheConstants.DeviceSubType.{END_ENTIRE}
-use Rattle.uefi_path.specs.declared.header.TheConstants.{HEADER_LENGTH}
 
 -- A node: its type, its subtype and its data.
 pub record Node : Type 0 where
@@ -13,12 +10,13 @@ pub record Node : Type 0 where
   pub sub_type : ℕ
   pub payload : List ℕ
 
--- The largest length of a node, and of its data: a header has two bytes for the length of the node.
-abbrev pub max_length : ℕ
-max_length = 0xffff
+-- The length of a header: a byte for the type, one for the subtype, and two for the length of the whole node.
+abbrev pub header_length : ℕ
+header_length = 4
 
+-- The largest length of a node's data.
 abbrev pub max_data_length : ℕ
-max_data_length = max_length - HEADER_LENGTH
+max_data_length = 0xffff - header_length
 
 -- The fields fit the encoding: the type and the subtype are bytes, and the data isn't too long.
 pub record Fits (node : Node) : Type 0 where
@@ -28,7 +26,7 @@ pub record Fits (node : Node) : Type 0 where
 
 -- The encoding of a node: type, subtype, the length of the whole node in two bytes, little-endian, and the data.
 abbrev pub encoding : Node → List ℕ
-encoding node = node.device_type ∷ node.sub_type ∷ to_le_bytes w16 (HEADER_LENGTH + length node.payload) ++ node.payload
+encoding node = node.device_type ∷ node.sub_type ∷ to_le_bytes w16 (header_length + length node.payload) ++ node.payload
 
 -- The encodings of nodes, in order.
 abbrev pub joined : List Node → List ℕ
@@ -40,11 +38,11 @@ AreNodes nodes = AllByRecursion Fits nodes
 
 -- The node ends an instance: it has the type END.
 abbrev pub IsEnd : Node → Type 0
-IsEnd node = node.device_type ≡ END.0
+IsEnd node = node.device_type ≡ 0x7f
 
 -- The node ends the path: it has the type END and the subtype END_ENTIRE, whatever its data is.
 abbrev pub IsEndEntire : Node → Type 0
-IsEndEntire node = (node.device_type ≡ END.0) × (node.sub_type ≡ END_ENTIRE.0)
+IsEndEntire node = (node.device_type ≡ 0x7f) × (node.sub_type ≡ 0xff)
 
 -- Some prefix of the bytes is a node.
 abbrev pub HasNode : List ℕ → Type 0

@@ -4,8 +4,7 @@ use Rattle.std.proofs.Props.{props}
 use mathlib.Core.HLevel.{Σ_prop_path}
 use Rattle.std.specs.Int.{w16, to_le_bytes, from_le_bytes}
 use Rattle.std.proofs.lemmas.Nat.{from_le_bytes-to_le_bytes_2}
-use Rattle.uefi_path.specs.declared.header.TheConstants.{HEADER_LENGTH}
-use Rattle.uefi_path.specs.Node.{Node, Fits, encoding}
+use Rattle.uefi_path.specs.Node.{header_length, Node, Fits, encoding}
 use Rattle.uefi_path.specs.Encoding.{IsEncodingOfNode, EncodesNode}
 
 -- The node with these fields.
@@ -30,7 +29,7 @@ same_node : (t u s v : ℕ) (p q : List ℕ) → t ≡ u → s ≡ v → p ≡ q
 same_node t u s v p q same_type same_sub_type same_payload = cc
 
 -- The length in the encoding of a node is the length of the whole node.
-pub stated_length : (a : Node) → Fits a → from_le_bytes w16 (to_le_bytes w16 (HEADER_LENGTH + length a.payload)) ≡ HEADER_LENGTH + length a.payload
+pub stated_length : (a : Node) → Fits a → from_le_bytes w16 (to_le_bytes w16 (header_length + length a.payload)) ≡ header_length + length a.payload
 stated_length a fits = from_le_bytes-to_le_bytes_2 _ (omega (arith, fits.payload))
 
 -- The encoding of a node determines the node, whatever follows it.
@@ -38,8 +37,8 @@ pub one_encoding : (a b : Node) (x y : List ℕ) → Fits a → Fits b → encod
 one_encoding a b x y fits_a fits_b e =
     let t : a.device_type ≡ b.device_type = cc in
     let s : a.sub_type ≡ b.sub_type = cc in
-    let stated : to_le_bytes w16 (HEADER_LENGTH + length a.payload) ≡ to_le_bytes w16 (HEADER_LENGTH + length b.payload) = cc in
-    let whole_length : HEADER_LENGTH + length a.payload ≡ HEADER_LENGTH + length b.payload = (sym (stated_length a fits_a) ∙ ap (from_le_bytes w16) stated) ∙ stated_length b fits_b in
+    let stated : to_le_bytes w16 (header_length + length a.payload) ≡ to_le_bytes w16 (header_length + length b.payload) = cc in
+    let whole_length : header_length + length a.payload ≡ header_length + length b.payload = (sym (stated_length a fits_a) ∙ ap (from_le_bytes w16) stated) ∙ stated_length b fits_b in
     let same_length : length a.payload ≡ length b.payload = omega (arith, whole_length) in
     let after_header : a.payload ++ x ≡ b.payload ++ y = cc in
     let both = same_split a.payload b.payload x y same_length after_header in

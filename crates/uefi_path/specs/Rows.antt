@@ -1,5 +1,7 @@
--- Worked rows, examples of the definitions: the bytes of some paths, and bytes that start with none.
+-- Worked rows, examples of the definitions: the numbers of types, the bytes of some paths, and bytes that start with none.
 use Rattle.std.specs.Prelude.{◌≡◌, ℕ, List, [], ◌∷◌, ◌++◌}
+use Rattle.uefi_path.specs.declared.device_type.TheConstants.DeviceType.{HARDWARE, ACPI, MESSAGING, MEDIA, BIOS_BOOT_SPEC, END}
+use Rattle.uefi_path.specs.declared.device_type.TheConstants.DeviceSubType.{END_INSTANCE, END_ENTIRE}
 use Rattle.uefi_path.specs.Node.{Node, Fits, encoding, joined, HasNode}
 use Rattle.uefi_base.specs.Prefix.{IsPrefix}
 use Rattle.uefi_path.specs.Path.{IsPath, HasPath, AreInstances, all_but_last}
@@ -71,6 +73,11 @@ pub record Nodes : Type 0 where
   pub long : ¬ HasNode (0xa0 ∷ 0xb0 ∷ 7 ∷ 0 ∷ 0x0a ∷ 0x0b ∷ [])
   pub short : ¬ HasNode (0xa0 ∷ 0xb0 ∷ 3 ∷ 0 ∷ 0x0a ∷ 0x0b ∷ [])
 
+-- The numbers of the types and subtypes that have a name (UEFI 2.10, 10.3).
+pub record TypeNumbers : Type 0 where
+  pub types : (HARDWARE.0 ≡ 1) × (ACPI.0 ≡ 2) × (MESSAGING.0 ≡ 3) × (MEDIA.0 ≡ 4) × (BIOS_BOOT_SPEC.0 ≡ 5) × (END.0 ≡ 0x7f)
+  pub sub_types : (END_INSTANCE.0 ≡ 1) × (END_ENTIRE.0 ≡ 0xff)
+
 -- All rows hold.
 abbrev pub RowsHold : Type 0
-RowsHold = TwoInstances × AnyEnd × EndWithData × NoPath × Nodes
+RowsHold = TwoInstances × AnyEnd × EndWithData × NoPath × Nodes × TypeNumbers

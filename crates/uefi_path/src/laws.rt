@@ -11,8 +11,8 @@ pub fn one_front()
     ensures { OneFront }
 {}
 
-/// The definitions hold on worked rows: examples of the bytes of paths, and of bytes that start with
-/// no path. Each row is a theorem.
+/// The definitions hold on worked rows: the numbers of the types that have a name, examples of the
+/// bytes of paths, and of bytes that start with no path. Each row is a theorem.
 #[tactic(auto, using(crate::proofs::Rows::rows_hold))]
 pub fn worked_rows()
     ensures { RowsHold }

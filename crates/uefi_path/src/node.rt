@@ -1,7 +1,7 @@
 ghost use Rattle.std.specs.Prelude.{◌≡◌, ◌↔◌, ◌+◌, length, IsTrue, nat_eq, Some};
 ghost use Rattle.std.specs.Cmp.{partial_equiv_from_equiv, on_per, on_equiv};
 ghost use Rattle.std.specs.Cmp.Lexicographic.{pointwise, nat_list_eq_equiv};
-ghost use Rattle.uefi_path.specs.Node.{encoding, IsEndEntire};
+ghost use Rattle.uefi_path.specs.Node.{header_length, encoding, IsEndEntire};
 ghost use Rattle.uefi_path.specs.Encoding.{IsEncodingOfNode, EncodesNode};
 ghost use Rattle.uefi_path.specs.OneNode.{EncodesNode-prop};
 
@@ -65,7 +65,7 @@ impl<'a> DevicePathNode<'a> {
 
     /// Returns the length of the whole node in bytes, including the header: 4 to 65535.
     pub fn length(&self) -> u16
-        ensures { result ≡ HEADER_LENGTH + length (node_of self.now).payload }
+        ensures { result ≡ header_length + length (node_of self.now).payload }
     {
         u16_at(self.bytes, LENGTH_OFFSET)
     }

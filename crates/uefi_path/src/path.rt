@@ -1,14 +1,13 @@
 ghost use Rattle.std.specs.Prelude.{◌≡◌, ◌*◌, ◌^◌, ◌<◌, ◌≤◌, length, IfOk, nat_eq, Some};
 ghost use Rattle.std.specs.Cmp.{partial_equiv_from_equiv, on_per, on_equiv};
 ghost use Rattle.std.specs.Cmp.Lexicographic.{pointwise, nat_list_eq_equiv};
-ghost use Rattle.uefi_path.specs.Node.{joined, IsEndEntire};
+ghost use Rattle.uefi_path.specs.Node.{header_length, joined, IsEndEntire};
 ghost use Rattle.uefi_path.specs.Path.{IsPath, AreInstances, all_but_last};
 ghost use Rattle.uefi_path.specs.Encoding.{IsEncodingOfNodes, EncodesPath};
 ghost use Rattle.uefi_path.specs.OnePath.{EncodesPath-prop};
 
 use crate::boxed::BoxedDevicePath;
 use crate::error::ByteConversionError;
-use crate::header::HEADER_LENGTH;
 use crate::instance_iter::DevicePathInstanceIterator;
 use crate::node_iter::DevicePathNodeIterator;
 use crate::walk::{StopCondition, split_nodes};
@@ -106,7 +105,7 @@ impl<'a> DevicePath<'a> {
     pub fn as_bytes(&self) -> &'a [u8]
         ensures bytes { result.now ≡ joined (path_nodes self.now) }
         ensures path { IsPath (path_nodes self.now) }
-        ensures few_nodes { HEADER_LENGTH * length (path_nodes self.now) ≤ length result.now }
+        ensures few_nodes { header_length * length (path_nodes self.now) ≤ length result.now }
     {
         self.bytes
     }
