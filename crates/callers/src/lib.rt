@@ -15,3 +15,4 @@ pub mod path;
 pub mod records;
 pub mod resources;
 pub mod time;
+pub mod volumes;

@@ -1,4 +1,4 @@
-ghost use Rattle.std.specs.Prelude.{◌≡◌, ◌↔◌, ◌≤◌, ℕ, List, Some, length, take, IsOk, IsSome, IsTrue, OnOk, OnErr, IfErr, IfSome, SomeIff};
+ghost use Rattle.std.specs.Prelude.{◌≡◌, ◌↔◌, ◌≤◌, ℕ, List, Some, length, take, IsOk, IsSome, IsTrue, OnOk, OnErr, IfErr, IfSome, SomeIff, slice_range};
 ghost use Rattle.uefi_base.specs.Buffer.{put_prefix};
 ghost use Rattle.uefi_base.specs.Flags.{has_bits};
 ghost use Rattle.uefi_base.specs.Unaligned.{unit_bytes};
@@ -13,7 +13,7 @@ ghost use Rattle.uefi_records.specs.File.Views.{file_fields_given, file_fields_o
 
 use crate::base::{guid_of, is_same_error};
 use uefi_base::{CStr16, Guid, UnalignedSlice};
-use uefi_records::laws::{equal_files, reads_back, written_alone};
+use uefi_records::laws::{equal_files, reads_back, times_read_back, written_alone};
 use uefi_records::{
     FileAttribute, FileInfo, FileInfoCreationError, FileSystemVolumeLabel, Time, write_file_info,
     write_file_system_volume_label,
@@ -37,6 +37,17 @@ pub fn is_directory_in(buffer: &[u8], written: usize) -> Option<bool>
 {
     let info = FileInfo::from_uefi(buffer, written).ok()?;
     Some(info.is_directory())
+}
+
+/// Returns the sixteen bytes of the time at which a file was created, as they stand in its record.
+pub fn creation_bytes(buffer: &[u8], written: usize) -> Option<[u8; 16]>
+    ensures { IfSome result (λ bytes. bytes ≡ slice_range buffer.now 24 40) }
+{
+    times_read_back();
+    let Ok(info) = FileInfo::from_uefi(buffer, written) else {
+        return None;
+    };
+    Some(info.create_time().to_bytes())
 }
 
 /// How many units the name has of the file whose record stands in the written bytes, or `None` if
