@@ -3,7 +3,7 @@ use test_bytes::{each_gives, same};
 use uefi_records::{Daylight, Time, TimeByteConversionError, TimeError, TimeParams, laws};
 
 /// The fifth of April 2023, six minutes and seven seconds past eight.
-const PARAMS: TimeParams = TimeParams {
+pub(crate) const PARAMS: TimeParams = TimeParams {
     year: 2023,
     month: 4,
     day: 5,

@@ -1,3 +1,4 @@
+use crate::making::PARAMS;
 use crate::names::{AB, TEST_NAME, TEST_NAME2, UNITS_OF_AB, units};
 use std::alloc::Global;
 use std::test::Fail;
@@ -6,7 +7,7 @@ use test_bytes::{bytes, same, same_bytes, same_text};
 use uefi_base::CStr16;
 use uefi_records::{
     FileAttribute, FileInfo, FileInfoCreationError, FileSystemInfo, FileSystemVolumeLabel, Time,
-    write_file_info, write_file_system_info, write_file_system_volume_label,
+    TimeError, TimeParams, write_file_info, write_file_system_info, write_file_system_volume_label,
 };
 
 /// A file information record of that name, of which all else is zero, over that storage.
@@ -56,6 +57,39 @@ fn a_written_file_leaves_the_bytes_that_round_it_up(rt: HostRuntime) -> Result<(
             00000000000000000000000000000000 00000000000000000000000000000000 \
             00000000000000000000000000000000 0000000000000000  6100 6200 0000  eeeeeeee",
     )
+}
+
+/// The time of [`PARAMS`], but in that year.
+fn time_in(year: u16) -> Result<Time, TimeError> {
+    Time::new(TimeParams { year, ..PARAMS })
+}
+
+#[test]
+fn a_written_file_gives_back_what_was_passed() -> Result<(), Fail> {
+    let name = CStr16::from_u16_with_nul(&AB)?;
+    let times = (time_in(2001)?, time_in(2002)?, time_in(2003)?);
+    let attribute = FileAttribute::READ_ONLY.union(FileAttribute::DIRECTORY);
+    let mut storage = [0; 88];
+    let info = FileInfo::new(
+        &mut storage,
+        123,
+        456,
+        times.0,
+        times.1,
+        times.2,
+        attribute,
+        &name,
+    )?;
+    let sizes = (info.size(), info.file_size(), info.physical_size());
+    same("sizes", &sizes, &(88, 123, 456))?;
+    let stored = (
+        info.create_time(),
+        info.last_access_time(),
+        info.modification_time(),
+    );
+    same("times", &stored, &times)?;
+    same("attribute", &info.attribute(), &attribute)?;
+    same("name", &units(info.file_name()), &UNITS_OF_AB)
 }
 
 #[test]
