@@ -1,1 +1,3 @@
+pub mod LogSteps
 pub mod DigestLogs
+pub mod DigestSteps

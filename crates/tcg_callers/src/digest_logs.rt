@@ -1,10 +1,9 @@
-ghost use Rattle.std.specs.Prelude.{◌≡◌, ◌==◌, ◌+◌, ◌-◌, ◌/◌, ◌<◌, ◌≤◌, ℕ, List, ◌++◌, Option, Some, count_by, length, map, option_map, slice_get, take, IfOk};
-ghost use Rattle.std.specs.Option.{option_and_then};
+ghost use Rattle.std.specs.Prelude.{◌≡◌, ◌==◌, ◌+◌, ◌-◌, ◌/◌, ◌<◌, ◌≤◌, ℕ, List, [], ◌∷◌, Option, Some, count_by, length, map, option_map, slice_get, take, IfOk, IfSome, MatchOption};
 ghost use Rattle.uefi_base.specs.Prefix.{IsPrefix};
 ghost use Rattle.uefi_tcg.specs.v1.Laws.{SameUpTo};
-ghost use Rattle.uefi_tcg.specs.v2.Event.{Event};
+ghost use Rattle.uefi_tcg.specs.v2.Event.{Event, event_bytes};
 ghost use Rattle.uefi_tcg.specs.v2.Header.{Header, HasHeader, HeaderEvent, IsHeaderEvent, after_event, after_header, event_end, events_start, header_bytes};
-ghost use Rattle.uefi_tcg.specs.v2.Laws.{end_of, least_length, least_start};
+ghost use Rattle.uefi_tcg.specs.v2.Laws.{HaveEnded, LastEndsAt, Logged, least_length, least_start};
 ghost use Rattle.uefi_tcg.specs.v2.Log.{EventsKeep, IsLog, IsLogOf};
 ghost use Rattle.uefi_tcg.specs.v2.Views.{digest_of, event_of};
 
@@ -92,14 +91,53 @@ pub fn events_so_far<'a>(
     bytes: &'a [u8],
     last_entry: usize,
 ) -> Result<Vec<PcrEvent<'a>>, AllocError>
-    ensures { IfOk result (λ events. (earlier : List ℕ) (entry : ℕ) (found : HeaderEvent)
-        (ended rest : List Event) → SameUpTo entry earlier bytes.now → entry ≤ last_entry
-        → IsLog after_header earlier entry (Some found) (ended ++ rest)
-        → end_of after_header found ended ≤ entry
-        → IsPrefix ended (map event_of events.items)) }
+    ensures { IfOk result (λ events. (earlier : Logged after_header) (ended : List Event)
+        → SameUpTo earlier.last_entry earlier.bytes bytes.now → earlier.last_entry ≤ last_entry
+        → HaveEnded after_header ended earlier → IsPrefix ended (map event_of events.items)) }
 {
     local_v2();
     collected_events(alloc, bytes, last_entry)
+}
+
+/// Reads a log of version 2 again whose last event started at the last entry, from bytes that are
+/// the same up to that event's end: it has the same events for that last entry, and begins with them
+/// for every last entry from that end on.
+pub fn events_again<'a>(
+    alloc: Global,
+    bytes: &'a [u8],
+    last_entry: usize,
+) -> Result<Vec<PcrEvent<'a>>, AllocError>
+    ensures same { IfOk result (λ events. (earlier : Logged after_header) (end : ℕ)
+        → LastEndsAt after_header end earlier → SameUpTo end earlier.bytes bytes.now
+        → earlier.last_entry ≡ last_entry → map event_of events.items ≡ earlier.events) }
+    ensures begins { IfOk result (λ events. (earlier : Logged after_header) (end : ℕ)
+        → LastEndsAt after_header end earlier → SameUpTo end earlier.bytes bytes.now
+        → end ≤ last_entry → IsPrefix earlier.events (map event_of events.items)) }
+{
+    one_log_v2();
+    local_v2();
+    collected_events(alloc, bytes, last_entry)
+}
+
+/// The same of the events that follow the header event, with those of a log that has grown.
+pub fn events_again_after_header_event<'a>(
+    alloc: Global,
+    bytes: &'a [u8],
+    last_entry: usize,
+) -> Result<Vec<PcrEvent<'a>>, AllocError>
+    ensures same { IfOk result (λ events. (earlier : Logged after_event) (end : ℕ)
+        → LastEndsAt after_event end earlier → SameUpTo end earlier.bytes bytes.now
+        → earlier.last_entry ≡ last_entry → map event_of events.items ≡ earlier.events) }
+    ensures begins { IfOk result (λ events. (earlier : Logged after_event) (end : ℕ)
+        → LastEndsAt after_event end earlier → SameUpTo end earlier.bytes bytes.now
+        → end ≤ last_entry → IsPrefix earlier.events (map event_of events.items)) }
+    ensures grown { IfOk result (λ events. (earlier : Logged after_event) (ended : List Event)
+        → SameUpTo earlier.last_entry earlier.bytes bytes.now → earlier.last_entry ≤ last_entry
+        → HaveEnded after_event ended earlier → IsPrefix ended (map event_of events.items)) }
+{
+    one_log_v2();
+    local_v2();
+    events_after_header_event(alloc, bytes, last_entry)
 }
 
 /// The events of the first bytes of a log of version 2: a prefix of the log.
@@ -121,7 +159,24 @@ pub fn events_of_part<'a>(
     collected_events(alloc, &bytes[..count], last_entry)
 }
 
-/// How many events a log of version 2 has, by `count`: none if its last entry is before the least
+/// The events of the first bytes of a log of version 2 that follow the header event: a prefix of
+/// those of the log.
+pub fn part_after_header_event<'a>(
+    alloc: Global,
+    bytes: &'a [u8],
+    count: usize,
+    last_entry: usize,
+) -> Result<Vec<PcrEvent<'a>>, AllocError>
+    requires { count ≤ length bytes.now }
+    ensures { IfOk result (λ events. (found : Option HeaderEvent) (log : List Event)
+        → IsLog after_event bytes.now last_entry found log
+        → IsPrefix (map event_of events.items) log) }
+{
+    cut_v2();
+    events_after_header_event(alloc, &bytes[..count], last_entry)
+}
+
+/// How many events a log of version 2 has: none if its last entry is before the least
 /// start, else not more than fit from there, and one.
 pub fn event_count(bytes: &[u8], last_entry: usize) -> usize
     ensures count { (events : List Event)
@@ -131,6 +186,14 @@ pub fn event_count(bytes: &[u8], last_entry: usize) -> usize
     ensures few { result ≤ (last_entry - least_start) / least_length + 1 }
 {
     bound_v2();
+    count_from_header(bytes, last_entry)
+}
+
+// How many events a log of version 2 has from its header's end on.
+fn count_from_header(bytes: &[u8], last_entry: usize) -> usize
+    ensures { (events : List Event) × IsLogOf after_header (Some bytes.now) (Some last_entry) events
+        × (result ≡ length events) }
+{
     let log = EventLog::new(Some(bytes), Some(last_entry), false);
     log.iter().count()
 }
@@ -168,16 +231,64 @@ pub fn count_of_register(bytes: &[u8], last_entry: usize, register: PcrIndex) ->
     count
 }
 
-/// Returns the first digest of the first event of a log of version 2, with its algorithm. The
-/// digest borrows `bytes` alone, and outlives the log, the iterators and the event.
-pub fn first_digest<'a>(bytes: &'a [u8], last_entry: usize) -> Option<(AlgorithmId, &'a [u8])>
-    ensures { (events : List Event) × IsLogOf after_header (Some bytes.now) (Some last_entry) events
-        × (option_map digest_of result
-        ≡ option_and_then (λ event. slice_get event.digests 0) (slice_get events 0)) }
+/// Returns the first event of a log of version 2 by one step of the iterator: the event that keeps
+/// alone under the header's table from the header's end on, or none if no event does.
+pub fn first_step(bytes: &[u8], last_entry: usize) -> Option<PcrEvent<'_>>
+    ensures { (header : Header) → HasHeader bytes.now last_entry header → MatchOption result
+        ((event : Event) → EventsKeep header.table (event ∷ []) (events_start header) last_entry
+        bytes.now → ⊥)
+        (λ event. EventsKeep header.table (event_of event ∷ []) (events_start header) last_entry
+        bytes.now) }
+{
+    let log = EventLog::new(Some(bytes), Some(last_entry), false);
+    let mut events = log.iter();
+    events.next()
+}
+
+/// Returns the first two events of a log of version 2 that follow its header event, by two steps:
+/// the second keeps alone under the header's table from the end of the first on.
+pub fn two_steps(bytes: &[u8], last_entry: usize) -> Option<(PcrEvent<'_>, PcrEvent<'_>)>
+    ensures first { IfSome result (λ two. (found : HeaderEvent)
+        → IsHeaderEvent bytes.now last_entry found.event found.header
+        → EventsKeep found.header.table (event_of two.0 ∷ []) (event_end found.event) last_entry
+        bytes.now) }
+    ensures second { IfSome result (λ two. (found : HeaderEvent)
+        → IsHeaderEvent bytes.now last_entry found.event found.header
+        → EventsKeep found.header.table (event_of two.1 ∷ [])
+        (event_end found.event + length (event_bytes (event_of two.0))) last_entry bytes.now) }
+{
+    let log = EventLog::new(Some(bytes), Some(last_entry), false);
+    let mut events = log.iter_after_header_event();
+    let Some(first) = events.next() else {
+        return None;
+    };
+    let Some(second) = events.next() else {
+        return None;
+    };
+    Some((first, second))
+}
+
+/// A digest with its algorithm.
+type Digest<'a> = (AlgorithmId, &'a [u8]);
+
+/// Returns the first event of a log of version 2, its data and its first digest. Each borrows
+/// `bytes` alone, and outlives the log and the iterators; data and digest outlive the event too.
+pub fn first_event<'a>(
+    bytes: &'a [u8],
+    last_entry: usize,
+) -> Option<(PcrEvent<'a>, &'a [u8], Option<Digest<'a>>)>
+    ensures event { (events : List Event)
+        × IsLogOf after_header (Some bytes.now) (Some last_entry) events
+        × (option_map (λ found. event_of found.0) result ≡ slice_get events 0) }
+    ensures event_data { IfSome result
+        (λ found. found.1.now ≡ (event_of found.0).event_data) }
+    ensures digest { IfSome result (λ found.
+        option_map digest_of found.2 ≡ slice_get (event_of found.0).digests 0) }
 {
     let log = EventLog::new(Some(bytes), Some(last_entry), false);
     let Some(event) = log.iter().next() else {
         return None;
     };
-    event.digests().into_iter().next()
+    let digest = event.digests().into_iter().next();
+    Some((event, event.event_data(), digest))
 }

@@ -1,9 +1,9 @@
-ghost use Rattle.std.specs.Prelude.{◌≡◌, ◌↔◌, ◌+◌, ◌/◌, ◌^◌, ◌<◌, ◌≤◌, ℕ, List, [], ◌∷◌, ◌++◌, length, map, option_map, slice_get, take, IfOk, IfSome, IsSome};
+ghost use Rattle.std.specs.Prelude.{◌≡◌, ◌↔◌, ◌+◌, ◌/◌, ◌^◌, ◌<◌, ◌≤◌, ℕ, List, [], ◌∷◌, ◌++◌, length, map, option_map, slice_get, take, IfOk, IfSome, IsSome, MatchOption};
 ghost use Rattle.uefi_base.specs.Prefix.{IsPrefix};
 ghost use Rattle.uefi_tcg.specs.v1.Event.{Event, header_length};
 ghost use Rattle.uefi_tcg.specs.v1.Log.{EventsKeep, IsLog};
-ghost use Rattle.uefi_tcg.specs.v1.Laws.{SameUpTo, bytes_of};
-ghost use Rattle.uefi_tcg.specs.v1.Views.{event_of};
+ghost use Rattle.uefi_tcg.specs.v1.Laws.{LastEndsAt, Logged, SameUpTo, bytes_of};
+ghost use Rattle.uefi_tcg.specs.v1.Views.{bytes_of_event, event_of};
 ghost use Rattle.uefi_tcg.specs.v1.Writing.{event_given};
 
 use std::alloc::{AllocError, Global};
@@ -64,11 +64,31 @@ pub fn events_so_far<'a>(
     bytes: &'a [u8],
     last_entry: usize,
 ) -> Result<Vec<PcrEvent<'a>>, AllocError>
-    ensures { IfOk result (λ events. (earlier : List ℕ) (entry : ℕ) (ended rest : List Event)
-        → SameUpTo entry earlier bytes.now → entry ≤ last_entry
-        → IsLog earlier entry (ended ++ rest) → bytes_of ended ≤ entry
+    ensures { IfOk result (λ events. (earlier : Logged) (ended : List Event)
+        → SameUpTo earlier.last_entry earlier.bytes bytes.now → earlier.last_entry ≤ last_entry
+        → IsPrefix ended earlier.events → bytes_of ended ≤ earlier.last_entry
         → IsPrefix ended (map event_of events.items)) }
 {
+    local_v1();
+    collected_events(alloc, bytes, last_entry)
+}
+
+/// Reads a log again whose last event started at the last entry, from bytes that are the same up to
+/// that event's end: it has the same events for that last entry, and begins with them for every
+/// last entry from that end on.
+pub fn events_again<'a>(
+    alloc: Global,
+    bytes: &'a [u8],
+    last_entry: usize,
+) -> Result<Vec<PcrEvent<'a>>, AllocError>
+    ensures same { IfOk result (λ events. (earlier : Logged) (end : ℕ) → LastEndsAt end earlier
+        → SameUpTo end earlier.bytes bytes.now → earlier.last_entry ≡ last_entry
+        → map event_of events.items ≡ earlier.events) }
+    ensures begins { IfOk result (λ events. (earlier : Logged) (end : ℕ) → LastEndsAt end earlier
+        → SameUpTo end earlier.bytes bytes.now → end ≤ last_entry
+        → IsPrefix earlier.events (map event_of events.items)) }
+{
+    one_log_v1();
     local_v1();
     collected_events(alloc, bytes, last_entry)
 }
@@ -129,6 +149,37 @@ pub fn count_without_last_entry(bytes: &[u8]) -> usize
     ensures { result ≡ 0 }
 {
     EventLog::new(Some(bytes), None, false).iter().count()
+}
+
+/// Returns the first event of a log by one step of the iterator: the event that keeps alone from the
+/// log's first byte on, or none if no event does.
+pub fn first_step(bytes: &[u8], last_entry: usize) -> Option<PcrEvent<'_>>
+    ensures { MatchOption result
+        ((event : Event) → EventsKeep (event ∷ []) 0 last_entry bytes.now → ⊥)
+        (λ event. EventsKeep (event_of event ∷ []) 0 last_entry bytes.now) }
+{
+    let log = EventLog::new(Some(bytes), Some(last_entry), false);
+    let mut events = log.iter();
+    events.next()
+}
+
+/// Returns the first two events of a log by two steps: the second keeps alone in the log's bytes from
+/// the end of the first on.
+pub fn two_steps(bytes: &[u8], last_entry: usize) -> Option<(PcrEvent<'_>, PcrEvent<'_>)>
+    ensures first { IfSome result
+        (λ two. EventsKeep (event_of two.0 ∷ []) 0 last_entry bytes.now) }
+    ensures second { IfSome result (λ two.
+        EventsKeep (event_of two.1 ∷ []) (length (bytes_of_event two.0)) last_entry bytes.now) }
+{
+    let log = EventLog::new(Some(bytes), Some(last_entry), false);
+    let mut events = log.iter();
+    let Some(first) = events.next() else {
+        return None;
+    };
+    let Some(second) = events.next() else {
+        return None;
+    };
+    Some((first, second))
 }
 
 /// The first event of a log and its data, which live as long as the bytes: the log and the iterator

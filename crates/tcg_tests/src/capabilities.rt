@@ -32,6 +32,57 @@ fn a_capability_of_version_1_has_its_fields() -> Result<(), Fail> {
     )
 }
 
+/// The capability of version 1 with these numbers as its fields, in the order of its parameters. The
+/// versions have them as their major numbers.
+fn capability1(fields: &[u8; 5]) -> v1::BootServiceCapability {
+    let [structure, protocol, algorithms, present, deactivated] = *fields;
+    let zero = v1::Version::default();
+    v1::BootServiceCapability::new(
+        v1::Version {
+            major: structure,
+            ..zero
+        },
+        v1::Version {
+            major: protocol,
+            ..zero
+        },
+        algorithms,
+        present,
+        deactivated,
+    )
+}
+
+/// Two capabilities each, of which the first differing field decides.
+const ORDERED_V1: [([u8; 5], [u8; 5]); 5] = [
+    ([1, 9, 9, 9, 9], [2, 0, 0, 0, 0]),
+    ([1, 1, 9, 9, 9], [1, 2, 0, 0, 0]),
+    ([1, 1, 1, 9, 9], [1, 1, 2, 0, 0]),
+    ([1, 1, 1, 1, 9], [1, 1, 1, 2, 0]),
+    ([1, 1, 1, 1, 1], [1, 1, 1, 1, 2]),
+];
+
+#[test]
+fn capabilities_of_version_1_are_ordered_field_by_field() -> Result<(), Fail> {
+    for (lesser, greater) in ORDERED_V1 {
+        let (one, other) = (capability1(&lesser), capability1(&greater));
+        let found = (lesser, one < other, other < one, one == other, one == one);
+        same("a pair", &found, &(lesser, true, false, false, true))?;
+    }
+    Ok(())
+}
+
+#[test]
+fn the_default_capability_of_version_1_is_zero() -> Result<(), Fail> {
+    let zero = v1::BootServiceCapability::default();
+    same("the default", &zero, &capability1(&[0; 5]))?;
+    holds("no TPM", !zero.tpm_present())?;
+    same(
+        "its versions",
+        &zero.structure_version(),
+        &v1::Version::default(),
+    )
+}
+
 #[test]
 fn versions_are_ordered_field_by_field() -> Result<(), Fail> {
     let other = v1::Version {
