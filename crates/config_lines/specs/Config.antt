@@ -1,6 +1,7 @@
 -- The lines of the configurations and faults of a text.
-use Rattle.std.specs.Prelude.{ℕ, List, ◌++◌, length, codes, flat_map, Option, Some, None, Result, Ok, Err}
+use Rattle.std.specs.Prelude.{◌≡◌, ℕ, List, ◌++◌, length, codes, flat_map, Option, Some, None, Result, Ok, Err}
 use Rattle.std.specs.Fmt.{decimal}
+use Rattle.std.specs.declared.string.String.{String}
 use Rattle.uefi_base.specs.GuidText.{guid_text}
 use Rattle.uefi_path.specs.Node.{Node, joined}
 use Rattle.uefi_hii.specs.declared.error.ConfigHdrSection.{ConfigHdrSection}
@@ -9,7 +10,8 @@ use Rattle.uefi_hii.specs.declared.error.ParseError.{ParseError}
 use Rattle.uefi_hii.specs.declared.error.ParseError.TheVariants.{ConfigHdr, BlockName, BlockConfig, Memory}
 use Rattle.uefi_hii.specs.Pairs.{Pair}
 use Rattle.uefi_hii.specs.Configuration.{Configuration, Element}
-use Rattle.lines_base.specs.Text.{gap_before, hex_of}
+use Rattle.uefi_hii.specs.Cut.{Part, AreGroups, pairs_of, results_of}
+use Rattle.lines_base.specs.Text.{gap_before, hex_of, AppendsText}
 
 -- The GUID, the name as it is, and the length of the path in bytes, in a line each.
 unfoldable pub header_lines : List ℕ → List ℕ → List Node → List ℕ
@@ -62,3 +64,7 @@ item_lines (Err fault) = fault_line fault
 
 abbrev pub config_lines : List (Result Configuration ParseError) → List ℕ
 config_lines results = flat_map item_lines results ++ codes "items " ++ decimal (length results) ++ codes "\n"
+
+-- The text grows by the lines of the results of groups that together are the pairs.
+abbrev pub AppendsConfigLines : {A : Type 0} → String A → String A → List Pair → Type 0
+AppendsConfigLines old new pairs = (parts : List Part) × (pairs_of parts ≡ pairs) × AreGroups parts × AppendsText old new (config_lines (results_of parts))

@@ -1,9 +1,8 @@
-ghost use Rattle.std.specs.Prelude.{◌≡◌, ◌≢◌, List, Err, flat_map, OnOk};
+ghost use Rattle.std.specs.Prelude.{◌≡◌, ◌≢◌, Err, flat_map, OnOk};
 ghost use Rattle.lines_base.specs.Text.{AppendsText};
 ghost use Rattle.uefi_hii.specs.declared.error.ParseError.TheVariants.{Memory};
-ghost use Rattle.uefi_hii.specs.Cut.{Part, Cut, results_of};
-ghost use Rattle.uefi_hii.specs.Views.{configuration_of, element_of, nv_pair_of, result_of};
-ghost use Rattle.config_lines.specs.Config.{alt_line, config_lines, configuration_lines, element_line, element_lines, fault_line, header_lines, item_lines, nv_line, section_name};
+ghost use Rattle.uefi_hii.specs.Views.{configuration_of, element_of, nv_pair_of, result_of, uncut_pairs};
+ghost use Rattle.config_lines.specs.Config.{AppendsConfigLines, alt_line, configuration_lines, element_line, element_lines, fault_line, header_lines, item_lines, nv_line, section_name};
 
 use lines_base::{Hex, gap_before};
 use std::alloc::{AllocError, Allocator};
@@ -12,7 +11,8 @@ use uefi_hii::{
     MultiConfigurationStringIter, NvPair, ParseError,
 };
 
-/// Appends the lines of all configurations and faults of a text, and last `items N`, their count.
+/// Appends the lines of the configurations and faults that the iterator has left, and last
+/// `items N`, their count.
 ///
 /// A configuration has the lines `config GUID`, `  name NAME`, `  path N` with the length of its
 /// path in bytes, and `  alt N` if it is an alternative one; then for each element
@@ -21,19 +21,18 @@ use uefi_hii::{
 ///
 /// # Errors
 ///
-/// [`AllocError`] if an allocation fails. The text may have grown then.
+/// [`AllocError`] if an allocation fails, here or in the iterator. The text may have grown then.
 pub fn push_configurations<A: Allocator + Copy>(
     text: &mut String<A>,
-    alloc: A,
-    input: &str,
+    mut items: MultiConfigurationStringIter<'_, A>,
 ) -> Result<(), AllocError>
-    ensures { OnOk result ((parts : List Part) × Cut input.now parts
-        × AppendsText text.old text.new (config_lines (results_of parts))) }
+    ensures { OnOk result (AppendsConfigLines text.old text.new (uncut_pairs items.entry)) }
 {
-    let mut items = MultiConfigurationStringIter::new(alloc, input);
     let mut count = 0usize;
     while let Some(item) = items.next() {
         push_item(text, &item)?;
+        // Each item has a line, so the items are no more than the text's bytes.
+        let _length = text.len();
         count += 1;
     }
     writeln!(text, "items {count}")?;
@@ -181,7 +180,7 @@ fn push_fault<A: Allocator>(text: &mut String<A>, fault: ParseError) -> Result<(
     text.push_str(line)
 }
 
-/// The name of a part of a header.
+/// Returns the name of a part of a header.
 fn section_name(part: ConfigHdrSection) -> &'static str
     ensures { result.now ≡ section_name part }
 {

@@ -5,6 +5,7 @@ ghost use Rattle.uefi_listing.specs.Listing.Config.{ConfigListing};
 use super::Outcome;
 use config_lines::push_configurations;
 use std::alloc::{AllocError, Allocator};
+use uefi_hii::MultiConfigurationStringIter;
 
 /// Appends the listing of the bytes as a configuration text. Its configurations are read one after
 /// another, and none is kept once its lines are appended.
@@ -16,8 +17,8 @@ pub(super) fn push_config_listing<A: Allocator + Copy>(
     ensures { IfOk result (AppendsListing (ConfigListing bytes.now) text.old text.new) }
 {
     match str::from_utf8(bytes) {
-        Ok(configurations) => {
-            push_configurations(text, alloc, configurations)?;
+        Ok(input) => {
+            push_configurations(text, MultiConfigurationStringIter::new(alloc, input))?;
             Ok(Outcome::Listed)
         }
         Err(_) => {

@@ -1,14 +1,12 @@
-use Rattle.std.proofs.Common.{◌+◌, ◌≤◌, length, string_bytes}
+use Rattle.std.proofs.Common.{length, string_bytes}
 use Rattle.uefi_hii.specs.Views.{uncut_pairs}
 use Rattle.config_lines.proofs.ConfigLines.{HasListed}
 use Rattle.config_lines.proofs.config.push_configurations.Given as goal
 
--- The lines of the first groups were appended, of which there are at most as many as pairs.
+-- The lines of the first groups were appended.
 abbrev pub invariant-loop-item : goal.invariant-loop-item
-invariant-loop-item g l = record {
-  listed : HasListed g.row.A.Denot l.input (uncut_pairs l.items) (string_bytes l.initial.text) (string_bytes l.text) l.count;
-  within : l.count + length (uncut_pairs l.items) ≤ length (uncut_pairs l.initial.items);
-}
+invariant-loop-item g l =
+    HasListed g.row.A.Denot l.fn.items.pairs.rest.now (uncut_pairs l.items) (string_bytes l.initial.text) (string_bytes l.text) l.count
 
 abbrev pub decreases-loop-item : goal.decreases-loop-item
 decreases-loop-item g l = length (uncut_pairs l.items)
