@@ -11,7 +11,7 @@ use Rattle.uefi_hii.specs.Pairs.{Pair, pairs}
 use Rattle.uefi_hii.specs.Cut.{Part, AreGroups, pairs_of, results_of}
 use Rattle.uefi_hii.specs.Reading.{TakesGroup}
 use Rattle.uefi_hii.specs.Views.{result_of}
-use Rattle.uefi_hii.proofs.Wholes.{HasCut, cut_all, cut_more}
+use Rattle.uefi_hii.proofs.Wholes.{HasCut, cut_all, cut_more, cut_none}
 use Rattle.config_lines.specs.Config.{config_lines, configuration_lines, fault_line, header_lines, item_lines}
 
 -- The lines of the first n groups of a text were appended, and these pairs of it are left.
@@ -48,7 +48,7 @@ listed_more {A} {input} {left} {after} {old} {now} {next} {count} {item} so_far 
 pub none_listed : {A : Type 0} (input : List ℕ) (left : List Pair) (old : List ℕ) → left ≡ pairs input → HasListed A input left old old 0
 none_listed input left old all = record {
   items = [];
-  cut = record { parts = []; whole = sym all; each = tt; results = refl };
+  cut = cut_none input left [] all refl;
   lines = sym (append-nil old);
   count = refl;
   few = omega arith;
