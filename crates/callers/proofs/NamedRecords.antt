@@ -5,7 +5,7 @@ use Rattle.std.specs.Result.{result_ok}
 use Rattle.uefi_base.specs.declared.status.Error.{Error}
 use Rattle.uefi_base.specs.declared.status.Status.{Status}
 use Rattle.uefi_base.specs.Views.{error_status, error_data}
-use Rattle.uefi_records.specs.File.Verdict.{Verdict, FollowsVerdict, Refuses, accepted, too_small, without_name}
+use Rattle.uefi_records.specs.file.Verdict.{Verdict, FollowsVerdict, Refuses, accepted, too_small, without_name}
 
 -- A record that was read has a name.
 pub has_name : {V : Type 0} (name_of : V → List ℕ) (verdict : Verdict) (result : Result V (Error (Option ℕ))) (read : V)

@@ -1,6 +1,6 @@
 ghost use Rattle.std.specs.Prelude.{◌≡◌};
 ghost use Rattle.std.specs.Ordering.{nat_cmp};
-ghost use Rattle.uefi_records.specs.Flags.Views.{attribute_bits, daylight_bits};
+ghost use Rattle.uefi_records.specs.flags.Views.{attribute_bits, daylight_bits};
 ghost use Rattle.uefi_tcg.specs.FlagViews.{algorithm_bits, format_bits};
 
 use std::cmp::Ordering;

@@ -1,19 +1,19 @@
 ghost use Rattle.std.specs.Prelude.{◌≡◌, ◌≤◌, ◌↔◌, string_bytes, true, IsTrue, IsOk, IfOk, IfErr};
-ghost use Rattle.uefi_records.specs.Time.Fields.{StandsIn, time_bytes, time_in, without_pads};
+ghost use Rattle.uefi_records.specs.time.Fields.{StandsIn, time_bytes, time_in, without_pads};
 ghost use Rattle.uefi_base.specs.Flags.{has_bits};
-ghost use Rattle.uefi_records.specs.Time.Faults.{no_fault};
-ghost use Rattle.uefi_records.specs.Time.Reading.{RefusesTime};
-ghost use Rattle.uefi_records.specs.Time.Texts.{time_error_text};
-ghost use Rattle.uefi_records.specs.Time.Views.{time_of, bytes_of_time};
-ghost use Rattle.uefi_records.specs.Flags.Named.{directory_attribute};
-ghost use Rattle.uefi_records.specs.Flags.Views.{attribute_bits};
+ghost use Rattle.uefi_records.specs.time.Faults.{no_fault};
+ghost use Rattle.uefi_records.specs.time.Reading.{RefusesTime};
+ghost use Rattle.uefi_records.specs.time.Texts.{time_error_text};
+ghost use Rattle.uefi_records.specs.time.Views.{time_of, bytes_of_time};
+ghost use Rattle.uefi_records.specs.flags.Named.{directory_attribute};
+ghost use Rattle.uefi_records.specs.flags.Views.{attribute_bits};
 
 use std::alloc::{AllocError, Global};
 use uefi_records::laws::{one_time, times_read_back};
 use uefi_records::{Daylight, FileAttribute, Time, TimeByteConversionError, TimeError, TimeParams};
 
 /// A time written and read again: the same time, with zeros in its padding.
-#[tactic(auto, unfolding(uefi_records::specs::Time::Fields::time_bytes))]
+#[tactic(auto, unfolding(uefi_records::specs::time::Fields::time_bytes))]
 pub fn read_back(time: &Time) -> Result<Time, TimeByteConversionError>
     ensures same { IfOk result (λ again. time_of again ≡ without_pads (time_of time.now)) }
     ensures refused { IfErr result (RefusesTime (time_bytes (time_of time.now))) }

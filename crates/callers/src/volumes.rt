@@ -1,7 +1,7 @@
 ghost use Rattle.std.specs.Prelude.{◌≡◌, ◌↔◌, ◌≤◌, length, take, IsSome, IsTrue, IfSome};
 ghost use Rattle.uefi_base.specs.Views.{text_units};
-ghost use Rattle.uefi_records.specs.File.FileSystemInfo.{file_system_info_size, volume_label_size};
-ghost use Rattle.uefi_records.specs.File.Views.{file_system_fields_given, file_system_fields_of, file_system_label_of, system_stated_size, volume_label_of};
+ghost use Rattle.uefi_records.specs.file.FileSystemInfo.{file_system_info_size, volume_label_size};
+ghost use Rattle.uefi_records.specs.file.Views.{file_system_fields_given, file_system_fields_of, file_system_label_of, system_stated_size, volume_label_of};
 
 use crate::base::is_same_error;
 use uefi_base::CStr16;

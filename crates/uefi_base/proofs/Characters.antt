@@ -8,7 +8,7 @@ use Rattle.std.proofs.lemmas.List.{take_more, append-nil, length_push, get_or_re
 use Rattle.std.proofs.lemmas.Str.{encodes-append, scalars-chars}
 use Rattle.std.proofs.Math.Utf8.{encode, encodes, scalar, scalars, scalar_cases}
 use Rattle.uefi_base.specs.Ucs2.{IsSurrogate, IsUcs2Text, HasUnit, MakeUcs2Text}
-use Rattle.uefi_base.specs.Search.{IsFirstWithoutUnit}
+use Rattle.uefi_base.specs.private.Search.{IsFirstWithoutUnit}
 
 -- The bytes of i + 1 characters are those of i characters and of the next.
 pub encodes_more : (cs : List ℕ) (i : ℕ) → i < length cs → encodes (take (i + 1) cs) ≡ encodes (take i cs) ++ encode (get_or cs i 0)

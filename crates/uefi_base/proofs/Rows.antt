@@ -3,7 +3,7 @@ use Rattle.std.proofs.Common.{◌≡◌, ℕ, zero, suc, ◌+◌, ◌<◌, List,
 use Rattle.std.proofs.lemmas.List.{length-replicate, get_or-replicate, get_or_append_left, get_or_push, length_push}
 use Rattle.uefi_base.specs.Ucs2.{IsSurrogate, IsCharacter, AreCharactersBefore, HasUnit, HaveUnitsBefore}
 use Rattle.uefi_base.specs.Faults.{OffendsFirst}
-use Rattle.uefi_base.specs.Rows.{TextRows, FaultRows, LimitRows, OrderRows, CharacterRows, ByteRows, NameRows, RowsHold}
+use Rattle.uefi_base.specs.rows.Values.{TextRows, FaultRows, LimitRows, OrderRows, CharacterRows, ByteRows, NameRows, RowsHold}
 
 -- A unit between zero and the surrogates is a character.
 low : (unit : ℕ) → 0 < unit → unit < 0xd800 → IsCharacter unit

@@ -9,5 +9,5 @@ pub mod GuidText
 pub mod StatusCode
 pub mod Views
 pub mod Laws
-pub mod Search
-pub mod Rows
+pub mod rows
+pub mod private

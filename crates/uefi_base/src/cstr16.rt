@@ -2,7 +2,7 @@ ghost use Rattle.std.specs.Prelude.{◌≡◌, ◌↔◌, length, encode_utf8_al
 ghost use Rattle.std.specs.Result.{IsErrOf};
 ghost use Rattle.uefi_base.specs.Ucs2.{IsUcs2Text, characters_of};
 ghost use Rattle.uefi_base.specs.Faults.{HasFault};
-ghost use Rattle.uefi_base.specs.Search.{IsFirstNonCharacter};
+ghost use Rattle.uefi_base.specs.private.Search.{IsFirstNonCharacter};
 ghost use Rattle.uefi_base.specs.declared.text_error.FromSliceWithNulError.{FromSliceWithNulError};
 
 use crate::text_error::FromSliceWithNulError;

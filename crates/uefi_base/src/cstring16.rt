@@ -3,7 +3,7 @@ ghost use Rattle.std.specs.Result.{IsErrOf};
 ghost use Rattle.std.specs.Str.{chars};
 ghost use Rattle.uefi_base.specs.Ucs2.{last_character, HasUnit, IsUcs2Text, MakeUcs2Text};
 ghost use Rattle.uefi_base.specs.Faults.{AreTooMany, OffendsFirst};
-ghost use Rattle.uefi_base.specs.Search.{HasStrFault, IsFirstWithoutUnit};
+ghost use Rattle.uefi_base.specs.private.Search.{HasStrFault, IsFirstWithoutUnit};
 
 use crate::cstr16::CStr16;
 use crate::text_error::FromStrError;

@@ -2,7 +2,7 @@
 //! when it runs.
 
 ghost use Rattle.uefi_base.specs.Laws.{NumbersReadBack, UnitsReadBack, UnitsByPlace};
-ghost use Rattle.uefi_base.specs.Rows.{RowsHold};
+ghost use Rattle.uefi_base.specs.rows.Values.{RowsHold};
 
 /// A number reads back from the offset at which its bytes were written, whatever comes before and
 /// after them; and the bytes of a number that was read are the bytes at its offset.

@@ -1,7 +1,7 @@
 ghost use Rattle.std.specs.Prelude.{◌↔◌, ◌<◌, IsTrue};
 ghost use Rattle.std.specs.Option.{ForSome};
 ghost use Rattle.uefi_base.specs.Ucs2.{IsSurrogate, IsCharacter};
-ghost use Rattle.uefi_base.specs.Search.{TellsFault};
+ghost use Rattle.uefi_base.specs.private.Search.{TellsFault};
 
 use crate::text_error::FromSliceWithNulError;
 

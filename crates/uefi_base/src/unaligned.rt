@@ -5,7 +5,7 @@ ghost use Rattle.std.specs.Result.{IsErrOf};
 ghost use Rattle.uefi_base.specs.Ucs2.{IsUcs2Text};
 ghost use Rattle.uefi_base.specs.Unaligned.{units_of};
 ghost use Rattle.uefi_base.specs.Faults.{HasFault, unaligned_error};
-ghost use Rattle.uefi_base.specs.Search.{IsFirstNonCharacter};
+ghost use Rattle.uefi_base.specs.private.Search.{IsFirstNonCharacter};
 ghost use Rattle.uefi_base.specs.declared.text_error.FromSliceWithNulError.{FromSliceWithNulError};
 
 use crate::cstring16::CString16;

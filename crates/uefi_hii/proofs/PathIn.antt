@@ -5,7 +5,7 @@ use Rattle.uefi_path.specs.Path.{HasPath as BeginsWithPath}
 use Rattle.uefi_base.specs.Prefix.{IsPrefix}
 use Rattle.uefi_path.proofs.Decide.{path_or_none}
 use Rattle.uefi_path.specs.Node.{Node, joined}
-use Rattle.uefi_path.specs.OnePath.{one_path}
+use Rattle.uefi_path.specs.private.OnePath.{one_path}
 use Rattle.uefi_path.specs.Path.{IsPath}
 use Rattle.uefi_hii.specs.Hex.{hex}
 use Rattle.uefi_hii.specs.Pairs.{Pair}

@@ -4,8 +4,8 @@ ghost use Rattle.std.specs.Int.{w16, to_be_bytes};
 ghost use Rattle.lines_base.specs.Text.{AppendsText};
 ghost use Rattle.uefi_base.specs.Ucs2.{characters_of};
 ghost use Rattle.uefi_base.specs.Views.{slice_units};
-ghost use Rattle.uefi_records.specs.File.Views.{stated_size, file_fields_of, file_name_of};
-ghost use Rattle.uefi_records.specs.Time.Views.{time_of};
+ghost use Rattle.uefi_records.specs.file.Views.{stated_size, file_fields_of, file_name_of};
+ghost use Rattle.uefi_records.specs.time.Views.{time_of};
 ghost use Rattle.uefi_lines.specs.Info.{info_lines, stamp_text, name_field, units_hex};
 
 use lines_base::{Hex, HexNumber, write_hex};

@@ -5,5 +5,3 @@ pub mod Texts
 pub mod Views
 pub mod Lending
 pub mod Laws
-pub mod Rows
-pub mod Keeping

@@ -2,4 +2,3 @@ pub mod Resource
 pub mod ResourceList
 pub mod Views
 pub mod Laws
-pub mod Rows

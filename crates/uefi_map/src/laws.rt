@@ -1,9 +1,9 @@
 //! Laws of the definitions. Each holds for all of their values, and does nothing when it is called.
 
 ghost use Rattle.uefi_map.specs.memory.Laws.{SameEntries, WritesOne};
-ghost use Rattle.uefi_map.specs.memory.Rows as Maps;
+ghost use Rattle.uefi_map.specs.rows.Maps as Maps;
 ghost use Rattle.uefi_map.specs.pci.Laws.{ListOrFault, NeverBoth, ListAlone, FaultAlone};
-ghost use Rattle.uefi_map.specs.pci.Rows as Lists;
+ghost use Rattle.uefi_map.specs.rows.Lists as Lists;
 
 /// The forty bytes of each descriptor alone tell the entries of a map, and writing a descriptor
 /// leaves all other bytes: those of the other descriptors, the rest of each stride, and what follows
@@ -23,7 +23,7 @@ pub fn one_list()
 
 /// The definitions hold on worked rows: a firmware's map has its entries, some sizes make no map, a
 /// root bridge's resources are a list, and some bytes have a fault. Each row is a theorem.
-#[tactic(auto, using(crate::proofs::memory_lemmas::WorkedRows::rows_hold, crate::proofs::pci_lemmas::WorkedRows::rows_hold))]
+#[tactic(auto, using(crate::proofs::memory::WorkedRows::rows_hold, crate::proofs::pci::WorkedRows::rows_hold))]
 pub fn worked_rows()
     ensures maps { Maps.RowsHold }
     ensures lists { Lists.RowsHold }

@@ -2,7 +2,7 @@
 use Rattle.std.proofs.Common.{ℕ, ◌*◌, ◌≤◌, List, [], ◌∷◌, length, ap, arith, length-append}
 use Rattle.std.specs.List.{AllByRecursion}
 use Rattle.uefi_path.specs.Node.{Node, encoding, joined}
-use Rattle.uefi_path.specs.Encoding.{IsEncodingOfNodes}
+use Rattle.uefi_path.specs.private.Encoding.{IsEncodingOfNodes}
 use Rattle.uefi_path.specs.Path.{IsInstance, AreInstances, concat, all_but_last}
 
 -- A node has at least four bytes.

@@ -3,8 +3,8 @@ use Rattle.std.proofs.Common.{◌≡◌, ℕ, List, [], ◌∷◌, refl, sym, �
 use Rattle.std.proofs.Math.Decide.{ℕ_discrete}
 use Rattle.uefi_path.specs.Node.{Node, Fits, joined, IsEnd, IsEndEntire}
 use Rattle.uefi_path.specs.Path.{IsPath, concat, AreInstances}
-use Rattle.uefi_path.specs.Encoding.{IsEncodingOfNodes, IsEncodingOfInstances, EncodesInstances}
-use Rattle.uefi_path.specs.OnePath.{instances_encoded_once}
+use Rattle.uefi_path.specs.private.Encoding.{IsEncodingOfNodes, IsEncodingOfInstances, EncodesInstances}
+use Rattle.uefi_path.specs.private.OnePath.{instances_encoded_once}
 use Rattle.uefi_path.proofs.Steps.{AreEndedBy-one, AreEndedBy-cons}
 
 -- With one more node before them, instances are still instances: the node is one of its own or the start of the first.

@@ -4,7 +4,7 @@ use Rattle.std.proofs.Math.Decide.{dec_le, ℕ_discrete}
 use Rattle.std.proofs.lemmas.List.{take-append-drop, get_or-append-add}
 use Rattle.uefi_path.specs.Node.{header_length, Node, Fits, encoding, joined, HasNode, IsEndEntire}
 use Rattle.uefi_path.specs.Path.{HasNodes, HasPath}
-use Rattle.uefi_path.specs.OneNode.{stated_length}
+use Rattle.uefi_path.specs.private.OneNode.{stated_length}
 use Rattle.uefi_path.proofs.Nodes.{header_prefix, node_prefix}
 use Rattle.uefi_path.proofs.Passing.{HasNodes-after}
 use Rattle.uefi_path.proofs.Steps.{HasNodes-node, AreEndedBy-one, AreEndedBy-cons}

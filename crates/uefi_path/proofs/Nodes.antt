@@ -9,8 +9,8 @@ use Rattle.uefi_base.proofs.NumbersBack.{two_bytes}
 use Rattle.uefi_base.proofs.Ranges.{items_from, drop-items_from}
 use Rattle.uefi_path.specs.declared.header.TheConstants.{LENGTH_OFFSET}
 use Rattle.uefi_path.specs.Header.{header, header_bytes}
-use Rattle.uefi_path.specs.OneNode.{stated_length}
-use Rattle.uefi_path.specs.Encoding.{EncodesNode}
+use Rattle.uefi_path.specs.private.OneNode.{stated_length}
+use Rattle.uefi_path.specs.private.Encoding.{EncodesNode}
 
 -- The first four bytes are a header.
 pub header_prefix : (bytes : List ℕ) (n : ℕ) → ((i : ℕ) → get_or bytes i 0 < 256) → 4 ≤ length bytes → n ≡ get_or bytes 2 0 + get_or bytes 3 0 * 256

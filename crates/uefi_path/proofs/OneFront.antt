@@ -1,6 +1,6 @@
 -- The laws of paths hold.
 use Rattle.std.proofs.Common.{sym}
-use Rattle.uefi_path.specs.OnePath.{one_path}
+use Rattle.uefi_path.specs.private.OnePath.{one_path}
 use Rattle.uefi_path.specs.Laws.{OneFront}
 
 pub one_front : OneFront

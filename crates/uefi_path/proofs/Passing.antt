@@ -4,8 +4,8 @@ use Rattle.std.proofs.lemmas.List.{take_at}
 use Rattle.std.specs.List.{AllByRecursion}
 use Rattle.uefi_path.specs.Node.{Node, Fits, encoding, joined, HasNode, AreNodes}
 use Rattle.uefi_path.specs.Path.{LastAlone, HasNodes}
-use Rattle.uefi_path.specs.Encoding.{EncodesNodes}
-use Rattle.uefi_path.specs.OnePath.{joined-append}
+use Rattle.uefi_path.specs.private.Encoding.{EncodesNodes}
+use Rattle.uefi_path.specs.private.OnePath.{joined-append}
 use Rattle.uefi_path.proofs.Steps.{HasNodes-node, after_first}
 
 -- The bytes are the encoding of the nodes, none of which satisfies P, and then the rest.

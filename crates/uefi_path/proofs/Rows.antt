@@ -2,7 +2,7 @@
 use Rattle.std.proofs.Common.{ℕ, ◌<◌, ◌≤◌, List, [], ◌∷◌, ◌++◌, length, refl, arith, lit<, lit≤}
 use Rattle.uefi_path.specs.Node.{Node, Fits, max_data_length, IsEnd, IsEndEntire}
 use Rattle.uefi_path.specs.Path.{IsPath, HasPath}
-use Rattle.uefi_path.specs.Rows.{node, first_instance, second_instance, unknown_end, end_entire, TwoInstances, AnyEnd, EndWithData, NoPath, Nodes, TypeNumbers, RowsHold}
+use Rattle.uefi_path.specs.rows.Paths.{node, first_instance, second_instance, unknown_end, end_entire, TwoInstances, AnyEnd, EndWithData, NoPath, Nodes, TypeNumbers, RowsHold}
 use Rattle.uefi_path.proofs.Decide.{stated, node_states}
 use Rattle.uefi_path.proofs.Passing.{HasNodes-after}
 use Rattle.uefi_path.proofs.Steps.{HasNodes-node, AreEndedBy-one, AreEndedBy-cons}

@@ -4,8 +4,8 @@ use Rattle.std.proofs.lemmas.List.{append-nil, nil_from_length}
 use Rattle.uefi_base.specs.Prefix.{IsPrefix}
 use Rattle.uefi_path.specs.Node.{Node, Fits, encoding, joined, HasNode, IsEnd}
 use Rattle.uefi_path.specs.Path.{AreEndedBy, HasNodes, concat, all_but_last}
-use Rattle.uefi_path.specs.Encoding.{IsEncodingOfNodes, EncodesNodes, IsEncodingOfInstances, EncodesInstances}
-use Rattle.uefi_path.specs.OnePath.{same_first, one_ended, nodes_encoded_once, instances_encoded_once, joined-append, some_bytes}
+use Rattle.uefi_path.specs.private.Encoding.{IsEncodingOfNodes, EncodesNodes, IsEncodingOfInstances, EncodesInstances}
+use Rattle.uefi_path.specs.private.OnePath.{same_first, one_ended, nodes_encoded_once, instances_encoded_once, joined-append, some_bytes}
 
 -- Bytes that start with nodes of which only the last satisfies P start with a node.
 pub HasNodes-node : (P : Node → Type 0) (bytes : List ℕ) → HasNodes P bytes → HasNode bytes

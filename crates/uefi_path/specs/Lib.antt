@@ -5,8 +5,5 @@ pub mod Header
 pub mod Views
 pub mod Texts
 pub mod Laws
-pub mod Encoding
-pub mod Stop
-pub mod OneNode
-pub mod OnePath
-pub mod Rows
+pub mod rows
+pub mod private

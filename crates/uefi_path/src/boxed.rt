@@ -1,7 +1,7 @@
 ghost use Rattle.std.specs.Prelude.{◌≡◌};
 ghost use Rattle.uefi_path.specs.Node.{IsEnd, IsEndEntire};
-ghost use Rattle.uefi_path.specs.Encoding.{IsEncodingOfNodes, EncodesPath, EncodesInstance};
-ghost use Rattle.uefi_path.specs.OnePath.{EncodesPath-prop, EncodesInstance-prop};
+ghost use Rattle.uefi_path.specs.private.Encoding.{IsEncodingOfNodes, EncodesPath, EncodesInstance};
+ghost use Rattle.uefi_path.specs.private.OnePath.{EncodesPath-prop, EncodesInstance-prop};
 
 use crate::instance::DevicePathInstance;
 use crate::path::DevicePath;
@@ -35,7 +35,7 @@ impl<A: Allocator> BoxedDevicePath<A> {
     }
 
     /// Returns a view of the path that this box owns.
-    #[tactic(auto, using(crate::specs::OnePath::same_nodes))]
+    #[tactic(auto, using(crate::specs::private::OnePath::same_nodes))]
     pub fn as_path(&self) -> DevicePath<'_>
         ensures { path_nodes result ≡ boxed_nodes self.now }
     {
@@ -55,7 +55,7 @@ impl<A: Allocator> BoxedDevicePathInstance<A> {
     }
 
     /// Returns a view of the instance that this box owns.
-    #[tactic(auto, using(crate::specs::OnePath::same_nodes))]
+    #[tactic(auto, using(crate::specs::private::OnePath::same_nodes))]
     pub fn as_instance(&self) -> DevicePathInstance<'_>
         ensures { instance_nodes result ≡ boxed_instance_nodes self.now }
     {

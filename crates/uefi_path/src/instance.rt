@@ -3,8 +3,8 @@ ghost use Rattle.std.specs.Cmp.{partial_equiv_from_equiv, on_per, on_equiv};
 ghost use Rattle.std.specs.Cmp.Lexicographic.{pointwise, nat_list_eq_equiv};
 ghost use Rattle.uefi_path.specs.Node.{joined, IsEnd};
 ghost use Rattle.uefi_path.specs.Path.{IsInstance, all_but_last};
-ghost use Rattle.uefi_path.specs.Encoding.{IsEncodingOfNodes, EncodesInstance};
-ghost use Rattle.uefi_path.specs.OnePath.{EncodesInstance-prop};
+ghost use Rattle.uefi_path.specs.private.Encoding.{IsEncodingOfNodes, EncodesInstance};
+ghost use Rattle.uefi_path.specs.private.OnePath.{EncodesInstance-prop};
 
 use crate::boxed::BoxedDevicePathInstance;
 use crate::node_iter::DevicePathNodeIterator;
@@ -21,7 +21,7 @@ pub struct DevicePathInstance<'a> {
     pub ghost nodes: { EncodesInstance bytes.now } by { EncodesInstance-prop bytes.now },
 }
 
-#[tactic(auto, using(crate::specs::OnePath::same_nodes, crate::proofs::Counts::few_before_end))]
+#[tactic(auto, using(crate::specs::private::OnePath::same_nodes, crate::proofs::Counts::few_before_end))]
 impl<'a> DevicePathInstance<'a> {
     ghost use Rattle.uefi_path.specs.Views.{instance_nodes, nodes_left, boxed_instance_nodes};
 

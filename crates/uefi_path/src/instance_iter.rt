@@ -1,6 +1,6 @@
 ghost use Rattle.std.specs.Prelude.{◌^◌, ◌<◌, length};
-ghost use Rattle.uefi_path.specs.Encoding.{IsEncodingOfInstances, EncodesInstances};
-ghost use Rattle.uefi_path.specs.OnePath.{EncodesInstances-prop};
+ghost use Rattle.uefi_path.specs.private.Encoding.{IsEncodingOfInstances, EncodesInstances};
+ghost use Rattle.uefi_path.specs.private.OnePath.{EncodesInstances-prop};
 
 use crate::instance::DevicePathInstance;
 use crate::walk::{StopCondition, first_nodes};

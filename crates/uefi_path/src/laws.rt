@@ -2,7 +2,7 @@
 //! when it runs.
 
 ghost use Rattle.uefi_path.specs.Laws.{OneFront};
-ghost use Rattle.uefi_path.specs.Rows.{RowsHold};
+ghost use Rattle.uefi_path.specs.rows.Paths.{RowsHold};
 
 /// No path is a proper prefix of another, and a path followed by any bytes starts with that path
 /// and with no other.

@@ -2,8 +2,8 @@ ghost use Rattle.std.specs.Prelude.{◌≡◌, ◌↔◌, ◌+◌, length, IsTru
 ghost use Rattle.std.specs.Cmp.{partial_equiv_from_equiv, on_per, on_equiv};
 ghost use Rattle.std.specs.Cmp.Lexicographic.{pointwise, nat_list_eq_equiv};
 ghost use Rattle.uefi_path.specs.Node.{header_length, encoding, IsEndEntire};
-ghost use Rattle.uefi_path.specs.Encoding.{IsEncodingOfNode, EncodesNode};
-ghost use Rattle.uefi_path.specs.OneNode.{EncodesNode-prop};
+ghost use Rattle.uefi_path.specs.private.Encoding.{IsEncodingOfNode, EncodesNode};
+ghost use Rattle.uefi_path.specs.private.OneNode.{EncodesNode-prop};
 
 use crate::device_type::{DeviceSubType, DeviceType};
 use crate::error::ByteConversionError;
@@ -109,7 +109,7 @@ impl<'a> TryFrom<&'a [u8]> for DevicePathNode<'a> {
 
     ghost try_from_gives = { λ bytes read. ReadsNode node_of bytes.now read };
 
-    #[tactic(auto, using(crate::specs::OneNode::one_encoding))]
+    #[tactic(auto, using(crate::specs::private::OneNode::one_encoding))]
     fn try_from(bytes: &'a [u8]) -> Result<DevicePathNode<'a>, ByteConversionError> {
         let header = DevicePathHeader::try_from(bytes)?;
         let length = usize::from(header.length());

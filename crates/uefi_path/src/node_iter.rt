@@ -1,7 +1,7 @@
 ghost use Rattle.std.specs.Prelude.{◌^◌, ◌<◌, length};
-ghost use Rattle.uefi_path.specs.Stop.{Stops, Stops-prop};
-ghost use Rattle.uefi_path.specs.Encoding.{IsEncodingOfNodes, EncodesNodes};
-ghost use Rattle.uefi_path.specs.OnePath.{EncodesNodes-prop};
+ghost use Rattle.uefi_path.specs.private.Stop.{Stops, Stops-prop};
+ghost use Rattle.uefi_path.specs.private.Encoding.{IsEncodingOfNodes, EncodesNodes};
+ghost use Rattle.uefi_path.specs.private.OnePath.{EncodesNodes-prop};
 
 use crate::node::DevicePathNode;
 use crate::walk::{StopCondition, first_node};

@@ -3,8 +3,8 @@ ghost use Rattle.std.specs.Cmp.{partial_equiv_from_equiv, on_per, on_equiv};
 ghost use Rattle.std.specs.Cmp.Lexicographic.{pointwise, nat_list_eq_equiv};
 ghost use Rattle.uefi_path.specs.Node.{header_length, joined, IsEndEntire};
 ghost use Rattle.uefi_path.specs.Path.{IsPath, AreInstances, all_but_last};
-ghost use Rattle.uefi_path.specs.Encoding.{IsEncodingOfNodes, EncodesPath};
-ghost use Rattle.uefi_path.specs.OnePath.{EncodesPath-prop};
+ghost use Rattle.uefi_path.specs.private.Encoding.{IsEncodingOfNodes, EncodesPath};
+ghost use Rattle.uefi_path.specs.private.OnePath.{EncodesPath-prop};
 
 use crate::boxed::BoxedDevicePath;
 use crate::error::ByteConversionError;
@@ -58,7 +58,7 @@ pub struct DevicePath<'a> {
     pub ghost nodes: { EncodesPath bytes.now } by { EncodesPath-prop bytes.now },
 }
 
-#[tactic(auto, using(crate::specs::OnePath::same_nodes, crate::proofs::Counts::few_before_end))]
+#[tactic(auto, using(crate::specs::private::OnePath::same_nodes, crate::proofs::Counts::few_before_end))]
 impl<'a> DevicePath<'a> {
     ghost use Rattle.uefi_path.specs.Views.{path_nodes, nodes_left, instances_left, boxed_nodes};
 
@@ -126,7 +126,7 @@ impl<'a> TryFrom<&'a [u8]> for DevicePath<'a> {
 
     ghost try_from_gives = { λ bytes read. ReadsPath path_nodes bytes.now read };
 
-    #[tactic(auto, using(crate::specs::OnePath::one_path))]
+    #[tactic(auto, using(crate::specs::private::OnePath::one_path))]
     fn try_from(bytes: &'a [u8]) -> Result<DevicePath<'a>, ByteConversionError> {
         let (path, _) = split_nodes(bytes, StopCondition::EndEntireNode)?;
         Ok(DevicePath::new_unchecked(path))

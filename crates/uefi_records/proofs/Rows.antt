@@ -1,9 +1,9 @@
 -- The worked rows hold.
 use Rattle.std.proofs.Common.{refl}
-use Rattle.uefi_records.specs.Time.Fields.{time_bytes}
-use Rattle.uefi_records.specs.File.FileInfo.{file_header}
-use Rattle.uefi_records.specs.File.FileSystemInfo.{file_system_header}
-use Rattle.uefi_records.specs.Rows.{LocalTime, ZeroTime, UnknownDaylight, Zones, FlagNumbers, FileOfAb, FileSystemOfAb, RecordSizes, Labels, Identities, RowsHold}
+use Rattle.uefi_records.specs.time.Fields.{time_bytes}
+use Rattle.uefi_records.specs.file.FileInfo.{file_header}
+use Rattle.uefi_records.specs.file.FileSystemInfo.{file_system_header}
+use Rattle.uefi_records.specs.rows.Records.{LocalTime, ZeroTime, UnknownDaylight, Zones, FlagNumbers, FileOfAb, FileSystemOfAb, RecordSizes, Labels, Identities, RowsHold}
 
 local_time : LocalTime
 unfolding time_bytes

@@ -2,12 +2,12 @@
 use Rattle.std.specs.Prelude.{◌≡◌, ◌↔◌, ℕ, ◌^◌, ◌<◌, ◌≤◌, List, ◌++◌, length, take}
 use Rattle.uefi_base.specs.LittleEndian.{AreBytes}
 use Rattle.uefi_records.specs.declared.file.file_info.FileInfo.{FileInfo}
-use Rattle.uefi_records.specs.Time.Fields.{TimeFields, Fits, StandsIn, time_bytes, time_in, time_length}
-use Rattle.uefi_records.specs.File.Name.{FitName, record_end}
-use Rattle.uefi_records.specs.File.Verdict.{accepted, verdict}
-use Rattle.uefi_records.specs.File.FileInfo.{FileFields, FitFile, file_fields, file_info_bytes, file_info_size, file_info_verdict, file_name_offset, size_in}
-use Rattle.uefi_records.specs.File.FileSystemInfo.{FileSystemFields, FitFileSystem, file_system_fields, file_system_info_bytes, file_system_info_size, file_system_info_verdict, label_offset, lone_label_offset, unused_length, volume_label_bytes, volume_label_size, volume_label_verdict}
-use Rattle.uefi_records.specs.File.Views.{stated_size, file_fields_of, file_name_of, file_info_key}
+use Rattle.uefi_records.specs.time.Fields.{TimeFields, Fits, StandsIn, time_bytes, time_in, time_length}
+use Rattle.uefi_records.specs.file.Name.{FitName, record_end}
+use Rattle.uefi_records.specs.file.Verdict.{accepted, verdict}
+use Rattle.uefi_records.specs.file.FileInfo.{FileFields, FitFile, file_fields, file_info_bytes, file_info_size, file_info_verdict, file_name_offset, size_in}
+use Rattle.uefi_records.specs.file.FileSystemInfo.{FileSystemFields, FitFileSystem, file_system_fields, file_system_info_bytes, file_system_info_size, file_system_info_verdict, label_offset, lone_label_offset, unused_length, volume_label_bytes, volume_label_size, volume_label_verdict}
+use Rattle.uefi_records.specs.file.Views.{stated_size, file_fields_of, file_name_of, file_info_key}
 
 -- At most one time stands in bytes.
 abbrev pub OneTime : Type 0

@@ -1,5 +1,6 @@
-pub mod Time
-pub mod Flags
-pub mod File
+pub mod time
+pub mod flags
+pub mod file
 pub mod Laws
-pub mod Rows
+pub mod rows
+pub mod private

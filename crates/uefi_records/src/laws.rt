@@ -1,23 +1,23 @@
 //! Laws of the definitions. Each holds for all their values, and costs nothing when it runs.
 
 ghost use Rattle.uefi_records.specs.Laws.{EqualFiles, OneTime, ReadsBack, TimesReadBack, WrittenAlone};
-ghost use Rattle.uefi_records.specs.Rows.{RowsHold};
+ghost use Rattle.uefi_records.specs.rows.Records.{RowsHold};
 
 /// At most one time stands in bytes: sixteen bytes determine all its fields.
-#[tactic(auto, using(crate::proofs::Times::ReadBack::one_time), unfolding(crate::specs::Time::Fields::time_bytes))]
+#[tactic(auto, using(crate::proofs::time::ReadBack::one_time), unfolding(crate::specs::time::Fields::time_bytes))]
 pub fn one_time()
     ensures { OneTime }
 {}
 
 /// Times and their bytes determine each other: a time reads back from its bytes, and sixteen bytes
 /// are those of the time that is read from them.
-#[tactic(auto, using(crate::proofs::Times::ReadBack::times_read_back))]
+#[tactic(auto, using(crate::proofs::time::ReadBack::times_read_back))]
 pub fn times_read_back()
     ensures { TimesReadBack }
 {}
 
 /// File information records are equal exactly if their accessors return the same.
-#[tactic(auto, using(crate::proofs::Files::RecordLaws::equal_files))]
+#[tactic(auto, using(crate::proofs::file::RecordLaws::equal_files))]
 pub fn equal_files()
     ensures { EqualFiles }
 {}
@@ -25,14 +25,14 @@ pub fn equal_files()
 /// A record that was written reads back, with the size, the fields and the name that were written:
 /// for every number of written bytes that covers its name, in every buffer that it fits, whatever
 /// the buffer holds after it.
-#[tactic(auto, using(crate::proofs::Files::RecordLaws::reads_back))]
+#[tactic(auto, using(crate::proofs::file::RecordLaws::reads_back))]
 pub fn reads_back()
     ensures { ReadsBack }
 {}
 
 /// Only written bytes decide: two buffers of one length that agree on the written bytes get one
 /// verdict, and if a record is accepted, one size, the same fields and the same name.
-#[tactic(auto, using(crate::proofs::Files::RecordLaws::written_alone))]
+#[tactic(auto, using(crate::proofs::file::RecordLaws::written_alone))]
 pub fn written_alone()
     ensures { WrittenAlone }
 {}

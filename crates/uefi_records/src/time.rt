@@ -1,8 +1,8 @@
 ghost use Rattle.std.specs.Prelude.{◌≡◌, ◌≢◌, ◌≤◌, ◌↔◌, length, IsOk, IfOk, IfErr, nat_eq};
 ghost use Rattle.std.specs.Cmp.{partial_equiv_from_equiv, on_per, on_equiv};
 ghost use Rattle.std.specs.Cmp.Lexicographic.{pointwise, nat_list_eq_equiv};
-ghost use Rattle.uefi_records.specs.Time.Fields.{Fits, StandsIn, time_bytes, time_in, time_length, stated_zone, without_pads, zero_time};
-ghost use Rattle.uefi_records.specs.Time.Faults.{IsValid, range_faults, is_zone_outside};
+ghost use Rattle.uefi_records.specs.time.Fields.{Fits, StandsIn, time_bytes, time_in, time_length, stated_zone, without_pads, zero_time};
+ghost use Rattle.uefi_records.specs.time.Faults.{IsValid, range_faults, is_zone_outside};
 
 pub use self::error::{TimeByteConversionError, TimeError};
 pub use self::params::TimeParams;
@@ -96,8 +96,8 @@ pub struct Time {
 }
 
 impl Time {
-    ghost use Rattle.uefi_records.specs.Time.Views.{time_of, fields_of};
-    ghost use Rattle.uefi_records.specs.Flags.Views.{daylight_bits};
+    ghost use Rattle.uefi_records.specs.time.Views.{time_of, fields_of};
+    ghost use Rattle.uefi_records.specs.flags.Views.{daylight_bits};
 
     /// Makes the time with these fields, and zeros in its padding. A zone of `None` is stored as
     /// 0x07ff, so the zone 2047 reads back as `None`.
@@ -252,7 +252,7 @@ impl Time {
     }
 
     /// The sixteen bytes of the time, with its padding.
-    #[tactic(auto, unfolding(crate::specs::Time::Fields::time_bytes))]
+    #[tactic(auto, unfolding(crate::specs::time::Fields::time_bytes))]
     pub fn to_bytes(&self) -> [u8; TIME_LENGTH]
         ensures bytes { result ≡ time_bytes (time_of self.now) }
         ensures fits { Fits (time_of self.now) }
@@ -333,8 +333,8 @@ fn is_zone_outside(zone: i16) -> bool
 /// - [`TimeByteConversionError::InvalidFields`] with all fields outside their ranges, if there are
 ///   any.
 impl TryFrom<&[u8]> for Time {
-    ghost use Rattle.uefi_records.specs.Time.Views.{time_of};
-    ghost use Rattle.uefi_records.specs.Time.Reading.{ReadsTime};
+    ghost use Rattle.uefi_records.specs.time.Views.{time_of};
+    ghost use Rattle.uefi_records.specs.time.Reading.{ReadsTime};
 
     type Error = TimeByteConversionError;
 
@@ -360,7 +360,7 @@ impl TryFrom<&[u8]> for Time {
 
 /// Compares all sixteen bytes.
 impl PartialEq for Time {
-    ghost use Rattle.uefi_records.specs.Time.Views.{bytes_of_time};
+    ghost use Rattle.uefi_records.specs.time.Views.{bytes_of_time};
 
     ghost eq = { λ x y. pointwise nat_eq (bytes_of_time x) (bytes_of_time y) };
 
@@ -372,7 +372,7 @@ impl PartialEq for Time {
 }
 
 impl Eq for Time {
-    ghost use Rattle.uefi_records.specs.Time.Views.{bytes_of_time};
+    ghost use Rattle.uefi_records.specs.time.Views.{bytes_of_time};
 
     ghost laws = { on_equiv bytes_of_time nat_list_eq_equiv };
 }

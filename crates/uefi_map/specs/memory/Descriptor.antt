@@ -10,34 +10,15 @@ descriptor_length = 40
 abbrev pub descriptor_alignment : ℕ
 descriptor_alignment = 8
 
--- The offsets of the fields: the type and padding have four bytes each, the others eight.
-abbrev pub type_offset : ℕ
-type_offset = 0
-
-abbrev pub padding_offset : ℕ
-padding_offset = 4
-
-abbrev pub phys_start_offset : ℕ
-phys_start_offset = 8
-
-abbrev pub virt_start_offset : ℕ
-virt_start_offset = 16
-
-abbrev pub page_count_offset : ℕ
-page_count_offset = 24
-
-abbrev pub attribute_offset : ℕ
-attribute_offset = 32
-
 -- The descriptor in forty bytes, each field at its offset, little-endian.
 unfoldable pub descriptor_in : List ℕ → MemoryDescriptor
 descriptor_in bytes = record {
-  ty = record { 0 = u32_at bytes type_offset };
-  padding = u32_at bytes padding_offset;
-  phys_start = u64_at bytes phys_start_offset;
-  virt_start = u64_at bytes virt_start_offset;
-  page_count = u64_at bytes page_count_offset;
-  att = record { 0 = u64_at bytes attribute_offset };
+  ty = record { 0 = u32_at bytes 0 };
+  padding = u32_at bytes 4;
+  phys_start = u64_at bytes 8;
+  virt_start = u64_at bytes 16;
+  page_count = u64_at bytes 24;
+  att = record { 0 = u64_at bytes 32 };
 }
 
 -- The forty bytes of a descriptor.

@@ -11,30 +11,15 @@ pub record IsMap (length : ℕ) (meta : MemoryMapMeta) : Type 0 where
   pub whole : meta.map_size % meta.desc_size ≡ 0
   pub within : meta.map_size ≤ length
 
--- The same of the sizes alone, for a buffer of any length.
-pub record HasWholeStrides (meta : MemoryMapMeta) : Type 0 where
-  pub room : descriptor_length ≤ meta.desc_size
-  pub aligned : meta.desc_size % descriptor_alignment ≡ 0
-  pub whole : meta.map_size % meta.desc_size ≡ 0
-
 -- The sizes of the map in a buffer with this length: these, or those of an empty map if the buffer is too short.
 abbrev pub meta_within : ℕ → MemoryMapMeta → MemoryMapMeta
 meta_within length meta = record meta { map_size = if nat_le meta.map_size length then meta.map_size else 0 }
-
--- The length of the longest map that counts as sane, 1 GiB.
-abbrev pub max_sane_size : ℕ
-max_sane_size = 2 ^ 30
 
 -- The sizes are such as firmware gives: a stride with room for a descriptor, and a map of 1 byte to 1 GiB.
 pub record IsSane (meta : MemoryMapMeta) : Type 0 where
   pub room : descriptor_length ≤ meta.desc_size
   pub some : 1 ≤ meta.map_size
-  pub not_huge : meta.map_size ≤ max_sane_size
-
--- The bytes are whole strides, each with room for a descriptor.
-pub record AreStrides (stride : ℕ) (bytes : List ℕ) : Type 0 where
-  pub room : descriptor_length ≤ stride
-  pub whole : length bytes % stride ≡ 0
+  pub not_huge : meta.map_size ≤ 2 ^ 30
 
 -- The count of descriptors.
 abbrev pub count_of : MemoryMapMeta → ℕ

@@ -16,42 +16,17 @@ record_length = 46
 abbrev pub range_type : ℕ → ResourceRangeType
 range_type number = if number == 0 then Memory else if number == 1 then Io else if number == 2 then Bus else Unknown number
 
--- The offsets of the fields: three bytes, and five numbers of eight bytes.
-abbrev pub range_type_offset : ℕ
-range_type_offset = 3
-
-abbrev pub general_flags_offset : ℕ
-general_flags_offset = 4
-
-abbrev pub type_specific_flags_offset : ℕ
-type_specific_flags_offset = 5
-
-abbrev pub granularity_offset : ℕ
-granularity_offset = 6
-
-abbrev pub address_min_offset : ℕ
-address_min_offset = 14
-
-abbrev pub address_max_offset : ℕ
-address_max_offset = 22
-
-abbrev pub translation_offset_offset : ℕ
-translation_offset_offset = 30
-
-abbrev pub address_length_offset : ℕ
-address_length_offset = 38
-
 -- The resource in the bytes of a record, each field at its offset, little-endian.
 unfoldable pub resource_in : List ℕ → QwordAddressSpaceDescriptor
 resource_in bytes = record {
-  resource_range_type = range_type (slice_index bytes range_type_offset);
-  general_flags = slice_index bytes general_flags_offset;
-  type_specific_flags = slice_index bytes type_specific_flags_offset;
-  granularity = u64_at bytes granularity_offset;
-  address_min = u64_at bytes address_min_offset;
-  address_max = u64_at bytes address_max_offset;
-  translation_offset = u64_at bytes translation_offset_offset;
-  address_length = u64_at bytes address_length_offset;
+  resource_range_type = range_type (slice_index bytes 3);
+  general_flags = slice_index bytes 4;
+  type_specific_flags = slice_index bytes 5;
+  granularity = u64_at bytes 6;
+  address_min = u64_at bytes 14;
+  address_max = u64_at bytes 22;
+  translation_offset = u64_at bytes 30;
+  address_length = u64_at bytes 38;
 }
 
 -- The bytes are a record of the resource: as many as a record has, the tag first, and the fields at their offsets. The two bytes after the tag are free.

@@ -62,7 +62,7 @@ impl<A: Allocator> MemoryMap for MemoryMapOwned<A> {
 
 impl<A: Allocator> MemoryMapMut for MemoryMapOwned<A> {
     ghost use Rattle.uefi_map.specs.memory.Views.{owned_with};
-    ghost use Rattle.uefi_map.specs.memory.Keeping.{owned_bytes-with, owned_meta-with};
+    ghost use Rattle.uefi_map.specs.private.memory.Keeping.{owned_bytes-with, owned_meta-with};
 
     ghost same_buffer = { λ _ _. Unit {0} };
 

@@ -107,7 +107,7 @@ impl<'a> MemoryMap for MemoryMapRefMut<'a> {
 impl<'a> MemoryMapMut for MemoryMapRefMut<'a> {
     ghost use Rattle.std.proofs.Common.{◌∙◌};
     ghost use Rattle.uefi_map.specs.memory.Views.{mut_with, WriteToTheSame};
-    ghost use Rattle.uefi_map.specs.memory.Keeping.{mut_meta-with};
+    ghost use Rattle.uefi_map.specs.private.memory.Keeping.{mut_meta-with};
 
     ghost same_buffer = { WriteToTheSame };
 

@@ -1,5 +1,6 @@
 ghost use Rattle.std.specs.Prelude.{◌≡◌};
-ghost use Rattle.uefi_map.specs.memory.Map.{IsMap, HasWholeStrides, meta_within};
+ghost use Rattle.uefi_map.specs.memory.Map.{IsMap, meta_within};
+ghost use Rattle.uefi_map.specs.private.memory.Map.{HasWholeStrides};
 
 use super::meta::MemoryMapMeta;
 use std::marker::Model;
@@ -15,7 +16,7 @@ pub struct Sizes {
 
 impl Model for Sizes {
     ghost use Rattle.uefi_map.specs.declared.memory.meta.MemoryMapMeta.{MemoryMapMeta};
-    ghost use Rattle.uefi_map.specs.memory.Map.{HasWholeStrides};
+    ghost use Rattle.uefi_map.specs.private.memory.Map.{HasWholeStrides};
 
     ghost Value = { MemoryMapMeta };
 

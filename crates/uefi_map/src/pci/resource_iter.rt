@@ -12,7 +12,7 @@ pub struct ResourceIter<'a> {
     rest: &'a [u8],
 }
 
-#[tactic(auto, using(crate::proofs::pci_lemmas::Records::resource_count))]
+#[tactic(auto, using(crate::proofs::pci::Records::resource_count))]
 impl<'a> ResourceIter<'a> {
     ghost use Rattle.uefi_map.specs.pci.Views.{resources_in, resources_left};
 
@@ -38,7 +38,7 @@ impl<'a> Iterator for ResourceIter<'a> {
 
     ghost remaining = { item_count resources_left };
 
-    #[tactic(auto, using(crate::proofs::pci_lemmas::Records::next_resource))]
+    #[tactic(auto, using(crate::proofs::pci::Records::next_resource))]
     fn next(&mut self) -> Option<QwordAddressSpaceDescriptor> {
         let (record, rest) = self.rest.split_at_checked(RECORD_LENGTH)?;
         self.rest = rest;
@@ -57,7 +57,7 @@ impl<'a> Iterator for ResourceIter<'a> {
     }
 }
 
-#[tactic(auto, using(crate::proofs::pci_lemmas::Records::resource_count))]
+#[tactic(auto, using(crate::proofs::pci::Records::resource_count))]
 impl<'a> ExactSizeIterator for ResourceIter<'a> {
     /// Returns the count of resources that are left.
     fn len(&self) -> usize {

@@ -76,7 +76,7 @@ impl<'a> TryFrom<&'a [u8]> for ResourceList<'a> {
 
     ghost try_from_gives = { λ bytes read. ReadsList resources_of bytes.now read };
 
-    #[tactic(auto, using(crate::proofs::pci_lemmas::Records::rest_within))]
+    #[tactic(auto, using(crate::proofs::pci::Records::rest_within))]
     fn try_from(bytes: &'a [u8]) -> Result<ResourceList<'a>, ResourceError> {
         let mut rest = bytes;
         while let Some(after) = skip_record(rest)? {

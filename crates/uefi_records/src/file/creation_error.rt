@@ -11,7 +11,7 @@ pub enum FileInfoCreationError {
 
 /// The text `provided buffer was too small. need at least N bytes`, without a newline.
 impl fmt::Display for FileInfoCreationError {
-    ghost use Rattle.uefi_records.specs.File.Texts.{creation_error_text};
+    ghost use Rattle.uefi_records.specs.file.Texts.{creation_error_text};
 
     ghost output = { λ error. Some (creation_error_text error) };
 

@@ -6,10 +6,11 @@ ghost use Rattle.uefi_base.specs.Buffer.{put_prefix, EndsAs};
 ghost use Rattle.uefi_base.specs.LittleEndian.{AreBytes};
 ghost use Rattle.uefi_base.specs.Views.{slice_units, text_units};
 ghost use Rattle.uefi_base.specs.Flags.{has_bits};
-ghost use Rattle.uefi_records.specs.Flags.Named.{directory_attribute};
-ghost use Rattle.uefi_records.specs.File.Name.{EndsWithName, FitName};
-ghost use Rattle.uefi_records.specs.File.FileInfo.{FitFile, size_in, file_fields, file_info_alignment, file_info_bytes, file_info_size, file_info_verdict, file_name_offset};
-ghost use Rattle.uefi_records.specs.File.Verdict.{FollowsVerdict};
+ghost use Rattle.uefi_records.specs.flags.Named.{directory_attribute};
+ghost use Rattle.uefi_records.specs.file.Name.{FitName};
+ghost use Rattle.uefi_records.specs.private.file.Name.{EndsWithName};
+ghost use Rattle.uefi_records.specs.file.FileInfo.{FitFile, size_in, file_fields, file_info_alignment, file_info_bytes, file_info_size, file_info_verdict, file_name_offset};
+ghost use Rattle.uefi_records.specs.file.Verdict.{FollowsVerdict};
 
 use crate::file::creation_error::FileInfoCreationError;
 use crate::file::identity::FileInfoIdentity;
@@ -76,10 +77,10 @@ pub struct FileInfo<'a> {
 }
 
 impl<'a> FileInfo<'a> {
-    ghost use Rattle.uefi_records.specs.Flags.Views.{attribute_bits};
-    ghost use Rattle.uefi_records.specs.Time.Views.{time_of};
-    ghost use Rattle.uefi_records.specs.File.Views.{file_fields_given, file_header_of, file_info_view};
-    ghost use Rattle.uefi_records.specs.File.Views.{stated_size, file_fields_of, file_name_of};
+    ghost use Rattle.uefi_records.specs.flags.Views.{attribute_bits};
+    ghost use Rattle.uefi_records.specs.time.Views.{time_of};
+    ghost use Rattle.uefi_records.specs.file.Views.{file_fields_given, file_header_of, file_info_view};
+    ghost use Rattle.uefi_records.specs.file.Views.{stated_size, file_fields_of, file_name_of};
 
     /// Reads the record in the first `written` bytes of the buffer, or in the whole buffer if it is
     /// shorter.
@@ -230,7 +231,7 @@ impl<'a> FileInfo<'a> {
     }
 
     // The bytes of the stated size and the fields.
-    #[tactic(auto, using(crate::proofs::Files::FieldsBack::header_back))]
+    #[tactic(auto, using(crate::proofs::file::FieldsBack::header_back))]
     fn header(&self) -> &'a [u8]
         ensures { result.now ≡ file_header_of self.now }
     {
@@ -258,7 +259,7 @@ impl<'a> FileInfo<'a> {
 
 /// Compares the stated sizes, all fields, and the units of the names.
 impl PartialEq for FileInfo<'_> {
-    ghost use Rattle.uefi_records.specs.File.Views.{file_info_key};
+    ghost use Rattle.uefi_records.specs.file.Views.{file_info_key};
 
     ghost eq = { λ x y. pointwise nat_eq (file_info_key x) (file_info_key y) };
 
@@ -270,7 +271,7 @@ impl PartialEq for FileInfo<'_> {
 }
 
 impl Eq for FileInfo<'_> {
-    ghost use Rattle.uefi_records.specs.File.Views.{file_info_key};
+    ghost use Rattle.uefi_records.specs.file.Views.{file_info_key};
 
     ghost laws = { on_equiv file_info_key nat_list_eq_equiv };
 }

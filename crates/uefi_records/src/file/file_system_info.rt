@@ -4,10 +4,11 @@ ghost use Rattle.std.specs.Cmp.Lexicographic.{pointwise, nat_list_eq_equiv};
 ghost use Rattle.std.specs.Borrow.{sem};
 ghost use Rattle.uefi_base.specs.Buffer.{put_prefix, EndsAs};
 ghost use Rattle.uefi_base.specs.Views.{slice_units, text_units};
-ghost use Rattle.uefi_records.specs.File.Name.{EndsWithName, FitName};
-ghost use Rattle.uefi_records.specs.File.FileInfo.{size_in};
-ghost use Rattle.uefi_records.specs.File.FileSystemInfo.{FitFileSystem, file_system_fields, file_system_info_alignment, file_system_info_bytes, file_system_info_size, file_system_info_verdict, label_offset, unused_bytes};
-ghost use Rattle.uefi_records.specs.File.Verdict.{FollowsVerdict};
+ghost use Rattle.uefi_records.specs.file.Name.{FitName};
+ghost use Rattle.uefi_records.specs.private.file.Name.{EndsWithName};
+ghost use Rattle.uefi_records.specs.file.FileInfo.{size_in};
+ghost use Rattle.uefi_records.specs.file.FileSystemInfo.{FitFileSystem, file_system_fields, file_system_info_alignment, file_system_info_bytes, file_system_info_size, file_system_info_verdict, label_offset, unused_bytes};
+ghost use Rattle.uefi_records.specs.file.Verdict.{FollowsVerdict};
 
 use crate::file::creation_error::FileInfoCreationError;
 use crate::file::identity::FileSystemInfoIdentity;
@@ -56,8 +57,8 @@ pub struct FileSystemInfo<'a> {
 }
 
 impl<'a> FileSystemInfo<'a> {
-    ghost use Rattle.uefi_records.specs.File.Views.{file_system_fields_given, file_system_info_view, file_system_numbers};
-    ghost use Rattle.uefi_records.specs.File.Views.{system_stated_size, file_system_fields_of, file_system_label_of};
+    ghost use Rattle.uefi_records.specs.file.Views.{file_system_fields_given, file_system_info_view, file_system_numbers};
+    ghost use Rattle.uefi_records.specs.file.Views.{system_stated_size, file_system_fields_of, file_system_label_of};
 
     /// Reads the record in the first `written` bytes of the buffer, or in the whole buffer if it is
     /// shorter.
@@ -212,7 +213,7 @@ impl<'a> FileSystemInfo<'a> {
 
 /// Compares the stated sizes, all fields, and the units of the labels, but not the unused bytes.
 impl PartialEq for FileSystemInfo<'_> {
-    ghost use Rattle.uefi_records.specs.File.Views.{file_system_info_key};
+    ghost use Rattle.uefi_records.specs.file.Views.{file_system_info_key};
 
     ghost eq = { λ x y. pointwise nat_eq (file_system_info_key x) (file_system_info_key y) };
 
@@ -224,7 +225,7 @@ impl PartialEq for FileSystemInfo<'_> {
 }
 
 impl Eq for FileSystemInfo<'_> {
-    ghost use Rattle.uefi_records.specs.File.Views.{file_system_info_key};
+    ghost use Rattle.uefi_records.specs.file.Views.{file_system_info_key};
 
     ghost laws = { on_equiv file_system_info_key nat_list_eq_equiv };
 }

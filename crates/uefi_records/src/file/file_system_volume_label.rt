@@ -4,9 +4,10 @@ ghost use Rattle.std.specs.Cmp.Lexicographic.{pointwise, nat_list_eq_equiv};
 ghost use Rattle.std.specs.Borrow.{sem};
 ghost use Rattle.uefi_base.specs.Buffer.{put_prefix, EndsAs};
 ghost use Rattle.uefi_base.specs.Views.{slice_units, text_units};
-ghost use Rattle.uefi_records.specs.File.Name.{EndsWithName, FitName};
-ghost use Rattle.uefi_records.specs.File.FileSystemInfo.{lone_label_offset, volume_label_alignment, volume_label_bytes, volume_label_size, volume_label_verdict};
-ghost use Rattle.uefi_records.specs.File.Verdict.{FollowsVerdict};
+ghost use Rattle.uefi_records.specs.file.Name.{FitName};
+ghost use Rattle.uefi_records.specs.private.file.Name.{EndsWithName};
+ghost use Rattle.uefi_records.specs.file.FileSystemInfo.{lone_label_offset, volume_label_alignment, volume_label_bytes, volume_label_size, volume_label_verdict};
+ghost use Rattle.uefi_records.specs.file.Verdict.{FollowsVerdict};
 
 use crate::file::creation_error::FileInfoCreationError;
 use crate::file::identity::FileSystemVolumeLabelIdentity;
@@ -36,7 +37,7 @@ pub struct FileSystemVolumeLabel<'a> {
 }
 
 impl<'a> FileSystemVolumeLabel<'a> {
-    ghost use Rattle.uefi_records.specs.File.Views.{volume_label_view, volume_label_of};
+    ghost use Rattle.uefi_records.specs.file.Views.{volume_label_view, volume_label_of};
 
     /// Reads the record in the first `written` bytes of the buffer, or in the whole buffer if it is
     /// shorter.
@@ -116,7 +117,7 @@ impl<'a> FileSystemVolumeLabel<'a> {
 
 /// Compares the units of the labels.
 impl PartialEq for FileSystemVolumeLabel<'_> {
-    ghost use Rattle.uefi_records.specs.File.Views.{volume_label_of};
+    ghost use Rattle.uefi_records.specs.file.Views.{volume_label_of};
 
     ghost eq = { λ x y. pointwise nat_eq (volume_label_of x) (volume_label_of y) };
 
@@ -128,7 +129,7 @@ impl PartialEq for FileSystemVolumeLabel<'_> {
 }
 
 impl Eq for FileSystemVolumeLabel<'_> {
-    ghost use Rattle.uefi_records.specs.File.Views.{volume_label_of};
+    ghost use Rattle.uefi_records.specs.file.Views.{volume_label_of};
 
     ghost laws = { on_equiv volume_label_of nat_list_eq_equiv };
 }

@@ -4,8 +4,8 @@ ghost use Rattle.std.specs.Prelude.{◌≡◌, ◌==◌, ◌≤◌, ◌+◌, ◌
 ghost use Rattle.std.specs.List.{position_from, prefix_len};
 ghost use Rattle.std.specs.Simd.Lanes.{chunk};
 ghost use Rattle.uefi_base.specs.Unaligned.{units_of};
-ghost use Rattle.uefi_records.specs.File.Name.{first_zero, record_end, unit_length};
-ghost use Rattle.uefi_records.specs.File.Nonzero.{AreNonzero, AreNonzeroInEach, page_units, pages as page_count};
+ghost use Rattle.uefi_records.specs.file.Name.{first_zero, record_end, unit_length};
+ghost use Rattle.uefi_records.specs.private.file.Nonzero.{AreNonzero, AreNonzeroInEach, page_units, pages as page_count};
 
 use std::simd::prelude::*;
 use uefi_base::UnalignedSlice;
@@ -108,7 +108,7 @@ fn nonzero_run(bytes: &[u8], offset: usize) -> usize
 }
 
 /// The index of the first zero among the units from `start` on, one unit at a time.
-#[tactic(auto, using(crate::proofs::Files::FirstZero::whole_units, uefi_base::proofs::UnitsOfBytes::half_as_many_units))]
+#[tactic(auto, using(crate::proofs::file::FirstZero::whole_units, uefi_base::proofs::UnitsOfBytes::half_as_many_units))]
 fn first_zero_from(bytes: &[u8], start: usize) -> Option<usize>
     requires { unit_length * start ≤ length bytes.now }
     ensures first { result ≡ position_from (λ unit. unit == 0) start

@@ -1,7 +1,7 @@
 //! The GUIDs of the three records. Each is the constant of a type without a lifetime, from which the
 //! record has it.
 
-ghost use Rattle.uefi_records.specs.File.Identity.{file_info_guid, file_system_info_guid, volume_label_guid};
+ghost use Rattle.uefi_records.specs.file.Identity.{file_info_guid, file_system_info_guid, volume_label_guid};
 
 use uefi_base::{Guid, Identify};
 

@@ -3,16 +3,17 @@
 
 ghost use Rattle.std.specs.Prelude.{◌≡◌, ◌↔◌, ◌+◌, ◌*◌, ◌<◌, ◌≤◌, ◌^◌, length, take, IsOk, IfOk, IfErr, MatchResult};
 ghost use Rattle.uefi_base.specs.Views.{slice_units};
-ghost use Rattle.uefi_records.specs.File.FileInfo.{file_info_alignment, file_name_offset};
-ghost use Rattle.uefi_records.specs.File.Name.{EndsWithName, FitName, record_end, record_size, round_up, units_from};
-ghost use Rattle.uefi_records.specs.File.Verdict.{verdict, accepted, Refuses};
+ghost use Rattle.uefi_records.specs.file.FileInfo.{file_info_alignment, file_name_offset};
+ghost use Rattle.uefi_records.specs.file.Name.{FitName, record_end, record_size, round_up, units_from};
+ghost use Rattle.uefi_records.specs.private.file.Name.{EndsWithName};
+ghost use Rattle.uefi_records.specs.file.Verdict.{verdict, accepted, Refuses};
 
 use crate::file::creation_error::FileInfoCreationError;
 use crate::file::first_zero::{UNIT_LENGTH, first_zero_unit};
 use uefi_base::{Error, Status, UnalignedSlice};
 
 // The units of the name from the offset on.
-#[tactic(auto, using(crate::proofs::Files::Names::FitName_from))]
+#[tactic(auto, using(crate::proofs::file::Names::FitName_from))]
 pub(crate) fn name_at<'a>(bytes: &'a [u8], offset: usize) -> UnalignedSlice<'a>
     requires { EndsWithName offset bytes.now }
     ensures units { slice_units result ≡ units_from offset bytes.now }

@@ -4,10 +4,10 @@
 ghost use Rattle.std.specs.Prelude.{◌≡◌, ◌↔◌, ◌≤◌, length, IsOk, IfOk, IfErr, OnOk, OnErr};
 ghost use Rattle.uefi_base.specs.Buffer.{put_prefix};
 ghost use Rattle.uefi_base.specs.Views.{text_units};
-ghost use Rattle.uefi_records.specs.File.Name.{FitName, record_end};
-ghost use Rattle.uefi_records.specs.File.FileInfo.{FitFile, file_info_bytes, file_info_size, file_name_offset};
-ghost use Rattle.uefi_records.specs.File.FileSystemInfo.{FitFileSystem, file_system_info_bytes, file_system_info_size, label_offset, lone_label_offset, unused_bytes, volume_label_bytes, volume_label_size};
-ghost use Rattle.uefi_records.specs.File.Views.{file_fields_given, file_system_fields_given};
+ghost use Rattle.uefi_records.specs.file.Name.{FitName, record_end};
+ghost use Rattle.uefi_records.specs.file.FileInfo.{FitFile, file_info_bytes, file_info_size, file_name_offset};
+ghost use Rattle.uefi_records.specs.file.FileSystemInfo.{FitFileSystem, file_system_info_bytes, file_system_info_size, label_offset, lone_label_offset, unused_bytes, volume_label_bytes, volume_label_size};
+ghost use Rattle.uefi_records.specs.file.Views.{file_fields_given, file_system_fields_given};
 
 use crate::file::creation_error::FileInfoCreationError;
 use crate::file::name::room_for;
@@ -29,7 +29,7 @@ use uefi_base::buffer::{put, put_units};
 ///
 /// [`FileInfoCreationError::InsufficientStorage`], with the record's size, exactly if the buffer is
 /// shorter than that. Every byte then stays as it was.
-#[tactic(auto, using(crate::proofs::Files::Names::FitName_of_text))]
+#[tactic(auto, using(crate::proofs::file::Names::FitName_of_text))]
 pub fn write_file_info(
     buffer: &mut [u8],
     file_size: u64,
@@ -89,7 +89,7 @@ pub fn write_file_info(
 ///
 /// [`FileInfoCreationError::InsufficientStorage`], with the record's size, exactly if the buffer is
 /// shorter than that. Every byte then stays as it was.
-#[tactic(auto, using(crate::proofs::Files::Names::FitName_of_text))]
+#[tactic(auto, using(crate::proofs::file::Names::FitName_of_text))]
 pub fn write_file_system_info(
     buffer: &mut [u8],
     read_only: bool,
@@ -137,7 +137,7 @@ pub fn write_file_system_info(
 ///
 /// [`FileInfoCreationError::InsufficientStorage`], with the record's size, exactly if the buffer is
 /// shorter than that. Every byte then stays as it was.
-#[tactic(auto, using(crate::proofs::Files::Names::FitName_of_text))]
+#[tactic(auto, using(crate::proofs::file::Names::FitName_of_text))]
 pub fn write_file_system_volume_label(
     buffer: &mut [u8],
     volume_label: &CStr16,

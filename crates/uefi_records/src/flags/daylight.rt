@@ -1,7 +1,7 @@
 ghost use Rattle.std.specs.Prelude.{⊤, ◌≡◌, ◌↔◌, [], ◌∷◌, codes, IsTrue, IsSome, IfSome};
 ghost use Rattle.std.specs.Int.RustNames.{bit_or};
 ghost use Rattle.uefi_base.specs.Flags.{has_bits};
-ghost use Rattle.uefi_records.specs.Flags.Named.{named_daylight};
+ghost use Rattle.uefi_records.specs.flags.Named.{named_daylight};
 
 use bitflags::{Flag, Flags, bitflag_items};
 
@@ -23,7 +23,7 @@ bitflag_items! {
 }
 
 impl Daylight {
-    ghost use Rattle.uefi_records.specs.Flags.Views.{daylight_bits};
+    ghost use Rattle.uefi_records.specs.flags.Views.{daylight_bits};
 
     /// Returns the set without flags.
     pub fn empty() -> Daylight

@@ -1,7 +1,7 @@
 ghost use Rattle.std.specs.Prelude.{⊤, ◌≡◌, ◌↔◌, [], ◌∷◌, codes, IsTrue, IsSome, IfSome};
 ghost use Rattle.std.specs.Int.RustNames.{bit_or};
 ghost use Rattle.uefi_base.specs.Flags.{has_bits};
-ghost use Rattle.uefi_records.specs.Flags.Named.{named_attributes};
+ghost use Rattle.uefi_records.specs.flags.Named.{named_attributes};
 
 use bitflags::{Flag, Flags, bitflag_items};
 
@@ -31,7 +31,7 @@ bitflag_items! {
 }
 
 impl FileAttribute {
-    ghost use Rattle.uefi_records.specs.Flags.Views.{attribute_bits};
+    ghost use Rattle.uefi_records.specs.flags.Views.{attribute_bits};
 
     /// Returns the set without flags.
     pub fn empty() -> FileAttribute

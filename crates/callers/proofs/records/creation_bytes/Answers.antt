@@ -4,10 +4,10 @@ use Rattle.std.proofs.lemmas.Grind.{common_steps}
 use Rattle.std.proofs.lemmas.List.{append-nil, length-append, length-drop, length-take}
 use Rattle.uefi_base.specs.LittleEndian.{AreBytes}
 use Rattle.uefi_base.specs.Unaligned.{units_of}
-use Rattle.uefi_records.specs.Time.Fields.{TimeFields, time_bytes, time_in}
-use Rattle.uefi_records.specs.File.FileInfo.{file_info_verdict}
-use Rattle.uefi_records.specs.File.Name.{first_zero}
-use Rattle.uefi_records.specs.File.Verdict.{accepted, judged}
+use Rattle.uefi_records.specs.time.Fields.{TimeFields, time_bytes, time_in}
+use Rattle.uefi_records.specs.file.FileInfo.{file_info_verdict}
+use Rattle.uefi_records.specs.file.Name.{first_zero}
+use Rattle.uefi_records.specs.file.Verdict.{accepted, judged}
 use Rattle.callers.proofs.records.creation_bytes.Goals as goal
 
 -- A time has sixteen bytes.

@@ -3,10 +3,10 @@ use Rattle.std.proofs.lemmas.Result.{IfOk-weaker}
 use Rattle.uefi_base.specs.Buffer.{put_prefix}
 use Rattle.uefi_base.specs.Views.{text_units}
 use Rattle.uefi_records.specs.Laws.{FileInfoReadsBack}
-use Rattle.uefi_records.specs.File.Name.{FitName, record_end}
-use Rattle.uefi_records.specs.File.FileInfo.{FileFields, FitFile, file_fields, file_info_bytes, file_info_size, file_info_verdict, file_name_offset, size_in}
-use Rattle.uefi_records.specs.File.Verdict.{accepted}
-use Rattle.uefi_records.specs.File.Views.{file_fields_given}
+use Rattle.uefi_records.specs.file.Name.{FitName, record_end}
+use Rattle.uefi_records.specs.file.FileInfo.{FileFields, FitFile, file_fields, file_info_bytes, file_info_size, file_info_verdict, file_name_offset, size_in}
+use Rattle.uefi_records.specs.file.Verdict.{accepted}
+use Rattle.uefi_records.specs.file.Views.{file_fields_given}
 use Rattle.callers.proofs.NamedRecords.{IfSome_of_ok, is_named}
 use Rattle.callers.proofs.records.file_read_back.Goals as goal
 

@@ -1,6 +1,6 @@
 use Rattle.std.proofs.Common.{sym, ◌∙◌}
 use Rattle.std.proofs.lemmas.Slice.Eq.{bytes_eq-Decides}
-use Rattle.uefi_records.specs.File.Views.{file_info_key}
+use Rattle.uefi_records.specs.file.Views.{file_info_key}
 use Rattle.callers.proofs.records.is_same_file.Goals as goal
 
 -- Equality compares keys, and keys are equal exactly if the accessors return the same.

@@ -1,7 +1,7 @@
 use Rattle.std.proofs.Common.{◌≡◌, ◌∙◌, ap, sym, ℕ, List}
 use Rattle.std.proofs.lemmas.Result.{IfOk-weaker}
 use Rattle.uefi_records.specs.Laws.{TimesReadBack}
-use Rattle.uefi_records.specs.Time.Fields.{StandsIn, TimeFields, time_in, without_pads}
+use Rattle.uefi_records.specs.time.Fields.{StandsIn, TimeFields, time_in, without_pads}
 use Rattle.callers.proofs.time.first_time.Goals as goal
 
 -- A time that stands in bytes is the one that is read there.

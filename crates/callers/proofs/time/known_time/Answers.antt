@@ -1,6 +1,6 @@
 use Rattle.std.proofs.Common.{◌∙◌, ap}
 use Rattle.std.proofs.lemmas.Result.{IfOk-weaker}
-use Rattle.uefi_records.specs.Time.Fields.{without_pads}
+use Rattle.uefi_records.specs.time.Fields.{without_pads}
 use Rattle.callers.proofs.time.known_time.Goals as goal
 
 -- The time that is read stands in the bytes, as the known one does, and at most one time does.

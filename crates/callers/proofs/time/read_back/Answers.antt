@@ -1,6 +1,6 @@
 use Rattle.std.proofs.Common.{◌∙◌, subst}
 use Rattle.std.specs.Prelude.{IfErr}
-use Rattle.uefi_records.specs.Time.Reading.{RefusesTime}
+use Rattle.uefi_records.specs.time.Reading.{RefusesTime}
 use Rattle.callers.proofs.time.read_back.Goals as goal
 
 -- The bytes that are read are those of the time.

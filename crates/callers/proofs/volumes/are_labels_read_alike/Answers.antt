@@ -1,6 +1,6 @@
 use Rattle.std.proofs.Common.{sym, ◌∙◌}
 use Rattle.std.proofs.lemmas.Slice.Eq.{bytes_eq-Decides}
-use Rattle.uefi_records.specs.File.Views.{volume_label_of}
+use Rattle.uefi_records.specs.file.Views.{volume_label_of}
 use Rattle.callers.proofs.NamedRecords.{same_error, same_name, no_error}
 use Rattle.callers.proofs.volumes.are_labels_read_alike.Goals as goal
 

@@ -1,7 +1,7 @@
 use Rattle.std.proofs.Common.{sym, ◌∙◌, ◌≡◌}
 use Rattle.std.proofs.lemmas.Slice.Eq.{bytes_eq-Decides}
 use Rattle.uefi_records.specs.declared.file.file_system_info.FileSystemInfo.{FileSystemInfo}
-use Rattle.uefi_records.specs.File.Views.{file_system_fields_of, file_system_info_key, file_system_label_of, system_stated_size}
+use Rattle.uefi_records.specs.file.Views.{file_system_fields_of, file_system_info_key, file_system_label_of, system_stated_size}
 use Rattle.callers.proofs.NamedRecords.{same_error, same_name, no_error}
 use Rattle.callers.proofs.volumes.are_volumes_read_alike.Goals as goal
 

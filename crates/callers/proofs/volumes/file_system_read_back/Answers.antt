@@ -4,11 +4,11 @@ use Rattle.std.proofs.lemmas.Result.{IfOk-weaker}
 use Rattle.uefi_base.specs.Buffer.{put_prefix}
 use Rattle.uefi_base.specs.Views.{text_units}
 use Rattle.uefi_records.specs.Laws.{FileSystemInfoReadsBack}
-use Rattle.uefi_records.specs.File.Name.{FitName, record_end}
-use Rattle.uefi_records.specs.File.FileInfo.{size_in}
-use Rattle.uefi_records.specs.File.FileSystemInfo.{FileSystemFields, FitFileSystem, file_system_fields, file_system_info_bytes, file_system_info_size, file_system_info_verdict, label_offset, unused_bytes, unused_length}
-use Rattle.uefi_records.specs.File.Verdict.{accepted}
-use Rattle.uefi_records.specs.File.Views.{file_system_fields_given}
+use Rattle.uefi_records.specs.file.Name.{FitName, record_end}
+use Rattle.uefi_records.specs.file.FileInfo.{size_in}
+use Rattle.uefi_records.specs.file.FileSystemInfo.{FileSystemFields, FitFileSystem, file_system_fields, file_system_info_bytes, file_system_info_size, file_system_info_verdict, label_offset, unused_bytes, unused_length}
+use Rattle.uefi_records.specs.file.Verdict.{accepted}
+use Rattle.uefi_records.specs.file.Views.{file_system_fields_given}
 use Rattle.callers.proofs.NamedRecords.{IfSome_of_ok, is_named, is_read}
 use Rattle.callers.proofs.volumes.file_system_read_back.Goals as goal
 

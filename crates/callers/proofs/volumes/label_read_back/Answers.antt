@@ -1,9 +1,9 @@
 use Rattle.std.proofs.Common.{arith, refl, sym, ap, subst, ◌≡◌, ◌≤◌, ℕ, List, length, take, drop}
 use Rattle.uefi_base.specs.Buffer.{put_prefix}
 use Rattle.uefi_records.specs.Laws.{VolumeLabelReadsBack}
-use Rattle.uefi_records.specs.File.Name.{FitName, record_end}
-use Rattle.uefi_records.specs.File.FileSystemInfo.{lone_label_offset, volume_label_bytes, volume_label_size, volume_label_verdict}
-use Rattle.uefi_records.specs.File.Verdict.{accepted}
+use Rattle.uefi_records.specs.file.Name.{FitName, record_end}
+use Rattle.uefi_records.specs.file.FileSystemInfo.{lone_label_offset, volume_label_bytes, volume_label_size, volume_label_verdict}
+use Rattle.uefi_records.specs.file.Verdict.{accepted}
 use Rattle.callers.proofs.NamedRecords.{IfSome_of_ok, is_named}
 use Rattle.callers.proofs.volumes.label_read_back.Goals as goal
 

@@ -1,4 +1,4 @@
-use Rattle.uefi_map.proofs.memory_lemmas.StrideFree.{same_entries, writes_one}
+use Rattle.uefi_map.proofs.memory.StrideFree.{same_entries, writes_one}
 use Rattle.uefi_map.proofs.laws.stride_free.Goals as goal
 
 pub returns : goal.returns

@@ -1,5 +1,5 @@
 use Rattle.std.proofs.Common.{◌≡◌, true, false}
-use Rattle.uefi_path.specs.Stop.{Stops}
+use Rattle.uefi_path.specs.private.Stop.{Stops}
 use Rattle.uefi_path.specs.Views.{node_of}
 use Rattle.uefi_path.proofs.Passing.{HasNodes-after, passed_more, passed_end}
 use Rattle.uefi_path.proofs.Steps.{HasNodes-node}

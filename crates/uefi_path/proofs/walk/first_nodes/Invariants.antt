@@ -1,6 +1,6 @@
 use Rattle.std.proofs.Common.{length}
 use Rattle.uefi_path.specs.Path.{HasNodes}
-use Rattle.uefi_path.specs.Stop.{Stops}
+use Rattle.uefi_path.specs.private.Stop.{Stops}
 use Rattle.uefi_path.proofs.Passing.{HasPassed}
 use Rattle.uefi_path.proofs.walk.first_nodes.Given as goal
 

@@ -1,6 +1,6 @@
 use Rattle.std.proofs.Common.{◌≡◌, true, false}
 use Rattle.std.proofs.lemmas.Result.{MatchResult-from_err}
-use Rattle.uefi_path.specs.Stop.{Stops}
+use Rattle.uefi_path.specs.private.Stop.{Stops}
 use Rattle.uefi_path.specs.Views.{node_of}
 use Rattle.uefi_path.proofs.Passing.{passed_more, passed_end, passed_nowhere}
 use Rattle.uefi_path.proofs.walk.split_nodes.Goals as goal

@@ -1,5 +1,5 @@
 use Rattle.std.proofs.Common.{length}
-use Rattle.uefi_path.specs.Stop.{Stops}
+use Rattle.uefi_path.specs.private.Stop.{Stops}
 use Rattle.uefi_path.proofs.Passing.{HasPassed}
 use Rattle.uefi_path.proofs.walk.split_nodes.Given as goal
 

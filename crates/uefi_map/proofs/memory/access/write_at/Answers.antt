@@ -1,7 +1,7 @@
 use Rattle.std.proofs.Common.{arith, ap, ◌∙◌}
 use Rattle.std.proofs.lemmas.Grind.{common_steps}
 use Rattle.uefi_map.specs.memory.Descriptor.{descriptor}
-use Rattle.uefi_map.proofs.memory_lemmas.StrideFree.{writes_one}
+use Rattle.uefi_map.proofs.memory.StrideFree.{writes_one}
 use Rattle.uefi_map.proofs.memory.access.write_at.Goals as goal
 
 pub returns-clause-written : goal.returns-clause-written

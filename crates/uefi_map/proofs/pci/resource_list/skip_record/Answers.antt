@@ -1,7 +1,7 @@
 use Rattle.std.proofs.Common.{rules, arith}
 use Rattle.uefi_map.specs.pci.Resource.{record_tag}
 use Rattle.uefi_map.specs.pci.ResourceList.{BeginWith}
-use Rattle.uefi_map.proofs.pci_lemmas.Records.{first_record}
+use Rattle.uefi_map.proofs.pci.Records.{first_record}
 use Rattle.uefi_map.proofs.pci.resource_list.skip_record.Goals as goal
 
 pub returns-in-Some-eq138-2-clause-record : goal.returns-in-Some-eq138-2-clause-record

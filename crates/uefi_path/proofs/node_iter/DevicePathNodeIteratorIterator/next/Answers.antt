@@ -1,5 +1,5 @@
 use Rattle.std.proofs.Common.{◌≡◌, [], ◌∷◌, true, false, rules}
-use Rattle.uefi_path.specs.Stop.{Stops}
+use Rattle.uefi_path.specs.private.Stop.{Stops}
 use Rattle.uefi_path.specs.Views.{node_of, nodes_left}
 use Rattle.uefi_path.proofs.Steps.{HasNodes-node, HasNodes-encoded, none_before_end, after_node, next_node}
 use Rattle.uefi_path.proofs.node_iter.DevicePathNodeIteratorIterator.next.Goals as goal

@@ -1,6 +1,6 @@
 use Rattle.std.proofs.Common.{arith}
 use Rattle.uefi_base.specs.Unaligned.{units_of}
-use Rattle.uefi_records.proofs.Files.NonzeroPages.{longer_in_each, whole_pages}
+use Rattle.uefi_records.proofs.file.NonzeroPages.{longer_in_each, whole_pages}
 use Rattle.uefi_records.proofs.file.first_zero.are_nonzero.Goals as goal
 
 pub loop-index-preserved : goal.loop-index-preserved

@@ -1,6 +1,6 @@
 use Rattle.std.proofs.Common.{◌≡◌, ◌-◌, ◌%◌}
 use Rattle.uefi_base.specs.Unaligned.{units_of}
-use Rattle.uefi_records.specs.File.Nonzero.{AreNonzeroInEach, pages, page_units}
+use Rattle.uefi_records.specs.private.file.Nonzero.{AreNonzeroInEach, pages, page_units}
 use Rattle.uefi_records.proofs.file.first_zero.are_nonzero.Given as goal
 
 abbrev pub invariant-loop-index : goal.invariant-loop-index

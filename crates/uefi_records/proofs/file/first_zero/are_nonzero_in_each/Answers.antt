@@ -1,7 +1,7 @@
 use Rattle.std.proofs.Common.{◌+◌, ◌*◌, arith}
 use Rattle.uefi_base.specs.Unaligned.{units_of}
-use Rattle.uefi_records.specs.File.Nonzero.{page_units}
-use Rattle.uefi_records.proofs.Files.NonzeroPages.{block_nonzero, one_page_more}
+use Rattle.uefi_records.specs.private.file.Nonzero.{page_units}
+use Rattle.uefi_records.proofs.file.NonzeroPages.{block_nonzero, one_page_more}
 use Rattle.uefi_records.proofs.file.first_zero.are_nonzero_in_each.Goals as goal
 
 pub loop-page-preserved : goal.loop-page-preserved

@@ -1,5 +1,5 @@
 use Rattle.uefi_base.specs.Unaligned.{units_of}
-use Rattle.uefi_records.specs.File.Nonzero.{AreNonzeroInEach}
+use Rattle.uefi_records.specs.private.file.Nonzero.{AreNonzeroInEach}
 use Rattle.uefi_records.proofs.file.first_zero.are_nonzero_in_each.Given as goal
 
 abbrev pub invariant-loop-page : goal.invariant-loop-page

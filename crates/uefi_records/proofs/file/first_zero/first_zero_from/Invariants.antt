@@ -3,7 +3,7 @@ use Rattle.std.specs.List.{position_from}
 use Rattle.std.specs.Prelude.{◌==◌}
 use Rattle.uefi_base.specs.Unaligned.{units_of}
 use Rattle.uefi_base.specs.Views.{units_left}
-use Rattle.uefi_records.specs.File.Name.{unit_length}
+use Rattle.uefi_records.specs.file.Name.{unit_length}
 use Rattle.uefi_records.proofs.file.first_zero.first_zero_from.Given as goal
 
 -- The first zero is the first of the units that are left, counted from the index on.

@@ -1,5 +1,5 @@
 use Rattle.std.proofs.Common.{◌==◌, sym, ◌∙◌, arith}
-use Rattle.uefi_records.proofs.Files.UnitLanes.{stops_in_block, passes_block}
+use Rattle.uefi_records.proofs.file.UnitLanes.{stops_in_block, passes_block}
 use Rattle.uefi_records.proofs.file.first_zero.first_zero_unit.Goals as goal
 
 pub returns-then-run-lt-LANES : goal.returns-then-run-lt-LANES

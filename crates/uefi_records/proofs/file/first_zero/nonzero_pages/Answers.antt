@@ -1,8 +1,8 @@
 use Rattle.std.proofs.Common.{◌≡◌, ◌*◌, ◌∙◌, take, ap, subst, arith}
 use lib.Lanes.{chunk}
 use Rattle.uefi_base.specs.Unaligned.{units_of}
-use Rattle.uefi_records.specs.File.Nonzero.{AreNonzero, page_units, pages}
-use Rattle.uefi_records.proofs.Files.NonzeroPages.{passes_nonzero}
+use Rattle.uefi_records.specs.private.file.Nonzero.{AreNonzero, page_units, pages}
+use Rattle.uefi_records.proofs.file.NonzeroPages.{passes_nonzero}
 use Rattle.uefi_records.proofs.file.first_zero.nonzero_pages.Goals as goal
 
 pub loop-index-preserved : goal.loop-index-preserved

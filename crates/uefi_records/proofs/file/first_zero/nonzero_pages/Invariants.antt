@@ -2,7 +2,7 @@ use Rattle.std.proofs.Common.{◌≡◌, ◌≤◌, ◌*◌, ◌-◌, length, dr
 use Rattle.std.specs.List.{position_from}
 use Rattle.std.specs.Prelude.{◌==◌}
 use Rattle.uefi_base.specs.Unaligned.{units_of}
-use Rattle.uefi_records.specs.File.Name.{first_zero, unit_length}
+use Rattle.uefi_records.specs.file.Name.{first_zero, unit_length}
 use Rattle.uefi_records.proofs.file.first_zero.nonzero_pages.Given as goal
 
 -- No unit before the index is zero.

@@ -4,7 +4,7 @@ use lib.Count.{count_trailing_zeros}
 use lib.Lanes.{chunk, digits_l, number_l}
 use Rattle.std.proofs.lemmas.Simd.{length-chunk, bitmask_splat, leading_from_mask_l, trailing_mask_l, below_from_Fits, chunk-fits}
 use Rattle.uefi_base.specs.Unaligned.{units_of}
-use Rattle.uefi_records.proofs.Files.UnitLanes.{lanes_are_units}
+use Rattle.uefi_records.proofs.file.UnitLanes.{lanes_are_units}
 use Rattle.uefi_records.proofs.file.first_zero.nonzero_run.Goals as goal
 
 pub returns-then-zeros-eq0 : goal.returns-then-zeros-eq0

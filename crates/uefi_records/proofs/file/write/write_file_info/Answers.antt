@@ -2,8 +2,8 @@ use Rattle.std.proofs.Common.{arith, refl, ap, ◌∙◌, ◌≤◌, ℕ, List, 
 use Rattle.uefi_base.specs.LittleEndian.{u64_bytes}
 use Rattle.uefi_base.specs.Unaligned.{unit_bytes}
 use Rattle.uefi_base.proofs.Parts.{none_put, then_put}
-use Rattle.uefi_records.specs.Time.Fields.{time_bytes}
-use Rattle.uefi_records.specs.File.FileInfo.{file_header, file_info_size, file_name_offset}
+use Rattle.uefi_records.specs.time.Fields.{time_bytes}
+use Rattle.uefi_records.specs.file.FileInfo.{file_header, file_info_size, file_name_offset}
 use Rattle.uefi_records.proofs.file.write.write_file_info.Goals as goal
 
 pub returns-clause-written : goal.returns-clause-written

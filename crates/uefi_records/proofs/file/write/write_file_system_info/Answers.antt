@@ -4,7 +4,7 @@ use mir.Val.{bool_byte}
 use Rattle.uefi_base.specs.LittleEndian.{u64_bytes}
 use Rattle.uefi_base.specs.Unaligned.{unit_bytes}
 use Rattle.uefi_base.proofs.Parts.{none_put, then_put, then_kept}
-use Rattle.uefi_records.specs.File.FileSystemInfo.{file_system_header, file_system_info_size, label_offset, unused_length}
+use Rattle.uefi_records.specs.file.FileSystemInfo.{file_system_header, file_system_info_size, label_offset, unused_length}
 use Rattle.uefi_records.proofs.file.write.write_file_system_info.Goals as goal
 
 byte_of : (read_only : Bool) → ◌≡◌ {A = List ℕ} (bool_byte read_only ∷ []) ((if read_only then 1 else 0) ∷ [])

@@ -1,6 +1,6 @@
 use Rattle.std.proofs.Common.{arith, ◌∙◌, ap, to_z-of_z, rules, w16}
 use Rattle.std.specs.Int.{cast_signed}
-use Rattle.uefi_records.proofs.Times.ReadBack.{made_stands_in}
+use Rattle.uefi_records.proofs.time.ReadBack.{made_stands_in}
 use Rattle.uefi_records.proofs.time.Time.read.Goals as goal
 
 pub returns-clause-stands : goal.returns-clause-stands

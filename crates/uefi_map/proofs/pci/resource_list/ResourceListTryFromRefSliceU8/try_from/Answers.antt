@@ -2,8 +2,8 @@ use Rattle.std.proofs.Common.{rules, [], ◌∷◌, ◌++◌, sym, subst, Err, a
 use Rattle.std.proofs.lemmas.Result.{err_from_is_err_and}
 use Rattle.uefi_map.specs.pci.ResourceList.{BeginWith, end_tag, HaveOneList, ReadsList}
 use Rattle.uefi_map.specs.pci.Views.{resources_of, resources_in}
-use Rattle.uefi_map.proofs.pci_lemmas.OneList.{have_one_fault, have_one_list}
-use Rattle.uefi_map.proofs.pci_lemmas.Records.{more_records, are_read}
+use Rattle.uefi_map.proofs.pci.OneList.{have_one_fault, have_one_list}
+use Rattle.uefi_map.proofs.pci.Records.{more_records, are_read}
 use Rattle.uefi_map.proofs.pci.resource_list.ResourceListTryFromRefSliceU8.try_from.Goals as goal
 
 pub returns-in_err-after : goal.returns-in_err-after

@@ -1,12 +1,12 @@
 -- The buffer is lent to the writer, comes back, and is then shared with the view until its loan ends.
-use Rattle.uefi_records.proofs.Files.WriterNames.{◌≡◌, refl, ℕ, List, [], ◌∷◌, full_share, ftrue, flft, id⊢, named, tables, ‵, ◌⊛◌, ◌$◌, ◌∵◌, !, qed, done, keep, fsplit, suffices, whole, sub, agg, enter, addr, from, fld, hop, stop, and_then, no_more, returns, alloc_all, pass_all, free_all, look_at, look_in_at, get, get_in, sets, lands_as, length, u8, usize, no, owns, plain, mut_slice_of, named_lft, mut_slice_vals, mut_slice_Tells, lasts, triple_of, framed, Stays, walk_of, stay_dropped, Goes-spent_slice, ends_at, MatchResult, Result_row, Result_laws, proved, Fml, types_at, valss, all_Typed, mut_slice_Lawful, put_prefix, Error_row, Error_laws, lends_to, shares_with, typed, finishes, opens, Arg, slots, stays, spelled, told, all_go, lawfuls, Nothings, nothings, Written_laws, WroteRecord, MadeRecord, record_seen_in, record_made_of, number64, text16}
+use Rattle.uefi_records.proofs.file.WriterNames.{◌≡◌, refl, ℕ, List, [], ◌∷◌, full_share, ftrue, flft, id⊢, named, tables, ‵, ◌⊛◌, ◌$◌, ◌∵◌, !, qed, done, keep, fsplit, suffices, whole, sub, agg, enter, addr, from, fld, hop, stop, and_then, no_more, returns, alloc_all, pass_all, free_all, look_at, look_in_at, get, get_in, sets, lands_as, length, u8, usize, no, owns, plain, mut_slice_of, named_lft, mut_slice_vals, mut_slice_Tells, lasts, triple_of, framed, Stays, walk_of, stay_dropped, Goes-spent_slice, ends_at, MatchResult, Result_row, Result_laws, proved, Fml, types_at, valss, all_Typed, mut_slice_Lawful, put_prefix, Error_row, Error_laws, lends_to, shares_with, typed, finishes, opens, Arg, slots, stays, spelled, told, all_go, lawfuls, Nothings, nothings, Written_laws, WroteRecord, MadeRecord, record_seen_in, record_made_of, number64, text16}
 use Rattle.uefi_base.proofs.Written.{and_also}
-use Rattle.uefi_records.specs.File.Name.{FitName}
-use Rattle.uefi_records.specs.File.FileInfo.{FileFields, FitFile, file_header, file_info_alignment, file_info_bytes, file_info_size, file_name_offset}
-use Rattle.uefi_records.specs.File.Views.{file_fields_given, file_info_view}
-use Rattle.uefi_records.proofs.Files.FieldsBack.{length-file_header}
-use Rattle.uefi_records.proofs.Files.FileInfoArgs.{time, attributes}
-use Rattle.uefi_records.proofs.Files.Written.{file_info_made}
+use Rattle.uefi_records.specs.file.Name.{FitName}
+use Rattle.uefi_records.specs.file.FileInfo.{FileFields, FitFile, file_header, file_info_alignment, file_info_bytes, file_info_size, file_name_offset}
+use Rattle.uefi_records.specs.file.Views.{file_fields_given, file_info_view}
+use Rattle.uefi_records.proofs.file.FieldsBack.{length-file_header}
+use Rattle.uefi_records.proofs.file.FileInfoArgs.{time, attributes}
+use Rattle.uefi_records.proofs.file.Written.{file_info_made}
 use Rattle.uefi_records.specs.contracts.file.file_info.FileInfo.{the_row as View_row}
 use Rattle.uefi_records.proofs.file.file_info.FileInfo.TheLaws.{the_row_laws as View_laws}
 use Rattle.uefi_records.specs.contracts.file.file_info.FileInfo.new as f

@@ -1,8 +1,8 @@
 use Rattle.std.proofs.Common.{true, false, refl, sym, ◌∙◌}
 use Rattle.std.specs.Prelude.{nat_eq}
 use Rattle.std.specs.Cmp.Lexicographic.{pointwise}
-use Rattle.uefi_records.specs.File.Views.{file_name_of}
-use Rattle.uefi_records.proofs.Files.Equality.{equal_if}
+use Rattle.uefi_records.specs.file.Views.{file_name_of}
+use Rattle.uefi_records.proofs.file.Equality.{equal_if}
 use Rattle.uefi_records.proofs.file.file_info.FileInfoPartialEq.eq.Goals as goal
 
 pub returns-then-eq : goal.returns-then-eq

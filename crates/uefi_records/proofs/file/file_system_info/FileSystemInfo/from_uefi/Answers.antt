@@ -1,4 +1,4 @@
-use Rattle.uefi_records.proofs.Files.Prefixes.{file_system_fields_of_named}
+use Rattle.uefi_records.proofs.file.Prefixes.{file_system_fields_of_named}
 use Rattle.uefi_records.proofs.file.file_system_info.FileSystemInfo.from_uefi.Goals as goal
 
 pub returns-clause-fields : goal.returns-clause-fields

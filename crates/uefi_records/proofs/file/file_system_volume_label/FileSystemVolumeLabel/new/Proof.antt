@@ -1,10 +1,10 @@
 -- The buffer is lent to the writer, comes back, and is then shared with the view until its loan ends.
-use Rattle.uefi_records.proofs.Files.WriterNames.{◌≡◌, refl, ℕ, List, [], ◌∷◌, full_share, ftrue, flft, id⊢, named, tables, ‵, ◌⊛◌, ◌$◌, ◌∵◌, !, qed, done, keep, fsplit, suffices, whole, sub, agg, enter, addr, from, fld, hop, stop, and_then, no_more, returns, alloc_all, pass_all, free_all, look_at, look_in_at, get, get_in, sets, lands_as, u8, usize, no, owns, plain, mut_slice_of, named_lft, mut_slice_vals, mut_slice_Tells, lasts, triple_of, framed, Stays, walk_of, stay_dropped, Goes-spent_slice, ends_at, MatchResult, Result_row, Result_laws, proved, Fml, types_at, valss, all_Typed, mut_slice_Lawful, put_prefix, Error_row, Error_laws, lends_to, shares_with, typed, finishes, opens, Arg, slots, stays, spelled, told, all_go, lawfuls, Nothings, nothings, Written_laws, WroteRecord, MadeRecord, record_seen_in, record_made_of, text16}
+use Rattle.uefi_records.proofs.file.WriterNames.{◌≡◌, refl, ℕ, List, [], ◌∷◌, full_share, ftrue, flft, id⊢, named, tables, ‵, ◌⊛◌, ◌$◌, ◌∵◌, !, qed, done, keep, fsplit, suffices, whole, sub, agg, enter, addr, from, fld, hop, stop, and_then, no_more, returns, alloc_all, pass_all, free_all, look_at, look_in_at, get, get_in, sets, lands_as, u8, usize, no, owns, plain, mut_slice_of, named_lft, mut_slice_vals, mut_slice_Tells, lasts, triple_of, framed, Stays, walk_of, stay_dropped, Goes-spent_slice, ends_at, MatchResult, Result_row, Result_laws, proved, Fml, types_at, valss, all_Typed, mut_slice_Lawful, put_prefix, Error_row, Error_laws, lends_to, shares_with, typed, finishes, opens, Arg, slots, stays, spelled, told, all_go, lawfuls, Nothings, nothings, Written_laws, WroteRecord, MadeRecord, record_seen_in, record_made_of, text16}
 use Rattle.uefi_base.proofs.Written.{and_also}
-use Rattle.uefi_records.specs.File.Name.{FitName}
-use Rattle.uefi_records.specs.File.FileSystemInfo.{lone_label_offset, volume_label_alignment, volume_label_bytes}
-use Rattle.uefi_records.specs.File.Views.{volume_label_view}
-use Rattle.uefi_records.proofs.Files.Written.{volume_label_made, fits_any}
+use Rattle.uefi_records.specs.file.Name.{FitName}
+use Rattle.uefi_records.specs.file.FileSystemInfo.{lone_label_offset, volume_label_alignment, volume_label_bytes}
+use Rattle.uefi_records.specs.file.Views.{volume_label_view}
+use Rattle.uefi_records.proofs.file.Written.{volume_label_made, fits_any}
 use Rattle.uefi_records.specs.contracts.file.file_system_volume_label.FileSystemVolumeLabel.{the_row as View_row}
 use Rattle.uefi_records.proofs.file.file_system_volume_label.FileSystemVolumeLabel.TheLaws.{the_row_laws as View_laws}
 use Rattle.uefi_records.specs.contracts.file.file_system_volume_label.FileSystemVolumeLabel.new as f

@@ -1,2 +1,0 @@
-pub mod memory_lemmas
-pub mod pci_lemmas

@@ -1,0 +1,2 @@
+-- Words of private contracts, ghost fields and models alone.
+pub mod memory

@@ -1,0 +1,2 @@
+-- Words of private contracts and ghost fields alone.
+pub mod file
