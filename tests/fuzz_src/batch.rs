@@ -61,7 +61,7 @@ struct Pool {
 
 /// The inputs of the samples of a command.
 fn samples(command: &Command, folder: &str) -> io::Result<Vec<Input>> {
-    let Some((extension, third_word)) = command.samples else {
+    let Some((extension, third_word)) = command.more.samples else {
         return Ok(Vec::new());
     };
     let paths: Result<Vec<PathBuf>, io::Error> =
@@ -76,7 +76,7 @@ fn samples(command: &Command, folder: &str) -> io::Result<Vec<Input>> {
 
 impl Pool {
     fn new(command: &'static Command, folder: &str) -> io::Result<Pool> {
-        let mut inputs = (command.seeds)();
+        let mut inputs = command.seeds();
         inputs.extend(samples(command, folder)?);
         Ok(Pool { command, inputs, shapes: HashSet::new(), counts: Counts::default() })
     }

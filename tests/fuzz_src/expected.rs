@@ -1,8 +1,8 @@
 //! What plain Rust expects a run of the program to end with.
 
-use crate::commands::{Command, ThirdWord};
+use crate::commands::Command;
 use crate::input::Input;
-use crate::listings::Outcome;
+use crate::listings::{self, Outcome, ThirdWord};
 use crate::program::Ending;
 use std::io;
 
@@ -31,7 +31,7 @@ pub fn ending(command: &Command, input: &Input) -> io::Result<Ending> {
         return Ok(Ending { status: OTHER_WORDS, output: Vec::new(), message: USAGE.to_vec() });
     };
     let mut output = Vec::new();
-    let status = match (command.list)(&mut output, &input.bytes, argument)? {
+    let status = match listings::list(&mut output, command.name, &input.bytes, argument)? {
         Outcome::Listed => 0,
         Outcome::Refused => 1,
     };

@@ -79,7 +79,7 @@ impl Mutator<'_> {
     }
 
     fn mutate(&mut self, input: &mut Input) {
-        if let Some(mutate) = self.command.mutate
+        if let Some(mutate) = self.command.more.mutate
             && self.below(4) == 0
         {
             return mutate(input, self.random);
@@ -121,7 +121,7 @@ impl Mutator<'_> {
         let near = self.below(9).wrapping_sub(4) as u64;
         let number = match self.below(5) {
             0 | 1 => self.one_of(&EDGES),
-            2 if !self.command.numbers.is_empty() => self.one_of(self.command.numbers),
+            2 if !self.command.more.numbers.is_empty() => self.one_of(self.command.more.numbers),
             3 => (bytes.len() as u64).wrapping_add(near),
             _ => ((bytes.len() - start - width) as u64).wrapping_add(near),
         };
@@ -148,10 +148,10 @@ impl Mutator<'_> {
 
     /// Inserts a part of the command's, or writes it over others.
     fn put_part(&mut self, bytes: &mut Vec<u8>) {
-        if self.command.parts.is_empty() {
+        if self.command.more.parts.is_empty() {
             return self.change_byte(bytes);
         }
-        let part = self.one_of(self.command.parts);
+        let part = self.one_of(self.command.more.parts);
         let start = self.below(bytes.len() + 1);
         let end = if self.below(2) == 0 { start } else { (start + part.len()).min(bytes.len()) };
         drop(bytes.splice(start..end, part.iter().copied()));

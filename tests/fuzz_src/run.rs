@@ -3,6 +3,7 @@
 use crate::batch::{Batch, HANGS};
 use crate::commands::COMMANDS;
 use crate::counts::Counts;
+use crate::listings;
 use std::fs;
 use std::io;
 use std::path::Path;
@@ -26,7 +27,7 @@ struct Shared {
     end: Instant,
     next_batch: AtomicU64,
     has_ended: AtomicBool,
-    counts: Mutex<[Counts; COMMANDS.len()]>,
+    counts: Mutex<[Counts; listings::COMMANDS.len()]>,
     reports: Mutex<Vec<String>>,
 }
 

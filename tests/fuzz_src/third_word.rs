@@ -1,7 +1,8 @@
 //! Mutations of the word after FILE.
 
-use crate::commands::{Command, ThirdWord};
+use crate::commands::Command;
 use crate::input::Input;
+use crate::listings::ThirdWord;
 use crate::mutate::EDGES;
 use crate::random::Random;
 
@@ -33,14 +34,14 @@ pub fn mutate(input: &mut Input, command: &Command, random: &mut Random) {
         ThirdWord::Number => true,
         ThirdWord::LastEntry => false,
     };
-    let length = input.bytes.len() as u64;
+    let (length, numbers) = (input.bytes.len() as u64, command.more.numbers);
     let number = match random.below(20) {
         0..=4 => return,
         5..=7 => length,
         8 | 9 => length.wrapping_add(random.below(17)).wrapping_sub(8),
         10..=12 => random.below(length + 2),
         13 => EDGES[random.below(EDGES.len() as u64) as usize],
-        14 => command.numbers[random.below(command.numbers.len() as u64) as usize],
+        14 if !numbers.is_empty() => numbers[random.below(numbers.len() as u64) as usize],
         15 => length / (1 + random.below(12)),
         16 if is_number => 8 * random.below(16),
         17 if is_number => 40,

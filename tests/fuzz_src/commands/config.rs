@@ -1,13 +1,10 @@
 //! `config FILE`.
 
-use super::{Command, ThirdWord};
+use super::More;
 use crate::input::Input;
-use crate::listings;
 use crate::random::Random;
 
-pub const COMMAND: Command = Command {
-    name: "config",
-    third_word: ThirdWord::None,
+pub const MORE: More = More {
     seeds,
     samples: None,
     parts: &[
@@ -39,7 +36,6 @@ pub const COMMAND: Command = Command {
     ],
     numbers: &[],
     mutate: Some(mutate),
-    list: |out, bytes, _| listings::config::list(out, bytes),
 };
 
 /// The header of a configuration named `A`, for which `@` stands in [`TEXTS`].
@@ -50,13 +46,12 @@ const ISCSI_HEADER: &str = "GUID=16d6474bd6a852459d44ccad2e0f4cf9\
     &NAME=00490053004300530049005f0043004f004e004600490047005f004900460052005f004e00560044004100540041\
     &PATH=0104140016d6474bd6a852459d44ccad2e0f4cf97fff0400";
 
-const TEXTS: [&str; 18] = [
+const TEXTS: [&str; 17] = [
     "a=1=2&&b&",
     "&",
     "",
     "@",
     "@&@",
-    "GUID=00&@&OFFSET=00&WIDTH=01&VALUE=1122",
     "@&OFFSET=00&WIDTH=01",
     "@&OFFSET=00&WIDTH=01&VALUE",
     "@&OFFSET=00&WIDTH=01&VALUE=11\n",

@@ -1,19 +1,15 @@
 //! `info FILE WRITTEN`.
 
-use super::{Command, ThirdWord};
+use super::More;
 use crate::input::Input;
-use crate::listings;
 use crate::random::Random;
 
-pub const COMMAND: Command = Command {
-    name: "info",
-    third_word: ThirdWord::Number,
+pub const MORE: More = More {
     seeds,
     samples: None,
     parts: &[b"\0\0", b"a\0b\0", b"\0\xd8", &[0; 80]],
     numbers: &[16, 37, 79, 80, 81, 82, 85, 86, 87, 88],
     mutate: Some(mutate),
-    list: |out, bytes, written| listings::info::list(out, bytes, written.expect("a number")),
 };
 
 const NAME_OFFSET: usize = 80;

@@ -1,18 +1,14 @@
 //! `log1 FILE LAST`.
 
-use super::{Command, ThirdWord};
+use super::More;
 use crate::input::{Input, hex};
-use crate::listings;
 
-pub const COMMAND: Command = Command {
-    name: "log1",
-    third_word: ThirdWord::LastEntry,
+pub const MORE: More = More {
     seeds,
     samples: None,
     parts: &[EVENT],
     numbers: &[16, 32, 34, 48],
     mutate: None,
-    list: |out, bytes, last_entry| listings::log1::list(out, bytes, last_entry),
 };
 
 /// An event without data.

@@ -1,12 +1,9 @@
 //! `log2 FILE LAST` and `log2after FILE LAST`.
 
-use super::{Command, ThirdWord};
+use super::More;
 use crate::input::{Input, hex};
-use crate::listings;
 
-pub const COMMAND: Command = Command {
-    name: "log2",
-    third_word: ThirdWord::LastEntry,
+pub const MORE: More = More {
     seeds,
     samples: None,
     parts: &[
@@ -18,13 +15,6 @@ pub const COMMAND: Command = Command {
     ],
     numbers: &[3, 4, 16, 20, 33, 61, 65, 77],
     mutate: None,
-    list: |out, bytes, last_entry| listings::log2::list(out, bytes, last_entry),
-};
-
-pub const AFTER_HEADER_EVENT: Command = Command {
-    name: "log2after",
-    list: |out, bytes, last_entry| listings::log2::list_after_header_event(out, bytes, last_entry),
-    ..COMMAND
 };
 
 /// A header with SHA-1 alone, of 65 bytes.

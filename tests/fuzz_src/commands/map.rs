@@ -1,19 +1,15 @@
 //! `map FILE DESC`.
 
-use super::{Command, ThirdWord};
+use super::More;
 use crate::input::Input;
-use crate::listings;
 use crate::random::Random;
 
-pub const COMMAND: Command = Command {
-    name: "map",
-    third_word: ThirdWord::Number,
+pub const MORE: More = More {
     seeds,
     samples: Some(("map", Some("48"))),
     parts: &[&[0; 40], &[0; 8], &[0xff; 8]],
     numbers: &[7, 15, 39, 40, 41, 44, 48, 56, 80, 0x1000],
     mutate: Some(mutate),
-    list: |out, bytes, stride| listings::map::list(out, bytes, stride.expect("a number")),
 };
 
 /// Of each descriptor: type, physical and virtual start, and pages.

@@ -1,10 +1,11 @@
-//! The commands of the program: a module for each, or for two that are alike, and a line in
-//! [`COMMANDS`].
+//! The commands of the program, as mutations need them. Their names and what they take after FILE
+//! come from the plain [`listings`](crate::listings), their first inputs from `tests/commands.txt`.
+//! A module adds what a command has beside that.
 
 use crate::input::Input;
-use crate::listings::Outcome;
+use crate::listings::{self, ThirdWord};
 use crate::random::Random;
-use std::io;
+use std::sync::LazyLock;
 
 mod config;
 mod info;
@@ -13,36 +14,52 @@ mod log2;
 mod map;
 mod path;
 mod pci;
+mod table;
 mod time;
 
-pub const COMMANDS: [Command; 9] = [
-    path::COMMAND,
-    log1::COMMAND,
-    log2::COMMAND,
-    log2::AFTER_HEADER_EVENT,
-    config::COMMAND,
-    map::COMMAND,
-    pci::COMMAND,
-    time::COMMAND,
-    info::COMMAND,
-];
+pub static COMMANDS: LazyLock<Vec<Command>> = LazyLock::new(|| {
+    let command = |(name, third_word): &(&'static str, ThirdWord)| Command {
+        name,
+        third_word: *third_word,
+        more: more(name),
+    };
+    listings::COMMANDS.iter().map(command).collect()
+});
 
-/// What a command takes after FILE.
-#[derive(Clone, Copy)]
-pub enum ThirdWord {
-    None,
-    Number,
-    /// A number, or `-` for none.
-    LastEntry,
+/// What the modules add to a command.
+fn more(name: &str) -> More {
+    match name {
+        "path" => path::MORE,
+        "log1" => log1::MORE,
+        "log2" | "log2after" => log2::MORE,
+        "config" => config::MORE,
+        "map" => map::MORE,
+        "pci" => pci::MORE,
+        "time" => time::MORE,
+        "info" => info::MORE,
+        _ => NOTHING_MORE,
+    }
 }
-
-/// The listing of bytes by plain Rust. The number is that of the third word.
-pub type List = fn(&mut Vec<u8>, &[u8], Option<usize>) -> io::Result<Outcome>;
 
 pub struct Command {
     pub name: &'static str,
     pub third_word: ThirdWord,
-    /// What mutations begin with.
+    pub more: More,
+}
+
+impl Command {
+    /// What mutations begin with: the inputs of the table, and those that a module adds.
+    pub fn seeds(&self) -> Vec<Input> {
+        let mut seeds = table::seeds(self.name);
+        seeds.extend((self.more.seeds)());
+        seeds
+    }
+}
+
+/// What a command has beside its inputs in the table.
+#[derive(Clone, Copy)]
+pub struct More {
+    /// What mutations begin with too.
     pub seeds: fn() -> Vec<Input>,
     /// The extension of the samples that are seeds too, and their third word.
     pub samples: Option<(&'static str, Option<&'static str>)>,
@@ -52,5 +69,7 @@ pub struct Command {
     pub numbers: &'static [u64],
     /// A mutation of this command's own.
     pub mutate: Option<fn(&mut Input, &mut Random)>,
-    pub list: List,
 }
+
+const NOTHING_MORE: More =
+    More { seeds: Vec::new, samples: None, parts: &[], numbers: &[], mutate: None };

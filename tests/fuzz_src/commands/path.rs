@@ -1,13 +1,10 @@
 //! `path FILE`.
 
-use super::{Command, ThirdWord};
+use super::More;
 use crate::input::{Input, hex};
-use crate::listings;
 use crate::random::Random;
 
-pub const COMMAND: Command = Command {
-    name: "path",
-    third_word: ThirdWord::None,
+pub const MORE: More = More {
     seeds,
     samples: Some(("dp", None)),
     parts: &[
@@ -23,15 +20,13 @@ pub const COMMAND: Command = Command {
     ],
     numbers: &[3, 4, 5, 0x7f, 0xffff],
     mutate: Some(mutate),
-    list: |out, bytes, _| listings::path::list(out, bytes),
 };
 
 fn seeds() -> Vec<Input> {
-    let two_instances = "a0b006000a0b a1b1080014151617 7f010400 a2b206001e1f a3b3080028292a2b 7fff0400";
     let mut long_node = hex("a0b02c01");
     long_node.extend((0..296).map(|i| i as u8));
     long_node.extend(hex("7fff0400"));
-    let texts = [two_instances, "7f020400 7fff0400", "7fff0600aabbcc", "a0b0ffff", "a0b00600 0a0b"];
+    let texts = ["7f020400 7fff0400", "7fff0600aabbcc", "a0b0ffff", "a0b00600 0a0b"];
     texts.map(hex).into_iter().chain([long_node]).map(Input::new).collect()
 }
 

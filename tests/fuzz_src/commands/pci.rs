@@ -1,19 +1,15 @@
 //! `pci FILE`.
 
-use super::{Command, ThirdWord};
+use super::More;
 use crate::input::{Input, hex};
-use crate::listings;
 use crate::random::Random;
 
-pub const COMMAND: Command = Command {
-    name: "pci",
-    third_word: ThirdWord::None,
+pub const MORE: More = More {
     seeds,
     samples: None,
     parts: &[b"\x8a\x2b\0", b"\x79\0", RECORD],
     numbers: &[2, 3, 0x79, 0x8a],
     mutate: Some(mutate),
-    list: |out, bytes, _| listings::pci::list(out, bytes),
 };
 
 const RECORD_LENGTH: usize = 46;

@@ -1,24 +1,19 @@
 //! `time FILE`.
 
-use super::{Command, ThirdWord};
+use super::More;
 use crate::input::{Input, hex};
-use crate::listings;
 use crate::random::Random;
 
-pub const COMMAND: Command = Command {
-    name: "time",
-    third_word: ThirdWord::None,
+pub const MORE: More = More {
     seeds,
     samples: None,
     parts: &[],
     numbers: &[],
     mutate: Some(mutate),
-    list: |out, bytes, _| listings::time::list(out, bytes),
 };
 
 fn seeds() -> Vec<Input> {
     let texts = [
-        "e807021f 00000000 00000000 ff070000",
         "e8070c1f 173b3b00 ffc99a3b a0050300",
         "6c070101 00000000 00000000 60fa0100",
         "0f270c1f 173b3bff ffc99a3b 00000200 aabb",
