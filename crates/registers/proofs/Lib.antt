@@ -1,0 +1,5 @@
+pub mod Placing
+pub mod LogContents
+pub mod Digests
+pub mod Extending
+pub mod AfterEntries

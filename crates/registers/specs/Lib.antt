@@ -1,0 +1,7 @@
+pub mod Banks
+pub mod Entries
+pub mod Initial
+pub mod Replay
+pub mod Logs
+pub mod Laws
+pub mod Views

@@ -1,0 +1,63 @@
+ghost use Rattle.std.specs.Prelude.{◌≡◌, ◌++◌};
+ghost use Rattle.sha1.specs.Sha1.{sha1};
+ghost use Rattle.sha2.specs.Sha256.{sha256};
+ghost use Rattle.sha2.specs.Sha512.{sha384, sha512};
+ghost use Rattle.registers.specs.Banks.{hash_of};
+ghost use Rattle.registers.specs.Views.{value_of};
+
+use crate::bank::Bank;
+use crate::value::RegisterValue;
+use sha1::Sha1;
+use sha2::{Digest, Sha256, Sha384, Sha512};
+
+/// Returns the bank's digest of two parts that follow one another.
+pub(crate) fn hash_joined(bank: Bank, first: &[u8], second: &[u8]) -> RegisterValue
+    ensures { value_of result ≡ hash_of bank (first.now ++ second.now) }
+{
+    match bank {
+        Bank::Sha1 => joined_sha1(first, second),
+        Bank::Sha256 => joined_sha256(first, second),
+        Bank::Sha384 => joined_sha384(first, second),
+        Bank::Sha512 => joined_sha512(first, second),
+    }
+}
+
+fn joined_sha1(first: &[u8], second: &[u8]) -> RegisterValue
+    ensures { value_of result ≡ sha1 (first.now ++ second.now) }
+{
+    let mut hasher = Sha1::new();
+    hasher.update(first);
+    hasher.update(second);
+    let digest = hasher.finalize();
+    RegisterValue::new(digest.as_slice())
+}
+
+fn joined_sha256(first: &[u8], second: &[u8]) -> RegisterValue
+    ensures { value_of result ≡ sha256 (first.now ++ second.now) }
+{
+    let mut hasher = Sha256::new();
+    hasher.update(first);
+    hasher.update(second);
+    let digest = hasher.finalize();
+    RegisterValue::new(digest.as_slice())
+}
+
+fn joined_sha384(first: &[u8], second: &[u8]) -> RegisterValue
+    ensures { value_of result ≡ sha384 (first.now ++ second.now) }
+{
+    let mut hasher = Sha384::new();
+    hasher.update(first);
+    hasher.update(second);
+    let digest = hasher.finalize();
+    RegisterValue::new(digest.as_slice())
+}
+
+fn joined_sha512(first: &[u8], second: &[u8]) -> RegisterValue
+    ensures { value_of result ≡ sha512 (first.now ++ second.now) }
+{
+    let mut hasher = Sha512::new();
+    hasher.update(first);
+    hasher.update(second);
+    let digest = hasher.finalize();
+    RegisterValue::new(digest.as_slice())
+}
