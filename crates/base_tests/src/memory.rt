@@ -1,7 +1,6 @@
-use refusing::{in_turn, without_request};
 use std::alloc::Allocator;
 use std::test::Fail;
-use test_bytes::holds;
+use test_support::{holds, in_turn, without_request};
 use uefi_base::{CStr16, CString16, FromStrError, UnalignedCStr16Error, UnalignedSlice};
 
 /// Whether the text has five euro signs, or `None` if memory ran out.

@@ -1,6 +1,6 @@
 use std::alloc::Global;
 use std::test::Fail;
-use test_bytes::{same, same_text};
+use test_support::{same, same_text};
 use uefi_base::{
     CStr16, CString16, FromSliceWithNulError, FromStrError, UnalignedCStr16Error, UnalignedSlice,
 };

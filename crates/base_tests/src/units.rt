@@ -1,5 +1,5 @@
 use std::test::Fail;
-use test_bytes::{same, same_text};
+use test_support::{same, same_text};
 use uefi_base::UnalignedSlice;
 
 /// What is left of an iterator over units before a step, by its length and its size hint, and what

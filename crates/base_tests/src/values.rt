@@ -1,5 +1,5 @@
 use std::test::Fail;
-use test_bytes::{same, same_text};
+use test_support::{same, same_text};
 use uefi_base::little_endian::{u16_at, u32_at, u64_at};
 use uefi_base::{Align, Error, Guid, Identify, Status, laws};
 

@@ -11,7 +11,7 @@ use Rattle.uefi_hii.specs.declared.error.ParseError.TheVariants.{ConfigHdr, Bloc
 use Rattle.uefi_hii.specs.Pairs.{Pair}
 use Rattle.uefi_hii.specs.Configuration.{Configuration, Element}
 use Rattle.uefi_hii.specs.Cut.{Part, AreGroups, pairs_of, results_of}
-use Rattle.lines_base.specs.Text.{gap_before, hex_of, AppendsText}
+use Rattle.hex_display.specs.Text.{gap_before, hex_of, AppendsText}
 
 -- The GUID, the name as it is, and the length of the path in bytes, in a line each.
 unfoldable pub header_lines : List ℕ → List ℕ → List Node → List ℕ

@@ -1,10 +1,10 @@
 ghost use Rattle.std.specs.Prelude.{◌≡◌, ◌≢◌, Err, flat_map, OnOk};
-ghost use Rattle.lines_base.specs.Text.{AppendsText};
+ghost use Rattle.hex_display.specs.Text.{AppendsText};
 ghost use Rattle.uefi_hii.specs.declared.error.ParseError.TheVariants.{Memory};
 ghost use Rattle.uefi_hii.specs.Views.{configuration_of, element_of, nv_pair_of, result_of, uncut_pairs};
 ghost use Rattle.config_lines.specs.Config.{AppendsConfigLines, alt_line, configuration_lines, element_line, element_lines, fault_line, header_lines, item_lines, nv_line, section_name};
 
-use lines_base::{Hex, gap_before};
+use hex_display::{Hex, gap_before};
 use std::alloc::{AllocError, Allocator};
 use uefi_hii::{
     ConfigHdrSection, ConfigurationString, ConfigurationStringElement,

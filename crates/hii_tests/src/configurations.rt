@@ -4,7 +4,7 @@ use crate::samples::{
 };
 use std::alloc::{AllocError, Global};
 use std::test::Fail;
-use test_bytes::{holds, same, same_text};
+use test_support::{holds, same, same_text};
 use uefi_hii::{ConfigurationString, MultiConfigurationStringIter, parse_all};
 
 /// Texts, as `text_of` has them, and all their items.

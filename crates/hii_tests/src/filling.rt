@@ -1,6 +1,6 @@
 use std::alloc::{AllocError, Global};
 use std::test::Fail;
-use test_bytes::{same, same_bytes};
+use test_support::{same, same_bytes};
 use uefi_hii::{ConfigurationString, fill_from_hex};
 
 /// A text of 30 zeros and `+a`, one of 32 `f` and a `7`, and one of 31 zeros, each with the bytes

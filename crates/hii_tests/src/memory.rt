@@ -2,10 +2,9 @@ use crate::samples::{
     ISCSI_ALTERNATIVES, ISCSI_ALTERNATIVES_ITEMS, ISCSI_NAME, ISCSI_TWICE, ISCSI_TWICE_ITEMS,
     KEPT_PAIRS, KEPT_PAIRS_ITEMS, line_of, push_item, text_of,
 };
-use refusing::{Refusing, in_turn, without_request};
 use std::alloc::{AllocError, Allocator, Global};
 use std::test::Fail;
-use test_bytes::{holds, same_text};
+use test_support::{Refusing, holds, in_turn, same_text, without_request};
 use uefi_hii::{ConfigurationString, MultiConfigurationStringIter, ParseError, parse_all};
 
 /// Whether the name in hex is the driver's; or `None` if memory ran out.

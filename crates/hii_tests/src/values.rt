@@ -1,6 +1,6 @@
 use std::alloc::Global;
 use std::test::Fail;
-use test_bytes::{each_gives, holds, same, same_bytes};
+use test_support::{each_gives, holds, same, same_bytes};
 use uefi_base::Guid;
 use uefi_hii::{ConfigurationString, ConfigurationStringIter, keys};
 

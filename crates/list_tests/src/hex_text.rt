@@ -1,8 +1,8 @@
 //! Bytes and numbers in hex, beside what was written by hand.
 
-use lines_base::{Hex, HexByte, HexNumber, gap_before};
+use hex_display::{Hex, HexByte, HexNumber, gap_before};
 use std::test::Fail;
-use test_bytes::{same_bytes, same_text};
+use test_support::{same_bytes, same_text};
 
 #[test]
 fn a_byte_has_two_digits(rt: HostRuntime) -> Result<(), Fail> {

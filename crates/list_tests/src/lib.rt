@@ -1,4 +1,4 @@
-//! Tests of the listings of `uefi_listing`, and of the hex of `lines_base`, over their public names:
+//! Tests of the listings of `uefi_listing`, and of the hex of `hex_display`, over their public names:
 //! worked rows, outputs that fail, and allocations that fail.
 #![tactic(auto)]
 

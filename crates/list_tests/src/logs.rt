@@ -1,6 +1,6 @@
 use crate::rows::each_lists;
 use std::test::Fail;
-use test_bytes::samples::{CRTM_VERSION, FIRMWARE_BLOB, LOG1};
+use test_support::samples::{CRTM_VERSION, FIRMWARE_BLOB, LOG1};
 use uefi_listing::command::Command;
 use uefi_listing::listing::Outcome;
 

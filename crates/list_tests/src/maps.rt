@@ -1,6 +1,6 @@
 use crate::rows::{Row, each_lists};
 use std::test::Fail;
-use test_bytes::samples::FIRMWARE_MAP;
+use test_support::samples::FIRMWARE_MAP;
 use uefi_listing::command::Command;
 use uefi_listing::listing::Outcome;
 

@@ -1,8 +1,7 @@
 use crate::runs::{RUNS, Run, input_of};
-use refusing::in_turn;
 use std::alloc::{Allocator, Global};
 use std::test::Fail;
-use test_bytes::holds;
+use test_support::{holds, in_turn};
 use uefi_listing::command::Command;
 use uefi_listing::listing::{Outcome, listing};
 

@@ -1,6 +1,6 @@
 use crate::rows::{Row, each_lists};
 use std::test::Fail;
-use test_bytes::samples::{CON_OUT, TWO_INSTANCES};
+use test_support::samples::{CON_OUT, TWO_INSTANCES};
 use uefi_listing::command::Command;
 use uefi_listing::listing::Outcome;
 

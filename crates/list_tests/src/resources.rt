@@ -1,6 +1,6 @@
 use crate::rows::{Row, each_lists};
 use std::test::Fail;
-use test_bytes::samples::ROOT_BRIDGE;
+use test_support::samples::ROOT_BRIDGE;
 use uefi_listing::command::Command;
 use uefi_listing::listing::Outcome;
 

@@ -1,6 +1,6 @@
 use std::alloc::Global;
 use std::test::Fail;
-use test_bytes::{bytes, same, same_text};
+use test_support::{bytes, same, same_text};
 use uefi_listing::command::Command;
 use uefi_listing::listing::{Outcome, listing};
 use uefi_listing::run::run;

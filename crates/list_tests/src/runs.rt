@@ -6,8 +6,8 @@ use crate::resources::{CUT_BEFORE_THE_END_TAG, ROOT_BRIDGE_LISTING};
 use crate::v2_logs::{NO_HEADER, TWO_DIGESTS, TWO_DIGESTS_LISTING};
 use std::alloc::Global;
 use std::test::Fail;
-use test_bytes::bytes;
-use test_bytes::samples::{LAST_OF_FEBRUARY, LOG1, ROOT_BRIDGE, TWO_INSTANCES};
+use test_support::bytes;
+use test_support::samples::{LAST_OF_FEBRUARY, LOG1, ROOT_BRIDGE, TWO_INSTANCES};
 use uefi_listing::command::Command;
 use uefi_listing::listing::Outcome;
 

@@ -1,31 +1,10 @@
 use crate::rows::{Row, each_lists, lists};
 use std::alloc::{AllocError, Global};
 use std::test::Fail;
-use test_bytes::bytes;
-use test_bytes::samples::LOG1;
+use test_support::bytes;
+use test_support::samples::{FOUR_EVENTS, FOUR_HEADER, LOG1, SHA1_HEADER};
 use uefi_listing::command::Command;
 use uefi_listing::listing::Outcome;
-
-/// A log of 471 bytes with four algorithms: a header of 77 bytes, and two events of 190 and 204.
-const FOUR_ALGORITHMS: &str = "00000000 03000000 0000000000000000000000000000000000000000 \
-    2d000000 53706563204944204576656e74303300 00000000 00020002 04000000 \
-    04001400 0b002000 0c003000 0d004000 00 \
-    00000000 08000000 04000000 \
-    0400 1489f923c4dca729178b3e3233458550d8dddf29 \
-    0b00 96a296d224f285c67bee93c30f8a309157f0daa35dc5b87e410b78630a09cfc7 \
-    0c00 1dd6f7b457ad880d840d41c961283bab688e94e4b59359ea \
-    45686581e90fecce a3c624b1226113f8 24f315eb60ae0a7c \
-    0d00 5ea71dc6d0b4f57b f39aadd07c208c35 f06cd2bac5fde210 397f70de11d439c6 \
-    2ec1cdf318375886 5fd387fcea0bada2 f6c37a4a17851dd1 d78fefe6f204ee54 \
-    02000000 0000 \
-    00000000 08000080 04000000 \
-    0400 c706e7dd36392984eb06aaa08ff336844077b3ed \
-    0b00 3a308e958784bfd0 f6e3f1bd4d4214d3 0a4c5500a45b06da 96fc90338f69b361 \
-    0c00 c0d07596c59a907b 79716fc9f36aad8f 0f26f202675b425a \
-    523f72ecb6f25399 57f0d92c0a7dceaa f99e600e5418f1dc \
-    0d00 9ae925dc9cd29df0 e5805435a599061f cf3298cc2a15e487 99a20c9ce56c8fe5 \
-    840975aff0e1b698 20075ee429798b5d bbe5d1a27436ab49 f19b7a0411d2962c \
-    10000000 000082000000000000000e0000000000";
 
 const HEADER_LINES: &str = "header 0 2.0.0 2\n  algorithm 0x0004 20\n  algorithm 0x000b 32\n  \
     algorithm 0x000c 48\n  algorithm 0x000d 64\nvendor\n";
@@ -60,7 +39,10 @@ fn joined(alloc: Global, parts: &[&str]) -> Result<String, AllocError> {
 
 #[test]
 fn a_log_is_listed_by_its_header_and_events(rt: HostRuntime) -> Result<(), Fail> {
-    let input = bytes(rt.alloc(), FOUR_ALGORITHMS)?;
+    let input = bytes(
+        rt.alloc(),
+        joined(rt.alloc(), &[FOUR_HEADER, FOUR_EVENTS])?.as_str(),
+    )?;
     let none: &[&str] = &[HEADER_LINES, "events 0\n"];
     let one: &[&str] = &[HEADER_LINES, FIRST_LINES, "events 1\n"];
     let both: &[&str] = &[HEADER_LINES, FIRST_LINES, SECOND_LINES, "events 2\n"];
@@ -90,16 +72,15 @@ fn a_log_is_listed_by_its_header_and_events(rt: HostRuntime) -> Result<(), Fail>
 
 #[test]
 fn an_event_that_is_cut_off_is_not_listed(rt: HostRuntime) -> Result<(), Fail> {
-    let input = bytes(rt.alloc(), FOUR_ALGORITHMS)?;
+    let input = bytes(
+        rt.alloc(),
+        joined(rt.alloc(), &[FOUR_HEADER, FOUR_EVENTS])?.as_str(),
+    )?;
     let cut = &input.as_slice()[..input.len().saturating_sub(1)];
     let expected = joined(rt.alloc(), &[HEADER_LINES, FIRST_LINES, "events 1\n"])?;
     let row = (Command::Log2(Some(267)), "470 bytes", expected.as_str());
     lists(rt.alloc(), &row, cut, Outcome::Listed)
 }
-
-/// A header of 65 bytes with SHA-1 alone.
-const SHA1_HEADER: &str = "00000000 03000000 0000000000000000000000000000000000000000 \
-    21000000 53706563204944204576656e74303300 00000000 00020002 01000000 04001400 00";
 
 const SHA1_LISTING: &str = "header 0 2.0.0 2\n  algorithm 0x0004 20\nvendor\nevents 0\n";
 

@@ -1,9 +1,8 @@
 use crate::runs::{RUNS, Run, input_of};
-use refusing::in_turn;
 use std::alloc::{Allocator, Global};
 use std::io::{self, ErrorKind, Write};
 use std::test::Fail;
-use test_bytes::{bytes, holds, same, same_bytes};
+use test_support::{bytes, holds, in_turn, same, same_bytes};
 use uefi_listing::command::Command;
 use uefi_listing::listing::Outcome;
 use uefi_listing::run::{RunError, run};

@@ -1,10 +1,9 @@
 //! Lists of PCI resources.
 
-use refusing::{in_turn, without_request};
 use std::alloc::{Allocator, Global};
 use std::test::Fail;
-use test_bytes::samples::ROOT_BRIDGE;
-use test_bytes::{bytes, each_gives, each_reads, holds, same};
+use test_support::samples::ROOT_BRIDGE;
+use test_support::{bytes, each_gives, each_reads, holds, in_turn, same, without_request};
 use uefi_map::{
     QwordAddressSpaceDescriptor, ResourceError, ResourceList, ResourceRangeType, parse,
 };

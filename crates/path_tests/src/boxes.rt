@@ -1,8 +1,7 @@
-use refusing::in_turn;
 use std::alloc::Allocator;
 use std::test::Fail;
-use test_bytes::samples::TWO_INSTANCES;
-use test_bytes::{bytes, holds, same, same_bytes};
+use test_support::samples::TWO_INSTANCES;
+use test_support::{bytes, holds, in_turn, same, same_bytes};
 use uefi_path::{DevicePath, DevicePathInstance};
 
 /// Whether the path in a box is the path, and its length; or `None` if memory ran out.

@@ -1,7 +1,7 @@
 use std::alloc::{AllocError, Global};
 use std::test::Fail;
-use test_bytes::samples::{CON_OUT, TWO_INSTANCES};
-use test_bytes::{each_holds, each_makes, each_reads};
+use test_support::samples::{CON_OUT, TWO_INSTANCES};
+use test_support::{each_holds, each_makes, each_reads};
 use uefi_path::{
     ByteConversionError, DevicePath, DevicePathInstance, DevicePathNode, DevicePathNodeIterator,
 };

@@ -1,7 +1,7 @@
 use std::alloc::Global;
 use std::test::Fail;
-use test_bytes::samples::TWO_INSTANCES;
-use test_bytes::{each_gives, each_makes, each_reads, each_shows, holds};
+use test_support::samples::TWO_INSTANCES;
+use test_support::{each_gives, each_makes, each_reads, each_shows, holds};
 use uefi_path::{
     ByteConversionError, DevicePath, DevicePathHeader, DevicePathNode, DeviceSubType, DeviceType,
     LoadedImageDevicePath, laws,

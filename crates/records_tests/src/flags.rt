@@ -1,5 +1,5 @@
 use std::test::Fail;
-use test_bytes::{each_gives, holds, same};
+use test_support::{each_gives, holds, same};
 use uefi_records::{Daylight, FileAttribute};
 
 /// The set of these bits, if all of them have a name, and the bits of the set that keeps them all.

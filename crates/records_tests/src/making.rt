@@ -1,5 +1,5 @@
 use std::test::Fail;
-use test_bytes::{each_gives, same};
+use test_support::{each_gives, same};
 use uefi_records::{Daylight, Time, TimeByteConversionError, TimeError, TimeParams, laws};
 
 /// The fifth of April 2023, six minutes and seven seconds past eight.

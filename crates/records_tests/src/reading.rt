@@ -1,8 +1,8 @@
 use crate::names::{UNITS_OF_AB, Units, units};
 use std::alloc::Global;
 use std::test::Fail;
-use test_bytes::samples::{FILE, FILE_SYSTEM, ZERO_FILE};
-use test_bytes::{bytes, each_gives_in, each_holds, each_makes, each_reads, same, same_text};
+use test_support::samples::{FILE, FILE_SYSTEM, ZERO_FILE};
+use test_support::{bytes, each_gives_in, each_holds, each_makes, each_reads, same, same_text};
 use uefi_base::{Align, Error, Guid, Identify, Status};
 use uefi_records::{FileInfo, FileSystemInfo, FileSystemVolumeLabel};
 

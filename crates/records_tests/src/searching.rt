@@ -1,6 +1,6 @@
 use std::alloc::{AllocError, Global};
 use std::test::Fail;
-use test_bytes::same;
+use test_support::same;
 use uefi_records::first_zero_unit;
 
 /// The bytes of this many units `a`, and of the NUL.

@@ -1,7 +1,7 @@
 use std::alloc::Global;
 use std::test::Fail;
-use test_bytes::samples::LAST_OF_FEBRUARY;
-use test_bytes::{each_makes, each_reads, each_shows};
+use test_support::samples::LAST_OF_FEBRUARY;
+use test_support::{each_makes, each_reads, each_shows};
 use uefi_records::{Daylight, Time};
 
 /// A time's date, time of day, nanosecond, zone and daylight.

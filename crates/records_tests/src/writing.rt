@@ -2,8 +2,8 @@ use crate::making::PARAMS;
 use crate::names::{AB, TEST_NAME, TEST_NAME2, UNITS_OF_AB, units};
 use std::alloc::Global;
 use std::test::Fail;
-use test_bytes::samples::ZERO_FILE;
-use test_bytes::{bytes, same, same_bytes, same_text};
+use test_support::samples::ZERO_FILE;
+use test_support::{bytes, same, same_bytes, same_text};
 use uefi_base::CStr16;
 use uefi_records::{
     FileAttribute, FileInfo, FileInfoCreationError, FileSystemInfo, FileSystemVolumeLabel, Time,

@@ -1,7 +1,7 @@
 use registers::{Bank, Log, replay};
 use std::alloc::Global;
 use std::test::Fail;
-use test_bytes::{each_reads, each_shows};
+use test_support::{each_reads, each_shows};
 use uefi_tcg::PcrIndex;
 
 /// Logs with the last entry at their end, and their registers 0, 1 and 17 of SHA-1, or the event by

@@ -1,8 +1,8 @@
 use registers::{Bank, Log, Registers, replay};
 use std::alloc::Global;
 use std::test::Fail;
-use test_bytes::samples::MACHINE_LOG;
-use test_bytes::{bytes, same_text};
+use test_support::samples::MACHINE_LOG;
+use test_support::{bytes, same_text};
 use uefi_tcg::PcrIndex;
 
 /// The registers of SHA-1 that `tpm2_eventlog` 5.4 prints for the log of a machine.

@@ -6,7 +6,7 @@ use Rattle.std.specs.declared.string.String.{String}
 use Rattle.uefi_tcg.specs.LogInput.{LogInput}
 use Rattle.uefi_tcg.specs.v1.Event.{Event}
 use Rattle.uefi_tcg.specs.v1.Log.{IsLogOf}
-use Rattle.lines_base.specs.Text.{gap_before, hex_of, AppendsText}
+use Rattle.hex_display.specs.Text.{gap_before, hex_of, AppendsText}
 
 -- The register in decimal, the type as `0x` and eight hex digits, the digest in hex, and the data in hex if there is any.
 unfoldable pub event_line : Event → List ℕ

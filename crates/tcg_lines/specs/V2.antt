@@ -8,7 +8,7 @@ use Rattle.uefi_tcg.specs.v2.Event.{Digest, Event}
 use Rattle.uefi_tcg.specs.v2.Header as header
 use Rattle.uefi_tcg.specs.v2.Header.{Header}
 use Rattle.uefi_tcg.specs.v2.Log.{HasHeaderOf, IsLogOf}
-use Rattle.lines_base.specs.Text.{gap_before, hex_of, AppendsText}
+use Rattle.hex_display.specs.Text.{gap_before, hex_of, AppendsText}
 use Rattle.tcg_lines.specs.declared.v2.Start.{Start}
 use Rattle.tcg_lines.specs.declared.v2.Start.TheVariants.{AfterHeader, AfterEvent}
 

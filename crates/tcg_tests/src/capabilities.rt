@@ -1,5 +1,5 @@
 use std::test::Fail;
-use test_bytes::{holds, same};
+use test_support::{holds, same};
 use uefi_tcg::{AlgorithmId, EventType, HashAlgorithm, PcrIndex, v1, v2};
 
 const VERSION: v1::Version = v1::Version {

@@ -21,8 +21,6 @@ mod v2_headers;
 #[cfg(test)]
 mod v2_logs;
 #[cfg(test)]
-mod v2_samples;
-#[cfg(test)]
 mod v2_starts;
 #[cfg(test)]
 mod v2_writers;

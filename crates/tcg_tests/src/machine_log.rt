@@ -1,7 +1,7 @@
 use std::test::Fail;
-use tcg_callers::digest_logs::count_of_register;
-use test_bytes::samples::MACHINE_LOG;
-use test_bytes::{bytes, same};
+use tcg_examples::digest_logs::count_of_register;
+use test_support::samples::MACHINE_LOG;
+use test_support::{bytes, same};
 use uefi_tcg::PcrIndex;
 
 /// The events of each register in the log, counted by a reader of another language. Register 8 has

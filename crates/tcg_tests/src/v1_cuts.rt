@@ -1,6 +1,6 @@
 use std::test::Fail;
-use test_bytes::samples::LOG1;
-use test_bytes::{bytes, holds, same};
+use test_support::samples::LOG1;
+use test_support::{bytes, holds, same};
 use uefi_tcg::v1::EventLog;
 
 /// For the last entries from the first to the second number, how many events `LOG1` has whole, cut

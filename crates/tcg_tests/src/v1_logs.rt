@@ -1,8 +1,8 @@
 use crate::texts::push_hex;
 use std::alloc::{AllocError, Global};
 use std::test::Fail;
-use test_bytes::samples::{CRTM_VERSION, LOG1};
-use test_bytes::{bytes, holds, same, same_text};
+use test_support::samples::{CRTM_VERSION, LOG1};
+use test_support::{bytes, holds, same, same_text};
 use uefi_tcg::v1::{EventLog, EventLogIter};
 
 /// The lines of both events of `LOG1`.

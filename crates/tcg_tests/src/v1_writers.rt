@@ -1,7 +1,6 @@
-use refusing::in_turn;
 use std::alloc::Allocator;
 use std::test::Fail;
-use test_bytes::{bytes, holds, same, same_bytes};
+use test_support::{bytes, holds, in_turn, same, same_bytes};
 use uefi_base::{Align, Error, Status};
 use uefi_tcg::v1::{EventLog, PcrEvent, Sha1Digest, write_event};
 use uefi_tcg::{EventType, PcrIndex};

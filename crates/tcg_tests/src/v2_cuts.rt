@@ -1,9 +1,9 @@
 use crate::texts::joined;
 use crate::v2_logs::{LONG_EVENT, ZERO_EVENT};
-use crate::v2_samples::{FOUR_EVENTS, FOUR_HEADER};
 use std::alloc::Global;
 use std::test::Fail;
-use test_bytes::{bytes, holds, same};
+use test_support::samples::{FOUR_EVENTS, FOUR_HEADER};
+use test_support::{bytes, holds, same};
 use uefi_tcg::v2::{EventLog, EventLogHeader, EventLogIter, PcrEvent, PcrEventDigests};
 
 /// For the last entries from the first to the second number, whether the log has a header, and how

@@ -1,5 +1,5 @@
 use std::test::Fail;
-use test_bytes::{bytes, each_holds, same, same_bytes};
+use test_support::{bytes, each_holds, same, same_bytes};
 use uefi_tcg::AlgorithmId;
 use uefi_tcg::v2::EventLog;
 

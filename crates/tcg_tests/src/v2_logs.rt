@@ -1,8 +1,8 @@
 use crate::texts::{joined, push_hex};
-use crate::v2_samples::{FOUR_EVENTS, FOUR_HEADER, SHA1_HEADER};
 use std::alloc::{AllocError, Global};
 use std::test::Fail;
-use test_bytes::{bytes, holds, same, same_text};
+use test_support::samples::{FOUR_EVENTS, FOUR_HEADER, SHA1_HEADER};
+use test_support::{bytes, holds, same, same_text};
 use uefi_tcg::AlgorithmId;
 use uefi_tcg::v2::{EventLog, EventLogIter, PcrEventDigests};
 

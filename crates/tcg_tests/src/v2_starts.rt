@@ -1,9 +1,9 @@
 use crate::texts::joined;
 use crate::v2_logs::{FIRST, LOGS, LONG_EVENT, SECOND, ZERO_EVENT, lines_of};
-use crate::v2_samples::{FOUR_EVENTS, FOUR_HEADER, SHA1_HEADER};
 use std::alloc::Global;
 use std::test::Fail;
-use test_bytes::{bytes, same, same_text};
+use test_support::samples::{FOUR_EVENTS, FOUR_HEADER, SHA1_HEADER};
+use test_support::{bytes, same, same_text};
 use uefi_tcg::v2::EventLog;
 
 /// The header of `LONG_EVENT`, which 16 bytes ff follow in its event.

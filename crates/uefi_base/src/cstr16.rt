@@ -30,7 +30,7 @@ use std::alloc::{AllocError, Allocator};
 /// }
 /// ```
 ///
-/// This function is proved in `crates/callers/src/base.rt`, which shows its contract.
+/// This function is proved in `crates/uefi_examples/src/base.rt`, which shows its contract.
 #[derive(Clone, Copy)]
 pub struct CStr16<'a> {
     units: &'a [u16],

@@ -41,7 +41,7 @@ use std::iter::{ExactSizeIterator, FusedIterator};
 /// }
 /// ```
 ///
-/// This function is proved in `crates/callers/src/base.rt`, which shows its contract.
+/// This function is proved in `crates/uefi_examples/src/base.rt`, which shows its contract.
 #[derive(Clone, Copy)]
 pub struct UnalignedSlice<'a> {
     bytes: &'a [u8],

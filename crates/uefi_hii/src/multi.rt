@@ -58,7 +58,7 @@ use std::alloc::{AllocError, Allocator, Global};
 /// }
 /// ```
 ///
-/// Both functions are proved in `crates/callers/src/configuration.rt`, which shows their contracts.
+/// Both functions are proved in `crates/uefi_examples/src/configuration.rt`, which shows their contracts.
 #[derive(Drop)]
 pub struct MultiConfigurationStringIter<'a, A: Allocator = Global> {
     alloc: A,

@@ -6,8 +6,8 @@ use Rattle.std.proofs.lemmas.Grind.{flat_map-append}
 use Rattle.std.specs.Prelude.{codes, slice_range}
 use Rattle.std.specs.Int.{w16, to_be_bytes}
 use Rattle.hex.proofs.Pairs.{take-two_writes}
-use Rattle.lines_base.specs.Text.{hex_of}
-use Rattle.lines_base.proofs.HexBlocks.{hex_of-append}
+use Rattle.hex_display.specs.Text.{hex_of}
+use Rattle.hex_display.proofs.HexBlocks.{hex_of-append}
 use Rattle.uefi_lines.specs.Info.{units_hex, name_field}
 
 -- A name with characters is shown behind a space.

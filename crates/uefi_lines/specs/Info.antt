@@ -5,7 +5,7 @@ use Rattle.std.specs.Int.{w16, to_be_bytes}
 use Rattle.uefi_base.specs.Ucs2.{characters_of}
 use Rattle.uefi_records.specs.time.Fields.{TimeFields, time_bytes}
 use Rattle.uefi_records.specs.file.FileInfo.{FileFields}
-use Rattle.lines_base.specs.Text.{hex_of, hex_number}
+use Rattle.hex_display.specs.Text.{hex_of, hex_number}
 
 -- Four hex digits for each unit, joined.
 abbrev pub units_hex : List ℕ → List ℕ

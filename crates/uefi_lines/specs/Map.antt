@@ -2,7 +2,7 @@
 use Rattle.std.specs.Prelude.{◌↔◌, ℕ, Bool, List, ◌++◌, length, codes, flat_map, IsTrue, if◌then◌else◌}
 use Rattle.std.specs.Fmt.{decimal}
 use Rattle.std.specs.declared.string.String.{String}
-use Rattle.lines_base.specs.Text.{hex_number, AppendsText}
+use Rattle.hex_display.specs.Text.{hex_number, AppendsText}
 use Rattle.uefi_map.specs.declared.memory.descriptor.MemoryDescriptor.{MemoryDescriptor}
 use Rattle.uefi_map.specs.declared.memory.meta.MemoryMapMeta.{MemoryMapMeta}
 use Rattle.uefi_map.specs.memory.Map.{AreSorted, entries_of}

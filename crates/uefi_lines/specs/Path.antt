@@ -5,7 +5,7 @@ use Rattle.std.specs.declared.string.String.{String}
 use Rattle.uefi_base.specs.GuidText.{hex_byte}
 use Rattle.uefi_path.specs.Node.{Node, joined}
 use Rattle.uefi_path.specs.Path.{AreInstances, all_but_last}
-use Rattle.lines_base.specs.Text.{gap_before, hex_of, AppendsText}
+use Rattle.hex_display.specs.Text.{gap_before, hex_of, AppendsText}
 
 -- Two spaces, the type and the subtype in hex, and the data in hex.
 unfoldable pub node_line : Node → List ℕ

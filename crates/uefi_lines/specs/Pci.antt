@@ -4,7 +4,7 @@ use Rattle.std.specs.Fmt.{decimal}
 use Rattle.uefi_map.specs.declared.pci.resource.QwordAddressSpaceDescriptor.{QwordAddressSpaceDescriptor}
 use Rattle.uefi_map.specs.declared.pci.resource.ResourceRangeType.{ResourceRangeType}
 use Rattle.uefi_map.specs.declared.pci.resource.ResourceRangeType.TheVariants as kind
-use Rattle.lines_base.specs.Text.{hex_number}
+use Rattle.hex_display.specs.Text.{hex_number}
 
 -- The name of a range's type, with its number if it has no name.
 unfoldable pub kind_text : ResourceRangeType → List ℕ

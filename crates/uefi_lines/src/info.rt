@@ -1,14 +1,14 @@
 ghost use Rattle.std.specs.Prelude.{◌≡◌, ◌≤◌, ◌-◌, ◌*◌, length, take, slice_range, flat_map, OnOk, Some};
 ghost use Rattle.std.specs.Fmt.{DisplaysOnOk};
 ghost use Rattle.std.specs.Int.{w16, to_be_bytes};
-ghost use Rattle.lines_base.specs.Text.{AppendsText};
+ghost use Rattle.hex_display.specs.Text.{AppendsText};
 ghost use Rattle.uefi_base.specs.Ucs2.{characters_of};
 ghost use Rattle.uefi_base.specs.Views.{slice_units};
 ghost use Rattle.uefi_records.specs.file.Views.{stated_size, file_fields_of, file_name_of};
 ghost use Rattle.uefi_records.specs.time.Views.{time_of};
 ghost use Rattle.uefi_lines.specs.Info.{info_lines, stamp_text, name_field, units_hex};
 
-use lines_base::{Hex, HexNumber, write_hex};
+use hex_display::{Hex, HexNumber, write_hex};
 use std::alloc::{AllocError, Allocator};
 use std::fmt;
 use uefi_base::UnalignedSlice;

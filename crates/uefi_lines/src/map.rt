@@ -1,10 +1,10 @@
 ghost use Rattle.std.specs.Prelude.{◌≡◌, flat_map, OnOk};
-ghost use Rattle.lines_base.specs.Text.{AppendsText};
+ghost use Rattle.hex_display.specs.Text.{AppendsText};
 ghost use Rattle.uefi_map.specs.memory.Map.{entries_of};
 ghost use Rattle.uefi_map.specs.memory.Views.{ref_bytes, ref_meta};
 ghost use Rattle.uefi_lines.specs.Map.{entry_line, yes_or_no, AppendsMapLines};
 
-use lines_base::HexNumber;
+use hex_display::HexNumber;
 use std::alloc::{AllocError, Allocator};
 use uefi_map::{MemoryDescriptor, MemoryMap, MemoryMapRef};
 

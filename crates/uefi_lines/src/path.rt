@@ -1,9 +1,9 @@
 ghost use Rattle.std.specs.Prelude.{OnOk};
-ghost use Rattle.lines_base.specs.Text.{AppendsText};
+ghost use Rattle.hex_display.specs.Text.{AppendsText};
 ghost use Rattle.uefi_path.specs.Views.{node_of, instance_nodes, path_nodes};
 ghost use Rattle.uefi_lines.specs.Path.{node_line, instance_lines, AppendsPathLines};
 
-use lines_base::{Hex, HexByte, gap_before};
+use hex_display::{Hex, HexByte, gap_before};
 use std::alloc::{AllocError, Allocator};
 use uefi_path::{DevicePath, DevicePathInstance, DevicePathNode};
 

@@ -1,9 +1,9 @@
 ghost use Rattle.std.specs.Prelude.{OnOk, Some};
-ghost use Rattle.lines_base.specs.Text.{AppendsText};
+ghost use Rattle.hex_display.specs.Text.{AppendsText};
 ghost use Rattle.uefi_map.specs.pci.Views.{resources_of};
 ghost use Rattle.uefi_lines.specs.Pci.{kind_text, resource_line, resource_lines};
 
-use lines_base::HexNumber;
+use hex_display::HexNumber;
 use std::alloc::{AllocError, Allocator};
 use std::fmt;
 use uefi_map::{QwordAddressSpaceDescriptor, ResourceList, ResourceRangeType};

@@ -1,5 +1,5 @@
 ghost use Rattle.std.specs.Prelude.{OnOk, Some};
-ghost use Rattle.lines_base.specs.Text.{AppendsText};
+ghost use Rattle.hex_display.specs.Text.{AppendsText};
 ghost use Rattle.uefi_records.specs.time.Views.{time_of};
 ghost use Rattle.uefi_lines.specs.Time.{date_text, clock_text, zone_text, time_line};
 

@@ -51,7 +51,7 @@ use std::fmt;
 /// }
 /// ```
 ///
-/// Both functions are proved in `crates/callers/src/path.rt`, which shows their contracts.
+/// Both functions are proved in `crates/uefi_examples/src/path.rt`, which shows their contracts.
 #[derive(Clone, Copy)]
 pub struct DevicePath<'a> {
     bytes: &'a [u8],

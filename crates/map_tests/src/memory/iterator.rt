@@ -1,6 +1,6 @@
 use super::{map_at, meta_of};
 use std::test::Fail;
-use test_bytes::{each_gives, same};
+use test_support::{each_gives, same};
 use uefi_map::{MemoryMap, MemoryMapIter, MemoryMapRef};
 
 /// Where the next descriptor begins.

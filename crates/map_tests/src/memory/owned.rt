@@ -1,8 +1,7 @@
 use super::meta_of;
-use refusing::in_turn;
 use std::alloc::Allocator;
 use std::test::Fail;
-use test_bytes::same;
+use test_support::{in_turn, same};
 use uefi_map::{MemoryDescriptor, MemoryMap, MemoryMapMut, MemoryMapOwned, MemoryType};
 
 /// A map of three descriptors, with 40 more bytes after it in the vector; or `None` if memory ran out.

@@ -1,8 +1,8 @@
 use super::{fields, map_at, meta_of};
 use std::alloc::Global;
 use std::test::Fail;
-use test_bytes::samples::FIRMWARE_MAP;
-use test_bytes::{bytes, each_gives, each_reads, holds, same, same_bytes};
+use test_support::samples::FIRMWARE_MAP;
+use test_support::{bytes, each_gives, each_reads, holds, same, same_bytes};
 use uefi_map::{
     MemoryMap, MemoryMapKey, MemoryMapMeta, MemoryMapOwned, MemoryMapRef, MemoryMapRefMut,
 };

@@ -1,7 +1,7 @@
 use super::meta_of;
 use std::alloc::Global;
 use std::test::Fail;
-use test_bytes::each_gives;
+use test_support::each_gives;
 use uefi_map::{MemoryMapError, MemoryMapOwned, MemoryMapRef, MemoryMapRefMut};
 
 /// A byte, how often it stands in the buffer, the bytes of the map, and those of its stride.

@@ -1,6 +1,6 @@
 use super::meta_of;
 use std::test::Fail;
-use test_bytes::{each_gives, same, same_text};
+use test_support::{each_gives, same, same_text};
 use uefi_base::Align;
 use uefi_map::{MemoryAttribute, MemoryDescriptor, MemoryMapError, MemoryMapKey, MemoryType, laws};
 

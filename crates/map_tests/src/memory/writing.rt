@@ -2,8 +2,8 @@ use super::{fields, map_at, meta_of};
 use crate::changed::put;
 use std::alloc::Global;
 use std::test::Fail;
-use test_bytes::samples::FIRMWARE_MAP;
-use test_bytes::{bytes, same, same_bytes};
+use test_support::samples::FIRMWARE_MAP;
+use test_support::{bytes, same, same_bytes};
 use uefi_map::{
     MemoryAttribute, MemoryDescriptor, MemoryMap, MemoryMapKey, MemoryMapMut, MemoryMapOwned,
     MemoryMapRefMut, MemoryType,

@@ -1,7 +1,7 @@
 -- What the functions behind a listing append to a text.
 use Rattle.std.specs.Prelude.{ℕ, List}
 use Rattle.std.specs.declared.string.String.{String}
-use Rattle.lines_base.specs.Text.{AppendsText}
+use Rattle.hex_display.specs.Text.{AppendsText}
 use Rattle.uefi_listing.specs.declared.listing.Outcome.{Outcome}
 
 -- The string grew by a text that, with the outcome, is a listing.

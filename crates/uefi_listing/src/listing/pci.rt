@@ -1,5 +1,5 @@
 ghost use Rattle.std.specs.Prelude.{IfOk, OnOk};
-ghost use Rattle.lines_base.specs.Text.{AppendsText};
+ghost use Rattle.hex_display.specs.Text.{AppendsText};
 ghost use Rattle.uefi_listing.specs.private.Appending.{AppendsListing};
 ghost use Rattle.uefi_listing.specs.Listing.Pci.{fault_line, PciListing};
 

@@ -28,7 +28,7 @@ use super::meta::MemoryMapMeta;
 /// }
 /// ```
 ///
-/// This function is proved in `crates/callers/src/map.rt`, which shows its contract.
+/// This function is proved in `crates/uefi_examples/src/map.rt`, which shows its contract.
 #[derive(Clone, Copy)]
 pub struct MemoryMapRef<'a> {
     buffer: &'a [u8],

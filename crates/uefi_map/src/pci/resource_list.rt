@@ -38,7 +38,7 @@ const END_TAG: u8 = 0x79;
 /// }
 /// ```
 ///
-/// This function is proved in `crates/callers/src/resources.rt`, which shows its contract.
+/// This function is proved in `crates/uefi_examples/src/resources.rt`, which shows its contract.
 #[derive(Clone, Copy)]
 pub struct ResourceList<'a> {
     records: &'a [u8],

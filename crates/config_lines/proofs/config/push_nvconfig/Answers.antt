@@ -1,4 +1,4 @@
-use Rattle.lines_base.proofs.Appending.{appended_all, appended_more}
+use Rattle.hex_display.proofs.Appending.{appended_all, appended_more}
 use Rattle.config_lines.proofs.config.push_nvconfig.Goals as goal
 
 pub loop-pair-preserved : goal.loop-pair-preserved

@@ -1,7 +1,7 @@
 use Rattle.std.proofs.Common.{◌+◌, ℕ, arith, rules, refl, true}
 use Rattle.std.proofs.Output.{has_written_append, has_written_of_eq}
 use Rattle.uefi_base.specs.Views.{slice_units}
-use Rattle.lines_base.specs.Text.{hex_of}
+use Rattle.hex_display.specs.Text.{hex_of}
 use Rattle.uefi_lines.proofs.InfoLines.{units_hex-more}
 use Rattle.uefi_lines.proofs.info.write_units.Goals as goal
 

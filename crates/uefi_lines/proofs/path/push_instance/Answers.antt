@@ -1,4 +1,4 @@
-use Rattle.lines_base.proofs.Appending.{appended_next}
+use Rattle.hex_display.proofs.Appending.{appended_next}
 use Rattle.uefi_path.specs.Views.{node_of, nodes_left}
 use Rattle.uefi_lines.specs.Path.{node_line}
 use Rattle.uefi_lines.proofs.path.push_instance.Goals as goal

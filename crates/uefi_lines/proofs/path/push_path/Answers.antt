@@ -1,4 +1,4 @@
-use Rattle.lines_base.proofs.Appending.{appended_next}
+use Rattle.hex_display.proofs.Appending.{appended_next}
 use Rattle.uefi_path.specs.Views.{instance_nodes, instances_left}
 use Rattle.uefi_lines.specs.Path.{instance_lines}
 use Rattle.uefi_lines.proofs.path.push_path.Goals as goal
@@ -8,5 +8,5 @@ loop-instance-preserved g c =
     let before = c.loop-instance.invariant in record {
       instances = before.instances;
       lines = appended_next instance_lines (instances_left c.loop-instance.instance-iterator) (instances_left c.next.new.self) (instance_nodes c.in-Some.instance) _ _ _
-        c.in-Some.ensures.steps c.in_ok-push_instance.ensures before.lines;
+          c.in-Some.ensures.steps c.in_ok-push_instance.ensures before.lines;
     }

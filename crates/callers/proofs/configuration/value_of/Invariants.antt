@@ -1,9 +1,0 @@
-use Rattle.std.proofs.Common.{◌≡◌, drop}
-use Rattle.uefi_hii.specs.Views.{configuration_of}
-use Rattle.callers.specs.Configurations.{value_at}
-use Rattle.callers.proofs.Configurations.{found_in}
-use Rattle.callers.proofs.configuration.value_of.Given as goal
-
--- The element is sought among those that are left.
-abbrev pub invariant-loop-element : goal.invariant-loop-element
-invariant-loop-element l = found_in l.offset l.width (drop l.element-index l.element-items) ≡ value_at l.offset l.width (configuration_of l.configuration)

@@ -1,0 +1,57 @@
+//! What tests share: bytes written as hex, checks that name their row, tables of rows, samples, and
+//! [`Refusing`], an allocator that refuses requests.
+//!
+//! A row is data: an input, mostly bytes as hex with spaces where they help the reader, and what is
+//! expected of it, taken from outside the program. A test of a table is one call, over a function
+//! that gives a plain value for an input:
+//!
+//! ```text
+//! fn length(input: &[u8]) -> Option<usize> {
+//!     Some(DevicePath::try_from(input).ok()?.as_bytes().len())
+//! }
+//!
+//! fn a_path_has_a_length(rt: HostRuntime) -> Result<(), Fail> {
+//!     let rows = [("7fff 0400", Some(4)), ("7fff 0600 aabb cc", Some(6)), ("7fff", None)];
+//!     each_reads(rt.alloc(), &rows, length)
+//! }
+//! ```
+//!
+//! A check, such as [`same`], returns an error that names its row and shows both values, and a test
+//! returns it by `?`.
+//!
+//! For tests alone. The loops and the checks stand here and not in the tests, since they are proved
+//! once so: a table costs its test one step.
+#![tactic(auto)]
+
+ghost use Rattle.std.specs.Prelude.{◌≡◌, ◌==◌, IfOk, not, filter};
+ghost use Rattle.hex.specs.Hex.{decode_of};
+
+pub use self::allocator::{Refusing, in_turn, without_request};
+pub use self::checks::{holds, same, same_bytes, same_text};
+pub use self::tables::{each_gives, each_gives_in, each_holds, each_makes, each_reads, each_shows};
+use hex::FromHexError;
+use std::alloc::Global;
+
+mod allocator;
+mod checks;
+pub mod samples;
+mod tables;
+
+/// The bytes that the hex digits stand for, two digits a byte. Spaces stand for nothing.
+///
+/// # Errors
+///
+/// `InvalidHexCharacter` at a character that is neither a hex digit nor a space, `OddLength` if the
+/// digits are odd in number, and `OutOfMemory` if an allocation fails.
+pub fn bytes(alloc: Global, text: &str) -> Result<Vec<u8>, FromHexError>
+    ensures { IfOk result (λ v. decode_of (filter (λ c. not (c == 32)) text.now) ≡ Ok v.items) }
+{
+    let Ok(digits) = text
+        .bytes()
+        .filter(|c| *c != b' ')
+        .collect::<Vec<u8>>(alloc)
+    else {
+        return Err(FromHexError::OutOfMemory);
+    };
+    hex::decode(alloc, digits.as_slice())
+}
