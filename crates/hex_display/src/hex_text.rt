@@ -128,7 +128,7 @@ fn hex_digit(value: u8) -> u8
     DIGITS[usize::from(value)]
 }
 
-/// Returns the text that ASCII bytes are.
+/// Returns ASCII bytes as text.
 fn ascii(bytes: &[u8]) -> &str
     requires { IsAscii bytes.now }
     ensures { result.now ≡ bytes.now }

@@ -167,7 +167,7 @@ pub const RUNS: [Run; 19] = [
     ),
 ];
 
-/// The bytes of a run's input: the text of configurations that are listed as it stands, else hex.
+/// Returns the bytes of a run's input: a configuration text that is listed as it stands, else hex.
 pub fn input_of(alloc: Global, (_, command, input, _, outcome): &Run) -> Result<Vec<u8>, Fail> {
     match (command, outcome) {
         (Command::Config, Outcome::Listed) => Ok(Vec::from_slice(alloc, input.as_bytes())?),

@@ -28,7 +28,7 @@ const SECOND_LINES: &str = "event 0 0x80000008 000082000000000000000e0000000000\
 /// The listing of a log without a header.
 pub const NO_HEADER: &str = "header none\nevents 0\n";
 
-/// The texts, one after another.
+/// Returns the texts, one after another.
 fn joined(alloc: Global, parts: &[&str]) -> Result<String, AllocError> {
     let mut text = String::new(alloc);
     for part in parts {

@@ -63,7 +63,7 @@ impl Write for Stubborn {
     }
 }
 
-/// Checks how a run over a writer ends, and what the writer took.
+/// Checks how a run over a writer ends, and what the writer accepted.
 fn check_row(
     alloc: Global,
     manner: Manner,
@@ -98,11 +98,11 @@ fn a_writer_gets_what_it_takes_of_the_listing(rt: HostRuntime) -> Result<(), Fai
     Ok(())
 }
 
-/// How a run ended: what it returned, how many bytes of the listing its writer took, if it took
-/// nothing else, and whether a call of the writer failed or took nothing.
+/// How a run ended: what it returned, how many bytes of the listing its writer accepted, if it was
+/// given nothing else, and whether a call of the writer failed or accepted none.
 type End = (Result<Outcome, RunError>, Option<usize>, bool);
 
-/// How a run over a writer has to end whose listing has this length and this outcome.
+/// Returns how a run over a writer has to end whose listing has this length and this outcome.
 fn expected_end(length: usize, outcome: Outcome, (most, calls, _): Manner) -> End {
     let reach = most.saturating_mul(calls);
     if reach < length {
@@ -112,7 +112,7 @@ fn expected_end(length: usize, outcome: Outcome, (most, calls, _): Manner) -> En
     }
 }
 
-/// How a run over a writer ends; or `None` if memory ran out before the writer was called.
+/// Returns how a run over a writer ends; or `None` if memory ran out before the writer was called.
 fn end_of<A: Allocator + Copy>(
     alloc: Global,
     heap: A,

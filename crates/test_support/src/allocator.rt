@@ -15,7 +15,7 @@
 //! [`without_request`] shows that a call asks for no memory at all.
 //!
 //! Its proof says that it is as safe as the allocator below it. Which requests it refuses no contract
-//! says, since none can say what a cell holds: the tests below do.
+//! says, since none can say what a cell holds: the tests `requests` of `base_tests` do.
 
 use std::alloc::{AllocError, Allocator, Global};
 use std::cell::Cell;
@@ -33,7 +33,7 @@ pub struct Refusing<B: Allocator> {
 }
 
 impl<B: Allocator> Refusing<B> {
-    /// The allocator that grants the first `granted` requests by `inner`, and none after them.
+    /// Makes the allocator that grants the first `granted` requests by `inner`, and none after them.
     ///
     /// A request that `inner` itself refuses counts as one that was granted.
     pub fn after(inner: B, granted: u64) -> Refusing<B> {
@@ -43,7 +43,7 @@ impl<B: Allocator> Refusing<B> {
         }
     }
 
-    /// Whether no request was refused so far.
+    /// Returns whether no request was refused so far.
     pub fn is_waiting(&self) -> bool {
         self.granted.get().is_some()
     }
@@ -58,7 +58,7 @@ impl<B: Allocator> Drop for Refusing<B> {
     }
 }
 
-// Counts a request down, and says whether it is refused.
+/// Counts a request down, and returns whether it is refused.
 fn refuses(granted: &Cell<Option<u64>>) -> bool {
     let left = granted.get().and_then(|count| count.checked_sub(1));
     granted.set(left);
@@ -143,43 +143,4 @@ where
         }
     }
     Ok(())
-}
-
-#[cfg(test)]
-mod tests {
-    use super::*;
-
-    #[test]
-    fn so_many_requests_are_granted_and_none_after_them(rt: HostRuntime) {
-        for granted in 0..4u64 {
-            let heap = Refusing::after(rt.alloc(), granted);
-            for request in 0..granted {
-                let one = Box::new(&heap, 1u8);
-                assert!(rt; one.is_ok(), "request {request} of {granted}");
-                assert!(rt; heap.is_waiting(), "request {request} of {granted}");
-            }
-            assert!(rt; heap.is_waiting(), "after {granted} requests");
-            assert!(rt; Box::new(&heap, 1u8).is_err(), "the first after {granted}");
-            assert!(rt; !heap.is_waiting(), "the first after {granted}");
-            assert!(rt; Box::new(&heap, 1u8).is_err(), "the second after {granted}");
-            assert!(rt; !heap.is_waiting(), "the second after {granted}");
-        }
-    }
-
-    /// How many boxes were made, or `None` if memory ran out.
-    fn boxes<A: Allocator>(heap: &A, count: u64) -> Option<u64> {
-        for _ in 0..count {
-            Box::new(heap, 1u8).ok()?;
-        }
-        Some(count)
-    }
-
-    #[test]
-    fn each_request_is_refused_in_turn(rt: HostRuntime) -> Result<(), Fail> {
-        for count in 0..4u64 {
-            let requests = in_turn(rt.alloc(), &count, |heap| boxes(heap, count))?;
-            assert!(rt; requests == count, "{count} boxes");
-        }
-        without_request(rt.alloc(), &Some(0), |heap| boxes(heap, 0))
-    }
 }

@@ -37,7 +37,7 @@ mod checks;
 pub mod samples;
 mod tables;
 
-/// The bytes that the hex digits stand for, two digits a byte. Spaces stand for nothing.
+/// Returns the bytes that hex digits stand for, two digits a byte. Spaces stand for nothing.
 ///
 /// # Errors
 ///

@@ -28,7 +28,7 @@ map_lines entries sorted =
     ++ codes "sorted " ++ yes_or_no sorted
     ++ codes "\nentries " ++ decimal (length entries) ++ codes "\n"
 
--- The text grows by the lines of the map that the bytes are.
+-- The text grows by the lines of the bytes as a map.
 abbrev pub AppendsMapLines : {A : Type 0} → String A → String A → List ℕ → MemoryMapMeta → Type 0
 AppendsMapLines old new bytes meta =
     (sorted : Bool) × (IsTrue sorted ↔ AreSorted bytes meta) × AppendsText old new (map_lines (entries_of bytes meta) sorted)

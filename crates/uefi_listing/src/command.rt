@@ -9,20 +9,20 @@ use crate::number::{decimal, last_entry};
 pub enum Command {
     /// `path FILE`: the device path that is a prefix of the file.
     Path,
-    /// `log1 FILE LAST`: the version 1 event log that the file is, with LAST as its last entry, or
-    /// without one if LAST is `-`.
+    /// `log1 FILE LAST`: the file as a version 1 event log, with LAST as its last entry, or without
+    /// one if LAST is `-`.
     Log1(Option<usize>),
     /// `log2 FILE LAST`: the same of a version 2 event log.
     Log2(Option<usize>),
     /// `log2after FILE LAST`: the same, with the events that follow the header event.
     Log2After(Option<usize>),
-    /// `config FILE`: the configurations of the text that the file is.
+    /// `config FILE`: the configurations of the file, which is a text.
     Config,
     /// `pci FILE`: the PCI resources that the file begins with.
     Pci,
     /// `time FILE`: the time in the first sixteen bytes of the file.
     Time,
-    /// `map FILE DESC`: the memory map that the file is, with a descriptor every DESC bytes.
+    /// `map FILE DESC`: the file as a memory map with a descriptor every DESC bytes.
     Map(usize),
     /// `info FILE WRITTEN`: the file information record in the first WRITTEN bytes of the file.
     Info(usize),

@@ -13,7 +13,7 @@ pub(crate) fn decimal(word: &str) -> Option<usize>
     word.parse::<usize>().ok()
 }
 
-/// The last entry of a log that the word is, where `-` is no last entry; or `None` if the word is
+/// Returns the last entry that the word names, where `-` names none; or `None` if the word is
 /// neither that nor a number.
 pub(crate) fn last_entry(word: &str) -> Option<Option<usize>>
     ensures { MatchOption result ((last_entry : Option ℕ) → IsLastEntry word.now last_entry → ⊥)

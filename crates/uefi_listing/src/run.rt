@@ -12,7 +12,7 @@ use std::io::Write;
 pub enum RunError {
     /// An allocation failed, and nothing was written.
     Memory,
-    /// A write failed or took nothing. The count is that of the listing's bytes written before it.
+    /// A write failed or accepted no bytes. The count is that of the listing's bytes written before.
     Output(usize),
 }
 
@@ -29,8 +29,8 @@ impl From<AllocError> for RunError {
 /// # Errors
 ///
 /// - [`RunError::Memory`] if an allocation fails. Nothing was written then.
-/// - [`RunError::Output`] if a write fails or takes nothing, with the count of bytes that were written
-///   before. An error of the kind `Interrupted` ends the run like every other.
+/// - [`RunError::Output`] if a write fails or accepts no bytes, with the count of those that were
+///   written before. An error of the kind `Interrupted` ends the run like every other.
 pub fn run<A: Allocator + Copy, W: Write>(
     alloc: A,
     command: &Command,

@@ -1,4 +1,4 @@
--- What `config` lists: the configurations of the text that the bytes are.
+-- What `config` lists: the configurations of the bytes, which are a text.
 use Rattle.std.specs.Prelude.{◌≡◌, ℕ, List, codes, IsUtf8}
 use Rattle.uefi_hii.specs.Cut.{Part, Cut, results_of}
 use Rattle.config_lines.specs.Config.{config_lines}

@@ -1,4 +1,4 @@
--- What `log1` lists: the version 1 event log that the bytes are.
+-- What `log1` lists: the bytes as a version 1 event log.
 use Rattle.std.specs.Prelude.{◌≡◌, ℕ, List, Option, Some}
 use Rattle.uefi_tcg.specs.v1.Event.{Event}
 use Rattle.uefi_tcg.specs.v1.Log.{IsLogOf}

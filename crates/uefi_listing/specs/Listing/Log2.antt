@@ -1,4 +1,4 @@
--- What `log2` and `log2after` list: the version 2 event log that the bytes are, from one of its two starts, and its header.
+-- What `log2` and `log2after` list: the bytes as a version 2 event log, from one of its two starts, and its header.
 use Rattle.std.specs.Prelude.{◌≡◌, ℕ, List, ◌++◌, Option, Some}
 use Rattle.uefi_tcg.specs.v2.Event.{Event}
 use Rattle.uefi_tcg.specs.v2.Header.{Header, Start}

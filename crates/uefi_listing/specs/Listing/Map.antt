@@ -6,7 +6,7 @@ use Rattle.uefi_lines.specs.Map.{map_lines}
 use Rattle.uefi_listing.specs.declared.listing.Outcome.{Outcome}
 use Rattle.uefi_listing.specs.declared.listing.Outcome.TheVariants.{Listed, Refused}
 
--- What is known of a memory map that a file of this length is, at this stride: the key is 0, the version 1.
+-- The metadata of a file of this length as a memory map at this stride: the key is 0, the version 1.
 abbrev pub file_meta : ℕ → ℕ → MemoryMapMeta
 file_meta size stride = record { map_size = size; desc_size = stride; map_key = record { 0 = 0 }; desc_version = 1 }
 

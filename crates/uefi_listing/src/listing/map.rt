@@ -27,7 +27,7 @@ pub(super) fn push_map_listing<A: Allocator>(
     }
 }
 
-/// Returns what is known of a memory map that a file of this length is, at this stride.
+/// Returns the metadata of a file of this length as a memory map at this stride.
 fn file_meta(map_size: usize, desc_size: usize) -> MemoryMapMeta
     ensures { result ≡ file_meta map_size desc_size }
 {
