@@ -1,5 +1,6 @@
 -- The listing of configurations, one item after another.
-use Rattle.std.proofs.Common.{◌≡◌, ◌≢◌, ℕ, ◌+◌, ◌≤◌, List, [], ◌∷◌, ◌++◌, length, refl, sym, ◌∙◌, ap, arith, append_assoc}
+use Rattle.std.proofs.Common.{◌≡◌, ◌≢◌, ℕ, ◌+◌, ◌≤◌, List, [], ◌∷◌, ◌++◌, length, refl, sym, ◌∙◌, ap, arith}
+use Rattle.std.proofs.Common.{append_assoc}
 use Rattle.std.specs.Prelude.{Result, Ok, Err, codes, flat_map}
 use Rattle.std.specs.Fmt.{decimal}
 use Rattle.std.proofs.lemmas.List.{append-nil, flat_map_more, length-append, length-map}
@@ -23,7 +24,8 @@ pub record HasListed (A : Type 0) (input : List ℕ) (left : List Pair) (old now
   pub few : n ≤ length now
 
 -- An item has a line.
-some_lines : {A : Type 0} (item : Result (ConfigurationString A) ParseError) → item ≢ Err Memory → 1 ≤ length (item_lines (result_of item))
+some_lines : {A : Type 0} (item : Result (ConfigurationString A) ParseError) → item ≢ Err Memory
+    → 1 ≤ length (item_lines (result_of item))
 unfolding configuration_lines header_lines fault_line
 some_lines (Ok c) some = omega arith
 some_lines (Err (ConfigHdr part)) some = omega arith
@@ -32,20 +34,30 @@ some_lines (Err BlockConfig) some = omega arith
 some_lines (Err Memory) some = absurd (some refl)
 
 -- Those of the next group too.
-pub listed_more : {A : Type 0} {input : List ℕ} {left after : List Pair} {old now next : List ℕ} {count : ℕ} {item : Result (ConfigurationString A) ParseError}
-    → HasListed A input left old now count → item ≢ Err Memory → TakesGroup left item after → next ≡ now ++ item_lines (result_of item) → HasListed A input after old next (count + 1)
+pub listed_more : {A : Type 0} {input : List ℕ} {left after : List Pair} {old now next : List ℕ} {count : ℕ}
+    {item : Result (ConfigurationString A) ParseError}
+    → HasListed A input left old now count → item ≢ Err Memory → TakesGroup left item after
+    → next ≡ now ++ item_lines (result_of item) → HasListed A input after old next (count + 1)
 listed_more {A} {input} {left} {after} {old} {now} {next} {count} {item} so_far some taken is =
     let items = so_far.items in
     record {
       items = items ++ item ∷ [];
       cut = cut_more input left after items item so_far.cut some taken;
-      lines = is ∙ ap (λ t. t ++ item_lines (result_of item)) so_far.lines ∙ flat_map_more (λ item. item_lines (result_of item)) old items item;
+      lines = is ∙ ap (λ t. t ++ item_lines (result_of item)) so_far.lines
+          ∙ flat_map_more (λ item. item_lines (result_of item)) old items item;
       count = omega (arith, so_far.count, length-append items (item ∷ []));
-      few = omega (arith, so_far.few, ap length is, length-append now (item_lines (result_of item)), some_lines item some);
+      few = omega (
+        arith,
+        so_far.few,
+        ap length is,
+        length-append now (item_lines (result_of item)),
+        some_lines item some,
+      );
     }
 
 -- Nothing was appended yet.
-pub none_listed : {A : Type 0} (input : List ℕ) (left : List Pair) (old : List ℕ) → left ≡ pairs input → HasListed A input left old old 0
+pub none_listed : {A : Type 0} (input : List ℕ) (left : List Pair) (old : List ℕ) → left ≡ pairs input
+    → HasListed A input left old old 0
 none_listed input left old all = record {
   items = [];
   cut = cut_none input left [] all refl;
@@ -55,8 +67,11 @@ none_listed input left old all = record {
 }
 
 -- If no pair is left, the lines are those of the text's cut; their count comes last.
-pub listed_all : {A : Type 0} {input : List ℕ} {left : List Pair} {old now new : List ℕ} {count : ℕ} → HasListed A input left old now count → left ≡ []
-    → new ≡ now ++ (codes "items " ++ decimal count ++ codes "\n") → (parts : List Part) × (pairs_of parts ≡ pairs input) × AreGroups parts × (new ≡ old ++ config_lines (results_of parts))
+pub listed_all : {A : Type 0} {input : List ℕ} {left : List Pair} {old now new : List ℕ} {count : ℕ}
+    → HasListed A input left old now count → left ≡ []
+    → new ≡ now ++ (codes "items " ++ decimal count ++ codes "\n")
+    → (parts : List Part) × (pairs_of parts ≡ pairs input) × AreGroups parts
+    × (new ≡ old ++ config_lines (results_of parts))
 listed_all {A} {input} {left} {old} {now} {new} {count} so_far none is =
     let items = so_far.items in
     let all = cut_all input left items so_far.cut none in

@@ -1,5 +1,6 @@
 -- Hex digits that are written a block at a time.
-use Rattle.std.proofs.Common.{◌≡◌, ℕ, suc, ◌/◌, ◌%◌, ◌<◌, ◌==◌, nat_lt, List, [], ◌∷◌, ◌++◌, get_or, slice_index, false, true, refl, sym, ap, ◌∙◌, arith}
+use Rattle.std.proofs.Common.{◌≡◌, ℕ, suc, ◌/◌, ◌%◌, ◌<◌, ◌==◌, nat_lt, List, [], ◌∷◌, ◌++◌, get_or, slice_index, false}
+use Rattle.std.proofs.Common.{true, refl, sym, ap, ◌∙◌, arith}
 use Rattle.std.proofs.Output.{has_written_append, has_written_of_eq}
 use Rattle.std.proofs.lemmas.Bool.{agree_below_at, and_parts, ltb-true}
 use Rattle.std.proofs.lemmas.Bool.Decides.{nat_tests}
@@ -21,7 +22,8 @@ hex_of-append one other = flat_map-append hex_byte one other
 -- A digit is the same, by its index in a table and by its value.
 pub digit_by_index : (d : ℕ) → d < 16 → slice_index lower_digits d ≡ digit_glyph false d
 digit_by_index d small =
-    let same : (slice_index lower_digits d == digit_glyph false d) ≡ true = agree_below_at (λ x. slice_index lower_digits x == digit_glyph false x) (λ x. true) 16 d refl small in
+    let same : (slice_index lower_digits d == digit_glyph false d) ≡ true =
+    agree_below_at (λ x. slice_index lower_digits x == digit_glyph false x) (λ x. true) 16 d refl small in
     grind (arith, nat_tests)
 
 -- Digits by the table are those by their values.
@@ -36,17 +38,21 @@ encode_lower-hex_of (byte ∷ bytes) small =
     λ i. high i ∷ low i ∷ others i
 
 -- Once the digits of the rest are written too, those of all the bytes are.
-pub record HasRestToWrite {W : Type 0} (took : W → List ℕ → W → Type 0) (start : Formatter W) (bytes : List ℕ) (now : Formatter W) (rest : List ℕ) : Type 0 where
+pub record HasRestToWrite {W : Type 0} (took : W → List ℕ → W → Type 0) (start : Formatter W) (bytes : List ℕ)
+    (now : Formatter W) (rest : List ℕ) : Type 0 where
   pub plain : IsPlainFormatter now
   pub whole : (end : Formatter W) → HasWritten took now (hex_of rest) end → HasWritten took start (hex_of bytes) end
 
-pub rest_after_block : {W : Type 0} (took : W → List ℕ → W → Type 0) (start f g : Formatter W) (bytes rest block after : List ℕ)
-    → block ++ after ≡ rest → HasRestToWrite took start bytes f rest → HasWritten took f (hex_of block) g → HasRestToWrite took start bytes g after
+pub rest_after_block : {W : Type 0} (took : W → List ℕ → W → Type 0) (start f g : Formatter W)
+    (bytes rest block after : List ℕ)
+    → block ++ after ≡ rest → HasRestToWrite took start bytes f rest → HasWritten took f (hex_of block) g
+    → HasRestToWrite took start bytes g after
 rest_after_block took start f g bytes rest block after cut before written =
     let digits = sym (hex_of-append block after) ∙ ap hex_of cut in
     record {
       plain = written.plain;
-      whole = λ end more. before.whole end (has_written_of_eq _ _ _ _ _ digits (has_written_append _ _ _ _ _ _ written more));
+      whole = λ end more. before.whole end
+          (has_written_of_eq _ _ _ _ _ digits (has_written_append _ _ _ _ _ _ written more));
     }
 
 -- Bytes of which each passes the test are ASCII.

@@ -5,6 +5,7 @@ use Rattle.std.specs.Fmt.{decimal, format_spec, padded_integral, char_count}
 use Rattle.uefi_lines.specs.Time.{with_zeros}
 
 -- Zeros up to the width, and the digits.
-pub padded_integral-zeros : (width n : ℕ) → padded_integral (format_spec 32 0 4 width (2 ^ 64 - 1)) false [] (decimal n) ≡ with_zeros width n
+pub padded_integral-zeros : (width n : ℕ)
+    → padded_integral (format_spec 32 0 4 width (2 ^ 64 - 1)) false [] (decimal n) ≡ with_zeros width n
 unfolding padded_integral char_count
 padded_integral-zeros width n = simp (append-nil, sub-zero)

@@ -4,15 +4,19 @@ use Rattle.config_lines.proofs.ConfigLines.{listed_all, listed_more, none_listed
 use Rattle.config_lines.proofs.config.push_configurations.Goals as goal
 
 pub loop-item-init : goal.loop-item-init
-loop-item-init g c = none_listed c.args.items.pairs.rest.now (uncut_pairs c.args.items) (string_bytes c.args.text.now) refl
+loop-item-init g c = none_listed c.args.items.pairs.rest.now (uncut_pairs c.args.items)
+    (string_bytes c.args.text.now) refl
 
 pub loop-item-preserved-in_ok-push_item : goal.loop-item-preserved-in_ok-push_item
 loop-item-preserved-in_ok-push_item g c =
-    listed_more c.loop-item.invariant c.in_ok-push_item.ensures.memory c.in-Some.ensures.steps.1 c.in_ok-push_item.ensures.lines
+    listed_more c.loop-item.invariant c.in_ok-push_item.ensures.memory c.in-Some.ensures.steps.1
+    c.in_ok-push_item.ensures.lines
 
 pub loop-item-preserved : goal.loop-item-preserved
 loop-item-preserved g c =
-    listed_more c.loop-item.invariant c.in_ok-push_item.ensures.memory c.in-Some.ensures.steps.1 c.in_ok-push_item.ensures.lines
+    listed_more c.loop-item.invariant c.in_ok-push_item.ensures.memory c.in-Some.ensures.steps.1
+    c.in_ok-push_item.ensures.lines
 
 pub returns : goal.returns
-returns g c = listed_all c.loop-item.invariant c.in_default.ensures.steps.0 (simp append_assoc c.in_ok-writeln.ensures.bytes)
+returns g c = listed_all c.loop-item.invariant c.in_default.ensures.steps.0
+    (simp append_assoc c.in_ok-writeln.ensures.bytes)

@@ -5,4 +5,5 @@ use Rattle.config_lines.proofs.config.push_elements.Given as goal
 
 abbrev pub invariant-loop-element : goal.invariant-loop-element
 invariant-loop-element g l =
-    string_bytes l.text ≡ string_bytes l.initial.text ++ flat_map (λ element. element_lines (element_of element)) (take l.element-index l.elements)
+    string_bytes l.text ≡ string_bytes l.initial.text
+    ++ flat_map (λ element. element_lines (element_of element)) (take l.element-index l.elements)

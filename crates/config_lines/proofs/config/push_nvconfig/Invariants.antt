@@ -5,4 +5,5 @@ use Rattle.config_lines.proofs.config.push_nvconfig.Given as goal
 
 abbrev pub invariant-loop-pair : goal.invariant-loop-pair
 invariant-loop-pair g l =
-    string_bytes l.text ≡ string_bytes l.initial.text ++ flat_map (λ pair. nv_line (nv_pair_of pair)) (take l.pair-index l.nvconfig)
+    string_bytes l.text ≡ string_bytes l.initial.text
+    ++ flat_map (λ pair. nv_line (nv_pair_of pair)) (take l.pair-index l.nvconfig)

@@ -10,5 +10,6 @@ ascii-requires g c = rw c.in-Ok.ensures.written (IsAscii-encode_with lower_digit
 
 pub returns : goal.returns
 returns g c plain ok =
-    let digits = c.ascii.ensures ∙ c.in-Ok.ensures.written ∙ encode_lower-hex_of c.args.block.now (λ i. omega (arith, c.type_inv.block i)) in
+    let digits = c.ascii.ensures ∙ c.in-Ok.ensures.written
+    ∙ encode_lower-hex_of c.args.block.now (λ i. omega (arith, c.type_inv.block i)) in
     has_written_of_eq _ _ _ _ _ digits (c.write_str.ensures.writes plain ok)

@@ -6,6 +6,7 @@ use Rattle.hex_display.proofs.hex_text.write_hex.Goals as goal
 pub loop-rest-preserved : goal.loop-rest-preserved
 loop-rest-preserved g c plain =
     let rest = c.loop-rest.rest.now in
-    let cut : c.split_at.result.0.now ++ c.split_at.result.1.now ≡ rest = (λ i. c.split_at.ensures.front i ++ c.split_at.ensures.back i) ∙ take-append-drop BLOCK rest in
+    let cut : c.split_at.result.0.now ++ c.split_at.result.1.now ≡ rest =
+    (λ i. c.split_at.ensures.front i ++ c.split_at.ensures.back i) ∙ take-append-drop BLOCK rest in
     let before = c.loop-rest.invariant plain in
     rest_after_block _ _ _ _ _ rest _ _ cut before (c.in_ok-write_block.ensures before.plain (refl {a = true}))

@@ -12,4 +12,6 @@ loop-i-preserved c =
     let within : i < length units = omega (arith, c.requires.within) in
     let unit = c.unwrap_or.ensures ∙ ap (λ o. unwrap_or o 0) (c.get.ensures ∙ slice_get-get_or units i 0 within) in
     let next : i + 1 - c.args.start ≡ k + 1 = omega arith in
-    rw next (big_endian-more c.loop-i.bytes units k c.args.start i c.unwrap_or.result _ _ (omega (arith, c.requires.room)) (omega arith) within unit (λ j. get_or (c.to_be_bytes.ensures j) 0 0 ∷ get_or (c.to_be_bytes.ensures j) 1 0 ∷ []) c.loop-i.invariant)
+    rw next (big_endian-more c.loop-i.bytes units k c.args.start i c.unwrap_or.result _ _
+    (omega (arith, c.requires.room)) (omega arith) within unit
+    (λ j. get_or (c.to_be_bytes.ensures j) 0 0 ∷ get_or (c.to_be_bytes.ensures j) 1 0 ∷ []) c.loop-i.invariant)

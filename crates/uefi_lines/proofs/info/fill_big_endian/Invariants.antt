@@ -4,4 +4,5 @@ use Rattle.uefi_base.specs.Views.{slice_units}
 use Rattle.uefi_lines.proofs.info.fill_big_endian.Given as goal
 
 abbrev pub invariant-loop-i : goal.invariant-loop-i
-invariant-loop-i l = take (2 * (l.i - l.start)) l.bytes ≡ flat_map (to_be_bytes w16) (take (l.i - l.start) (drop l.start (slice_units l.units)))
+invariant-loop-i l = take (2 * (l.i - l.start)) l.bytes
+    ≡ flat_map (to_be_bytes w16) (take (l.i - l.start) (drop l.start (slice_units l.units)))

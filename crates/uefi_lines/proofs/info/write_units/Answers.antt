@@ -18,5 +18,7 @@ loop-start-preserved g c =
       within = omega arith;
       written = λ plain.
           let before = c.loop-start.invariant.written plain in
-          has_written_of_eq _ _ _ _ _ (units_hex-more units c.fill_big_endian.new.bytes start end (omega arith) c.fill_big_endian.ensures) (has_written_append _ _ _ _ _ _ before (c.in_ok-write_hex.ensures before.plain (refl {a = true})));
+          has_written_of_eq _ _ _ _ _ (units_hex-more units c.fill_big_endian.new.bytes start end
+          (omega arith) c.fill_big_endian.ensures)
+          (has_written_append _ _ _ _ _ _ before (c.in_ok-write_hex.ensures before.plain (refl {a = true})));
     }

@@ -7,7 +7,8 @@ use Rattle.uefi_lines.proofs.info.write_units.Given as goal
 abbrev pub invariant-loop-start : goal.invariant-loop-start
 invariant-loop-start g l = record {
   within : l.start ≤ l.count;
-  written : IsPlainFormatter l.initial.f → HasWritten g.W.Write.write_str_gives l.initial.f (units_hex (take l.start (slice_units l.units))) l.f;
+  written : IsPlainFormatter l.initial.f
+      → HasWritten g.W.Write.write_str_gives l.initial.f (units_hex (take l.start (slice_units l.units))) l.f;
 }
 
 abbrev pub decreases-loop-start : goal.decreases-loop-start

@@ -6,4 +6,5 @@ use Rattle.uefi_lines.proofs.map.push_entries.Given as goal
 
 abbrev pub invariant-loop-entry : goal.invariant-loop-entry
 invariant-loop-entry g l =
-    string_bytes l.text ++ flat_map entry_line (entries_left l.entry-iterator) ≡ string_bytes l.initial.text ++ flat_map entry_line (entries_of (ref_bytes l.map) (ref_meta l.map))
+    string_bytes l.text ++ flat_map entry_line (entries_left l.entry-iterator) ≡ string_bytes l.initial.text
+    ++ flat_map entry_line (entries_of (ref_bytes l.map) (ref_meta l.map))

@@ -6,4 +6,5 @@ use Rattle.uefi_lines.proofs.path.push_instance.Given as goal
 
 abbrev pub invariant-loop-node : goal.invariant-loop-node
 invariant-loop-node g l =
-    string_bytes l.text ++ flat_map node_line (nodes_left l.node-iterator) ≡ string_bytes l.initial.text ++ flat_map node_line (all_but_last (instance_nodes l.instance))
+    string_bytes l.text ++ flat_map node_line (nodes_left l.node-iterator) ≡ string_bytes l.initial.text
+    ++ flat_map node_line (all_but_last (instance_nodes l.instance))

@@ -7,6 +7,7 @@ pub loop-instance-preserved : goal.loop-instance-preserved
 loop-instance-preserved g c =
     let before = c.loop-instance.invariant in record {
       instances = before.instances;
-      lines = appended_next instance_lines (instances_left c.loop-instance.instance-iterator) (instances_left c.next.new.self) (instance_nodes c.in-Some.instance) _ _ _
+      lines = appended_next instance_lines (instances_left c.loop-instance.instance-iterator)
+          (instances_left c.next.new.self) (instance_nodes c.in-Some.instance) _ _ _
           c.in-Some.ensures.steps c.in_ok-push_instance.ensures before.lines;
     }

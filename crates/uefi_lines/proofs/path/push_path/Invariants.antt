@@ -7,5 +7,6 @@ use Rattle.uefi_lines.proofs.path.push_path.Given as goal
 abbrev pub invariant-loop-instance : goal.invariant-loop-instance
 invariant-loop-instance g l = record {
   instances : AreInstances (instances_left l.initial.instance-iterator) (path_nodes l.path);
-  lines : string_bytes l.text ++ flat_map instance_lines (instances_left l.instance-iterator) ≡ string_bytes l.initial.text ++ flat_map instance_lines (instances_left l.initial.instance-iterator);
+  lines : string_bytes l.text ++ flat_map instance_lines (instances_left l.instance-iterator)
+      ≡ string_bytes l.initial.text ++ flat_map instance_lines (instances_left l.initial.instance-iterator);
 }

@@ -5,4 +5,5 @@ use Rattle.uefi_lines.proofs.pci.push_resources.Given as goal
 
 abbrev pub invariant-loop-range : goal.invariant-loop-range
 invariant-loop-range g l =
-    string_bytes l.text ++ flat_map resource_line (resources_left l.range-iterator) ≡ string_bytes l.initial.text ++ flat_map resource_line (resources_of l.list)
+    string_bytes l.text ++ flat_map resource_line (resources_left l.range-iterator) ≡ string_bytes l.initial.text
+    ++ flat_map resource_line (resources_of l.list)

@@ -11,7 +11,8 @@ loop-sent-preserved g c =
     let before = rw (← c.deref.ensures.value) at c.loop-sent.invariant.taken in
     let within : sent ≤ length text = omega (arith, c.deref.ensures.len, c.loop-sent.invariant.within) in
     let rest_length = length-take (length text - sent) (drop sent text) in
-    let more = Appends-take_more _ _ _ text sent c.in-Ok.taken within c.in-Ok.ensures.bound before c.in-Ok.ensures.bytes in
+    let more = Appends-take_more _ _ _ text sent c.in-Ok.taken within c.in-Ok.ensures.bound before
+    c.in-Ok.ensures.bytes in
     record {
       within = omega (arith, c.deref.ensures.len, c.in-Ok.ensures.bound, rest_length, length-drop sent text);
       taken = rw c.deref.ensures.value at more;
@@ -20,5 +21,9 @@ loop-sent-preserved g c =
 pub returns-clause-whole : goal.returns-clause-whole
 returns-clause-whole g c =
     let text = c.in_ok-text.text.items in
-    let all = take_all c.loop-sent.sent text (omega (arith, c.len.ensures, c.loop-sent-test.false)) in
-    (text, c.in_ok-text.ensures, subst (λ (sent : List ℕ). Appends (g.W.Write.contents c.args.out.now) (g.W.Write.contents c.loop-sent.out) sent) all c.loop-sent.invariant.taken)
+    let all = take_all c.loop-sent.sent text (omega (arith, c.len.ensures, c.loop-sent-test.false)) in (
+      text,
+      c.in_ok-text.ensures,
+      subst (λ (sent : List ℕ). Appends (g.W.Write.contents c.args.out.now)
+          (g.W.Write.contents c.loop-sent.out) sent) all c.loop-sent.invariant.taken,
+    )

@@ -18,7 +18,9 @@ returns-then-count-eq0-clause-writes g c plain ok =
 pub returns-clause-writes : goal.returns-clause-writes
 returns-clause-writes g c plain ok =
     let units = slice_units c.args.self.now.0 in
-    let some : 0 < length (take (length units - 1) units) = omega (arith, length-take-le (length units - 1) units (omega arith)) in
+    let some : 0 < length (take (length units - 1) units) =
+    omega (arith, length-take-le (length units - 1) units (omega arith)) in
     let field = sym (name_field-some (take (length units - 1) units) some) in
-    put_two g.W.Write.write_str_gives c.args.f.now c.write_str.new.self c.write_units.new.f (codes " ") (units_hex (take (length units - 1) units)) (name_field (take (length units - 1) units))
+    put_two g.W.Write.write_str_gives c.args.f.now c.write_str.new.self c.write_units.new.f (codes " ")
+    (units_hex (take (length units - 1) units)) (name_field (take (length units - 1) units))
     (search rules) (search rules) field

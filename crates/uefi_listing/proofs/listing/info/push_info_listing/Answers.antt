@@ -11,8 +11,11 @@ pub returns-in_ok-push_info-in-Ok : goal.returns-in_ok-push_info-in-Ok
 returns-in_ok-push_info-in-Ok g c =
     let found = c.in-Ok.ensures in
     let name = file_name_of c.in-Ok.info in
-    let grown = rw (found.size, found.fields) at c.in_ok-push_info-in-Ok.ensures in
-    (info_lines (size_in c.args.bytes.now) (file_fields c.args.bytes.now) name, (name, record { verdict = found.verdict; lines = refl }), grown)
+    let grown = rw (found.size, found.fields) at c.in_ok-push_info-in-Ok.ensures in (
+      info_lines (size_in c.args.bytes.now) (file_fields c.args.bytes.now) name,
+      (name, record { verdict = found.verdict; lines = refl }),
+      grown,
+    )
 
 pub returns-in_ok-push_refusal-in-Err : goal.returns-in_ok-push_refusal-in-Err
 returns-in_ok-push_refusal-in-Err g c =

@@ -12,6 +12,14 @@ returns-in_ok-push_map-in-Ok g c =
     let grown = c.in_ok-push_map-in-Ok.ensures in
     let entries = entries_of c.args.bytes.now (file_meta (length c.args.bytes.now) c.args.stride) in (
       map_lines entries grown.0,
-      (grown.0, record { map = rw (same, sizes) at c.in-Ok.map.map; order = rw (same, sizes) at grown.1; lines = refl }),
+      (
+        grown.0,
+        record {
+          map = rw (same, sizes) at c.in-Ok.map.map;
+          order = rw (same, sizes) at grown.1;
+          lines =
+              refl;
+        },
+      ),
       rw (same, sizes) at grown.2,
     )
