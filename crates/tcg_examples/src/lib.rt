@@ -5,6 +5,7 @@
 //! library. Callers of the other libraries stand in the crate `uefi_examples`.
 #![tactic(auto)]
 
+pub mod contracts;
 pub mod digest_logs;
 pub mod events;
 pub mod logs;

@@ -8,6 +8,7 @@
 
 pub mod base;
 pub mod configuration;
+pub mod contracts;
 pub mod flags;
 pub mod full_map;
 pub mod map;

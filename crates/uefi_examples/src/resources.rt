@@ -1,5 +1,4 @@
-ghost use Rattle.std.specs.Prelude.{◌≡◌, ◌≢◌, ◌↔◌, ◌^◌, ◌<◌, ◌≤◌, List, length, sum_by, IsTrue, IsNone, IsSome, IfOk, IfErr, IfSome};
-ghost use Rattle.std.specs.List.{Any};
+ghost use Rattle.std.specs.Prelude.{◌≡◌, ◌≢◌, ◌↔◌, ◌^◌, ◌<◌, List, length, sum_by, IsTrue, IsNone, IsSome, IfOk, IfErr, IfSome};
 ghost use Rattle.uefi_map.specs.declared.pci.resource.QwordAddressSpaceDescriptor.{QwordAddressSpaceDescriptor};
 ghost use Rattle.uefi_map.specs.pci.ResourceList.{HaveList, HaveFault, HaveSomeList};
 ghost use Rattle.uefi_map.specs.pci.Views.{resources_left};
@@ -33,19 +32,6 @@ pub fn fault_of(alloc: Global, bytes: &[u8]) -> Result<Option<ResourceError>, Al
         Err(ResourceError::Memory) => Err(AllocError),
         Err(fault) => Ok(Some(fault)),
     }
-}
-
-/// Whether one of the ranges that the bytes list has the address.
-pub fn is_decoded(alloc: Global, bytes: &[u8], address: u64) -> Result<bool, ResourceError>
-    ensures list { IfOk result (λ found. (list : List QwordAddressSpaceDescriptor)
-        × HaveList bytes.now list
-        × (IsTrue found ↔ Any (λ range.
-        (range.address_min ≤ address) × (address ≤ range.address_max)) list)) }
-    ensures fault { IfErr result
-        (λ fault. fault ≢ ResourceError.Memory → HaveFault bytes.now fault) }
-{
-    let list = parse(alloc, bytes)?;
-    Ok(list.iter().any(|range| range.address_min <= address && address <= range.address_max))
 }
 
 /// Returns the count of addresses in all ranges that the bytes list, or `None` if they begin with

@@ -1,0 +1,4 @@
+//! A function of one's own over each reader of logs, as docs/CONTRACTS.md shows them: each file is
+//! one example, with all that it imports, and can be copied as it stands.
+
+pub mod register;

@@ -1,0 +1,33 @@
+ghost use Rattle.std.specs.Prelude.{◌≡◌, ◌==◌, IfOk, List, Some, count_by, filter, length, map};
+ghost use Rattle.uefi_tcg.specs.v2.Event.{Event};
+ghost use Rattle.uefi_tcg.specs.v2.Header.{after_header};
+ghost use Rattle.uefi_tcg.specs.v2.Log.{IsLogOf};
+ghost use Rattle.uefi_tcg.specs.v2.Views.{event_of};
+
+use std::alloc::{AllocError, Global};
+use uefi_tcg::PcrIndex;
+use uefi_tcg::v2::{EventLog, PcrEvent};
+
+/// Returns the events of a log that extended a register, in order.
+pub fn events_of_register<'a>(
+    alloc: Global,
+    bytes: &'a [u8],
+    last_entry: usize,
+    register: PcrIndex,
+) -> Result<Vec<PcrEvent<'a>>, AllocError>
+    ensures events { IfOk result (λ events. (log : List Event)
+        × IsLogOf after_header (Some bytes.now) (Some last_entry) log
+        × (map event_of events.items ≡ filter (λ event. event.pcr_index == register.0) log)) }
+    ensures count { IfOk result (λ events. (log : List Event)
+        × IsLogOf after_header (Some bytes.now) (Some last_entry) log
+        × (length events.items ≡ count_by (λ event. event.pcr_index == register.0) log)) }
+{
+    let log = EventLog::new(Some(bytes), Some(last_entry), false);
+    let mut events = Vec::new(alloc);
+    for event in log.iter() {
+        if event.pcr_index() == register {
+            events.push(event)?;
+        }
+    }
+    Ok(events)
+}

@@ -1,0 +1,9 @@
+//! A function of one's own over each reader, as docs/CONTRACTS.md shows them: each file is one
+//! example, with all that it imports, and can be copied as it stands.
+
+pub mod configuration;
+pub mod file;
+pub mod map;
+pub mod path;
+pub mod resources;
+pub mod time;
