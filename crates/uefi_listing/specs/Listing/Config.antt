@@ -11,11 +11,7 @@ pub record ListsConfigurations (bytes text : List ℕ) (parts : List Part) : Typ
   pub cut : Cut bytes parts
   pub lines : text ≡ config_lines (results_of parts)
 
--- The bytes are not UTF-8, and the text says so.
-pub record RefusesText (bytes text : List ℕ) : Type 0 where
-  pub no_text : ¬ IsUtf8 bytes
-  pub line : text ≡ codes "refused NotUtf8\n"
-
+-- If the bytes are not UTF-8, the text says so.
 abbrev pub ConfigListing : List ℕ → List ℕ → Outcome → Type 0
 ConfigListing bytes text Listed = (parts : List Part) × ListsConfigurations bytes text parts
-ConfigListing bytes text Refused = RefusesText bytes text
+ConfigListing bytes text Refused = (¬ IsUtf8 bytes) × (text ≡ codes "refused NotUtf8\n")

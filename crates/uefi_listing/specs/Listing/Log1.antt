@@ -6,12 +6,7 @@ use Rattle.tcg_lines.specs.V1.{log_lines}
 use Rattle.uefi_listing.specs.declared.listing.Outcome.{Outcome}
 use Rattle.uefi_listing.specs.declared.listing.Outcome.TheVariants.{Listed, Refused}
 
--- The text lists the log of the bytes with the last entry.
-pub record ListsLog (last_entry : Option ℕ) (bytes text : List ℕ) (events : List Event) : Type 0 where
-  pub log : IsLogOf (Some bytes) last_entry events
-  pub lines : text ≡ log_lines events
-
--- No bytes are refused: each have a log, which may be empty.
+-- The text lists the log of the bytes with the last entry. No bytes are refused: each have a log, which may be empty.
 abbrev pub Log1Listing : Option ℕ → List ℕ → List ℕ → Outcome → Type 0
-Log1Listing last_entry bytes text Listed = (events : List Event) × ListsLog last_entry bytes text events
+Log1Listing last_entry bytes text Listed = (events : List Event) × IsLogOf (Some bytes) last_entry events × (text ≡ log_lines events)
 Log1Listing last_entry bytes text Refused = ⊥

@@ -16,11 +16,7 @@ pub record ListsMap (stride : ℕ) (bytes text : List ℕ) (sorted : Bool) : Typ
   pub order : IsTrue sorted ↔ AreSorted bytes (file_meta (length bytes) stride)
   pub lines : text ≡ map_lines (entries_of bytes (file_meta (length bytes) stride)) sorted
 
--- The bytes are no memory map at this stride, and the text says that they are refused.
-pub record RefusesMap (stride : ℕ) (bytes text : List ℕ) : Type 0 where
-  pub none : ¬ IsMap (length bytes) (file_meta (length bytes) stride)
-  pub line : text ≡ codes "refused InvalidSize\n"
-
+-- If the bytes are no memory map at this stride, the text says that they are refused.
 abbrev pub MapListing : ℕ → List ℕ → List ℕ → Outcome → Type 0
 MapListing stride bytes text Listed = (sorted : Bool) × ListsMap stride bytes text sorted
-MapListing stride bytes text Refused = RefusesMap stride bytes text
+MapListing stride bytes text Refused = (¬ IsMap (length bytes) (file_meta (length bytes) stride)) × (text ≡ codes "refused InvalidSize\n")

@@ -14,11 +14,7 @@ pub record ListsPath (bytes text : List ℕ) (nodes : List Node) (parts : List (
   pub instances : AreInstances parts nodes
   pub lines : text ≡ path_lines nodes parts
 
--- No prefix of the bytes is a path, and the text says that they are refused.
-pub record RefusesPath (bytes text : List ℕ) : Type 0 where
-  pub none : ¬ HasPath bytes
-  pub line : text ≡ codes "refused InvalidLength\n"
-
+-- If no prefix of the bytes is a path, the text says that they are refused.
 abbrev pub PathListing : List ℕ → List ℕ → Outcome → Type 0
 PathListing bytes text Listed = (nodes : List Node) × (parts : List (List Node)) × ListsPath bytes text nodes parts
-PathListing bytes text Refused = RefusesPath bytes text
+PathListing bytes text Refused = (¬ HasPath bytes) × (text ≡ codes "refused InvalidLength\n")

@@ -16,16 +16,7 @@ fault_line CutRecord = codes "refused CutRecord\n"
 fault_line (UnknownTag tag) = codes "refused UnknownTag(" ++ decimal tag ++ codes ")\n"
 fault_line Memory = []
 
--- The text lists the resources that the bytes begin with.
-pub record ListsResources (bytes text : List ℕ) (list : List QwordAddressSpaceDescriptor) : Type 0 where
-  pub stands : HaveList bytes list
-  pub lines : text ≡ resource_lines list
-
--- The bytes begin with no list of resources, and the text names their fault.
-pub record RefusesResources (bytes text : List ℕ) (fault : ResourceError) : Type 0 where
-  pub stands : HaveFault bytes fault
-  pub line : text ≡ fault_line fault
-
+-- The text lists the resources that the bytes begin with. If they begin with no list, it names their fault.
 abbrev pub PciListing : List ℕ → List ℕ → Outcome → Type 0
-PciListing bytes text Listed = (list : List QwordAddressSpaceDescriptor) × ListsResources bytes text list
-PciListing bytes text Refused = (fault : ResourceError) × RefusesResources bytes text fault
+PciListing bytes text Listed = (list : List QwordAddressSpaceDescriptor) × HaveList bytes list × (text ≡ resource_lines list)
+PciListing bytes text Refused = (fault : ResourceError) × HaveFault bytes fault × (text ≡ fault_line fault)

@@ -19,11 +19,7 @@ pub record ListsTime (bytes text : List ℕ) (time : TimeFields) : Type 0 where
   pub faultless : reading_faults time ≡ no_fault
   pub line : text ≡ time_line time
 
--- No time without a fault stands in the bytes, and the text says why.
-pub record RefusesTimeLine (bytes text : List ℕ) (refusal : TimeByteConversionError) : Type 0 where
-  pub none : RefusesTime bytes refusal
-  pub line : text ≡ refused_time_line refusal
-
+-- If no time without a fault stands in the bytes, the text says why.
 abbrev pub TimeListing : List ℕ → List ℕ → Outcome → Type 0
 TimeListing bytes text Listed = (time : TimeFields) × ListsTime bytes text time
-TimeListing bytes text Refused = (refusal : TimeByteConversionError) × RefusesTimeLine bytes text refusal
+TimeListing bytes text Refused = (refusal : TimeByteConversionError) × RefusesTime bytes refusal × (text ≡ refused_time_line refusal)

@@ -13,7 +13,7 @@ returns-in_ok-push_info-in-Ok g c =
     let name = file_name_of c.in-Ok.info in
     let grown = rw (found.size, found.fields) at c.in_ok-push_info-in-Ok.ensures in (
       info_lines (size_in c.args.bytes.now) (file_fields c.args.bytes.now) name,
-      (name, record { verdict = found.verdict; lines = refl }),
+      (name, found.verdict, refl),
       grown,
     )
 
