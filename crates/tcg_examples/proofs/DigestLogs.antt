@@ -2,7 +2,7 @@
 use Rattle.std.proofs.Common.{◌≡◌, ℕ, ◌+◌, ◌-◌, ◌/◌, ◌<◌, ◌≤◌, List, [], length, refl, ap, subst, arith}
 use Rattle.std.specs.Prelude.{Option, None, Some}
 use Rattle.uefi_tcg.specs.v2.Event.{Event}
-use Rattle.uefi_tcg.specs.v2.Header.{HeaderEvent, IsHeaderEvent, after_event, after_header, event_end, header_bytes}
+use Rattle.uefi_tcg.specs.v2.Header.{HeaderEvent, IsHeaderEvent, after_event, after_header, start_of, header_bytes}
 use Rattle.uefi_tcg.specs.v2.Laws.{OneLog, IsBounded, least_length, least_start}
 use Rattle.uefi_tcg.specs.v2.Log.{IsLog}
 use Rattle.tcg_examples.proofs.DigestSteps.{log_of}
@@ -10,7 +10,7 @@ use Rattle.tcg_examples.proofs.DigestSteps.{log_of}
 -- What is said of a header event is said of the one that a log has.
 pub bound_after_event : OneLog → IsBounded → (bytes : List ℕ) (last_entry : ℕ) (also : Option HeaderEvent) (log : List Event) → IsLog after_event bytes last_entry also log
     → (found : HeaderEvent) → IsHeaderEvent bytes last_entry found.event found.header
-    → (last_entry < event_end found.event → log ≡ []) × (length log ≤ (last_entry - event_end found.event) / 16 + 1)
+    → (last_entry < start_of after_event found → log ≡ []) × (length log ≤ (last_entry - start_of after_event found) / 16 + 1)
 bound_after_event one law bytes last_entry None log is found has = absurd (is.0 found.header (found.event, has))
 bound_after_event one law bytes last_entry (Some also) log is found has =
     let same : also ≡ found = one.header_event bytes last_entry also found is.0 has in

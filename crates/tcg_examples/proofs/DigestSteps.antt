@@ -5,10 +5,15 @@ use Rattle.uefi_tcg.specs.declared.v2.event.PcrEvent.{PcrEvent}
 use Rattle.uefi_tcg.specs.v1.Laws.{SameUpTo}
 use Rattle.uefi_tcg.specs.v2.Event.{Event, Table}
 use Rattle.uefi_tcg.specs.v2.Header.{HeaderEvent, Start}
-use Rattle.uefi_tcg.specs.v2.Iteration.{Iteration, IsAt, KeepsNext}
+use Rattle.uefi_tcg.specs.v2.Iteration.{Iteration, KeepsNext}
 use Rattle.uefi_tcg.specs.v2.Laws.{IsLocal, LastEndsAt, Logged, OneLog}
 use Rattle.uefi_tcg.specs.v2.Log.{EventsKeep, IsLog}
 use Rattle.uefi_tcg.specs.v2.Views.{event_of}
+
+-- The iteration goes over these bytes with this last entry and this table, and the next event starts at this offset.
+abbrev pub IsAt : Table → ℕ → ℕ → List ℕ → Iteration → Type 0
+IsAt table offset last_entry bytes it =
+    (it.bytes ≡ bytes) × (it.last_entry ≡ last_entry) × (it.table ≡ table) × (it.offset ≡ offset)
 
 -- The log of these bytes with this last entry.
 abbrev pub log_of : (start : Start) (bytes : List ℕ) (last_entry : ℕ) (events : List Event) → ((found : Option HeaderEvent) × IsLog start bytes last_entry found events) → Logged start
@@ -25,18 +30,18 @@ same_again one local start log earlier end ends same entry =
 pub keeps_there : (table : Table) (offset l : ℕ) (b : List ℕ) (it : Iteration) (event : Event) → IsAt table offset l b it
     → KeepsNext it event → EventsKeep table (event ∷ []) offset l b
 keeps_there table offset l b it event at keeps =
-    subst (λ (t : Table). EventsKeep t (event ∷ []) offset l b) at.same_table
-    (subst (λ (s : ℕ). EventsKeep it.table (event ∷ []) s l b) at.same_offset
-    (subst (λ (m : ℕ). EventsKeep it.table (event ∷ []) it.offset m b) at.same_last_entry
-    (subst (λ (x : List ℕ). EventsKeep it.table (event ∷ []) it.offset it.last_entry x) at.same_bytes keeps)))
+    subst (λ (t : Table). EventsKeep t (event ∷ []) offset l b) at.2
+    (subst (λ (s : ℕ). EventsKeep it.table (event ∷ []) s l b) at.3
+    (subst (λ (m : ℕ). EventsKeep it.table (event ∷ []) it.offset m b) at.1
+    (subst (λ (x : List ℕ). EventsKeep it.table (event ∷ []) it.offset it.last_entry x) at.0 keeps)))
 
 keeps_here : (table : Table) (offset l : ℕ) (b : List ℕ) (it : Iteration) (event : Event) → IsAt table offset l b it
     → EventsKeep table (event ∷ []) offset l b → KeepsNext it event
 keeps_here table offset l b it event at keeps =
-    subst (λ (t : Table). EventsKeep t (event ∷ []) it.offset it.last_entry it.bytes) (sym at.same_table)
-    (subst (λ (s : ℕ). EventsKeep table (event ∷ []) s it.last_entry it.bytes) (sym at.same_offset)
-    (subst (λ (m : ℕ). EventsKeep table (event ∷ []) offset m it.bytes) (sym at.same_last_entry)
-    (subst (λ (x : List ℕ). EventsKeep table (event ∷ []) offset l x) (sym at.same_bytes) keeps)))
+    subst (λ (t : Table). EventsKeep t (event ∷ []) it.offset it.last_entry it.bytes) (sym at.2)
+    (subst (λ (s : ℕ). EventsKeep table (event ∷ []) s it.last_entry it.bytes) (sym at.3)
+    (subst (λ (m : ℕ). EventsKeep table (event ∷ []) offset m it.bytes) (sym at.1)
+    (subst (λ (x : List ℕ). EventsKeep table (event ∷ []) offset l x) (sym at.0) keeps)))
 
 -- What one step says of the iteration it says of the log's bytes.
 pub step_there : (table : Table) (offset l : ℕ) (b : List ℕ) (it : Iteration) (result : Option PcrEvent) → IsAt table offset l b it
@@ -48,9 +53,4 @@ step_there table offset l b it (Some event) at keeps = keeps_there table offset 
 -- An iterator of a log goes on where the event before ended.
 pub moved_on : (table : Table) (offset l n : ℕ) (b : List ℕ) (it next : Iteration) → IsAt table offset l b it
     → next.bytes ≡ it.bytes → next.table ≡ it.table → next.last_entry ≡ it.last_entry → next.offset ≡ it.offset + n → IsAt table (offset + n) l b next
-moved_on table offset l n b it next at bytes rows entry moved = record {
-  same_bytes = bytes ∙ at.same_bytes;
-  same_table = rows ∙ at.same_table;
-  same_last_entry = entry ∙ at.same_last_entry;
-  same_offset = moved ∙ ap (λ (s : ℕ). s + n) at.same_offset;
-}
+moved_on table offset l n b it next at bytes rows entry moved = (bytes ∙ at.0, entry ∙ at.1, rows ∙ at.2, moved ∙ ap (λ (s : ℕ). s + n) at.3)

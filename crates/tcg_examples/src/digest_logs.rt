@@ -2,7 +2,7 @@ ghost use Rattle.std.specs.Prelude.{◌≡◌, ◌==◌, ◌+◌, ◌-◌, ◌/�
 ghost use Rattle.uefi_base.specs.Prefix.{IsPrefix};
 ghost use Rattle.uefi_tcg.specs.v1.Laws.{SameUpTo};
 ghost use Rattle.uefi_tcg.specs.v2.Event.{Event, event_bytes};
-ghost use Rattle.uefi_tcg.specs.v2.Header.{Header, HasHeader, HeaderEvent, IsHeaderEvent, after_event, after_header, event_end, events_start, header_bytes};
+ghost use Rattle.uefi_tcg.specs.v2.Header.{Header, HasHeader, HeaderEvent, IsHeaderEvent, after_event, after_header, events_start, header_bytes, start_of};
 ghost use Rattle.uefi_tcg.specs.v2.Laws.{HaveEnded, LastEndsAt, Logged, least_length, least_start};
 ghost use Rattle.uefi_tcg.specs.v2.Log.{EventsKeep, IsLog, IsLogOf};
 ghost use Rattle.uefi_tcg.specs.v2.Views.{digest_of, event_of};
@@ -206,10 +206,10 @@ pub fn event_count_after_header_event(bytes: &[u8], last_entry: usize) -> usize
         × (result ≡ length events) }
     ensures none { (found : HeaderEvent)
         → IsHeaderEvent bytes.now last_entry found.event found.header
-        → last_entry < event_end found.event → result ≡ 0 }
+        → last_entry < start_of after_event found → result ≡ 0 }
     ensures few { (found : HeaderEvent)
         → IsHeaderEvent bytes.now last_entry found.event found.header
-        → result ≤ (last_entry - event_end found.event) / least_length + 1 }
+        → result ≤ (last_entry - start_of after_event found) / least_length + 1 }
 {
     one_log_v2();
     bound_v2();
@@ -250,12 +250,12 @@ pub fn first_step(bytes: &[u8], last_entry: usize) -> Option<PcrEvent<'_>>
 pub fn two_steps(bytes: &[u8], last_entry: usize) -> Option<(PcrEvent<'_>, PcrEvent<'_>)>
     ensures first { IfSome result (λ two. (found : HeaderEvent)
         → IsHeaderEvent bytes.now last_entry found.event found.header
-        → EventsKeep found.header.table (event_of two.0 ∷ []) (event_end found.event) last_entry
-        bytes.now) }
+        → EventsKeep found.header.table (event_of two.0 ∷ []) (start_of after_event found)
+        last_entry bytes.now) }
     ensures second { IfSome result (λ two. (found : HeaderEvent)
         → IsHeaderEvent bytes.now last_entry found.event found.header
         → EventsKeep found.header.table (event_of two.1 ∷ [])
-        (event_end found.event + length (event_bytes (event_of two.0))) last_entry bytes.now) }
+        (start_of after_event found + length (event_bytes (event_of two.0))) last_entry bytes.now) }
 {
     let log = EventLog::new(Some(bytes), Some(last_entry), false);
     let mut events = log.iter_after_header_event();

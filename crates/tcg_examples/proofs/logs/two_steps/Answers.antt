@@ -1,9 +1,8 @@
 use Rattle.std.proofs.Common.{◌≡◌, ◌+◌, ℕ, ◌∷◌, [], length, ap, subst, arith}
 use Rattle.uefi_tcg.specs.LogInput.{LogInput}
-use Rattle.uefi_tcg.specs.v1.Iteration.{IsAt}
 use Rattle.uefi_tcg.specs.v1.Log.{EventsKeep}
 use Rattle.uefi_tcg.specs.v1.Views.{bytes_of_event, event_of}
-use Rattle.tcg_examples.proofs.LogSteps.{keeps_there, moved_on}
+use Rattle.tcg_examples.proofs.LogSteps.{IsAt, keeps_there, moved_on}
 use Rattle.tcg_examples.proofs.logs.two_steps.Goals as goal
 
 -- Where the iterator stands before its first step.
