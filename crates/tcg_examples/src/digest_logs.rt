@@ -12,7 +12,7 @@ use uefi_tcg::laws::{bound_v2, cut_v2, local_v2, one_log_v2, same_where_nothing_
 use uefi_tcg::v2::{EventLog, PcrEvent};
 use uefi_tcg::{AlgorithmId, PcrIndex};
 
-/// The events of a log of version 2, by `collect`: they are the log under its own header's table.
+/// Collects the events of a log of version 2: they are the log under its own header's table.
 pub fn collected_events<'a>(
     alloc: Global,
     bytes: &'a [u8],
@@ -27,7 +27,7 @@ pub fn collected_events<'a>(
         .collect(alloc)
 }
 
-/// The same of the events that follow the header event.
+/// Collects the events of a log that follow its header event: they are its log from there.
 pub fn events_after_header_event<'a>(
     alloc: Global,
     bytes: &'a [u8],
@@ -42,8 +42,8 @@ pub fn events_after_header_event<'a>(
         .collect(alloc)
 }
 
-/// How many events a log of version 2 has from either start, where its header event has nothing but
-/// the header: the same number, that of its events.
+/// Returns how many events a log of version 2 has from either start, where its header event has
+/// nothing but the header: the same number, that of its events.
 pub fn counts_from_both_starts(bytes: &[u8], last_entry: usize) -> (usize, usize)
     requires { (found : HeaderEvent) → IsHeaderEvent bytes.now last_entry found.event found.header
         → found.event.event_data ≡ header_bytes found.header }
@@ -59,7 +59,8 @@ pub fn counts_from_both_starts(bytes: &[u8], last_entry: usize) -> (usize, usize
     )
 }
 
-/// How many events of a log of version 2 follow the header event, by `count`: as many as its list.
+/// Returns how many events of a log of version 2 follow the header event, by `count`: as many as
+/// its list.
 pub fn count_after_header_event(bytes: &[u8], last_entry: usize) -> usize
     ensures { (events : List Event) × IsLogOf after_event (Some bytes.now) (Some last_entry) events
         × (result ≡ length events) }
@@ -68,8 +69,8 @@ pub fn count_after_header_event(bytes: &[u8], last_entry: usize) -> usize
     log.iter_after_header_event().count()
 }
 
-/// The events of a log of version 2: every list of events under the header's table that keeps to
-/// the last entry is a prefix of them.
+/// Returns the events of a log of version 2: every list of events under the header's table that
+/// keeps to the last entry is a prefix of them.
 pub fn every_event<'a>(
     alloc: Global,
     bytes: &'a [u8],
@@ -84,8 +85,8 @@ pub fn every_event<'a>(
     collected_events(alloc, bytes, last_entry)
 }
 
-/// The events of a log of version 2 that may have grown: they begin with those of each earlier log,
-/// the same up to its last entry, that ended at that entry or before it.
+/// Returns the events of a log of version 2 that may have grown: they begin with those of each
+/// earlier log, the same up to its last entry, that ended at that entry or before it.
 pub fn events_so_far<'a>(
     alloc: Global,
     bytes: &'a [u8],
@@ -119,7 +120,7 @@ pub fn events_again<'a>(
     collected_events(alloc, bytes, last_entry)
 }
 
-/// The same of the events that follow the header event, with those of a log that has grown.
+/// Reads the events again that follow the header event, also those of a log that has grown.
 pub fn events_again_after_header_event<'a>(
     alloc: Global,
     bytes: &'a [u8],
@@ -140,7 +141,7 @@ pub fn events_again_after_header_event<'a>(
     events_after_header_event(alloc, bytes, last_entry)
 }
 
-/// The events of the first bytes of a log of version 2: a prefix of the log.
+/// Returns the events of the first bytes of a log of version 2: a prefix of the log.
 pub fn events_of_part<'a>(
     alloc: Global,
     bytes: &'a [u8],
@@ -159,8 +160,8 @@ pub fn events_of_part<'a>(
     collected_events(alloc, &bytes[..count], last_entry)
 }
 
-/// The events of the first bytes of a log of version 2 that follow the header event: a prefix of
-/// those of the log.
+/// Returns the events of the first bytes of a log of version 2 that follow the header event: a
+/// prefix of those of the log.
 pub fn part_after_header_event<'a>(
     alloc: Global,
     bytes: &'a [u8],
@@ -176,7 +177,7 @@ pub fn part_after_header_event<'a>(
     events_after_header_event(alloc, &bytes[..count], last_entry)
 }
 
-/// How many events a log of version 2 has: none if its last entry is before the least
+/// Returns how many events a log of version 2 has: none if its last entry is before the least
 /// start, else not more than fit from there, and one.
 pub fn event_count(bytes: &[u8], last_entry: usize) -> usize
     ensures count { (events : List Event)
@@ -189,7 +190,7 @@ pub fn event_count(bytes: &[u8], last_entry: usize) -> usize
     count_from_header(bytes, last_entry)
 }
 
-// How many events a log of version 2 has from its header's end on.
+// Returns how many events a log of version 2 has from its header's end on.
 fn count_from_header(bytes: &[u8], last_entry: usize) -> usize
     ensures { (events : List Event) × IsLogOf after_header (Some bytes.now) (Some last_entry) events
         × (result ≡ length events) }
@@ -198,8 +199,8 @@ fn count_from_header(bytes: &[u8], last_entry: usize) -> usize
     log.iter().count()
 }
 
-/// How many events of a log of version 2 follow the header event: none if the last entry is before
-/// that event's end.
+/// Returns how many events of a log of version 2 follow the header event: none if the last entry is
+/// before that event's end.
 pub fn event_count_after_header_event(bytes: &[u8], last_entry: usize) -> usize
     ensures count { (events : List Event)
         × IsLogOf after_event (Some bytes.now) (Some last_entry) events
@@ -216,7 +217,7 @@ pub fn event_count_after_header_event(bytes: &[u8], last_entry: usize) -> usize
     count_after_header_event(bytes, last_entry)
 }
 
-/// How many events of a log of version 2 are of a register.
+/// Returns how many events of a log of version 2 are of a register.
 pub fn count_of_register(bytes: &[u8], last_entry: usize, register: PcrIndex) -> usize
     ensures { (events : List Event) × IsLogOf after_header (Some bytes.now) (Some last_entry) events
         × (result ≡ count_by (λ event. event.pcr_index == register.0) events) }

@@ -12,7 +12,7 @@ use uefi_base::Error;
 use uefi_tcg::v1::{BootServiceCapability, PcrEvent, Sha1Digest, Version, write_event};
 use uefi_tcg::{EventType, PcrIndex};
 
-/// An event written to a caller's buffer, if it fits; else the buffer stays as it was.
+/// Writes an event to a caller's buffer, if it fits; else the buffer stays as it was.
 pub fn write_loader_event(
     buffer: &mut [u8],
     register: PcrIndex,
@@ -27,7 +27,7 @@ pub fn write_loader_event(
     Ok(())
 }
 
-/// The room that an event wants, as the error says.
+/// Returns the room that an event wants, as the error says.
 pub fn wanted_room(buffer: &mut [u8], digest: Sha1Digest, event_data: &[u8]) -> Option<usize>
     requires four { length event_data.now ≡ 4 }
     requires short { length buffer.old < header_length + 4 }
@@ -39,8 +39,8 @@ pub fn wanted_room(buffer: &mut [u8], digest: Sha1Digest, event_data: &[u8]) -> 
     }
 }
 
-/// Whether an event that owns its bytes equals the one in a buffer that is made of the same values:
-/// always, unless an allocation fails.
+/// Returns whether an event that owns its bytes equals the one in a buffer that is made of the same
+/// values: always, unless an allocation fails.
 pub fn is_same_in_box<A: Allocator>(
     alloc: A,
     buffer: &mut [u8],
@@ -61,21 +61,22 @@ pub fn is_same_in_box<A: Allocator>(
     }
 }
 
-/// Whether two capabilities are equal: exactly if all their fields are.
+/// Returns whether two capabilities are equal: exactly if all their fields are.
 pub fn is_same_capability(one: &BootServiceCapability, other: &BootServiceCapability) -> bool
     ensures { IsTrue result ↔ (one.now ≡ other.now) }
 {
     one == other
 }
 
-/// The order of capabilities agrees with their equality.
+/// Returns whether neither capability is less: exactly if they are equal.
 pub fn is_neither_less(one: &BootServiceCapability, other: &BootServiceCapability) -> bool
     ensures { IsTrue result ↔ (one.now ≡ other.now) }
 {
     one.cmp(other) == Ordering::Equal
 }
 
-/// Versions with one major number are ordered by the minor one first.
+/// Returns whether one version is less, where both have one major number: it is if its minor number
+/// is.
 pub fn is_earlier(one: &Version, other: &Version) -> bool
     requires major { one.now.major ≡ other.now.major }
     requires minor { one.now.minor < other.now.minor }
@@ -84,21 +85,21 @@ pub fn is_earlier(one: &Version, other: &Version) -> bool
     one < other
 }
 
-/// The default of a version: all zero.
+/// Returns the default of a version: all zero.
 pub fn zero_version() -> Version
     ensures { result ≡ record { major = 0; minor = 0; rev_major = 0; rev_minor = 0 } }
 {
     Version::default()
 }
 
-/// Registers are ordered by their numbers.
+/// Returns whether one register is less: exactly if its number is.
 pub fn is_lower_register(one: &PcrIndex, other: &PcrIndex) -> bool
     ensures { IsTrue result ↔ (one.now.0 < other.now.0) }
 {
     one < other
 }
 
-/// Equal registers have equal hashes: those of their numbers.
+/// Hashes equal registers: their hashes are equal, those of their numbers.
 pub fn hashes<H: Hasher>(one: &PcrIndex, other: &PcrIndex, mut first: H, mut second: H) -> (H, H)
     requires registers { one.now ≡ other.now }
     requires hashers { first ≡ second }

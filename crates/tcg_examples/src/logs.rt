@@ -11,7 +11,8 @@ use uefi_tcg::laws::{bound_v1, cut_v1, local_v1, one_log_v1, written_event};
 use uefi_tcg::v1::{EventLog, PcrEvent, Sha1Digest, write_event};
 use uefi_tcg::{EventType, PcrIndex};
 
-/// The events of a log, by `for`: they keep to the last entry, and no event can be added to them.
+/// Returns the events of a log, by `for`: they keep to the last entry, and no event can be added to
+/// them.
 pub fn audited_events<'a>(
     alloc: Global,
     bytes: &'a [u8],
@@ -30,7 +31,7 @@ pub fn audited_events<'a>(
     Ok(events)
 }
 
-/// The same by `collect`: the events are the log.
+/// Collects the events of a log: they are the log.
 pub fn collected_events<'a>(
     alloc: Global,
     bytes: &'a [u8],
@@ -43,7 +44,8 @@ pub fn collected_events<'a>(
         .collect(alloc)
 }
 
-/// The events of a log: every list of events that keeps to the last entry is a prefix of them.
+/// Returns the events of a log: every list of events that keeps to the last entry is a prefix of
+/// them.
 pub fn every_event<'a>(
     alloc: Global,
     bytes: &'a [u8],
@@ -57,8 +59,8 @@ pub fn every_event<'a>(
     collected_events(alloc, bytes, last_entry)
 }
 
-/// The events of a log that may have grown: they begin with those of each earlier log, the same up
-/// to its last entry, that ended at that entry or before it.
+/// Returns the events of a log that may have grown: they begin with those of each earlier log, the
+/// same up to its last entry, that ended at that entry or before it.
 pub fn events_so_far<'a>(
     alloc: Global,
     bytes: &'a [u8],
@@ -93,7 +95,7 @@ pub fn events_again<'a>(
     collected_events(alloc, bytes, last_entry)
 }
 
-/// The events of the first bytes of a log: a prefix of the log.
+/// Returns the events of the first bytes of a log: a prefix of the log.
 pub fn events_of_part<'a>(
     alloc: Global,
     bytes: &'a [u8],
@@ -133,7 +135,7 @@ pub fn event_read_back<'a>(
         .next()
 }
 
-/// How many events a log has, by `count`: not more than fit before its last entry, and one.
+/// Counts the events of a log, by `count`: not more than fit before its last entry, and one.
 pub fn event_count(bytes: &[u8], last_entry: usize) -> usize
     ensures count { (events : List Event) × IsLog bytes.now last_entry events
         × (result ≡ length events) }
@@ -144,7 +146,7 @@ pub fn event_count(bytes: &[u8], last_entry: usize) -> usize
     log.iter().count()
 }
 
-/// A log without a last entry has no events.
+/// Counts the events of a log without a last entry: it has none.
 pub fn count_without_last_entry(bytes: &[u8]) -> usize
     ensures { result ≡ 0 }
 {
@@ -182,8 +184,8 @@ pub fn two_steps(bytes: &[u8], last_entry: usize) -> Option<(PcrEvent<'_>, PcrEv
     Some((first, second))
 }
 
-/// The first event of a log and its data, which live as long as the bytes: the log and the iterator
-/// are gone.
+/// Returns the first event of a log and its data, which live as long as the bytes: the log and the
+/// iterator are gone.
 pub fn first_event(bytes: &[u8], last_entry: usize) -> Option<(PcrEvent<'_>, &[u8])>
     ensures event { (events : List Event) × IsLog bytes.now last_entry events
         × (option_map (λ found. event_of found.0) result ≡ slice_get events 0) }

@@ -9,18 +9,6 @@ mod machine_log;
 #[cfg(test)]
 mod texts;
 #[cfg(test)]
-mod v1_cuts;
+mod v1;
 #[cfg(test)]
-mod v1_logs;
-#[cfg(test)]
-mod v1_writers;
-#[cfg(test)]
-mod v2_cuts;
-#[cfg(test)]
-mod v2_headers;
-#[cfg(test)]
-mod v2_logs;
-#[cfg(test)]
-mod v2_starts;
-#[cfg(test)]
-mod v2_writers;
+mod v2;

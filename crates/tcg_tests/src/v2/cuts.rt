@@ -1,5 +1,5 @@
 use crate::texts::joined;
-use crate::v2_logs::{LONG_EVENT, ZERO_EVENT};
+use crate::v2::logs::{LONG_EVENT, ZERO_EVENT};
 use std::alloc::Global;
 use std::test::Fail;
 use test_support::samples::{FOUR_EVENTS, FOUR_HEADER};

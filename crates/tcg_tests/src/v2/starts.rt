@@ -1,5 +1,5 @@
 use crate::texts::joined;
-use crate::v2_logs::{FIRST, LOGS, LONG_EVENT, SECOND, ZERO_EVENT, lines_of};
+use crate::v2::logs::{FIRST, LOGS, LONG_EVENT, SECOND, ZERO_EVENT, lines_of};
 use std::alloc::Global;
 use std::test::Fail;
 use test_support::samples::{FOUR_EVENTS, FOUR_HEADER, SHA1_HEADER};

@@ -1,0 +1,5 @@
+//! Logs of version 1.
+
+mod cuts;
+mod logs;
+mod writers;

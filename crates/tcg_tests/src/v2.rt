@@ -1,0 +1,7 @@
+//! Logs of version 2, and the inputs of their events.
+
+mod cuts;
+mod headers;
+mod logs;
+mod starts;
+mod writers;
