@@ -8,7 +8,9 @@ use Rattle.uefi_tcg.specs.v2.Log.{IsLog}
 use Rattle.tcg_examples.proofs.DigestSteps.{log_of}
 
 -- What is said of a header event is said of the one that a log has.
-pub bound_after_event : OneLog → IsBounded → (bytes : List ℕ) (last_entry : ℕ) (also : Option HeaderEvent) (log : List Event) → IsLog after_event bytes last_entry also log
+pub bound_after_event : OneLog → IsBounded
+    → (bytes : List ℕ) (last_entry : ℕ) (also : Option HeaderEvent) (log : List Event)
+    → IsLog after_event bytes last_entry also log
     → (found : HeaderEvent) → IsHeaderEvent bytes last_entry found.event found.header
     → (last_entry < start_of after_event found → log ≡ []) × (length log ≤ (last_entry - start_of after_event found) / 16 + 1)
 bound_after_event one law bytes last_entry None log is found has = absurd (is.0 found.header (found.event, has))
@@ -19,7 +21,8 @@ bound_after_event one law bytes last_entry (Some also) log is found has =
     (law.none after_event logged found refl, law.few after_event logged found refl)
 
 -- After the header's own bytes the start is 61 at least.
-pub bound_after_header : IsBounded → (bytes : List ℕ) (last_entry : ℕ) (found : Option HeaderEvent) (log : List Event) → IsLog after_header bytes last_entry found log
+pub bound_after_header : IsBounded → (bytes : List ℕ) (last_entry : ℕ) (found : Option HeaderEvent) (log : List Event)
+    → IsLog after_header bytes last_entry found log
     → (last_entry < least_start → log ≡ []) × (length log ≤ (last_entry - least_start) / least_length + 1)
 bound_after_header law bytes last_entry None log is = (λ below. is.1, omega (arith, ap length is.1))
 bound_after_header law bytes last_entry (Some found) log is =
@@ -29,6 +32,10 @@ bound_after_header law bytes last_entry (Some found) log is =
     (λ below. law.none after_header logged found refl (omega arith), omega (arith, few))
 
 -- If each header event has nothing but the header, so has that of a log.
-pub nothing_follows : (bytes : List ℕ) (last_entry : ℕ) → ((found : HeaderEvent) → IsHeaderEvent bytes last_entry found.event found.header → found.event.event_data ≡ header_bytes found.header)
-    → (found : Option HeaderEvent) (log : List Event) → IsLog after_header bytes last_entry found log → (only : HeaderEvent) → found ≡ Some only → only.event.event_data ≡ header_bytes only.header
-nothing_follows bytes last_entry exact found log is only same = exact only (subst (λ (o : Option HeaderEvent). IsLog after_header bytes last_entry o log) same is).0
+pub nothing_follows : (bytes : List ℕ) (last_entry : ℕ)
+    → ((found : HeaderEvent) → IsHeaderEvent bytes last_entry found.event found.header
+    → found.event.event_data ≡ header_bytes found.header)
+    → (found : Option HeaderEvent) (log : List Event) → IsLog after_header bytes last_entry found log
+    → (only : HeaderEvent) → found ≡ Some only → only.event.event_data ≡ header_bytes only.header
+nothing_follows bytes last_entry exact found log is only same =
+    exact only (subst (λ (o : Option HeaderEvent). IsLog after_header bytes last_entry o log) same is).0

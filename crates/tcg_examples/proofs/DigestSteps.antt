@@ -16,7 +16,8 @@ IsAt table offset last_entry bytes it =
     (it.bytes ≡ bytes) × (it.last_entry ≡ last_entry) × (it.table ≡ table) × (it.offset ≡ offset)
 
 -- The log of these bytes with this last entry.
-abbrev pub log_of : (start : Start) (bytes : List ℕ) (last_entry : ℕ) (events : List Event) → ((found : Option HeaderEvent) × IsLog start bytes last_entry found events) → Logged start
+abbrev pub log_of : (start : Start) (bytes : List ℕ) (last_entry : ℕ) (events : List Event)
+    → ((found : Option HeaderEvent) × IsLog start bytes last_entry found events) → Logged start
 log_of start bytes last_entry events log = record { bytes = bytes; last_entry = last_entry; found = log.0; events = events; is_log = log.1 }
 
 -- A log whose last event starts at the last entry is the log of other bytes that are the same up to that event's end.

@@ -44,6 +44,7 @@ step_there offset l b it None at none = λ event keeps. none event (keeps_here o
 step_there offset l b it (Some event) at keeps = keeps_there offset l b it (event_of event) at keeps
 
 -- An iterator of a log goes on where the event before ended.
-pub moved_on : (offset l n : ℕ) (b : List ℕ) (it next : Iteration) → IsAt offset l b it → next.bytes ≡ it.bytes → next.last_entry ≡ it.last_entry → next.offset ≡ it.offset + n
+pub moved_on : (offset l n : ℕ) (b : List ℕ) (it next : Iteration) → IsAt offset l b it → next.bytes ≡ it.bytes
+    → next.last_entry ≡ it.last_entry → next.offset ≡ it.offset + n
     → IsAt (offset + n) l b next
 moved_on offset l n b it next at bytes entry moved = (bytes ∙ at.0, entry ∙ at.1, moved ∙ ap (λ (s : ℕ). s + n) at.2)

@@ -13,14 +13,18 @@ counted_more test count total event events rest passes is tested counted =
 
 pub loop-event-preserved-then-eq : goal.loop-event-preserved-then-eq
 loop-event-preserved-then-eq c = record {
-  counted = counted_more (λ event. event.pcr_index == c.args.register.0) c.loop-event.count _ _ _ c.next.new.self.events true c.in-Some.ensures.steps (sym (rw c.pcr_index.ensures at c.if-eq.ensures)) c.loop-event.invariant.counted;
+  counted = counted_more
+      (λ event. event.pcr_index == c.args.register.0) c.loop-event.count _ _ _ c.next.new.self.events true
+      c.in-Some.ensures.steps (sym (rw c.pcr_index.ensures at c.if-eq.ensures)) c.loop-event.invariant.counted;
   within = omega (arith, rw c.in-Some.ensures.steps at c.loop-event.invariant.within);
 }
 
 pub loop-event-preserved : goal.loop-event-preserved
 loop-event-preserved c = record {
   counted =
-      let same = counted_more (λ event. event.pcr_index == c.args.register.0) c.loop-event.count _ _ _ c.next.new.self.events false c.in-Some.ensures.steps (sym (rw c.pcr_index.ensures at c.if-eq.ensures)) c.loop-event.invariant.counted in
+      let same = counted_more
+      (λ event. event.pcr_index == c.args.register.0) c.loop-event.count _ _ _ c.next.new.self.events false
+      c.in-Some.ensures.steps (sym (rw c.pcr_index.ensures at c.if-eq.ensures)) c.loop-event.invariant.counted in
       omega (arith, same);
   within = omega (arith, rw c.in-Some.ensures.steps at c.loop-event.invariant.within);
 }

@@ -15,7 +15,9 @@ begins c found is =
 
 pub returns-clause-first : goal.returns-clause-first
 returns-clause-first c = λ found is.
-    keeps_there found.header.table (start_of after_event found) c.args.last_entry c.args.bytes.now c.iter_after_header_event-events.result (event_of c.in-Some.first)
+    keeps_there found.header.table
+    (start_of after_event found) c.args.last_entry c.args.bytes.now c.iter_after_header_event-events.result
+    (event_of c.in-Some.first)
     (begins c found is) c.in-Some.ensures.keeps
 
 pub returns-clause-second : goal.returns-clause-second

@@ -4,7 +4,9 @@ use Rattle.uefi_tcg.specs.v1.Views.{event_of}
 use Rattle.tcg_examples.proofs.logs.audited_events.Goals as goal
 
 pub loop-event-init : goal.loop-event-init
-loop-event-init c = simp (c.new-events.ensures.items, c.into_iter-event-iterator.ensures.into_iter_gives) (rw c.new-log.ensures at c.iter-event-items.ensures.log)
+loop-event-init c =
+    simp (c.new-events.ensures.items, c.into_iter-event-iterator.ensures.into_iter_gives)
+    (rw c.new-log.ensures at c.iter-event-items.ensures.log)
 
 pub loop-event-preserved : goal.loop-event-preserved
 loop-event-preserved c = simp (c.in_ok-push.ensures.items, map-append, append_assoc) (rw c.in-Some.ensures.steps at c.loop-event.invariant)

@@ -18,22 +18,29 @@ unfolding event_bytes
 length-event_bytes event is = simp length-append (omega (arith, is.digest))
 
 -- The bytes of an event that was written to a buffer.
-written_bytes : (event : Event) (old new : List ℕ) (end : ℕ) → IsEvent event → end ≡ header_length + length event.event_data → new ≡ put_prefix (event_bytes event) old → take end new ≡ event_bytes event
+written_bytes : (event : Event) (old new : List ℕ) (end : ℕ) → IsEvent event
+    → end ≡ header_length + length event.event_data → new ≡ put_prefix (event_bytes event) old
+    → take end new ≡ event_bytes event
 written_bytes event old new end is covers written =
     ap (take end) written ∙ take_at (event_bytes event) (drop (length (event_bytes event)) old) end (length-event_bytes event is ∙ sym covers)
 
 -- The log of these bytes is the event alone.
-log_alone : OneLog → WrittenIsLog → (event : Event) (bytes : List ℕ) (log : List Event) → IsEvent event → bytes ≡ event_bytes event → IsLog bytes 0 log → log ≡ event ∷ []
-log_alone law written event bytes log is same is_log = law.one bytes 0 log (event ∷ []) is_log (subst (λ bs. IsLog bs 0 (event ∷ [])) (sym same) (written event is))
+log_alone : OneLog → WrittenIsLog → (event : Event) (bytes : List ℕ) (log : List Event) → IsEvent event
+    → bytes ≡ event_bytes event → IsLog bytes 0 log → log ≡ event ∷ []
+log_alone law written event bytes log is same is_log =
+    law.one bytes 0 log (event ∷ []) is_log (subst (λ bs. IsLog bs 0 (event ∷ [])) (sym same) (written event is))
 
 -- An iterator with one item left yields it.
-yields : {S A B : Type 0} (view : A → B) (rest : S → List B) (before after : S) (item : Option A) (only : B) → YieldsFirstBy view rest before item after → rest before ≡ only ∷ []
+yields : {S A B : Type 0} (view : A → B) (rest : S → List B) (before after : S) (item : Option A) (only : B)
+    → YieldsFirstBy view rest before item after → rest before ≡ only ∷ []
     → IsSome item × IfSome item (λ x. view x ≡ only)
 yields view rest before after None only yielded left = let no : [] ≡ only ∷ [] = sym yielded.0 ∙ left in cc
 yields view rest before after (Some x) only yielded left = let first : view x ∷ rest after ≡ only ∷ [] = sym yielded ∙ left in (refl, cc)
 
 -- The iterator yields the event that was written.
-read : (c : goal.After-next) → IsSome c.next.result × IfSome c.next.result (λ event. event_of event ≡ event_given c.args.register IPL c.args.digest c.args.event_data.now)
+read : (c : goal.After-next) → IsSome c.next.result
+    × IfSome c.next.result
+    (λ event. event_of event ≡ event_given c.args.register IPL c.args.digest c.args.event_data.now)
 read c =
     let wrote = c.in-Ok.ensures in
     let log = subst (λ (input : LogInput). IsLogOf input.bytes input.last_entry c.iter.result.events) c.new.ensures c.iter.ensures.log in
