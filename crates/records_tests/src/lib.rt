@@ -2,16 +2,8 @@
 #![tactic(auto)]
 
 #[cfg(test)]
+mod file;
+#[cfg(test)]
 mod flags;
 #[cfg(test)]
-mod making;
-#[cfg(test)]
-mod names;
-#[cfg(test)]
-mod reading;
-#[cfg(test)]
-mod searching;
-#[cfg(test)]
-mod times;
-#[cfg(test)]
-mod writing;
+mod time;

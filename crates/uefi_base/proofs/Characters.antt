@@ -13,7 +13,8 @@ use Rattle.uefi_base.specs.private.Search.{IsFirstWithoutUnit}
 -- The bytes of i + 1 characters are those of i characters and of the next.
 pub encodes_more : (cs : List ℕ) (i : ℕ) → i < length cs → encodes (take (i + 1) cs) ≡ encodes (take i cs) ++ encode (get_or cs i 0)
 encodes_more cs i within =
-    ap encodes (take_more cs i 0 within) ∙ encodes-append (take i cs) (get_or cs i 0 ∷ []) ∙ ap (λ bytes. encodes (take i cs) ++ bytes) (append-nil (encode (get_or cs i 0)))
+    ap encodes (take_more cs i 0 within) ∙ encodes-append (take i cs) (get_or cs i 0 ∷ [])
+    ∙ ap (λ bytes. encodes (take i cs) ++ bytes) (append-nil (encode (get_or cs i 0)))
 
 -- Each of the characters that make text has a unit of its own.
 pub has_unit : (cs : List ℕ) (i c : ℕ) → MakeUcs2Text cs → (i < length cs) × (c ≡ get_or cs i c) → c ≤ 0xffff
@@ -50,6 +51,7 @@ IsUcs2Text-chars bytes utf8 make =
 
 -- A search for a character without a unit of its own finds the first.
 pub first_without_unit : (cs : List ℕ) (found : Option ℕ)
-    → MatchOption found (AllWithin HasUnit cs 0 (length cs)) (λ c. (¬ HasUnit c) × (i : ℕ) × (i < length cs) × HoldsAt (λ d. d ≡ c) cs i × AllWithin HasUnit cs 0 i) → IsFirstWithoutUnit cs found
+    → MatchOption found (AllWithin HasUnit cs 0 (length cs)) (λ c. (¬ HasUnit c) × (i : ℕ) × (i < length cs)
+    × HoldsAt (λ d. d ≡ c) cs i × AllWithin HasUnit cs 0 i) → IsFirstWithoutUnit cs found
 first_without_unit cs None each = λ k before. each k 0 (omega arith) before
 first_without_unit cs (Some c) first = (first.1, first.2, sym (first.3 0), (λ k before. first.4 k 0 (omega arith) before), first.0)

@@ -13,7 +13,8 @@ pub range-append : (before part after : List ℕ) (n : ℕ) → length part ≡ 
 range-append before part after n sized =
     let width : length before + n - length before ≡ n = omega arith in
     ap (λ k. take k (drop (length before) (before ++ part ++ after))) width
-    ∙ ap (take n) (ap (drop (length before)) (append_assoc before part after) ∙ drop_at before (part ++ after) (length before) refl) ∙ take_at part after n sized
+    ∙ ap (take n) (ap (drop (length before)) (append_assoc before part after) ∙ drop_at before (part ++ after)
+    (length before) refl) ∙ take_at part after n sized
 
 -- A range of bytes is bytes.
 pub AreBytes-range : (bytes : List ℕ) (offset n : ℕ) → AreBytes bytes → (k : ℕ) → get_or (slice_range bytes offset n) k 0 < 256
@@ -45,7 +46,10 @@ numbers_read_back = record { written = written; read = read }
 
     read : ReadNumbersWrite
     read = record {
-      u16 = λ bytes offset each within. le_bytes_2 (slice_range bytes offset (offset + 2)) (u16_at bytes offset) (length-range bytes offset 2 within) (AreBytes-range bytes offset (offset + 2) each) refl;
-      u32 = λ bytes offset each within. le_bytes_4 (slice_range bytes offset (offset + 4)) (u32_at bytes offset) (length-range bytes offset 4 within) (AreBytes-range bytes offset (offset + 4) each) refl;
-      u64 = λ bytes offset each within. le_bytes_8 (slice_range bytes offset (offset + 8)) (u64_at bytes offset) (length-range bytes offset 8 within) (AreBytes-range bytes offset (offset + 8) each) refl;
+      u16 = λ bytes offset each within. le_bytes_2 (slice_range bytes offset (offset + 2)) (u16_at bytes offset)
+          (length-range bytes offset 2 within) (AreBytes-range bytes offset (offset + 2) each) refl;
+      u32 = λ bytes offset each within. le_bytes_4 (slice_range bytes offset (offset + 4)) (u32_at bytes offset)
+          (length-range bytes offset 4 within) (AreBytes-range bytes offset (offset + 4) each) refl;
+      u64 = λ bytes offset each within. le_bytes_8 (slice_range bytes offset (offset + 8)) (u64_at bytes offset)
+          (length-range bytes offset 8 within) (AreBytes-range bytes offset (offset + 8) each) refl;
     }

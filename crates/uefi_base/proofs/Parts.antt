@@ -16,16 +16,19 @@ pub put_next : (offset : ℕ) (part more bytes : List ℕ) → offset + length p
 put_next offset part more bytes within =
     let end : ℕ = offset + length part in
     let prefix : List ℕ = take offset bytes ++ part in
-    let sized : length (take offset bytes ++ part) ≡ offset + length part = length-append (take offset bytes) part ∙ ap (λ n. n + length part) (length-take-le offset bytes (omega arith)) in
+    let sized : length (take offset bytes ++ part) ≡ offset + length part = length-append (take offset bytes) part
+    ∙ ap (λ n. n + length part) (length-take-le offset bytes (omega arith)) in
     let before : take end (put_at offset part bytes) ≡ prefix = take_at prefix (drop end bytes) end sized in
-    let after : drop (end + length more) (put_at offset part bytes) ≡ drop (end + length more) bytes = drop-append-drop end bytes prefix (end + length more) (omega arith) sized in
+    let after : drop (end + length more) (put_at offset part bytes) ≡ drop (end + length more) bytes =
+    drop-append-drop end bytes prefix (end + length more) (omega arith) sized in
     let last : end + length more ≡ offset + length (part ++ more) = omega (arith, length-append part more) in
     ap (λ b. b ++ more ++ drop (end + length more) (put_at offset part bytes)) before
     ∙ ap (λ r. prefix ++ more ++ r) (after ∙ ap (λ n. drop n bytes) last)
     ∙ ap (λ b. b ++ drop (offset + length (part ++ more)) bytes) (append_assoc (take offset bytes) part more)
 
 -- Writing one more unit after the first i.
-pub units_put : (offset i : ℕ) (units bytes now : List ℕ) → i < length units → offset + 2 * length units ≤ length bytes → now ≡ put_at offset (unit_bytes (take i units)) bytes
+pub units_put : (offset i : ℕ) (units bytes now : List ℕ) → i < length units
+    → offset + 2 * length units ≤ length bytes → now ≡ put_at offset (unit_bytes (take i units)) bytes
     → put_at (offset + 2 * i) (u16_bytes (get_or units i 0)) now ≡ put_at offset (unit_bytes (take (i + 1) units)) bytes
 units_put offset i units bytes now within room so_far =
     let sized : length (unit_bytes (take i units)) ≡ 2 * i = units_read_back.sized (take i units) ∙ ap (λ n. 2 * n) (length-take-le i units (omega arith)) in
@@ -47,7 +50,8 @@ pub put_first : (part value bytes next : List ℕ) → part ≡ value → next �
 put_first part value bytes next known is = is ∙ put_at-zero part bytes ∙ ap (λ p. put_prefix p bytes) known
 
 -- Writing the next part of a record after those that are done.
-pub put_more : (offset : ℕ) (done part value bytes now next : List ℕ) → now ≡ put_prefix done bytes → length done ≡ offset → offset ≤ length bytes → part ≡ value → next ≡ put_at offset part now
+pub put_more : (offset : ℕ) (done part value bytes now next : List ℕ) → now ≡ put_prefix done bytes
+    → length done ≡ offset → offset ≤ length bytes → part ≡ value → next ≡ put_at offset part now
     → next ≡ put_prefix (done ++ value) bytes
 put_more offset done part value bytes now next so_far sized within known is =
     let plain : offset ≡ 0 + length done = omega (arith, sized) in
@@ -63,7 +67,8 @@ pub record HasPut (room offset : ℕ) (done old now : List ℕ) : Type 0 where
 pub none_put : (room : ℕ) (old : List ℕ) → room ≤ length old → HasPut room 0 [] old old
 none_put room old within = record { within = within; sized = refl; is = refl }
 
-pub then_put : {room offset : ℕ} {done part value old now next : List ℕ} → HasPut room offset done old now → (n : ℕ) → length value ≡ n → nat_le offset room ≡ true → part ≡ value
+pub then_put : {room offset : ℕ} {done part value old now next : List ℕ} → HasPut room offset done old now
+    → (n : ℕ) → length value ≡ n → nat_le offset room ≡ true → part ≡ value
     → next ≡ put_at offset part now → HasPut room (offset + n) (done ++ value) old next
 then_put {room} {offset} {done} {part} {value} {old} {now} {next} so_far n sized before known is =
     let reaches : offset ≤ length old = grind (arith, nat_tests, before, so_far.within) in
@@ -73,11 +78,13 @@ then_put {room} {offset} {done} {part} {value} {old} {now} {next} so_far n sized
       is = put_more offset done part value old now next so_far.is so_far.sized reaches known is;
     }
 
-pub then_kept : {room offset : ℕ} {done old now : List ℕ} → HasPut room offset done old now → (n : ℕ) → nat_le (offset + n) room ≡ true → HasPut room (offset + n) (done ++ take n (drop offset old)) old now
+pub then_kept : {room offset : ℕ} {done old now : List ℕ} → HasPut room offset done old now → (n : ℕ)
+    → nat_le (offset + n) room ≡ true → HasPut room (offset + n) (done ++ take n (drop offset old)) old now
 then_kept {room} {offset} {done} {old} {now} so_far n before =
     let rest : List ℕ = drop offset old in
     let reaches : offset + n ≤ length old = grind (arith, nat_tests, before, so_far.within) in
-    let sized : length (done ++ take n rest) ≡ offset + n = length-append done (take n rest) ∙ (λ i. so_far.sized i + length-take-le n rest (omega (arith, reaches, length-drop offset old)) i) in
+    let sized : length (done ++ take n rest) ≡ offset + n = length-append done (take n rest)
+    ∙ (λ i. so_far.sized i + length-take-le n rest (omega (arith, reaches, length-drop offset old)) i) in
     let cut : drop n rest ≡ drop (length (done ++ take n rest)) old = drop-drop n offset old ∙ ap (λ m. drop m old) (sym sized) in
     record {
       within = so_far.within;

@@ -24,7 +24,13 @@ two_before u v units is_u is_v (suc (suc k)) before = absurd (omega arith)
 
 text_rows : TextRows
 text_rows = record {
-  two_characters = record { short = lit≤ tt; not_empty = lit< tt; nul = refl; characters = two_before 0x61 0x62 (0 ∷ []) (low 0x61 (lit< tt) (lit< tt)) (low 0x62 (lit< tt) (lit< tt)) };
+  two_characters = record {
+    short = lit≤ tt;
+    not_empty = lit< tt;
+    nul = refl;
+    characters =
+        two_before 0x61 0x62 (0 ∷ []) (low 0x61 (lit< tt) (lit< tt)) (low 0x62 (lit< tt) (lit< tt));
+  };
   without_nul = refl;
   no_character = record { short = lit≤ tt; not_empty = lit< tt; nul = refl; characters = none_before (0 ∷ []) };
 }
@@ -36,7 +42,15 @@ fault_rows = record {
   interior_nul = (record { short = lit≤ tt; within = lit< tt; before = one_before 0x61 (0 ∷ 0x62 ∷ 0 ∷ []) (low 0x61 (lit< tt) (lit< tt)) }, refl, lit< tt);
   nul_before_surrogate = (record { short = lit≤ tt; within = lit< tt; before = none_before (0 ∷ 0xd800 ∷ 0 ∷ []) }, refl, lit< tt);
   surrogate = (record { short = lit≤ tt; within = lit< tt; before = none_before (0xd800 ∷ 0 ∷ []) }, (lit≤ tt, lit≤ tt));
-  surrogate_without_nul = (record { short = lit≤ tt; within = lit< tt; before = one_before 0x61 (0xd800 ∷ []) (low 0x61 (lit< tt) (lit< tt)) }, (lit≤ tt, lit≤ tt));
+  surrogate_without_nul = (
+    record {
+      short = lit≤ tt;
+      within = lit< tt;
+      before =
+          one_before 0x61 (0xd800 ∷ []) (low 0x61 (lit< tt) (lit< tt));
+    },
+    (lit≤ tt, lit≤ tt),
+  );
   too_many_surrogates = λ n above. omega (arith, length-replicate {A = ℕ} n 0xd800);
 }
 

@@ -52,19 +52,28 @@ module _ {M : Type 1} {𝓤 : Ura M} (𝓛 : Logic 𝓤) where
   unfolding such_by follows_by
   ends_as s v Holds holds =
       qed 𝓛 (‵ (Ended s.ghost_name v) ∷ []) ∵
-      fpack ! ((f : (List ℕ → List ℕ) × List ℕ) × ((w : List ℕ) → ⊤) × Holds f.1) (λ f. follows_by (List ℕ) (List ℕ) (coded_list u8.coded).code (coded_list u8.coded).code s.ghost_name none f.0.0 f.0.1) (((λ w. w), v), (λ w. tt), holds) $ done !
+      fpack ! ((f : (List ℕ → List ℕ) × List ℕ) × ((w : List ℕ) → ⊤) × Holds f.1)
+      (λ f. follows_by (List ℕ) (List ℕ) (coded_list u8.coded).code
+      (coded_list u8.coded).code s.ghost_name none f.0.0 f.0.1) (((λ w. w), v), (λ w. tt), holds) $ done !
 
   -- A `&mut [u8]` is reborrowed for a lifetime within its own.
   pub lends_slice_again : (ℓ ℓ' : Lifetime) (κ : Lft) (q : Share) (κ' : Lft) (r : MutBor (List ℕ))
       → ent 𝓤 (sep 𝓤 (sem 𝓛 ((MutSlice ℓ κ u8).own_val r (mut_slice_vals r))) (A.lft κ q))
-      (H.⇛ (ex 𝓤 (λ (δ : ℕ). sep 𝓤 (sem 𝓛 ((MutSlice ℓ' κ' u8).own_val (record r { ghost_name = δ }) (mut_slice_vals r))) (mean 𝓛 (kept_f 𝓛 u8 κ q κ' r.ghost_name δ r.now r.ref_ptr.0 r.ref_ptr.1)))))
+      (H.⇛ (ex 𝓤 (λ (δ : ℕ). sep 𝓤
+      (sem 𝓛 ((MutSlice ℓ' κ' u8).own_val (record r { ghost_name = δ }) (mut_slice_vals r)))
+      (mean 𝓛 (kept_f 𝓛 u8 κ q κ' r.ghost_name δ r.now r.ref_ptr.0 r.ref_ptr.1)))))
   lends_slice_again ℓ ℓ' κ q κ' r =
       let b = r.ref_ptr.0 in let o = r.ref_ptr.1 in let xs = r.now in
-      qed 𝓛 (‵ ((MutSlice ℓ κ u8).own_val r (mut_slice_vals r)) ∷ ‵ (flft κ q) ∷ []) ∵ updating ! $ fsplit ! $ pure_l ! (mut_slice_at u8 r (mut_slice_vals r)) (λ p.
+      qed 𝓛 (‵ ((MutSlice ℓ κ u8).own_val r (mut_slice_vals r)) ∷ ‵
+      (flft κ q) ∷ []) ∵ updating ! $ fsplit ! $ pure_l ! (mut_slice_at u8 r (mut_slice_vals r)) (λ p.
       pure_i ! (room u8 (length xs)) (tt, tt) p.1 $ fjoin ! $
-      use2 𝓛 (later (some (λ (δ : ℕ). ‵ ((Own.MutSlice erased κ' u8).own_val (record r { ghost_name = δ })) ⊛ (kept_f 𝓛 u8 κ q κ' r.ghost_name δ xs b o)))) (sl_relend 𝓛 u8 κ q κ' b o r.ghost_name xs) $ await ! tt $ pick ! (λ δ. split ! $ fsplit ! $ drop ! $
+      use2 𝓛 (later (some (λ (δ : ℕ). ‵ ((Own.MutSlice erased κ' u8).own_val (record r { ghost_name = δ })) ⊛
+      (kept_f 𝓛 u8 κ q κ' r.ghost_name δ xs b o))))
+      (sl_relend 𝓛 u8 κ q κ' b o r.ghost_name xs) $ await ! tt $ pick ! (λ δ. split ! $ fsplit ! $ drop ! $
       pure_i ! (mut_slice_at u8 (record r { ghost_name = δ }) (mut_slice_vals r)) (tt, (tt, tt)) (refl, p.1) $ fjoin ! $ at_once ! $
-      show ! (λ (e : ℕ). sep 𝓤 (sem 𝓛 ((MutSlice ℓ' κ' u8).own_val (record r { ghost_name = e }) (mut_slice_vals r))) (mean 𝓛 (kept_f 𝓛 u8 κ q κ' r.ghost_name e r.now r.ref_ptr.0 r.ref_ptr.1))) δ $ done !))
+      show ! (λ (e : ℕ). sep 𝓤
+      (sem 𝓛 ((MutSlice ℓ' κ' u8).own_val (record r { ghost_name = e }) (mut_slice_vals r)))
+      (mean 𝓛 (kept_f 𝓛 u8 κ q κ' r.ghost_name e r.now r.ref_ptr.0 r.ref_ptr.1))) δ $ done !))
 
   -- After that lifetime it is back, with the bytes that were last written to it.
   pub slice_comes_back : (ℓ : Lifetime) (κ : Lft) (q : Share) (κ' : Lft) (r : MutBor (List ℕ)) (δ : GName) (ys : List ℕ)
@@ -73,5 +82,9 @@ module _ {M : Type 1} {𝓤 : Ura M} (𝓛 : Logic 𝓤) where
   slice_comes_back ℓ κ q κ' r δ ys =
       let b = r.ref_ptr.0 in let o = r.ref_ptr.1 in
       qed 𝓛 (‵ (fdead κ') ∷ (kept_f 𝓛 u8 κ q κ' r.ghost_name δ r.now b o) ∷ ‵ (finally u8 δ ys) ∷ []) ∵ updating ! $
-      use3 𝓛 (later (given (length ys ≡ length r.now) (‵ ((Own.MutSlice erased κ u8).own_val (record r { now = ys })) ⊛ ‵ (flft κ q)))) (sl_relent_backˡ 𝓛 u8 κ q κ' b o r.ghost_name δ r.now ys) $ await ! tt $ learn ! (λ e. split ! $ fsplit ! $
-      pure_l ! (room u8 (length ys)) (λ p. pure_i ! (mut_slice_at u8 (record r { now = ys }) (mut_slice_vals r)) (tt, (tt, tt)) ((λ i. slice_val r.ref_ptr (sym e i) ∷ []), p) $ fjoin ! $ at_once ! $ check ! e $ done !))
+      use3 𝓛 (later (given (length ys ≡ length r.now)
+      (‵ ((Own.MutSlice erased κ u8).own_val (record r { now = ys })) ⊛ ‵ (flft κ q))))
+      (sl_relent_backˡ 𝓛 u8 κ q κ' b o r.ghost_name δ r.now ys) $ await ! tt $ learn !
+      (λ e. split ! $ fsplit ! $
+      pure_l ! (room u8 (length ys)) (λ p. pure_i ! (mut_slice_at u8 (record r { now = ys }) (mut_slice_vals r))
+      (tt, (tt, tt)) ((λ i. slice_val r.ref_ptr (sym e i) ∷ []), p) $ fjoin ! $ at_once ! $ check ! e $ done !))

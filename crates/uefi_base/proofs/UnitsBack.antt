@@ -27,7 +27,8 @@ units_read_back = record {
     read [] each even = refl
     read (low ∷ []) each even = absurd (omega arith)
     read (low ∷ high ∷ rest) each even =
-        ap (λ unit. unit ++ unit_bytes (units_of rest)) (two_bytes low high (low + 256 * high) (each 0) (each 1) (omega arith)) ∙ ap (λ r. low ∷ high ∷ r) (read rest (λ k. each (suc (suc k))) (omega arith))
+        ap (λ unit. unit ++ unit_bytes (units_of rest)) (two_bytes low high (low + 256 * high) (each 0) (each 1)
+        (omega arith)) ∙ ap (λ r. low ∷ high ∷ r) (read rest (λ k. each (suc (suc k))) (omega arith))
 
     sized : (us : List ℕ) → length (unit_bytes us) ≡ 2 * length us
     sized [] = refl

@@ -20,7 +20,8 @@ two_bytes : (bytes : List ℕ) (offset : ℕ) → u16_at bytes offset ≡ get_or
 two_bytes bytes offset = grind (arith, common_steps)
 
 -- A unit is the low byte and 256 times the high one at twice its index.
-two_bytes_of_unit : (bytes : List ℕ) (k : ℕ) → k < length (units_of bytes) → get_or (units_of bytes) k 0 ≡ get_or bytes (2 * k) 0 + 256 * get_or bytes (suc (2 * k)) 0
+two_bytes_of_unit : (bytes : List ℕ) (k : ℕ) → k < length (units_of bytes)
+    → get_or (units_of bytes) k 0 ≡ get_or bytes (2 * k) 0 + 256 * get_or bytes (suc (2 * k)) 0
 two_bytes_of_unit [] k within = absurd (omega arith)
 two_bytes_of_unit (low ∷ []) k within = absurd (omega arith)
 two_bytes_of_unit (low ∷ high ∷ rest) zero within = refl

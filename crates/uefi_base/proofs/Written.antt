@@ -34,16 +34,30 @@ module _ {E : Type 0} {part old new : List ℕ} {size : ℕ} {Is Fits : Type 0} 
       → IfOk written (λ end. (end ≤ length new) × Whole (take end new))
   seen_in Whole whole (Ok end) wrote =
       let fits : Fits = wrote.fits.0 refl in
-      let joined : length new ≡ length part + length (drop (length part) old) = ap length wrote.put ∙ length-append part (drop (length part) old) in
-      (omega (arith, joined, sized wrote.is fits, wrote.end), subst Whole (sym (part_put part old new end size (sized wrote.is fits) wrote.end wrote.put)) (whole wrote.is fits))
+      let joined : length new ≡ length part + length (drop (length part) old) = ap length wrote.put ∙ length-append part (drop (length part) old) in (
+        omega (arith, joined, sized wrote.is fits, wrote.end),
+        subst Whole
+            (sym (part_put part old new end size (sized wrote.is fits) wrote.end wrote.put)) (whole wrote.is fits),
+      )
   seen_in Whole whole (Err error) wrote = tt
 
   -- A view of the part is made exactly if it was written.
   pub made_of : {V : Type 0} (view : V → List ℕ) (written : Result ℕ E) (made : Result V E) → Wrote part old new size Is Fits Fails written
-      → MatchResult written (λ end. IfOk made (λ v. view v ≡ take end new)) (λ error. made ≡ Err error) → IsOk made ↔ IsOk written → Made view part old new Is Fits Fails made
+      → MatchResult written (λ end. IfOk made (λ v. view v ≡ take end new)) (λ error. made ≡ Err error)
+      → IsOk made ↔ IsOk written → Made view part old new Is Fits Fails made
   made_of view (Ok end) (Ok v) wrote seen ok =
       let fits : Fits = wrote.fits.0 refl in
-      record { after = wrote.put; seen = (seen ∙ part_put part old new end size (sized wrote.is fits) wrote.end wrote.put, wrote.is, fits); fails = tt; fits = wrote.fits }
+      record {
+        after = wrote.put;
+        seen = (
+          seen ∙ part_put part old new end size
+              (sized wrote.is fits) wrote.end wrote.put,
+          wrote.is,
+          fits,
+        );
+        fails = tt;
+        fits = wrote.fits;
+      }
   made_of view (Ok end) (Err error) wrote seen ok = let none = ok.1 refl in cc
   made_of view (Err error) (Ok v) wrote seen ok = let none = ok.0 refl in cc
   made_of view (Err error) (Err other) wrote seen ok =

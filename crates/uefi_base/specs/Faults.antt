@@ -1,4 +1,5 @@
--- Which error units or characters that aren't UCS-2 text have: too many of them first, then the lowest index that offends.
+-- Which error units or characters that aren't UCS-2 text have: too many of them first, then the lowest index that
+-- offends.
 use Rattle.std.specs.Prelude.{ℕ, ◌≡◌, ◌+◌, ◌<◌, ◌≤◌, List, length, slice_index}
 use Rattle.uefi_base.specs.declared.text_error.FromSliceWithNulError.{FromSliceWithNulError}
 use Rattle.uefi_base.specs.declared.text_error.FromSliceWithNulError.TheVariants.{TooLong, InvalidChar, InteriorNul, NotNulTerminated}
@@ -12,11 +13,13 @@ pub record NoneOffendsBefore (units : List ℕ) (index : ℕ) : Type 0 where
   pub within : index < length units
   pub before : AreCharactersBefore units index
 
--- The error that units have: too many of them; else a surrogate, or a zero that isn't last, at the lowest such index; else no zero.
+-- The error that units have: too many of them; else a surrogate, or a zero that isn't last, at the lowest such
+-- index; else no zero.
 abbrev pub HasFault : List ℕ → FromSliceWithNulError → Type 0
 HasFault units TooLong = max_units < length units
 HasFault units (InvalidChar index) = NoneOffendsBefore units index × IsSurrogate (slice_index units index)
-HasFault units (InteriorNul index) = NoneOffendsBefore units index × (slice_index units index ≡ 0) × (index + 1 < length units)
+HasFault units (InteriorNul index) = NoneOffendsBefore units index × (slice_index units index ≡ 0)
+    × (index + 1 < length units)
 HasFault units NotNulTerminated = (length units ≤ max_units) × AreCharactersBefore units (length units)
 
 -- The same error, of units in bytes.
@@ -33,4 +36,5 @@ AreTooMany characters = max_units ≤ length characters
 -- There aren't too many characters, and the first that has no unit of its own has the property.
 abbrev pub OffendsFirst : List ℕ → (ℕ → Type 0) → Type 0
 OffendsFirst characters Has =
-    (length characters < max_units) × ((index : ℕ) × (index < length characters) × HaveUnitsBefore characters index × Has (slice_index characters index))
+    (length characters < max_units) × ((index : ℕ) × (index < length characters) × HaveUnitsBefore characters index
+    × Has (slice_index characters index))

@@ -14,5 +14,6 @@ hex_at bytes (offset ∷ offsets) = hex_byte (slice_index bytes offset) ++ hex_a
 -- Five groups, separated by dashes. The first three are little-endian numbers, so their bytes appear in reverse order.
 abbrev pub guid_text : List ℕ → List ℕ
 guid_text bytes =
-    hex_at bytes (3 ∷ 2 ∷ 1 ∷ 0 ∷ []) ++ codes "-" ++ hex_at bytes (5 ∷ 4 ∷ []) ++ codes "-" ++ hex_at bytes (7 ∷ 6 ∷ []) ++ codes "-"
+    hex_at bytes (3 ∷ 2 ∷ 1 ∷ 0 ∷ []) ++ codes "-" ++ hex_at bytes (5 ∷ 4 ∷ []) ++ codes "-"
+    ++ hex_at bytes (7 ∷ 6 ∷ []) ++ codes "-"
     ++ hex_at bytes (8 ∷ 9 ∷ []) ++ codes "-" ++ hex_at bytes (10 ∷ 11 ∷ 12 ∷ 13 ∷ 14 ∷ 15 ∷ [])

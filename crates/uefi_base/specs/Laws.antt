@@ -11,15 +11,19 @@ pub record WrittenNumbersRead : Type 0 where
 
 -- The bytes of a number that was read are the bytes at its offset.
 pub record ReadNumbersWrite : Type 0 where
-  pub u16 : (bytes : List ℕ) (offset : ℕ) → AreBytes bytes → offset + 2 ≤ length bytes → u16_bytes (u16_at bytes offset) ≡ slice_range bytes offset (offset + 2)
-  pub u32 : (bytes : List ℕ) (offset : ℕ) → AreBytes bytes → offset + 4 ≤ length bytes → u32_bytes (u32_at bytes offset) ≡ slice_range bytes offset (offset + 4)
-  pub u64 : (bytes : List ℕ) (offset : ℕ) → AreBytes bytes → offset + 8 ≤ length bytes → u64_bytes (u64_at bytes offset) ≡ slice_range bytes offset (offset + 8)
+  pub u16 : (bytes : List ℕ) (offset : ℕ) → AreBytes bytes → offset + 2 ≤ length bytes
+      → u16_bytes (u16_at bytes offset) ≡ slice_range bytes offset (offset + 2)
+  pub u32 : (bytes : List ℕ) (offset : ℕ) → AreBytes bytes → offset + 4 ≤ length bytes
+      → u32_bytes (u32_at bytes offset) ≡ slice_range bytes offset (offset + 4)
+  pub u64 : (bytes : List ℕ) (offset : ℕ) → AreBytes bytes → offset + 8 ≤ length bytes
+      → u64_bytes (u64_at bytes offset) ≡ slice_range bytes offset (offset + 8)
 
 pub record NumbersReadBack : Type 0 where
   pub written : WrittenNumbersRead
   pub read : ReadNumbersWrite
 
--- Units and their bytes determine each other; a unit has two bytes, and the units of joined bytes are those of the parts, if the first has an even length.
+-- Units and their bytes determine each other; a unit has two bytes, and the units of joined bytes are those of the
+-- parts, if the first has an even length.
 pub record UnitsReadBack : Type 0 where
   pub written : (units : List ℕ) → AreUnits units → units_of (unit_bytes units) ≡ units
   pub read : (bytes : List ℕ) → AreBytes bytes → length bytes % 2 ≡ 0 → unit_bytes (units_of bytes) ≡ bytes
@@ -29,6 +33,7 @@ pub record UnitsReadBack : Type 0 where
 -- Unit k has its bytes at twice k, and the units before and from k are those of the bytes before and from twice k.
 pub record UnitsByPlace : Type 0 where
   pub counted : (bytes : List ℕ) → length (units_of bytes) ≡ length bytes / 2
-  pub each : (bytes : List ℕ) (k : ℕ) → k < length (units_of bytes) → slice_index (units_of bytes) k ≡ u16_at bytes (2 * k)
+  pub each : (bytes : List ℕ) (k : ℕ) → k < length (units_of bytes)
+      → slice_index (units_of bytes) k ≡ u16_at bytes (2 * k)
   pub front : (bytes : List ℕ) (k : ℕ) → units_of (take (2 * k) bytes) ≡ take k (units_of bytes)
   pub rest : (bytes : List ℕ) (k : ℕ) → units_of (drop (2 * k) bytes) ≡ drop k (units_of bytes)

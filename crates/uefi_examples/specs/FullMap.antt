@@ -21,8 +21,10 @@ full_meta map = sizes map.key (length map.buffer.items)
 abbrev pub full_with : FullMap → List ℕ → FullMap
 full_with map bytes = record map { buffer = with_items map.buffer bytes }
 
-pub full_bytes-with : (map : FullMap) (bytes : List ℕ) → length bytes ≡ length (full_bytes map) → full_bytes (full_with map bytes) ≡ bytes
+pub full_bytes-with : (map : FullMap) (bytes : List ℕ) → length bytes ≡ length (full_bytes map)
+    → full_bytes (full_with map bytes) ≡ bytes
 full_bytes-with map bytes same = with_items_is map.buffer bytes (same ∙ sym map.buffer.ok.0)
 
-pub full_meta-with : (map : FullMap) (bytes : List ℕ) → length bytes ≡ length (full_bytes map) → full_meta (full_with map bytes) ≡ full_meta map
+pub full_meta-with : (map : FullMap) (bytes : List ℕ) → length bytes ≡ length (full_bytes map)
+    → full_meta (full_with map bytes) ≡ full_meta map
 full_meta-with map bytes same = ap (sizes map.key) (ap length (full_bytes-with map bytes same) ∙ same)

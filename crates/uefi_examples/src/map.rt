@@ -14,7 +14,7 @@ use uefi_map::{
     MemoryMapMeta, MemoryMapMut, MemoryMapOwned, MemoryMapRef, MemoryMapRefMut,
 };
 
-/// All entries of a map, by `collect`.
+/// Returns all entries of a map, by `collect`.
 pub fn all_entries(
     alloc: Global,
     map: &MemoryMapRef<'_>,
@@ -25,7 +25,7 @@ pub fn all_entries(
     map.entries().collect(alloc)
 }
 
-/// The pages of all entries of any map, by `for`, where their sum fits.
+/// Returns the pages of all entries of any map, by `for`, where their sum fits.
 pub fn page_sum<M: MemoryMap>(map: &M) -> Option<u64>
     ensures sum { let entries = entries_of (M.bytes map.now) (M.meta map.now) in
         IfSome result (λ pages. pages ≡ sum_by (λ d. d.page_count) entries) }
@@ -39,7 +39,7 @@ pub fn page_sum<M: MemoryMap>(map: &M) -> Option<u64>
     Some(pages)
 }
 
-/// The entries of bytes that are a map, and none of others.
+/// Returns the entries of bytes that are a map, and none of others.
 pub fn entries_in(
     alloc: Global,
     bytes: &[u8],
@@ -74,8 +74,8 @@ pub fn pages_in(buffer: &[u8], meta: MemoryMapMeta) -> Option<u64>
     Some(pages)
 }
 
-/// All entries of a map: those of every map with the same forty bytes of each descriptor, whatever
-/// the rest of each stride and the bytes after the map are.
+/// Returns all entries of a map: those of every map with the same forty bytes of each descriptor,
+/// whatever the rest of each stride and the bytes after the map are.
 pub fn entries_by_descriptors(
     alloc: Global,
     map: &MemoryMapRef<'_>,
@@ -89,21 +89,21 @@ pub fn entries_by_descriptors(
     all_entries(alloc, map)
 }
 
-/// How many entries a map has, by `count`.
+/// Returns how many entries a map has, by `count`.
 pub fn entry_count(map: &MemoryMapRef<'_>) -> usize
     ensures { result ≡ length (entries_of (ref_bytes map.now) (ref_meta map.now)) }
 {
     map.entries().count()
 }
 
-/// How many entries are still to come, by `len`.
+/// Returns how many entries are still to come, by `len`.
 pub fn count_left(entries: &MemoryMapIter<'_>) -> usize
     ensures { result ≡ length (entries_left entries.now) }
 {
     entries.len()
 }
 
-/// The same, by `size_hint`.
+/// Returns the same as both bounds, by `size_hint`.
 pub fn bounds_of_left(entries: &MemoryMapIter<'_>) -> (usize, Option<usize>)
     ensures least { result.0 ≡ length (entries_left entries.now) }
     ensures most { result.1 ≡ Some (length (entries_left entries.now)) }
@@ -111,8 +111,8 @@ pub fn bounds_of_left(entries: &MemoryMapIter<'_>) -> (usize, Option<usize>)
     entries.size_hint()
 }
 
-/// A descriptor that is set in any map is the one that is read there afterwards, and its forty bytes
-/// alone are written.
+/// Sets a descriptor in any map and reads it there: the same descriptor. Its forty bytes alone are
+/// written.
 pub fn set_and_get<M: MemoryMapMut>(map: &mut M, i: usize, d: MemoryDescriptor) -> MemoryDescriptor
     requires { i < count_of (M.MemoryMap.meta map.old) }
     ensures read { result ≡ d }
@@ -123,7 +123,7 @@ pub fn set_and_get<M: MemoryMapMut>(map: &mut M, i: usize, d: MemoryDescriptor) 
     map.at(i)
 }
 
-/// Whether a descriptor stays as it was when another is set: always.
+/// Returns whether a descriptor stays as it was when another is set: always.
 pub fn other_entry_stays<M: MemoryMapMut>(
     map: &mut M,
     i: usize,
@@ -145,8 +145,8 @@ pub fn other_entry_stays<M: MemoryMapMut>(
     map.at(other) == before
 }
 
-/// What [`set_and_get`] does, for a map that is made over a buffer: `None` for a buffer that is no
-/// map, or without such a descriptor.
+/// Does what [`set_and_get`] does in a map over a buffer, or returns `None` if the buffer is no map
+/// or has no such descriptor.
 pub fn set_and_get_in(
     buffer: &mut [u8],
     meta: MemoryMapMeta,
@@ -162,7 +162,7 @@ pub fn set_and_get_in(
     map.get(i)
 }
 
-/// A descriptor set in a buffer that is a map: of what the caller lent, its forty bytes changed. A
+/// Sets a descriptor in a buffer that is a map: of what the caller lent, its forty bytes change. A
 /// buffer that is no map, or has no such descriptor, stays as it was.
 pub fn set_in(buffer: &mut [u8], meta: MemoryMapMeta, i: usize, d: MemoryDescriptor) -> bool
     ensures accepted { IsTrue result ↔ (IsMap (length buffer.old) meta × (i < count_of meta)) }
@@ -176,7 +176,7 @@ pub fn set_in(buffer: &mut [u8], meta: MemoryMapMeta, i: usize, d: MemoryDescrip
     map.set(i, d).is_some()
 }
 
-/// A byte written through the buffer of any map: the map's sizes stay.
+/// Writes a byte through the buffer of any map. The map's sizes stay.
 pub fn write_byte<M: MemoryMapMut>(map: &mut M, offset: usize, byte: u8)
     requires { offset < length (M.MemoryMap.bytes map.old) }
     ensures bytes { let bytes = M.MemoryMap.bytes in
@@ -187,7 +187,7 @@ pub fn write_byte<M: MemoryMapMut>(map: &mut M, offset: usize, byte: u8)
     map.buffer_mut()[offset] = byte;
 }
 
-/// The same of a buffer that the caller lent.
+/// Does the same in a buffer that the caller lent.
 pub fn write_byte_in(buffer: &mut [u8], meta: MemoryMapMeta, offset: usize, byte: u8)
     requires map { IsMap (length buffer.old) meta }
     requires within { offset < length buffer.old }
@@ -197,7 +197,7 @@ pub fn write_byte_in(buffer: &mut [u8], meta: MemoryMapMeta, offset: usize, byte
     write_byte(&mut map, offset, byte);
 }
 
-/// How many entries a map of a vector's bytes has: as many as it was made with.
+/// Returns how many entries a map of a vector's bytes has: as many as it was made with.
 pub fn owned_count(bytes: Vec<u8>, meta: MemoryMapMeta) -> Option<usize>
     ensures { SomeIff result (IsMap (length bytes.items) meta) (count_of meta) }
 {
@@ -207,63 +207,63 @@ pub fn owned_count(bytes: Vec<u8>, meta: MemoryMapMeta) -> Option<usize>
     }
 }
 
-/// Whether two descriptors are equal: exactly where all their fields are.
+/// Returns whether two descriptors are equal: exactly where all their fields are.
 pub fn is_same_descriptor(d: &MemoryDescriptor, other: &MemoryDescriptor) -> bool
     ensures { IsTrue result ↔ (d.now ≡ other.now) }
 {
     d == other
 }
 
-/// Whether runtime services need the memory.
+/// Returns whether runtime services need the memory.
 pub fn is_runtime(d: &MemoryDescriptor) -> bool
     ensures { result ≡ has_bits (attribute_bits d.now.att) 0x8000000000000000 }
 {
     d.att.contains(MemoryAttribute::RUNTIME)
 }
 
-/// The default attributes: no bit is set.
+/// Returns the default attributes: no bit is set.
 pub fn no_attributes() -> MemoryAttribute
     ensures { attribute_bits result ≡ 0 }
 {
     MemoryAttribute::default()
 }
 
-/// The order of attributes: that of their bits as numbers.
+/// Returns the order of attributes: that of their bits as numbers.
 pub fn attribute_order(one: &MemoryAttribute, other: &MemoryAttribute) -> Ordering
     ensures { result ≡ nat_cmp (attribute_bits one.now) (attribute_bits other.now) }
 {
     one.cmp(other)
 }
 
-/// Whether two sets of attributes are equal: exactly where their bits are.
+/// Returns whether two sets of attributes are equal: exactly where their bits are.
 pub fn are_same_attributes(one: MemoryAttribute, other: MemoryAttribute) -> bool
     ensures { IsTrue result ↔ (attribute_bits one ≡ attribute_bits other) }
 {
     one == other
 }
 
-/// The default descriptor: every field is zero.
+/// Returns the default descriptor: every field is zero.
 pub fn no_memory() -> MemoryDescriptor
     ensures { result ≡ zero_descriptor }
 {
     MemoryDescriptor::default()
 }
 
-/// The default key: it is 0.
+/// Returns the default key: it is 0.
 pub fn no_key() -> MemoryMapKey
     ensures { key_number result ≡ 0 }
 {
     MemoryMapKey::default()
 }
 
-/// Whether two keys are equal: exactly where their numbers are.
+/// Returns whether two keys are equal: exactly where their numbers are.
 pub fn is_same_key(key: MemoryMapKey, other: MemoryMapKey) -> bool
     ensures { IsTrue result ↔ (key_number key ≡ key_number other) }
 {
     key == other
 }
 
-/// The text of an error.
+/// Returns the text of an error.
 pub fn map_fault_text(alloc: Global, error: &MemoryMapError) -> Result<String, AllocError>
     ensures { IfOk result (λ text. string_bytes text ≡ map_error_text error.now) }
 {

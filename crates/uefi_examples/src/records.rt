@@ -26,8 +26,8 @@ pub fn guid_of_file_info() -> Guid
     guid_of::<FileInfo<'_>>()
 }
 
-/// Whether the file is a directory whose record stands in the written bytes, or `None` if there is no
-/// record.
+/// Returns whether the file is a directory whose record stands in the written bytes, or `None` if
+/// there is no record.
 pub fn is_directory_in(buffer: &[u8], written: usize) -> Option<bool>
     ensures found { (name : List ℕ) →
         file_info_verdict (take written buffer.now) (length buffer.now) ≡ accepted name →
@@ -50,8 +50,8 @@ pub fn creation_bytes(buffer: &[u8], written: usize) -> Option<[u8; 16]>
     Some(info.create_time().to_bytes())
 }
 
-/// How many units the name has of the file whose record stands in the written bytes, or `None` if
-/// there is no record.
+/// Returns how many units the name has of the file whose record stands in the written bytes, or
+/// `None` if there is no record.
 pub fn name_length(buffer: &[u8], written: usize) -> Option<usize>
     ensures found { (name : List ℕ) →
         file_info_verdict (take written buffer.now) (length buffer.now) ≡ accepted name →
@@ -65,7 +65,7 @@ pub fn name_length(buffer: &[u8], written: usize) -> Option<usize>
     Some(info.file_name().len())
 }
 
-/// The units of a file's name. The last is zero, and no other is.
+/// Returns the units of a file's name. The last is zero, and no other is.
 pub fn name_of<'a>(info: &FileInfo<'a>) -> UnalignedSlice<'a>
     ensures units { slice_units result ≡ file_name_of info.now }
     ensures name { FitName (slice_units result) }
@@ -73,7 +73,7 @@ pub fn name_of<'a>(info: &FileInfo<'a>) -> UnalignedSlice<'a>
     info.file_name()
 }
 
-/// Whether a label fits the storage: exactly if its record's size is at most the storage's.
+/// Returns whether a label fits the storage: exactly if its record's size is at most the storage's.
 pub fn label_fits(storage: &mut [u8], label: &CStr16<'_>) -> bool
     ensures { IsTrue result
         ↔ (volume_label_size (length (text_units label.now)) ≤ length storage.old) }
@@ -133,7 +133,8 @@ pub fn file_read_back<'a>(
     FileInfo::from_uefi(buffer, end).ok()
 }
 
-/// Whether two buffers of one length that agree on the written bytes are read alike: always.
+/// Returns whether two buffers of one length that agree on the written bytes are read alike:
+/// always.
 pub fn are_read_alike(one: &[u8], other: &[u8], written: usize) -> bool
     requires lengths { length one.now ≡ length other.now }
     requires same { take written one.now ≡ take written other.now }
@@ -150,7 +151,8 @@ pub fn are_read_alike(one: &[u8], other: &[u8], written: usize) -> bool
     }
 }
 
-/// Whether two file information records are equal: exactly if their accessors return the same.
+/// Returns whether two file information records are equal: exactly if their accessors return the
+/// same.
 pub fn is_same_file(info: &FileInfo<'_>, other: &FileInfo<'_>) -> bool
     ensures { IsTrue result
         ↔ ((stated_size info.now ≡ stated_size other.now)

@@ -10,7 +10,7 @@ use uefi_map::{
     parse,
 };
 
-/// How many ranges the bytes list.
+/// Returns how many ranges the bytes list.
 pub fn range_count(alloc: Global, bytes: &[u8]) -> Result<usize, ResourceError>
     ensures list { IfOk result (λ count. (list : List QwordAddressSpaceDescriptor)
         × HaveList bytes.now list × (count ≡ length list)) }
@@ -21,8 +21,8 @@ pub fn range_count(alloc: Global, bytes: &[u8]) -> Result<usize, ResourceError>
     Ok(list.len())
 }
 
-/// What is wrong with bytes: nothing exactly where they begin with a list, else the fault that they
-/// have.
+/// Returns what is wrong with bytes: nothing exactly where they begin with a list, else the fault
+/// that they have.
 pub fn fault_of(alloc: Global, bytes: &[u8]) -> Result<Option<ResourceError>, AllocError>
     ensures list { IfOk result (λ fault. IsNone fault ↔ HaveSomeList bytes.now) }
     ensures fault { IfOk result (λ fault. IfSome fault (λ f. HaveFault bytes.now f)) }
@@ -85,7 +85,7 @@ pub fn resources_to_come(resources: &ResourceIter<'_>) -> usize
     resources.len()
 }
 
-/// Whether a number stands for ranges of bus numbers: 2 alone does.
+/// Returns whether a number stands for ranges of bus numbers: 2 alone does.
 pub fn is_bus(number: u8) -> bool
     ensures { IsTrue result ↔ (number ≡ 2) }
 {

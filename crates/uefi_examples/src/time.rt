@@ -12,7 +12,7 @@ use std::alloc::{AllocError, Global};
 use uefi_records::laws::{one_time, times_read_back};
 use uefi_records::{Daylight, FileAttribute, Time, TimeByteConversionError, TimeError, TimeParams};
 
-/// A time written and read again: the same time, with zeros in its padding.
+/// Writes a time and reads it again: the same time, with zeros in its padding.
 #[tactic(auto, unfolding(uefi_records::specs::time::Fields::time_bytes))]
 pub fn read_back(time: &Time) -> Result<Time, TimeByteConversionError>
     ensures same { IfOk result (λ again. time_of again ≡ without_pads (time_of time.now)) }
@@ -33,7 +33,8 @@ pub fn known_time(bytes: &[u8], time: &Time) -> Result<Time, TimeByteConversionE
     Time::try_from(bytes)
 }
 
-/// The time in the first sixteen bytes: each field at its offset, with zeros in the padding.
+/// Returns the time in the first sixteen bytes: each field at its offset, with zeros in the
+/// padding.
 pub fn first_time(bytes: &[u8]) -> Result<Time, TimeByteConversionError>
     ensures fields { IfOk result (λ time. time_of time ≡ without_pads (time_in bytes.now)) }
     ensures refused { IfErr result (RefusesTime bytes.now) }
@@ -42,7 +43,7 @@ pub fn first_time(bytes: &[u8]) -> Result<Time, TimeByteConversionError>
     Time::try_from(bytes)
 }
 
-/// The first noon of a year, local time.
+/// Returns the first noon of a year, local time.
 pub fn first_noon(year: u16) -> Result<Time, TimeError>
     ensures made { IfOk result (λ time. (time_of time).year ≡ year) }
     ensures accepted { IsOk result ↔ ((1900 ≤ year) × (year ≤ 9999)) }
@@ -61,28 +62,28 @@ pub fn first_noon(year: u16) -> Result<Time, TimeError>
     })
 }
 
-/// Whether two times are equal: exactly where all their bytes are.
+/// Returns whether two times are equal: exactly where all their bytes are.
 pub fn is_same_time(time: &Time, other: &Time) -> bool
     ensures { IsTrue result ↔ (bytes_of_time time.now ≡ bytes_of_time other.now) }
 {
     time == other
 }
 
-/// Whether a file is a directory.
+/// Returns whether a file is a directory.
 pub fn is_directory(attribute: FileAttribute) -> bool
     ensures { result ≡ has_bits (attribute_bits attribute) directory_attribute }
 {
     attribute.contains(FileAttribute::DIRECTORY)
 }
 
-/// The set of a bit that has no name: there is none.
+/// Returns whether a bit without a name makes no set of attributes: always.
 pub fn unnamed() -> bool
     ensures { IsTrue result }
 {
     FileAttribute::from_bits(0x08).is_none()
 }
 
-/// The text of what is wrong with a time.
+/// Returns the text of what is wrong with a time.
 pub fn fault_text(alloc: Global, faults: &TimeError) -> Result<String, AllocError>
     ensures { IfOk result (λ text. string_bytes text ≡ time_error_text faults.now) }
 {

@@ -27,6 +27,8 @@ pub few_before_end : (P : Node → Type 0) (bytes : List ℕ) (nodes : List Node
 few_before_end P bytes nodes encodes = omega (arith, length-all_but_last nodes, four_bytes_each nodes, ap length encodes.encoded)
 
 -- The instances of the nodes that bytes encode are no more than the bytes.
-pub few_instances : (P : Node → Type 0) (bytes : List ℕ) (nodes : List Node) (instances : List (List Node)) → IsEncodingOfNodes P bytes nodes → AreInstances instances nodes
+pub few_instances : (P : Node → Type 0) (bytes : List ℕ) (nodes : List Node) (instances : List (List Node))
+    → IsEncodingOfNodes P bytes nodes → AreInstances instances nodes
     → length instances ≤ length bytes
-few_instances P bytes nodes instances encodes cut = omega (arith, node_each instances cut.each, ap length cut.whole, four_bytes_each nodes, ap length encodes.encoded)
+few_instances P bytes nodes instances encodes cut =
+    omega (arith, node_each instances cut.each, ap length cut.whole, four_bytes_each nodes, ap length encodes.encoded)

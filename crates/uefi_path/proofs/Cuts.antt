@@ -36,9 +36,11 @@ instances_of bytes nodes encodes =
     (cut.0, record { each = cut.1.each; encoded = encodes.encoded ∙ ap joined (sym cut.1.whole) })
 
 -- The instances that the bytes of a path encode are the instances of the path.
-pub are_instances : (bytes : List ℕ) (nodes : List Node) (instances : List (List Node)) → IsEncodingOfNodes IsEndEntire bytes nodes → IsEncodingOfInstances bytes instances
+pub are_instances : (bytes : List ℕ) (nodes : List Node) (instances : List (List Node))
+    → IsEncodingOfNodes IsEndEntire bytes nodes → IsEncodingOfInstances bytes instances
     → AreInstances instances nodes
 are_instances bytes nodes instances encodes apart =
     let cut = cut_of nodes encodes.ended in
-    let same : instances ≡ cut.0 = instances_encoded_once instances cut.0 apart.each cut.1.each (sym apart.encoded ∙ encodes.encoded ∙ ap joined (sym cut.1.whole)) in
+    let same : instances ≡ cut.0 = instances_encoded_once instances cut.0 apart.each cut.1.each
+    (sym apart.encoded ∙ encodes.encoded ∙ ap joined (sym cut.1.whole)) in
     record { each = apart.each; whole = ap concat same ∙ cut.1.whole }

@@ -2,7 +2,8 @@
 use Rattle.std.proofs.Common.{◌≡◌, ℕ, zero, suc, ◌+◌, ◌*◌, ◌<◌, ◌≤◌, List, [], ◌∷◌, ◌++◌, length, drop, get_or, refl, sym, ◌∙◌, ap, arith, append_assoc, length-append}
 use Rattle.std.proofs.Math.Decide.{dec_le, ℕ_discrete}
 use Rattle.std.proofs.lemmas.List.{take-append-drop, get_or-append-add}
-use Rattle.uefi_path.specs.Node.{header_length, Node, Fits, encoding, joined, HasNode, IsEndEntire}
+use Rattle.uefi_path.specs.Header.{header_length}
+use Rattle.uefi_path.specs.Node.{Node, Fits, encoding, joined, HasNode, IsEndEntire}
 use Rattle.uefi_path.specs.Path.{HasNodes, HasPath}
 use Rattle.uefi_path.specs.private.OneNode.{stated_length}
 use Rattle.uefi_path.proofs.Nodes.{header_prefix, node_prefix}
@@ -39,11 +40,13 @@ node_or_none bytes small = by_length (dec_le 4 (length bytes)) (dec_le 4 (stated
 -- What follows a node in bytes is bytes.
 bytes_after : (node : Node) (rest bytes : List ℕ) → bytes ≡ encoding node ++ rest → ((i : ℕ) → get_or bytes i 0 < 256) → (i : ℕ) → get_or rest i 0 < 256
 bytes_after node rest bytes e small i =
-    let at : get_or bytes (length (encoding node) + i) 0 ≡ get_or rest i 0 = ap (λ b. get_or b (length (encoding node) + i) 0) e ∙ get_or-append-add (encoding node) rest i 0 in
+    let at : get_or bytes (length (encoding node) + i) 0 ≡ get_or rest i 0 =
+    ap (λ b. get_or b (length (encoding node) + i) 0) e ∙ get_or-append-add (encoding node) rest i 0 in
     omega (arith, at, small (length (encoding node) + i))
 
 -- Bytes start with nodes of which only the last satisfies P, or with none.
-nodes_or_none : (P : Node → Type 0) → ((node : Node) → Dec (P node)) → (k : ℕ) (bytes : List ℕ) → length bytes ≤ k → ((i : ℕ) → get_or bytes i 0 < 256) → Dec (HasNodes P bytes)
+nodes_or_none : (P : Node → Type 0) → ((node : Node) → Dec (P node)) → (k : ℕ) (bytes : List ℕ) → length bytes ≤ k
+    → ((i : ℕ) → get_or bytes i 0 < 256) → Dec (HasNodes P bytes)
 nodes_or_none P d zero bytes short small = no (λ has. absurd (omega (arith, short, (node_states bytes (HasNodes-node P bytes has)).0)))
 nodes_or_none P d (suc k) bytes short small = by_node (node_or_none bytes small) (λ after less fit. nodes_or_none P d k after (omega (arith, less, short)) fit)
   where
@@ -53,12 +56,15 @@ nodes_or_none P d (suc k) bytes short small = by_node (node_or_none bytes small)
         yes (n ∷ m.0, AreEndedBy-cons P n m.0 f not_so m.1, (m.2.0, e ∙ ap (λ s. encoding n ++ s) m.2.1 ∙ sym (append_assoc (encoding n) (joined m.0) m.2.0)))
     by_stop n after f e (no not_so) (no none) = no (λ has. none (HasNodes-after P bytes after n has f not_so e))
 
-    by_node : Dec (HasNode bytes) → ((after : List ℕ) → length after < length bytes → ((i : ℕ) → get_or after i 0 < 256) → Dec (HasNodes P after)) → Dec (HasNodes P bytes)
+    by_node : Dec (HasNode bytes) → ((after : List ℕ) → length after < length bytes
+        → ((i : ℕ) → get_or after i 0 < 256) → Dec (HasNodes P after)) → Dec (HasNodes P bytes)
     by_node (no none) go = no (λ has. none (HasNodes-node P bytes has))
     by_node (yes has) go =
         let n = has.0 in
         let after = has.2.0 in
-        by_stop n after has.1 has.2.1 (d n) (go after (omega (arith, ap length has.2.1, length-append n.payload after)) (bytes_after n after bytes has.2.1 small))
+        by_stop n after has.1 has.2.1 (d n)
+        (go after (omega (arith, ap length has.2.1, length-append n.payload after))
+        (bytes_after n after bytes has.2.1 small))
 
 -- A node is end-entire, or not.
 end_entire_or_not : (n : Node) → Dec (IsEndEntire n)

@@ -2,13 +2,13 @@
 use Rattle.std.proofs.Common.{◌≡◌, ℕ, ◌+◌, ◌-◌, ◌*◌, ◌<◌, ◌≤◌, List, [], ◌∷◌, ◌++◌, length, take, drop, get_or, sym, ◌∙◌, ap, arith}
 use Rattle.std.proofs.lemmas.List.{length-take-le}
 use Rattle.std.proofs.Math.Seq.{take-append_seam, take-append-add}
-use Rattle.uefi_path.specs.Node.{header_length, encoding, HasNode}
+use Rattle.uefi_path.specs.Node.{encoding, HasNode}
 use Rattle.uefi_base.specs.LittleEndian.{u16_at, u16_bytes}
 use Rattle.uefi_base.specs.Prefix.{IsPrefix}
 use Rattle.uefi_base.proofs.NumbersBack.{two_bytes}
 use Rattle.uefi_base.proofs.Ranges.{items_from, drop-items_from}
 use Rattle.uefi_path.specs.declared.header.TheConstants.{LENGTH_OFFSET}
-use Rattle.uefi_path.specs.Header.{header, header_bytes}
+use Rattle.uefi_path.specs.Header.{header, header_bytes, header_length}
 use Rattle.uefi_path.specs.private.OneNode.{stated_length}
 use Rattle.uefi_path.specs.private.Encoding.{EncodesNode}
 
@@ -21,7 +21,8 @@ header_prefix bytes n small enough made =
     (drop 4 bytes, drop-items_from 0 4 4 bytes (omega arith) enough ∙ ap (λ s. get_or bytes 0 0 ∷ get_or bytes 1 0 ∷ s ++ drop 4 bytes) (sym two))
 
 -- A prefix with the length that its header states encodes a node.
-pub node_prefix : (bytes : List ℕ) (t u n : ℕ) → ((i : ℕ) → get_or bytes i 0 < 256) → IsPrefix (header_bytes (header t u n)) bytes → 4 ≤ n → n ≤ length bytes → n < 65536
+pub node_prefix : (bytes : List ℕ) (t u n : ℕ) → ((i : ℕ) → get_or bytes i 0 < 256)
+    → IsPrefix (header_bytes (header t u n)) bytes → 4 ≤ n → n ≤ length bytes → n < 65536
     → EncodesNode (take n bytes)
 node_prefix bytes t u n small prefix whole_header within fits =
     let bytes_of_header = header_bytes (header t u n) in
@@ -46,5 +47,12 @@ stated_prefix bytes n has made =
     let node = has.0 in
     let rest = has.2.0 in
     let stated : u16_at bytes LENGTH_OFFSET ≡ header_length + length node.payload = ap (λ b. u16_at b LENGTH_OFFSET) has.2.1 ∙ stated_length node has.1 in
-    let whole : n ≡ length (encoding node) = omega (arith, made, stated) in
-    (node, record { fits = has.1; encoded = ap (λ b. take n b) has.2.1 ∙ ap (λ k. take k (encoding node ++ rest)) whole ∙ take-append_seam (encoding node) rest })
+    let whole : n ≡ length (encoding node) = omega (arith, made, stated) in (
+      node,
+      record {
+        fits = has.1;
+        encoded =
+            ap (λ b. take n b) has.2.1 ∙ ap (λ k. take k (encoding node ++ rest)) whole
+            ∙ take-append_seam (encoding node) rest;
+      },
+    )

@@ -2,7 +2,8 @@
 use Rattle.std.proofs.Common.{◌≡◌, ℕ, ◌-◌, List, [], ◌∷◌, ◌++◌, length, take, refl, sym, ◌∙◌, ap, subst, arith, append_assoc, length-append}
 use Rattle.std.proofs.lemmas.List.{take_at}
 use Rattle.std.specs.List.{AllByRecursion}
-use Rattle.uefi_path.specs.Node.{Node, Fits, encoding, joined, HasNode, AreNodes}
+use Rattle.uefi_path.specs.Node.{Node, Fits, encoding, joined, HasNode}
+use Rattle.uefi_path.specs.private.Encoding.{AreNodes}
 use Rattle.uefi_path.specs.Path.{LastAlone, HasNodes}
 use Rattle.uefi_path.specs.private.Encoding.{EncodesNodes}
 use Rattle.uefi_path.specs.private.OnePath.{joined-append}
@@ -62,13 +63,15 @@ passed_end P bytes rest after n before fits so e =
     )
 
 -- After a node that doesn't satisfy P, the bytes still start with such nodes.
-pub HasNodes-after : (P : Node → Type 0) (bytes after : List ℕ) (n : Node) → HasNodes P bytes → Fits n → (P n → ⊥) → bytes ≡ encoding n ++ after → HasNodes P after
+pub HasNodes-after : (P : Node → Type 0) (bytes after : List ℕ) (n : Node) → HasNodes P bytes → Fits n → (P n → ⊥)
+    → bytes ≡ encoding n ++ after → HasNodes P after
 HasNodes-after P bytes after n has fits not_so e =
     let others = after_first P n has.0 after has.2.0 fits not_so has.1 (sym e ∙ has.2.1) in
     (others.0, others.1, (has.2.0, others.2))
 
 -- So they do after any number of such nodes.
-HasNodes-after_all : (P : Node → Type 0) (ns : List Node) (bytes rest : List ℕ) → AreNodes ns → AllByRecursion (λ n. P n → ⊥) ns → HasNodes P bytes → bytes ≡ joined ns ++ rest
+HasNodes-after_all : (P : Node → Type 0) (ns : List Node) (bytes rest : List ℕ) → AreNodes ns
+    → AllByRecursion (λ n. P n → ⊥) ns → HasNodes P bytes → bytes ≡ joined ns ++ rest
     → HasNodes P rest
 HasNodes-after_all P [] bytes rest each none has e = subst (HasNodes P) e has
 HasNodes-after_all P (n ∷ ns) bytes rest each none has e =

@@ -1,6 +1,6 @@
 -- The worked rows hold.
-use Rattle.std.proofs.Common.{ℕ, ◌<◌, ◌≤◌, List, [], ◌∷◌, ◌++◌, length, refl, arith, lit<, lit≤}
-use Rattle.uefi_path.specs.Node.{Node, Fits, max_data_length, IsEnd, IsEndEntire}
+use Rattle.std.proofs.Common.{ℕ, ◌+◌, ◌<◌, ◌≤◌, List, [], ◌∷◌, ◌++◌, length, refl, arith, lit<, lit≤}
+use Rattle.uefi_path.specs.Node.{Node, Fits, IsEnd, IsEndEntire}
 use Rattle.uefi_path.specs.Path.{IsPath, HasPath}
 use Rattle.uefi_path.specs.rows.Paths.{node, first_instance, second_instance, unknown_end, end_entire, TwoInstances, AnyEnd, EndWithData, NoPath, Nodes, TypeNumbers, RowsHold}
 use Rattle.uefi_path.proofs.Decide.{stated, node_states}
@@ -8,7 +8,7 @@ use Rattle.uefi_path.proofs.Passing.{HasNodes-after}
 use Rattle.uefi_path.proofs.Steps.{HasNodes-node, AreEndedBy-one, AreEndedBy-cons}
 
 -- A node with these fields fits.
-fits : (t s : ℕ) (d : List ℕ) → t < 256 → s < 256 → length d ≤ max_data_length → Fits (node t s d)
+fits : (t s : ℕ) (d : List ℕ) → t < 256 → s < 256 → 4 + length d ≤ 0xffff → Fits (node t s d)
 fits t s d type_fits sub_type_fits payload_fits = record { device_type = type_fits; sub_type = sub_type_fits; payload = payload_fits }
 
 -- The nodes of both instances fit.
@@ -78,7 +78,8 @@ no_path = record {
   short = λ has. absurd (omega (arith, (path_states (0xa0 ∷ 0xb0 ∷ 3 ∷ 0 ∷ []) has).1));
   long = λ has. absurd (omega (arith, (path_states (0xa0 ∷ 0xb0 ∷ 0xff ∷ 0xff ∷ []) has).2));
   endless = λ has.
-      let after = HasNodes-after IsEndEntire (0xa0 ∷ 0xb0 ∷ 6 ∷ 0 ∷ 0x0a ∷ 0x0b ∷ []) [] (node 0xa0 0xb0 (0x0a ∷ 0x0b ∷ [])) has first_nodes_fit.0 (λ e. absurd (omega (arith, e.0))) refl in
+      let after = HasNodes-after IsEndEntire (0xa0 ∷ 0xb0 ∷ 6 ∷ 0 ∷ 0x0a ∷ 0x0b ∷ []) []
+      (node 0xa0 0xb0 (0x0a ∷ 0x0b ∷ [])) has first_nodes_fit.0 (λ e. absurd (omega (arith, e.0))) refl in
       absurd (omega (arith, (path_states [] after).0));
 }
 

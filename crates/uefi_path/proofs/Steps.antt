@@ -31,7 +31,8 @@ none_before_end P bytes after n nodes encodes fits so e =
     ap all_but_last (one_ended P nodes (n ∷ []) [] after encodes.ended (AreEndedBy-one P n fits so) same).0
 
 -- After a node that doesn't end such nodes, the others follow.
-pub after_first : (P : Node → Type 0) (n : Node) (nodes : List Node) (after x : List ℕ) → Fits n → (P n → ⊥) → AreEndedBy P nodes → encoding n ++ after ≡ joined nodes ++ x
+pub after_first : (P : Node → Type 0) (n : Node) (nodes : List Node) (after x : List ℕ) → Fits n → (P n → ⊥)
+    → AreEndedBy P nodes → encoding n ++ after ≡ joined nodes ++ x
     → (others : List Node) × AreEndedBy P others × (after ≡ joined others ++ x)
 after_first P n [] after x fits not_so ended e = absurd ended.end
 after_first P n (m ∷ []) after x fits not_so ended e = absurd (not_so (subst P (sym (same_first n m [] after x fits ended.each.0 e).0) ended.end))
@@ -60,7 +61,12 @@ pub next_node : (P : Node → Type 0) (bytes after : List ℕ) (n : Node) (nodes
     → bytes ≡ encoding n ++ after → IsEncodingOfNodes P after others → all_but_last nodes ≡ n ∷ all_but_last others
 next_node P bytes after n nodes others encodes fits not_so e left =
     let all : nodes ≡ n ∷ others =
-    nodes_encoded_once P bytes nodes (n ∷ others) encodes (record { ended = AreEndedBy-cons P n others fits not_so left.ended; encoded = e ∙ ap (λ b. encoding n ++ b) left.encoded }) in
+    nodes_encoded_once P bytes nodes (n ∷ others) encodes
+    (record {
+      ended = AreEndedBy-cons P n others fits not_so left.ended;
+      encoded =
+          e ∙ ap (λ b. encoding n ++ b) left.encoded;
+    }) in
     ap all_but_last all ∙ all_but_last-cons P n others left.ended
 
 -- If no bytes are left, no instance is left.
@@ -75,16 +81,20 @@ some_instance bytes [] encodes some = absurd (some (ap length encodes.encoded))
 some_instance bytes (p ∷ instances) encodes some = (p, encodes.each.0, (joined (concat instances), encodes.encoded ∙ joined-append p (concat instances)))
 
 -- After an instance, the bytes encode the other instances.
-pub after_instance : (bytes prefix after : List ℕ) (instances : List (List Node)) → IsEncodingOfInstances bytes instances → EncodesNodes IsEnd prefix → bytes ≡ prefix ++ after
+pub after_instance : (bytes prefix after : List ℕ) (instances : List (List Node))
+    → IsEncodingOfInstances bytes instances → EncodesNodes IsEnd prefix → bytes ≡ prefix ++ after
     → EncodesInstances after
 after_instance bytes prefix after [] encodes came e =
     absurd (some_bytes came.0 after came.1.ended (ap (λ b. b ++ after) (sym came.1.encoded) ∙ sym e ∙ encodes.encoded))
 after_instance bytes prefix after (p ∷ instances) encodes came e =
-    let first = one_ended IsEnd came.0 p after (joined (concat instances)) came.1.ended encodes.each.0 (ap (λ b. b ++ after) (sym came.1.encoded) ∙ sym e ∙ encodes.encoded ∙ joined-append p (concat instances)) in
+    let first = one_ended IsEnd came.0 p after (joined (concat instances)) came.1.ended encodes.each.0
+    (ap (λ b. b ++ after) (sym came.1.encoded) ∙ sym e ∙ encodes.encoded
+    ∙ joined-append p (concat instances)) in
     (instances, record { each = encodes.each.1; encoded = first.1 })
 
 -- The instance that the bytes start with is the first of those that are left.
-pub next_instance : (bytes prefix after : List ℕ) (nodes : List Node) (instances others : List (List Node)) → IsEncodingOfInstances bytes instances → IsEncodingOfNodes IsEnd prefix nodes
+pub next_instance : (bytes prefix after : List ℕ) (nodes : List Node) (instances others : List (List Node))
+    → IsEncodingOfInstances bytes instances → IsEncodingOfNodes IsEnd prefix nodes
     → bytes ≡ prefix ++ after → IsEncodingOfInstances after others → instances ≡ nodes ∷ others
 next_instance bytes prefix after nodes instances others encodes came e left =
     instances_encoded_once instances (nodes ∷ others) encodes.each (came.ended, left.each)

@@ -2,7 +2,10 @@
 use Rattle.std.specs.Prelude.{ℕ, ◌<◌, List, ◌∷◌, length, IfOk, OnErr, Result}
 use Rattle.std.specs.Int.{w16, to_le_bytes}
 use Rattle.uefi_base.specs.Prefix.{IsPrefix}
-use Rattle.uefi_path.specs.Node.{header_length}
+
+-- The length of a header: a byte for the type, one for the subtype, and two for the length of the whole node.
+abbrev pub header_length : ℕ
+header_length = 4
 
 -- A header: type, subtype and the stated length of the whole node.
 pub record Header : Type 0 where

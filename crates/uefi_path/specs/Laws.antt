@@ -6,7 +6,8 @@ use Rattle.uefi_path.specs.Path.{IsPath}
 
 -- No path is a proper prefix of another: paths that start the same bytes are equal, and so are the bytes after them.
 abbrev pub NoProperPrefix : Type 0
-NoProperPrefix = (p q : List Node) (x y : List ℕ) → IsPath p → IsPath q → joined p ++ x ≡ joined q ++ y → (p ≡ q) × (x ≡ y)
+NoProperPrefix =
+    (p q : List Node) (x y : List ℕ) → IsPath p → IsPath q → joined p ++ x ≡ joined q ++ y → (p ≡ q) × (x ≡ y)
 
 -- A path followed by any bytes starts with that path, and with no other.
 abbrev pub ReadsBack : Type 0

@@ -1,7 +1,7 @@
 -- Nodes of device paths, and their encodings (UEFI 2.10, 10.3.1 "Generic Device Path Structures").
-use Rattle.std.specs.Prelude.{◌≡◌, ℕ, ◌+◌, ◌-◌, ◌≤◌, ◌<◌, List, ◌∷◌, ◌++◌, length}
+use Rattle.std.specs.Prelude.{◌≡◌, ℕ, ◌+◌, ◌≤◌, ◌<◌, List, ◌∷◌, ◌++◌, length}
 use Rattle.std.specs.Int.{w16, to_le_bytes}
-use Rattle.std.specs.List.{flat_map, AllByRecursion}
+use Rattle.std.specs.List.{flat_map}
 use Rattle.uefi_base.specs.Prefix.{IsPrefix}
 
 -- A node: its type, its subtype and its data.
@@ -10,31 +10,20 @@ pub record Node : Type 0 where
   pub sub_type : ℕ
   pub payload : List ℕ
 
--- The length of a header: a byte for the type, one for the subtype, and two for the length of the whole node.
-abbrev pub header_length : ℕ
-header_length = 4
-
--- The largest length of a node's data.
-abbrev pub max_data_length : ℕ
-max_data_length = 0xffff - header_length
-
--- The fields fit the encoding: the type and the subtype are bytes, and the data isn't too long.
+-- The fields fit the encoding: the type and the subtype are bytes, and the length of the whole node has two bytes.
 pub record Fits (node : Node) : Type 0 where
   pub device_type : node.device_type < 256
   pub sub_type : node.sub_type < 256
-  pub payload : length node.payload ≤ max_data_length
+  pub payload : 4 + length node.payload ≤ 0xffff
 
--- The encoding of a node: type, subtype, the length of the whole node in two bytes, little-endian, and the data.
+-- The encoding of a node: a header of four bytes, the type, the subtype and the length of the whole node in two
+-- bytes, little-endian; and then the data.
 abbrev pub encoding : Node → List ℕ
-encoding node = node.device_type ∷ node.sub_type ∷ to_le_bytes w16 (header_length + length node.payload) ++ node.payload
+encoding node = node.device_type ∷ node.sub_type ∷ to_le_bytes w16 (4 + length node.payload) ++ node.payload
 
 -- The encodings of nodes, in order.
 abbrev pub joined : List Node → List ℕ
 joined nodes = flat_map encoding nodes
-
--- The fields of each node fit its encoding.
-abbrev pub AreNodes : List Node → Type 0
-AreNodes nodes = AllByRecursion Fits nodes
 
 -- The node ends an instance: it has the type END.
 abbrev pub IsEnd : Node → Type 0

@@ -1,7 +1,7 @@
 -- Device paths and their instances (UEFI 2.10, 10.2 and 10.3.1).
 use Rattle.std.specs.Prelude.{◌≡◌, ℕ, List, [], ◌∷◌}
 use Rattle.std.specs.List.{flat_map, AllByRecursion}
-use Rattle.uefi_path.specs.Node.{Node, joined, AreNodes, IsEnd, IsEndEntire}
+use Rattle.uefi_path.specs.Node.{Node, Fits, joined, IsEnd, IsEndEntire}
 use Rattle.uefi_base.specs.Prefix.{IsPrefix}
 
 -- The last element of the list satisfies P, and no other does.
@@ -12,7 +12,7 @@ LastAlone P (x ∷ y ∷ ys) = (P x → ⊥) × LastAlone P (y ∷ ys)
 
 -- Nodes of which only the last satisfies P.
 pub record AreEndedBy (P : Node → Type 0) (nodes : List Node) : Type 0 where
-  pub each : AreNodes nodes
+  pub each : AllByRecursion Fits nodes
   pub end : LastAlone P nodes
 
 -- A path: nodes of which only the last is end-entire.

@@ -13,5 +13,5 @@ pub record ReadsNode {V E : Type 0} (node_of : V → Node) (bytes : List ℕ) (r
 -- At Ok, the only path that is a prefix of the bytes; at Err, no path is.
 pub record ReadsPath {V E : Type 0} (nodes_of : V → List Node) (bytes : List ℕ) (read : Result V E) : Type 0 where
   pub ok : IfOk read (λ view. IsPath (nodes_of view) × IsPrefix (joined (nodes_of view)) bytes)
-  pub only : IfOk read (λ view. (nodes : List Node) → IsPath nodes → IsPrefix (joined nodes) bytes → nodes ≡ nodes_of view)
+  pub only : IfOk read (λ view. (path : List Node) → IsPath path → IsPrefix (joined path) bytes → path ≡ nodes_of view)
   pub err : OnErr read (¬ HasPath bytes)

@@ -1,7 +1,8 @@
 ghost use Rattle.std.specs.Prelude.{◌≡◌, ◌↔◌, ◌+◌, length, IsTrue, nat_eq, Some};
 ghost use Rattle.std.specs.Cmp.{partial_equiv_from_equiv, on_per, on_equiv};
 ghost use Rattle.std.specs.Cmp.Lexicographic.{pointwise, nat_list_eq_equiv};
-ghost use Rattle.uefi_path.specs.Node.{header_length, encoding, IsEndEntire};
+ghost use Rattle.uefi_path.specs.Header.{header_length};
+ghost use Rattle.uefi_path.specs.Node.{encoding, IsEndEntire};
 ghost use Rattle.uefi_path.specs.private.Encoding.{IsEncodingOfNode, EncodesNode};
 ghost use Rattle.uefi_path.specs.private.OneNode.{EncodesNode-prop};
 

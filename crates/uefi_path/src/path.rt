@@ -1,7 +1,8 @@
 ghost use Rattle.std.specs.Prelude.{◌≡◌, ◌*◌, ◌^◌, ◌<◌, ◌≤◌, length, IfOk, nat_eq, Some};
 ghost use Rattle.std.specs.Cmp.{partial_equiv_from_equiv, on_per, on_equiv};
 ghost use Rattle.std.specs.Cmp.Lexicographic.{pointwise, nat_list_eq_equiv};
-ghost use Rattle.uefi_path.specs.Node.{header_length, joined, IsEndEntire};
+ghost use Rattle.uefi_path.specs.Header.{header_length};
+ghost use Rattle.uefi_path.specs.Node.{joined, IsEndEntire};
 ghost use Rattle.uefi_path.specs.Path.{IsPath, AreInstances, all_but_last};
 ghost use Rattle.uefi_path.specs.private.Encoding.{IsEncodingOfNodes, EncodesPath};
 ghost use Rattle.uefi_path.specs.private.OnePath.{EncodesPath-prop};

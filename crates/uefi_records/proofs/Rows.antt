@@ -7,15 +7,15 @@ use Rattle.uefi_records.specs.rows.Records.{LocalTime, ZeroTime, UnknownDaylight
 
 local_time : LocalTime
 unfolding time_bytes
-local_time = record { text = refl; accepted = refl; zone = refl }
+local_time = record { bytes = refl; accepted = refl; zone = refl }
 
 zero_time : ZeroTime
 unfolding time_bytes
-zero_time = record { text = refl; faults = refl; lines = refl }
+zero_time = record { bytes = refl; faults = refl; lines = refl }
 
 unknown_daylight : UnknownDaylight
 unfolding time_bytes
-unknown_daylight = record { text = refl; faults = refl }
+unknown_daylight = record { bytes = refl; faults = refl }
 
 zones : Zones
 unfolding time_bytes
@@ -39,11 +39,11 @@ flag_numbers = record {
 
 file_of_ab : FileOfAb
 unfolding time_bytes file_header
-file_of_ab = record { text = refl; whole = refl; short_buffer = refl; without_its_nul = refl; nothing = refl }
+file_of_ab = record { bytes = refl; whole = refl; short_buffer = refl; without_its_nul = refl; nothing = refl }
 
 file_system_of_ab : FileSystemOfAb
 unfolding file_system_header
-file_system_of_ab = record { text = refl }
+file_system_of_ab = record { bytes = refl }
 
 record_sizes : RecordSizes
 record_sizes = record { file_info = refl; file_system_info = refl; volume_label = refl }

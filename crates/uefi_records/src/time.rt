@@ -12,7 +12,7 @@ use uefi_base::little_endian::{u16_at, u32_at};
 mod error;
 mod params;
 
-/// The length of a time, in bytes.
+// The length of a time, in bytes.
 const TIME_LENGTH: usize = 16;
 
 // The offsets of the fields.
@@ -38,17 +38,17 @@ const DAYLIGHT_OFFSET: usize = 14;
 
 const LAST_PAD_OFFSET: usize = 15;
 
-/// The first and the last year of the range, and the last nanosecond of a second.
+// The first and the last year of the range, and the last nanosecond of a second.
 const FIRST_YEAR: u16 = 1900;
 
 const LAST_YEAR: u16 = 9999;
 
 const LAST_NANOSECOND: u32 = 999_999_999;
 
-/// The zone of local time, `EFI_UNSPECIFIED_TIMEZONE`.
+// The zone of local time, `EFI_UNSPECIFIED_TIMEZONE`.
 const UNSPECIFIED_TIMEZONE: i16 = 0x07ff;
 
-/// The most minutes that a zone is from UTC: those of a day.
+// The most minutes that a zone is from UTC: those of a day.
 const LARGEST_TIMEZONE: i16 = 1440;
 
 /// A date and a time of day (UEFI 2.10, 8.3 `GetTime()`, `EFI_TIME`).
@@ -150,7 +150,7 @@ impl Time {
         }
     }
 
-    /// Whether each field but daylight is within its range.
+    /// Tests whether each field but daylight is within its range.
     ///
     /// # Errors
     ///
@@ -167,7 +167,7 @@ impl Time {
         }
     }
 
-    // The fields outside their ranges. Daylight is never at fault here.
+    // Returns the fields outside their ranges. Daylight is never at fault here.
     fn range_faults(&self) -> TimeError
         ensures { result ≡ range_faults (time_of self.now) }
     {
@@ -184,56 +184,56 @@ impl Time {
         }
     }
 
-    /// The year.
+    /// Returns the year.
     pub fn year(&self) -> u16
         ensures { result ≡ (time_of self.now).year }
     {
         self.year
     }
 
-    /// The month, 1 for January.
+    /// Returns the month, 1 for January.
     pub fn month(&self) -> u8
         ensures { result ≡ (time_of self.now).month }
     {
         self.month
     }
 
-    /// The day of the month, 1 for the first.
+    /// Returns the day of the month, 1 for the first.
     pub fn day(&self) -> u8
         ensures { result ≡ (time_of self.now).day }
     {
         self.day
     }
 
-    /// The hour of the day.
+    /// Returns the hour of the day.
     pub fn hour(&self) -> u8
         ensures { result ≡ (time_of self.now).hour }
     {
         self.hour
     }
 
-    /// The minute of the hour.
+    /// Returns the minute of the hour.
     pub fn minute(&self) -> u8
         ensures { result ≡ (time_of self.now).minute }
     {
         self.minute
     }
 
-    /// The second of the minute.
+    /// Returns the second of the minute.
     pub fn second(&self) -> u8
         ensures { result ≡ (time_of self.now).second }
     {
         self.second
     }
 
-    /// The nanosecond of the second.
+    /// Returns the nanosecond of the second.
     pub fn nanosecond(&self) -> u32
         ensures { result ≡ (time_of self.now).nanosecond }
     {
         self.nanosecond
     }
 
-    /// The zone in minutes from UTC, or `None` for local time.
+    /// Returns the zone in minutes from UTC, or `None` for local time.
     pub fn time_zone(&self) -> Option<i16>
         ensures { result ≡ stated_zone (time_of self.now).zone }
     {
@@ -244,14 +244,14 @@ impl Time {
         }
     }
 
-    /// How daylight saving affects the time: all bits, including those without a name.
+    /// Returns how daylight saving affects the time: all bits, including those without a name.
     pub fn daylight(&self) -> Daylight
         ensures { daylight_bits result ≡ (time_of self.now).daylight }
     {
         self.daylight
     }
 
-    /// The sixteen bytes of the time, with its padding.
+    /// Returns the sixteen bytes of the time, with its padding.
     #[tactic(auto, unfolding(crate::specs::time::Fields::time_bytes))]
     pub fn to_bytes(&self) -> [u8; TIME_LENGTH]
         ensures bytes { result ≡ time_bytes (time_of self.now) }
@@ -281,7 +281,7 @@ impl Time {
         ]
     }
 
-    // The time in the first sixteen bytes, whatever its fields are.
+    // Returns the time in the first sixteen bytes, whatever its fields are.
     pub(crate) fn read(bytes: &[u8]) -> Time
         requires { time_length ≤ length bytes.now }
         ensures fields { time_of result ≡ time_in bytes.now }
@@ -302,7 +302,7 @@ impl Time {
         }
     }
 
-    // The time with zeros in its padding.
+    // Returns the time with zeros in its padding.
     fn without_pads(self) -> Time
         ensures { time_of result ≡ without_pads (time_of self) }
     {
@@ -314,7 +314,7 @@ impl Time {
     }
 }
 
-// Whether a zone is neither unspecified nor within a day of UTC.
+// Returns whether a zone is neither unspecified nor within a day of UTC.
 fn is_zone_outside(zone: i16) -> bool
     ensures { result ≡ is_zone_outside zone }
 {

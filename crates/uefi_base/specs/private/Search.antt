@@ -9,17 +9,20 @@ use Rattle.uefi_base.specs.Faults.{HasFault, AreTooMany, OffendsFirst}
 -- The first unit that isn't a character, with its index; at None, all are.
 abbrev pub IsFirstNonCharacter : List ℕ → Option (ℕ × ℕ) → Type 0
 IsFirstNonCharacter units None = AreCharactersBefore units (length units)
-IsFirstNonCharacter units (Some first) = (first.0 < length units) × (first.1 ≡ slice_index units first.0) × AreCharactersBefore units first.0 × ¬ IsCharacter first.1
+IsFirstNonCharacter units (Some first) = (first.0 < length units) × (first.1 ≡ slice_index units first.0)
+    × AreCharactersBefore units first.0 × ¬ IsCharacter first.1
 
 -- The error of all lists of this many units with this first unit that isn't a character; at None, they are text.
 abbrev pub TellsFault : ℕ → Option (ℕ × ℕ) → Option FromSliceWithNulError → Type 0
-TellsFault count first fault = (units : List ℕ) → length units ≡ count → IsFirstNonCharacter units first → MatchOption fault (IsUcs2Text units) (HasFault units)
+TellsFault count first fault = (units : List ℕ) → length units ≡ count → IsFirstNonCharacter units first
+    → MatchOption fault (IsUcs2Text units) (HasFault units)
 
 -- The first character that has no unit of its own; at None, all have one.
 abbrev pub IsFirstWithoutUnit : List ℕ → Option ℕ → Type 0
 IsFirstWithoutUnit characters None = HaveUnitsBefore characters (length characters)
 IsFirstWithoutUnit characters (Some first) =
-    (index : ℕ) × (index < length characters) × (first ≡ slice_index characters index) × HaveUnitsBefore characters index × ¬ HasUnit first
+    (index : ℕ) × (index < length characters) × (first ≡ slice_index characters index)
+    × HaveUnitsBefore characters index × ¬ HasUnit first
 
 -- The error that characters have, which is never Memory.
 abbrev pub HasStrFault : List ℕ → FromStrError → Type 0

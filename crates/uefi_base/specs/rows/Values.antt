@@ -32,7 +32,8 @@ pub record LimitRows : Type 0 where
   pub most_characters : (n : ℕ) → n + 1 ≡ 2 ^ 31 → MakeUcs2Text (replicate n 0x61)
   pub one_character_more : (n : ℕ) → n ≡ 2 ^ 31 → AreTooMany (replicate n 0x61)
 
--- Errors that units don't have: the lowest offending index decides; the missing NUL counts only if no index offends; no index counts if there are too many units.
+-- Errors that units don't have: the lowest offending index decides; the missing NUL counts only if no index
+-- offends; no index counts if there are too many units.
 pub record OrderRows : Type 0 where
   pub surrogate_after_nul : HasFault (0 ∷ 0xd800 ∷ 0 ∷ []) (InvalidChar 1) → ⊥
   pub nul_after_surrogate : HasFault (0xd800 ∷ 0 ∷ 0x61 ∷ 0 ∷ []) (InteriorNul 1) → ⊥

@@ -20,8 +20,11 @@ same_fields one other ty padding phys_start virt_start page_count att = λ i. re
 pub descriptor_in-encoding : (d : MemoryDescriptor) → Fits d → descriptor_in (encoding d) ≡ d
 unfolding descriptor_in encoding
 descriptor_in-encoding d fits =
-    same_fields _ d (from_le_bytes-to_le_bytes_4 d.ty.0 fits.ty) (from_le_bytes-to_le_bytes_4 d.padding fits.padding) (from_le_bytes-to_le_bytes_8 d.phys_start fits.phys_start)
-    (from_le_bytes-to_le_bytes_8 d.virt_start fits.virt_start) (from_le_bytes-to_le_bytes_8 d.page_count fits.page_count) (from_le_bytes-to_le_bytes_8 d.att.0 fits.att)
+    same_fields _ d (from_le_bytes-to_le_bytes_4 d.ty.0 fits.ty)
+    (from_le_bytes-to_le_bytes_4 d.padding fits.padding)
+    (from_le_bytes-to_le_bytes_8 d.phys_start fits.phys_start)
+    (from_le_bytes-to_le_bytes_8 d.virt_start fits.virt_start)
+    (from_le_bytes-to_le_bytes_8 d.page_count fits.page_count) (from_le_bytes-to_le_bytes_8 d.att.0 fits.att)
 
 pub length-encoding : (d : MemoryDescriptor) → length (encoding d) ≡ descriptor_length
 unfolding encoding

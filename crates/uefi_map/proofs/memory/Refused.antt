@@ -39,14 +39,35 @@ module _ (lender : MutBor (List ℕ)) (sizes : MemoryMapMeta) where
     pub refused : IfErr made (λ error. error ≡ InvalidSize)
     pub same_buffer : IfOk made (WritesTo lender)
 
-  pub returned_map : (made : Result MemoryMapRefMut MemoryMapError) → IsMap (length lender.now) sizes → IsOk made → IfOk made (λ map. mut_bytes map ≡ lender.now)
+  pub returned_map : (made : Result MemoryMapRefMut MemoryMapError) → IsMap (length lender.now) sizes → IsOk made
+      → IfOk made (λ map. mut_bytes map ≡ lender.now)
       → IfOk made (λ map. mut_meta map ≡ sizes) → IfOk made (WritesTo lender) → Returned made
-  returned_map (Ok map) is_map ok bytes given same = record { accepted = ((λ _. is_map), (λ _. refl)); buffer = bytes; meta = given; refused = tt; same_buffer = same }
+  returned_map (Ok map) is_map ok bytes given same = record {
+    accepted = ((λ _. is_map), (λ _. refl));
+    buffer =
+        bytes;
+    meta = given;
+    refused = tt;
+    same_buffer = same;
+  }
   returned_map (Err error) is_map ok bytes given same = let h : false ≡ true = ok in cc
 
-  pub returned_none : (made : Result MemoryMapRefMut MemoryMapError) (test : Bool) → IsTrue test ↔ IsMap (length lender.now) sizes → T (not test) → made ≡ Err InvalidSize → Returned made
+  pub returned_none : (made : Result MemoryMapRefMut MemoryMapError) (test : Bool)
+      → IsTrue test ↔ IsMap (length lender.now) sizes → T (not test) → made ≡ Err InvalidSize → Returned made
   returned_none made test judged no_map is =
-      subst Returned (sym is) (record { accepted = ((λ ok. let h : false ≡ true = ok in cc), (λ is_map. absurd (not_both test no_map (judged.1 is_map)))); buffer = tt; meta = tt; refused = refl; same_buffer = tt })
+      subst Returned (sym is)
+      (record {
+        accepted = (
+          (λ ok. let h : false ≡ true = ok in
+              cc),
+          (λ is_map. absurd (not_both test no_map (judged.1 is_map))),
+        );
+        buffer = tt;
+        meta = tt;
+        refused =
+            refl;
+        same_buffer = tt;
+      })
 
 module _ {M : Type 1} {𝓤 : Ura M} (𝓛 : Logic 𝓤) where
   open 𝓛 use {A}
@@ -56,8 +77,10 @@ module _ {M : Type 1} {𝓤 : Ura M} (𝓛 : Logic 𝓤) where
   ends_as_itself γ =
       let R = Array byte 0 in
       let From : List ℕ → List ℕ → Fml = λ z w. fsep (feq (List ℕ) z w) (fauth γ (R.coded.code w)) in
-      let said = qed 𝓛 [] ∵ each ! (λ (w : List ℕ). wand 𝓤 (A.res γ (R.coded.code w)) (A.res γ (R.coded.code w))) (λ w. assume ! (‵ (fres γ (R.coded.code w))) $ done !) in
-      let back = qed 𝓛 [] ∵ each ! (λ (z : List ℕ). wand 𝓤 (A.auth γ (R.coded.code z)) (sem 𝓛 (fex (List ℕ) (From z)))) (λ z. assume ! (‵ (fauth γ (R.coded.code z))) $
+      let said = qed 𝓛 [] ∵ each ! (λ (w : List ℕ). wand 𝓤 (A.res γ (R.coded.code w)) (A.res γ (R.coded.code w)))
+      (λ w. assume ! (‵ (fres γ (R.coded.code w))) $ done !) in
+      let back = qed 𝓛 [] ∵ each ! (λ (z : List ℕ). wand 𝓤 (A.auth γ (R.coded.code z))
+      (sem 𝓛 (fex (List ℕ) (From z)))) (λ z. assume ! (‵ (fauth γ (R.coded.code z))) $
       feq_i ! (List ℕ) z z refl $ fjoin ! $ fpack ! (List ℕ) (From z) z $ done !) in
       record { apply = λ a p. (said.apply a p, back.apply a p) }
 
@@ -66,15 +89,23 @@ module _ {M : Type 1} {𝓤 : Ura M} (𝓛 : Logic 𝓤) where
     pub rests_in : (made : Result T E) → IsOk made → IfOk made (λ x. name x ≡ s.ghost_name) → ent 𝓤 (emp 𝓤) (sem 𝓛 (RestsIfErr (Array byte 0) s name made P))
     unfolding such_by follows_by
     rests_in (Ok x) ok same =
-        subst (λ (γ : GName). ent 𝓤 (emp 𝓤) (sem 𝓛 (such_by (List ℕ) (List ℕ) (Array byte 0).coded.code (Array byte 0).coded.code s.ghost_name (maybe.some γ) (λ x n. n ≡ x) (λ n. ⊤)))) (sym same)
+        subst (λ (γ : GName). ent 𝓤 (emp 𝓤)
+        (sem 𝓛 (such_by (List ℕ) (List ℕ) (Array byte 0).coded.code (Array byte 0).coded.code s.ghost_name
+        (maybe.some γ) (λ x n. n ≡ x) (λ n. ⊤)))) (sym same)
         (qed 𝓛 [] ∵ use0 𝓛 (‵ (follows (Array byte 0) (Array byte 0) s.ghost_name s.ghost_name (λ w. w))) (ends_as_itself s.ghost_name) $
-        fpack ! ((f : (List ℕ → List ℕ) × List ℕ) × ((w : List ℕ) → f.0 w ≡ w) × ⊤) (λ f. follows_by (List ℕ) (List ℕ) (Array byte 0).coded.code (Array byte 0).coded.code s.ghost_name (maybe.some s.ghost_name) f.0.0 f.0.1) (((λ w. w), []), (λ w. refl), tt) $ done !)
+        fpack ! ((f : (List ℕ → List ℕ) × List ℕ) × ((w : List ℕ) → f.0 w ≡ w) × ⊤)
+        (λ f. follows_by (List ℕ) (List ℕ) (Array byte 0).coded.code (Array byte 0).coded.code s.ghost_name
+        (maybe.some s.ghost_name) f.0.0 f.0.1) (((λ w. w), []), (λ w. refl), tt) $ done !)
     rests_in (Err e) ok same = let h : false ≡ true = ok in cc
 
     -- Where there is none, the buffer that holds these bytes for good says all.
-    pub rests_as : (v : List ℕ) → P v → (made : Result T E) (e : E) → made ≡ Err e → ent 𝓤 (sem 𝓛 (Ended 𝓛 s.ghost_name v)) (sem 𝓛 (RestsIfErr (Array byte 0) s name made P))
+    pub rests_as : (v : List ℕ) → P v → (made : Result T E) (e : E) → made ≡ Err e
+        → ent 𝓤 (sem 𝓛 (Ended 𝓛 s.ghost_name v)) (sem 𝓛 (RestsIfErr (Array byte 0) s name made P))
     unfolding such_by follows_by
     rests_as v holds made e is =
         subst (λ (r : Result T E). ent 𝓤 (sem 𝓛 (Ended 𝓛 s.ghost_name v)) (sem 𝓛 (RestsIfErr (Array byte 0) s name r P))) (sym is)
         (qed 𝓛 (‵ (Ended 𝓛 s.ghost_name v) ∷ []) ∵
-        fpack ! ((f : (List ℕ → List ℕ) × List ℕ) × ((w : List ℕ) → ⊤) × P f.1) (λ f. follows_by (List ℕ) (List ℕ) (coded_list u8.coded).code (coded_list u8.coded).code s.ghost_name maybe.none f.0.0 f.0.1) (((λ w. w), v), (λ w. tt), holds) $ done !)
+        fpack ! ((f : (List ℕ → List ℕ) × List ℕ) × ((w : List ℕ) → ⊤) × P f.1)
+        (λ f. follows_by (List ℕ) (List ℕ) (coded_list u8.coded).code
+        (coded_list u8.coded).code s.ghost_name maybe.none f.0.0 f.0.1)
+        (((λ w. w), v), (λ w. tt), holds) $ done !)

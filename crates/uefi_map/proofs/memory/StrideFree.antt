@@ -22,8 +22,10 @@ other_bytes : (old new : List ℕ) (stride i j : ℕ) → descriptor_length ≤ 
     → drop (i * stride + descriptor_length) new ≡ drop (i * stride + descriptor_length) old → descriptor_bytes new stride j ≡ descriptor_bytes old stride j
 other_bytes old new stride i j room other before after =
     elim (cases_lt j i) [
-      | inl lower ↦ range-same_prefix (i * stride) new old (j * stride) (j * stride + descriptor_length) (omega arith) (ends_before stride j i room lower) before
-      | inr higher ↦ range-same_rest (i * stride + descriptor_length) new old (j * stride) (j * stride + descriptor_length) (ends_before stride i j room (omega arith)) after
+      | inl lower ↦ range-same_prefix (i * stride) new old (j * stride) (j * stride + descriptor_length)
+          (omega arith) (ends_before stride j i room lower) before
+      | inr higher ↦ range-same_rest (i * stride + descriptor_length) new old (j * stride)
+          (j * stride + descriptor_length) (ends_before stride i j room (omega arith)) after
     ]
 
 pub writes_one : WritesOne
@@ -38,7 +40,8 @@ writes_one bytes meta i d map within fits =
     let begins : offset ≤ length bytes = omega (arith, reaches) in
     let before = before_part bytes (encoding d) (drop (offset + descriptor_length) bytes) offset begins in
     let after : drop (offset + descriptor_length) new ≡ drop (offset + descriptor_length) bytes = rw end at (behind_part bytes (encoding d) offset reaches) in
-    let part : slice_range new offset (offset + descriptor_length) ≡ encoding d = rw end at (the_part bytes (encoding d) (drop (offset + descriptor_length) bytes) offset begins) in
+    let part : slice_range new offset (offset + descriptor_length) ≡ encoding d =
+    rw end at (the_part bytes (encoding d) (drop (offset + descriptor_length) bytes) offset begins) in
     record {
       set = ap descriptor_in part ∙ descriptor_in-encoding d fits;
       others = λ j below other. ap descriptor_in (other_bytes bytes new stride i j map.room other before after);

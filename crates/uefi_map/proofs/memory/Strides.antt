@@ -24,7 +24,8 @@ pub same_from : (one other : List ℕ) (stride i n : ℕ) → ((j : ℕ) → i �
 same_from one other stride i zero same = refl
 same_from one other stride i (suc n) same =
     let first : descriptor one stride i ≡ descriptor other stride i = ap descriptor_in (same i (omega arith) (omega arith)) in
-    let rest : descriptors_from one stride (i + 1) n ≡ descriptors_from other stride (i + 1) n = same_from one other stride (i + 1) n (λ j above below. same j (omega arith) (omega arith)) in
+    let rest : descriptors_from one stride (i + 1) n ≡ descriptors_from other stride (i + 1) n =
+    same_from one other stride (i + 1) n (λ j above below. same j (omega arith) (omega arith)) in
     cc
 
 -- A descriptor ends within its map.
@@ -47,13 +48,15 @@ next_bytes : (bytes : List ℕ) (stride i : ℕ) → descriptor_bytes (drop stri
 next_bytes bytes stride i =
     let offset : stride + i * stride ≡ (i + 1) * stride = grind (arith, rows) in
     let width : i * stride + descriptor_length - i * stride ≡ (i + 1) * stride + descriptor_length - (i + 1) * stride = omega arith in
-    ap (take (i * stride + descriptor_length - i * stride)) (drop-drop (i * stride) stride bytes ∙ ap (λ n. drop n bytes) offset) ∙ ap (λ n. take n (drop ((i + 1) * stride) bytes)) width
+    ap (take (i * stride + descriptor_length - i * stride)) (drop-drop (i * stride) stride bytes
+    ∙ ap (λ n. drop n bytes) offset) ∙ ap (λ n. take n (drop ((i + 1) * stride) bytes)) width
 
 next_from : (bytes : List ℕ) (stride i count : ℕ) → descriptors_from (drop stride bytes) stride i count ≡ descriptors_from bytes stride (i + 1) count
 next_from bytes stride i zero = refl
 next_from bytes stride i (suc count) =
     let first : descriptor (drop stride bytes) stride i ≡ descriptor bytes stride (i + 1) = ap descriptor_in (next_bytes bytes stride i) in
-    let rest : descriptors_from (drop stride bytes) stride (i + 1) count ≡ descriptors_from bytes stride (i + 1 + 1) count = next_from bytes stride (i + 1) count in
+    let rest : descriptors_from (drop stride bytes) stride (i + 1) count ≡ descriptors_from bytes stride
+    (i + 1 + 1) count = next_from bytes stride (i + 1) count in
     cc
 
 -- The first descriptor has the first forty bytes.
@@ -76,6 +79,8 @@ next_left bytes stride strides some =
     let left : length (drop stride bytes) / stride ≡ (length bytes - stride) / stride = ap (λ n. n / stride) (length-drop stride bytes) in
     let count : length bytes / stride ≡ suc (length (drop stride bytes) / stride) = omega (arith, div-eq-sub-div positive reaches, left) in
     let first : descriptor bytes stride 0 ≡ descriptor_in (take descriptor_length bytes) = ap descriptor_in (first_bytes bytes stride) in
-    let rest : descriptors_from (drop stride bytes) stride 0 (length (drop stride bytes) / stride) ≡ descriptors_from bytes stride (0 + 1) (length (drop stride bytes) / stride) = next_from bytes stride 0 (length (drop stride bytes) / stride) in
+    let rest : descriptors_from (drop stride bytes) stride 0
+    (length (drop stride bytes) / stride) ≡ descriptors_from bytes stride (0 + 1)
+    (length (drop stride bytes) / stride) = next_from bytes stride 0 (length (drop stride bytes) / stride) in
     ap (descriptors_from bytes stride 0) count ∙ ap (λ d. d ∷ descriptors_from bytes stride (0 + 1) (length (drop stride bytes) / stride)) first
     ∙ ap (λ ds. descriptor_in (take descriptor_length bytes) ∷ ds) (sym rest)

@@ -123,7 +123,8 @@ found_within (suc n) (t ∷ bytes) within =
             | inl short ↦ fault_here (t ∷ bytes) CutRecord (begin, short)
             | inr enough ↦
                 let after = drop record_length (t ∷ bytes) in
-                after_record (t ∷ bytes) after _ (first_record (t ∷ bytes) begin enough) (found_within n after (omega (arith, length-drop record_length (t ∷ bytes))))
+                after_record (t ∷ bytes) after _ (first_record (t ∷ bytes) begin enough)
+                (found_within n after (omega (arith, length-drop record_length (t ∷ bytes))))
           ]
       | inr no_record ↦ elim (cases_eq t end_tag) [
         | inl is_end ↦ inl ([], (t ∷ bytes, refl, (bytes, ap (λ u. u ∷ bytes) is_end)))

@@ -37,11 +37,15 @@ pub resource_count : (records : List ℕ) → length (resources_in records) ≡ 
 resource_count records = length-resources (length records / record_length) records
 
 -- The resource of the first record, and those of the others.
-pub next_resource : (records : List ℕ) → record_length ≤ length records → resources_in records ≡ resource_in (take record_length records) ∷ resources_in (drop record_length records)
+pub next_resource : (records : List ℕ) → record_length ≤ length records → resources_in records ≡ resource_in
+    (take record_length records) ∷ resources_in (drop record_length records)
 next_resource records enough =
     let positive : 0 < record_length = omega arith in
-    let left : length (drop record_length records) / record_length ≡ (length records - record_length) / record_length = ap (λ n. n / record_length) (length-drop record_length records) in
-    let count : length records / record_length ≡ suc (length (drop record_length records) / record_length) = omega (arith, div-eq-sub-div positive enough, left) in
+    let left : length (drop record_length records) / record_length ≡
+    (length records - record_length) / record_length =
+    ap (λ n. n / record_length) (length-drop record_length records) in
+    let count : length records / record_length ≡ suc (length (drop record_length records) / record_length) =
+    omega (arith, div-eq-sub-div positive enough, left) in
     ap (λ n. resources n records) count
 
 resource_before : (first rest : List ℕ) → length first ≡ record_length → resources_in (first ++ rest) ≡ resource_in first ∷ resources_in rest
@@ -53,7 +57,8 @@ resource_before first rest size =
     next_resource both enough ∙ ap (λ b. resource_in b ∷ resources_in (drop record_length both)) begin ∙ ap (λ b. resource_in first ∷ resources_in b) others
 
 -- The bytes of records, which are read as the resources whose records they are.
-text_of : (bytes rest : List ℕ) (ds : List QwordAddressSpaceDescriptor) → BeginWithRecords bytes ds rest → (text : List ℕ) × (bytes ≡ text ++ rest) × (resources_in text ≡ ds)
+text_of : (bytes rest : List ℕ) (ds : List QwordAddressSpaceDescriptor) → BeginWithRecords bytes ds rest
+    → (text : List ℕ) × (bytes ≡ text ++ rest) × (resources_in text ≡ ds)
 text_of bytes rest [] none = ([], none, refl)
 text_of bytes rest (d ∷ ds) records =
     let first = records.0 in
@@ -64,7 +69,8 @@ text_of bytes rest (d ∷ ds) records =
     )
 
 -- So are the bytes before the rest.
-pub are_read : (bytes rest : List ℕ) (ds : List QwordAddressSpaceDescriptor) → BeginWithRecords bytes ds rest → resources_in (take (length bytes - length rest) bytes) ≡ ds
+pub are_read : (bytes rest : List ℕ) (ds : List QwordAddressSpaceDescriptor) → BeginWithRecords bytes ds rest
+    → resources_in (take (length bytes - length rest) bytes) ≡ ds
 are_read bytes rest ds records =
     let text = text_of bytes rest ds records in
     let size = length bytes - length rest in

@@ -25,8 +25,21 @@ record_rows = record { ports = is_ports; low_memory = is_low_memory; high_memory
 
 -- The four records, and then the rest.
 four_records : (rest : List ℕ)
-    → BeginWithRecords (ports_record ++ (low_memory_record ++ (high_memory_record ++ (one_bus_record ++ rest)))) (ports ∷ low_memory ∷ high_memory ∷ one_bus ∷ []) rest
-four_records rest = (ports_record, _, is_ports, (low_memory_record, _, is_low_memory, (high_memory_record, _, is_high_memory, (one_bus_record, _, is_one_bus, refl, refl), refl), refl), refl)
+    → BeginWithRecords (ports_record ++ (low_memory_record ++ (high_memory_record ++ (one_bus_record ++ rest))))
+    (ports ∷ low_memory ∷ high_memory ∷ one_bus ∷ []) rest
+four_records rest = (
+  ports_record,
+  _,
+  is_ports,
+  (
+    low_memory_record,
+    _,
+    is_low_memory,
+    (high_memory_record, _, is_high_memory, (one_bus_record, _, is_one_bus, refl, refl), refl),
+    refl,
+  ),
+  refl,
+)
 
 ports_alone : (rest : List ℕ) → BeginWithRecords (ports_record ++ rest) (ports ∷ []) rest
 ports_alone rest = (ports_record, rest, is_ports, refl, refl)
@@ -45,9 +58,19 @@ fault_rows = record {
   four_records = (ports ∷ low_memory ∷ high_memory ∷ one_bus ∷ [], [], four_records [], refl);
   tag_alone = ([], 0x8a ∷ [], refl, (([], refl), lit< tt));
   last_byte_missing = ([], take 45 ports_record, refl, ((_, refl), lit< tt));
-  third_cut = (ports ∷ low_memory ∷ [], take 8 high_memory_record, (ports_record, _, is_ports, (low_memory_record, _, is_low_memory, refl, refl), refl), ((_, refl), lit< tt));
+  third_cut = (
+    ports ∷ low_memory ∷ [],
+    take 8 high_memory_record,
+    (ports_record, _, is_ports, (low_memory_record, _, is_low_memory, refl, refl), refl),
+    ((_, refl), lit< tt),
+  );
   other_tag = ([], 0x12 ∷ [], refl, (([], refl), (λ same. omega (arith, same)), (λ same. omega (arith, same))));
-  tag_after_record = (ports ∷ [], 0 ∷ root_bridge, ports_alone (0 ∷ root_bridge), ((root_bridge, refl), (λ same. omega (arith, same)), (λ same. omega (arith, same))));
+  tag_after_record = (
+    ports ∷ [],
+    0 ∷ root_bridge,
+    ports_alone (0 ∷ root_bridge),
+    ((root_bridge, refl), (λ same. omega (arith, same)), (λ same. omega (arith, same))),
+  );
 }
 
 pub rows_hold : RowsHold

@@ -23,7 +23,10 @@ descriptor_in bytes = record {
 
 -- The forty bytes of a descriptor.
 unfoldable pub encoding : MemoryDescriptor → List ℕ
-encoding d = u32_bytes d.ty.0 ++ (u32_bytes d.padding ++ (u64_bytes d.phys_start ++ (u64_bytes d.virt_start ++ (u64_bytes d.page_count ++ u64_bytes d.att.0))))
+encoding d =
+    u32_bytes d.ty.0
+    ++ (u32_bytes d.padding
+    ++ (u64_bytes d.phys_start ++ (u64_bytes d.virt_start ++ (u64_bytes d.page_count ++ u64_bytes d.att.0))))
 
 -- Each number fits its bytes.
 pub record Fits (d : MemoryDescriptor) : Type 0 where
@@ -55,4 +58,5 @@ descriptor bytes stride i = descriptor_in (descriptor_bytes bytes stride i)
 
 -- The bytes, with the forty of descriptor i replaced by those of d.
 abbrev pub with_descriptor : List ℕ → ℕ → ℕ → MemoryDescriptor → List ℕ
-with_descriptor bytes stride i d = take (i * stride) bytes ++ (encoding d ++ drop (i * stride + descriptor_length) bytes)
+with_descriptor bytes stride i d =
+    take (i * stride) bytes ++ (encoding d ++ drop (i * stride + descriptor_length) bytes)

@@ -10,4 +10,5 @@ LendsBuffer R map with_bytes r = Lends R (Array byte 0) map r with_bytes
 
 -- The buffer ends as the map leaves it, and as it was where there is no map.
 abbrev pub StaysIfRefused : MutBor (List ℕ) → Result MemoryMapRefMut MemoryMapError → Fml
-StaysIfRefused buffer result = RestsIfErr (Array byte 0) buffer (λ map. map.buffer.ghost_name) result (λ last. last ≡ buffer.now)
+StaysIfRefused buffer result = RestsIfErr (Array byte 0) buffer (λ map. map.buffer.ghost_name) result
+    (λ last. last ≡ buffer.now)

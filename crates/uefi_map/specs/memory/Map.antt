@@ -1,10 +1,12 @@
--- Memory maps (UEFI 2.10, 7.2 "EFI_BOOT_SERVICES.GetMemoryMap()"): descriptors at equal distances, the stride, which may be more than a descriptor's forty bytes.
+-- Memory maps (UEFI 2.10, 7.2 "EFI_BOOT_SERVICES.GetMemoryMap()"): descriptors at equal distances, the stride,
+-- which may be more than a descriptor's forty bytes.
 use Rattle.std.specs.Prelude.{ℕ, zero, suc, ◌+◌, ◌*◌, ◌/◌, ◌%◌, ◌^◌, ◌≤◌, ◌<◌, ◌≡◌, ◌≢◌, List, [], ◌∷◌, length, take, drop, Option, Some, None, if◌then◌else◌, nat_lt, nat_le}
 use Rattle.uefi_map.specs.declared.memory.meta.MemoryMapMeta.{MemoryMapMeta}
 use Rattle.uefi_map.specs.declared.memory.descriptor.MemoryDescriptor.{MemoryDescriptor}
 use Rattle.uefi_map.specs.memory.Descriptor.{descriptor_length, descriptor_alignment, descriptor, with_descriptor}
 
--- A buffer with this length has a map with these sizes: the stride has room for a descriptor and keeps it aligned, and the map is whole strides and within the buffer.
+-- A buffer with this length has a map with these sizes: the stride has room for a descriptor and keeps it aligned,
+-- and the map is whole strides and within the buffer.
 pub record IsMap (length : ℕ) (meta : MemoryMapMeta) : Type 0 where
   pub room : descriptor_length ≤ meta.desc_size
   pub aligned : meta.desc_size % descriptor_alignment ≡ 0
@@ -40,7 +42,8 @@ entry_of bytes meta i = if nat_lt i (count_of meta) then Some (descriptor bytes 
 
 -- No descriptor of a map begins below the one before it.
 abbrev pub AreSorted : List ℕ → MemoryMapMeta → Type 0
-AreSorted bytes meta = (i : ℕ) → i + 1 < count_of meta → (descriptor bytes meta.desc_size i).phys_start ≤ (descriptor bytes meta.desc_size (i + 1)).phys_start
+AreSorted bytes meta = (i : ℕ) → i + 1 < count_of meta
+    → (descriptor bytes meta.desc_size i).phys_start ≤ (descriptor bytes meta.desc_size (i + 1)).phys_start
 
 -- The new bytes are the old, with the forty of descriptor i replaced by those of d.
 abbrev pub IsWithDescriptor : List ℕ → MemoryMapMeta → ℕ → MemoryDescriptor → List ℕ → Type 0

@@ -14,8 +14,10 @@ NeverBoth = (bytes : List ℕ) → HaveSomeList bytes → HaveSomeFault bytes �
 
 -- They begin with one list at most.
 abbrev pub ListAlone : Type 0
-ListAlone = (bytes : List ℕ) (list other : List QwordAddressSpaceDescriptor) → HaveList bytes list → HaveList bytes other → list ≡ other
+ListAlone = (bytes : List ℕ) (list other : List QwordAddressSpaceDescriptor) → HaveList bytes list
+    → HaveList bytes other → list ≡ other
 
 -- They have one fault at most.
 abbrev pub FaultAlone : Type 0
-FaultAlone = (bytes : List ℕ) (fault other : ResourceError) → HaveFault bytes fault → HaveFault bytes other → fault ≡ other
+FaultAlone = (bytes : List ℕ) (fault other : ResourceError) → HaveFault bytes fault → HaveFault bytes other
+    → fault ≡ other

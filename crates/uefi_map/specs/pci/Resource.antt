@@ -29,7 +29,8 @@ resource_in bytes = record {
   address_length = u64_at bytes 38;
 }
 
--- The bytes are a record of the resource: as many as a record has, the tag first, and the fields at their offsets. The two bytes after the tag are free.
+-- The bytes are a record of the resource: as many as a record has, the tag first, and the fields at their offsets.
+-- The two bytes after the tag are free.
 pub record IsRecord (bytes : List ℕ) (resource : QwordAddressSpaceDescriptor) : Type 0 where
   pub size : length bytes ≡ record_length
   pub tag : slice_index bytes 0 ≡ record_tag

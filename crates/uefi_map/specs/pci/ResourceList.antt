@@ -1,4 +1,5 @@
--- Lists of PCI resources: records, and then the end tag (UEFI 2.10, 14.2 "EFI_PCI_ROOT_BRIDGE_IO_PROTOCOL.Configuration()"; ACPI 6.5, 6.4.2.9 "End Tag").
+-- Lists of PCI resources: records, and then the end tag (UEFI 2.10, 14.2
+-- "EFI_PCI_ROOT_BRIDGE_IO_PROTOCOL.Configuration()"; ACPI 6.5, 6.4.2.9 "End Tag").
 use Rattle.std.specs.Prelude.{◌≡◌, ◌≢◌, ℕ, ◌<◌, List, [], ◌∷◌, ◌++◌, length, Result, IfOk, IfErr}
 use Rattle.uefi_map.specs.declared.pci.resource.QwordAddressSpaceDescriptor.{QwordAddressSpaceDescriptor}
 use Rattle.uefi_map.specs.declared.pci.resource_error.ResourceError.{ResourceError}
@@ -32,7 +33,8 @@ IsFaultOf rest Memory = ⊥
 
 -- The bytes have the fault: it comes after some records.
 abbrev pub HaveFault : List ℕ → ResourceError → Type 0
-HaveFault bytes fault = (list : List QwordAddressSpaceDescriptor) × (rest : List ℕ) × BeginWithRecords bytes list rest × IsFaultOf rest fault
+HaveFault bytes fault = (list : List QwordAddressSpaceDescriptor) × (rest : List ℕ)
+    × BeginWithRecords bytes list rest × IsFaultOf rest fault
 
 -- The bytes begin with some list, or have some fault.
 abbrev pub HaveSomeList : List ℕ → Type 0
@@ -54,6 +56,7 @@ pub record HaveOneFault (bytes : List ℕ) (fault : ResourceError) : Type 0 wher
   pub no_list : ¬ HaveSomeList bytes
 
 -- The result of reading the bytes: a view of the one list that they begin with, or the one fault that they have.
-pub record ReadsList {V : Type 0} (resources_of : V → List QwordAddressSpaceDescriptor) (bytes : List ℕ) (read : Result V ResourceError) : Type 0 where
+pub record ReadsList {V : Type 0} (resources_of : V → List QwordAddressSpaceDescriptor) (bytes : List ℕ)
+    (read : Result V ResourceError) : Type 0 where
   pub list : IfOk read (λ view. HaveOneList bytes (resources_of view))
   pub fault : IfErr read (λ fault. HaveOneFault bytes fault)

@@ -1,4 +1,5 @@
--- Worked rows of the definitions: a firmware's map, a write, sizes that make no map, and the numbers of types and flags.
+-- Worked rows of the definitions: a firmware's map, a write, sizes that make no map, and the numbers of types and
+-- flags.
 use Rattle.std.specs.Prelude.{◌≡◌, ℕ, List, [], ◌∷◌, ◌++◌, length, take, drop, replicate, Some, None, true, false, codes}
 use Rattle.std.specs.List.{flat_map}
 use Rattle.uefi_base.specs.LittleEndian.{u64_bytes}
@@ -16,12 +17,24 @@ use Rattle.uefi_map.specs.memory.Texts.{map_error_text}
 
 -- A map with this length and stride.
 abbrev pub sizes : ℕ → ℕ → MemoryMapMeta
-sizes map_size desc_size = record { map_size = map_size; desc_size = desc_size; map_key = record { 0 = 0 }; desc_version = 1 }
+sizes map_size desc_size = record {
+  map_size = map_size;
+  desc_size = desc_size;
+  map_key = record { 0 = 0 };
+  desc_version = 1;
+}
 
 -- A descriptor of a type, an address, pages and attributes; the other fields are zero.
 abbrev pub entry : ℕ → ℕ → ℕ → ℕ → MemoryDescriptor
 entry ty start pages attributes =
-    record { ty = record { 0 = ty }; padding = 0; phys_start = start; virt_start = 0; page_count = pages; att = record { 0 = attributes } }
+    record {
+      ty = record { 0 = ty };
+      padding = 0;
+      phys_start = start;
+      virt_start = 0;
+      page_count = pages;
+      att = record { 0 = attributes };
+    }
 
 -- Ten descriptors at a stride of 48, as firmware gave them.
 abbrev pub firmware_numbers : List ℕ
@@ -66,7 +79,9 @@ pub record WrittenDescriptor : Type 0 where
       encoding (entry 7 0x1000 134 0xf)
       ≡ 7 ∷ 0 ∷ 0 ∷ 0 ∷ 0 ∷ 0 ∷ 0 ∷ 0 ∷ 0 ∷ 0x10 ∷ replicate 14 0 ++ 0x86 ∷ replicate 7 0 ++ 0xf ∷ replicate 7 0
   pub before : take 48 (with_descriptor (replicate 480 0xee) 48 1 (entry 7 0x1000 134 0xf)) ≡ replicate 48 0xee
-  pub written : take 40 (drop 48 (with_descriptor (replicate 480 0xee) 48 1 (entry 7 0x1000 134 0xf))) ≡ encoding (entry 7 0x1000 134 0xf)
+  pub written :
+      take 40 (drop 48 (with_descriptor (replicate 480 0xee) 48 1 (entry 7 0x1000 134 0xf)))
+      ≡ encoding (entry 7 0x1000 134 0xf)
   pub behind : drop 88 (with_descriptor (replicate 480 0xee) 48 1 (entry 7 0x1000 134 0xf)) ≡ replicate 392 0xee
 
 -- Sizes with which eighty bytes are no map, and those of an empty one.
@@ -84,15 +99,21 @@ abbrev pub level_map : List ℕ
 level_map = encoding (entry 7 0x2000 1 0) ++ encoding (entry 7 0x2000 1 0)
 
 pub record Orders : Type 0 where
-  pub falling : AreSorted (encoding (entry 7 0x3000 1 0) ++ encoding (entry 7 0x2000 1 0) ++ encoding (entry 7 0x1000 1 0)) (sizes 120 40) → ⊥
+  pub falling :
+      AreSorted (encoding (entry 7 0x3000 1 0) ++ encoding (entry 7 0x2000 1 0) ++ encoding (entry 7 0x1000 1 0))
+      (sizes 120 40) → ⊥
   pub level : AreSorted level_map (sizes 80 40)
 
 -- The numbers of the types and the flags, and sets with and without a bit that has no name.
 pub record Numbers : Type 0 where
-  pub first_types : (RESERVED.0 ≡ 0) × (LOADER_CODE.0 ≡ 1) × (LOADER_DATA.0 ≡ 2) × (BOOT_SERVICES_CODE.0 ≡ 3) × (BOOT_SERVICES_DATA.0 ≡ 4)
-  pub middle_types : (RUNTIME_SERVICES_CODE.0 ≡ 5) × (RUNTIME_SERVICES_DATA.0 ≡ 6) × (CONVENTIONAL.0 ≡ 7) × (UNUSABLE.0 ≡ 8) × (ACPI_RECLAIM.0 ≡ 9)
-  pub last_types : (ACPI_NON_VOLATILE.0 ≡ 10) × (MMIO.0 ≡ 11) × (MMIO_PORT_SPACE.0 ≡ 12) × (PAL_CODE.0 ≡ 13) × (PERSISTENT_MEMORY.0 ≡ 14)
-  pub attributes : (UNCACHEABLE.0 ≡ 1) × (WRITE_COMBINE.0 ≡ 2) × (WRITE_THROUGH.0 ≡ 4) × (WRITE_BACK.0 ≡ 8) × (RUNTIME.0 ≡ 0x8000000000000000)
+  pub first_types : (RESERVED.0 ≡ 0) × (LOADER_CODE.0 ≡ 1) × (LOADER_DATA.0 ≡ 2) × (BOOT_SERVICES_CODE.0 ≡ 3)
+      × (BOOT_SERVICES_DATA.0 ≡ 4)
+  pub middle_types : (RUNTIME_SERVICES_CODE.0 ≡ 5) × (RUNTIME_SERVICES_DATA.0 ≡ 6) × (CONVENTIONAL.0 ≡ 7)
+      × (UNUSABLE.0 ≡ 8) × (ACPI_RECLAIM.0 ≡ 9)
+  pub last_types : (ACPI_NON_VOLATILE.0 ≡ 10) × (MMIO.0 ≡ 11) × (MMIO_PORT_SPACE.0 ≡ 12) × (PAL_CODE.0 ≡ 13)
+      × (PERSISTENT_MEMORY.0 ≡ 14)
+  pub attributes : (UNCACHEABLE.0 ≡ 1) × (WRITE_COMBINE.0 ≡ 2) × (WRITE_THROUGH.0 ≡ 4) × (WRITE_BACK.0 ≡ 8)
+      × (RUNTIME.0 ≡ 0x8000000000000000)
   pub named : has_bits named_attributes 0x800000000000000f ≡ true
   pub unnamed : has_bits named_attributes 0x10 ≡ false
   pub version : VERSION ≡ 1

@@ -6,10 +6,10 @@ use super::memory_type::MemoryType;
 use uefi_base::Align;
 use uefi_base::little_endian::{u32_at, u64_at};
 
-/// The length of a descriptor.
+// The length of a descriptor.
 pub(crate) const DESCRIPTOR_LENGTH: usize = 40;
 
-/// What the offset of each descriptor in memory is a multiple of.
+// What the offset of each descriptor in memory is a multiple of.
 pub(crate) const DESCRIPTOR_ALIGNMENT: usize = 8;
 
 // The offsets of the fields.

@@ -3,7 +3,7 @@ ghost use Rattle.uefi_map.specs.memory.Map.{IsMap, IsSane, count_of};
 
 use super::descriptor::{DESCRIPTOR_ALIGNMENT, DESCRIPTOR_LENGTH};
 
-/// The length of the longest map that counts as sane, 1 GiB.
+// The length of the longest map that counts as sane, 1 GiB.
 const MAX_SANE_SIZE: usize = 1 << 30;
 
 /// The key by which firmware knows one state of the memory map (UEFI 2.10, 7.2

@@ -3,7 +3,7 @@ ghost use Rattle.uefi_map.specs.pci.Resource.{range_type, resource_in};
 
 use uefi_base::little_endian::u64_at;
 
-/// The length of a record.
+// The length of a record.
 pub(crate) const RECORD_LENGTH: usize = 46;
 
 // The offsets of the fields.

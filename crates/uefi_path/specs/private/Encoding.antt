@@ -4,6 +4,10 @@ use Rattle.std.specs.List.{AllByRecursion}
 use Rattle.uefi_path.specs.Node.{Node, Fits, encoding, joined, IsEnd, IsEndEntire}
 use Rattle.uefi_path.specs.Path.{AreEndedBy, IsInstance, concat}
 
+-- The fields of each node fit its encoding.
+abbrev pub AreNodes : List Node → Type 0
+AreNodes nodes = AllByRecursion Fits nodes
+
 -- The bytes are the encoding of the node.
 pub record IsEncodingOfNode (bytes : List ℕ) (node : Node) : Type 0 where
   pub fits : Fits node

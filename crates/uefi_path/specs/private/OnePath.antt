@@ -3,21 +3,26 @@ use Rattle.std.proofs.Common.{◌≡◌, ℕ, List, [], ◌∷◌, ◌++◌, ref
 use Rattle.std.proofs.Props.{props}
 use mathlib.Core.HLevel.{Σ_prop_path, ×_prop, Π_prop, ⊥_prop}
 use Rattle.std.specs.List.{AllByRecursion, AllByRecursion-prop}
-use Rattle.uefi_path.specs.Node.{Node, Fits, encoding, joined, AreNodes, IsEndEntire, IsEnd}
+use Rattle.uefi_path.specs.Node.{Node, Fits, encoding, joined, IsEndEntire, IsEnd}
 use Rattle.uefi_path.specs.Path.{LastAlone, AreEndedBy, IsPath, IsInstance, concat}
-use Rattle.uefi_path.specs.private.Encoding.{IsEncodingOfNodes, EncodesNodes, EncodesPath, EncodesInstance, IsEncodingOfInstances, EncodesInstances}
+use Rattle.uefi_path.specs.private.Encoding.{AreNodes, IsEncodingOfNodes, EncodesNodes, EncodesPath, EncodesInstance, IsEncodingOfInstances, EncodesInstances}
 use Rattle.uefi_path.specs.private.OneNode.{one_encoding, Fits-prop}
 
 -- A node, and nodes that start the same bytes: the first node is the same, and so is what follows it.
-pub same_first : (n m : Node) (ms : List Node) (x y : List ℕ) → Fits n → Fits m → encoding n ++ x ≡ joined (m ∷ ms) ++ y → (n ≡ m) × (x ≡ joined ms ++ y)
-same_first n m ms x y fits_n fits_m e = one_encoding n m x (joined ms ++ y) fits_n fits_m (e ∙ append_assoc (encoding m) (joined ms) y)
+pub same_first : (n m : Node) (ms : List Node) (x y : List ℕ) → Fits n → Fits m → encoding n ++ x ≡ joined (m ∷ ms)
+    ++ y → (n ≡ m) × (x ≡ joined ms ++ y)
+same_first n m ms x y fits_n fits_m e =
+    one_encoding n m x (joined ms ++ y) fits_n fits_m (e ∙ append_assoc (encoding m) (joined ms) y)
 
 -- The same of two lists of nodes.
-pub same_firsts : (n m : Node) (ns ms : List Node) (x y : List ℕ) → Fits n → Fits m → joined (n ∷ ns) ++ x ≡ joined (m ∷ ms) ++ y → (n ≡ m) × (joined ns ++ x ≡ joined ms ++ y)
-same_firsts n m ns ms x y fits_n fits_m e = same_first n m ms (joined ns ++ x) y fits_n fits_m (sym (append_assoc (encoding n) (joined ns) x) ∙ e)
+pub same_firsts : (n m : Node) (ns ms : List Node) (x y : List ℕ) → Fits n → Fits m → joined (n ∷ ns)
+    ++ x ≡ joined (m ∷ ms) ++ y → (n ≡ m) × (joined ns ++ x ≡ joined ms ++ y)
+same_firsts n m ns ms x y fits_n fits_m e =
+    same_first n m ms (joined ns ++ x) y fits_n fits_m (sym (append_assoc (encoding n) (joined ns) x) ∙ e)
 
 -- Lists of nodes that end so are equal if their encodings start the same bytes.
-one_list_of_nodes : (P : Node → Type 0) (ns ms : List Node) (x y : List ℕ) → AreNodes ns → AreNodes ms → LastAlone P ns → LastAlone P ms
+one_list_of_nodes : (P : Node → Type 0) (ns ms : List Node) (x y : List ℕ) → AreNodes ns → AreNodes ms
+    → LastAlone P ns → LastAlone P ms
     → joined ns ++ x ≡ joined ms ++ y → (ns ≡ ms) × (x ≡ y)
 one_list_of_nodes P [] ms x y fn fm ln lm e = absurd ln
 one_list_of_nodes P (n ∷ []) [] x y fn fm ln lm e = absurd lm
@@ -44,21 +49,26 @@ pub one_ended : (P : Node → Type 0) (ns ms : List Node) (x y : List ℕ) → A
 one_ended P ns ms x y p q e = one_list_of_nodes P ns ms x y p.each q.each p.end q.end e
 
 -- No path is a proper prefix of another.
-pub one_path : (ns ms : List Node) (x y : List ℕ) → IsPath ns → IsPath ms → joined ns ++ x ≡ joined ms ++ y → (ns ≡ ms) × (x ≡ y)
+pub one_path : (ns ms : List Node) (x y : List ℕ) → IsPath ns → IsPath ms → joined ns ++ x ≡ joined ms ++ y
+    → (ns ≡ ms) × (x ≡ y)
 one_path = one_ended IsEndEntire
 
 -- Equal bytes encode equal lists of such nodes.
-pub same_nodes : (P : Node → Type 0) (bytes others : List ℕ) (ns ms : List Node) → bytes ≡ others → IsEncodingOfNodes P bytes ns → IsEncodingOfNodes P others ms → ns ≡ ms
-same_nodes P bytes others ns ms same s t = (one_ended P ns ms [] [] s.ended t.ended (ap (λ b. b ++ []) (sym s.encoded ∙ same ∙ t.encoded))).0
+pub same_nodes : (P : Node → Type 0) (bytes others : List ℕ) (ns ms : List Node) → bytes ≡ others
+    → IsEncodingOfNodes P bytes ns → IsEncodingOfNodes P others ms → ns ≡ ms
+same_nodes P bytes others ns ms same s t =
+    (one_ended P ns ms [] [] s.ended t.ended (ap (λ b. b ++ []) (sym s.encoded ∙ same ∙ t.encoded))).0
 
 -- Bytes encode at most one list of such nodes.
-pub nodes_encoded_once : (P : Node → Type 0) (bytes : List ℕ) (ns ms : List Node) → IsEncodingOfNodes P bytes ns → IsEncodingOfNodes P bytes ms → ns ≡ ms
+pub nodes_encoded_once : (P : Node → Type 0) (bytes : List ℕ) (ns ms : List Node) → IsEncodingOfNodes P bytes ns
+    → IsEncodingOfNodes P bytes ms → ns ≡ ms
 nodes_encoded_once P bytes ns ms = same_nodes P bytes bytes ns ms refl
 
 -- The encoding of two lists of nodes is both encodings, in order.
 pub joined-append : (ns ms : List Node) → joined (ns ++ ms) ≡ joined ns ++ joined ms
 joined-append [] ms = refl
-joined-append (n ∷ ns) ms = ap (λ s. encoding n ++ s) (joined-append ns ms) ∙ sym (append_assoc (encoding n) (joined ns) (joined ms))
+joined-append (n ∷ ns) ms = ap (λ s. encoding n ++ s) (joined-append ns ms)
+    ∙ sym (append_assoc (encoding n) (joined ns) (joined ms))
 
 -- The encoding of an instance isn't empty.
 pub some_bytes : (p : List Node) (x : List ℕ) → IsInstance p → joined p ++ x ≡ [] → ⊥
@@ -69,10 +79,13 @@ some_bytes (n ∷ ns) x i e = cc
 pub instances_encoded_once : (ps qs : List (List Node)) → AllByRecursion IsInstance ps → AllByRecursion IsInstance qs
     → joined (concat ps) ≡ joined (concat qs) → ps ≡ qs
 instances_encoded_once [] [] ip iq e = refl
-instances_encoded_once [] (q ∷ qs) ip iq e = absurd (some_bytes q (joined (concat qs)) iq.0 (sym (joined-append q (concat qs)) ∙ sym e))
-instances_encoded_once (p ∷ ps) [] ip iq e = absurd (some_bytes p (joined (concat ps)) ip.0 (sym (joined-append p (concat ps)) ∙ e))
+instances_encoded_once [] (q ∷ qs) ip iq e =
+    absurd (some_bytes q (joined (concat qs)) iq.0 (sym (joined-append q (concat qs)) ∙ sym e))
+instances_encoded_once (p ∷ ps) [] ip iq e =
+    absurd (some_bytes p (joined (concat ps)) ip.0 (sym (joined-append p (concat ps)) ∙ e))
 instances_encoded_once (p ∷ ps) (q ∷ qs) ip iq e =
-    let first = one_ended IsEnd p q (joined (concat ps)) (joined (concat qs)) ip.0 iq.0 (sym (joined-append p (concat ps)) ∙ e ∙ joined-append q (concat qs)) in
+    let first = one_ended IsEnd p q (joined (concat ps)) (joined (concat qs)) ip.0 iq.0
+    (sym (joined-append p (concat ps)) ∙ e ∙ joined-append q (concat qs)) in
     let same_head : p ≡ q = first.0 in
     let same_others : ps ≡ qs = instances_encoded_once ps qs ip.1 iq.1 first.1 in
     (cc)
@@ -86,11 +99,14 @@ LastAlone-prop P p (x ∷ y ∷ ys) = ×_prop (Π_prop (λ _. ⊥_prop)) (LastAl
 AreEndedBy-prop : (P : Node → Type 0) → ((n : Node) → IsProp (P n)) → (ns : List Node) → IsProp (AreEndedBy P ns)
 AreEndedBy-prop P p ns = hlevel (AllByRecursion-prop Fits Fits-prop ns, LastAlone-prop P p ns)
 
-IsEncodingOfNodes-prop : (P : Node → Type 0) → ((n : Node) → IsProp (P n)) → (bytes : List ℕ) (ns : List Node) → IsProp (IsEncodingOfNodes P bytes ns)
+IsEncodingOfNodes-prop : (P : Node → Type 0) → ((n : Node) → IsProp (P n)) → (bytes : List ℕ) (ns : List Node)
+    → IsProp (IsEncodingOfNodes P bytes ns)
 IsEncodingOfNodes-prop P p bytes ns = hlevel (props, AreEndedBy-prop P p ns)
 
-pub EncodesNodes-prop : (P : Node → Type 0) → ((n : Node) → IsProp (P n)) → (bytes : List ℕ) → IsProp (EncodesNodes P bytes)
-EncodesNodes-prop P p bytes s t = Σ_prop_path (IsEncodingOfNodes-prop P p bytes) (nodes_encoded_once P bytes s.0 t.0 s.1 t.1)
+pub EncodesNodes-prop : (P : Node → Type 0) → ((n : Node) → IsProp (P n)) → (bytes : List ℕ)
+    → IsProp (EncodesNodes P bytes)
+EncodesNodes-prop P p bytes s t =
+    Σ_prop_path (IsEncodingOfNodes-prop P p bytes) (nodes_encoded_once P bytes s.0 t.0 s.1 t.1)
 
 pub IsEndEntire-prop : (n : Node) → IsProp (IsEndEntire n)
 IsEndEntire-prop n = hlevel props
@@ -112,4 +128,5 @@ IsEncodingOfInstances-prop bytes ps = hlevel (props, AllByRecursion-prop IsInsta
 
 pub EncodesInstances-prop : (bytes : List ℕ) → IsProp (EncodesInstances bytes)
 EncodesInstances-prop bytes s t =
-    Σ_prop_path (IsEncodingOfInstances-prop bytes) (instances_encoded_once s.0 t.0 s.1.each t.1.each (sym s.1.encoded ∙ t.1.encoded))
+    Σ_prop_path (IsEncodingOfInstances-prop bytes) (instances_encoded_once s.0 t.0 s.1.each t.1.each
+    (sym s.1.encoded ∙ t.1.encoded))

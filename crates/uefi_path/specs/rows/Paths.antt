@@ -1,4 +1,5 @@
--- Worked rows, examples of the definitions: the numbers of types, the bytes of some paths, and bytes that start with none.
+-- Worked rows, examples of the definitions: the numbers of types, the bytes of some paths, and bytes that start
+-- with none.
 use Rattle.std.specs.Prelude.{◌≡◌, ℕ, List, [], ◌∷◌, ◌++◌}
 use Rattle.uefi_path.specs.declared.device_type.TheConstants.DeviceType.{HARDWARE, ACPI, MESSAGING, MEDIA, BIOS_BOOT_SPEC, END}
 use Rattle.uefi_path.specs.declared.device_type.TheConstants.DeviceSubType.{END_INSTANCE, END_ENTIRE}
@@ -12,10 +13,12 @@ node t s d = record { device_type = t; sub_type = s; payload = d }
 
 -- The nodes of two instances.
 abbrev pub first_instance : List Node
-first_instance = node 0xa0 0xb0 (0x0a ∷ 0x0b ∷ []) ∷ node 0xa1 0xb1 (0x14 ∷ 0x15 ∷ 0x16 ∷ 0x17 ∷ []) ∷ node 0x7f 0x01 [] ∷ []
+first_instance =
+    node 0xa0 0xb0 (0x0a ∷ 0x0b ∷ []) ∷ node 0xa1 0xb1 (0x14 ∷ 0x15 ∷ 0x16 ∷ 0x17 ∷ []) ∷ node 0x7f 0x01 [] ∷ []
 
 abbrev pub second_instance : List Node
-second_instance = node 0xa2 0xb2 (0x1e ∷ 0x1f ∷ []) ∷ node 0xa3 0xb3 (0x28 ∷ 0x29 ∷ 0x2a ∷ 0x2b ∷ []) ∷ node 0x7f 0xff [] ∷ []
+second_instance =
+    node 0xa2 0xb2 (0x1e ∷ 0x1f ∷ []) ∷ node 0xa3 0xb3 (0x28 ∷ 0x29 ∷ 0x2a ∷ 0x2b ∷ []) ∷ node 0x7f 0xff [] ∷ []
 
 -- Two instances, each of two nodes and the node that ends it, are these 36 bytes.
 pub record TwoInstances : Type 0 where
@@ -52,7 +55,8 @@ pub record AnyEnd : Type 0 where
 abbrev pub end_with_data : List Node
 end_with_data = node 0x7f 0xff (0xaa ∷ 0xbb ∷ []) ∷ []
 
--- The end-entire node may have data, and bytes may follow the path. The path is its one instance, and has no node before its end.
+-- The end-entire node may have data, and bytes may follow the path. The path is its one instance, and has no node
+-- before its end.
 pub record EndWithData : Type 0 where
   pub path : IsPath end_with_data
   pub prefix : IsPrefix (joined end_with_data) (0x7f ∷ 0xff ∷ 6 ∷ 0 ∷ 0xaa ∷ 0xbb ∷ 0xcc ∷ [])
@@ -75,7 +79,8 @@ pub record Nodes : Type 0 where
 
 -- The numbers of the types and subtypes that have a name (UEFI 2.10, 10.3).
 pub record TypeNumbers : Type 0 where
-  pub types : (HARDWARE.0 ≡ 1) × (ACPI.0 ≡ 2) × (MESSAGING.0 ≡ 3) × (MEDIA.0 ≡ 4) × (BIOS_BOOT_SPEC.0 ≡ 5) × (END.0 ≡ 0x7f)
+  pub types : (HARDWARE.0 ≡ 1) × (ACPI.0 ≡ 2) × (MESSAGING.0 ≡ 3) × (MEDIA.0 ≡ 4) × (BIOS_BOOT_SPEC.0 ≡ 5)
+      × (END.0 ≡ 0x7f)
   pub sub_types : (END_INSTANCE.0 ≡ 1) × (END_ENTIRE.0 ≡ 0xff)
 
 -- All rows hold.

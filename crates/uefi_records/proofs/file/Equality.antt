@@ -11,16 +11,19 @@ and_assoc true b c = refl
 and_assoc false b c = refl
 
 -- Parts of the same length.
-pub pointwise-append : (xs ys more others : List ℕ) → length xs ≡ length ys → pointwise nat_eq (xs ++ more) (ys ++ others) ≡ pointwise nat_eq xs ys && pointwise nat_eq more others
+pub pointwise-append : (xs ys more others : List ℕ) → length xs ≡ length ys → pointwise nat_eq (xs ++ more)
+    (ys ++ others) ≡ pointwise nat_eq xs ys && pointwise nat_eq more others
 pointwise-append [] [] more others same = refl
 pointwise-append [] (y ∷ ys) more others same = absurd (omega (arith, same))
 pointwise-append (x ∷ xs) [] more others same = absurd (omega (arith, same))
 pointwise-append (x ∷ xs) (y ∷ ys) more others same =
-    ap (λ rest. nat_eq x y && rest) (pointwise-append xs ys more others (omega (arith, same))) ∙ sym (and_assoc (nat_eq x y) (pointwise nat_eq xs ys) (pointwise nat_eq more others))
+    ap (λ rest. nat_eq x y && rest) (pointwise-append xs ys more others (omega (arith, same)))
+    ∙ sym (and_assoc (nat_eq x y) (pointwise nat_eq xs ys) (pointwise nat_eq more others))
 
 -- Two file information records are equal exactly if their headers and the units of their names are.
 pub equal_if : (one other : FileInfo) (same_header same_name : Bool) → same_header ≡ pointwise nat_eq (file_header_of one) (file_header_of other)
-    → same_name ≡ pointwise nat_eq (file_name_of one) (file_name_of other) → same_header && same_name ≡ pointwise nat_eq (file_info_key one) (file_info_key other)
+    → same_name ≡ pointwise nat_eq (file_name_of one) (file_name_of other)
+    → same_header && same_name ≡ pointwise nat_eq (file_info_key one) (file_info_key other)
 unfolding file_info_key
 equal_if one other same_header same_name header name =
     (λ i. header i && name i) ∙ sym (pointwise-append (file_header_of one) (file_header_of other) (file_name_of one) (file_name_of other)

@@ -44,7 +44,8 @@ then_range n m bytes done part before is =
     let width : m ≡ n + m - n = omega arith in
     take-add n m bytes ∙ (λ i. before i ++ (ap (λ k. take k (drop n bytes)) width ∙ is) i)
 
-time_range : (bytes : List ℕ) (offset : ℕ) → AreBytes bytes → offset + time_length ≤ length bytes → slice_range bytes offset (offset + time_length) ≡ time_bytes (time_at bytes offset)
+time_range : (bytes : List ℕ) (offset : ℕ) → AreBytes bytes → offset + time_length ≤ length bytes
+    → slice_range bytes offset (offset + time_length) ≡ time_bytes (time_at bytes offset)
 unfolding time_bytes
 time_range bytes offset small within =
     let part : List ℕ = slice_range bytes offset (offset + time_length) in
@@ -52,10 +53,12 @@ time_range bytes offset small within =
     let stands = times_read_back.read part (AreBytes-range bytes offset (offset + time_length) small) (omega (arith, long)) in
     sym (take_all time_length part (omega (arith, long))) ∙ ap (take time_length) stands.1.1
 
-number_range : (bytes : List ℕ) (offset : ℕ) → AreBytes bytes → offset + 8 ≤ length bytes → slice_range bytes offset (offset + 8) ≡ u64_bytes (u64_at bytes offset)
+number_range : (bytes : List ℕ) (offset : ℕ) → AreBytes bytes → offset + 8 ≤ length bytes
+    → slice_range bytes offset (offset + 8) ≡ u64_bytes (u64_at bytes offset)
 number_range bytes offset small within = sym (numbers_read_back.read.u64 bytes offset small within)
 
-pub header_back : (bytes : List ℕ) → AreBytes bytes → file_name_offset ≤ length bytes → take file_name_offset bytes ≡ file_header (size_in bytes) (file_fields bytes)
+pub header_back : (bytes : List ℕ) → AreBytes bytes → file_name_offset ≤ length bytes
+    → take file_name_offset bytes ≡ file_header (size_in bytes) (file_fields bytes)
 unfolding file_header
 header_back bytes small within =
     let size = then_range 0 8 bytes [] _ refl (number_range bytes 0 small (omega (arith, within))) in
@@ -70,9 +73,11 @@ header_back bytes small within =
 unused_items : (unused : List ℕ) → length unused ≡ unused_length → unused ≡ items_from 0 unused_length unused
 unused_items unused seven =
     drop-items_from 0 unused_length unused_length unused refl (omega (arith, seven))
-    ∙ ap (λ rest. items_from 0 unused_length unused ++ rest) (drop_all unused_length unused (omega (arith, seven))) ∙ append-nil (items_from 0 unused_length unused)
+    ∙ ap (λ rest. items_from 0 unused_length unused ++ rest) (drop_all unused_length unused (omega (arith, seven)))
+    ∙ append-nil (items_from 0 unused_length unused)
 
-pub length-file_system_header : (size : ℕ) (fields : FileSystemFields) (unused : List ℕ) → length unused ≡ unused_length → length (file_system_header size fields unused) ≡ label_offset
+pub length-file_system_header : (size : ℕ) (fields : FileSystemFields) (unused : List ℕ)
+    → length unused ≡ unused_length → length (file_system_header size fields unused) ≡ label_offset
 unfolding items_from file_system_header
 length-file_system_header size fields unused seven = ap (λ u. length (file_system_header size fields u)) (unused_items unused seven)
 

@@ -9,7 +9,22 @@ use Rattle.uefi_records.specs.contracts.flags.file_attribute.FileAttribute.{the_
 use Rattle.uefi_records.proofs.flags.file_attribute.FileAttribute.TheLaws.{the_row_laws as Attribute_laws, the_told as Attribute_told}
 
 abbrev pub time : Arg 3
-time = record { slot = plain (λ _. Time_row); silent = λ κs x f. refl; vals = λ κs x. Time_told.val x ∷ []; tells = λ κs. Time_told.tells; lawful = λ 𝓛 κs. Time_laws.lawful 𝓛 }
+time = record {
+  slot = plain (λ _. Time_row);
+  silent = λ κs x f. refl;
+  vals = λ κs x. Time_told.val x ∷ [];
+  tells =
+      λ κs. Time_told.tells;
+  lawful = λ 𝓛 κs. Time_laws.lawful 𝓛;
+}
 
 abbrev pub attributes : Arg 3
-attributes = record { slot = plain (λ _. Attribute_row); silent = λ κs x f. refl; vals = λ κs x. Attribute_told.val x ∷ []; tells = λ κs. Attribute_told.tells; lawful = λ 𝓛 κs. Attribute_laws.lawful 𝓛 }
+attributes = record {
+  slot = plain (λ _. Attribute_row);
+  silent = λ κs x f. refl;
+  vals =
+      λ κs x. Attribute_told.val x ∷ [];
+  tells = λ κs. Attribute_told.tells;
+  lawful =
+      λ 𝓛 κs. Attribute_laws.lawful 𝓛;
+}

@@ -13,7 +13,8 @@ use Rattle.uefi_records.specs.file.Name.{first_zero}
 pub whole_units : (bytes : List ℕ) → units_of (take (length bytes / 2 * 2) bytes) ≡ units_of bytes
 whole_units bytes =
     let twice : length bytes / 2 * 2 ≡ 2 * (length bytes / 2) = omega arith in
-    ap (λ n. units_of (take n bytes)) twice ∙ units_by_place.front bytes (length bytes / 2) ∙ take_all (length bytes / 2) (units_of bytes) (omega (arith, units_by_place.counted bytes))
+    ap (λ n. units_of (take n bytes)) twice ∙ units_by_place.front bytes (length bytes / 2)
+    ∙ take_all (length bytes / 2) (units_of bytes) (omega (arith, units_by_place.counted bytes))
 
 -- The unit at the index is zero, and none before it is.
 pub record IsFirstAt (units : List ℕ) (index : ℕ) : Type 0 where
@@ -33,7 +34,12 @@ one_found [] i index first = absurd (omega (arith, first.within))
 one_found (u ∷ units) i zero first = stops u (Some i) (position_from (λ unit. unit == 0) (i + 1) units) first.is_zero ∙ ap (λ n. Some n) (omega arith)
 one_found (u ∷ units) i (suc index) first =
     passes_on u (Some i) (position_from (λ unit. unit == 0) (i + 1) units) (first.before 0 (omega arith))
-    ∙ one_found units (i + 1) index (record { within = omega (arith, first.within); is_zero = first.is_zero; before = λ k before. first.before (suc k) (omega arith) })
+    ∙ one_found units (i + 1) index (record {
+      within = omega (arith, first.within);
+      is_zero =
+          first.is_zero;
+      before = λ k before. first.before (suc k) (omega arith);
+    })
     ∙ ap (λ n. Some n) (omega arith)
 
 pub one_first : (units : List ℕ) (index : ℕ) → IsFirstAt units index → first_zero units ≡ Some index

@@ -29,8 +29,14 @@ length-named offset header name sized = length-append header (unit_bytes name) �
 pub ends_with : (offset : ℕ) (header name : List ℕ) → length header ≡ offset → FitName name → EndsWithName offset (header ++ unit_bytes name)
 ends_with offset header name sized fit =
     let whole : length (header ++ unit_bytes name) ≡ record_end offset (length name) = length-named offset header name sized in
-    let last : length (drop offset (header ++ unit_bytes name)) ≡ 2 * length name = ap length (drop_at header (unit_bytes name) offset sized) ∙ units_read_back.sized name in
-    record { before = omega (arith, whole); whole_units = omega (arith, last); name = subst IsName (sym (units_back offset header name sized fit.are_units)) fit.is_name }
+    let last : length (drop offset (header ++ unit_bytes name)) ≡ 2 * length name =
+    ap length (drop_at header (unit_bytes name) offset sized) ∙ units_read_back.sized name in
+    record {
+      before = omega (arith, whole);
+      whole_units = omega (arith, last);
+      name =
+          subst IsName (sym (units_back offset header name sized fit.are_units)) fit.is_name;
+    }
 
 -- The units of bytes are units, and those behind the offset of a name are the name.
 AreUnits-units_of : (bytes : List ℕ) → AreBytes bytes → AreUnits (units_of bytes)

@@ -18,7 +18,8 @@ is_nonzero : (unit : ℕ) → (not (unit == 0) ≡ true) ↔ (unit ≢ 0)
 is_nonzero unit = (λ tested. grind (arith, nat_tests), λ nonzero. grind (arith, nat_tests))
 
 -- The first units of a block are nonzero if its run is as long.
-pub block_nonzero : (bytes : List ℕ) (index run : ℕ) → run ≡ prefix_len (λ unit. not (unit == 0)) (units_of (chunk (2 * index) 32 bytes)) → 16 ≤ run → AreNonzero index 16 (units_of bytes)
+pub block_nonzero : (bytes : List ℕ) (index run : ℕ) → run ≡ prefix_len (λ unit. not (unit == 0))
+    (units_of (chunk (2 * index) 32 bytes)) → 16 ≤ run → AreNonzero index 16 (units_of bytes)
 block_nonzero bytes index run is whole k within =
     let block : units_of (chunk (2 * index) 32 bytes) ≡ take 16 (drop index (units_of bytes)) =
     units_by_place.front (drop (2 * index) bytes) 16 ∙ ap (take 16) (units_by_place.rest bytes index) in
@@ -29,7 +30,8 @@ block_nonzero bytes index run is whole k within =
     λ zero. nonzero (unit ∙ zero)
 
 -- One page more, and one run more in each page.
-pub one_page_more : (units : List ℕ) (count start n : ℕ) → AreNonzeroInEach count start n units → AreNonzero (page_units * count + start) n units → AreNonzeroInEach (count + 1) start n units
+pub one_page_more : (units : List ℕ) (count start n : ℕ) → AreNonzeroInEach count start n units
+    → AreNonzero (page_units * count + start) n units → AreNonzeroInEach (count + 1) start n units
 one_page_more units count start n before here page within =
     elim (cases_lt page count) [
       | inl earlier ↦ before page earlier
@@ -53,10 +55,15 @@ whole_pages units each k within =
 
 -- The search goes on after units of which none is zero.
 pub passes_nonzero : (bytes : List ℕ) (index n : ℕ) → 2 * index + 2 * n ≤ length bytes → AreNonzero 0 n (units_of (chunk (2 * index) (2 * n) bytes))
-    → position_from (λ unit. unit == 0) index (units_of (drop (2 * index) bytes)) ≡ position_from (λ unit. unit == 0) (index + n) (units_of (drop (2 * (index + n)) bytes))
+    → position_from (λ unit. unit == 0) index (units_of (drop (2 * index) bytes)) ≡ position_from
+    (λ unit. unit == 0) (index + n) (units_of (drop (2 * (index + n)) bytes))
 passes_nonzero bytes index n within nonzero =
     let block = chunk (2 * index) (2 * n) bytes in
     let sized : length (units_of block) ≡ n = half_as_many_units block ∙ omega (arith, length-chunk (2 * index) (2 * n) bytes within) in
     let run : prefix_len (λ unit. not (unit == 0)) (units_of block) ≡ n =
-    prefix_len_is (λ unit. not (unit == 0)) (units_of block) n 0 (omega (arith, sized)) (λ k below. let from_first : 0 + k ≡ k = omega arith in (is_nonzero (get_or (units_of block) k 0)).1 (λ is. nonzero k below (ap (λ i. get_or (units_of block) i 0) from_first ∙ is))) (λ more. absurd (omega (arith, sized))) in
+    prefix_len_is (λ unit. not (unit == 0)) (units_of block) n 0 (omega (arith, sized))
+    (λ k below. let from_first : 0 + k ≡ k = omega arith in
+    (is_nonzero (get_or (units_of block) k 0)).1
+    (λ is. nonzero k below (ap (λ i. get_or (units_of block) i 0) from_first ∙ is)))
+    (λ more. absurd (omega (arith, sized))) in
     passes_block (λ unit. unit == 0) bytes index n n within (sym run) (omega arith)

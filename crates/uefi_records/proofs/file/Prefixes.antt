@@ -50,5 +50,6 @@ covers offset n bytes named = omega (arith, named.before, length-take n bytes)
 pub file_fields_of_named : (bytes : List ℕ) (end : ℕ) → EndsWithName file_name_offset (take end bytes) → file_fields (take end bytes) ≡ file_fields bytes
 file_fields_of_named bytes end named = file_fields_of_prefix end bytes (covers file_name_offset end bytes named)
 
-pub file_system_fields_of_named : (bytes : List ℕ) (end : ℕ) → EndsWithName label_offset (take end bytes) → file_system_fields (take end bytes) ≡ file_system_fields bytes
+pub file_system_fields_of_named : (bytes : List ℕ) (end : ℕ) → EndsWithName label_offset (take end bytes)
+    → file_system_fields (take end bytes) ≡ file_system_fields bytes
 file_system_fields_of_named bytes end named = file_system_fields_of_prefix end bytes (covers label_offset end bytes named)

@@ -19,7 +19,8 @@ use Rattle.uefi_records.proofs.file.Prefixes.{size_of_prefix, file_fields_of_pre
 -- Units that start with a name have their first zero at the name's end.
 first_zero_of_name : (units name : List ℕ) → IsName name → take (length name) units ≡ name → length name ≤ length units → IsFirstAt units (length name - 1)
 first_zero_of_name units name is prefix enough =
-    let at : (k : ℕ) → k < length name → get_or units k 0 ≡ get_or name k 0 = λ k within. sym (get_or-take (length name) units k 0 within) ∙ ap (λ us. get_or us k 0) prefix in
+    let at : (k : ℕ) → k < length name → get_or units k 0 ≡ get_or name k 0 =
+    λ k within. sym (get_or-take (length name) units k 0 within) ∙ ap (λ us. get_or us k 0) prefix in
     record {
       within = omega (arith, is.not_empty, enough);
       is_zero = at (length name - 1) (omega (arith, is.not_empty)) ∙ is.nul;
@@ -27,8 +28,11 @@ first_zero_of_name units name is prefix enough =
     }
 
 -- A record whose name follows its header is accepted with that name.
-name_accepted : (offset alignment : ℕ) (header name rest : List ℕ) (written : ℕ) → length header ≡ offset → FitName name → record_end offset (length name) ≤ written
-    → let buffer = (header ++ unit_bytes name) ++ rest in record_size offset alignment (length name) ≤ length buffer → verdict offset alignment (take written buffer) (length buffer) ≡ accepted name
+name_accepted : (offset alignment : ℕ) (header name rest : List ℕ) (written : ℕ) → length header ≡ offset
+    → FitName name → record_end offset (length name) ≤ written
+    → let buffer = (header ++ unit_bytes name) ++ rest in
+    record_size offset alignment (length name) ≤ length buffer → verdict offset alignment (take written buffer)
+    (length buffer) ≡ accepted name
 name_accepted offset alignment header name rest written sized fit covers room =
     let buffer : List ℕ = (header ++ unit_bytes name) ++ rest in
     let end : ℕ = record_end offset (length name) in
@@ -36,13 +40,17 @@ name_accepted offset alignment header name rest written sized fit covers room =
     let whole : length buffer ≡ end + length rest = length-append (header ++ unit_bytes name) rest ∙ ap (λ n. n + length rest) record_sized in
     let seen : List ℕ = units_from offset (take written buffer) in
     let prefix : take (length name) seen ≡ name =
-    units_of_prefix buffer offset (length name) written covers ∙ ap (units_from offset) (take_at (header ++ unit_bytes name) rest end record_sized) ∙ units_back offset header name sized fit.are_units in
+    units_of_prefix buffer offset (length name) written covers
+    ∙ ap (units_from offset) (take_at (header ++ unit_bytes name) rest end record_sized)
+    ∙ units_back offset header name sized fit.are_units in
     let counted : length seen ≡ length (drop offset (take written buffer)) / 2 = units_by_place.counted (drop offset (take written buffer)) in
-    let left : length (drop offset (take written buffer)) ≡ min written (length buffer) - offset = length-drop offset (take written buffer) ∙ ap (λ n. n - offset) (length-take written buffer) in
+    let left : length (drop offset (take written buffer)) ≡ min written (length buffer) - offset =
+    length-drop offset (take written buffer) ∙ ap (λ n. n - offset) (length-take written buffer) in
     let enough : length name ≤ length seen = omega (arith, counted, left, whole, covers) in
     let first : first_zero seen ≡ Some (length name - 1) = one_first seen (length name - 1) (first_zero_of_name seen name fit.is_name prefix enough) in
     let count : length name - 1 + 1 ≡ length name = omega (arith, fit.is_name.not_empty) in
-    accepted_at offset alignment (length buffer) (length name - 1) (take written buffer) first (subst (λ n. record_size offset alignment n ≤ length buffer) (sym count) room)
+    accepted_at offset alignment (length buffer) (length name - 1) (take written buffer) first
+    (subst (λ n. record_size offset alignment n ≤ length buffer) (sym count) room)
     ∙ ap (λ n. accepted (take n seen)) count ∙ ap (λ us. accepted us) prefix
 
 file_info_reads_back : FileInfoReadsBack
@@ -50,8 +58,13 @@ file_info_reads_back fields name rest written fits fit small covers room =
     let size : ℕ = file_info_size (length name) in
     let header : List ℕ = file_header size fields in
     let joined : (header ++ unit_bytes name) ++ rest ≡ header ++ (unit_bytes name ++ rest) = append_assoc header (unit_bytes name) rest in
-    let back = file_info_back size fields (unit_bytes name ++ rest) fits small in
-    (name_accepted file_name_offset file_info_alignment header name rest written (length-file_header size fields) fit covers room, ap size_in joined ∙ back.0, ap file_fields joined ∙ back.1)
+    let back = file_info_back size fields (unit_bytes name ++ rest) fits small in (
+      name_accepted file_name_offset file_info_alignment header name rest written
+          (length-file_header size fields) fit covers room,
+      ap size_in joined ∙ back.0,
+      ap file_fields joined
+          ∙ back.1,
+    )
 
 file_system_info_reads_back : FileSystemInfoReadsBack
 file_system_info_reads_back fields unused label rest written seven fits fit small covers room =
@@ -72,13 +85,15 @@ reads_back = record { file_info = file_info_reads_back; file_system_info = file_
 accepted_covers : (offset alignment : ℕ) (written name : List ℕ) (room : ℕ) → verdict offset alignment written room ≡ accepted name → offset ≤ length written
 accepted_covers offset alignment written name room is = by_index (first_zero (units_from offset written)) refl is
   where
-    by_index : (found : Option ℕ) → first_zero (units_from offset written) ≡ found → judged offset alignment (units_from offset written) room found ≡ accepted name → offset ≤ length written
+    by_index : (found : Option ℕ) → first_zero (units_from offset written) ≡ found
+        → judged offset alignment (units_from offset written) room found ≡ accepted name → offset ≤ length written
     by_index None at judged_so = absurd (cc)
     by_index (Some index) at judged_so =
         let first : IsFirstAt (units_from offset written) index = first_zero_is (units_from offset written) index at in
         omega (arith, first.within, units_by_place.counted (drop offset written), length-drop offset written)
 
-covers_of : (offset alignment written : ℕ) (buffer name : List ℕ) → verdict offset alignment (take written buffer) (length buffer) ≡ accepted name → offset ≤ written
+covers_of : (offset alignment written : ℕ) (buffer name : List ℕ) → verdict offset alignment (take written buffer)
+    (length buffer) ≡ accepted name → offset ≤ written
 covers_of offset alignment written buffer name is =
     omega (arith, accepted_covers offset alignment (take written buffer) name (length buffer) is, length-take written buffer)
 
@@ -90,7 +105,8 @@ same_file_fields : (n : ℕ) (one other : List ℕ) → file_name_offset ≤ n �
 same_file_fields n one other enough same = sym (file_fields_of_prefix n one enough) ∙ ap file_fields same ∙ file_fields_of_prefix n other enough
 
 same_system_fields : (n : ℕ) (one other : List ℕ) → label_offset ≤ n → take n one ≡ take n other → file_system_fields one ≡ file_system_fields other
-same_system_fields n one other enough same = sym (file_system_fields_of_prefix n one enough) ∙ ap file_system_fields same ∙ file_system_fields_of_prefix n other enough
+same_system_fields n one other enough same = sym (file_system_fields_of_prefix n one enough)
+    ∙ ap file_system_fields same ∙ file_system_fields_of_prefix n other enough
 
 pub written_alone : WrittenAlone
 written_alone = record {

@@ -23,7 +23,8 @@ lanes_are_units (suc n) (low ∷ high ∷ bytes) sized small =
     rw (first, rest, lanes_are_units n bytes (omega arith) small.1.1)
 
 -- The first item of two lists that meets a test: it is in the first list if a shorter prefix of that list than the whole fails the test.
-here : (p : ℕ → Bool) (i n k : ℕ) (later : Option ℕ) → (b : Bool) → cond (not b) (1 + k) 0 < suc n → (k < n → later ≡ Some (i + 1 + k)) → cond b (Some i) later ≡ Some (i + cond (not b) (1 + k) 0)
+here : (p : ℕ → Bool) (i n k : ℕ) (later : Option ℕ) → (b : Bool) → cond (not b) (1 + k) 0 < suc n
+    → (k < n → later ≡ Some (i + 1 + k)) → cond b (Some i) later ≡ Some (i + cond (not b) (1 + k) 0)
 here p i n k later true within more = ap Some (omega arith)
 here p i n k later false within more = more (omega arith) ∙ ap Some (omega arith)
 
@@ -66,11 +67,13 @@ module _ (p : ℕ → Bool) (bytes : List ℕ) (index n run : ℕ) (within : 2 *
   -- The first unit that meets the test is in the block if the run before it is shorter than the block.
   pub stops_in_block : run < n → position_from p index (units_of (drop (2 * index) bytes)) ≡ Some (index + run)
   stops_in_block shorter =
-      ap (position_from p index) split ∙ found_in_first p index (units_of block) (units_of (drop (2 * (index + n)) bytes)) (omega (arith, units, counted_run, shorter))
+      ap (position_from p index) split ∙ found_in_first p index (units_of block)
+      (units_of (drop (2 * (index + n)) bytes)) (omega (arith, units, counted_run, shorter))
       ∙ ap (λ k. Some (index + k)) (sym counted_run)
 
   -- Else it is behind the block.
   pub passes_block : n ≤ run → position_from p index (units_of (drop (2 * index) bytes)) ≡ position_from p (index + n) (units_of (drop (2 * (index + n)) bytes))
   passes_block whole =
-      ap (position_from p index) split ∙ found_in_second p index (units_of block) (units_of (drop (2 * (index + n)) bytes)) (omega (arith, units, counted_run, whole))
+      ap (position_from p index) split ∙ found_in_second p index (units_of block)
+      (units_of (drop (2 * (index + n)) bytes)) (omega (arith, units, counted_run, whole))
       ∙ ap (λ k. position_from p (index + k) (units_of (drop (2 * (index + n)) bytes))) units

@@ -43,24 +43,28 @@ module _ (offset alignment : ℕ) (header name old : List ℕ) (FieldsFit : Type
     part_sized : Is → Room → length (header ++ unit_bytes name) ≡ record_end offset (length name)
     part_sized is room = length-named offset header name (sized room)
 
-    pub record_seen_in : (new : List ℕ) (written : Result ℕ FileInfoCreationError) → WroteRecord new written → IfOk written (λ end. (end ≤ length new) × EndsWithName offset (take end new))
+    pub record_seen_in : (new : List ℕ) (written : Result ℕ FileInfoCreationError) → WroteRecord new written
+        → IfOk written (λ end. (end ≤ length new) × EndsWithName offset (take end new))
     record_seen_in new written wrote = seen_in part_sized (EndsWithName offset) (λ is room. ends_with offset header name (sized room) is.1) written wrote
 
-    pub record_made_of : {V : Type 0} (view : V → List ℕ) (new : List ℕ) (written : Result ℕ FileInfoCreationError) (made : Result V FileInfoCreationError) → WroteRecord new written
+    pub record_made_of : {V : Type 0} (view : V → List ℕ) (new : List ℕ) (written : Result ℕ FileInfoCreationError)
+        (made : Result V FileInfoCreationError) → WroteRecord new written
         → MatchResult written (λ end. IfOk made (λ v. view v ≡ take end new)) (λ error. made ≡ Err error) → IsOk made ↔ IsOk written → MadeRecord view new made
     record_made_of view new written made wrote seen ok = made_of part_sized view written made wrote seen ok
 
 -- What the accessors of a view of a file information record return.
 pub file_info_made : (fields : FileFields) (name old new : List ℕ) → length old < 2 ^ 64 → (made : Result FileInfo FileInfoCreationError)
     → MadeRecord file_name_offset file_info_alignment (file_header (file_info_size (length name)) fields) name old (FitFile fields) file_info_view new made
-    → IfOk made (λ info. stated_size info ≡ file_info_size (length name)) × IfOk made (λ info. file_fields_of info ≡ fields) × IfOk made (λ info. file_name_of info ≡ name)
+    → IfOk made (λ info. stated_size info ≡ file_info_size (length name))
+    × IfOk made (λ info. file_fields_of info ≡ fields) × IfOk made (λ info. file_name_of info ≡ name)
     × OnOk made (FitFile fields) × OnOk made (FitName name)
 file_info_made fields name old new long (Ok info) made =
     let size : ℕ = file_info_size (length name) in
     let back = file_info_back size fields (unit_bytes name) made.seen.1.0 (omega (arith, long, made.seen.2)) in (
       ap size_in made.seen.0 ∙ back.0,
       ap file_fields made.seen.0 ∙ back.1,
-      ap (units_from file_name_offset) made.seen.0 ∙ units_back file_name_offset (file_header size fields) name (length-file_header size fields) made.seen.1.1.are_units,
+      ap (units_from file_name_offset) made.seen.0 ∙ units_back file_name_offset (file_header size fields) name
+          (length-file_header size fields) made.seen.1.1.are_units,
       made.seen.1.0,
       made.seen.1.1,
     )
@@ -76,22 +80,34 @@ system_header_sized size fields label old room = length-file_system_header size 
 
 -- What the accessors of a view of such a record return, and those of a view of a label.
 pub file_system_info_made : (fields : FileSystemFields) (label old new : List ℕ) → length old < 2 ^ 64 → (made : Result FileSystemInfo FileInfoCreationError)
-    → MadeRecord label_offset file_system_info_alignment (file_system_header (file_system_info_size (length label)) fields (unused_bytes old)) label old (FitFileSystem fields) file_system_info_view new made
-    → IfOk made (λ info. system_stated_size info ≡ file_system_info_size (length label)) × IfOk made (λ info. file_system_fields_of info ≡ fields) × IfOk made (λ info. file_system_label_of info ≡ label)
+    → MadeRecord label_offset file_system_info_alignment
+    (file_system_header (file_system_info_size (length label)) fields (unused_bytes old)) label old
+    (FitFileSystem fields) file_system_info_view new made
+    → IfOk made (λ info. system_stated_size info ≡ file_system_info_size (length label))
+    × IfOk made (λ info. file_system_fields_of info ≡ fields)
+    × IfOk made (λ info. file_system_label_of info ≡ label)
     × OnOk made (FitFileSystem fields) × OnOk made (FitName label)
 file_system_info_made fields label old new long (Ok info) made =
     let size : ℕ = file_system_info_size (length label) in
     let unused : List ℕ = unused_bytes old in
-    let back = file_system_info_back size fields unused (unit_bytes label) (seven_unused label old made.seen.2) made.seen.1.0 (omega (arith, long, made.seen.2)) in (
+    let back = file_system_info_back size fields unused (unit_bytes label)
+    (seven_unused label old made.seen.2) made.seen.1.0 (omega (arith, long, made.seen.2)) in (
       ap size_in made.seen.0 ∙ back.0,
       ap file_system_fields made.seen.0 ∙ back.1,
-      ap (units_from label_offset) made.seen.0 ∙ units_back label_offset (file_system_header size fields unused) label (system_header_sized size fields label old made.seen.2) made.seen.1.1.are_units,
+      ap (units_from label_offset) made.seen.0
+          ∙ units_back label_offset (file_system_header size fields unused) label
+          (system_header_sized size fields label old made.seen.2) made.seen.1.1.are_units,
       made.seen.1.0,
       made.seen.1.1,
     )
 file_system_info_made fields label old new long (Err error) made = (tt, tt, tt, tt, tt)
 
 pub volume_label_made : (label old new : List ℕ) (made : Result FileSystemVolumeLabel FileInfoCreationError)
-    → MadeRecord lone_label_offset volume_label_alignment [] label old (Unit {0}) volume_label_view new made → IfOk made (λ made. volume_label_of made ≡ label) × OnOk made (FitName label)
-volume_label_made label old new (Ok view) made = (ap (units_from lone_label_offset) made.seen.0 ∙ units_back lone_label_offset [] label refl made.seen.1.1.are_units, made.seen.1.1)
+    → MadeRecord lone_label_offset volume_label_alignment [] label old (Unit {0}) volume_label_view new made
+    → IfOk made (λ made. volume_label_of made ≡ label) × OnOk made (FitName label)
+volume_label_made label old new (Ok view) made = (
+  ap (units_from lone_label_offset) made.seen.0
+      ∙ units_back lone_label_offset [] label refl made.seen.1.1.are_units,
+  made.seen.1.1,
+)
 volume_label_made label old new (Err error) made = (tt, tt)

@@ -21,7 +21,8 @@ time_back time rest fits =
     λ i. record time { year = year i; nanosecond = nanosecond i; zone = zone i }
 
 -- Sixteen bytes, written out, are those of the time that is read from them.
-sixteen_back : (bytes rest : List ℕ) → let whole = items_from 0 time_length bytes ++ rest in AreBytes whole → time_length ≤ length whole → StandsIn (time_in whole) whole
+sixteen_back : (bytes rest : List ℕ) → let whole = items_from 0 time_length bytes ++ rest in
+    AreBytes whole → time_length ≤ length whole → StandsIn (time_in whole) whole
 unfolding items_from time_bytes
 sixteen_back bytes rest small long =
     let whole : List ℕ = items_from 0 time_length bytes ++ rest in
@@ -49,14 +50,23 @@ sixteen_back bytes rest small long =
 pub stands_in : (bytes : List ℕ) → AreBytes bytes → time_length ≤ length bytes → StandsIn (time_in bytes) bytes
 stands_in bytes small long =
     let whole : bytes ≡ items_from 0 time_length bytes ++ drop time_length bytes = drop-items_from 0 time_length time_length bytes refl long in
-    subst (λ b. StandsIn (time_in b) b) (sym whole) (sixteen_back bytes (drop time_length bytes) (subst AreBytes whole small) (subst (λ b. time_length ≤ length b) whole long))
+    subst (λ b. StandsIn (time_in b) b) (sym whole)
+    (sixteen_back bytes (drop time_length bytes) (subst AreBytes whole small)
+    (subst (λ b. time_length ≤ length b) whole long))
 
 -- The same of a time whose fields are those, each by an equation.
-pub made_stands_in : (bytes : List ℕ) (year nanosecond daylight : ℕ) (zone : ℤ) → AreBytes bytes → time_length ≤ length bytes → year ≡ u16_at bytes 0 → nanosecond ≡ u32_at bytes 8
+pub made_stands_in : (bytes : List ℕ) (year nanosecond daylight : ℕ) (zone : ℤ) → AreBytes bytes
+    → time_length ≤ length bytes → year ≡ u16_at bytes 0 → nanosecond ≡ u32_at bytes 8
     → zone ≡ cast_signed w16 (u16_at bytes 12) → daylight ≡ slice_index bytes 14
     → StandsIn (record (time_in bytes) { year = year; nanosecond = nanosecond; zone = zone; daylight = daylight }) bytes
 made_stands_in bytes year nanosecond daylight zone small long year_is nanosecond_is zone_is daylight_is =
-    subst (λ time. StandsIn time bytes) (λ i. record (time_in bytes) { year = sym year_is i; nanosecond = sym nanosecond_is i; zone = sym zone_is i; daylight = sym daylight_is i }) (stands_in bytes small long)
+    subst (λ time. StandsIn time bytes) (λ i. record (time_in bytes) {
+      year = sym year_is i;
+      nanosecond =
+          sym nanosecond_is i;
+      zone = sym zone_is i;
+      daylight = sym daylight_is i;
+    }) (stands_in bytes small long)
 
 pub times_read_back : TimesReadBack
 times_read_back = record { written = time_back; read = stands_in }

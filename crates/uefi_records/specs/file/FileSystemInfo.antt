@@ -1,4 +1,5 @@
--- File system information records, and records of a volume label alone (UEFI 2.10, 13.5 "EFI_FILE_PROTOCOL.GetInfo()", EFI_FILE_SYSTEM_INFO and EFI_FILE_SYSTEM_VOLUME_LABEL).
+-- File system information records, and records of a volume label alone (UEFI 2.10, 13.5
+-- "EFI_FILE_PROTOCOL.GetInfo()", EFI_FILE_SYSTEM_INFO and EFI_FILE_SYSTEM_VOLUME_LABEL).
 use Rattle.std.specs.Prelude.{ℕ, ◌^◌, ◌<◌, Bool, not, ◌==◌, List, [], ◌∷◌, ◌++◌, length, slice_index, slice_range, if◌then◌else◌}
 use Rattle.uefi_base.specs.LittleEndian.{u32_at, u32_bytes, u64_at, u64_bytes}
 use Rattle.uefi_base.specs.Unaligned.{unit_bytes}
@@ -50,7 +51,8 @@ file_system_info_size units = record_size label_offset file_system_info_alignmen
 abbrev pub file_system_info_verdict : List ℕ → ℕ → Verdict
 file_system_info_verdict written room = verdict label_offset file_system_info_alignment written room
 
--- The bytes before the label, with those without meaning among them, and those of the whole record without its rounding bytes.
+-- The bytes before the label, with those without meaning among them, and those of the whole record without its
+-- rounding bytes.
 unfoldable pub file_system_header : ℕ → FileSystemFields → List ℕ → List ℕ
 file_system_header size fields unused =
     u64_bytes size
@@ -61,7 +63,8 @@ file_system_header size fields unused =
     ++ u32_bytes fields.block_size
 
 abbrev pub file_system_info_bytes : FileSystemFields → List ℕ → List ℕ → List ℕ
-file_system_info_bytes fields unused label = file_system_header (file_system_info_size (length label)) fields unused ++ unit_bytes label
+file_system_info_bytes fields unused label = file_system_header (file_system_info_size (length label)) fields unused
+    ++ unit_bytes label
 
 -- The record of a label alone: its units, from the first byte on.
 abbrev pub lone_label_offset : ℕ

@@ -5,4 +5,5 @@ use Rattle.uefi_records.specs.declared.file.creation_error.FileInfoCreationError
 
 -- The text names the size of the record.
 abbrev pub creation_error_text : FileInfoCreationError → List ℕ
-creation_error_text (InsufficientStorage size) = codes "provided buffer was too small. need at least " ++ decimal size ++ codes " bytes"
+creation_error_text (InsufficientStorage size) = codes "provided buffer was too small. need at least "
+    ++ decimal size ++ codes " bytes"

@@ -11,7 +11,8 @@ use Rattle.uefi_records.specs.file.Name.{units_from}
 use Rattle.uefi_records.specs.file.FileInfo.{FileFields, file_fields, file_header, file_name_offset, size_in}
 use Rattle.uefi_records.specs.file.FileSystemInfo.{FileSystemFields, file_system_fields, label_offset, lone_label_offset}
 
--- The bytes of a file information record, up to and with its name's NUL; the size that it states, its fields, and the units of its name.
+-- The bytes of a file information record, up to and with its name's NUL; the size that it states, its fields, and
+-- the units of its name.
 abbrev pub file_info_view : FileInfo → List ℕ
 file_info_view info = info.bytes.now
 
@@ -59,7 +60,8 @@ file_system_label_of info = units_from label_offset (file_system_info_view info)
 abbrev pub file_system_numbers : FileSystemInfo → List ℕ
 file_system_numbers info =
     let fields = file_system_fields_of info in
-    system_stated_size info ∷ (if fields.read_only then 1 else 0) ∷ fields.volume_size ∷ fields.free_space ∷ fields.block_size ∷ []
+    system_stated_size info ∷
+    (if fields.read_only then 1 else 0) ∷ fields.volume_size ∷ fields.free_space ∷ fields.block_size ∷ []
 
 abbrev pub file_system_info_key : FileSystemInfo → List ℕ
 file_system_info_key info = file_system_numbers info ++ file_system_label_of info

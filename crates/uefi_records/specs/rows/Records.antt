@@ -1,4 +1,5 @@
--- Worked rows of the definitions: the bytes of some times and what is wrong with them, the numbers of the flags, and the bytes, sizes and verdicts of some records.
+-- Worked rows of the definitions: the bytes of some times and what is wrong with them, the numbers of the flags,
+-- and the bytes, sizes and verdicts of some records.
 use Rattle.std.specs.Prelude.{◌≡◌, ℕ, List, take, pos, [], ◌∷◌, ◌++◌, replicate, Some, None, true, false, codes, neg_ℤ}
 use Rattle.uefi_records.specs.declared.time.error.TimeError.{TimeError}
 use Rattle.uefi_records.specs.declared.flags.daylight.TheConstants.Daylight.{ADJUST_DAYLIGHT, IN_DAYLIGHT}
@@ -19,7 +20,7 @@ abbrev pub last_of_february : TimeFields
 last_of_february = record zero_time { year = 2024; month = 2; day = 31; zone = unspecified_zone }
 
 pub record LocalTime : Type 0 where
-  pub text : time_bytes last_of_february ≡ 0xe8 ∷ 0x07 ∷ 2 ∷ 0x1f ∷ 0 ∷ 0 ∷ 0 ∷ 0 ∷ 0 ∷ 0 ∷ 0 ∷ 0 ∷ 0xff ∷ 0x07 ∷ 0 ∷ 0 ∷ []
+  pub bytes : time_bytes last_of_february ≡ 0xe8 ∷ 0x07 ∷ 2 ∷ 0x1f ∷ 0 ∷ 0 ∷ 0 ∷ 0 ∷ 0 ∷ 0 ∷ 0 ∷ 0 ∷ 0xff ∷ 0x07 ∷ 0 ∷ 0 ∷ []
   pub accepted : reading_faults last_of_february ≡ no_fault
   pub zone : stated_zone last_of_february.zone ≡ None
 
@@ -28,18 +29,19 @@ abbrev pub year_month_and_day : TimeError
 year_month_and_day = record no_fault { year = true; month = true; day = true }
 
 pub record ZeroTime : Type 0 where
-  pub text : time_bytes zero_time ≡ replicate 16 0
+  pub bytes : time_bytes zero_time ≡ replicate 16 0
   pub faults : reading_faults zero_time ≡ year_month_and_day
   pub lines :
       time_error_text year_month_and_day
-      ≡ codes "year not within `1900..=9999`" ++ 10 ∷ codes "month not within `1..=12" ++ 10 ∷ codes "day not within `1..=31`" ++ 10 ∷ []
+      ≡ codes "year not within `1900..=9999`" ++ 10 ∷ codes "month not within `1..=12"
+      ++ 10 ∷ codes "day not within `1..=31`" ++ 10 ∷ []
 
 -- An unknown bit of daylight is reported alone, whatever else is wrong.
 abbrev pub unknown_daylight : TimeFields
 unknown_daylight = record zero_time { daylight = 4 }
 
 pub record UnknownDaylight : Type 0 where
-  pub text : time_bytes unknown_daylight ≡ replicate 14 0 ++ 4 ∷ 0 ∷ []
+  pub bytes : time_bytes unknown_daylight ≡ replicate 14 0 ++ 4 ∷ 0 ∷ []
   pub faults : reading_faults unknown_daylight ≡ daylight_alone
 
 -- A zone is at most 1440 minutes from UTC to either side, or 2047.
@@ -55,7 +57,8 @@ pub record Zones : Type 0 where
 -- The flags' numbers, and sets with and without a bit that has no name.
 pub record FlagNumbers : Type 0 where
   pub daylight : (ADJUST_DAYLIGHT.0 ≡ 1) × (IN_DAYLIGHT.0 ≡ 2)
-  pub attributes : (READ_ONLY.0 ≡ 1) × (HIDDEN.0 ≡ 2) × (SYSTEM.0 ≡ 4) × (DIRECTORY.0 ≡ 0x10) × (ARCHIVE.0 ≡ 0x20) × (VALID_ATTR.0 ≡ 0x37)
+  pub attributes : (READ_ONLY.0 ≡ 1) × (HIDDEN.0 ≡ 2) × (SYSTEM.0 ≡ 4) × (DIRECTORY.0 ≡ 0x10) × (ARCHIVE.0 ≡ 0x20)
+      × (VALID_ATTR.0 ≡ 0x37)
   pub named : (has_bits named_daylight 3 ≡ true) × (has_bits named_attributes 0x37 ≡ true)
   pub unnamed : (has_bits named_daylight 4 ≡ false) × (has_bits named_attributes 8 ≡ false)
 
@@ -77,7 +80,7 @@ abbrev pub ab_file : List ℕ
 ab_file = file_info_bytes zero_file ab
 
 pub record FileOfAb : Type 0 where
-  pub text : ab_file ≡ 88 ∷ (replicate 79 0 ++ (0x61 ∷ 0 ∷ 0x62 ∷ 0 ∷ 0 ∷ 0 ∷ []))
+  pub bytes : ab_file ≡ 88 ∷ (replicate 79 0 ++ (0x61 ∷ 0 ∷ 0x62 ∷ 0 ∷ 0 ∷ 0 ∷ []))
   pub whole : file_info_verdict ab_file 88 ≡ accepted ab
   pub short_buffer : file_info_verdict ab_file 86 ≡ too_small 88
   pub without_its_nul : file_info_verdict (take 85 ab_file) 88 ≡ without_name
@@ -88,9 +91,11 @@ abbrev pub ab_file_system : FileSystemFields
 ab_file_system = record { read_only = false; volume_size = 1; free_space = 2; block_size = 3 }
 
 pub record FileSystemOfAb : Type 0 where
-  pub text :
+  pub bytes :
       file_system_info_bytes ab_file_system (replicate 7 0xee) ab
-      ≡ 48 ∷ 0 ∷ 0 ∷ 0 ∷ 0 ∷ 0 ∷ 0 ∷ 0 ∷ 0 ∷ (replicate 7 0xee ++ (1 ∷ 0 ∷ 0 ∷ 0 ∷ 0 ∷ 0 ∷ 0 ∷ 0 ∷ 2 ∷ 0 ∷ 0 ∷ 0 ∷ 0 ∷ 0 ∷ 0 ∷ 0 ∷ 3 ∷ 0 ∷ 0 ∷ 0 ∷ 0x61 ∷ 0 ∷ 0x62 ∷ 0 ∷ 0 ∷ 0 ∷ []))
+      ≡ 48 ∷ 0 ∷ 0 ∷ 0 ∷ 0 ∷ 0 ∷ 0 ∷ 0 ∷ 0 ∷
+      (replicate 7 0xee ++
+      (1 ∷ 0 ∷ 0 ∷ 0 ∷ 0 ∷ 0 ∷ 0 ∷ 0 ∷ 2 ∷ 0 ∷ 0 ∷ 0 ∷ 0 ∷ 0 ∷ 0 ∷ 0 ∷ 3 ∷ 0 ∷ 0 ∷ 0 ∷ 0x61 ∷ 0 ∷ 0x62 ∷ 0 ∷ 0 ∷ 0 ∷ []))
 
 -- Sizes of records of names of nine and ten characters, and of a label of two.
 pub record RecordSizes : Type 0 where
@@ -109,4 +114,5 @@ pub record Identities : Type 0 where
   pub volume_label : guid_text volume_label_guid.0 ≡ codes "db47d7d3-fe81-11d3-9a35-0090273fc14d"
 
 abbrev pub RowsHold : Type 0
-RowsHold = LocalTime × ZeroTime × UnknownDaylight × Zones × FlagNumbers × FileOfAb × FileSystemOfAb × RecordSizes × Labels × Identities
+RowsHold = LocalTime × ZeroTime × UnknownDaylight × Zones × FlagNumbers × FileOfAb × FileSystemOfAb × RecordSizes
+    × Labels × Identities

@@ -52,6 +52,7 @@ daylight_alone = record no_fault { daylight = true }
 abbrev pub has_named_daylight : TimeFields → Bool
 has_named_daylight time = has_bits named_daylight time.daylight
 
--- The faults of a time that is read from bytes: daylight alone, if it has a bit without a name; otherwise the fields outside their ranges.
+-- The faults of a time that is read from bytes: daylight alone, if it has a bit without a name; otherwise the
+-- fields outside their ranges.
 abbrev pub reading_faults : TimeFields → TimeError
 reading_faults time = if has_named_daylight time then range_faults time else daylight_alone

@@ -158,56 +158,56 @@ impl<'a> FileInfo<'a> {
         FileInfo::over(storage, written)
     }
 
-    /// The size that the record states.
+    /// Returns the size that the record states.
     pub fn size(&self) -> u64
         ensures { result ≡ stated_size self.now }
     {
         u64_at(self.bytes, SIZE_OFFSET)
     }
 
-    /// The size of the file, in bytes.
+    /// Returns the size of the file, in bytes.
     pub fn file_size(&self) -> u64
         ensures { result ≡ (file_fields_of self.now).file_size }
     {
         u64_at(self.bytes, FILE_SIZE_OFFSET)
     }
 
-    /// The size that the file occupies on its volume, in bytes.
+    /// Returns the size that the file occupies on its volume, in bytes.
     pub fn physical_size(&self) -> u64
         ensures { result ≡ (file_fields_of self.now).physical_size }
     {
         u64_at(self.bytes, PHYSICAL_SIZE_OFFSET)
     }
 
-    /// When the file was created: all sixteen bytes, whether or not they are valid.
+    /// Returns when the file was created: all sixteen bytes, whether or not they are valid.
     pub fn create_time(&self) -> Time
         ensures { time_of result ≡ (file_fields_of self.now).create_time }
     {
         Time::read(&self.bytes[CREATE_TIME_OFFSET..LAST_ACCESS_TIME_OFFSET])
     }
 
-    /// When the file was last accessed: all sixteen bytes, whether or not they are valid.
+    /// Returns when the file was last accessed: all sixteen bytes, whether or not they are valid.
     pub fn last_access_time(&self) -> Time
         ensures { time_of result ≡ (file_fields_of self.now).last_access_time }
     {
         Time::read(&self.bytes[LAST_ACCESS_TIME_OFFSET..MODIFICATION_TIME_OFFSET])
     }
 
-    /// When the file was last modified: all sixteen bytes, whether or not they are valid.
+    /// Returns when the file was last modified: all sixteen bytes, whether or not they are valid.
     pub fn modification_time(&self) -> Time
         ensures { time_of result ≡ (file_fields_of self.now).modification_time }
     {
         Time::read(&self.bytes[MODIFICATION_TIME_OFFSET..ATTRIBUTE_OFFSET])
     }
 
-    /// The file's attributes: all bits, including those without a name.
+    /// Returns the file's attributes: all bits, including those without a name.
     pub fn attribute(&self) -> FileAttribute
         ensures { attribute_bits result ≡ (file_fields_of self.now).attribute }
     {
         FileAttribute::from_bits_retain(u64_at(self.bytes, ATTRIBUTE_OFFSET))
     }
 
-    /// The units of the name: the last is zero, the NUL, and no other is.
+    /// Returns the units of the name: the last is zero, the NUL, and no other is.
     pub fn file_name(&self) -> UnalignedSlice<'a>
         ensures units { slice_units result ≡ file_name_of self.now }
         ensures name { FitName (slice_units result) }
@@ -215,14 +215,14 @@ impl<'a> FileInfo<'a> {
         name_at(self.bytes, NAME_OFFSET)
     }
 
-    /// Whether the file is a directory.
+    /// Returns whether the file is a directory.
     pub fn is_directory(&self) -> bool
         ensures { result ≡ has_bits (file_fields_of self.now).attribute directory_attribute }
     {
         self.attribute().contains(FileAttribute::DIRECTORY)
     }
 
-    /// Whether the file is not a directory.
+    /// Returns whether the file is not a directory.
     pub fn is_regular_file(&self) -> bool
         ensures { result
             ≡ not (has_bits (file_fields_of self.now).attribute directory_attribute) }
@@ -230,7 +230,7 @@ impl<'a> FileInfo<'a> {
         !self.is_directory()
     }
 
-    // The bytes of the stated size and the fields.
+    // Returns the bytes of the stated size and the fields.
     #[tactic(auto, using(crate::proofs::file::FieldsBack::header_back))]
     fn header(&self) -> &'a [u8]
         ensures { result.now ≡ file_header_of self.now }
@@ -238,7 +238,7 @@ impl<'a> FileInfo<'a> {
         &self.bytes[..NAME_OFFSET]
     }
 
-    // The view of the record that was written, if it was.
+    // Returns the view of the record that was written, if it was.
     fn over(
         bytes: &'a [u8],
         written: Result<usize, FileInfoCreationError>,

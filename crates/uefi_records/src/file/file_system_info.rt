@@ -136,42 +136,42 @@ impl<'a> FileSystemInfo<'a> {
         FileSystemInfo::over(storage, written)
     }
 
-    /// The size that the record states.
+    /// Returns the size that the record states.
     pub fn size(&self) -> u64
         ensures { result ≡ system_stated_size self.now }
     {
         u64_at(self.bytes, SIZE_OFFSET)
     }
 
-    /// Whether the volume is read-only.
+    /// Returns whether the volume is read-only.
     pub fn read_only(&self) -> bool
         ensures { result ≡ (file_system_fields_of self.now).read_only }
     {
         self.bytes[READ_ONLY_OFFSET] != 0
     }
 
-    /// The size of the volume, in bytes.
+    /// Returns the size of the volume, in bytes.
     pub fn volume_size(&self) -> u64
         ensures { result ≡ (file_system_fields_of self.now).volume_size }
     {
         u64_at(self.bytes, VOLUME_SIZE_OFFSET)
     }
 
-    /// The free bytes of the volume.
+    /// Returns the number of free bytes on the volume.
     pub fn free_space(&self) -> u64
         ensures { result ≡ (file_system_fields_of self.now).free_space }
     {
         u64_at(self.bytes, FREE_SPACE_OFFSET)
     }
 
-    /// The size of a block, in bytes.
+    /// Returns the size of a block, in bytes.
     pub fn block_size(&self) -> u32
         ensures { result ≡ (file_system_fields_of self.now).block_size }
     {
         u32_at(self.bytes, BLOCK_SIZE_OFFSET)
     }
 
-    /// The units of the label: the last is zero, the NUL, and no other is.
+    /// Returns the units of the label: the last is zero, the NUL, and no other is.
     pub fn volume_label(&self) -> UnalignedSlice<'a>
         ensures units { slice_units result ≡ file_system_label_of self.now }
         ensures name { FitName (slice_units result) }
@@ -179,7 +179,8 @@ impl<'a> FileSystemInfo<'a> {
         name_at(self.bytes, LABEL_OFFSET)
     }
 
-    // All numbers, in the order of the record, with 1 for a read-only volume and 0 for others.
+    // Returns all numbers, in the order of the record, with 1 for a read-only volume and 0 for
+    // others.
     fn numbers(&self) -> [u64; 5]
         ensures { result ≡ file_system_numbers self.now }
     {
@@ -192,7 +193,7 @@ impl<'a> FileSystemInfo<'a> {
         ]
     }
 
-    // The view of the record that was written, if it was.
+    // Returns the view of the record that was written, if it was.
     fn over(
         bytes: &'a [u8],
         written: Result<usize, FileInfoCreationError>,

@@ -87,7 +87,7 @@ impl<'a> FileSystemVolumeLabel<'a> {
         FileSystemVolumeLabel::over(storage, written)
     }
 
-    /// The units of the label: the last is zero, the NUL, and no other is.
+    /// Returns the units of the label: the last is zero, the NUL, and no other is.
     pub fn volume_label(&self) -> UnalignedSlice<'a>
         ensures units { slice_units result ≡ volume_label_of self.now }
         ensures name { FitName (slice_units result) }
@@ -95,7 +95,7 @@ impl<'a> FileSystemVolumeLabel<'a> {
         name_at(self.bytes, LABEL_OFFSET)
     }
 
-    // The view of the record that was written, if it was.
+    // Returns the view of the record that was written, if it was.
     fn over(
         bytes: &'a [u8],
         written: Result<usize, FileInfoCreationError>,

@@ -32,7 +32,7 @@ impl Daylight {
         <Daylight as Flags>::empty()
     }
 
-    /// All bits of the set, including those without a name.
+    /// Returns all bits of the set, including those without a name.
     pub fn bits(&self) -> u8
         ensures { result ≡ daylight_bits self.now }
     {
@@ -55,7 +55,7 @@ impl Daylight {
         <Daylight as Flags>::from_bits_retain(bits)
     }
 
-    /// Whether each bit of the other set is in this one.
+    /// Returns whether each bit of the other set is in this one.
     pub fn contains(&self, other: Daylight) -> bool
         ensures { result ≡ has_bits (daylight_bits self.now) (daylight_bits other) }
     {

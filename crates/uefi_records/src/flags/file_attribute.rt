@@ -40,7 +40,7 @@ impl FileAttribute {
         <FileAttribute as Flags>::empty()
     }
 
-    /// All bits of the set, including those without a name.
+    /// Returns all bits of the set, including those without a name.
     pub fn bits(&self) -> u64
         ensures { result ≡ attribute_bits self.now }
     {
@@ -63,7 +63,7 @@ impl FileAttribute {
         <FileAttribute as Flags>::from_bits_retain(bits)
     }
 
-    /// Whether each bit of the other set is in this one.
+    /// Returns whether each bit of the other set is in this one.
     pub fn contains(&self, other: FileAttribute) -> bool
         ensures { result ≡ has_bits (attribute_bits self.now) (attribute_bits other) }
     {

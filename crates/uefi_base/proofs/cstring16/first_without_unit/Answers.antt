@@ -7,4 +7,6 @@ use Rattle.uefi_base.proofs.cstring16.first_without_unit.Goals as goal
 pub returns : goal.returns
 returns c =
     first_without_unit _ _
-    (first_from_find _ _ _ (λ d. ¬ HasUnit d) HasUnit c.find.ensures.ran (YieldsList-from_chars c.args.text.now c.utf8.text cc) (λ x q k. search (rules, tests)) (λ x q k. search (rules, tests)))
+    (first_from_find _ _ _ (λ d. ¬ HasUnit d) HasUnit c.find.ensures.ran
+    (YieldsList-from_chars c.args.text.now c.utf8.text cc) (λ x q k. search (rules, tests))
+    (λ x q k. search (rules, tests)))

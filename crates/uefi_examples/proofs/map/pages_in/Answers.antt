@@ -22,7 +22,8 @@ pub returns-clause-map : goal.returns-clause-map
 returns-clause-map c = c.in-Ok.ensures.accepted.0
 
 pub loop-entry-init : goal.loop-entry-init
-loop-entry-init c = simp (c.into_iter-entry-iterator.ensures.into_iter_gives, c.entries-entry-items.ensures.entries, c.in-Ok.ensures.buffer, c.in-Ok.ensures.meta) (omega arith)
+loop-entry-init c = simp
+    (c.into_iter-entry-iterator.ensures.into_iter_gives, c.entries-entry-items.ensures.entries, c.in-Ok.ensures.buffer, c.in-Ok.ensures.meta) (omega arith)
 
 pub returns-in_err-pages-clause-map : goal.returns-in_err-pages-clause-map
 returns-in_err-pages-clause-map c = λ some. c.in-Ok.ensures.accepted.0 refl

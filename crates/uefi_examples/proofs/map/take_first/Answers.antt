@@ -6,7 +6,8 @@ use Rattle.uefi_map.specs.memory.Views.{mut_bytes, mut_meta}
 use Rattle.uefi_examples.proofs.map.take_first.Goals as goal
 
 -- The first of some descriptors is descriptor 0, if there is one.
-first_entry : (bytes : List ℕ) (stride count : ℕ) → slice_get (descriptors_from bytes stride 0 count) 0 ≡ (if nat_lt 0 count then Some (descriptor bytes stride 0) else None)
+first_entry : (bytes : List ℕ) (stride count : ℕ) → slice_get (descriptors_from bytes stride 0 count) 0 ≡
+    (if nat_lt 0 count then Some (descriptor bytes stride 0) else None)
 first_entry bytes stride zero = refl
 first_entry bytes stride (suc count) = search rules
 

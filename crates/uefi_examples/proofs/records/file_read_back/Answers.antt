@@ -18,7 +18,8 @@ record ReadsAs (fields : FileFields) (name : List ℕ) (written : ℕ) (buffer :
 
 -- So is one that the record was written to.
 written_reads : FileInfoReadsBack → (fields : FileFields) (name old new : List ℕ) (end : ℕ) → FitFile fields → FitName name → length old < 2 ^ 64
-    → end ≡ record_end file_name_offset (length name) → file_info_size (length name) ≤ length old → length new ≡ length old → new ≡ put_prefix (file_info_bytes fields name) old
+    → end ≡ record_end file_name_offset (length name) → file_info_size (length name) ≤ length old
+    → length new ≡ length old → new ≡ put_prefix (file_info_bytes fields name) old
     → ReadsAs fields name end new
 written_reads law fields name old new end fit fit_name short covers room same written =
     let rest : List ℕ = drop (length (file_info_bytes fields name)) old in
@@ -26,18 +27,23 @@ written_reads law fields name old new end fit fit_name short covers room same wr
     subst (ReadsAs fields name end) (sym written) (record { verdict = seen.0; size = seen.1; same_fields = seen.2 })
 
 -- The buffer that was written to reads as what was passed.
-back : (c : goal.After-ok) → ReadsAs (file_fields_given c.args.file_size c.args.physical_size c.args.create_time c.args.last_access_time c.args.modification_time c.args.attribute)
+back : (c : goal.After-ok)
+    → ReadsAs (file_fields_given c.args.file_size c.args.physical_size c.args.create_time c.args.last_access_time c.args.modification_time c.args.attribute)
     (text_units c.args.file_name.now) c.in-Ok.end c.write_file_info-written.new.buffer
 back c =
     let wrote = c.in-Ok.ensures in
-    written_reads c.reads_back.ensures.file_info _ _ _ _ _ wrote.fields_fit wrote.name_fits (omega arith) wrote.end (wrote.fits.0 refl) c.write_file_info-written.auto.buffer wrote.written
+    written_reads c.reads_back.ensures.file_info _ _ _ _ _ wrote.fields_fit wrote.name_fits (omega arith) wrote.end
+    (wrote.fits.0 refl) c.write_file_info-written.auto.buffer wrote.written
 
 pub returns-clause-fields : goal.returns-clause-fields
 returns-clause-fields c =
-    IfSome_of_ok _ c.from_uefi.result c.ok.result c.ok.ensures.value (IfOk-weaker c.from_uefi.result _ _ (λ info same. same ∙ (back c).same_fields) c.from_uefi.ensures.fields)
+    IfSome_of_ok _ c.from_uefi.result c.ok.result c.ok.ensures.value
+    (IfOk-weaker c.from_uefi.result _ _ (λ info same. same ∙ (back c).same_fields) c.from_uefi.ensures.fields)
 
 pub returns-clause-name : goal.returns-clause-name
-returns-clause-name c = IfSome_of_ok _ c.from_uefi.result c.ok.result c.ok.ensures.value (is_named _ _ _ c.from_uefi.result c.from_uefi.ensures.verdict (back c).verdict)
+returns-clause-name c = IfSome_of_ok _ c.from_uefi.result c.ok.result c.ok.ensures.value
+    (is_named _ _ _ c.from_uefi.result c.from_uefi.ensures.verdict (back c).verdict)
 
 pub returns-clause-size : goal.returns-clause-size
-returns-clause-size c = IfSome_of_ok _ c.from_uefi.result c.ok.result c.ok.ensures.value (IfOk-weaker c.from_uefi.result _ _ (λ info same. same ∙ (back c).size) c.from_uefi.ensures.size)
+returns-clause-size c = IfSome_of_ok _ c.from_uefi.result c.ok.result c.ok.ensures.value
+    (IfOk-weaker c.from_uefi.result _ _ (λ info same. same ∙ (back c).size) c.from_uefi.ensures.size)

@@ -9,4 +9,6 @@ stands_alone : TimesReadBack → (time : TimeFields) (bytes : List ℕ) → Stan
 stands_alone law time bytes stands = sym (ap time_in stands.1.1 ∙ law.written time stands.1.0 stands.0)
 
 pub returns-clause-fields : goal.returns-clause-fields
-returns-clause-fields c = IfOk-weaker c.try_from.result _ _ (λ time found. found.2 ∙ ap without_pads (stands_alone c.times_read_back.ensures found.0 c.args.bytes.now found.1)) c.try_from.ensures.ok
+returns-clause-fields c =
+    IfOk-weaker c.try_from.result _ _ (λ time found. found.2
+    ∙ ap without_pads (stands_alone c.times_read_back.ensures found.0 c.args.bytes.now found.1)) c.try_from.ensures.ok

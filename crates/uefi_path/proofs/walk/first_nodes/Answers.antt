@@ -11,7 +11,9 @@ first_node-requires c = HasNodes-node (Stops c.args.stop) c.loop-stop.rest.now c
 pub returns-then-stops_at-clause-nodes : goal.returns-then-stops_at-clause-nodes
 returns-then-stops_at-clause-nodes c =
     rw c.split_at.ensures.front
-    (passed_end (Stops c.args.stop) c.args.bytes.now c.loop-stop.rest.now c.first_node.result.1.now (node_of c.first_node.result.0) c.loop-stop.invariant.passed c.first_node.ensures.fits (c.stops_at.ensures.0 c.if-stops_at.true) c.first_node.ensures.split)
+    (passed_end (Stops c.args.stop) c.args.bytes.now c.loop-stop.rest.now c.first_node.result.1.now
+    (node_of c.first_node.result.0) c.loop-stop.invariant.passed c.first_node.ensures.fits
+    (c.stops_at.ensures.0 c.if-stops_at.true) c.first_node.ensures.split)
 
 pub loop-stop-preserved : goal.loop-stop-preserved
 loop-stop-preserved c =

@@ -13,10 +13,13 @@ returns-in_err-node-clause-none c =
 pub returns-then-stops_at-clause-nodes : goal.returns-then-stops_at-clause-nodes
 returns-then-stops_at-clause-nodes c =
     rw c.split_at.ensures.front
-    (passed_end (Stops c.args.stop) c.args.bytes.now c.loop-node.rest.now c.in_ok-node.after.now (node_of c.in_ok-node.node) c.loop-node.invariant c.in_ok-node.ensures.fits (c.stops_at.ensures.0 c.if-stops_at.true) c.in_ok-node.ensures.split)
+    (passed_end (Stops c.args.stop) c.args.bytes.now c.loop-node.rest.now c.in_ok-node.after.now
+    (node_of c.in_ok-node.node) c.loop-node.invariant c.in_ok-node.ensures.fits
+    (c.stops_at.ensures.0 c.if-stops_at.true) c.in_ok-node.ensures.split)
 
 pub loop-node-preserved : goal.loop-node-preserved
 loop-node-preserved c =
-    passed_more (Stops c.args.stop) c.args.bytes.now c.loop-node.rest.now c.in_ok-node.after.now (node_of c.in_ok-node.node) c.loop-node.invariant c.in_ok-node.ensures.fits
+    passed_more (Stops c.args.stop) c.args.bytes.now c.loop-node.rest.now c.in_ok-node.after.now
+    (node_of c.in_ok-node.node) c.loop-node.invariant c.in_ok-node.ensures.fits
     (λ so. let stopped : false ≡ true = c.if-stops_at.ensures.1 so in cc)
     c.in_ok-node.ensures.split

@@ -1,4 +1,5 @@
--- Stretches of units that are not zero, and pages of them that are read side by side: words of the search alone, which no public contract cites.
+-- Stretches of units that are not zero, and pages of them that are read side by side: words of the search alone,
+-- which no public contract cites.
 use Rattle.std.specs.Prelude.{ℕ, ◌≢◌, ◌+◌, ◌*◌, ◌<◌, List, slice_index}
 
 -- The units of a page of memory, and how many pages are read side by side.
@@ -14,4 +15,5 @@ AreNonzero start count units = (k : ℕ) → k < count → slice_index units (st
 
 -- In each of the first pages, no unit of the stretch that starts at the index is zero.
 abbrev pub AreNonzeroInEach : ℕ → ℕ → ℕ → List ℕ → Type 0
-AreNonzeroInEach count start length units = (page : ℕ) → page < count → AreNonzero (page_units * page + start) length units
+AreNonzeroInEach count start length units =
+    (page : ℕ) → page < count → AreNonzero (page_units * page + start) length units

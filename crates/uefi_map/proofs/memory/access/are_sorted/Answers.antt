@@ -17,5 +17,6 @@ returns-then-start-last c =
     let start = ap (λ d. d.phys_start) c.read_at-start.ensures in
     let below : (descriptor c.args.bytes.now meta.desc_size c.loop-i.i).phys_start < c.loop-i.last = omega (arith, start, c.if-start-last.true) in
     let within : c.loop-i.i < count_of meta = omega (arith, c.loop-i-test.true, c.entry_count-i-end.ensures) in
-    let no_order = falls (λ i. (descriptor c.args.bytes.now meta.desc_size i).phys_start) (count_of meta) c.loop-i.i c.loop-i.last within below c.loop-i.invariant.before_first c.loop-i.invariant.before in
+    let no_order = falls (λ i. (descriptor c.args.bytes.now meta.desc_size i).phys_start)
+    (count_of meta) c.loop-i.i c.loop-i.last within below c.loop-i.invariant.before_first c.loop-i.invariant.before in
     ((λ so. let no : false ≡ true = so in cc), λ sorted. absurd (no_order sorted))

@@ -22,7 +22,8 @@ new-requires c =
 pub returns-clause-steps : goal.returns-clause-steps
 returns-clause-steps c =
     let iter = c.args.self.now in
-    next_instance iter.rest.now c.first_nodes.result.0.now c.first_nodes.result.1.now (instance_nodes c.new_unchecked.result) iter.instances.0 c.new.result.instances.0 iter.instances.1 c.new_unchecked.ensures c.first_nodes.ensures.split c.new.ensures.instances
+    next_instance iter.rest.now c.first_nodes.result.0.now c.first_nodes.result.1.now
+    (instance_nodes c.new_unchecked.result) iter.instances.0 c.new.result.instances.0 iter.instances.1 c.new_unchecked.ensures c.first_nodes.ensures.split c.new.ensures.instances
 
 pub returns-clause-goes : goal.returns-clause-goes
 returns-clause-goes c =

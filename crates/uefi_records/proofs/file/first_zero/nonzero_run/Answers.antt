@@ -11,7 +11,9 @@ pub returns-then-zeros-eq0 : goal.returns-then-zeros-eq0
 returns-then-zeros-eq0 c =
     let bytes : List ℕ = chunk c.args.offset 32 c.args.bytes.now in
     let lanes : List ℕ = digits_l 65536 16 (number_l 256 bytes) in
-    let are_units : lanes ≡ units_of bytes = lanes_are_units 16 bytes (length-chunk c.args.offset 32 c.args.bytes.now c.requires) (below_from_Fits w8 bytes (chunk-fits w8 c.args.offset 32 c.args.bytes.now c.type_inv.bytes)) in
+    let are_units : lanes ≡ units_of bytes =
+    lanes_are_units 16 bytes (length-chunk c.args.offset 32 c.args.bytes.now c.requires)
+    (below_from_Fits w8 bytes (chunk-fits w8 c.args.offset 32 c.args.bytes.now c.type_inv.bytes)) in
     let mask = bitmask_splat w16 eqb lanes 16 0 refl (omega arith) in
     sym (leading_from_mask_l (λ x. eqb x 0) lanes (sym mask ∙ c.if-zeros-eq0.true)) ∙ ap (prefix_len (λ x. not (eqb x 0))) are_units
 
@@ -19,6 +21,8 @@ pub returns-else-zeros-eq0 : goal.returns-else-zeros-eq0
 returns-else-zeros-eq0 c =
     let bytes : List ℕ = chunk c.args.offset 32 c.args.bytes.now in
     let lanes : List ℕ = digits_l 65536 16 (number_l 256 bytes) in
-    let are_units : lanes ≡ units_of bytes = lanes_are_units 16 bytes (length-chunk c.args.offset 32 c.args.bytes.now c.requires) (below_from_Fits w8 bytes (chunk-fits w8 c.args.offset 32 c.args.bytes.now c.type_inv.bytes)) in
+    let are_units : lanes ≡ units_of bytes =
+    lanes_are_units 16 bytes (length-chunk c.args.offset 32 c.args.bytes.now c.requires)
+    (below_from_Fits w8 bytes (chunk-fits w8 c.args.offset 32 c.args.bytes.now c.type_inv.bytes)) in
     let mask = bitmask_splat w16 eqb lanes 16 0 refl (omega arith) in
     ap (count_trailing_zeros 64) mask ∙ trailing_mask_l (λ x. eqb x 0) 64 lanes (omega arith) (omega arith) ∙ ap (prefix_len (λ x. not (eqb x 0))) are_units

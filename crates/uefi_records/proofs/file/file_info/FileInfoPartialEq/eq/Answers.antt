@@ -7,7 +7,8 @@ use Rattle.uefi_records.proofs.file.file_info.FileInfoPartialEq.eq.Goals as goal
 
 pub returns-then-eq : goal.returns-then-eq
 returns-then-eq c =
-    equal_if c.args.self.now c.args.other.now true c.eq-then-eq.result (sym c.if-eq.true ∙ c.eq.ensures ∙ (λ i. pointwise nat_eq (c.header.ensures i) (c.header-2.ensures i)))
+    equal_if c.args.self.now c.args.other.now true c.eq-then-eq.result (sym c.if-eq.true ∙ c.eq.ensures
+    ∙ (λ i. pointwise nat_eq (c.header.ensures i) (c.header-2.ensures i)))
     (c.eq-then-eq.ensures ∙ (λ i. pointwise nat_eq (c.file_name.ensures.units i) (c.file_name-then-eq.ensures.units i)))
 
 pub returns-else-eq : goal.returns-else-eq

@@ -1,0 +1,6 @@
+//! The records of files and volumes.
+
+mod names;
+mod reading;
+mod searching;
+mod writing;

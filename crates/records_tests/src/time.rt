@@ -1,0 +1,4 @@
+//! Times.
+
+pub(crate) mod making;
+mod reading;
