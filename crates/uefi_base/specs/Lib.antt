@@ -8,6 +8,7 @@ pub mod Buffer
 pub mod GuidText
 pub mod StatusCode
 pub mod Views
+pub mod Texts
 pub mod Laws
 pub mod rows
 pub mod private

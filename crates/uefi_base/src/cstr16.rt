@@ -1,6 +1,7 @@
-ghost use Rattle.std.specs.Prelude.{◌≡◌, ◌↔◌, length, encode_utf8_all, string_bytes, IsOk, IfOk};
+ghost use Rattle.std.specs.Prelude.{◌≡◌, ◌↔◌, length, encode_utf8_all, string_bytes, IsOk, IfOk, Some};
+ghost use Rattle.std.specs.Fmt.{DisplaysOnOk};
 ghost use Rattle.std.specs.Result.{IsErrOf};
-ghost use Rattle.uefi_base.specs.Ucs2.{IsUcs2Text, characters_of};
+ghost use Rattle.uefi_base.specs.Ucs2.{AreCharactersBefore, IsUcs2Text, characters_of};
 ghost use Rattle.uefi_base.specs.Faults.{HasFault};
 ghost use Rattle.uefi_base.specs.private.Search.{IsFirstNonCharacter};
 ghost use Rattle.uefi_base.specs.declared.text_error.FromSliceWithNulError.{FromSliceWithNulError};
@@ -8,6 +9,7 @@ ghost use Rattle.uefi_base.specs.declared.text_error.FromSliceWithNulError.{From
 use crate::text_error::FromSliceWithNulError;
 use crate::ucs2::{fault_of, is_character};
 use std::alloc::{AllocError, Allocator};
+use std::fmt;
 
 /// UCS-2 text that ends with a NUL (UEFI 2.10, 2.3.1, `CHAR16`): at most 2^31 units of 16 bits, of
 /// which none is a surrogate and only the last is zero.
@@ -102,6 +104,29 @@ impl<'a> CStr16<'a> {
         }
         Ok(text)
     }
+}
+
+/// Writes the characters, without the NUL.
+impl fmt::Display for CStr16<'_> {
+    ghost use Rattle.std.specs.Prelude.{Some};
+    ghost use Rattle.uefi_base.specs.Views.{text_units};
+
+    ghost output = { λ text. Some (encode_utf8_all (characters_of (text_units text))) };
+
+    fn fmt<W: fmt::Write>(&self, f: &mut fmt::Formatter<W>) -> fmt::Result {
+        write_characters(f, &self.units[..self.num_chars()])
+    }
+}
+
+// Writes units that are characters.
+fn write_characters<W: fmt::Write>(f: &mut fmt::Formatter<W>, units: &[u16]) -> fmt::Result
+    requires { AreCharactersBefore units.now (length units.now) }
+    ensures { DisplaysOnOk W.write_str_gives f.old result (Some (encode_utf8_all units.now)) f.new }
+{
+    for unit in units {
+        f.write_char(char::from_u32(u32::from(*unit)).unwrap())?;
+    }
+    Ok(())
 }
 
 // Returns the first unit that isn't a character, with its index.

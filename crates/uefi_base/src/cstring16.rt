@@ -9,6 +9,7 @@ use crate::cstr16::CStr16;
 use crate::text_error::FromStrError;
 use crate::ucs2::{MAX_UNIT_CHARACTER, MAX_UNITS};
 use std::alloc::{AllocError, Allocator, Global};
+use std::fmt;
 
 /// UCS-2 text that owns its units: the owned form of [`CStr16`].
 #[derive(Drop)]
@@ -64,6 +65,20 @@ impl<A: Allocator> CString16<A> {
         ensures { text_units result ≡ owned_units self.now }
     {
         CStr16::from_u16_with_nul_unchecked(self.units.as_slice())
+    }
+}
+
+/// Writes the characters, without the NUL.
+impl<A: Allocator> fmt::Display for CString16<A> {
+    ghost use Rattle.std.specs.Prelude.{encode_utf8_all, Some};
+    ghost use Rattle.uefi_base.specs.Ucs2.{characters_of};
+    ghost use Rattle.uefi_base.specs.Views.{owned_units};
+
+    ghost output = { λ text. Some (encode_utf8_all (characters_of (owned_units text))) };
+
+    fn fmt<W: fmt::Write>(&self, f: &mut fmt::Formatter<W>) -> fmt::Result {
+        let text = self.as_cstr16();
+        write!(f, "{text}")
     }
 }
 

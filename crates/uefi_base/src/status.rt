@@ -2,6 +2,8 @@ ghost use Rattle.std.specs.Prelude.{◌≡◌};
 ghost use Rattle.uefi_base.specs.StatusCode.{status_code};
 ghost use Rattle.uefi_base.specs.Views.{error_status, error_data};
 
+use std::{error, fmt};
+
 /// The status of a failed call (UEFI 2.10, Appendix D), for each error that this project returns.
 #[derive(Clone, Copy, PartialEq, Eq, Debug)]
 pub enum Status {
@@ -30,6 +32,23 @@ impl Status {
             Status::OUT_OF_RESOURCES => 9,
         };
         ERROR_BIT + number
+    }
+}
+
+/// Writes the name that the status has in the standard, such as `BUFFER_TOO_SMALL`.
+impl fmt::Display for Status {
+    ghost use Rattle.std.specs.Prelude.{Some};
+    ghost use Rattle.uefi_base.specs.Texts.{status_name};
+
+    ghost output = { λ status. Some (status_name status) };
+
+    fn fmt<W: fmt::Write>(&self, f: &mut fmt::Formatter<W>) -> fmt::Result {
+        match self {
+            Status::INVALID_PARAMETER => write!(f, "INVALID_PARAMETER"),
+            Status::BAD_BUFFER_SIZE => write!(f, "BAD_BUFFER_SIZE"),
+            Status::BUFFER_TOO_SMALL => write!(f, "BUFFER_TOO_SMALL"),
+            Status::OUT_OF_RESOURCES => write!(f, "OUT_OF_RESOURCES"),
+        }
     }
 }
 
@@ -65,3 +84,18 @@ impl<D> Error<D> {
         &self.data
     }
 }
+
+/// Writes `UEFI error` and the name of the status, whatever the data is.
+impl<D> fmt::Display for Error<D> {
+    ghost use Rattle.std.specs.Prelude.{Some};
+    ghost use Rattle.uefi_base.specs.Texts.{error_text};
+
+    ghost output = { λ error. Some (error_text error) };
+
+    fn fmt<W: fmt::Write>(&self, f: &mut fmt::Formatter<W>) -> fmt::Result {
+        let status = self.status;
+        write!(f, "UEFI error {status}")
+    }
+}
+
+impl<D: fmt::Debug + Drop> error::Error for Error<D> {}

@@ -1,6 +1,9 @@
-ghost use Rattle.std.specs.Prelude.{◌≡◌};
+ghost use Rattle.std.specs.Prelude.{◌≡◌, Some, MatchOption};
+ghost use Rattle.uefi_base.specs.Faults.{unaligned_error};
 
 use std::alloc::AllocError;
+use std::error::Error;
+use std::fmt;
 
 /// The error for units that aren't UCS-2 text.
 ///
@@ -19,6 +22,28 @@ pub enum FromSliceWithNulError {
     NotNulTerminated,
 }
 
+/// Writes what the units lack, or what offends and at which index.
+impl fmt::Display for FromSliceWithNulError {
+    ghost use Rattle.uefi_base.specs.Texts.{slice_error_text};
+
+    ghost output = { λ error. Some (slice_error_text error) };
+
+    fn fmt<W: fmt::Write>(&self, f: &mut fmt::Formatter<W>) -> fmt::Result {
+        match self {
+            FromSliceWithNulError::TooLong => write!(f, "more than 2^31 units"),
+            FromSliceWithNulError::InvalidChar(index) => {
+                write!(f, "a surrogate at index {index}")
+            }
+            FromSliceWithNulError::InteriorNul(index) => {
+                write!(f, "a NUL at index {index}, before the end")
+            }
+            FromSliceWithNulError::NotNulTerminated => write!(f, "no NUL at the end"),
+        }
+    }
+}
+
+impl Error for FromSliceWithNulError {}
+
 /// The error for characters that can't be made into UCS-2 text.
 ///
 /// `TooLong` takes precedence over the others. Otherwise the first character that has no unit of
@@ -34,6 +59,24 @@ pub enum FromStrError {
     /// An allocation failed.
     Memory,
 }
+
+/// Writes what offends.
+impl fmt::Display for FromStrError {
+    ghost use Rattle.uefi_base.specs.Texts.{str_error_text};
+
+    ghost output = { λ error. Some (str_error_text error) };
+
+    fn fmt<W: fmt::Write>(&self, f: &mut fmt::Formatter<W>) -> fmt::Result {
+        match self {
+            FromStrError::TooLong => write!(f, "more than 2^31 - 1 characters"),
+            FromStrError::InvalidChar => write!(f, "a character above U+FFFF"),
+            FromStrError::InteriorNul => write!(f, "the character U+0000"),
+            FromStrError::Memory => write!(f, "out of memory"),
+        }
+    }
+}
+
+impl Error for FromStrError {}
 
 /// A failed allocation is [`FromStrError::Memory`].
 impl From<AllocError> for FromStrError {
@@ -63,10 +106,40 @@ pub enum UnalignedCStr16Error {
     Memory,
 }
 
+impl UnalignedCStr16Error {
+    // Returns the error of the units, or `None` if an allocation failed.
+    fn of_units(self) -> Option<FromSliceWithNulError>
+        ensures { MatchOption result (self ≡ UnalignedCStr16Error.Memory)
+            (λ fault. self ≡ unaligned_error fault) }
+    {
+        match self {
+            UnalignedCStr16Error::TooLong => Some(FromSliceWithNulError::TooLong),
+            UnalignedCStr16Error::InvalidChar(i) => Some(FromSliceWithNulError::InvalidChar(i)),
+            UnalignedCStr16Error::InteriorNul(i) => Some(FromSliceWithNulError::InteriorNul(i)),
+            UnalignedCStr16Error::NotNulTerminated => Some(FromSliceWithNulError::NotNulTerminated),
+            UnalignedCStr16Error::Memory => None,
+        }
+    }
+}
+
+/// Writes what [`FromSliceWithNulError`] writes, or `out of memory`.
+impl fmt::Display for UnalignedCStr16Error {
+    ghost use Rattle.uefi_base.specs.Texts.{unaligned_error_text};
+
+    ghost output = { λ error. Some (unaligned_error_text error) };
+
+    fn fmt<W: fmt::Write>(&self, f: &mut fmt::Formatter<W>) -> fmt::Result {
+        match self.of_units() {
+            Some(fault) => write!(f, "{fault}"),
+            None => write!(f, "out of memory"),
+        }
+    }
+}
+
+impl Error for UnalignedCStr16Error {}
+
 /// Converts each error to the variant with the same name.
 impl From<FromSliceWithNulError> for UnalignedCStr16Error {
-    ghost use Rattle.uefi_base.specs.Faults.{unaligned_error};
-
     ghost from_gives = { λ fault error. error ≡ unaligned_error fault };
 
     fn from(fault: FromSliceWithNulError) -> UnalignedCStr16Error {

@@ -1,6 +1,8 @@
--- The text that Display writes for nodes and paths.
+-- The text that Display writes for nodes, paths and errors.
 use Rattle.std.specs.Prelude.{ℕ, List, ◌++◌, length, codes}
 use Rattle.std.specs.Fmt.{decimal}
+use Rattle.uefi_path.specs.declared.error.ByteConversionError.{ByteConversionError}
+use Rattle.uefi_path.specs.declared.error.ByteConversionError.TheVariants.{InvalidLength}
 use Rattle.uefi_path.specs.declared.node.DevicePathNode.{DevicePathNode}
 use Rattle.uefi_path.specs.declared.path.DevicePath.{DevicePath}
 use Rattle.uefi_path.specs.Views.{node_of, path_bytes}
@@ -12,3 +14,6 @@ node_text view = codes "<device path node: " ++ decimal (length (node_of view).p
 -- The length of the whole path.
 abbrev pub path_text : DevicePath → List ℕ
 path_text path = codes "<device path: " ++ decimal (length (path_bytes path)) ++ codes " bytes>"
+
+abbrev pub error_text : ByteConversionError → List ℕ
+error_text InvalidLength = codes "invalid length"

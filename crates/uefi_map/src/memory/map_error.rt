@@ -1,3 +1,4 @@
+use std::error::Error;
 use std::fmt;
 
 /// The error of bytes that are no memory map.
@@ -24,3 +25,5 @@ impl fmt::Display for MemoryMapError {
         }
     }
 }
+
+impl Error for MemoryMapError {}

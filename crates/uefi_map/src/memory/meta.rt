@@ -37,6 +37,23 @@ pub struct MemoryMapMeta {
 }
 
 impl MemoryMapMeta {
+    ghost use Rattle.uefi_map.specs.memory.Views.{key_number};
+
+    /// Returns the sizes of a map of which neither the key nor the version is known: both are 0.
+    pub fn of(map_size: usize, desc_size: usize) -> MemoryMapMeta
+        ensures map_size { result.map_size ≡ map_size }
+        ensures desc_size { result.desc_size ≡ desc_size }
+        ensures key { key_number result.map_key ≡ 0 }
+        ensures version { result.desc_version ≡ 0 }
+    {
+        MemoryMapMeta {
+            map_size,
+            desc_size,
+            map_key: MemoryMapKey::from_raw(0),
+            desc_version: 0,
+        }
+    }
+
     /// Returns the count of descriptors, for a stride that isn't 0 and divides the map's length.
     pub fn entry_count(&self) -> usize
         requires stride { self.now.desc_size ≢ 0 }

@@ -1,6 +1,8 @@
-ghost use Rattle.std.specs.Prelude.{◌≡◌};
+ghost use Rattle.std.specs.Prelude.{◌≡◌, Some};
 
 use std::alloc::AllocError;
+use std::error::Error;
+use std::fmt;
 
 /// The error of bytes that begin with no list of resources.
 ///
@@ -16,6 +18,24 @@ pub enum ResourceError {
     /// An allocation failed. The bytes begin with a list.
     Memory,
 }
+
+/// Writes what is missing, or the byte that is no tag as a decimal number.
+impl fmt::Display for ResourceError {
+    ghost use Rattle.uefi_map.specs.pci.Texts.{resource_error_text};
+
+    ghost output = { λ error. Some (resource_error_text error) };
+
+    fn fmt<W: fmt::Write>(&self, f: &mut fmt::Formatter<W>) -> fmt::Result {
+        match self {
+            ResourceError::NoEndTag => write!(f, "no end tag"),
+            ResourceError::CutRecord => write!(f, "a record is cut off"),
+            ResourceError::UnknownTag(tag) => write!(f, "unknown tag {tag}"),
+            ResourceError::Memory => write!(f, "out of memory"),
+        }
+    }
+}
+
+impl Error for ResourceError {}
 
 /// An allocation that fails is [`ResourceError::Memory`].
 impl From<AllocError> for ResourceError {

@@ -1,5 +1,6 @@
 ghost use Rattle.std.specs.Prelude.{Some};
 
+use std::error::Error;
 use std::fmt;
 
 /// The error of a record that was not written.
@@ -23,3 +24,5 @@ impl fmt::Display for FileInfoCreationError {
         )
     }
 }
+
+impl Error for FileInfoCreationError {}

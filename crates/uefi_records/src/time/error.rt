@@ -1,5 +1,6 @@
 ghost use Rattle.std.specs.Prelude.{Some};
 
+use std::error::Error;
 use std::fmt;
 
 /// Which fields of a time are at fault: outside their ranges or, for daylight, with bits that have
@@ -62,6 +63,8 @@ impl fmt::Display for TimeError {
     }
 }
 
+impl Error for TimeError {}
+
 // A line of text, present if its field is at fault.
 #[derive(Clone, Copy)]
 struct FaultLine<'a>(bool, &'a str);
@@ -99,3 +102,5 @@ impl fmt::Display for TimeByteConversionError {
         }
     }
 }
+
+impl Error for TimeByteConversionError {}
