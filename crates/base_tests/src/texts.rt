@@ -105,3 +105,39 @@ fn the_first_character_without_a_unit_decides(rt: HostRuntime) -> Result<(), Fai
     }
     Ok(())
 }
+
+#[test]
+fn errors_say_what_offends(rt: HostRuntime) -> Result<(), Fail> {
+    for (error, expected) in [
+        (FromSliceWithNulError::TooLong, "more than 2^31 units"),
+        (
+            FromSliceWithNulError::InvalidChar(3),
+            "a surrogate at index 3",
+        ),
+        (
+            FromSliceWithNulError::InteriorNul(0),
+            "a NUL at index 0, before the end",
+        ),
+        (FromSliceWithNulError::NotNulTerminated, "no NUL at the end"),
+    ] {
+        same_text(expected, error.to_string(rt.alloc())?.as_str(), expected)?;
+        let unaligned = UnalignedCStr16Error::from(error);
+        same_text(
+            expected,
+            unaligned.to_string(rt.alloc())?.as_str(),
+            expected,
+        )?;
+    }
+    let characters = FromStrError::InvalidChar.to_string(rt.alloc())?;
+    same_text("U+10000", characters.as_str(), "a character above U+FFFF")
+}
+
+#[test]
+fn texts_display_their_characters(rt: HostRuntime) -> Result<(), Fail> {
+    let text = CString16::from_str(rt.alloc(), "a\u{e000}")?;
+    let shown = format!(in rt.alloc(); "<{text}>")?;
+    same_text("owned", shown.as_str(), "<a\u{e000}>")?;
+    let view = text.as_cstr16();
+    let shown = format!(in rt.alloc(); "<{view}>")?;
+    same_text("a view", shown.as_str(), "<a\u{e000}>")
+}

@@ -47,6 +47,14 @@ fn statuses_have_their_codes() -> Result<(), Fail> {
 }
 
 #[test]
+fn statuses_and_errors_display_their_names(rt: HostRuntime) -> Result<(), Fail> {
+    let status = Status::BAD_BUFFER_SIZE.to_string(rt.alloc())?;
+    same_text("a status", status.as_str(), "BAD_BUFFER_SIZE")?;
+    let error = Error::new(Status::BUFFER_TOO_SMALL, Some(88usize)).to_string(rt.alloc())?;
+    same_text("an error", error.as_str(), "UEFI error BUFFER_TOO_SMALL")
+}
+
+#[test]
 fn an_error_gives_back_its_status_and_data() -> Result<(), Fail> {
     let error = Error::new(Status::BUFFER_TOO_SMALL, Some(88usize));
     same("status", &error.status(), &Status::BUFFER_TOO_SMALL)?;

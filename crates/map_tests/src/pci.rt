@@ -3,7 +3,9 @@
 use std::alloc::{Allocator, Global};
 use std::test::Fail;
 use test_support::samples::ROOT_BRIDGE;
-use test_support::{bytes, each_gives, each_reads, holds, in_turn, same, without_request};
+use test_support::{
+    bytes, each_gives, each_reads, holds, in_turn, same, same_text, without_request,
+};
 use uefi_map::{
     QwordAddressSpaceDescriptor, ResourceError, ResourceList, ResourceRangeType, parse,
 };
@@ -239,4 +241,17 @@ fn an_error_of_the_bytes_asks_for_no_memory(rt: HostRuntime) -> Result<(), Fail>
         input.as_slice(),
         ResourceError::UnknownTag(0x78),
     )
+}
+
+#[test]
+fn errors_are_displayed(rt: HostRuntime) -> Result<(), Fail> {
+    for (error, expected) in [
+        (ResourceError::NoEndTag, "no end tag"),
+        (ResourceError::CutRecord, "a record is cut off"),
+        (ResourceError::UnknownTag(18), "unknown tag 18"),
+        (ResourceError::Memory, "out of memory"),
+    ] {
+        same_text(expected, error.to_string(rt.alloc())?.as_str(), expected)?;
+    }
+    Ok(())
 }

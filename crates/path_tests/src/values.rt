@@ -1,7 +1,7 @@
 use std::alloc::Global;
 use std::test::Fail;
 use test_support::samples::TWO_INSTANCES;
-use test_support::{each_gives, each_makes, each_reads, each_shows, holds};
+use test_support::{each_gives, each_makes, each_reads, each_shows, holds, same_text};
 use uefi_path::{
     ByteConversionError, DevicePath, DevicePathHeader, DevicePathNode, DeviceSubType, DeviceType,
     LoadedImageDevicePath, laws,
@@ -163,4 +163,10 @@ fn a_loaded_image_gives_its_path_back() -> Result<(), Fail> {
 fn the_laws_take_nothing_to_run() {
     laws::one_front();
     laws::worked_rows();
+}
+
+#[test]
+fn the_error_is_displayed(rt: HostRuntime) -> Result<(), Fail> {
+    let text = ByteConversionError::InvalidLength.to_string(rt.alloc())?;
+    same_text("its text", text.as_str(), "invalid length")
 }

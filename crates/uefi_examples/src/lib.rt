@@ -9,6 +9,7 @@
 pub mod base;
 pub mod configuration;
 pub mod contracts;
+pub mod errors;
 pub mod flags;
 pub mod full_map;
 pub mod map;

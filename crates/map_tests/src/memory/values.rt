@@ -2,7 +2,10 @@ use super::meta_of;
 use std::test::Fail;
 use test_support::{each_gives, same, same_text};
 use uefi_base::Align;
-use uefi_map::{MemoryAttribute, MemoryDescriptor, MemoryMapError, MemoryMapKey, MemoryType, laws};
+use uefi_map::{
+    MemoryAttribute, MemoryDescriptor, MemoryMapError, MemoryMapKey, MemoryMapMeta, MemoryType,
+    laws,
+};
 
 // Returns the bits of a set that is made of named bits alone, and of one that keeps all.
 fn made(bits: &u64) -> (Option<u64>, u64) {
@@ -214,4 +217,12 @@ fn the_laws_take_nothing_to_run() {
     laws::stride_free();
     laws::one_list();
     laws::worked_rows();
+}
+
+#[test]
+fn sizes_without_key_and_version_have_zeros() -> Result<(), Fail> {
+    let meta = MemoryMapMeta::of(480, 48);
+    same("sizes", &(meta.map_size, meta.desc_size), &(480, 48))?;
+    let none = (MemoryMapKey::default(), 0);
+    same("key, version", &(meta.map_key, meta.desc_version), &none)
 }
