@@ -269,3 +269,43 @@ fn an_iterator_over_digests_stays_ended(rt: HostRuntime) -> Result<(), Fail> {
     }
     holds("the events", events.next().is_none())
 }
+
+/// The parts of a log, its last entry, an algorithm, and the first digest of that algorithm in the
+/// log's first event.
+const FIRST_DIGESTS: [(&[&str], usize, AlgorithmId, Option<&str>); 5] = [
+    (
+        &[SHA1_TWICE, TWO_DIGESTS],
+        69,
+        AlgorithmId::SHA1,
+        Some("1111111111111111111111111111111111111111"),
+    ),
+    (&[SHA1_TWICE, TWO_DIGESTS], 69, AlgorithmId::SHA256, None),
+    (
+        &[FOUR_HEADER, FOUR_EVENTS],
+        77,
+        AlgorithmId::SHA256,
+        Some("96a296d224f285c67bee93c30f8a309157f0daa35dc5b87e410b78630a09cfc7"),
+    ),
+    (&[FOUR_HEADER, FOUR_EVENTS], 77, AlgorithmId::SM3_256, None),
+    (&[LONG_EVENT, ZERO_EVENT], 81, AlgorithmId::SHA1, None),
+];
+
+/// The first digest of an algorithm in a log's first event.
+fn first_digest(input: &[u8], last_entry: usize, algorithm: AlgorithmId) -> Option<&[u8]> {
+    let log = EventLog::new(Some(input), Some(last_entry), false);
+    let event = log.iter().next()?;
+    event.digest(algorithm)
+}
+
+#[test]
+fn an_event_has_the_first_digest_of_an_algorithm(rt: HostRuntime) -> Result<(), Fail> {
+    for (parts, last_entry, algorithm, digest) in FIRST_DIGESTS {
+        let row = joined(rt.alloc(), parts)?;
+        let input = bytes(rt.alloc(), row.as_str())?;
+        let expected = bytes(rt.alloc(), digest.unwrap_or(""))?;
+        let expected = digest.map(|_| expected.as_slice());
+        let found = first_digest(input.as_slice(), last_entry, algorithm);
+        holds(row.as_str(), found == expected)?;
+    }
+    Ok(())
+}
