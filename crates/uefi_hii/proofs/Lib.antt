@@ -7,6 +7,7 @@ pub mod PairLanes
 pub mod Numbers
 pub mod Names
 pub mod Pieces
+pub mod NextKept
 pub mod PathIn
 pub mod Machine
 pub mod Leading

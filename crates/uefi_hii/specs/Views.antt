@@ -1,5 +1,5 @@
 -- What the types of this crate stand for.
-use Rattle.std.specs.Prelude.{ℕ, List, Option, Result, Ok, Err, option_map, map, string_bytes}
+use Rattle.std.specs.Prelude.{ℕ, List, [], ◌∷◌, Option, Some, None, Result, Ok, Err, option_map, map, string_bytes}
 use Rattle.std.specs.Borrow.{Bor}
 use Rattle.uefi_path.specs.Views.{boxed_nodes}
 use Rattle.uefi_hii.specs.declared.configuration.ConfigurationString.{ConfigurationString}
@@ -9,6 +9,7 @@ use Rattle.uefi_hii.specs.declared.error.ParseError.{ParseError}
 use Rattle.uefi_hii.specs.declared.hex.HexBytes.{HexBytes}
 use Rattle.uefi_hii.specs.declared.multi.MultiConfigurationStringIter.{MultiConfigurationStringIter}
 use Rattle.uefi_hii.specs.declared.pairs.ConfigurationStringIter.{ConfigurationStringIter}
+use Rattle.uefi_hii.specs.declared.peeked.PeekedPairs.{PeekedPairs}
 use Rattle.uefi_hii.specs.Hex.{hex}
 use Rattle.uefi_hii.specs.Pairs.{Pair, pairs}
 use Rattle.uefi_hii.specs.Configuration.{Configuration, Element}
@@ -25,9 +26,17 @@ pair_view parts = record { key = parts.0.now; value = option_map (λ value. valu
 abbrev pub pairs_left : ConfigurationStringIter → List Pair
 pairs_left iter = pairs iter.rest.now
 
+-- The pairs that are still to come, where the next is cut already, if there is one.
+abbrev pub pairs_from : Option (Bor (List ℕ) × Option (Bor (List ℕ))) → List Pair → List Pair
+pairs_from None after = []
+pairs_from (Some next) after = pair_view next ∷ after
+
+abbrev pub peeked_pairs : PeekedPairs → List Pair
+peeked_pairs peeked = pairs_from peeked.next (pairs_left peeked.after)
+
 -- The pairs that no group has yet. There are none after an allocation failed.
 abbrev pub uncut_pairs : {A : Type 0} → MultiConfigurationStringIter A → List Pair
-uncut_pairs iter = pairs_left iter.pairs
+uncut_pairs iter = peeked_pairs iter.pairs
 
 -- A pair, as texts of its own.
 abbrev pub nv_pair_of : {A : Type 0} → NvPair A → Pair

@@ -2,9 +2,8 @@ ghost use Rattle.std.specs.Prelude.{List};
 ghost use Rattle.uefi_hii.specs.Cut.{Part, Cut};
 
 use crate::error::{ConfigHdrSection, ParseError};
-use crate::pairs::ConfigurationStringIter;
+use crate::peeked::PeekedPairs;
 use crate::reading::read_group;
-use crate::taking::has_no_pair;
 use std::alloc::{Allocator, Global};
 use uefi_base::Guid;
 use uefi_path::BoxedDevicePath;
@@ -117,8 +116,8 @@ impl<A: Allocator + Copy> ConfigurationString<A> {
         ensures cut { (parts : List Part) × Cut text.now parts × IsFirstResult parts result }
         ensures only { (parts : List Part) → Cut text.now parts → IsFirstResult parts result }
     {
-        let mut pairs = ConfigurationStringIter::new(text);
-        if has_no_pair(&pairs) {
+        let mut pairs = PeekedPairs::new(text);
+        if pairs.is_empty() {
             return Err(ParseError::ConfigHdr(ConfigHdrSection::Guid));
         }
         read_group(alloc, &mut pairs)

@@ -30,6 +30,7 @@ pub mod keys;
 pub mod laws;
 mod multi;
 mod pairs;
+mod peeked;
 mod reading;
 mod taking;
 mod values;

@@ -9,9 +9,8 @@ ghost use Rattle.uefi_hii.specs.Views.{result_of};
 
 use crate::configuration::ConfigurationString;
 use crate::error::ParseError;
-use crate::pairs::ConfigurationStringIter;
+use crate::peeked::PeekedPairs;
 use crate::reading::read_group;
-use crate::taking::has_no_pair;
 use std::alloc::{AllocError, Allocator, Global};
 
 /// The configurations of a text, and its errors, in order: an item for each group of pairs.
@@ -62,7 +61,7 @@ use std::alloc::{AllocError, Allocator, Global};
 #[derive(Drop)]
 pub struct MultiConfigurationStringIter<'a, A: Allocator = Global> {
     alloc: A,
-    pairs: ConfigurationStringIter<'a>,
+    pairs: PeekedPairs<'a>,
 }
 
 impl<'a, A: Allocator> MultiConfigurationStringIter<'a, A> {
@@ -75,7 +74,7 @@ impl<'a, A: Allocator> MultiConfigurationStringIter<'a, A> {
     {
         MultiConfigurationStringIter {
             alloc,
-            pairs: ConfigurationStringIter::new(text),
+            pairs: PeekedPairs::new(text),
         }
     }
 }
@@ -92,12 +91,12 @@ impl<'a, A: Allocator + Copy> Iterator for MultiConfigurationStringIter<'a, A> {
     ghost remaining = { item_count uncut_pairs };
 
     fn next(&mut self) -> Option<Result<ConfigurationString<A>, ParseError>> {
-        if has_no_pair(&self.pairs) {
+        if self.pairs.is_empty() {
             return None;
         }
         let result = read_group(self.alloc, &mut self.pairs);
         if is_memory(&result) {
-            self.pairs = ConfigurationStringIter::new("");
+            self.pairs = PeekedPairs::new("");
         }
         Some(result)
     }

@@ -4,16 +4,15 @@ ghost use Rattle.std.specs.Prelude.{◌≡◌, ◌≢◌, [], IfOk, reverse};
 ghost use Rattle.uefi_hii.specs.Hex.{hex};
 ghost use Rattle.uefi_hii.specs.Reading.{TakesGroup};
 ghost use Rattle.uefi_hii.specs.Taking.{TakesHeader, TakesElement};
-ghost use Rattle.uefi_hii.specs.Views.{pairs_left};
+ghost use Rattle.uefi_hii.specs.Views.{peeked_pairs};
 
 use crate::configuration::{ConfigurationString, ConfigurationStringElement};
 use crate::error::{ConfigHdrSection, ParseError};
 use crate::filling::hex_bytes;
 use crate::keys;
-use crate::pairs::ConfigurationStringIter;
+use crate::peeked::PeekedPairs;
 use crate::taking::{
-    has_no_pair, is_at, take_alt_cfg_id, take_guid, take_name, take_number, take_nvconfig,
-    take_path, take_value,
+    take_alt_cfg_id, take_guid, take_name, take_number, take_nvconfig, take_path, take_value,
 };
 use std::alloc::{AllocError, Allocator};
 
@@ -32,13 +31,13 @@ impl From<AllocError> for ParseError {
 /// pairs after the group.
 pub(crate) fn read_group<A: Allocator + Copy>(
     alloc: A,
-    pairs: &mut ConfigurationStringIter<'_>,
+    pairs: &mut PeekedPairs<'_>,
 ) -> Result<ConfigurationString<A>, ParseError>
-    requires { pairs_left pairs.old ≢ [] }
-    ensures { TakesGroup (pairs_left pairs.old) result (pairs_left pairs.new) }
+    requires { peeked_pairs pairs.old ≢ [] }
+    ensures { TakesGroup (peeked_pairs pairs.old) result (peeked_pairs pairs.new) }
 {
     let mut configuration = read_header(alloc, pairs)?;
-    if has_no_pair(pairs) {
+    if pairs.is_empty() {
         return Ok(configuration);
     }
     loop {
@@ -46,7 +45,7 @@ pub(crate) fn read_group<A: Allocator + Copy>(
         if configuration.elements.push(element).is_err() {
             return Err(ParseError::Memory);
         }
-        if !is_at(pairs, keys::OFFSET) {
+        if !pairs.is_at(keys::OFFSET) {
             return Ok(configuration);
         }
     }
@@ -55,10 +54,10 @@ pub(crate) fn read_group<A: Allocator + Copy>(
 /// The header that the pairs begin with, as a configuration without elements yet.
 fn read_header<A: Allocator + Copy>(
     alloc: A,
-    pairs: &mut ConfigurationStringIter<'_>,
+    pairs: &mut PeekedPairs<'_>,
 ) -> Result<ConfigurationString<A>, ParseError>
-    requires { pairs_left pairs.old ≢ [] }
-    ensures { TakesHeader (pairs_left pairs.old) result (pairs_left pairs.new) }
+    requires { peeked_pairs pairs.old ≢ [] }
+    ensures { TakesHeader (peeked_pairs pairs.old) result (peeked_pairs pairs.new) }
 {
     let Some(guid) = take_guid(pairs) else {
         return Err(ParseError::ConfigHdr(ConfigHdrSection::Guid));
@@ -82,9 +81,9 @@ fn read_header<A: Allocator + Copy>(
 /// The element that the pairs begin with, with the pairs that it skips.
 fn read_element<A: Allocator + Copy>(
     alloc: A,
-    pairs: &mut ConfigurationStringIter<'_>,
+    pairs: &mut PeekedPairs<'_>,
 ) -> Result<ConfigurationStringElement<A>, ParseError>
-    ensures { TakesElement (pairs_left pairs.old) result (pairs_left pairs.new) }
+    ensures { TakesElement (peeked_pairs pairs.old) result (peeked_pairs pairs.new) }
 {
     let Some(offset) = take_number(pairs, keys::OFFSET) else {
         return Err(ParseError::BlockName);
