@@ -2,7 +2,7 @@ use std::alloc::Allocator;
 use std::test::Fail;
 use test_support::samples::TWO_INSTANCES;
 use test_support::{bytes, holds, in_turn, same, same_bytes};
-use uefi_path::{DevicePath, DevicePathInstance};
+use uefi_path::{BoxedDevicePath, ByteConversionError, DevicePath, DevicePathInstance};
 
 // Returns whether the path in a box is the path, and its length; or `None` if memory ran out.
 fn box_path<A: Allocator>(alloc: A, path: &DevicePath<'_>) -> Option<(bool, usize)> {
@@ -23,6 +23,18 @@ fn a_box_has_the_path_or_memory_was_refused(rt: HostRuntime) -> Result<(), Fail>
     holds("a box takes memory", requests > 0)?;
     same_bytes("the path stays", path.as_bytes(), input.as_slice())?;
     same("its nodes stay", &path.node_iter().count(), &5)
+}
+
+#[test]
+fn a_box_keeps_the_path_that_bytes_begin_with(rt: HostRuntime) -> Result<(), Fail> {
+    let alone = bytes(rt.alloc(), TWO_INSTANCES)?;
+    let mut input = bytes(rt.alloc(), TWO_INSTANCES)?;
+    input.extend_from_slice(&[0x7f, 0xff, 4, 0])?;
+    let boxed = BoxedDevicePath::try_from(input)?;
+    same_bytes("the path", boxed.as_path().as_bytes(), alone.as_slice())?;
+    let cut = bytes(rt.alloc(), "7fff0500")?;
+    let refused = BoxedDevicePath::try_from(cut).err();
+    same("no path", &refused, &Some(ByteConversionError::InvalidLength))
 }
 
 // Returns whether the instance in a box is the instance, and its length; or `None` if memory ran

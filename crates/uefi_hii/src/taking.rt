@@ -12,7 +12,7 @@ use crate::keys;
 use crate::peeked::PeekedPairs;
 use std::alloc::{AllocError, Allocator};
 use uefi_base::Guid;
-use uefi_path::{BoxedDevicePath, DevicePath};
+use uefi_path::BoxedDevicePath;
 
 /// An identifier is below it: the low 16 bits of a number are kept.
 const ALT_CFG_ID_LIMIT: u64 = 1 << 16;
@@ -69,8 +69,8 @@ pub(crate) fn take_path<A: Allocator + Copy>(
         return Ok(None);
     };
     let bytes = hex_bytes(alloc, value)?;
-    match DevicePath::try_from(bytes.as_slice()) {
-        Ok(path) => Ok(Some(path.to_boxed(alloc)?)),
+    match BoxedDevicePath::try_from(bytes) {
+        Ok(path) => Ok(Some(path)),
         Err(_) => Ok(None),
     }
 }

@@ -3,8 +3,10 @@ ghost use Rattle.uefi_path.specs.Node.{IsEnd, IsEndEntire};
 ghost use Rattle.uefi_path.specs.private.Encoding.{IsEncodingOfNodes, EncodesPath, EncodesInstance};
 ghost use Rattle.uefi_path.specs.private.OnePath.{EncodesPath-prop, EncodesInstance-prop};
 
+use crate::error::ByteConversionError;
 use crate::instance::DevicePathInstance;
 use crate::path::DevicePath;
+use crate::walk::{StopCondition, split_nodes};
 use std::alloc::{Allocator, Global};
 
 /// A device path that owns its bytes: the owned form of [`DevicePath`], made by
@@ -40,6 +42,31 @@ impl<A: Allocator> BoxedDevicePath<A> {
         ensures { path_nodes result ≡ boxed_nodes self.now }
     {
         DevicePath::new_unchecked(self.bytes.as_slice())
+    }
+}
+
+/// Keeps the path that the bytes start with, where they stand, and drops the bytes after it. This
+/// takes no memory.
+///
+/// # Errors
+///
+/// [`ByteConversionError::InvalidLength`] if no prefix of the bytes is a path: exactly where
+/// `DevicePath::try_from` fails.
+impl<A: Allocator> TryFrom<Vec<u8, A>> for BoxedDevicePath<A> {
+    ghost use Rattle.uefi_path.specs.Views.{boxed_nodes};
+    ghost use Rattle.uefi_path.specs.Reading.{ReadsPath};
+
+    type Error = ByteConversionError;
+
+    ghost try_from_gives = { λ bytes read. ReadsPath boxed_nodes bytes.items read };
+
+    #[tactic(auto, using(crate::specs::private::OnePath::one_path))]
+    fn try_from(bytes: Vec<u8, A>) -> Result<BoxedDevicePath<A>, ByteConversionError> {
+        let mut bytes = bytes;
+        let (path, _) = split_nodes(bytes.as_slice(), StopCondition::EndEntireNode)?;
+        let length = path.len();
+        bytes.truncate(length);
+        Ok(BoxedDevicePath::new_unchecked(bytes))
     }
 }
 
