@@ -6,6 +6,7 @@ pub mod DigitLanes
 pub mod PairLanes
 pub mod Numbers
 pub mod Names
+pub mod FirstByte
 pub mod Pieces
 pub mod NextKept
 pub mod PathIn

@@ -7,6 +7,7 @@ pub mod Group
 pub mod Cut
 pub mod Views
 pub mod Filling
+pub mod Finding
 pub mod Reading
 pub mod Taking
 pub mod Laws

@@ -25,6 +25,7 @@ mod configuration;
 mod digit;
 mod error;
 mod filling;
+mod finding;
 mod hex;
 pub mod keys;
 pub mod laws;

@@ -1,8 +1,17 @@
-ghost use Rattle.std.specs.Prelude.{◌≡◌, ◌≢◌, ◌^◌, ◌<◌, ◌≤◌, [], ◌∷◌, length};
-ghost use Rattle.uefi_hii.specs.Pairs.{pair_of, pairs};
+ghost use Rattle.std.specs.Prelude.{◌≡◌, ◌≢◌, ◌^◌, ◌<◌, ◌≤◌, [], ◌∷◌, length, take};
+ghost use Rattle.std.specs.List.{after_first, position_or_len};
+ghost use Rattle.std.specs.Str.{IsCharBoundary};
+ghost use Rattle.uefi_hii.specs.Pairs.{is_ampersand, pair_of, pairs};
 ghost use Rattle.uefi_hii.specs.Views.{pair_view};
 
+use crate::finding::index_before;
 use std::iter::FusedIterator;
+
+/// The end of a pair, but of the last.
+const AMPERSAND: u8 = b'&';
+
+/// The end of a key that has a value.
+const EQUALS_SIGN: u8 = b'=';
 
 /// The pairs of keys and values of a text, in order (UEFI 2.10, 35.2.1 "String Syntax").
 ///
@@ -47,31 +56,42 @@ impl<'a> Iterator for ConfigurationStringIter<'a> {
         if self.rest.is_empty() {
             return None;
         }
-        let (piece, rest) = split_piece(self.rest);
+        let (pair, rest) = split_pair(self.rest);
         self.rest = rest;
-        Some(split_pair(piece))
+        Some(pair)
     }
 }
 
 impl<'a> FusedIterator for ConfigurationStringIter<'a> {}
 
-/// The first piece of a text, and the text after its `&`.
-fn split_piece(text: &str) -> (&str, &str)
+/// Returns the first pair of a text, and the text after it.
+fn split_pair(text: &str) -> ((&str, Option<&str>), &str)
     requires { text.now ≢ [] }
-    ensures { pairs text.now ≡ pair_of result.0.now ∷ pairs result.1.now }
+    ensures { pairs text.now ≡ pair_view result.0 ∷ pairs result.1.now }
 {
-    match text.split_once('&') {
-        Some(parts) => parts,
-        None => (text, ""),
-    }
+    let end = index_before(text.as_bytes(), AMPERSAND, text.len());
+    (pair_before(text, end), after_piece(text, end))
 }
 
-/// The key of a piece, and its value if it has one.
-fn split_pair(piece: &str) -> (&str, Option<&str>)
-    ensures { pair_view result ≡ pair_of piece.now }
+/// Returns the pair that the piece up to `end` is.
+fn pair_before(text: &str, end: usize) -> (&str, Option<&str>)
+    requires { IsCharBoundary text.now end }
+    ensures { pair_view result ≡ pair_of (take end text.now) }
 {
-    match piece.split_once('=') {
-        Some((key, value)) => (key, Some(value)),
-        None => (piece, None),
+    let key_end = index_before(text.as_bytes(), EQUALS_SIGN, end);
+    if key_end == end {
+        return (&text[..end], None);
     }
+    (&text[..key_end], Some(&text[key_end + 1..end]))
+}
+
+/// Returns the text after the ampersand at `end`, or an empty text if there is none.
+fn after_piece(text: &str, end: usize) -> &str
+    requires { end ≡ position_or_len is_ampersand text.now }
+    ensures { result.now ≡ after_first is_ampersand text.now }
+{
+    if end == text.len() {
+        return "";
+    }
+    &text[end + 1..]
 }

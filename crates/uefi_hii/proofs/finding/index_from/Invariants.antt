@@ -1,0 +1,5 @@
+use Rattle.uefi_hii.specs.Finding.{IsNotBefore}
+use Rattle.uefi_hii.proofs.finding.index_from.Given as goal
+
+abbrev pub invariant-loop-index : goal.invariant-loop-index
+invariant-loop-index l = IsNotBefore l.byte l.index l.bytes
