@@ -1,13 +1,12 @@
 -- The first piece of a text, and how many pairs a text has.
-use Rattle.std.proofs.Common.{◌≡◌, ◌≢◌, ℕ, ◌+◌, ◌-◌, ◌<◌, ◌≤◌, Bool, true, false, cond, not, List, [], ◌∷◌, length, map, take, drop, refl, sym, ◌∙◌, ap, arith, lit≤, inl, inr, ◌⊎◌}
+use Rattle.std.proofs.Common.{◌≡◌, ◌≢◌, ℕ, ◌+◌, ◌-◌, ◌<◌, ◌≤◌, Bool, true, false, cond, not, List, [], ◌∷◌, length, map, take, drop, refl, sym, ◌∙◌, ap, arith, lit≤}
 use Rattle.std.specs.Prelude.{Option, Some, None, if◌then◌else◌}
 use Rattle.std.specs.List.{slice_split, slice_range, onto_first, before_first, after_first, position_or_len}
-use Rattle.std.proofs.Math.Seq.{take-length}
-use Rattle.std.proofs.lemmas.Bool.{cases_lt, lt-ltb}
-use Rattle.std.proofs.lemmas.List.{drop-take, drop_all, length-map, length-take-le, take-append-drop, take-append-le}
-use Rattle.std.proofs.lemmas.List.Sums.{prefix_len-le-length}
+use Rattle.std.proofs.lemmas.Bool.{lt-ltb}
+use Rattle.std.proofs.lemmas.List.{drop-take, length-map, length-take-le, take-append-drop, take-append-le}
 use Rattle.std.proofs.lemmas.List.Splits.{slice_split_first, length-slice_split}
-use Rattle.uefi_hii.specs.Pairs.{Pair, has_equals_sign, is_ampersand, is_equals_sign, pair_of, pairs, pieces, without_empty_last}
+use Rattle.uefi_hii.specs.Finding.{FindsFirst}
+use Rattle.uefi_hii.specs.Pairs.{Pair, ampersand, equals_sign, has_equals_sign, is_ampersand, is_equals_sign, pair_of, pairs, pieces, without_empty_last}
 
 -- A list without a separator is one part.
 split_none : (p : ℕ → Bool) (xs : List ℕ) → position_or_len p xs ≡ length xs → slice_split p xs ≡ xs ∷ []
@@ -39,40 +38,37 @@ pub pairs_alone : (text : List ℕ) → text ≢ [] → position_or_len is_amper
 pairs_alone [] some e = absurd (some refl)
 pairs_alone (c ∷ text) some e = ap (λ ps. map pair_of (without_empty_last ps)) (split_none is_ampersand (c ∷ text) e)
 
--- The first pair of a text is that of the bytes up to its first ampersand, or to the end.
-pub pairs_split : (text : List ℕ) (end : ℕ) → text ≢ [] → end ≡ position_or_len is_ampersand text
-    → pairs text ≡ pair_of (take end text) ∷ pairs (after_first is_ampersand text)
-pairs_split text end some is = by_order (cases_lt (position_or_len is_ampersand text) (length text))
-  where
-    by_order : (position_or_len is_ampersand text < length text) ⊎ (length text ≤ position_or_len is_ampersand text)
-        → pairs text ≡ pair_of (take end text) ∷ pairs (after_first is_ampersand text)
-    by_order (inl within) = pairs_first text (take end text) (after_first is_ampersand text) within (ap (λ n. take n text) is) refl
-    by_order (inr beyond) =
-        let last : position_or_len is_ampersand text ≡ length text = omega (arith, beyond, prefix_len-le-length (λ c. not (is_ampersand c)) text) in
-        let whole : take end text ≡ text = ap (λ n. take n text) (is ∙ last) ∙ take-length text in
-        let none : after_first is_ampersand text ≡ [] = drop_all (position_or_len is_ampersand text + 1) text (omega (arith, last)) in
-        pairs_alone text some last ∙ ap (λ piece. pair_of piece ∷ []) (sym whole) ∙ ap (λ rest. pair_of (take end text) ∷ pairs rest) (sym none)
+-- The first pair of a text, by the index of its first ampersand.
+pub pairs_at : (text rest : List ℕ) (end : ℕ) → FindsFirst ampersand text (Some end) → rest ≡ drop (end + 1) text
+    → pairs text ≡ pair_of (take end text) ∷ pairs rest
+pairs_at text rest end found is =
+    pairs_first text (take end text) rest (omega (arith, found.0, found.1)) (ap (λ n. take n text) found.0)
+    (is ∙ ap (λ n. drop (n + 1) text) found.0)
 
 -- A pair, by its key and its value.
 abbrev by_parts : List ℕ → Option (List ℕ) → Pair
 by_parts key value = record { key = key; value = value }
 
 -- A piece with an equals sign is the pair of what stands before it and after it.
-pub pair_with_value : (text key value : List ℕ) (at end : ℕ) → end ≤ length text → at ≡ position_or_len is_equals_sign (take end text) → at < end
-    → key ≡ slice_range text 0 at → value ≡ slice_range text (at + 1) end → by_parts key (Some value) ≡ pair_of (take end text)
-pair_with_value text key value at end within is before key_is value_is =
+pub pair_with_value : (text key value : List ℕ) (at end : ℕ) → end ≤ length text
+    → FindsFirst equals_sign (take end text) (Some at) → key ≡ slice_range text 0 at → value ≡ slice_range text (at + 1) end
+    → by_parts key (Some value) ≡ pair_of (take end text)
+pair_with_value text key value at end within (is, inside) key_is value_is =
     let piece : List ℕ = take end text in
     let long : length piece ≡ end = length-take-le end text within in
-    let has : has_equals_sign piece ≡ true = lt-ltb (position_or_len is_equals_sign piece) (length piece) (omega (arith, is, long)) in
-    let before_it : take at piece ≡ take at text = sym (take-append-le at piece (drop end text) (omega (arith, long))) ∙ ap (take at) (take-append-drop end text) in
-    let same_end : at + 1 + (end - (at + 1)) ≡ end = omega arith in
+    let has : has_equals_sign piece ≡ true =
+    lt-ltb (position_or_len is_equals_sign piece) (length piece) (omega (arith, is, inside)) in
+    let before_it : take at piece ≡ take at text =
+    sym (take-append-le at piece (drop end text) (omega (arith, inside))) ∙ ap (take at) (take-append-drop end text) in
+    let same_end : at + 1 + (end - (at + 1)) ≡ end = omega (arith, inside, long) in
     let after_it : drop (at + 1) piece ≡ slice_range text (at + 1) end =
     ap (λ n. drop (at + 1) (take n text)) (sym same_end) ∙ drop-take (at + 1) (end - (at + 1)) text in
     let its_key : key ≡ before_first is_equals_sign piece =
     key_is ∙ ap (λ n. take n text) (omega arith) ∙ sym before_it ∙ ap (λ n. take n piece) is in
     let its_value : value ≡ after_first is_equals_sign piece = value_is ∙ sym after_it ∙ ap (λ n. drop (n + 1) piece) is in
     ap (λ k. by_parts k (Some value)) its_key ∙ ap (λ v. by_parts (before_first is_equals_sign piece) (Some v)) its_value
-    ∙ ap (λ t. by_parts (before_first is_equals_sign piece) (if t then Some (after_first is_equals_sign piece) else None)) (sym has)
+    ∙ ap (λ t. by_parts (before_first is_equals_sign piece) (if t then Some (after_first is_equals_sign piece) else None))
+    (sym has)
 
 -- A text has at most as many pairs as characters.
 few_pieces : (text : List ℕ) → length (without_empty_last (pieces text)) ≤ length text

@@ -1,7 +1,6 @@
 ghost use Rattle.std.specs.Prelude.{◌≡◌, ◌≢◌, ◌^◌, ◌<◌, ◌≤◌, [], ◌∷◌, length, take};
-ghost use Rattle.std.specs.List.{after_first, position_or_len};
 ghost use Rattle.std.specs.Str.{IsCharBoundary};
-ghost use Rattle.uefi_hii.specs.Pairs.{is_ampersand, pair_of, pairs};
+ghost use Rattle.uefi_hii.specs.Pairs.{pair_of, pairs};
 ghost use Rattle.uefi_hii.specs.Views.{pair_view};
 
 use crate::finding::index_before;
@@ -52,6 +51,7 @@ impl<'a> Iterator for ConfigurationStringIter<'a> {
 
     ghost remaining = { item_count pairs_left };
 
+    #[inline(always)]
     fn next(&mut self) -> Option<(&'a str, Option<&'a str>)> {
         if self.rest.is_empty() {
             return None;
@@ -65,33 +65,25 @@ impl<'a> Iterator for ConfigurationStringIter<'a> {
 impl<'a> FusedIterator for ConfigurationStringIter<'a> {}
 
 /// Returns the first pair of a text, and the text after it.
+#[inline(always)]
 fn split_pair(text: &str) -> ((&str, Option<&str>), &str)
     requires { text.now ≢ [] }
     ensures { pairs text.now ≡ pair_view result.0 ∷ pairs result.1.now }
 {
-    let end = index_before(text.as_bytes(), AMPERSAND, text.len());
-    (pair_before(text, end), after_piece(text, end))
+    match index_before(text.as_bytes(), AMPERSAND, text.len()) {
+        Some(end) => (pair_before(text, end), &text[end + 1..]),
+        None => (pair_before(text, text.len()), ""),
+    }
 }
 
 /// Returns the pair that the piece up to `end` is.
+#[inline(always)]
 fn pair_before(text: &str, end: usize) -> (&str, Option<&str>)
     requires { IsCharBoundary text.now end }
     ensures { pair_view result ≡ pair_of (take end text.now) }
 {
-    let key_end = index_before(text.as_bytes(), EQUALS_SIGN, end);
-    if key_end == end {
-        return (&text[..end], None);
+    match index_before(text.as_bytes(), EQUALS_SIGN, end) {
+        Some(key_end) => (&text[..key_end], Some(&text[key_end + 1..end])),
+        None => (&text[..end], None),
     }
-    (&text[..key_end], Some(&text[key_end + 1..end]))
-}
-
-/// Returns the text after the ampersand at `end`, or an empty text if there is none.
-fn after_piece(text: &str, end: usize) -> &str
-    requires { end ≡ position_or_len is_ampersand text.now }
-    ensures { result.now ≡ after_first is_ampersand text.now }
-{
-    if end == text.len() {
-        return "";
-    }
-    &text[end + 1..]
 }
