@@ -6,8 +6,10 @@ use Rattle.uefi_hii.specs.declared.error.ParseError.{ParseError}
 use Rattle.uefi_path.specs.Node.{Node}
 use Rattle.uefi_hii.specs.Pairs.{Pair}
 use Rattle.uefi_hii.specs.Configuration.{Configuration, Element, Spells, guid_in, name_in, number_in}
-use Rattle.uefi_hii.specs.Slots.{AltSlot, AreGood, Expects, GuidSlot, IsBodyThen, IsGood, IsHeader, IsHeaderWithAlt, NameSlot, OffsetSlot, PathSlot, Slot, ValueSlot, WidthSlot, error_of}
-use Rattle.uefi_hii.specs.Group.{EndsBefore, FailsAt, Gives}
+use Rattle.uefi_hii.specs.Slots.{AltSlot, AreGood, Expects, GuidSlot, IsBodyThen, IsGood, IsHeader, NameSlot, OffsetSlot, PathSlot, Slot, ValueSlot, WidthSlot, error_of}
+use Rattle.uefi_hii.specs.private.Parts.{IsHeaderWithAlt}
+use Rattle.uefi_hii.specs.Group.{FailsAt, Gives}
+use Rattle.uefi_hii.specs.private.Parts.{EndsBefore}
 use Rattle.uefi_hii.specs.Cut.{first_pair}
 use Rattle.uefi_hii.proofs.Leading.{expect-some, is_key, is_not_key, leads_body, step-alt, step-offset, step-stop}
 use Rattle.uefi_hii.proofs.Machine.{AfterGuid, AfterName, AfterOffset, AfterWidth, Fail, InBody, Leads, Start, State, element, expect, header_of, in_body, leads_on, leads_one, outcome, result_at_end, run, run-end, run-fail, run-leads, run-stop, step, with_alt, with_element}

@@ -7,7 +7,7 @@ use Rattle.std.proofs.lemmas.List.{length-map}
 use Rattle.std.specs.List.{list_all}
 use lib.Lanes.{Each1, zip2, mask_l, top, sel_l}
 use Rattle.uefi_hii.specs.Hex.{byte_of_one}
-use Rattle.uefi_hii.specs.Filling.{is_hex_digit}
+use Rattle.uefi_hii.specs.private.Filling.{is_hex_digit}
 
 -- operations on vectors of numbers that were computed lane by lane from v
 pub splatted : (h : ℕ → ℕ → ℕ) (v : List ℕ) (n y : ℕ) → length v ≡ n → zip2 h v (replicate n y) ≡ map (λ x. h x y) v

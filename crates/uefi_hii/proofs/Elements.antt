@@ -10,13 +10,14 @@ use Rattle.uefi_hii.specs.declared.error.ParseError.{ParseError}
 use Rattle.uefi_hii.specs.declared.error.ParseError.TheVariants.{BlockConfig, BlockName, ConfigHdr, Memory}
 use Rattle.uefi_hii.specs.Hex.{hex}
 use Rattle.uefi_hii.specs.Pairs.{Pair}
-use Rattle.uefi_hii.specs.Configuration.{Configuration, IsSkipped, Spells, number_in, value_at}
+use Rattle.uefi_hii.specs.Configuration.{Configuration, Spells, number_in, value_at}
+use Rattle.uefi_hii.specs.private.Parts.{IsSkipped}
 use Rattle.uefi_hii.specs.Slots.{Expects, IsKey, OffsetSlot, ValueSlot, WidthSlot}
-use Rattle.uefi_hii.specs.Group.{EndsBefore}
+use Rattle.uefi_hii.specs.private.Parts.{EndsBefore}
 use Rattle.uefi_hii.specs.Cut.{first_pair}
 use Rattle.uefi_hii.specs.Views.{configuration_of, element_of, nv_pair_of}
 use Rattle.uefi_hii.specs.Reading.{TakesGroup}
-use Rattle.uefi_hii.specs.Taking.{MissesElement, Skips, StopsAt, Takes, TakesElement, TakesError, TakesHeader}
+use Rattle.uefi_hii.specs.private.Taking.{MissesElement, Skips, StopsAt, Takes, TakesElement, TakesError, TakesHeader}
 use Rattle.uefi_hii.proofs.Failing.{fails_after}
 use Rattle.uefi_hii.proofs.Leading.{is_other, push_some}
 use Rattle.uefi_hii.proofs.Shapes.{header_good, header_with_alt_good, spells_element, spells_good, spells_header, spells_some}

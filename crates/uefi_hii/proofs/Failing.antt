@@ -5,7 +5,7 @@ use Rattle.std.specs.Prelude.{Some, None}
 use Rattle.uefi_hii.specs.Pairs.{Pair}
 use Rattle.uefi_hii.specs.Slots.{Expects, IsGood, Slot, error_of}
 use Rattle.uefi_hii.specs.Cut.{first_pair}
-use Rattle.uefi_hii.specs.Taking.{Misses, TakesError}
+use Rattle.uefi_hii.specs.private.Taking.{Misses, TakesError}
 use Rattle.uefi_hii.proofs.Leading.{push_some}
 
 no_first : (after : List Pair) → after ≡ [] → first_pair after ≡ None

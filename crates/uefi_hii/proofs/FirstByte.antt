@@ -9,7 +9,7 @@ use Rattle.std.proofs.lemmas.List.Sums.{fails_before_first, passes_at_first, pos
 use Rattle.std.proofs.lemmas.Simd.{get_or-chunk, length-chunk}
 use Rattle.std.proofs.lemmas.Str.{IsCharBoundary-after_ascii, IsCharBoundary-before_ascii}
 use lib.Lanes.{chunk, mask_l}
-use Rattle.uefi_hii.specs.Finding.{FindsFirst, IsNotBefore}
+use Rattle.uefi_hii.specs.private.Finding.{FindsFirst, IsNotBefore}
 
 -- The index before which the byte doesn't stand, and at which it does or the bytes end, is the first.
 first_index : (byte end index : ℕ) (bytes : List ℕ) → end ≤ length bytes → index ≤ end

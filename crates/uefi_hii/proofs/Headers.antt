@@ -11,7 +11,7 @@ use Rattle.uefi_hii.specs.Pairs.{Pair}
 use Rattle.uefi_hii.specs.Configuration.{HasPath, guid_in, name_in}
 use Rattle.uefi_hii.specs.Slots.{AltSlot, GuidSlot, IsGood, IsHeader, IsKey, NameSlot, PathSlot, error_of}
 use Rattle.uefi_hii.specs.Cut.{first_pair}
-use Rattle.uefi_hii.specs.Taking.{Misses, Takes, TakesAlt, TakesError, TakesHeader, TakesPath}
+use Rattle.uefi_hii.specs.private.Taking.{Misses, Takes, TakesAlt, TakesError, TakesHeader, TakesPath}
 use Rattle.uefi_hii.proofs.Failing.{fails_after}
 use Rattle.uefi_hii.proofs.Shapes.{some_is}
 

@@ -2,7 +2,8 @@
 use Rattle.std.proofs.Common.{◌≡◌, ℕ, zero, suc, ◌<◌, Bool, true, false, List, [], ◌∷◌, get_or, subst, arith, lit<}
 use Rattle.std.specs.Prelude.{Option, Some, None, unwrap_or, ◌==◌, if◌then◌else◌}
 use Rattle.std.proofs.lemmas.Bool.Decides.{nat_tests}
-use Rattle.uefi_hii.specs.Hex.{byte_of_one, byte_of_two, hex, hex_digit, plus_sign, two_digits}
+use Rattle.uefi_hii.specs.Hex.{byte_of_one, byte_of_two, hex, hex_digit, two_digits}
+use Rattle.uefi_hii.specs.private.Parts.{plus_sign}
 
 -- A digit is below 16.
 pub hex_digit_small : (c : ℕ) → unwrap_or (hex_digit c) 0 < 16

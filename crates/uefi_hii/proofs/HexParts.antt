@@ -5,7 +5,7 @@ use Rattle.std.proofs.lemmas.Simd.{chunk-drop, length-chunk}
 use Rattle.std.proofs.lemmas.List.{drop_all}
 use Rattle.std.proofs.Math.Seq.{drop-cons}
 use Rattle.uefi_hii.specs.Hex.{byte_of_one, byte_of_two, hex}
-use Rattle.uefi_hii.specs.Filling.{IsFilledTo}
+use Rattle.uefi_hii.specs.private.Filling.{IsFilledTo}
 use Rattle.uefi_hii.proofs.HexEnds.{length-hex}
 
 hex-append : (n : ℕ) (v w : List ℕ) → length v ≡ 2 * n → hex (v ++ w) ≡ hex v ++ hex w

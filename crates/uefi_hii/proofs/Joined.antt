@@ -6,10 +6,12 @@ use Rattle.std.proofs.lemmas.List.Concat.{flat_map-append}
 use Rattle.std.specs.Prelude.{Option, Some, None, Result, Ok, Err, IsOkAnd, codes}
 use Rattle.std.specs.List.{slice_split, onto_first}
 use Rattle.uefi_hii.specs.declared.error.ParseError.{ParseError}
-use Rattle.uefi_hii.specs.Pairs.{Pair, ampersand, is_ampersand, pair_of, pairs, pieces, without_empty_last}
+use Rattle.uefi_hii.specs.Pairs.{Pair, ampersand, pair_of, pairs, without_empty_last}
+use Rattle.uefi_hii.specs.private.Parts.{is_ampersand, pieces}
 use Rattle.uefi_hii.specs.Configuration.{Configuration}
 use Rattle.uefi_hii.specs.Slots.{IsKey}
-use Rattle.uefi_hii.specs.Group.{EndsBefore, Group}
+use Rattle.uefi_hii.specs.Group.{Group}
+use Rattle.uefi_hii.specs.private.Parts.{EndsBefore}
 use Rattle.uefi_hii.specs.Cut.{AreGroups, Cut, Part, first_pair, pairs_of}
 use Rattle.uefi_hii.specs.Laws.{EndsWithAmpersand, EndsWithElement, JoinsCuts, OneCut}
 use Rattle.uefi_hii.proofs.Cuts.{group_some, has_one_cut}

@@ -8,7 +8,8 @@ use Rattle.std.specs.List.{AllByRecursion}
 use Rattle.uefi_path.specs.Node.{Node}
 use Rattle.uefi_hii.specs.Pairs.{Pair}
 use Rattle.uefi_hii.specs.Values.{number}
-use Rattle.uefi_hii.specs.Configuration.{Configuration, Element, HasPath, IsSkipped, Spells, SpellsElement, SpellsElements, SpellsHeader, guid_in, name_in, number_in}
+use Rattle.uefi_hii.specs.Configuration.{Configuration, Element, HasPath, Spells, SpellsElement, SpellsElements, SpellsHeader, guid_in, name_in, number_in}
+use Rattle.uefi_hii.specs.private.Parts.{IsSkipped}
 use Rattle.uefi_hii.specs.Slots.{AltSlot, GuidSlot, NameSlot, OffsetSlot, PathSlot, Slot, ValueSlot, WidthSlot}
 use Rattle.uefi_hii.proofs.Machine.{AfterGuid, AfterName, AfterOffset, AfterWidth, InBody, Leads, Next, Start, State, Stop, element, expect, header_of, in_body, last_with_pair, leads_on, leads_one, step, with_alt, with_element, with_pair, with_skipped}
 use Rattle.uefi_hii.proofs.PathIn.{path_in-is}

@@ -6,7 +6,8 @@ use Rattle.std.specs.Str.{bytes_eq}
 use Rattle.uefi_hii.specs.declared.error.ParseError.{ParseError}
 use Rattle.uefi_path.specs.Node.{Node}
 use Rattle.uefi_hii.specs.Pairs.{Pair}
-use Rattle.uefi_hii.specs.Configuration.{Configuration, Element, bytes_in, guid_in, low_16_bits, name_in, number_in}
+use Rattle.uefi_hii.specs.Configuration.{Configuration, Element, bytes_in, guid_in, name_in, number_in}
+use Rattle.uefi_hii.specs.private.Parts.{low_16_bits}
 use Rattle.uefi_hii.specs.Slots.{AltSlot, GuidSlot, NameSlot, OffsetSlot, PathSlot, Slot, ValueSlot, WidthSlot, error_of}
 use Rattle.uefi_hii.proofs.PathIn.{path_in}
 

@@ -5,7 +5,8 @@ use Rattle.std.specs.Prelude.{Option, Some, None, ◌&&◌, ◌==◌, if◌then�
 use Rattle.std.specs.List.{list_all}
 use Rattle.std.proofs.lemmas.Bool.Decides.{Decides-eqb}
 use Rattle.uefi_hii.specs.Hex.{hex}
-use Rattle.uefi_hii.specs.Values.{is_even, is_name_unit, is_odd_byte_zero, name, units}
+use Rattle.uefi_hii.specs.Values.{is_odd_byte_zero, name, units}
+use Rattle.uefi_hii.specs.private.Parts.{is_even, is_name_unit}
 
 -- A test of equality, where the numbers are equal, and where they aren't.
 pub equals : (a b : ℕ) → a ≡ b → (a == b) ≡ true

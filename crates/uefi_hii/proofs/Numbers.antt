@@ -2,7 +2,8 @@
 use Rattle.std.proofs.Common.{◌≡◌, ℕ, zero, suc, ◌+◌, ◌*◌, ◌<◌, ◌≤◌, List, ◌∷◌, length, refl, arith, true}
 use Rattle.std.specs.Prelude.{fold}
 use Rattle.std.proofs.lemmas.Bool.Decides.{nat_tests}
-use Rattle.uefi_hii.specs.Values.{big_endian, is_number_length}
+use Rattle.uefi_hii.specs.Values.{is_number_length}
+use Rattle.uefi_hii.specs.private.Parts.{big_endian}
 
 -- The numbers of this many bytes are below it.
 pub limit : ℕ → ℕ

@@ -8,7 +8,7 @@ use lib.Seq.{take-add}
 use Rattle.std.proofs.lemmas.Simd.{length-chunk, chunk-fits, below_from_Fits}
 use Rattle.std.proofs.lemmas.List.{drop-drop}
 use Rattle.uefi_hii.specs.Hex.{hex_digit, two_digits, byte_of_one, byte_of_two, hex}
-use Rattle.uefi_hii.specs.Filling.{is_hex_digit}
+use Rattle.uefi_hii.specs.private.Filling.{is_hex_digit}
 use Rattle.uefi_hii.proofs.DigitLanes.{and_left, and_right}
 
 abbrev evens : List ℕ → List ℕ

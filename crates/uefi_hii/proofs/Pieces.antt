@@ -5,8 +5,10 @@ use Rattle.std.specs.List.{slice_split, slice_range, onto_first, before_first, a
 use Rattle.std.proofs.lemmas.Bool.{lt-ltb}
 use Rattle.std.proofs.lemmas.List.{drop-take, length-map, length-take-le, take-append-drop, take-append-le}
 use Rattle.std.proofs.lemmas.List.Splits.{slice_split_first, length-slice_split}
-use Rattle.uefi_hii.specs.Finding.{FindsFirst}
-use Rattle.uefi_hii.specs.Pairs.{Pair, ampersand, equals_sign, has_equals_sign, is_ampersand, is_equals_sign, pair_of, pairs, pieces, without_empty_last}
+use Rattle.uefi_hii.specs.private.Finding.{FindsFirst}
+use Rattle.uefi_hii.specs.Pairs.{Pair, ampersand, is_equals_sign, pair_of, pairs, without_empty_last}
+use Rattle.uefi_hii.specs.private.Parts.{equals_sign}
+use Rattle.uefi_hii.specs.private.Parts.{has_equals_sign, is_ampersand, pieces}
 
 -- A list without a separator is one part.
 split_none : (p : ℕ → Bool) (xs : List ℕ) → position_or_len p xs ≡ length xs → slice_split p xs ≡ xs ∷ []

@@ -4,8 +4,10 @@ use Rattle.std.proofs.lemmas.List.{append-nil}
 use Rattle.std.specs.Prelude.{Option, Some, None, IsSome, is_some, codes}
 use Rattle.std.specs.List.{AllByRecursion}
 use Rattle.uefi_hii.specs.Pairs.{Pair}
-use Rattle.uefi_hii.specs.Configuration.{Configuration, Element, IsSkipped, Spells, SpellsElement, SpellsElements, SpellsHeader, guid_in, low_16_bits, number_in}
-use Rattle.uefi_hii.specs.Slots.{IsHeader, IsHeaderWithAlt}
+use Rattle.uefi_hii.specs.Configuration.{Configuration, Element, Spells, SpellsElement, SpellsElements, SpellsHeader, guid_in, number_in}
+use Rattle.uefi_hii.specs.private.Parts.{IsSkipped, low_16_bits}
+use Rattle.uefi_hii.specs.Slots.{IsHeader}
+use Rattle.uefi_hii.specs.private.Parts.{IsHeaderWithAlt}
 use Rattle.uefi_hii.specs.Reading.{MayRunOut}
 use Rattle.uefi_hii.proofs.Machine.{last_with_pair, with_pair, with_skipped}
 

@@ -4,7 +4,7 @@ use Rattle.std.specs.Prelude.{ℕ, Option, Some, None, IsSome, is_some, if◌the
 use Rattle.std.specs.Str.{bytes_eq}
 use Rattle.uefi_hii.specs.Pairs.{Pair}
 use Rattle.uefi_hii.specs.Configuration.{value_at}
-use Rattle.uefi_hii.specs.Taking.{Takes}
+use Rattle.uefi_hii.specs.private.Taking.{Takes}
 
 -- What holds nothing doesn't hold something.
 pub nothing_in : {A : Type 0} (o : Option A) → o ≡ None → IsSome o → ⊥

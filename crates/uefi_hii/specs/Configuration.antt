@@ -46,27 +46,20 @@ bytes_in pair = option_map (λ value. reverse (hex value)) (value_at (codes "VAL
 abbrev pub HasPath : Pair → List Node → Type 0
 HasPath pair path = IsSomeAnd pair.value (λ value. IsPath path × IsPrefix (joined path) (hex value))
 
-abbrev pub low_16_bits : ℕ → ℕ
-low_16_bits n = n % 2 ^ 16
-
 -- A header: GUID, name and path, and then perhaps a number, of which the low 16 bits are the identifier.
 abbrev pub SpellsHeader : List Pair → Configuration → Type 0
 SpellsHeader (g ∷ n ∷ p ∷ []) c =
     (guid_in g ≡ Some c.guid) × (name_in n ≡ Some c.name) × HasPath p c.path × (c.alt_cfg_id ≡ None)
 SpellsHeader (g ∷ n ∷ p ∷ a ∷ []) c =
     (guid_in g ≡ Some c.guid) × (name_in n ≡ Some c.name) × HasPath p c.path
-    × ((id : ℕ) × (number_in (codes "ALTCFG") a ≡ Some id) × (c.alt_cfg_id ≡ Some (low_16_bits id)))
+    × ((id : ℕ) × (number_in (codes "ALTCFG") a ≡ Some id) × (c.alt_cfg_id ≡ Some (id % 2 ^ 16)))
 SpellsHeader _ c = ⊥
 
--- An element skips each pair whose key is neither OFFSET nor GUID.
-abbrev pub IsSkipped : Pair → Type 0
-IsSkipped pair = (pair.key ≢ codes "OFFSET") × (pair.key ≢ codes "GUID")
-
--- An element: offset, width and value, and then skipped pairs, which it keeps in order.
+-- An element: offset, width and value, and then the pairs whose key is neither OFFSET nor GUID, which it keeps in order.
 abbrev pub SpellsElement : List Pair → Element → Type 0
 SpellsElement (o ∷ w ∷ v ∷ skipped) e =
     (number_in (codes "OFFSET") o ≡ Some e.offset) × (number_in (codes "WIDTH") w ≡ Some e.width) × (bytes_in v ≡ Some e.value)
-    × (skipped ≡ e.nvconfig) × AllByRecursion IsSkipped skipped
+    × (skipped ≡ e.nvconfig) × AllByRecursion (λ pair. (pair.key ≢ codes "OFFSET") × (pair.key ≢ codes "GUID")) skipped
 SpellsElement _ e = ⊥
 
 -- Elements, one after another.

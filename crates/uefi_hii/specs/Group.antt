@@ -5,19 +5,17 @@ use Rattle.uefi_hii.specs.Pairs.{Pair}
 use Rattle.uefi_hii.specs.Configuration.{Configuration, Spells}
 use Rattle.uefi_hii.specs.Slots.{Slot, IsGood, Expects, error_of}
 
--- A configuration ends where the pairs end, or, once it has an element, before a pair with the key GUID.
-abbrev pub EndsBefore : Option Pair → Configuration → Type 0
-EndsBefore next c = MatchOption next ⊤ (λ pair. (pair.key ≡ codes "GUID") × (c.elements ≢ []))
-
 -- The last pair of the group isn't good for its slot, or the pairs end where the slot's pair has to come.
 abbrev pub FailsAt : Slot → List Pair → Option Pair → Type 0
 FailsAt slot group next =
     ((before : List Pair) × (last : Pair) × (group ≡ before ++ last ∷ []) × Expects before (Some last) slot × ¬ IsGood slot last)
     ⊎ ((next ≡ None) × Expects group None slot)
 
--- The result of a group: the configuration that its pairs spell, or the error of the slot at which it fails.
+-- The result of a group: the configuration that its pairs spell, which ends where the pairs end or, once it has an
+-- element, before a pair with the key GUID; or the error of the slot at which it fails.
 abbrev pub Gives : List Pair → Option Pair → Result Configuration ParseError → Type 0
-Gives group next (Ok c) = Spells group c × EndsBefore next c
+Gives group next (Ok c) =
+    Spells group c × MatchOption next ⊤ (λ pair. (pair.key ≡ codes "GUID") × (c.elements ≢ []))
 Gives group next (Err error) = (slot : Slot) × (error ≡ error_of slot) × FailsAt slot group next
 
 -- A group before the pair that comes next, if one does, and its result. No group is empty.

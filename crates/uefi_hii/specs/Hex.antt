@@ -2,9 +2,6 @@
 use Rattle.std.specs.Prelude.{ℕ, ◌+◌, ◌*◌, ◌==◌, if◌then◌else◌, List, [], ◌∷◌, Option, Some, None, unwrap_or}
 use Rattle.std.specs.Char.{digit_value, is_digit}
 
-abbrev pub plus_sign : ℕ
-plus_sign = 43
-
 -- The value of a hex digit, in either case.
 unfoldable pub hex_digit : ℕ → Option ℕ
 hex_digit c = if is_digit c 16 then Some (digit_value c) else None
@@ -19,9 +16,9 @@ two_digits None low = None
 unfoldable pub byte_of_one : ℕ → ℕ
 byte_of_one c = unwrap_or (hex_digit c) 0
 
--- The byte that two characters spell: two digits, or a plus sign and a digit, or else 0.
+-- The byte that two characters spell: two digits, or a plus sign (43) and a digit, or else 0.
 unfoldable pub byte_of_two : ℕ → ℕ → ℕ
-byte_of_two c d = unwrap_or (two_digits (hex_digit c) (hex_digit d)) (if c == plus_sign then byte_of_one d else 0)
+byte_of_two c d = unwrap_or (two_digits (hex_digit c) (hex_digit d)) (if c == 43 then byte_of_one d else 0)
 
 -- The bytes that a text spells: one for each two of its characters, and one for an odd last character.
 abbrev pub hex : List ℕ → List ℕ

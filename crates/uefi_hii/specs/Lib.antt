@@ -6,8 +6,6 @@ pub mod Slots
 pub mod Group
 pub mod Cut
 pub mod Views
-pub mod Filling
-pub mod Finding
 pub mod Reading
-pub mod Taking
 pub mod Laws
+pub mod private

@@ -10,35 +10,26 @@ pub record Pair : Type 0 where
 abbrev pub ampersand : ℕ
 ampersand = 38
 
-abbrev pub is_ampersand : ℕ → Bool
-is_ampersand c = c == ampersand
-
-abbrev pub equals_sign : ℕ
-equals_sign = 61
-
 abbrev pub is_equals_sign : ℕ → Bool
-is_equals_sign c = c == equals_sign
+is_equals_sign c = c == 61
 
--- The pieces of a text between its ampersands.
-abbrev pub pieces : List ℕ → List (List ℕ)
-pieces text = slice_split is_ampersand text
-
+-- Pieces, but for an empty last one.
 abbrev pub without_empty_last : List (List ℕ) → List (List ℕ)
 without_empty_last [] = []
 without_empty_last ([] ∷ []) = []
 without_empty_last ((c ∷ piece) ∷ []) = (c ∷ piece) ∷ []
 without_empty_last (piece ∷ next ∷ others) = piece ∷ without_empty_last (next ∷ others)
 
-abbrev pub has_equals_sign : List ℕ → Bool
-has_equals_sign piece = nat_lt (position_or_len is_equals_sign piece) (length piece)
-
 -- A piece is cut at its first equals sign into key and value. Without one it is a key with no value.
 abbrev pub pair_of : List ℕ → Pair
 pair_of piece = record {
   key = before_first is_equals_sign piece;
-  value = if has_equals_sign piece then Some (after_first is_equals_sign piece) else None;
+  value =
+      if nat_lt (position_or_len is_equals_sign piece) (length piece)
+      then Some (after_first is_equals_sign piece)
+      else None;
 }
 
--- The pairs of a text: its pieces, but for an empty last one, each cut into key and value.
+-- The pairs of a text: its pieces between ampersands, but for an empty last one, each cut into key and value.
 abbrev pub pairs : List ℕ → List Pair
-pairs text = map pair_of (without_empty_last (pieces text))
+pairs text = map pair_of (without_empty_last (slice_split (λ c. c == ampersand) text))

@@ -46,25 +46,14 @@ AreGood _ _ = ⊥
 abbrev pub IsHeader : List Pair → Type 0
 IsHeader = AreGood (GuidSlot ∷ NameSlot ∷ PathSlot ∷ [])
 
-abbrev pub IsHeaderWithAlt : List Pair → Type 0
-IsHeaderWithAlt = AreGood (GuidSlot ∷ NameSlot ∷ PathSlot ∷ AltSlot ∷ [])
-
-abbrev pub IsBody : List Pair → Type 0
-IsBody pairs = (c : Configuration) × Spells pairs c
-
-abbrev pub IsBodyWithElement : List Pair → Type 0
-IsBodyWithElement pairs = (c : Configuration) × Spells pairs c × (c.elements ≢ [])
-
 -- A body, and then a pair good for each of the slots.
 abbrev pub IsBodyThen : List Slot → List Pair → Type 0
-IsBodyThen slots pairs = (body rest : List Pair) × (pairs ≡ body ++ rest) × IsBody body × AreGood slots rest
+IsBodyThen slots pairs =
+    (body rest : List Pair) × (pairs ≡ body ++ rest) × ((c : Configuration) × Spells body c) × AreGood slots rest
 
--- The coming pair is there, and has the key, or another.
+-- The coming pair is there, and has the key.
 abbrev pub IsKey : List ℕ → Option Pair → Type 0
 IsKey key next = IsSomeAnd next (λ pair. pair.key ≡ key)
-
-abbrev pub IsOtherKey : List ℕ → Option Pair → Type 0
-IsOtherKey key next = IsSomeAnd next (λ pair. pair.key ≢ key)
 
 -- The table of what has to come: after these pairs, where this pair comes next or none does, it is a pair for the slot.
 abbrev pub Expects : List Pair → Option Pair → Slot → Type 0
@@ -73,8 +62,8 @@ Expects before next NameSlot = AreGood (GuidSlot ∷ []) before
 Expects before next PathSlot = AreGood (GuidSlot ∷ NameSlot ∷ []) before
 Expects before next AltSlot = IsHeader before × IsKey (codes "ALTCFG") next
 Expects before next OffsetSlot =
-    (IsHeader before × IsOtherKey (codes "ALTCFG") next)
-    ⊎ (IsHeaderWithAlt before × IsSome next)
-    ⊎ (IsBodyWithElement before × IsKey (codes "OFFSET") next)
+    (IsHeader before × IsSomeAnd next (λ pair. pair.key ≢ codes "ALTCFG"))
+    ⊎ (AreGood (GuidSlot ∷ NameSlot ∷ PathSlot ∷ AltSlot ∷ []) before × IsSome next)
+    ⊎ (((c : Configuration) × Spells before c × (c.elements ≢ [])) × IsKey (codes "OFFSET") next)
 Expects before next WidthSlot = IsBodyThen (OffsetSlot ∷ []) before
 Expects before next ValueSlot = IsBodyThen (OffsetSlot ∷ WidthSlot ∷ []) before

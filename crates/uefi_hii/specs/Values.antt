@@ -4,23 +4,17 @@ use Rattle.std.specs.Int.{is_in_range}
 use Rattle.std.specs.List.{list_all}
 use Rattle.uefi_hii.specs.Hex.{hex}
 
--- The number that bytes are, the highest first.
-abbrev pub big_endian : List ℕ → ℕ
-big_endian bytes = fold (λ number byte. number * 256 + byte) 0 bytes
-
 abbrev pub is_number_length : ℕ → Bool
 is_number_length n = n == 1 || n == 2 || n == 4 || n == 8
 
--- A number has 1, 2, 4 or 8 bytes.
+-- A number has 1, 2, 4 or 8 bytes, the highest first.
 abbrev pub number : List ℕ → Option ℕ
-number value = if is_number_length (length (hex value)) then Some (big_endian (hex value)) else None
-
-abbrev pub guid_length : ℕ
-guid_length = 16
+number value =
+    if is_number_length (length (hex value)) then Some (fold (λ n byte. n * 256 + byte) 0 (hex value)) else None
 
 -- A GUID is its sixteen bytes.
 abbrev pub guid : List ℕ → Option (List ℕ)
-guid value = if length (hex value) == guid_length then Some (hex value) else None
+guid value = if length (hex value) == 16 then Some (hex value) else None
 
 -- The units that bytes are, the high byte of each first. An odd last byte is no unit.
 abbrev pub units : List ℕ → List ℕ
@@ -34,16 +28,11 @@ is_odd_byte_zero [] = true
 is_odd_byte_zero (high ∷ []) = high == 0
 is_odd_byte_zero (high ∷ low ∷ bytes) = is_odd_byte_zero bytes
 
--- A unit of a name is neither zero nor a surrogate.
-abbrev pub is_name_unit : ℕ → Bool
-is_name_unit unit = not (unit == 0) && not (is_in_range 0xd800 0xdfff unit)
-
-abbrev pub is_even : ℕ → Bool
-is_even n = n % 2 == 0
-
--- A name is the text, in UTF-8, of the units that its value spells. The value has an even number of characters.
+-- A name is the text, in UTF-8, of the units that its value spells, none of which is zero or a surrogate. The value has
+-- an even number of characters.
 abbrev pub name : List ℕ → Option (List ℕ)
 name value =
-    if is_even (length value) && is_odd_byte_zero (hex value) && list_all is_name_unit (units (hex value))
+    if length value % 2 == 0 && is_odd_byte_zero (hex value)
+        && list_all (λ unit. not (unit == 0) && not (is_in_range 0xd800 0xdfff unit)) (units (hex value))
     then Some (encode_utf8_all (units (hex value)))
     else None

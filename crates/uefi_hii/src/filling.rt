@@ -4,7 +4,7 @@ ghost use Rattle.std.specs.Prelude.{◌≡◌, ◌==◌, ◌∷◌, ◌≤◌, �
 ghost use Rattle.std.specs.List.{list_all};
 ghost use Rattle.std.specs.Simd.Lanes.{Each1};
 ghost use Rattle.uefi_hii.specs.Hex.{hex, byte_of_one as one};
-ghost use Rattle.uefi_hii.specs.Filling.{IsFilledTo, is_hex_digit, byte_length};
+ghost use Rattle.uefi_hii.specs.private.Filling.{IsFilledTo, is_hex_digit, byte_length};
 
 use crate::hex::{HexBytes, byte_of_one, byte_of_two};
 use std::alloc::{AllocError, Allocator};

@@ -3,7 +3,7 @@
 ghost use Rattle.std.specs.Prelude.{◌≡◌, ◌==◌, ◌≤◌, ◌<◌, ◌+◌, MatchOption, length, take};
 ghost use Rattle.std.specs.List.{position_or_len};
 ghost use Rattle.std.specs.Simd.Lanes.{chunk};
-ghost use Rattle.uefi_hii.specs.Finding.{FindsFirst, IsNotBefore};
+ghost use Rattle.uefi_hii.specs.private.Finding.{FindsFirst, IsNotBefore};
 
 use std::simd::prelude::*;
 

@@ -3,7 +3,7 @@
 ghost use Rattle.std.specs.Prelude.{◌≡◌, ◌≢◌, [], IfOk, reverse};
 ghost use Rattle.uefi_hii.specs.Hex.{hex};
 ghost use Rattle.uefi_hii.specs.Reading.{TakesGroup};
-ghost use Rattle.uefi_hii.specs.Taking.{TakesHeader, TakesElement};
+ghost use Rattle.uefi_hii.specs.private.Taking.{TakesHeader, TakesElement};
 ghost use Rattle.uefi_hii.specs.Views.{peeked_pairs};
 
 use crate::configuration::{ConfigurationString, ConfigurationStringElement};

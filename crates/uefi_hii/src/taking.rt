@@ -2,7 +2,7 @@
 
 ghost use Rattle.std.specs.Prelude.{◌≡◌, IfOk, map, option_map, string_bytes};
 ghost use Rattle.uefi_hii.specs.Configuration.{value_at, guid_in, name_in, number_in};
-ghost use Rattle.uefi_hii.specs.Taking.{Takes, TakesPath, TakesAlt, Skips};
+ghost use Rattle.uefi_hii.specs.private.Taking.{Takes, TakesPath, TakesAlt, Skips};
 ghost use Rattle.uefi_hii.specs.Views.{nv_pair_of, pair_view, peeked_pairs};
 
 use crate::configuration::{ConfigurationString, NvPair};

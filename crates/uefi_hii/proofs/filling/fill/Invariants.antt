@@ -1,5 +1,5 @@
 use Rattle.std.proofs.Common.{◌*◌}
-use Rattle.uefi_hii.specs.Filling.{IsFilledTo}
+use Rattle.uefi_hii.specs.private.Filling.{IsFilledTo}
 use Rattle.uefi_hii.proofs.filling.fill.Given as goal
 
 abbrev pub invariant-loop-block : goal.invariant-loop-block

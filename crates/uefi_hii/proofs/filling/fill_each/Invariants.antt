@@ -1,4 +1,4 @@
-use Rattle.uefi_hii.specs.Filling.{IsFilledTo}
+use Rattle.uefi_hii.specs.private.Filling.{IsFilledTo}
 use Rattle.uefi_hii.proofs.filling.fill_each.Given as goal
 
 abbrev pub invariant-loop-index : goal.invariant-loop-index

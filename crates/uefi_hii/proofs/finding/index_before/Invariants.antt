@@ -1,5 +1,5 @@
 use Rattle.std.proofs.Common.{◌-◌, ◌≤◌, length}
-use Rattle.uefi_hii.specs.Finding.{IsNotBefore}
+use Rattle.uefi_hii.specs.private.Finding.{IsNotBefore}
 use Rattle.uefi_hii.proofs.finding.index_before.Given as goal
 
 abbrev pub invariant-loop-index : goal.invariant-loop-index

@@ -1,4 +1,4 @@
-use Rattle.uefi_hii.specs.Finding.{IsNotBefore}
+use Rattle.uefi_hii.specs.private.Finding.{IsNotBefore}
 use Rattle.uefi_hii.proofs.finding.index_from.Given as goal
 
 abbrev pub invariant-loop-index : goal.invariant-loop-index

@@ -1,7 +1,7 @@
 use Rattle.std.proofs.Common.{take, subst, lit<}
 use Rattle.std.specs.Prelude.{Some}
-use Rattle.uefi_hii.specs.Finding.{FindsFirst}
-use Rattle.uefi_hii.specs.Pairs.{equals_sign}
+use Rattle.uefi_hii.specs.private.Finding.{FindsFirst}
+use Rattle.uefi_hii.specs.private.Parts.{equals_sign}
 use Rattle.uefi_hii.proofs.FirstByte.{cut_after, cut_at}
 use Rattle.uefi_hii.proofs.Pieces.{pair_with_value}
 use Rattle.uefi_hii.proofs.pairs.pair_before.Goals as goal

@@ -2,8 +2,9 @@ use Rattle.std.proofs.Common.{[], ◌∷◌, length, take, sym, ◌∙◌, ap, s
 use Rattle.std.proofs.Math.Seq.{take-length}
 use Rattle.std.specs.Prelude.{Some}
 use Rattle.std.specs.List.{position_or_len}
-use Rattle.uefi_hii.specs.Finding.{FindsFirst}
-use Rattle.uefi_hii.specs.Pairs.{ampersand, is_ampersand, pair_of, pairs}
+use Rattle.uefi_hii.specs.private.Finding.{FindsFirst}
+use Rattle.uefi_hii.specs.Pairs.{ampersand, pair_of, pairs}
+use Rattle.uefi_hii.specs.private.Parts.{is_ampersand}
 use Rattle.uefi_hii.proofs.FirstByte.{cut_after, cut_at}
 use Rattle.uefi_hii.proofs.Pieces.{pairs_alone, pairs_at}
 use Rattle.uefi_hii.proofs.pairs.split_pair.Goals as goal

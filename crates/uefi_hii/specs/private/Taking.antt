@@ -8,7 +8,8 @@ use Rattle.uefi_hii.specs.declared.configuration.ConfigurationStringElement.{Con
 use Rattle.uefi_hii.specs.declared.error.ParseError.{ParseError}
 use Rattle.uefi_hii.specs.declared.error.ParseError.TheVariants.{Memory}
 use Rattle.uefi_hii.specs.Pairs.{Pair}
-use Rattle.uefi_hii.specs.Configuration.{number_in, HasPath, low_16_bits, IsSkipped, SpellsHeader, SpellsElement}
+use Rattle.uefi_hii.specs.Configuration.{number_in, HasPath, SpellsHeader, SpellsElement}
+use Rattle.uefi_hii.specs.private.Parts.{low_16_bits, IsSkipped}
 use Rattle.uefi_hii.specs.Slots.{PathSlot, AltSlot, OffsetSlot, WidthSlot, ValueSlot, IsGood, IsKey, error_of}
 use Rattle.uefi_hii.specs.Group.{Group}
 use Rattle.uefi_hii.specs.Cut.{first_pair}
