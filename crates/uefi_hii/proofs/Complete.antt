@@ -6,11 +6,12 @@ use Rattle.uefi_hii.specs.declared.error.ParseError.{ParseError}
 use Rattle.uefi_path.specs.Node.{Node}
 use Rattle.uefi_hii.specs.Pairs.{Pair}
 use Rattle.uefi_hii.specs.Configuration.{Configuration, Element, Spells, guid_in, name_in, number_in}
-use Rattle.uefi_hii.specs.Slots.{AltSlot, AreGood, Expects, GuidSlot, IsBodyThen, IsGood, IsHeader, NameSlot, OffsetSlot, PathSlot, Slot, ValueSlot, WidthSlot, error_of}
-use Rattle.uefi_hii.specs.private.Parts.{IsHeaderWithAlt}
+use Rattle.uefi_hii.specs.Slots.{AltSlot, AreGood, GuidSlot, IsBodyThen, IsGood, IsHeader, NameSlot, OffsetSlot, PathSlot, Slot, ValueSlot, WidthSlot, error_of}
+use Rattle.uefi_hii.specs.Slots.{IsHeaderWithAlt}
 use Rattle.uefi_hii.specs.Group.{FailsAt, Gives}
 use Rattle.uefi_hii.specs.private.Parts.{EndsBefore}
 use Rattle.uefi_hii.specs.Cut.{first_pair}
+use Rattle.uefi_hii.proofs.Expecting.{MustCome, by_row}
 use Rattle.uefi_hii.proofs.Leading.{expect-some, is_key, is_not_key, leads_body, step-alt, step-offset, step-stop}
 use Rattle.uefi_hii.proofs.Machine.{AfterGuid, AfterName, AfterOffset, AfterWidth, Fail, InBody, Leads, Start, State, element, expect, header_of, in_body, leads_on, leads_one, outcome, result_at_end, run, run-end, run-fail, run-leads, run-stop, step, with_alt, with_element}
 use Rattle.uefi_hii.proofs.PathIn.{path_in, path_in-is, path_in-some}
@@ -152,7 +153,7 @@ abbrev pub IsWrong : List Pair → Pair → Slot → Type 0
 IsWrong f q slot = (s : State) × Leads Start f s × (step s q ≡ Fail slot)
 
 -- A pair that isn't good for the slot that has to come is wrong.
-wrong_pair : (slot : Slot) (f : List Pair) (q : Pair) → Expects f (Some q) slot → ¬ IsGood slot q → IsWrong f q slot
+wrong_pair : (slot : Slot) (f : List Pair) (q : Pair) → MustCome f (Some q) slot → ¬ IsGood slot q → IsWrong f q slot
 unfolding step Leads
 wrong_pair GuidSlot f q e bad = (Start, subst (λ x. Leads Start x Start) (sym e) refl, expect-none GuidSlot AfterGuid _ bad)
 wrong_pair NameSlot f q e bad = let a = good_guid f e in (AfterGuid a.0, a.1, expect-none NameSlot (AfterName a.0) _ bad)
@@ -171,7 +172,7 @@ wrong_pair ValueSlot f q e bad =
     let a = good_width f e in (AfterWidth a.0 a.1 a.2, a.3, expect-none ValueSlot (λ v. InBody (with_element a.0 (element a.1 a.2 v))) _ bad)
 
 -- Where no pair is left and one has to come, the result is the slot's error.
-missing_pair : (slot : Slot) (f : List Pair) → Expects f None slot → (s : State) × Leads Start f s × (result_at_end s ≡ Err (error_of slot))
+missing_pair : (slot : Slot) (f : List Pair) → MustCome f None slot → (s : State) × Leads Start f s × (result_at_end s ≡ Err (error_of slot))
 unfolding Leads result_at_end
 missing_pair GuidSlot f e = (Start, subst (λ x. Leads Start x Start) (sym e) refl, refl)
 missing_pair NameSlot f e = let a = good_guid f e in (AfterGuid a.0, a.1, refl)
@@ -200,7 +201,7 @@ complete g rest (Err e) m = by_slot m.2 ∙ ap (λ x. outcome g rest (Err x)) (s
   where
     by_slot : FailsAt m.0 g (first_pair rest) → run Start [] (g ++ rest) ≡ outcome g rest (Err (error_of m.0))
     by_slot (inl h) =
-        let f = wrong_pair m.0 h.0 h.1 h.3 h.4 in
+        let f = wrong_pair m.0 h.0 h.1 (by_row h.0 (Some h.1) m.0 h.3) h.4 in
         ap (λ x. run Start [] (x ++ rest)) h.2
         ∙ ap (run Start []) (append_assoc h.0 (h.1 ∷ []) rest)
         ∙ run-leads Start f.0 [] h.0 (h.1 ∷ rest) f.1
@@ -208,7 +209,7 @@ complete g rest (Err e) m = by_slot m.2 ∙ ap (λ x. outcome g rest (Err x)) (s
         ∙ ap (λ x. outcome x rest (Err (error_of m.0))) (sym h.2)
     by_slot (inr h) =
         let none : rest ≡ [] = no_rest rest h.0 in
-        let f = missing_pair m.0 g h.1 in
+        let f = missing_pair m.0 g (by_row g None m.0 h.1) in
         run-leads Start f.0 [] g rest f.1
         ∙ ap (run f.0 g) none
         ∙ run-end f.0 g

@@ -12,12 +12,13 @@ use Rattle.uefi_hii.specs.Hex.{hex}
 use Rattle.uefi_hii.specs.Pairs.{Pair}
 use Rattle.uefi_hii.specs.Configuration.{Configuration, Spells, number_in, value_at}
 use Rattle.uefi_hii.specs.private.Parts.{IsSkipped}
-use Rattle.uefi_hii.specs.Slots.{Expects, IsKey, OffsetSlot, ValueSlot, WidthSlot}
+use Rattle.uefi_hii.specs.Slots.{IsKey, OffsetSlot, ValueSlot, WidthSlot}
 use Rattle.uefi_hii.specs.private.Parts.{EndsBefore}
 use Rattle.uefi_hii.specs.Cut.{first_pair}
 use Rattle.uefi_hii.specs.Views.{configuration_of, element_of, nv_pair_of}
 use Rattle.uefi_hii.specs.Reading.{TakesGroup}
 use Rattle.uefi_hii.specs.private.Taking.{MissesElement, Skips, StopsAt, Takes, TakesElement, TakesError, TakesHeader}
+use Rattle.uefi_hii.proofs.Expecting.{MustCome}
 use Rattle.uefi_hii.proofs.Failing.{fails_after}
 use Rattle.uefi_hii.proofs.Leading.{is_other, push_some}
 use Rattle.uefi_hii.proofs.Shapes.{header_good, header_with_alt_good, spells_element, spells_good, spells_header, spells_some}
@@ -27,7 +28,7 @@ pub record ComesBefore (before left : List Pair) (c : Configuration) : Type 0 wh
   pub body : List Pair
   pub whole : before ≡ body ++ left
   pub spells : Spells body c
-  pub expects : (q : Pair) (rest : List Pair) → left ≡ q ∷ rest → Expects body (Some q) OffsetSlot
+  pub expects : (q : Pair) (rest : List Pair) → left ≡ q ∷ rest → MustCome body (Some q) OffsetSlot
   pub some : left ≢ []
 
 -- After a header an element comes, if a pair is left.
@@ -40,7 +41,7 @@ after_header before left c h some = record {
   some = some;
 }
   where
-    by_alt : (a : Option ℕ) → c.alt_cfg_id ≡ a → (q : Pair) (rest : List Pair) → left ≡ q ∷ rest → Expects h.0 (Some q) OffsetSlot
+    by_alt : (a : Option ℕ) → c.alt_cfg_id ≡ a → (q : Pair) (rest : List Pair) → left ≡ q ∷ rest → MustCome h.0 (Some q) OffsetSlot
     by_alt None alt q rest e =
         inl (header_good h.0 (configuration_of c) h.2 alt, λ key. h.4 alt (subst (λ s. IsKey (codes "ALTCFG") (first_pair s)) (sym e) key))
     by_alt (Some id) alt q rest e = inr (inl (header_with_alt_good h.0 (configuration_of c) id h.2 alt, refl))

@@ -7,7 +7,7 @@ use Rattle.uefi_hii.specs.Pairs.{Pair}
 use Rattle.uefi_hii.specs.Configuration.{Configuration, Element, Spells, SpellsElement, SpellsElements, SpellsHeader, guid_in, number_in}
 use Rattle.uefi_hii.specs.private.Parts.{IsSkipped, low_16_bits}
 use Rattle.uefi_hii.specs.Slots.{IsHeader}
-use Rattle.uefi_hii.specs.private.Parts.{IsHeaderWithAlt}
+use Rattle.uefi_hii.specs.Slots.{IsHeaderWithAlt}
 use Rattle.uefi_hii.specs.Reading.{MayRunOut}
 use Rattle.uefi_hii.proofs.Machine.{last_with_pair, with_pair, with_skipped}
 

@@ -7,9 +7,10 @@ use Rattle.std.specs.Str.{bytes_eq}
 use Rattle.uefi_path.specs.Node.{Node}
 use Rattle.uefi_hii.specs.Pairs.{Pair}
 use Rattle.uefi_hii.specs.Configuration.{Configuration, Element, Spells, SpellsHeader, bytes_in, guid_in, name_in, number_in}
-use Rattle.uefi_hii.specs.Slots.{AltSlot, AreGood, Expects, GuidSlot, IsGood, NameSlot, OffsetSlot, PathSlot, Slot, ValueSlot, WidthSlot}
+use Rattle.uefi_hii.specs.Slots.{AltSlot, AreGood, GuidSlot, IsGood, NameSlot, OffsetSlot, PathSlot, Slot, ValueSlot, WidthSlot}
 use Rattle.uefi_hii.specs.Group.{Gives, Group}
 use Rattle.uefi_hii.specs.Cut.{first_pair}
+use Rattle.uefi_hii.proofs.Expecting.{MustCome, row_of}
 use Rattle.uefi_hii.proofs.Leading.{is_other, push_some}
 use Rattle.uefi_hii.proofs.Machine.{AfterGuid, AfterName, AfterOffset, AfterWidth, Fail, InBody, Next, Outcome, Start, State, Step, Stop, element, expect, header_of, in_body, result_at_end, run, run-end, run-fail, run-next, run-stop, step, with_alt, with_element, with_skipped}
 use Rattle.uefi_hii.proofs.PathIn.{path_in, path_in-is, path_in-some}
@@ -63,7 +64,7 @@ body_step c (x ∷ es) alt a false false p = skips (λ z. cc) refl refl
 -- What a step says of the pairs f that were read and of the pair p.
 data Says (f : List Pair) (s : State) (p : Pair) : Step → Type 0 where
   says_next : (t : State) → WasRead (f ++ p ∷ []) t → Says f s p (Next t)
-  says_fail : (slot : Slot) → Expects f (Some p) slot → ¬ IsGood slot p → Says f s p (Fail slot)
+  says_fail : (slot : Slot) → MustCome f (Some p) slot → ¬ IsGood slot p → Says f s p (Fail slot)
   says_stop : (c : Configuration) → s ≡ InBody c → c.elements ≢ [] → p.key ≡ codes "GUID" → Says f s p Stop
 
 body_says : (f : List Pair) (c : Configuration) (p : Pair) (st : Step) → Spells f c
@@ -129,12 +130,12 @@ step_says f (AfterWidth c n m) p h = by_value (bytes_in p) refl
 -- Where no pair is left, the result is that of the pairs that were read.
 gives_at_end : (f : List Pair) (s : State) → WasRead f s → Gives f None (result_at_end s)
 unfolding WasRead result_at_end
-gives_at_end f Start h = (GuidSlot, refl, inr (refl, h))
-gives_at_end f (AfterGuid x) h = (NameSlot, refl, inr (refl, subst (AreGood (GuidSlot ∷ [])) (sym h.1) (some_is _ _ h.2, tt)))
-gives_at_end f (AfterName x y) h = (PathSlot, refl, inr (refl, subst (AreGood (GuidSlot ∷ NameSlot ∷ [])) (sym h.2) (some_is _ _ h.3, (some_is _ _ h.4, tt))))
+gives_at_end f Start h = (GuidSlot, refl, inr (refl, row_of f None GuidSlot (h)))
+gives_at_end f (AfterGuid x) h = (NameSlot, refl, inr (refl, row_of f None NameSlot (subst (AreGood (GuidSlot ∷ [])) (sym h.1) (some_is _ _ h.2, tt))))
+gives_at_end f (AfterName x y) h = (PathSlot, refl, inr (refl, row_of f None PathSlot (subst (AreGood (GuidSlot ∷ NameSlot ∷ [])) (sym h.2) (some_is _ _ h.3, (some_is _ _ h.4, tt)))))
 gives_at_end f (InBody c) h = (h, tt)
-gives_at_end f (AfterOffset c n) h = (WidthSlot, refl, inr (refl, (h.0, h.1 ∷ [], h.2, (c, h.3), (some_is _ _ h.4, tt))))
-gives_at_end f (AfterWidth c n m) h = (ValueSlot, refl, inr (refl, (h.0, h.1 ∷ h.2 ∷ [], h.3, (c, h.4), (some_is _ _ h.5, (some_is _ _ h.6, tt)))))
+gives_at_end f (AfterOffset c n) h = (WidthSlot, refl, inr (refl, row_of f None WidthSlot ((h.0, h.1 ∷ [], h.2, (c, h.3), (some_is _ _ h.4, tt)))))
+gives_at_end f (AfterWidth c n m) h = (ValueSlot, refl, inr (refl, row_of f None ValueSlot ((h.0, h.1 ∷ h.2 ∷ [], h.3, (c, h.4), (some_is _ _ h.5, (some_is _ _ h.6, tt))))))
 
 -- The pairs begin with the group that was found, and it gives the result.
 pub record IsFound (ps : List Pair) (o : Outcome) : Type 0 where
@@ -152,7 +153,7 @@ found s f (p ∷ ps) h some = by_step (step s p) refl (step_says f s p h) (λ t 
         subst (IsFound (f ++ p ∷ ps)) (sym (run-next s t f p ps e)) (subst (λ x. IsFound x (run t (f ++ p ∷ []) ps)) (append_assoc f (p ∷ []) ps) (more t k))
     by_step st e (says_fail slot k b) more =
         subst (IsFound (f ++ p ∷ ps)) (sym (run-fail s f p ps slot e))
-        (record { whole = sym (append_assoc f (p ∷ []) ps); group = record { not_empty = push_some f p; gives = (slot, refl, inl (f, p, refl, k, b)) } })
+        (record { whole = sym (append_assoc f (p ∷ []) ps); group = record { not_empty = push_some f p; gives = (slot, refl, inl (f, p, refl, row_of f (Some p) slot k, b)) } })
     by_step st e (says_stop c k es key) more =
         let spells : Spells f c = subst (WasRead f) k h in
         let gives : Gives f (Some p) (result_at_end s) = subst (λ x. Gives f (Some p) (result_at_end x)) (sym k) (spells, (key, es)) in

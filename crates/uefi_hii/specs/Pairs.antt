@@ -25,9 +25,7 @@ abbrev pub pair_of : List ℕ → Pair
 pair_of piece = record {
   key = before_first is_equals_sign piece;
   value =
-      if nat_lt (position_or_len is_equals_sign piece) (length piece)
-      then Some (after_first is_equals_sign piece)
-      else None;
+      if nat_lt (position_or_len is_equals_sign piece) (length piece) then Some (after_first is_equals_sign piece) else None;
 }
 
 -- The pairs of a text: its pieces between ampersands, but for an empty last one, each cut into key and value.

@@ -1,5 +1,5 @@
 -- Which pair has to come next in a configuration, and the error where it doesn't (UEFI 2.10, 35.2.1 "String Syntax").
-use Rattle.std.specs.Prelude.{◌≡◌, ◌≢◌, ◌⊎◌, ℕ, List, [], ◌∷◌, ◌++◌, Option, IsSome, IsSomeAnd, codes, ⊤}
+use Rattle.std.specs.Prelude.{◌≡◌, ◌≢◌, ℕ, List, [], ◌∷◌, ◌++◌, Option, IsSome, IsSomeAnd, codes, ⊤}
 use Rattle.uefi_path.specs.Node.{Node}
 use Rattle.uefi_hii.specs.declared.error.ParseError.{ParseError}
 use Rattle.uefi_hii.specs.declared.error.ParseError.TheVariants.{ConfigHdr, BlockName, BlockConfig}
@@ -9,13 +9,7 @@ use Rattle.uefi_hii.specs.Configuration.{Configuration, guid_in, name_in, number
 
 -- What one pair of a configuration can be.
 pub data Slot : Type 0 where
-  GuidSlot : Slot
-  NameSlot : Slot
-  PathSlot : Slot
-  AltSlot : Slot
-  OffsetSlot : Slot
-  WidthSlot : Slot
-  ValueSlot : Slot
+  GuidSlot NameSlot PathSlot AltSlot OffsetSlot WidthSlot ValueSlot : Slot
 
 -- A pair is good for a slot if it has the slot's key and such a value. A path may have any key.
 abbrev pub IsGood : Slot → Pair → Type 0
@@ -46,6 +40,12 @@ AreGood _ _ = ⊥
 abbrev pub IsHeader : List Pair → Type 0
 IsHeader = AreGood (GuidSlot ∷ NameSlot ∷ PathSlot ∷ [])
 
+abbrev pub IsHeaderWithAlt : List Pair → Type 0
+IsHeaderWithAlt = AreGood (GuidSlot ∷ NameSlot ∷ PathSlot ∷ AltSlot ∷ [])
+
+abbrev pub IsBodyWithElement : List Pair → Type 0
+IsBodyWithElement pairs = (c : Configuration) × Spells pairs c × (c.elements ≢ [])
+
 -- A body, and then a pair good for each of the slots.
 abbrev pub IsBodyThen : List Slot → List Pair → Type 0
 IsBodyThen slots pairs =
@@ -56,14 +56,13 @@ abbrev pub IsKey : List ℕ → Option Pair → Type 0
 IsKey key next = IsSomeAnd next (λ pair. pair.key ≡ key)
 
 -- The table of what has to come: after these pairs, where this pair comes next or none does, it is a pair for the slot.
-abbrev pub Expects : List Pair → Option Pair → Slot → Type 0
-Expects before next GuidSlot = before ≡ []
-Expects before next NameSlot = AreGood (GuidSlot ∷ []) before
-Expects before next PathSlot = AreGood (GuidSlot ∷ NameSlot ∷ []) before
-Expects before next AltSlot = IsHeader before × IsKey (codes "ALTCFG") next
-Expects before next OffsetSlot =
-    (IsHeader before × IsSomeAnd next (λ pair. pair.key ≢ codes "ALTCFG"))
-    ⊎ (AreGood (GuidSlot ∷ NameSlot ∷ PathSlot ∷ AltSlot ∷ []) before × IsSome next)
-    ⊎ (((c : Configuration) × Spells before c × (c.elements ≢ [])) × IsKey (codes "OFFSET") next)
-Expects before next WidthSlot = IsBodyThen (OffsetSlot ∷ []) before
-Expects before next ValueSlot = IsBodyThen (OffsetSlot ∷ WidthSlot ∷ []) before
+pub data Expects (before : List Pair) (next : Option Pair) : Slot → Type 0 where
+  guid_first : before ≡ [] → Expects before next GuidSlot
+  name_after_guid : AreGood (GuidSlot ∷ []) before → Expects before next NameSlot
+  path_after_name : AreGood (GuidSlot ∷ NameSlot ∷ []) before → Expects before next PathSlot
+  alt_after_header : IsHeader before → IsKey (codes "ALTCFG") next → Expects before next AltSlot
+  offset_after_header : IsHeader before → IsSomeAnd next (λ p. p.key ≢ codes "ALTCFG") → Expects before next OffsetSlot
+  offset_after_alt : IsHeaderWithAlt before → IsSome next → Expects before next OffsetSlot
+  offset_after_element : IsBodyWithElement before → IsKey (codes "OFFSET") next → Expects before next OffsetSlot
+  width_after_offset : IsBodyThen (OffsetSlot ∷ []) before → Expects before next WidthSlot
+  value_after_width : IsBodyThen (OffsetSlot ∷ WidthSlot ∷ []) before → Expects before next ValueSlot

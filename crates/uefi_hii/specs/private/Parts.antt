@@ -1,10 +1,9 @@
 -- Names for parts of the definitions, which private contracts and proofs speak of.
-use Rattle.std.specs.Prelude.{◌≡◌, ◌≢◌, ℕ, ◌+◌, ◌*◌, ◌%◌, ◌^◌, ◌==◌, ◌&&◌, not, Bool, List, [], ◌∷◌, Option, MatchOption, IsSomeAnd, codes, fold, length, nat_lt, ⊤}
+use Rattle.std.specs.Prelude.{◌≡◌, ◌≢◌, ℕ, ◌+◌, ◌*◌, ◌%◌, ◌^◌, ◌==◌, ◌&&◌, not, Bool, List, [], Option, MatchOption, IsSomeAnd, codes, fold, length, nat_lt, ⊤}
 use Rattle.std.specs.Int.{is_in_range}
 use Rattle.std.specs.List.{slice_split, position_or_len}
 use Rattle.uefi_hii.specs.Pairs.{Pair, ampersand, is_equals_sign}
 use Rattle.uefi_hii.specs.Configuration.{Configuration, Spells}
-use Rattle.uefi_hii.specs.Slots.{GuidSlot, NameSlot, PathSlot, AltSlot, AreGood}
 
 abbrev pub plus_sign : ℕ
 plus_sign = 43
@@ -43,14 +42,8 @@ low_16_bits n = n % 2 ^ 16
 abbrev pub IsSkipped : Pair → Type 0
 IsSkipped pair = (pair.key ≢ codes "OFFSET") × (pair.key ≢ codes "GUID")
 
-abbrev pub IsHeaderWithAlt : List Pair → Type 0
-IsHeaderWithAlt = AreGood (GuidSlot ∷ NameSlot ∷ PathSlot ∷ AltSlot ∷ [])
-
 abbrev pub IsBody : List Pair → Type 0
 IsBody pairs = (c : Configuration) × Spells pairs c
-
-abbrev pub IsBodyWithElement : List Pair → Type 0
-IsBodyWithElement pairs = (c : Configuration) × Spells pairs c × (c.elements ≢ [])
 
 -- The coming pair is there, and has another key.
 abbrev pub IsOtherKey : List ℕ → Option Pair → Type 0
