@@ -8,17 +8,17 @@ use Rattle.std.proofs.lemmas.List.Folds.{flat_map-map}
 use Rattle.uefi_hii.specs.declared.configuration.ConfigurationString.{ConfigurationString}
 use Rattle.uefi_hii.specs.declared.error.ParseError.{ParseError}
 use Rattle.uefi_hii.specs.declared.error.ParseError.TheVariants.{ConfigHdr, BlockName, BlockConfig, Memory}
-use Rattle.uefi_hii.specs.Pairs.{Pair, pairs}
+use Rattle.uefi_hii.specs.Pairs.{Pair}
 use Rattle.uefi_hii.specs.Cut.{Part, AreGroups, pairs_of, results_of}
 use Rattle.uefi_hii.specs.Reading.{TakesGroup}
 use Rattle.uefi_hii.specs.Views.{result_of}
-use Rattle.uefi_hii.proofs.Wholes.{HasCut, cut_all, cut_more, cut_none}
+use Rattle.uefi_hii.proofs.Wholes.{HasCut, all_groups, cut_more, cut_none}
 use Rattle.config_lines.specs.Config.{config_lines, configuration_lines, fault_line, header_lines, item_lines}
 
--- The lines of the first n groups of a text were appended, and these pairs of it are left.
-pub record HasListed (A : Type 0) (input : List ℕ) (left : List Pair) (old now : List ℕ) (n : ℕ) : Type 0 where
+-- The lines of the first n groups of pairs were appended, and these pairs are left.
+pub record HasListed (A : Type 0) (all left : List Pair) (old now : List ℕ) (n : ℕ) : Type 0 where
   pub items : List (Result (ConfigurationString A) ParseError)
-  pub cut : HasCut input left items
+  pub cut : HasCut all left items
   pub lines : now ≡ old ++ flat_map (λ item. item_lines (result_of item)) items
   pub count : n ≡ length items
   pub few : n ≤ length now
@@ -34,15 +34,15 @@ some_lines (Err BlockConfig) some = omega arith
 some_lines (Err Memory) some = absurd (some refl)
 
 -- Those of the next group too.
-pub listed_more : {A : Type 0} {input : List ℕ} {left after : List Pair} {old now next : List ℕ} {count : ℕ}
+pub listed_more : {A : Type 0} {all left after : List Pair} {old now next : List ℕ} {count : ℕ}
     {item : Result (ConfigurationString A) ParseError}
-    → HasListed A input left old now count → item ≢ Err Memory → TakesGroup left item after
-    → next ≡ now ++ item_lines (result_of item) → HasListed A input after old next (count + 1)
-listed_more {A} {input} {left} {after} {old} {now} {next} {count} {item} so_far some taken is =
+    → HasListed A all left old now count → item ≢ Err Memory → TakesGroup left item after
+    → next ≡ now ++ item_lines (result_of item) → HasListed A all after old next (count + 1)
+listed_more {A} {all} {left} {after} {old} {now} {next} {count} {item} so_far some taken is =
     let items = so_far.items in
     record {
       items = items ++ item ∷ [];
-      cut = cut_more input left after items item so_far.cut some taken;
+      cut = cut_more all left after items item so_far.cut some taken;
       lines = is ∙ ap (λ t. t ++ item_lines (result_of item)) so_far.lines
           ∙ flat_map_more (λ item. item_lines (result_of item)) old items item;
       count = omega (arith, so_far.count, length-append items (item ∷ []));
@@ -56,25 +56,24 @@ listed_more {A} {input} {left} {after} {old} {now} {next} {count} {item} so_far 
     }
 
 -- Nothing was appended yet.
-pub none_listed : {A : Type 0} (input : List ℕ) (left : List Pair) (old : List ℕ) → left ≡ pairs input
-    → HasListed A input left old old 0
-none_listed input left old all = record {
+pub none_listed : {A : Type 0} (all : List Pair) (old : List ℕ) → HasListed A all all old old 0
+none_listed all old = record {
   items = [];
-  cut = cut_none input left [] all refl;
+  cut = cut_none all all [] refl refl;
   lines = sym (append-nil old);
   count = refl;
   few = omega arith;
 }
 
--- If no pair is left, the lines are those of the text's cut; their count comes last.
-pub listed_all : {A : Type 0} {input : List ℕ} {left : List Pair} {old now new : List ℕ} {count : ℕ}
-    → HasListed A input left old now count → left ≡ []
+-- If no pair is left, the lines are those of all groups; their count comes last.
+pub listed_all : {A : Type 0} {all left : List Pair} {old now new : List ℕ} {count : ℕ}
+    → HasListed A all left old now count → left ≡ []
     → new ≡ now ++ (codes "items " ++ decimal count ++ codes "\n")
-    → (parts : List Part) × (pairs_of parts ≡ pairs input) × AreGroups parts
+    → (parts : List Part) × (pairs_of parts ≡ all) × AreGroups parts
     × (new ≡ old ++ config_lines (results_of parts))
-listed_all {A} {input} {left} {old} {now} {new} {count} so_far none is =
+listed_all {A} {all} {left} {old} {now} {new} {count} so_far none is =
     let items = so_far.items in
-    let all = cut_all input left items so_far.cut none in
-    let lines = sym (flat_map-map item_lines result_of items) ∙ ap (flat_map item_lines) all.2 in
-    let counted = so_far.count ∙ sym (length-map items result_of) ∙ ap length all.2 in
-    (all.0, all.1.whole, all.1.each, simp append_assoc (simp append_assoc at (rw (so_far.lines, lines, counted) at is)))
+    let found = all_groups all left items so_far.cut none in
+    let lines = sym (flat_map-map item_lines result_of items) ∙ ap (flat_map item_lines) found.3 in
+    let counted = so_far.count ∙ sym (length-map items result_of) ∙ ap length found.3 in
+    (found.0, found.1, found.2, simp append_assoc (simp append_assoc at (rw (so_far.lines, lines, counted) at is)))

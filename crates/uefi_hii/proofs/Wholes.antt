@@ -43,20 +43,22 @@ groups_end : (es : List Part) → AreGroupsBefore es [] → AreGroups es
 groups_end [] a = tt
 groups_end (e ∷ es) a = (subst (λ x. Group e.group (first_pair x) e.result) (append-nil (pairs_of es)) a.0, groups_end es a.1)
 
--- The items so far are the results of the first groups of the text, and these pairs are left.
-pub record HasCut {A : Type 0} (text : List ℕ) (left : List Pair) (items : List (Result (ConfigurationString A) ParseError)) : Type 0 where
+-- The items so far are the results of the first groups of the pairs, and these pairs are left.
+pub record HasCut {A : Type 0} (all left : List Pair)
+    (items : List (Result (ConfigurationString A) ParseError)) : Type 0 where
   pub parts : List Part
-  pub whole : pairs text ≡ pairs_of parts ++ left
+  pub whole : all ≡ pairs_of parts ++ left
   pub each : AreGroupsBefore parts left
   pub results : map result_of items ≡ results_of parts
   pub no_memory : All (λ item. item ≢ Err Memory) items
 
 -- Before the first group all pairs are left.
-pub cut_none : {A : Type 0} (text : List ℕ) (left : List Pair) (items : List (Result (ConfigurationString A) ParseError)) → left ≡ pairs text → items ≡ []
-    → HasCut text left items
-cut_none text left items all none = record {
+pub cut_none : {A : Type 0} (all left : List Pair)
+    (items : List (Result (ConfigurationString A) ParseError)) → left ≡ all → items ≡ []
+    → HasCut all left items
+cut_none all left items nothing_cut none = record {
   parts = [];
-  whole = sym all;
+  whole = sym nothing_cut;
   each = tt;
   results = ap (map result_of) none;
   no_memory = All-same (λ x. x ≢ Err Memory) items [] none (All-nil (λ x. x ≢ Err Memory));
@@ -71,9 +73,10 @@ taken before after (Err BlockName) some t = t
 taken before after (Err BlockConfig) some t = t
 taken before after (Err Memory) some t = absurd (some refl)
 
-pub cut_more : {A : Type 0} (text : List ℕ) (left after : List Pair) (items : List (Result (ConfigurationString A) ParseError)) (item : Result (ConfigurationString A) ParseError)
-    → HasCut text left items → item ≢ Err Memory → TakesGroup left item after → HasCut text after (items ++ item ∷ [])
-cut_more text left after items item c some t =
+pub cut_more : {A : Type 0} (all left after : List Pair)
+    (items : List (Result (ConfigurationString A) ParseError)) (item : Result (ConfigurationString A) ParseError)
+    → HasCut all left items → item ≢ Err Memory → TakesGroup left item after → HasCut all after (items ++ item ∷ [])
+cut_more all left after items item c some t =
     let g = taken left after item some t in
     let r = result_of item in
     record {
@@ -84,13 +87,23 @@ cut_more text left after items item c some t =
       no_memory = All-push (λ x. x ≢ Err Memory) items item c.no_memory some;
     }
 
--- Where no pair is left, they are the results of the text's cut, and of no other.
-pub cut_all : {A : Type 0} (text : List ℕ) (left : List Pair) (items : List (Result (ConfigurationString A) ParseError)) → HasCut text left items → left ≡ [] → AreResults text items
-cut_all text left items c e = (
+-- Where no pair is left, they are the results of groups that together are all pairs.
+pub all_groups : {A : Type 0} (all left : List Pair) (items : List (Result (ConfigurationString A) ParseError))
+    → HasCut all left items → left ≡ []
+    → (parts : List Part) × (pairs_of parts ≡ all) × AreGroups parts × (map result_of items ≡ results_of parts)
+all_groups all left items c e = (
   c.parts,
-  record { whole = sym (c.whole ∙ ap (λ x. pairs_of c.parts ++ x) e ∙ append-nil (pairs_of c.parts)); each = groups_end c.parts (subst (AreGroupsBefore c.parts) e c.each) },
+  sym (c.whole ∙ ap (λ x. pairs_of c.parts ++ x) e ∙ append-nil (pairs_of c.parts)),
+  groups_end c.parts (subst (AreGroupsBefore c.parts) e c.each),
   c.results,
 )
+
+-- So they are the results of the text's cut, and of no other.
+pub cut_all : {A : Type 0} (text : List ℕ) (left : List Pair) (items : List (Result (ConfigurationString A) ParseError))
+    → HasCut (pairs text) left items → left ≡ [] → AreResults text items
+cut_all text left items c e =
+    let found = all_groups (pairs text) left items c e in
+    (found.0, record { whole = found.1; each = found.2 }, found.3)
 
 pub cut_only : {A : Type 0} (text : List ℕ) (items : List (Result (ConfigurationString A) ParseError)) → AreResults text items → (parts : List Part) → Cut text parts → map result_of items ≡ results_of parts
 cut_only text items h parts c = h.2 ∙ ap results_of (cut_once h.0 parts (h.1.whole ∙ sym c.whole) h.1.each c.each)

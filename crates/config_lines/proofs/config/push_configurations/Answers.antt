@@ -1,11 +1,10 @@
-use Rattle.std.proofs.Common.{append_assoc, refl, string_bytes}
+use Rattle.std.proofs.Common.{append_assoc, string_bytes}
 use Rattle.uefi_hii.specs.Views.{uncut_pairs}
 use Rattle.config_lines.proofs.ConfigLines.{listed_all, listed_more, none_listed}
 use Rattle.config_lines.proofs.config.push_configurations.Goals as goal
 
 pub loop-item-init : goal.loop-item-init
-loop-item-init g c = none_listed c.args.items.pairs.rest.now (uncut_pairs c.args.items)
-    (string_bytes c.args.text.now) refl
+loop-item-init g c = none_listed (uncut_pairs c.args.items) (string_bytes c.args.text.now)
 
 pub loop-item-preserved-in_ok-push_item : goal.loop-item-preserved-in_ok-push_item
 loop-item-preserved-in_ok-push_item g c =

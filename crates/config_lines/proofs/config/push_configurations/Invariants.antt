@@ -6,7 +6,7 @@ use Rattle.config_lines.proofs.config.push_configurations.Given as goal
 -- The lines of the first groups were appended.
 abbrev pub invariant-loop-item : goal.invariant-loop-item
 invariant-loop-item g l =
-    HasListed g.row.A.Denot l.fn.items.pairs.rest.now (uncut_pairs l.items) (string_bytes l.initial.text)
+    HasListed g.row.A.Denot (uncut_pairs l.fn.items) (uncut_pairs l.items) (string_bytes l.initial.text)
     (string_bytes l.text) l.count
 
 abbrev pub decreases-loop-item : goal.decreases-loop-item
