@@ -24,7 +24,7 @@ first_pair pairs = slice_get pairs 0
 -- Each part has a group and its result, before the first pair of the next part.
 abbrev pub AreGroups : List Part → Type 0
 AreGroups [] = ⊤
-AreGroups (part ∷ parts) = Group part.group (first_pair (pairs_of parts)) part.result × AreGroups parts
+AreGroups (part ∷ parts) = Group part.group (slice_get (pairs_of parts) 0) part.result × AreGroups parts
 
 -- The cut of a text: groups that together are its pairs.
 pub record Cut (text : List ℕ) (parts : List Part) : Type 0 where

@@ -9,8 +9,7 @@ hex_digit c = if is_digit c 16 then Some (digit_value c) else None
 -- The number that two digits spell.
 unfoldable pub two_digits : Option ℕ → Option ℕ → Option ℕ
 two_digits (Some high) (Some low) = Some (high * 16 + low)
-two_digits (Some high) None = None
-two_digits None low = None
+two_digits _ _ = None
 
 -- The byte that one character spells: the digit, or else 0.
 unfoldable pub byte_of_one : ℕ → ℕ

@@ -7,9 +7,7 @@ pub record Pair : Type 0 where
   pub key : List ℕ
   pub value : Option (List ℕ)
 
-abbrev pub ampersand : ℕ
-ampersand = 38
-
+-- The byte of `=`.
 abbrev pub is_equals_sign : ℕ → Bool
 is_equals_sign c = c == 61
 
@@ -28,6 +26,11 @@ pair_of piece = record {
       if nat_lt (position_or_len is_equals_sign piece) (length piece) then Some (after_first is_equals_sign piece) else None;
 }
 
--- The pairs of a text: its pieces between ampersands, but for an empty last one, each cut into key and value.
+-- The pairs of a text: its pieces between ampersands, which are 38, but for an empty last one, each cut into key and
+-- value.
 abbrev pub pairs : List ℕ → List Pair
-pairs text = map pair_of (without_empty_last (slice_split (λ c. c == ampersand) text))
+pairs text = map pair_of (without_empty_last (slice_split (λ c. c == 38) text))
+
+-- The byte between pieces, by its name.
+abbrev pub ampersand : ℕ
+ampersand = 38

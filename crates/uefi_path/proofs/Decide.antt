@@ -4,7 +4,8 @@ use Rattle.std.proofs.Math.Decide.{dec_le, ℕ_discrete}
 use Rattle.std.proofs.lemmas.List.{take-append-drop, get_or-append-add}
 use Rattle.uefi_path.specs.Header.{header_length}
 use Rattle.uefi_path.specs.Node.{Node, Fits, encoding, joined, HasNode, IsEndEntire}
-use Rattle.uefi_path.specs.Path.{HasNodes, HasPath}
+use Rattle.uefi_path.specs.Path.{HasPath}
+use Rattle.uefi_path.specs.private.Encoding.{HasNodes}
 use Rattle.uefi_path.specs.private.OneNode.{stated_length}
 use Rattle.uefi_path.proofs.Nodes.{header_prefix, node_prefix}
 use Rattle.uefi_path.proofs.Passing.{HasNodes-after}

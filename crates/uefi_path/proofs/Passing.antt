@@ -4,7 +4,8 @@ use Rattle.std.proofs.lemmas.List.{take_at}
 use Rattle.std.specs.List.{AllByRecursion}
 use Rattle.uefi_path.specs.Node.{Node, Fits, encoding, joined, HasNode}
 use Rattle.uefi_path.specs.private.Encoding.{AreNodes}
-use Rattle.uefi_path.specs.Path.{LastAlone, HasNodes}
+use Rattle.uefi_path.specs.Path.{LastAlone}
+use Rattle.uefi_path.specs.private.Encoding.{HasNodes}
 use Rattle.uefi_path.specs.private.Encoding.{EncodesNodes}
 use Rattle.uefi_path.specs.private.OnePath.{joined-append}
 use Rattle.uefi_path.proofs.Steps.{HasNodes-node, after_first}

@@ -3,7 +3,8 @@ use Rattle.std.proofs.Common.{◌≡◌, ℕ, List, [], ◌∷◌, ◌++◌, len
 use Rattle.std.proofs.lemmas.List.{append-nil, nil_from_length}
 use Rattle.uefi_base.specs.Prefix.{IsPrefix}
 use Rattle.uefi_path.specs.Node.{Node, Fits, encoding, joined, HasNode, IsEnd}
-use Rattle.uefi_path.specs.Path.{AreEndedBy, HasNodes, concat, all_but_last}
+use Rattle.uefi_path.specs.Path.{AreEndedBy, concat, all_but_last}
+use Rattle.uefi_path.specs.private.Encoding.{HasNodes}
 use Rattle.uefi_path.specs.private.Encoding.{IsEncodingOfNodes, EncodesNodes, IsEncodingOfInstances, EncodesInstances}
 use Rattle.uefi_path.specs.private.OnePath.{same_first, one_ended, nodes_encoded_once, instances_encoded_once, joined-append, some_bytes}
 

@@ -23,13 +23,9 @@ IsPath = AreEndedBy IsEndEntire
 abbrev pub IsInstance : List Node → Type 0
 IsInstance = AreEndedBy IsEnd
 
--- Some prefix of the bytes is nodes of which only the last satisfies P.
-abbrev pub HasNodes : (Node → Type 0) → List ℕ → Type 0
-HasNodes P bytes = (nodes : List Node) × AreEndedBy P nodes × IsPrefix (joined nodes) bytes
-
 -- Some prefix of the bytes is a path.
 abbrev pub HasPath : List ℕ → Type 0
-HasPath = HasNodes IsEndEntire
+HasPath bytes = (nodes : List Node) × IsPath nodes × IsPrefix (joined nodes) bytes
 
 -- The nodes of the instances, in order.
 abbrev pub concat : List (List Node) → List Node

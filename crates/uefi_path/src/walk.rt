@@ -1,6 +1,6 @@
 ghost use Rattle.std.specs.Prelude.{◌≡◌, ◌↔◌, ◌++◌, IsTrue, IfOk, OnErr};
 ghost use Rattle.uefi_path.specs.Node.{Fits, encoding, HasNode};
-ghost use Rattle.uefi_path.specs.Path.{HasNodes};
+ghost use Rattle.uefi_path.specs.private.Encoding.{HasNodes};
 ghost use Rattle.uefi_path.specs.private.Stop.{Stops};
 ghost use Rattle.uefi_path.specs.private.Encoding.{EncodesNodes};
 ghost use Rattle.uefi_path.specs.Views.{node_of};

@@ -1,12 +1,17 @@
 -- What a view keeps of its bytes: that they encode a node, nodes or instances.
 use Rattle.std.specs.Prelude.{◌≡◌, ℕ, List}
 use Rattle.std.specs.List.{AllByRecursion}
+use Rattle.uefi_base.specs.Prefix.{IsPrefix}
 use Rattle.uefi_path.specs.Node.{Node, Fits, encoding, joined, IsEnd, IsEndEntire}
 use Rattle.uefi_path.specs.Path.{AreEndedBy, IsInstance, concat}
 
 -- The fields of each node fit its encoding.
 abbrev pub AreNodes : List Node → Type 0
 AreNodes nodes = AllByRecursion Fits nodes
+
+-- Some prefix of the bytes is nodes of which only the last satisfies P.
+abbrev pub HasNodes : (Node → Type 0) → List ℕ → Type 0
+HasNodes P bytes = (nodes : List Node) × AreEndedBy P nodes × IsPrefix (joined nodes) bytes
 
 -- The bytes are the encoding of the node.
 pub record IsEncodingOfNode (bytes : List ℕ) (node : Node) : Type 0 where

@@ -1,5 +1,5 @@
 use Rattle.std.proofs.Common.{length}
-use Rattle.uefi_path.specs.Path.{HasNodes}
+use Rattle.uefi_path.specs.private.Encoding.{HasNodes}
 use Rattle.uefi_path.specs.private.Stop.{Stops}
 use Rattle.uefi_path.proofs.Passing.{HasPassed}
 use Rattle.uefi_path.proofs.walk.first_nodes.Given as goal
