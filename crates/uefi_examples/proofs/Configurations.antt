@@ -111,11 +111,6 @@ one_item {A} ps old new item one all step = subst (λ qs. MatchOption item (qs �
 abbrev pub found_in : {A : Type 0} → ℕ → ℕ → List (ConfigurationStringElement A) → Option (List ℕ)
 found_in offset width items = option_map (λ e. e.value) (find (λ e. e.offset == offset && e.width == width) (map element_of items))
 
--- The first result of a cut is the configuration that was read.
-pub first_is : {A : Type 0} (parts : List Part) (c : ConfigurationString A) → IsFirstResult {A = A} parts (Ok c) → slice_get (results_of parts) 0 ≡ Some (Ok (configuration_of c))
-first_is [] c first = cc
-first_is (part ∷ parts) c first = ap Some (sym first)
-
 -- The configurations and the errors among the results that were read are counted, of a text of which these pairs are left.
 pub record HasCounted (text : List ℕ) (left : List Pair) (configurations errors : ℕ) : Type 0 where
   pub read : List Part

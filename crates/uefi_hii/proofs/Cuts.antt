@@ -1,5 +1,6 @@
 -- The one group that pairs begin with, and the one cut of a text.
-use Rattle.std.proofs.Common.{◌≡◌, ◌≢◌, ℕ, zero, suc, ◌+◌, ◌<◌, ◌≤◌, List, [], ◌∷◌, ◌++◌, length, refl, sym, ◌∙◌, ap, subst, arith, length-append}
+use Rattle.std.proofs.Common.{◌≡◌, ◌≢◌, ℕ, zero, suc, ◌+◌, ◌<◌, ◌≤◌, List, [], ◌∷◌, ◌++◌, length, refl, sym, ◌∙◌, ap}
+use Rattle.std.proofs.Common.{subst, arith, length-append}
 use Rattle.std.specs.Prelude.{Option, Result}
 use Rattle.uefi_hii.specs.declared.error.ParseError.{ParseError}
 use Rattle.uefi_hii.specs.Pairs.{Pair, pairs}
@@ -61,7 +62,8 @@ some_cut (suc k) (p ∷ ps) short =
     )
 
 -- A group has pairs.
-pub group_some : (g rest : List Pair) (p : Option Pair) (r : Result Configuration ParseError) → Group g p r → g ++ rest ≡ [] → ⊥
+pub group_some : (g rest : List Pair) (p : Option Pair) (r : Result Configuration ParseError) → Group g p r
+    → g ++ rest ≡ [] → ⊥
 group_some [] rest p r h e = h.not_empty refl
 group_some (q ∷ g) rest p r h e = cc
 
@@ -85,4 +87,5 @@ pub has_one_cut : (text : List ℕ) → HasOneCut text
 unfolding AreCut
 has_one_cut text =
     let c = some_cut (length (pairs text)) (pairs text) (omega arith) in
-    record { parts = c.0; cut = record { whole = c.1; each = c.2 }; no_other = λ other o. cut_once other c.0 (o.whole ∙ sym c.1) o.each c.2 }
+    record { parts = c.0; cut = record { whole = c.1; each = c.2 }; no_other =
+        λ other o. cut_once other c.0 (o.whole ∙ sym c.1) o.each c.2 }

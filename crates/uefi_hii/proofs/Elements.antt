@@ -1,5 +1,6 @@
 -- The elements of a configuration, read one after another.
-use Rattle.std.proofs.Common.{◌≡◌, ◌≢◌, ℕ, Bool, true, false, List, [], ◌∷◌, ◌++◌, map, refl, sym, ◌∙◌, ap, subst, append_assoc, inl, inr}
+use Rattle.std.proofs.Common.{◌≡◌, ◌≢◌, ℕ, Bool, true, false, List, [], ◌∷◌, ◌++◌, map, refl, sym, ◌∙◌, ap, subst}
+use Rattle.std.proofs.Common.{append_assoc, inl, inr}
 use Rattle.std.proofs.lemmas.List.{map-append}
 use Rattle.std.proofs.lemmas.Slice.Eq.{bytes_eq-Decides}
 use Rattle.std.specs.Prelude.{option_map, reverse, Option, Some, None, Result, Ok, Err, IsErrAnd, codes}
@@ -21,7 +22,8 @@ use Rattle.uefi_hii.specs.private.Taking.{MissesElement, Skips, StopsAt, Takes, 
 use Rattle.uefi_hii.proofs.Expecting.{MustCome}
 use Rattle.uefi_hii.proofs.Failing.{fails_after}
 use Rattle.uefi_hii.proofs.Leading.{is_other, push_some}
-use Rattle.uefi_hii.proofs.Shapes.{header_good, header_with_alt_good, spells_element, spells_good, spells_header, spells_some}
+use Rattle.uefi_hii.proofs.Shapes.{header_good, header_with_alt_good, spells_element, spells_good, spells_header}
+use Rattle.uefi_hii.proofs.Shapes.{spells_some}
 
 -- What was read of a configuration before an element, and the pairs that are left.
 pub record ComesBefore (before left : List Pair) (c : Configuration) : Type 0 where
@@ -32,7 +34,8 @@ pub record ComesBefore (before left : List Pair) (c : Configuration) : Type 0 wh
   pub some : left ≢ []
 
 -- After a header an element comes, if a pair is left.
-pub after_header : {A : Type 0} (before left : List Pair) (c : ConfigurationString A) → TakesHeader before (Ok c) left → left ≢ [] → ComesBefore before left (configuration_of c)
+pub after_header : {A : Type 0} (before left : List Pair) (c : ConfigurationString A) → TakesHeader before (Ok c) left
+    → left ≢ [] → ComesBefore before left (configuration_of c)
 after_header before left c h some = record {
   body = h.0;
   whole = h.1;
@@ -41,32 +44,41 @@ after_header before left c h some = record {
   some = some;
 }
   where
-    by_alt : (a : Option ℕ) → c.alt_cfg_id ≡ a → (q : Pair) (rest : List Pair) → left ≡ q ∷ rest → MustCome h.0 (Some q) OffsetSlot
+    by_alt : (a : Option ℕ) → c.alt_cfg_id ≡ a → (q : Pair) (rest : List Pair) → left ≡ q ∷ rest
+        → MustCome h.0 (Some q) OffsetSlot
     by_alt None alt q rest e =
-        inl (header_good h.0 (configuration_of c) h.2 alt, λ key. h.4 alt (subst (λ s. IsKey (codes "ALTCFG") (first_pair s)) (sym e) key))
+        inl (header_good h.0 (configuration_of c) h.2 alt,
+            λ key. h.4 alt (subst (λ s. IsKey (codes "ALTCFG") (first_pair s)) (sym e) key))
     by_alt (Some id) alt q rest e = inr (inl (header_with_alt_good h.0 (configuration_of c) id h.2 alt, refl))
 
 -- A pair of the element is missing, so the group fails.
-misses_fails : (before left after : List Pair) (c : Configuration) (e : ParseError) → before ≢ [] → ComesBefore before left c → MissesElement left after e → TakesError before e after
+misses_fails : (before left after : List Pair) (c : Configuration) (e : ParseError) → before ≢ []
+    → ComesBefore before left c → MissesElement left after e → TakesError before e after
 misses_fails before left after c e some g (inl m) =
     subst (λ x. TakesError before x after) (sym m.0)
-    (fails_after OffsetSlot before g.body left after some g.whole (λ q k. g.expects q after k) (λ k. absurd (g.some k)) m.1)
+    (fails_after OffsetSlot before g.body left after some g.whole (λ q k. g.expects q after k)
+        (λ k. absurd (g.some k)) m.1)
 misses_fails before left after c e some g (inr (inl m)) =
     let o = m.0 in
     let rest = m.1 in
     subst (λ x. TakesError before x after) (sym m.2)
-    (fails_after WidthSlot before (g.body ++ o ∷ []) rest after some (g.whole ∙ ap (λ s. g.body ++ s) m.3 ∙ sym (append_assoc g.body (o ∷ []) rest))
-    (λ q k. (g.body, o ∷ [], refl, (c, g.spells), (m.4, tt))) (λ k. (g.body, o ∷ [], refl, (c, g.spells), (m.4, tt))) m.5)
+    (fails_after WidthSlot before (g.body ++ o ∷ []) rest after some
+        (g.whole ∙ ap (λ s. g.body ++ s) m.3 ∙ sym (append_assoc g.body (o ∷ []) rest))
+    (λ q k. (g.body, o ∷ [], refl, (c, g.spells), (m.4, tt)))
+        (λ k. (g.body, o ∷ [], refl, (c, g.spells), (m.4, tt))) m.5)
 misses_fails before left after c e some g (inr (inr m)) =
     let o = m.0 in
     let w = m.1 in
     let rest = m.2 in
     subst (λ x. TakesError before x after) (sym m.3)
-    (fails_after ValueSlot before (g.body ++ o ∷ w ∷ []) rest after some (g.whole ∙ ap (λ s. g.body ++ s) m.4 ∙ sym (append_assoc g.body (o ∷ w ∷ []) rest))
-    (λ q k. (g.body, o ∷ w ∷ [], refl, (c, g.spells), (m.5, (m.6, tt)))) (λ k. (g.body, o ∷ w ∷ [], refl, (c, g.spells), (m.5, (m.6, tt)))) m.7)
+    (fails_after ValueSlot before (g.body ++ o ∷ w ∷ []) rest after some
+        (g.whole ∙ ap (λ s. g.body ++ s) m.4 ∙ sym (append_assoc g.body (o ∷ w ∷ []) rest))
+    (λ q k. (g.body, o ∷ w ∷ [], refl, (c, g.spells), (m.5, (m.6, tt))))
+        (λ k. (g.body, o ∷ w ∷ [], refl, (c, g.spells), (m.5, (m.6, tt)))) m.7)
 
 -- So does an element that fails.
-pub element_fails : (A : Type 0) (before left after : List Pair) (c : Configuration) (e : ParseError) → before ≢ [] → ComesBefore before left c
+pub element_fails : (A : Type 0) (before left after : List Pair) (c : Configuration) (e : ParseError) → before ≢ []
+    → ComesBefore before left c
     → TakesElement {A = A} left (Err e) after → TakesGroup {A = A} before (Err e) after
 element_fails A before left after c (ConfigHdr s) some g h = misses_fails before left after c (ConfigHdr s) some g h
 element_fails A before left after c BlockName some g h = misses_fails before left after c BlockName some g h
@@ -74,7 +86,8 @@ element_fails A before left after c BlockConfig some g h = misses_fails before l
 element_fails A before left after c Memory some g h = spells_good before g.body left c g.spells g.whole
 
 -- An error that is passed on is the error of the group.
-pub residual_fails : (A : Type 0) (before after : List Pair) (r : Result (ConfigurationString A) ParseError) (e : ParseError) → IsErrAnd r (λ y. y ≡ e) → TakesGroup {A = A} before (Err e) after → TakesGroup before r after
+pub residual_fails : (A : Type 0) (before after : List Pair) (r : Result (ConfigurationString A) ParseError)
+    (e : ParseError) → IsErrAnd r (λ y. y ≡ e) → TakesGroup {A = A} before (Err e) after → TakesGroup before r after
 residual_fails A before after (Ok c) e h t = absurd h
 residual_fails A before after (Err y) e h t = subst (λ z. TakesGroup {A = A} before (Err z) after) (sym h) t
 
@@ -86,24 +99,33 @@ pub record ComesAfter (before after : List Pair) (c : Configuration) : Type 0 wh
   pub some : c.elements ≢ []
   pub stops : StopsAt after
 
-pub after_element : {A : Type 0} (before left after : List Pair) (c d : ConfigurationString A) (e : ConfigurationStringElement A) → ComesBefore before left (configuration_of c)
-    → TakesElement left (Ok e) after → configuration_of d ≡ record (configuration_of c) { elements = map element_of c.elements.items ++ element_of e ∷ [] } → ComesAfter before after (configuration_of d)
+pub after_element : {A : Type 0} (before left after : List Pair) (c d : ConfigurationString A)
+    (e : ConfigurationStringElement A) → ComesBefore before left (configuration_of c)
+    → TakesElement left (Ok e) after
+        → configuration_of d ≡ record (configuration_of c)
+        { elements = map element_of c.elements.items ++ element_of e ∷ [] }
+        → ComesAfter before after (configuration_of d)
 after_element before left after c d e g t is = record {
   body = g.body ++ t.0;
   whole = g.whole ∙ ap (λ x. g.body ++ x) t.1 ∙ sym (append_assoc g.body t.0 after);
-  spells = subst (Spells (g.body ++ t.0)) (sym is) (spells_element g.body t.0 (configuration_of c) (element_of e) g.spells t.2);
+  spells = subst (Spells (g.body ++ t.0)) (sym is)
+      (spells_element g.body t.0 (configuration_of c) (element_of e) g.spells t.2);
   some = λ z. push_some (map element_of c.elements.items) (element_of e) (sym (ap (λ x. x.elements) is) ∙ z);
   stops = t.3;
 }
 
 -- A configuration, and an element more.
-pub configuration_push : {A : Type 0} (c : ConfigurationString A) (items : List (ConfigurationStringElement A)) (e : ConfigurationStringElement A) → items ≡ c.elements.items ++ e ∷ []
-    → record (configuration_of c) { elements = map element_of items } ≡ record (configuration_of c) { elements = map element_of c.elements.items ++ element_of e ∷ [] }
+pub configuration_push : {A : Type 0} (c : ConfigurationString A) (items : List (ConfigurationStringElement A))
+    (e : ConfigurationStringElement A) → items ≡ c.elements.items ++ e ∷ []
+    → record (configuration_of c) { elements = map element_of items } ≡ record (configuration_of c)
+        { elements = map element_of c.elements.items ++ element_of e ∷ [] }
 configuration_push c items e is =
-    ap (λ x. record (configuration_of c) { elements = x }) (ap (map element_of) is ∙ map-append element_of c.elements.items (e ∷ []))
+    ap (λ x. record (configuration_of c) { elements = x })
+        (ap (map element_of) is ∙ map-append element_of c.elements.items (e ∷ []))
 
 -- Another element comes where the next key is OFFSET; else the configuration ends.
-pub goes_on : (before after : List Pair) (c : Configuration) → ComesAfter before after c → IsKey (codes "OFFSET") (first_pair after) → ComesBefore before after c
+pub goes_on : (before after : List Pair) (c : Configuration) → ComesAfter before after c
+    → IsKey (codes "OFFSET") (first_pair after) → ComesBefore before after c
 goes_on before after c g key = record {
   body = g.body;
   whole = g.whole;
@@ -112,21 +134,32 @@ goes_on before after c g key = record {
   some = λ z. absurd (subst (λ s. IsKey (codes "OFFSET") (first_pair s)) z key);
 }
 
-pub ends : {A : Type 0} (before after : List Pair) (c : ConfigurationString A) → ComesAfter before after (configuration_of c) → ¬ IsKey (codes "OFFSET") (first_pair after) → TakesGroup before (Ok c) after
-ends before after c g other = (g.body, g.whole, record { not_empty = spells_some g.body (configuration_of c) g.spells; gives = (g.spells, at_end after g.stops other) })
+pub ends : {A : Type 0} (before after : List Pair) (c : ConfigurationString A)
+    → ComesAfter before after (configuration_of c) → ¬ IsKey (codes "OFFSET") (first_pair after)
+    → TakesGroup before (Ok c) after
+ends before after c g other =
+    (g.body, g.whole,
+    record { not_empty = spells_some g.body (configuration_of c) g.spells; gives =
+    (g.spells, at_end after g.stops other) })
   where
-    by_test : (q : Pair) (t : Bool) → bytes_eq q.key (codes "GUID") ≡ t → ¬ IsSkipped q → (q.key ≢ codes "OFFSET") → q.key ≡ codes "GUID"
+    by_test : (q : Pair) (t : Bool) → bytes_eq q.key (codes "GUID") ≡ t → ¬ IsSkipped q → (q.key ≢ codes "OFFSET")
+        → q.key ≡ codes "GUID"
     by_test q true e stop off = (bytes_eq-Decides q.key (codes "GUID")).0 e
     by_test q false e stop off = absurd (stop (off, is_other q.key (codes "GUID") e))
 
-    at_end : (s : List Pair) → StopsAt s → ¬ IsKey (codes "OFFSET") (first_pair s) → EndsBefore (first_pair s) (configuration_of c)
+    at_end : (s : List Pair) → StopsAt s → ¬ IsKey (codes "OFFSET") (first_pair s)
+        → EndsBefore (first_pair s) (configuration_of c)
     at_end [] stop off = tt
     at_end (q ∷ s) stop off = (by_test q (bytes_eq q.key (codes "GUID")) refl stop off, g.some)
 
 -- The pairs of an element, one after another.
-pub takes_element : {A : Type 0} (before one two three after : List Pair) (e : ConfigurationStringElement A) (text : List ℕ)
-    → Takes (number_in (codes "OFFSET")) before (Some e.offset) one → Takes (number_in (codes "WIDTH")) one (Some e.width) two → Takes (value_at (codes "VALUE")) two (Some text) three
-    → e.value.items ≡ reverse (hex text) → Skips three (map nv_pair_of e.nvconfig.items) after → TakesElement before (Ok e) after
+pub takes_element : {A : Type 0} (before one two three after : List Pair) (e : ConfigurationStringElement A)
+    (text : List ℕ)
+    → Takes (number_in (codes "OFFSET")) before (Some e.offset) one
+        → Takes (number_in (codes "WIDTH")) one (Some e.width) two
+        → Takes (value_at (codes "VALUE")) two (Some text) three
+    → e.value.items ≡ reverse (hex text) → Skips three (map nv_pair_of e.nvconfig.items) after
+        → TakesElement before (Ok e) after
 takes_element before one two three after e text o w v is s = (
   o.0 ∷ w.0 ∷ v.0 ∷ map nv_pair_of e.nvconfig.items,
   o.1 ∙ ap (λ x. o.0 ∷ x) (w.1 ∙ ap (λ x. w.0 ∷ x) (v.1 ∙ ap (λ x. v.0 ∷ x) s.0)),

@@ -1,5 +1,6 @@
 -- The first byte of a kind in a text, as a search by sixteen bytes finds it.
-use Rattle.std.proofs.Common.{◌≡◌, ℕ, ◌+◌, ◌-◌, ◌*◌, ◌<◌, ◌≤◌, Bool, true, false, cond, not, List, [], ◌∷◌, map, length, get_or, take, sym, ◌∙◌, ap, arith, inl, inr, ◌⊎◌}
+use Rattle.std.proofs.Common.{◌≡◌, ℕ, ◌+◌, ◌-◌, ◌*◌, ◌<◌, ◌≤◌, Bool, true, false, cond, not, List, [], ◌∷◌, map, length}
+use Rattle.std.proofs.Common.{get_or, take, sym, ◌∙◌, ap, arith, inl, inr, ◌⊎◌}
 use Rattle.std.specs.Prelude.{◌==◌, Some, None}
 use Rattle.std.specs.List.{position_or_len}
 use Rattle.std.specs.Str.{IsCharBoundary, IsUtf8}
@@ -37,7 +38,8 @@ finds_none byte end bytes within none =
     ∙ sym (length-take-le end bytes within)
 
 -- Where a bit of a mask is set, some lane passes the test.
-pub some_lane_passes : (p : ℕ → Bool) (lanes : List ℕ) → 0 < mask_l (map p lanes) → position_or_len p lanes < length lanes
+pub some_lane_passes : (p : ℕ → Bool) (lanes : List ℕ) → 0 < mask_l (map p lanes)
+    → position_or_len p lanes < length lanes
 some_lane_passes p [] set = absurd (omega (arith, set))
 some_lane_passes p (x ∷ lanes) set = by_test (p x) set (some_lane_passes p lanes)
   where

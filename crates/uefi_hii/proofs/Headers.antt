@@ -26,7 +26,8 @@ pub record HasThree (before left : List Pair) (x y : List ℕ) (path : List Node
   pub has_path : HasPath p path
 
 pub three_taken : {A : Type 0} (before one two left : List Pair) (x y : List ℕ) (path : BoxedDevicePath A)
-    → Takes guid_in before (Some x) one → Takes name_in one (Some y) two → TakesPath two (Some path) left → HasThree before left x y (boxed_nodes path)
+    → Takes guid_in before (Some x) one → Takes name_in one (Some y) two → TakesPath two (Some path) left
+        → HasThree before left x y (boxed_nodes path)
 three_taken before one two left x y path g n p = record {
   g = g.0;
   n = n.0;
@@ -38,30 +39,42 @@ three_taken before one two left x y path g n p = record {
 }
 
 -- The group fails where the GUID, the name, the path or the identifier has to come, and doesn't.
-pub guid_fails : (before after : List Pair) → before ≢ [] → Takes guid_in before None after → TakesError before (error_of GuidSlot) after
-guid_fails before after some missed = fails_after GuidSlot before [] before after some refl (λ q e. refl) (λ e. refl) missed
+pub guid_fails : (before after : List Pair) → before ≢ [] → Takes guid_in before None after
+    → TakesError before (error_of GuidSlot) after
+guid_fails before after some missed =
+    fails_after GuidSlot before [] before after some refl (λ q e. refl) (λ e. refl) missed
 
-pub name_fails : (before one after : List Pair) (x : List ℕ) → before ≢ [] → Takes guid_in before (Some x) one → Takes name_in one None after → TakesError before (error_of NameSlot) after
+pub name_fails : (before one after : List Pair) (x : List ℕ) → before ≢ [] → Takes guid_in before (Some x) one
+    → Takes name_in one None after → TakesError before (error_of NameSlot) after
 name_fails before one after x some g missed =
     let good : IsGood GuidSlot g.0 = some_is (guid_in g.0) x g.2 in
     fails_after NameSlot before (g.0 ∷ []) one after some g.1 (λ q e. (good, tt)) (λ e. (good, tt)) missed
 
-pub path_fails : (before one two after : List Pair) (x y : List ℕ) → before ≢ [] → Takes guid_in before (Some x) one → Takes name_in one (Some y) two
+pub path_fails : (before one two after : List Pair) (x y : List ℕ) → before ≢ [] → Takes guid_in before (Some x) one
+    → Takes name_in one (Some y) two
     → Misses (IsGood PathSlot) two after → TakesError before (error_of PathSlot) after
 path_fails before one two after x y some g n missed =
     let good : IsGood GuidSlot g.0 = some_is (guid_in g.0) x g.2 in
     let named : IsGood NameSlot n.0 = some_is (name_in n.0) y n.2 in
-    fails_after PathSlot before (g.0 ∷ n.0 ∷ []) two after some (g.1 ∙ ap (λ s. g.0 ∷ s) n.1) (λ q e. (good, (named, tt))) (λ e. (good, (named, tt))) missed
+    fails_after PathSlot before (g.0 ∷ n.0 ∷ []) two after some (g.1 ∙ ap (λ s. g.0 ∷ s) n.1)
+        (λ q e. (good, (named, tt))) (λ e. (good, (named, tt))) missed
 
-pub alt_fails : (before left after : List Pair) (x y : List ℕ) (path : List Node) (e : ParseError) → before ≢ [] → HasThree before left x y path → TakesAlt left (Err e) after → TakesError before e after
+pub alt_fails : (before left after : List Pair) (x y : List ℕ) (path : List Node) (e : ParseError) → before ≢ []
+    → HasThree before left x y path → TakesAlt left (Err e) after → TakesError before e after
 alt_fails before left after x y path e some three missed =
-    let good : IsHeader (three.g ∷ three.n ∷ three.p ∷ []) = (some_is (guid_in three.g) x three.guid, (some_is (name_in three.n) y three.name, ((path, three.has_path), tt))) in
-    let key : (rest : List Pair) → left ≡ rest → IsKey (codes "ALTCFG") (first_pair rest) = λ rest is. subst (λ s. IsKey (codes "ALTCFG") (first_pair s)) is missed.1 in
+    let good : IsHeader (three.g ∷ three.n ∷ three.p ∷ []) =
+        (some_is (guid_in three.g) x three.guid,
+        (some_is (name_in three.n) y three.name, ((path, three.has_path), tt))) in
+    let key : (rest : List Pair) → left ≡ rest
+        → IsKey (codes "ALTCFG") (first_pair rest) =
+        λ rest is. subst (λ s. IsKey (codes "ALTCFG") (first_pair s)) is missed.1 in
     subst (λ x. TakesError before x after) (sym missed.0)
-    (fails_after AltSlot before (three.g ∷ three.n ∷ three.p ∷ []) left after some three.whole (λ q is. (good, key (q ∷ after) is)) (λ is. (good, key [] is)) missed.2)
+    (fails_after AltSlot before (three.g ∷ three.n ∷ three.p ∷ []) left after some three.whole
+        (λ q is. (good, key (q ∷ after) is)) (λ is. (good, key [] is)) missed.2)
 
 -- The header of an error that is passed on.
-pub header_residual : {A : Type 0} (before after : List Pair) (r : Result (ConfigurationString A) ParseError) (e : ParseError) → e ≢ Memory → IsErrAnd r (λ y. y ≡ e) → TakesError before e after → TakesHeader before r after
+pub header_residual : {A : Type 0} (before after : List Pair) (r : Result (ConfigurationString A) ParseError)
+    (e : ParseError) → e ≢ Memory → IsErrAnd r (λ y. y ≡ e) → TakesError before e after → TakesHeader before r after
 header_residual before after (Ok c) e kept h t = absurd h
 header_residual before after (Err (ConfigHdr s)) e kept h t = subst (λ z. TakesError before z after) (sym h) t
 header_residual before after (Err BlockName) e kept h t = subst (λ z. TakesError before z after) (sym h) t
@@ -73,7 +86,8 @@ pub alt_kept : (before after : List Pair) (e : ParseError) → TakesAlt before (
 alt_kept before after e t is = let h = t.0 in cc
 
 -- The header, with an identifier or without.
-pub takes_header : {A : Type 0} (before left after : List Pair) (c : ConfigurationString A) → HasThree before left c.guid.0 (string_bytes c.name) (boxed_nodes c.device_path)
+pub takes_header : {A : Type 0} (before left after : List Pair) (c : ConfigurationString A)
+    → HasThree before left c.guid.0 (string_bytes c.name) (boxed_nodes c.device_path)
     → TakesAlt left (Ok c.alt_cfg_id) after → c.elements.items ≡ [] → TakesHeader before (Ok c) after
 takes_header before left after c three alt none = by_alt c.alt_cfg_id refl alt
   where

@@ -15,7 +15,8 @@ unfolding byte_of_one
 byte_of_one_small c = hex_digit_small c
 
 -- Two digits are below 256, and so is what else two characters spell.
-two_digits_small : (a b : Option ℕ) (other : ℕ) → unwrap_or a 0 < 16 → unwrap_or b 0 < 16 → other < 16 → unwrap_or (two_digits a b) other < 256
+two_digits_small : (a b : Option ℕ) (other : ℕ) → unwrap_or a 0 < 16 → unwrap_or b 0 < 16 → other < 16
+    → unwrap_or (two_digits a b) other < 256
 unfolding two_digits
 two_digits_small (Some high) (Some low) other h l o = omega arith
 two_digits_small (Some high) None other h l o = omega arith
@@ -23,7 +24,8 @@ two_digits_small None b other h l o = omega arith
 
 byte_of_two_small : (c d : ℕ) → byte_of_two c d < 256
 unfolding byte_of_two
-byte_of_two_small c d = two_digits_small (hex_digit c) (hex_digit d) _ (hex_digit_small c) (hex_digit_small d) (by_plus (c == plus_sign))
+byte_of_two_small c d =
+    two_digits_small (hex_digit c) (hex_digit d) _ (hex_digit_small c) (hex_digit_small d) (by_plus (c == plus_sign))
   where
     by_plus : (plus : Bool) → (if plus then byte_of_one d else 0) < 16
     by_plus true = byte_of_one_small d

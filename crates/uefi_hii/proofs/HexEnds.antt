@@ -1,5 +1,6 @@
 -- How many bytes hex spells, and the last of them.
-use Rattle.std.proofs.Common.{◌≡◌, ◌≢◌, ℕ, ◌+◌, ◌*◌, ◌/◌, ◌%◌, ◌≤◌, List, [], ◌∷◌, ◌++◌, length, refl, ◌∙◌, ap, arith, append_assoc, length-append}
+use Rattle.std.proofs.Common.{◌≡◌, ◌≢◌, ℕ, ◌+◌, ◌*◌, ◌/◌, ◌%◌, ◌≤◌, List, [], ◌∷◌, ◌++◌, length, refl, ◌∙◌, ap, arith}
+use Rattle.std.proofs.Common.{append_assoc, length-append}
 use Rattle.uefi_hii.specs.Hex.{byte_of_one, byte_of_two, hex}
 
 -- A byte for each two characters, and for an odd last one.
@@ -22,15 +23,19 @@ hex-push_one [] c even = refl
 hex-push_one (a ∷ []) c even = absurd (omega arith)
 hex-push_one (a ∷ b ∷ front) c even = ap (λ bytes. byte_of_two a b ∷ bytes) (hex-push_one front c (omega arith))
 
-hex-push_two : (front : List ℕ) (c d : ℕ) → length front % 2 ≡ 0 → hex (front ++ c ∷ d ∷ []) ≡ hex front ++ byte_of_two c d ∷ []
+hex-push_two : (front : List ℕ) (c d : ℕ) → length front % 2 ≡ 0
+    → hex (front ++ c ∷ d ∷ []) ≡ hex front ++ byte_of_two c d ∷ []
 hex-push_two [] c d even = refl
 hex-push_two (a ∷ []) c d even = absurd (omega arith)
 hex-push_two (a ∷ b ∷ front) c d even = ap (λ bytes. byte_of_two a b ∷ bytes) (hex-push_two front c d (omega arith))
 
-pub last_of_one : (text front : List ℕ) (c : ℕ) → text ≡ front ++ c ∷ [] → length text % 2 ≢ 0 → hex text ≡ hex front ++ byte_of_one c ∷ []
-last_of_one text front c e odd = ap hex e ∙ hex-push_one front c (omega (arith, ap length e, length-append front (c ∷ [])))
+pub last_of_one : (text front : List ℕ) (c : ℕ) → text ≡ front ++ c ∷ [] → length text % 2 ≢ 0
+    → hex text ≡ hex front ++ byte_of_one c ∷ []
+last_of_one text front c e odd = ap hex e
+    ∙ hex-push_one front c (omega (arith, ap length e, length-append front (c ∷ [])))
 
-pub last_of_two : (text more front : List ℕ) (c d : ℕ) → text ≡ more ++ d ∷ [] → more ≡ front ++ c ∷ [] → length text % 2 ≡ 0 → hex text ≡ hex front ++ byte_of_two c d ∷ []
+pub last_of_two : (text more front : List ℕ) (c d : ℕ) → text ≡ more ++ d ∷ [] → more ≡ front ++ c ∷ []
+    → length text % 2 ≡ 0 → hex text ≡ hex front ++ byte_of_two c d ∷ []
 last_of_two text more front c d e m even =
     let whole : text ≡ front ++ c ∷ d ∷ [] = e ∙ ap (λ s. s ++ d ∷ []) m ∙ append_assoc front (c ∷ []) (d ∷ []) in
     ap hex whole ∙ hex-push_two front c d (omega (arith, ap length whole, length-append front (c ∷ d ∷ [])))

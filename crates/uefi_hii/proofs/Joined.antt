@@ -35,7 +35,8 @@ pieces-joined [] y = refl
 pieces-joined (c ∷ x) y = by_test (is_ampersand c) (pieces-joined x y)
   where
     by_test : (t : Bool) → pieces (x ++ ampersand ∷ y) ≡ pieces x ++ pieces y
-        → cond t ([] ∷ pieces (x ++ ampersand ∷ y)) (onto_first c (pieces (x ++ ampersand ∷ y))) ≡ cond t ([] ∷ pieces x) (onto_first c (pieces x)) ++ pieces y
+        → cond t ([] ∷ pieces (x ++ ampersand ∷ y)) (onto_first c (pieces (x ++ ampersand ∷ y))) ≡ cond t
+            ([] ∷ pieces x) (onto_first c (pieces x)) ++ pieces y
     by_test true e = ap (λ z. [] ∷ z) e
     by_test false e = ap (onto_first c) e ∙ onto_first-append c (pieces x) (pieces y) (pieces_some is_ampersand x)
 
@@ -43,12 +44,16 @@ pieces-joined (c ∷ x) y = by_test (is_ampersand c) (pieces-joined x y)
 last_kept : (c : ℕ) (x : List ℕ) → ¬ EndsWithAmpersand (c ∷ x) → without_empty_last (pieces (c ∷ x)) ≡ pieces (c ∷ x)
 last_kept c [] closed = by_test (is_ampersand c) (Decides-eqb c ampersand).0
   where
-    by_test : (t : Bool) → (t ≡ true → c ≡ ampersand) → without_empty_last (cond t ([] ∷ [] ∷ []) ((c ∷ []) ∷ [])) ≡ cond t ([] ∷ [] ∷ []) ((c ∷ []) ∷ [])
+    by_test : (t : Bool) → (t ≡ true → c ≡ ampersand)
+        → without_empty_last (cond t ([] ∷ [] ∷ []) ((c ∷ []) ∷ [])) ≡ cond t ([] ∷ [] ∷ []) ((c ∷ []) ∷ [])
     by_test true e = absurd (closed ([], ap (λ z. z ∷ []) (e refl)))
     by_test false e = refl
-last_kept c (d ∷ x) closed = by_test (is_ampersand c) (pieces (d ∷ x)) (pieces_some is_ampersand (d ∷ x)) (last_kept d x (λ o. closed (c ∷ o.0, ap (λ z. c ∷ z) o.1)))
+last_kept c (d ∷ x) closed =
+    by_test (is_ampersand c) (pieces (d ∷ x)) (pieces_some is_ampersand (d ∷ x))
+    (last_kept d x (λ o. closed (c ∷ o.0, ap (λ z. c ∷ z) o.1)))
   where
-    tail_kept : (q r : List ℕ) (parts : List (List ℕ)) → without_empty_last (q ∷ r ∷ parts) ≡ q ∷ r ∷ parts → without_empty_last (r ∷ parts) ≡ r ∷ parts
+    tail_kept : (q r : List ℕ) (parts : List (List ℕ)) → without_empty_last (q ∷ r ∷ parts) ≡ q ∷ r ∷ parts
+        → without_empty_last (r ∷ parts) ≡ r ∷ parts
     tail_kept [] r parts e = cc
     tail_kept (a ∷ q) r parts e = cc
 
@@ -59,13 +64,15 @@ last_kept c (d ∷ x) closed = by_test (is_ampersand c) (pieces (d ∷ x)) (piec
     by_test false (q ∷ []) some e = refl
     by_test false (q ∷ r ∷ parts) some e = ap (λ z. (c ∷ q) ∷ z) (tail_kept q r parts e)
 
-without_empty_last-append : (ps qs : List (List ℕ)) → qs ≢ [] → without_empty_last (ps ++ qs) ≡ ps ++ without_empty_last qs
+without_empty_last-append : (ps qs : List (List ℕ)) → qs ≢ []
+    → without_empty_last (ps ++ qs) ≡ ps ++ without_empty_last qs
 without_empty_last-append [] qs some = refl
 without_empty_last-append (p ∷ []) [] some = absurd (some refl)
 without_empty_last-append ([] ∷ []) (q ∷ qs) some = refl
 without_empty_last-append ((b ∷ p) ∷ []) (q ∷ qs) some = refl
 without_empty_last-append ([] ∷ r ∷ ps) qs some = ap (λ z. [] ∷ z) (without_empty_last-append (r ∷ ps) qs some)
-without_empty_last-append ((b ∷ p) ∷ r ∷ ps) qs some = ap (λ z. (b ∷ p) ∷ z) (without_empty_last-append (r ∷ ps) qs some)
+without_empty_last-append ((b ∷ p) ∷ r ∷ ps) qs some =
+    ap (λ z. (b ∷ p) ∷ z) (without_empty_last-append (r ∷ ps) qs some)
 
 -- The pairs of joined texts are those of both.
 pairs-joined : (x y : List ℕ) → x ≢ [] → ¬ EndsWithAmpersand x → pairs (x ++ ampersand ∷ y) ≡ pairs x ++ pairs y
@@ -82,17 +89,21 @@ same_first [] rest more some = absurd (some refl)
 same_first (p ∷ g) rest more some = refl
 
 -- Groups of which the last is a configuration with an element stay groups before a pair with the key GUID.
-groups-joined : (l m : List Part) → EndsWithElement l → AreGroups l → AreGroups m → IsKey (codes "GUID") (first_pair (pairs_of m)) → AreGroups (l ++ m)
+groups-joined : (l m : List Part) → EndsWithElement l → AreGroups l → AreGroups m
+    → IsKey (codes "GUID") (first_pair (pairs_of m)) → AreGroups (l ++ m)
 groups-joined [] m e a b key = absurd e
 groups-joined (g ∷ []) m e a b key = (by_result g.result a.0 e, b)
   where
-    by_key : (p : Option Pair) (c : Configuration) → IsKey (codes "GUID") p → IsOkAnd {E = ParseError} (Ok c) (λ c. c.elements ≢ []) → EndsBefore p c
+    by_key : (p : Option Pair) (c : Configuration) → IsKey (codes "GUID") p
+        → IsOkAnd {E = ParseError} (Ok c) (λ c. c.elements ≢ []) → EndsBefore p c
     by_key None c key some = absurd key
     by_key (Some q) c key some = (key, some)
 
-    by_result : (r : Result Configuration ParseError) → Group g.group None r → IsOkAnd r (λ c. c.elements ≢ []) → Group g.group (first_pair (pairs_of m)) r
+    by_result : (r : Result Configuration ParseError) → Group g.group None r → IsOkAnd r (λ c. c.elements ≢ [])
+        → Group g.group (first_pair (pairs_of m)) r
     by_result (Err x) h some = absurd some
-    by_result (Ok c) h some = record { not_empty = h.not_empty; gives = (h.gives.0, by_key (first_pair (pairs_of m)) c key some) }
+    by_result (Ok c) h some =
+        record { not_empty = h.not_empty; gives = (h.gives.0, by_key (first_pair (pairs_of m)) c key some) }
 groups-joined (g ∷ h ∷ l) m e a b key = (
   subst (λ p. Group g.group p g.result) (same_first h.group (pairs_of l) (pairs_of (l ++ m)) a.1.0.not_empty) a.0,
   groups-joined (h ∷ l) m e a.1 b key,
@@ -105,7 +116,8 @@ text_some x (g ∷ l) c e z = group_some g.group (pairs_of l) _ g.result c.each.
 
 joins_cuts : JoinsCuts
 joins_cuts x y l m c d closed e key = record {
-  whole = flat_map-append (λ z. z.group) l m ∙ ap (λ z. z ++ pairs_of m) c.whole ∙ ap (λ z. pairs x ++ z) d.whole ∙ sym (pairs-joined x y (text_some x l c e) closed);
+  whole = flat_map-append (λ z. z.group) l m ∙ ap (λ z. z ++ pairs_of m) c.whole ∙ ap (λ z. pairs x ++ z) d.whole
+      ∙ sym (pairs-joined x y (text_some x l c e) closed);
   each = groups-joined l m e c.each d.each (subst (λ z. IsKey (codes "GUID") (first_pair z)) (sym d.whole) key);
 }
 

@@ -1,5 +1,6 @@
 -- Where pairs lead that spell a configuration.
-use Rattle.std.proofs.Common.{◌≡◌, ◌≢◌, ℕ, Bool, true, false, List, [], ◌∷◌, ◌++◌, refl, sym, ◌∙◌, ap, subst, append_assoc}
+use Rattle.std.proofs.Common.{◌≡◌, ◌≢◌, ℕ, Bool, true, false, List, [], ◌∷◌, ◌++◌, refl, sym, ◌∙◌, ap, subst}
+use Rattle.std.proofs.Common.{append_assoc}
 use Rattle.std.proofs.lemmas.List.{append-nil}
 use Rattle.std.proofs.lemmas.Slice.Eq.{bytes_eq-Decides}
 use Rattle.std.specs.Prelude.{Option, Some, None, codes, option_and_then, if◌then◌else◌}
@@ -8,10 +9,13 @@ use Rattle.std.specs.List.{AllByRecursion}
 use Rattle.uefi_path.specs.Node.{Node}
 use Rattle.uefi_hii.specs.Pairs.{Pair}
 use Rattle.uefi_hii.specs.Values.{number}
-use Rattle.uefi_hii.specs.Configuration.{Configuration, Element, HasPath, Spells, SpellsElement, SpellsElements, SpellsHeader, guid_in, name_in, number_in}
+use Rattle.uefi_hii.specs.Configuration.{Configuration, Element, HasPath, Spells, SpellsElement, SpellsElements}
+use Rattle.uefi_hii.specs.Configuration.{SpellsHeader, guid_in, name_in, number_in}
 use Rattle.uefi_hii.specs.private.Parts.{IsSkipped}
 use Rattle.uefi_hii.specs.Slots.{AltSlot, GuidSlot, NameSlot, OffsetSlot, PathSlot, Slot, ValueSlot, WidthSlot}
-use Rattle.uefi_hii.proofs.Machine.{AfterGuid, AfterName, AfterOffset, AfterWidth, InBody, Leads, Next, Start, State, Stop, element, expect, header_of, in_body, last_with_pair, leads_on, leads_one, step, with_alt, with_element, with_pair, with_skipped}
+use Rattle.uefi_hii.proofs.Machine.{AfterGuid, AfterName, AfterOffset, AfterWidth, InBody, Leads, Next, Start, State}
+use Rattle.uefi_hii.proofs.Machine.{Stop, element, expect, header_of, in_body, last_with_pair, leads_on, leads_one}
+use Rattle.uefi_hii.proofs.Machine.{step, with_alt, with_element, with_pair, with_skipped}
 use Rattle.uefi_hii.proofs.PathIn.{path_in-is}
 
 -- The test of a key, where the pair has it, and where it has another.
@@ -36,7 +40,8 @@ apart k a b e other = ap (λ x. bytes_eq x b) e ∙ other
 number_key : (key : List ℕ) (p : Pair) (n : ℕ) → number_in key p ≡ Some n → p.key ≡ key
 number_key key p n = by_test (bytes_eq p.key key) (bytes_eq-Decides p.key key).0
   where
-    by_test : (t : Bool) → (t ≡ true → p.key ≡ key) → option_and_then number (if t then p.value else None) ≡ Some n → p.key ≡ key
+    by_test : (t : Bool) → (t ≡ true → p.key ≡ key) → option_and_then number (if t then p.value else None) ≡ Some n
+        → p.key ≡ key
     by_test true same e = same refl
     by_test false same e = cc
 
@@ -45,12 +50,14 @@ push_some [] x e = cc
 push_some (y ∷ xs) x e = cc
 
 -- A pair that holds what its slot asks for is read.
-pub expect-some : {A : Type 0} (slot : Slot) (next : A → State) (o : Option A) (x : A) → o ≡ Some x → expect slot next o ≡ Next (next x)
+pub expect-some : {A : Type 0} (slot : Slot) (next : A → State) (o : Option A) (x : A) → o ≡ Some x
+    → expect slot next o ≡ Next (next x)
 unfolding expect
 expect-some slot next o x e = ap (expect slot next) e
 
 -- In a body, a pair with an offset is read.
-in_body-offset : (c : Configuration) (es : List Element) (alt : Option ℕ) (a o g : Bool) (p : Pair) (n : ℕ) → a ≡ false → o ≡ true
+in_body-offset : (c : Configuration) (es : List Element) (alt : Option ℕ) (a o g : Bool) (p : Pair) (n : ℕ) → a ≡ false
+    → o ≡ true
     → number_in (codes "OFFSET") p ≡ Some n → in_body c es alt a o g p ≡ Next (AfterOffset c n)
 unfolding in_body
 in_body-offset c [] None true o g p n a_is o_is e = cc
@@ -59,14 +66,16 @@ in_body-offset c [] (Some id) a o g p n a_is o_is e = expect-some OffsetSlot (Af
 in_body-offset c (x ∷ es) alt a true g p n a_is o_is e = expect-some OffsetSlot (AfterOffset c) _ n e
 in_body-offset c (x ∷ es) alt a false g p n a_is o_is e = cc
 
-pub step-offset : (c : Configuration) (p : Pair) (n : ℕ) → number_in (codes "OFFSET") p ≡ Some n → step (InBody c) p ≡ Next (AfterOffset c n)
+pub step-offset : (c : Configuration) (p : Pair) (n : ℕ) → number_in (codes "OFFSET") p ≡ Some n
+    → step (InBody c) p ≡ Next (AfterOffset c n)
 unfolding step
 step-offset c p n e =
     let key : p.key ≡ codes "OFFSET" = number_key (codes "OFFSET") p n e in
     in_body-offset c c.elements c.alt_cfg_id _ _ _ p n (apart p.key _ (codes "ALTCFG") key refl) (is_key p.key _ key) e
 
 -- Behind an element, a pair of neither key is skipped, and the last element keeps it.
-in_body-skip : (c : Configuration) (es : List Element) (alt : Option ℕ) (a o g : Bool) (p : Pair) → es ≢ [] → o ≡ false → g ≡ false
+in_body-skip : (c : Configuration) (es : List Element) (alt : Option ℕ) (a o g : Bool) (p : Pair) → es ≢ [] → o ≡ false
+    → g ≡ false
     → in_body c es alt a o g p ≡ Next (InBody (with_skipped c p))
 unfolding in_body
 in_body-skip c [] alt a o g p some o_is g_is = absurd (some refl)
@@ -74,12 +83,15 @@ in_body-skip c (x ∷ es) alt a true g p some o_is g_is = cc
 in_body-skip c (x ∷ es) alt a false true p some o_is g_is = cc
 in_body-skip c (x ∷ es) alt a false false p some o_is g_is = refl
 
-step-skip : (c : Configuration) (p : Pair) → c.elements ≢ [] → IsSkipped p → step (InBody c) p ≡ Next (InBody (with_skipped c p))
+step-skip : (c : Configuration) (p : Pair) → c.elements ≢ [] → IsSkipped p
+    → step (InBody c) p ≡ Next (InBody (with_skipped c p))
 unfolding step
-step-skip c p some s = in_body-skip c c.elements c.alt_cfg_id _ _ _ p some (is_not_key p.key _ s.0) (is_not_key p.key _ s.1)
+step-skip c p some s =
+    in_body-skip c c.elements c.alt_cfg_id _ _ _ p some (is_not_key p.key _ s.0) (is_not_key p.key _ s.1)
 
 -- Behind an element, a pair with the key GUID begins the next group.
-in_body-stop : (c : Configuration) (es : List Element) (alt : Option ℕ) (a o g : Bool) (p : Pair) → es ≢ [] → o ≡ false → g ≡ true
+in_body-stop : (c : Configuration) (es : List Element) (alt : Option ℕ) (a o g : Bool) (p : Pair) → es ≢ [] → o ≡ false
+    → g ≡ true
     → in_body c es alt a o g p ≡ Stop
 unfolding in_body
 in_body-stop c [] alt a o g p some o_is g_is = absurd (some refl)
@@ -98,7 +110,8 @@ pub step-alt : (g n : List ℕ) (path : List Node) (a : Pair) (id : ℕ) → num
 unfolding step in_body
 step-alt g n path a id e =
     let key : bytes_eq a.key (codes "ALTCFG") ≡ true = is_key a.key _ (number_key (codes "ALTCFG") a id e) in
-    ap (λ t. in_body (header_of g n path) [] None t (bytes_eq a.key (codes "OFFSET")) (bytes_eq a.key (codes "GUID")) a) key
+    ap (λ t. in_body (header_of g n path) [] None t (bytes_eq a.key (codes "OFFSET")) (bytes_eq a.key (codes "GUID")) a)
+        key
     ∙ expect-some AltSlot (λ id. InBody (with_alt (header_of g n path) id)) _ id e
 
 -- The configuration of the header alone.
@@ -131,13 +144,16 @@ leads_header (g ∷ n ∷ p ∷ []) c s =
     let is : header_of c.guid c.name c.path ≡ bare c = ap (λ a. record (bare c) { alt_cfg_id = a }) (sym s.3) in
     subst (λ x. Leads Start (g ∷ n ∷ p ∷ []) (InBody x)) is (leads_three g n p c s.0 s.1 s.2)
 leads_header (g ∷ n ∷ p ∷ a ∷ []) c s =
-    let is : with_alt (header_of c.guid c.name c.path) s.3.0 ≡ bare c = ap (λ a. record (bare c) { alt_cfg_id = a }) (sym s.3.2) in
+    let is : with_alt (header_of c.guid c.name c.path) s.3.0 ≡ bare c =
+        ap (λ a. record (bare c) { alt_cfg_id = a }) (sym s.3.2) in
     subst (λ x. Leads Start (g ∷ n ∷ p ∷ a ∷ []) (InBody x)) is
-    (leads_on Start _ _ (g ∷ n ∷ p ∷ []) (a ∷ []) (leads_three g n p c s.0 s.1 s.2) (leads_one _ _ a (step-alt c.guid c.name c.path a s.3.0 s.3.1)))
+    (leads_on Start _ _ (g ∷ n ∷ p ∷ []) (a ∷ []) (leads_three g n p c s.0 s.1 s.2)
+        (leads_one _ _ a (step-alt c.guid c.name c.path a s.3.0 s.3.1)))
 leads_header (g ∷ n ∷ p ∷ a ∷ b ∷ h) c s = absurd s
 
 -- The last of elements skips a pair more.
-last_with_pair-push : (es : List Element) (e : Element) (p : Pair) → last_with_pair (es ++ e ∷ []) p ≡ es ++ with_pair e p ∷ []
+last_with_pair-push : (es : List Element) (e : Element) (p : Pair)
+    → last_with_pair (es ++ e ∷ []) p ≡ es ++ with_pair e p ∷ []
 last_with_pair-push [] e p = refl
 last_with_pair-push (f ∷ []) e p = refl
 last_with_pair-push (f ∷ g ∷ es) e p = ap (λ x. f ∷ x) (last_with_pair-push (g ∷ es) e p)
@@ -153,13 +169,16 @@ unfolding Leads
 leads_skipped [] c e s = ap (λ x. InBody (with_element c (record e { nvconfig = x }))) (sym (append-nil e.nvconfig))
 leads_skipped (p ∷ ps) c e s = (
   InBody (with_element c (with_pair e p)),
-  step-skip (with_element c e) p (push_some c.elements e) s.0 ∙ ap (λ x. Next (InBody (record c { elements = x }))) (last_with_pair-push c.elements e p),
-  subst (λ x. Leads (InBody (with_element c (with_pair e p))) ps (InBody (with_element c (record e { nvconfig = x })))) (append_assoc e.nvconfig (p ∷ []) ps)
+  step-skip (with_element c e) p (push_some c.elements e) s.0
+      ∙ ap (λ x. Next (InBody (record c { elements = x }))) (last_with_pair-push c.elements e p),
+  subst (λ x. Leads (InBody (with_element c (with_pair e p))) ps (InBody (with_element c (record e { nvconfig = x }))))
+      (append_assoc e.nvconfig (p ∷ []) ps)
       (leads_skipped ps c (with_pair e p) s.1),
 )
 
 -- An element leads to the configuration with it, and elements to that with all of them.
-leads_element : (ps : List Pair) (e : Element) (c : Configuration) → SpellsElement ps e → Leads (InBody c) ps (InBody (with_element c e))
+leads_element : (ps : List Pair) (e : Element) (c : Configuration) → SpellsElement ps e
+    → Leads (InBody c) ps (InBody (with_element c e))
 unfolding Leads step
 leads_element [] e c s = absurd s
 leads_element (o ∷ []) e c s = absurd s
@@ -173,7 +192,8 @@ leads_element (o ∷ w ∷ v ∷ ps) e c s = (
     (
       InBody (with_element c (element e.offset e.width e.value)),
       expect-some ValueSlot (λ x. InBody (with_element c (element e.offset e.width x))) _ e.value s.2,
-      subst (λ x. Leads (InBody (with_element c (element e.offset e.width e.value))) ps (InBody (with_element c (record e { nvconfig = x })))) s.3
+      subst (λ x. Leads (InBody (with_element c (element e.offset e.width e.value))) ps
+          (InBody (with_element c (record e { nvconfig = x })))) s.3
           (leads_skipped ps c (element e.offset e.width e.value) s.4),
     ),
   ),
@@ -182,17 +202,21 @@ leads_element (o ∷ w ∷ v ∷ ps) e c s = (
 abbrev with_elements : Configuration → List Element → Configuration
 with_elements c es = record c { elements = c.elements ++ es }
 
-leads_elements : (ps : List Pair) (es : List Element) (c : Configuration) → SpellsElements ps es → Leads (InBody c) ps (InBody (with_elements c es))
+leads_elements : (ps : List Pair) (es : List Element) (c : Configuration) → SpellsElements ps es
+    → Leads (InBody c) ps (InBody (with_elements c es))
 unfolding Leads
 leads_elements ps [] c s =
-    subst (λ x. Leads (InBody c) x (InBody (with_elements c []))) (sym s) (ap (λ x. InBody (record c { elements = x })) (sym (append-nil c.elements)))
+    subst (λ x. Leads (InBody c) x (InBody (with_elements c []))) (sym s)
+        (ap (λ x. InBody (record c { elements = x })) (sym (append-nil c.elements)))
 leads_elements ps (e ∷ es) c s =
     subst (λ x. Leads (InBody c) x (InBody (with_elements c (e ∷ es)))) (sym s.2)
     (leads_on (InBody c) (InBody (with_element c e)) _ s.0 s.1 (leads_element s.0 e c s.3)
-    (subst (λ x. Leads (InBody (with_element c e)) s.1 (InBody (record c { elements = x }))) (append_assoc c.elements (e ∷ []) es) (leads_elements s.1 es (with_element c e) s.4)))
+    (subst (λ x. Leads (InBody (with_element c e)) s.1 (InBody (record c { elements = x })))
+        (append_assoc c.elements (e ∷ []) es) (leads_elements s.1 es (with_element c e) s.4)))
 
 -- The pairs of a configuration lead to it.
 pub leads_body : (ps : List Pair) (c : Configuration) → Spells ps c → Leads Start ps (InBody c)
 leads_body ps c s =
     subst (λ x. Leads Start x (InBody c)) (sym s.whole)
-    (leads_on Start (InBody (bare c)) (InBody c) s.header s.rest (leads_header s.header c s.is_header) (leads_elements s.rest c.elements (bare c) s.elements))
+    (leads_on Start (InBody (bare c)) (InBody c) s.header s.rest (leads_header s.header c s.is_header)
+        (leads_elements s.rest c.elements (bare c) s.elements))

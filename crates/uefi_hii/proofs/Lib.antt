@@ -23,3 +23,4 @@ pub mod Taken
 pub mod Headers
 pub mod Elements
 pub mod Wholes
+pub mod FirstResult

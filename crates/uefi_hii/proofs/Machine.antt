@@ -8,7 +8,8 @@ use Rattle.uefi_path.specs.Node.{Node}
 use Rattle.uefi_hii.specs.Pairs.{Pair}
 use Rattle.uefi_hii.specs.Configuration.{Configuration, Element, bytes_in, guid_in, name_in, number_in}
 use Rattle.uefi_hii.specs.private.Parts.{low_16_bits}
-use Rattle.uefi_hii.specs.Slots.{AltSlot, GuidSlot, NameSlot, OffsetSlot, PathSlot, Slot, ValueSlot, WidthSlot, error_of}
+use Rattle.uefi_hii.specs.Slots.{AltSlot, GuidSlot, NameSlot, OffsetSlot, PathSlot, Slot, ValueSlot, WidthSlot}
+use Rattle.uefi_hii.specs.Slots.{error_of}
 use Rattle.uefi_hii.proofs.PathIn.{path_in}
 
 -- The parts of a configuration, as pairs add them.
@@ -56,7 +57,8 @@ unfoldable pub expect : {A : Type 0} → Slot → (A → State) → Option A →
 expect slot next (Some x) = Next (next x)
 expect slot next None = Fail slot
 
--- The step behind a header or an element, by the elements and the identifier so far, and by whether the key is ALTCFG, OFFSET or GUID.
+-- The step behind a header or an element, by the elements and the identifier so far, and by whether the key is ALTCFG,
+-- OFFSET or GUID.
 unfoldable pub in_body : Configuration → List Element → Option ℕ → Bool → Bool → Bool → Pair → Step
 in_body c [] None true o g p = expect AltSlot (λ id. InBody (with_alt c id)) (number_in (codes "ALTCFG") p)
 in_body c [] None false o g p = expect OffsetSlot (AfterOffset c) (number_in (codes "OFFSET") p)
@@ -69,7 +71,9 @@ unfoldable pub step : State → Pair → Step
 step Start p = expect GuidSlot AfterGuid (guid_in p)
 step (AfterGuid g) p = expect NameSlot (AfterName g) (name_in p)
 step (AfterName g n) p = expect PathSlot (λ path. InBody (header_of g n path)) (path_in p)
-step (InBody c) p = in_body c c.elements c.alt_cfg_id (bytes_eq p.key (codes "ALTCFG")) (bytes_eq p.key (codes "OFFSET")) (bytes_eq p.key (codes "GUID")) p
+step (InBody c) p =
+    in_body c c.elements c.alt_cfg_id (bytes_eq p.key (codes "ALTCFG")) (bytes_eq p.key (codes "OFFSET"))
+    (bytes_eq p.key (codes "GUID")) p
 step (AfterOffset c o) p = expect WidthSlot (AfterWidth c o) (number_in (codes "WIDTH") p)
 step (AfterWidth c o w) p = expect ValueSlot (λ v. InBody (with_element c (element o w v))) (bytes_in p)
 
@@ -129,14 +133,17 @@ pub run-end : (s : State) (f : List Pair) → run s f [] ≡ outcome f [] (resul
 unfolding run
 run-end s f = refl
 
-pub run-fail : (s : State) (f : List Pair) (p : Pair) (ps : List Pair) (slot : Slot) → step s p ≡ Fail slot → run s f (p ∷ ps) ≡ outcome (f ++ p ∷ []) ps (Err (error_of slot))
+pub run-fail : (s : State) (f : List Pair) (p : Pair) (ps : List Pair) (slot : Slot) → step s p ≡ Fail slot
+    → run s f (p ∷ ps) ≡ outcome (f ++ p ∷ []) ps (Err (error_of slot))
 unfolding run run_by
 run-fail s f p ps slot e = ap (λ x. run_by s f p ps x (λ t. run t (f ++ p ∷ []) ps)) e
 
-pub run-stop : (s : State) (f : List Pair) (p : Pair) (ps : List Pair) → step s p ≡ Stop → run s f (p ∷ ps) ≡ outcome f (p ∷ ps) (result_at_end s)
+pub run-stop : (s : State) (f : List Pair) (p : Pair) (ps : List Pair) → step s p ≡ Stop
+    → run s f (p ∷ ps) ≡ outcome f (p ∷ ps) (result_at_end s)
 unfolding run run_by
 run-stop s f p ps e = ap (λ x. run_by s f p ps x (λ t. run t (f ++ p ∷ []) ps)) e
 
-pub run-next : (s t : State) (f : List Pair) (p : Pair) (ps : List Pair) → step s p ≡ Next t → run s f (p ∷ ps) ≡ run t (f ++ p ∷ []) ps
+pub run-next : (s t : State) (f : List Pair) (p : Pair) (ps : List Pair) → step s p ≡ Next t
+    → run s f (p ∷ ps) ≡ run t (f ++ p ∷ []) ps
 unfolding run run_by
 run-next s t f p ps e = ap (λ x. run_by s f p ps x (λ t. run t (f ++ p ∷ []) ps)) e

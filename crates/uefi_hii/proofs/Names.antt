@@ -1,5 +1,6 @@
 -- A name read unit by unit.
-use Rattle.std.proofs.Common.{◌≡◌, ◌≢◌, ℕ, ◌+◌, ◌*◌, ◌%◌, Bool, true, false, List, [], ◌∷◌, ◌++◌, length, refl, sym, ◌∙◌, ap}
+use Rattle.std.proofs.Common.{◌≡◌, ◌≢◌, ℕ, ◌+◌, ◌*◌, ◌%◌, Bool, true, false, List, [], ◌∷◌, ◌++◌, length, refl, sym}
+use Rattle.std.proofs.Common.{◌∙◌, ap}
 use Rattle.std.proofs.lemmas.List.{append-nil}
 use Rattle.std.specs.Prelude.{Option, Some, None, ◌&&◌, ◌==◌, if◌then◌else◌, encode_utf8_all}
 use Rattle.std.specs.List.{list_all}
@@ -30,7 +31,8 @@ abbrev name_by : List ℕ → Bool → Bool → Bool → Option (List ℕ)
 name_by value even odd each = if even && odd && each then Some (encode_utf8_all (units (hex value))) else None
 
 -- At the end of the bytes the text is the name.
-pub named_all : (value text : List ℕ) → is_even (length value) ≡ true → HasNamed (hex value) [] text → name value ≡ Some text
+pub named_all : (value text : List ℕ) → is_even (length value) ≡ true → HasNamed (hex value) [] text
+    → name value ≡ Some text
 named_all value text even named =
     ap (λ t. name_by value t (is_odd_byte_zero (hex value)) (list_all is_name_unit (units (hex value)))) even
     ∙ ap (λ t. name_by value true t (list_all is_name_unit (units (hex value)))) (sym named.odd)
@@ -38,7 +40,8 @@ named_all value text even named =
     ∙ ap Some (sym named.text ∙ append-nil text)
 
 -- At an odd last byte it is, if the byte is 0.
-pub named_odd : (value text : List ℕ) (a : ℕ) → is_even (length value) ≡ true → HasNamed (hex value) (a ∷ []) text → name value ≡ (if a == 0 then Some text else None)
+pub named_odd : (value text : List ℕ) (a : ℕ) → is_even (length value) ≡ true → HasNamed (hex value) (a ∷ []) text
+    → name value ≡ (if a == 0 then Some text else None)
 named_odd value text a even named =
     ap (λ t. name_by value t (is_odd_byte_zero (hex value)) (list_all is_name_unit (units (hex value)))) even
     ∙ ap (λ t. name_by value true t (list_all is_name_unit (units (hex value)))) (sym named.odd)
@@ -50,9 +53,11 @@ named_odd value text a even named =
     by_test false = refl
 
 -- There is no name where a unit is none of a name.
-pub named_bad : (value left text : List ℕ) (a b : ℕ) → HasNamed (hex value) (a ∷ b ∷ left) text → is_name_unit (a * 256 + b) ≡ false → name value ≡ None
+pub named_bad : (value left text : List ℕ) (a b : ℕ) → HasNamed (hex value) (a ∷ b ∷ left) text
+    → is_name_unit (a * 256 + b) ≡ false → name value ≡ None
 named_bad value left text a b named bad =
-    ap (λ t. name_by value (is_even (length value)) (is_odd_byte_zero (hex value)) t) (sym named.each ∙ ap (λ t. t && list_all is_name_unit (units left)) bad)
+    ap (λ t. name_by value (is_even (length value)) (is_odd_byte_zero (hex value)) t)
+        (sym named.each ∙ ap (λ t. t && list_all is_name_unit (units left)) bad)
     ∙ by_tests (is_even (length value)) (is_odd_byte_zero (hex value))
   where
     by_tests : (x y : Bool) → name_by value x y false ≡ None
@@ -62,4 +67,6 @@ named_bad value left text a b named bad =
 
 -- There is none of an odd number of characters.
 pub named_never : (value : List ℕ) → length value % 2 ≢ 0 → name value ≡ None
-named_never value odd = ap (λ t. name_by value t (is_odd_byte_zero (hex value)) (list_all is_name_unit (units (hex value)))) (differs (length value % 2) 0 odd)
+named_never value odd =
+    ap (λ t. name_by value t (is_odd_byte_zero (hex value)) (list_all is_name_unit (units (hex value))))
+    (differs (length value % 2) 0 odd)

@@ -30,12 +30,15 @@ pub read_none : (all : List ℕ) → HasRead all all 0
 unfolding limit
 read_none all = record { number = refl; size = (0, omega arith, omega arith) }
 
-pub read_more : (all left : List ℕ) (n byte : ℕ) → HasRead all (byte ∷ left) n → byte < 256 → HasRead all left (n * 256 + byte)
+pub read_more : (all left : List ℕ) (n byte : ℕ) → HasRead all (byte ∷ left) n → byte < 256
+    → HasRead all left (n * 256 + byte)
 unfolding limit
-read_more all left n byte read small = record { number = read.number; size = (suc read.size.0, omega (arith, read.size.1), omega (arith, read.size.2)) }
+read_more all left n byte read small =
+    record { number = read.number; size = (suc read.size.0, omega (arith, read.size.1), omega (arith, read.size.2)) }
 
 -- A number of at most eight bytes fits 64 bits.
-pub read_fits : (all left : List ℕ) (n byte : ℕ) → HasRead all (byte ∷ left) n → byte < 256 → length all ≤ 8 → n * 256 + byte < 18446744073709551616
+pub read_fits : (all left : List ℕ) (n byte : ℕ) → HasRead all (byte ∷ left) n → byte < 256 → length all ≤ 8
+    → n * 256 + byte < 18446744073709551616
 unfolding limit
 read_fits all left n byte read small short =
     let below : limit (suc read.size.0) ≤ limit 8 = limit-grows (suc read.size.0) 8 (omega (arith, read.size.1)) in

@@ -1,5 +1,6 @@
 -- Every other element of a list, and the items that pairs of digits stand for.
-use Rattle.std.proofs.Common.{◌≡◌, ℕ, ◌+◌, ◌*◌, ◌<◌, ◌≤◌, zero, suc, true, List, [], ◌∷◌, ◌++◌, map, length, get_or, take, drop, replicate, refl, sym, subst, ap, ap₂, ◌∙◌, arith, w8, Fits}
+use Rattle.std.proofs.Common.{◌≡◌, ℕ, ◌+◌, ◌*◌, ◌<◌, ◌≤◌, zero, suc, true, List, [], ◌∷◌, ◌++◌, map, length, get_or}
+use Rattle.std.proofs.Common.{take, drop, replicate, refl, sym, subst, ap, ap₂, ◌∙◌, arith, w8, Fits}
 use Rattle.std.proofs.lemmas.Bool.Decides.{nat_tests}
 use Rattle.std.specs.Prelude.{Option, Some, None, is_some, unwrap_or}
 use Rattle.std.specs.List.{list_all}
@@ -61,19 +62,23 @@ value_small : (x : ℕ) → is_hex_digit x ≡ true → byte_of_one x < 16
 unfolding hex_digit byte_of_one
 value_small x h = grind (arith, nat_tests)
 
-both_digits : (high low : Option ℕ) (otherwise : ℕ) → is_some high ≡ true → is_some low ≡ true → unwrap_or (two_digits high low) otherwise ≡ unwrap_or high 0 * 16 + unwrap_or low 0
+both_digits : (high low : Option ℕ) (otherwise : ℕ) → is_some high ≡ true → is_some low ≡ true
+    → unwrap_or (two_digits high low) otherwise ≡ unwrap_or high 0 * 16 + unwrap_or low 0
 unfolding two_digits
 both_digits (Some high) (Some low) otherwise p q = refl
 both_digits (Some high) None otherwise p q = absurd cc
 both_digits None low otherwise p q = absurd cc
 
-byte_of_digits : (x y : ℕ) → is_hex_digit x ≡ true → is_hex_digit y ≡ true → byte_of_two x y ≡ byte_of_one x * 16 + byte_of_one y
+byte_of_digits : (x y : ℕ) → is_hex_digit x ≡ true → is_hex_digit y ≡ true
+    → byte_of_two x y ≡ byte_of_one x * 16 + byte_of_one y
 unfolding byte_of_two byte_of_one
 byte_of_digits x y p q = both_digits (hex_digit x) (hex_digit y) _ p q
 
 -- the items of pairs of digits, as a vector operation on the values of the high and of the low digits makes them
-hex_lanes : (h k : ℕ → ℕ → ℕ) → ((a b : ℕ) → a < 16 → b < 16 → h (k a 16) b ≡ a * 16 + b) → (n : ℕ) (v : List ℕ) → length v ≡ 2 * n
-    → list_all is_hex_digit (evens v) ≡ true → list_all is_hex_digit (odds v) ≡ true → zip2 h (zip2 k (map byte_of_one (evens v)) (replicate n 16)) (map byte_of_one (odds v)) ≡ hex v
+hex_lanes : (h k : ℕ → ℕ → ℕ) → ((a b : ℕ) → a < 16 → b < 16 → h (k a 16) b ≡ a * 16 + b) → (n : ℕ) (v : List ℕ)
+    → length v ≡ 2 * n
+    → list_all is_hex_digit (evens v) ≡ true → list_all is_hex_digit (odds v) ≡ true
+        → zip2 h (zip2 k (map byte_of_one (evens v)) (replicate n 16)) (map byte_of_one (odds v)) ≡ hex v
 hex_lanes h k law zero [] e p q = refl
 hex_lanes h k law zero (x ∷ v) e p q = absurd (omega arith)
 hex_lanes h k law (suc n) [] e p q = absurd (omega arith)
@@ -81,7 +86,9 @@ hex_lanes h k law (suc n) (x ∷ []) e p q = absurd (omega arith)
 hex_lanes h k law (suc n) (x ∷ y ∷ v) e p q =
     let high = and_left (is_hex_digit x) (list_all is_hex_digit (evens v)) p in
     let low = and_left (is_hex_digit y) (list_all is_hex_digit (odds v)) q in
-    ap₂ (λ b r. b ∷ r) (law (byte_of_one x) (byte_of_one y) (value_small x high) (value_small y low) ∙ sym (byte_of_digits x y high low))
+    ap₂ (λ b r. b ∷ r)
+        (law (byte_of_one x) (byte_of_one y) (value_small x high) (value_small y low)
+        ∙ sym (byte_of_digits x y high low))
     (hex_lanes h k law n v (omega arith) (and_right (is_hex_digit x) _ p) (and_right (is_hex_digit y) _ q))
 
 -- the lanes of two vectors that stand side by side in a text, every other one from j on, as `deinterleave` gives them
@@ -95,27 +102,39 @@ joined_chunks : (i : ℕ) (xs : List ℕ) → chunk i 16 xs ++ chunk (i + 16) 16
 joined_chunks i xs = ap (λ r. take 16 (drop i xs) ++ take 16 r) (sym (drop-drop 16 i xs)) ∙ two_chunks 16 16 (drop i xs)
 
 highs_are : (i : ℕ) (xs : List ℕ) → i + 32 ≤ length xs → half 0 i xs ≡ evens (chunk i 32 xs)
-highs_are i xs room = ap (λ v. at_places v (twos 0 16)) (joined_chunks i xs) ∙ evens_at 16 (chunk i 32 xs) (length-chunk i 32 xs room)
+highs_are i xs room = ap (λ v. at_places v (twos 0 16)) (joined_chunks i xs)
+    ∙ evens_at 16 (chunk i 32 xs) (length-chunk i 32 xs room)
 
 lows_are : (i : ℕ) (xs : List ℕ) → i + 32 ≤ length xs → half 1 i xs ≡ odds (chunk i 32 xs)
-lows_are i xs room = ap (λ v. at_places v (twos 1 16)) (joined_chunks i xs) ∙ odds_at 16 (chunk i 32 xs) (length-chunk i 32 xs room)
+lows_are i xs room = ap (λ v. at_places v (twos 1 16)) (joined_chunks i xs)
+    ∙ odds_at 16 (chunk i 32 xs) (length-chunk i 32 xs room)
 
 -- both halves are digits, and so the sum of the lanes is the items
-pub block_items : (h k : ℕ → ℕ → ℕ) → ((a b : ℕ) → a < 16 → b < 16 → h (k a 16) b ≡ a * 16 + b) → (i : ℕ) (xs : List ℕ) → i + 32 ≤ length xs → (p q : List ℕ)
-    → list_all is_hex_digit (half 0 i xs) ≡ true → list_all is_hex_digit (half 1 i xs) ≡ true → p ≡ map byte_of_one (half 0 i xs) → q ≡ map byte_of_one (half 1 i xs)
+pub block_items : (h k : ℕ → ℕ → ℕ) → ((a b : ℕ) → a < 16 → b < 16 → h (k a 16) b ≡ a * 16 + b) → (i : ℕ) (xs : List ℕ)
+    → i + 32 ≤ length xs → (p q : List ℕ)
+    → list_all is_hex_digit (half 0 i xs) ≡ true → list_all is_hex_digit (half 1 i xs) ≡ true
+        → p ≡ map byte_of_one (half 0 i xs) → q ≡ map byte_of_one (half 1 i xs)
     → zip2 h (zip2 k p (replicate 16 16)) q ≡ hex (chunk i 32 xs)
 block_items h k law i xs room p q all_high all_low high low =
     let evens = highs_are i xs room in
     let odds = lows_are i xs room in
-    ap₂ (λ a b. zip2 h (zip2 k a (replicate 16 16)) b) (high ∙ ap (map byte_of_one) evens) (low ∙ ap (map byte_of_one) odds)
-    ∙ hex_lanes h k law 16 (chunk i 32 xs) (length-chunk i 32 xs room) (sym (ap (list_all is_hex_digit) evens) ∙ all_high) (sym (ap (list_all is_hex_digit) odds) ∙ all_low)
+    ap₂ (λ a b. zip2 h (zip2 k a (replicate 16 16)) b) (high ∙ ap (map byte_of_one) evens)
+        (low ∙ ap (map byte_of_one) odds)
+    ∙ hex_lanes h k law 16 (chunk i 32 xs) (length-chunk i 32 xs room)
+        (sym (ap (list_all is_hex_digit) evens) ∙ all_high) (sym (ap (list_all is_hex_digit) odds) ∙ all_low)
 
 block_fits : (i : ℕ) (xs : List ℕ) → ((k : ℕ) → Fits w8 (get_or xs k 0)) → Each1 (λ x. x < 256) (chunk i 32 xs)
 block_fits i xs fits = below_from_Fits w8 (chunk i 32 xs) (chunk-fits w8 i 32 xs fits)
 
 -- the lanes of both halves are bytes
-pub highs_fit : (i : ℕ) (xs : List ℕ) → i + 32 ≤ length xs → ((k : ℕ) → Fits w8 (get_or xs k 0)) → Each1 (λ x. x < 256) (half 0 i xs)
-highs_fit i xs room fits = subst (Each1 (λ x. x < 256)) (sym (highs_are i xs room)) (evens_fit (λ x. x < 256) (chunk i 32 xs) (block_fits i xs fits))
+pub highs_fit : (i : ℕ) (xs : List ℕ) → i + 32 ≤ length xs → ((k : ℕ) → Fits w8 (get_or xs k 0))
+    → Each1 (λ x. x < 256) (half 0 i xs)
+highs_fit i xs room fits =
+    subst (Each1 (λ x. x < 256)) (sym (highs_are i xs room))
+    (evens_fit (λ x. x < 256) (chunk i 32 xs) (block_fits i xs fits))
 
-pub lows_fit : (i : ℕ) (xs : List ℕ) → i + 32 ≤ length xs → ((k : ℕ) → Fits w8 (get_or xs k 0)) → Each1 (λ x. x < 256) (half 1 i xs)
-lows_fit i xs room fits = subst (Each1 (λ x. x < 256)) (sym (lows_are i xs room)) (odds_fit (λ x. x < 256) (chunk i 32 xs) (block_fits i xs fits))
+pub lows_fit : (i : ℕ) (xs : List ℕ) → i + 32 ≤ length xs → ((k : ℕ) → Fits w8 (get_or xs k 0))
+    → Each1 (λ x. x < 256) (half 1 i xs)
+lows_fit i xs room fits =
+    subst (Each1 (λ x. x < 256)) (sym (lows_are i xs room))
+    (odds_fit (λ x. x < 256) (chunk i 32 xs) (block_fits i xs fits))

@@ -36,7 +36,8 @@ path_in-some pair path = by_value pair.value
     by_proof bytes (yes has) e = let same : has.0 ≡ path = cc in subst (PathOf bytes) same (has.1, has.2)
     by_proof bytes (no none) e = cc
 
-    by_value : (value : Option (List ℕ)) → path_of_value value ≡ Some path → HasPath (record { key = pair.key; value = value }) path
+    by_value : (value : Option (List ℕ)) → path_of_value value ≡ Some path
+        → HasPath (record { key = pair.key; value = value }) path
     by_value None e = cc
     by_value (Some value) e = by_proof (hex value) (path_or_none (hex value) (hex_small value)) e
 
@@ -48,6 +49,7 @@ path_in-is pair path = by_value pair.value
     by_proof bytes (yes has) h = ap Some (one_path has.0 path has.2.0 h.1.0 has.1 h.0 (sym has.2.1 ∙ h.1.1)).0
     by_proof bytes (no none) h = absurd (none (path, h.0, h.1))
 
-    by_value : (value : Option (List ℕ)) → HasPath (record { key = pair.key; value = value }) path → path_of_value value ≡ Some path
+    by_value : (value : Option (List ℕ)) → HasPath (record { key = pair.key; value = value }) path
+        → path_of_value value ≡ Some path
     by_value None h = absurd h
     by_value (Some value) h = by_proof (hex value) (path_or_none (hex value) (hex_small value)) h

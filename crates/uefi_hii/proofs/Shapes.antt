@@ -4,7 +4,8 @@ use Rattle.std.proofs.lemmas.List.{append-nil}
 use Rattle.std.specs.Prelude.{Option, Some, None, IsSome, is_some, codes}
 use Rattle.std.specs.List.{AllByRecursion}
 use Rattle.uefi_hii.specs.Pairs.{Pair}
-use Rattle.uefi_hii.specs.Configuration.{Configuration, Element, Spells, SpellsElement, SpellsElements, SpellsHeader, guid_in, number_in}
+use Rattle.uefi_hii.specs.Configuration.{Configuration, Element, Spells, SpellsElement, SpellsElements, SpellsHeader}
+use Rattle.uefi_hii.specs.Configuration.{guid_in, number_in}
 use Rattle.uefi_hii.specs.private.Parts.{IsSkipped, low_16_bits}
 use Rattle.uefi_hii.specs.Slots.{IsHeader}
 use Rattle.uefi_hii.specs.Slots.{IsHeaderWithAlt}
@@ -14,12 +15,14 @@ use Rattle.uefi_hii.proofs.Machine.{last_with_pair, with_pair, with_skipped}
 pub some_is : {A : Type 0} (o : Option A) (x : A) → o ≡ Some x → IsSome o
 some_is o x e = ap is_some e
 
-AllByRecursion-push : {A : Type 0} (P : A → Type 0) (xs : List A) (x : A) → AllByRecursion P xs → P x → AllByRecursion P (xs ++ x ∷ [])
+AllByRecursion-push : {A : Type 0} (P : A → Type 0) (xs : List A) (x : A) → AllByRecursion P xs → P x
+    → AllByRecursion P (xs ++ x ∷ [])
 AllByRecursion-push P [] x p q = (q, tt)
 AllByRecursion-push P (y ∷ xs) x p q = (p.0, AllByRecursion-push P xs x p.1 q)
 
 -- A header says nothing of the elements.
-header_of_other : (h : List Pair) (c : Configuration) (es : List Element) → SpellsHeader h c → SpellsHeader h (record c { elements = es })
+header_of_other : (h : List Pair) (c : Configuration) (es : List Element) → SpellsHeader h c
+    → SpellsHeader h (record c { elements = es })
 header_of_other [] c es s = absurd s
 header_of_other (g ∷ []) c es s = absurd s
 header_of_other (g ∷ n ∷ []) c es s = absurd s
@@ -36,16 +39,19 @@ header_good (g ∷ n ∷ p ∷ []) c s e = (some_is _ _ s.0, (some_is _ _ s.1, (
 header_good (g ∷ n ∷ p ∷ a ∷ []) c s e = let k = s.3.2 in cc
 header_good (g ∷ n ∷ p ∷ a ∷ b ∷ h) c s e = absurd s
 
-pub header_with_alt_good : (h : List Pair) (c : Configuration) (id : ℕ) → SpellsHeader h c → c.alt_cfg_id ≡ Some id → IsHeaderWithAlt h
+pub header_with_alt_good : (h : List Pair) (c : Configuration) (id : ℕ) → SpellsHeader h c → c.alt_cfg_id ≡ Some id
+    → IsHeaderWithAlt h
 header_with_alt_good [] c id s e = absurd s
 header_with_alt_good (g ∷ []) c id s e = absurd s
 header_with_alt_good (g ∷ n ∷ []) c id s e = absurd s
 header_with_alt_good (g ∷ n ∷ p ∷ []) c id s e = let k = s.3 in cc
-header_with_alt_good (g ∷ n ∷ p ∷ a ∷ []) c id s e = (some_is _ _ s.0, (some_is _ _ s.1, ((c.path, s.2), (some_is _ _ s.3.1, tt))))
+header_with_alt_good (g ∷ n ∷ p ∷ a ∷ []) c id s e =
+    (some_is _ _ s.0, (some_is _ _ s.1, ((c.path, s.2), (some_is _ _ s.3.1, tt))))
 header_with_alt_good (g ∷ n ∷ p ∷ a ∷ b ∷ h) c id s e = absurd s
 
 -- A header without an identifier, and a pair with one.
-pub header_push_alt : (h : List Pair) (c : Configuration) (a : Pair) (id : ℕ) → SpellsHeader h c → c.alt_cfg_id ≡ None → number_in (codes "ALTCFG") a ≡ Some id
+pub header_push_alt : (h : List Pair) (c : Configuration) (a : Pair) (id : ℕ) → SpellsHeader h c → c.alt_cfg_id ≡ None
+    → number_in (codes "ALTCFG") a ≡ Some id
     → SpellsHeader (h ++ a ∷ []) (record c { alt_cfg_id = Some (low_16_bits id) })
 header_push_alt [] c a id s e f = absurd s
 header_push_alt (g ∷ []) c a id s e f = absurd s
@@ -55,26 +61,34 @@ header_push_alt (g ∷ n ∷ p ∷ b ∷ []) c a id s e f = let k = s.3.2 in cc
 header_push_alt (g ∷ n ∷ p ∷ b ∷ d ∷ h) c a id s e f = absurd s
 
 -- An element and a pair that it skips, and elements and a pair that the last skips.
-element_push_skipped : (ps : List Pair) (e : Element) (p : Pair) → SpellsElement ps e → IsSkipped p → SpellsElement (ps ++ p ∷ []) (with_pair e p)
+element_push_skipped : (ps : List Pair) (e : Element) (p : Pair) → SpellsElement ps e → IsSkipped p
+    → SpellsElement (ps ++ p ∷ []) (with_pair e p)
 element_push_skipped [] e p s k = absurd s
 element_push_skipped (o ∷ []) e p s k = absurd s
 element_push_skipped (o ∷ w ∷ []) e p s k = absurd s
-element_push_skipped (o ∷ w ∷ v ∷ ps) e p s k = (s.0, s.1, s.2, ap (λ x. x ++ p ∷ []) s.3, AllByRecursion-push IsSkipped ps p s.4 k)
+element_push_skipped (o ∷ w ∷ v ∷ ps) e p s k =
+    (s.0, s.1, s.2, ap (λ x. x ++ p ∷ []) s.3, AllByRecursion-push IsSkipped ps p s.4 k)
 
-elements_push_skipped : (ps : List Pair) (es : List Element) (p : Pair) → es ≢ [] → SpellsElements ps es → IsSkipped p → SpellsElements (ps ++ p ∷ []) (last_with_pair es p)
+elements_push_skipped : (ps : List Pair) (es : List Element) (p : Pair) → es ≢ [] → SpellsElements ps es → IsSkipped p
+    → SpellsElements (ps ++ p ∷ []) (last_with_pair es p)
 elements_push_skipped ps [] p some s k = absurd (some refl)
 elements_push_skipped ps (e ∷ []) p some s k =
-    (s.0 ++ p ∷ [], [], ap (λ x. x ++ p ∷ []) (s.2 ∙ ap (λ x. s.0 ++ x) s.4 ∙ append-nil s.0) ∙ sym (append-nil (s.0 ++ p ∷ [])), element_push_skipped s.0 e p s.3 k, refl)
+    (s.0 ++ p ∷ [], [], ap (λ x. x ++ p ∷ []) (s.2 ∙ ap (λ x. s.0 ++ x) s.4 ∙ append-nil s.0)
+        ∙ sym (append-nil (s.0 ++ p ∷ [])), element_push_skipped s.0 e p s.3 k, refl)
 elements_push_skipped ps (e ∷ f ∷ es) p some s k =
-    (s.0, s.1 ++ p ∷ [], ap (λ x. x ++ p ∷ []) s.2 ∙ append_assoc s.0 s.1 (p ∷ []), s.3, elements_push_skipped s.1 (f ∷ es) p (λ z. cc) s.4 k)
+    (s.0, s.1 ++ p ∷ [], ap (λ x. x ++ p ∷ []) s.2 ∙ append_assoc s.0 s.1 (p ∷ []), s.3,
+        elements_push_skipped s.1 (f ∷ es) p (λ z. cc) s.4 k)
 
 -- Elements, and one more.
-elements_push : (ps qs : List Pair) (es : List Element) (e : Element) → SpellsElements ps es → SpellsElement qs e → SpellsElements (ps ++ qs) (es ++ e ∷ [])
+elements_push : (ps qs : List Pair) (es : List Element) (e : Element) → SpellsElements ps es → SpellsElement qs e
+    → SpellsElements (ps ++ qs) (es ++ e ∷ [])
 elements_push ps qs [] e s t = (qs, [], ap (λ x. x ++ qs) s ∙ sym (append-nil qs), t, refl)
-elements_push ps qs (f ∷ es) e s t = (s.0, s.1 ++ qs, ap (λ x. x ++ qs) s.2 ∙ append_assoc s.0 s.1 qs, s.3, elements_push s.1 qs es e s.4 t)
+elements_push ps qs (f ∷ es) e s t =
+    (s.0, s.1 ++ qs, ap (λ x. x ++ qs) s.2 ∙ append_assoc s.0 s.1 qs, s.3, elements_push s.1 qs es e s.4 t)
 
 -- A configuration, and a pair that it skips, or an element more.
-pub spells_skipped : (f : List Pair) (c : Configuration) (p : Pair) → Spells f c → c.elements ≢ [] → IsSkipped p → Spells (f ++ p ∷ []) (with_skipped c p)
+pub spells_skipped : (f : List Pair) (c : Configuration) (p : Pair) → Spells f c → c.elements ≢ [] → IsSkipped p
+    → Spells (f ++ p ∷ []) (with_skipped c p)
 spells_skipped f c p s some k = record {
   header = s.header;
   rest = s.rest ++ p ∷ [];
@@ -100,7 +114,9 @@ spells_bare f c s e =
     subst (λ x. SpellsHeader x c) (sym (s.whole ∙ ap (λ x. s.header ++ x) none ∙ append-nil s.header)) s.is_header
 
 pub spells_header : (h : List Pair) (c : Configuration) → SpellsHeader h c → c.elements ≡ [] → Spells h c
-spells_header h c s e = record { header = h; rest = []; whole = sym (append-nil h); is_header = s; elements = subst (λ es. SpellsElements [] es) (sym e) refl }
+spells_header h c s e =
+    record { header = h; rest = []; whole = sym (append-nil h); is_header = s; elements =
+    subst (λ es. SpellsElements [] es) (sym e) refl }
 
 -- A configuration has pairs, and the first is good for the GUID.
 pub spells_some : (f : List Pair) (c : Configuration) → Spells f c → f ≢ []
@@ -111,7 +127,9 @@ spells_some f c s e = by_header s.header s.is_header (sym s.whole ∙ e)
     by_header (g ∷ h) x e = cc
 
 pub spells_good : (before f left : List Pair) (c : Configuration) → Spells f c → before ≡ f ++ left → MayRunOut before
-spells_good before f left c s e = subst MayRunOut (sym (e ∙ ap (λ x. x ++ left) s.whole ∙ append_assoc s.header s.rest left)) (by_header s.header (s.rest ++ left) s.is_header)
+spells_good before f left c s e =
+    subst MayRunOut (sym (e ∙ ap (λ x. x ++ left) s.whole ∙ append_assoc s.header s.rest left))
+    (by_header s.header (s.rest ++ left) s.is_header)
   where
     by_header : (h rest : List Pair) → SpellsHeader h c → MayRunOut (h ++ rest)
     by_header [] rest x = absurd x

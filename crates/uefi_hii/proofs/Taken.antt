@@ -25,10 +25,12 @@ value_at-same key p = by_test (bytes_eq p.key key)
     by_test true same = refl
     by_test false same = cc
 
-pub misses_other : (key : List ℕ) (before after : List Pair) (p : Pair) → before ≡ p ∷ after → not (bytes_eq p.key key) ≡ true → Takes (value_at key) before None after
+pub misses_other : (key : List ℕ) (before after : List Pair) (p : Pair) → before ≡ p ∷ after
+    → not (bytes_eq p.key key) ≡ true → Takes (value_at key) before None after
 misses_other key before after p e other = inr (p, e, nothing_in (value_at key p) (value_at-other key p other))
 
-pub takes_same : (key : List ℕ) (before after : List Pair) (p : Pair) → before ≡ p ∷ after → not (bytes_eq p.key key) ≡ false → Takes (value_at key) before p.value after
+pub takes_same : (key : List ℕ) (before after : List Pair) (p : Pair) → before ≡ p ∷ after
+    → not (bytes_eq p.key key) ≡ false → Takes (value_at key) before p.value after
 takes_same key before after p e same = by_value p.value (value_at-same key p same)
   where
     by_value : (value : Option (List ℕ)) → value_at key p ≡ value → Takes (value_at key) before value after

@@ -25,13 +25,15 @@ AreGroupsBefore [] left = ⊤
 AreGroupsBefore (e ∷ es) left = Group e.group (first_pair (pairs_of es ++ left)) e.result × AreGroupsBefore es left
 
 -- The pairs of parts and one more, and what is left behind it.
-pairs_of-push : (es : List Part) (g left : List Pair) (r : Result Configuration ParseError) → pairs_of (es ++ part g r ∷ []) ++ left ≡ pairs_of es ++ (g ++ left)
+pairs_of-push : (es : List Part) (g left : List Pair) (r : Result Configuration ParseError)
+    → pairs_of (es ++ part g r ∷ []) ++ left ≡ pairs_of es ++ (g ++ left)
 pairs_of-push es g left r =
     ap (λ x. x ++ left) (flat_map-append (λ z. z.group) es (part g r ∷ []))
     ∙ append_assoc (pairs_of es) (g ++ []) left
     ∙ ap (λ x. pairs_of es ++ (x ++ left)) (append-nil g)
 
-groups_push : (es : List Part) (g left : List Pair) (r : Result Configuration ParseError) → AreGroupsBefore es (g ++ left) → Group g (first_pair left) r → AreGroupsBefore (es ++ part g r ∷ []) left
+groups_push : (es : List Part) (g left : List Pair) (r : Result Configuration ParseError)
+    → AreGroupsBefore es (g ++ left) → Group g (first_pair left) r → AreGroupsBefore (es ++ part g r ∷ []) left
 groups_push [] g left r a h = (h, tt)
 groups_push (e ∷ es) g left r a h = (
   subst (λ x. Group e.group (first_pair x) e.result) (sym (pairs_of-push es g left r)) a.0,
@@ -41,7 +43,8 @@ groups_push (e ∷ es) g left r a h = (
 -- Where no pair is left, they are all groups.
 groups_end : (es : List Part) → AreGroupsBefore es [] → AreGroups es
 groups_end [] a = tt
-groups_end (e ∷ es) a = (subst (λ x. Group e.group (first_pair x) e.result) (append-nil (pairs_of es)) a.0, groups_end es a.1)
+groups_end (e ∷ es) a =
+    (subst (λ x. Group e.group (first_pair x) e.result) (append-nil (pairs_of es)) a.0, groups_end es a.1)
 
 -- The items so far are the results of the first groups of the pairs, and these pairs are left.
 pub record HasCut {A : Type 0} (all left : List Pair)
@@ -65,7 +68,8 @@ cut_none all left items nothing_cut none = record {
 }
 
 -- A group that was taken, unless memory ran out.
-taken : {A : Type 0} (before after : List Pair) (r : Result (ConfigurationString A) ParseError) → r ≢ Err Memory → TakesGroup before r after
+taken : {A : Type 0} (before after : List Pair) (r : Result (ConfigurationString A) ParseError) → r ≢ Err Memory
+    → TakesGroup before r after
     → (g : List Pair) × (before ≡ g ++ after) × Group g (first_pair after) (result_of r)
 taken before after (Ok c) some t = t
 taken before after (Err (ConfigHdr s)) some t = t
@@ -83,7 +87,8 @@ cut_more all left after items item c some t =
       parts = c.parts ++ part g.0 r ∷ [];
       whole = c.whole ∙ ap (λ x. pairs_of c.parts ++ x) g.1 ∙ sym (pairs_of-push c.parts g.0 after r);
       each = groups_push c.parts g.0 after r (subst (AreGroupsBefore c.parts) g.1 c.each) g.2;
-      results = map-append result_of items (item ∷ []) ∙ ap (λ x. x ++ r ∷ []) c.results ∙ sym (map-append (λ e. e.result) c.parts (part g.0 r ∷ []));
+      results = map-append result_of items (item ∷ []) ∙ ap (λ x. x ++ r ∷ []) c.results
+          ∙ sym (map-append (λ e. e.result) c.parts (part g.0 r ∷ []));
       no_memory = All-push (λ x. x ≢ Err Memory) items item c.no_memory some;
     }
 
@@ -105,24 +110,30 @@ cut_all text left items c e =
     let found = all_groups (pairs text) left items c e in
     (found.0, record { whole = found.1; each = found.2 }, found.3)
 
-pub cut_only : {A : Type 0} (text : List ℕ) (items : List (Result (ConfigurationString A) ParseError)) → AreResults text items → (parts : List Part) → Cut text parts → map result_of items ≡ results_of parts
+pub cut_only : {A : Type 0} (text : List ℕ) (items : List (Result (ConfigurationString A) ParseError))
+    → AreResults text items → (parts : List Part) → Cut text parts → map result_of items ≡ results_of parts
 cut_only text items h parts c = h.2 ∙ ap results_of (cut_once h.0 parts (h.1.whole ∙ sym c.whole) h.1.each c.each)
 
 -- The group that was taken first is the first of the cut.
-same_first_result : (ps g h : List Pair) (q r : Result Configuration ParseError) → ps ≢ [] → BeginsWith ps g q → BeginsWith ps h r → q ≡ r
+same_first_result : (ps g h : List Pair) (q r : Result Configuration ParseError) → ps ≢ [] → BeginsWith ps g q
+    → BeginsWith ps h r → q ≡ r
 same_first_result ps g h q r some a b = let o = one_group ps some in (o.no_other g q a).1 ∙ sym (o.no_other h r b).1
 
-first_is : {A : Type 0} (text : List ℕ) (after : List Pair) (r : Result (ConfigurationString A) ParseError) (e : Part) (parts : List Part) → pairs text ≢ []
+first_same : {A : Type 0} (text : List ℕ) (after : List Pair) (r : Result (ConfigurationString A) ParseError) (e : Part)
+    (parts : List Part) → pairs text ≢ []
     → r ≢ Err Memory → TakesGroup (pairs text) r after → Cut text (e ∷ parts) → result_of r ≡ e.result
-first_is text after r e parts some kept t c =
+first_same text after r e parts some kept t c =
     let g = taken (pairs text) after r kept t in
-    same_first_result (pairs text) g.0 e.group (result_of r) e.result some (after, g.1, g.2) (pairs_of parts, sym c.whole, c.each.0)
+    same_first_result (pairs text) g.0 e.group (result_of r) e.result some (after, g.1, g.2)
+        (pairs_of parts, sym c.whole, c.each.0)
 
 -- Neither a configuration nor another error is out of memory.
-ok_kept : (A : Type 0) (x : ConfigurationString A) → ◌≢◌ {A = Result (ConfigurationString A) ParseError} (Ok x) (Err Memory)
+ok_kept : (A : Type 0) (x : ConfigurationString A)
+    → ◌≢◌ {A = Result (ConfigurationString A) ParseError} (Ok x) (Err Memory)
 ok_kept A x e = cc
 
-header_kept : (A : Type 0) (s : ConfigHdrSection) → ◌≢◌ {A = Result (ConfigurationString A) ParseError} (Err (ConfigHdr s)) (Err Memory)
+header_kept : (A : Type 0) (s : ConfigHdrSection)
+    → ◌≢◌ {A = Result (ConfigurationString A) ParseError} (Err (ConfigHdr s)) (Err Memory)
 header_kept A s e = cc
 
 name_kept : (A : Type 0) → ◌≢◌ {A = Result (ConfigurationString A) ParseError} (Err BlockName) (Err Memory)
@@ -132,28 +143,35 @@ value_kept : (A : Type 0) → ◌≢◌ {A = Result (ConfigurationString A) Pars
 value_kept A e = cc
 
 -- Pairs that begin with a good GUID have it in their first group.
-first_good : (text : List ℕ) (e : Part) (parts : List Part) → MayRunOut (pairs text) → Cut text (e ∷ parts) → MayRunOut e.group
+first_good : (text : List ℕ) (e : Part) (parts : List Part) → MayRunOut (pairs text) → Cut text (e ∷ parts)
+    → MayRunOut e.group
 first_good text e parts m c = by_group e.group c.each.0.not_empty (subst MayRunOut (sym c.whole) m)
   where
     by_group : (g : List Pair) → g ≢ [] → MayRunOut (g ++ pairs_of parts) → MayRunOut g
     by_group [] some x = absurd (some refl)
     by_group (q ∷ g) some x = x
 
-pub is_first : {A : Type 0} (text : List ℕ) (after : List Pair) (r : Result (ConfigurationString A) ParseError) → pairs text ≢ [] → TakesGroup (pairs text) r after
+pub is_first : {A : Type 0} (text : List ℕ) (after : List Pair) (r : Result (ConfigurationString A) ParseError)
+    → pairs text ≢ [] → TakesGroup (pairs text) r after
     → (parts : List Part) → Cut text parts → IsFirstResult parts r
 is_first {A} text after r some t [] c = absurd (some (sym c.whole))
 is_first {A} text after (Err Memory) some t (e ∷ parts) c = first_good text e parts t c
-is_first {A} text after (Ok x) some t (e ∷ parts) c = first_is text after (Ok x) e parts some (ok_kept A x) t c
-is_first {A} text after (Err (ConfigHdr s)) some t (e ∷ parts) c = first_is text after (Err (ConfigHdr s)) e parts some (header_kept A s) t c
-is_first {A} text after (Err BlockName) some t (e ∷ parts) c = first_is text after (Err BlockName) e parts some (name_kept A) t c
-is_first {A} text after (Err BlockConfig) some t (e ∷ parts) c = first_is text after (Err BlockConfig) e parts some (value_kept A) t c
+is_first {A} text after (Ok x) some t (e ∷ parts) c = first_same text after (Ok x) e parts some (ok_kept A x) t c
+is_first {A} text after (Err (ConfigHdr s)) some t (e ∷ parts) c =
+    first_same text after (Err (ConfigHdr s)) e parts some (header_kept A s) t c
+is_first {A} text after (Err BlockName) some t (e ∷ parts) c =
+    first_same text after (Err BlockName) e parts some (name_kept A) t c
+is_first {A} text after (Err BlockConfig) some t (e ∷ parts) c =
+    first_same text after (Err BlockConfig) e parts some (value_kept A) t c
 
 -- Where a text has no pairs, its cut has no parts.
-pub none_first : (A : Type 0) (text : List ℕ) → pairs text ≡ [] → (parts : List Part) → Cut text parts → IsFirstResult {A = A} parts (Err (ConfigHdr Guid))
+pub none_first : (A : Type 0) (text : List ℕ) → pairs text ≡ [] → (parts : List Part) → Cut text parts
+    → IsFirstResult {A = A} parts (Err (ConfigHdr Guid))
 none_first A text none [] c = refl
 none_first A text none (e ∷ parts) c = absurd (group_some e.group (pairs_of parts) _ e.result c.each.0 (c.whole ∙ none))
 
 -- What every cut of a text has as its first result, its one cut has.
-pub of_the_cut : {A : Type 0} (text : List ℕ) (r : Result (ConfigurationString A) ParseError) → ((parts : List Part) → Cut text parts → IsFirstResult parts r)
+pub of_the_cut : {A : Type 0} (text : List ℕ) (r : Result (ConfigurationString A) ParseError)
+    → ((parts : List Part) → Cut text parts → IsFirstResult parts r)
     → (parts : List Part) × Cut text parts × IsFirstResult parts r
 of_the_cut text r every = let one = has_one_cut text in (one.parts, one.cut, every one.parts one.cut)

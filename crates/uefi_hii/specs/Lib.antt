@@ -7,5 +7,6 @@ pub mod Group
 pub mod Cut
 pub mod Views
 pub mod Reading
+pub mod Texts
 pub mod Laws
 pub mod private

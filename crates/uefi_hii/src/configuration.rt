@@ -95,7 +95,7 @@ pub struct ConfigurationString<A: Allocator = Global> {
 impl<A: Allocator + Copy> ConfigurationString<A> {
     ghost use Rattle.uefi_hii.specs.Reading.{IsFirstResult};
 
-    /// The first configuration of a text.
+    /// Returns the first configuration of a text.
     ///
     /// The other configurations are neither read nor tested: [`parse_all`](crate::parse_all) and
     /// [`MultiConfigurationStringIter`](crate::MultiConfigurationStringIter) give all of them.

@@ -1,3 +1,6 @@
+use std::error::Error;
+use std::fmt;
+
 /// The part of a configuration's header that is missing or wrong.
 #[derive(Clone, Copy, PartialEq, Eq, Debug)]
 pub enum ConfigHdrSection {
@@ -32,3 +35,44 @@ pub enum ParseError {
     /// An allocation failed.
     Memory,
 }
+
+/// Writes the name of the part: `GUID`, `name`, `path` or `identifier`.
+impl fmt::Display for ConfigHdrSection {
+    ghost use Rattle.std.specs.Prelude.{Some};
+    ghost use Rattle.uefi_hii.specs.Texts.{section_text};
+
+    ghost output = { λ section. Some (section_text section) };
+
+    fn fmt<W: fmt::Write>(&self, f: &mut fmt::Formatter<W>) -> fmt::Result {
+        match self {
+            ConfigHdrSection::Guid => write!(f, "GUID"),
+            ConfigHdrSection::Name => write!(f, "name"),
+            ConfigHdrSection::Path => write!(f, "path"),
+            ConfigHdrSection::DescHdr => write!(f, "identifier"),
+        }
+    }
+}
+
+/// Writes what is missing or wrong, for example `the header's GUID is missing or wrong`, or
+/// `out of memory`.
+impl fmt::Display for ParseError {
+    ghost use Rattle.std.specs.Prelude.{Some};
+    ghost use Rattle.uefi_hii.specs.Texts.{error_text};
+
+    ghost output = { λ error. Some (error_text error) };
+
+    fn fmt<W: fmt::Write>(&self, f: &mut fmt::Formatter<W>) -> fmt::Result {
+        match self {
+            ParseError::ConfigHdr(section) => {
+                write!(f, "the header's {section} is missing or wrong")
+            }
+            ParseError::BlockName => {
+                write!(f, "an element's offset or width is missing or wrong")
+            }
+            ParseError::BlockConfig => write!(f, "an element's value is missing"),
+            ParseError::Memory => write!(f, "out of memory"),
+        }
+    }
+}
+
+impl Error for ParseError {}

@@ -20,7 +20,7 @@ pub struct HexBytes<'a> {
 impl<'a> HexBytes<'a> {
     ghost use Rattle.uefi_hii.specs.Views.{bytes_left};
 
-    /// The bytes that the text spells.
+    // Returns the bytes that the text spells.
     #[tactic(auto, using(crate::proofs::HexEnds::few_bytes))]
     pub(crate) fn new(text: &'a str) -> HexBytes<'a>
         ensures bytes { bytes_left result ≡ hex text.now }
@@ -62,7 +62,7 @@ impl<'a> Iterator for HexBytes<'a> {
         }
     }
 
-    /// Both bounds are how many bytes are left.
+    /// Returns how many bytes are left, as both bounds.
     fn size_hint(&self) -> (usize, Option<usize>)
         ensures lower { IsWithinCount result.0 (at_most (length (bytes_left self.now))) }
         ensures upper { IfSome result.1 (UpTo (at_most (length (bytes_left self.now)))) }
@@ -88,7 +88,7 @@ impl<'a> DoubleEndedIterator for HexBytes<'a> {
 }
 
 impl<'a> ExactSizeIterator for HexBytes<'a> {
-    /// How many bytes are left.
+    /// Returns how many bytes are left.
     fn len(&self) -> usize {
         self.rest.len() / 2 + self.rest.len() % 2
     }
@@ -96,7 +96,7 @@ impl<'a> ExactSizeIterator for HexBytes<'a> {
 
 impl<'a> FusedIterator for HexBytes<'a> {}
 
-/// The last byte that a text spells, and the text before its characters.
+// Returns the last byte that a text spells, and the text before its characters.
 fn split_last_byte(text: &[u8]) -> Option<(&[u8], u8)>
     ensures { MatchOption result (hex text.now ≡ [])
         (λ r. hex text.now ≡ hex r.0.now ++ r.1 ∷ []) }
@@ -109,7 +109,7 @@ fn split_last_byte(text: &[u8]) -> Option<(&[u8], u8)>
     Some((before, byte_of_two(*first, *last)))
 }
 
-/// The byte that two characters spell.
+// Returns the byte that two characters spell.
 #[tactic(auto, unfolding(crate::specs::Hex::byte_of_two, crate::specs::Hex::two_digits))]
 pub(crate) fn byte_of_two(c: u8, d: u8) -> u8
     ensures { result ≡ two c d }
@@ -121,7 +121,7 @@ pub(crate) fn byte_of_two(c: u8, d: u8) -> u8
     }
 }
 
-/// The byte that one character spells.
+// Returns the byte that one character spells.
 #[tactic(auto, unfolding(crate::specs::Hex::byte_of_one))]
 pub(crate) fn byte_of_one(c: u8) -> u8
     ensures { result ≡ one c }

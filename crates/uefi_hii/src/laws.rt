@@ -2,15 +2,15 @@
 
 ghost use Rattle.uefi_hii.specs.Laws.{OneGroup, OneCut};
 
-/// All pairs, if there are any, begin with exactly one group, and it has one result.
+/// States that all pairs, if there are any, begin with exactly one group, which has one result.
 #[tactic(auto, using(crate::proofs::Cuts::one_group))]
 pub fn one_group()
     ensures { OneGroup }
 {}
 
-/// All texts have exactly one cut. Two texts that `&` joins have the cuts of both, one after
-/// another, where the first doesn't end with `&` and ends with a configuration that has an element,
-/// and the second begins with the key `GUID`.
+/// States that all texts have exactly one cut. Two texts that `&` joins have the cuts of both, one
+/// after another, where the first doesn't end with `&` and ends with a configuration that has an
+/// element, and the second begins with the key `GUID`.
 #[tactic(auto, using(crate::proofs::Joined::one_cut))]
 pub fn one_cut()
     ensures { OneCut }

@@ -67,7 +67,7 @@ pub struct MultiConfigurationStringIter<'a, A: Allocator = Global> {
 impl<'a, A: Allocator> MultiConfigurationStringIter<'a, A> {
     ghost use Rattle.uefi_hii.specs.Views.{uncut_pairs};
 
-    /// The configurations of the text. This takes no memory.
+    /// Returns the configurations of the text. This takes no memory.
     pub fn new(alloc: A, text: &'a str) -> MultiConfigurationStringIter<'a, A>
         ensures pairs { uncut_pairs result ≡ pairs text.now }
         ensures countable { length (uncut_pairs result) < 2 ^ 64 }
@@ -102,7 +102,7 @@ impl<'a, A: Allocator + Copy> Iterator for MultiConfigurationStringIter<'a, A> {
     }
 }
 
-/// All configurations of a text, and its errors, in order: an item for each group of pairs, as
+/// Returns all configurations of a text, and its errors, in order: an item for each group of pairs, as
 /// [`MultiConfigurationStringIter`] gives them.
 ///
 /// # Errors
@@ -129,7 +129,7 @@ pub fn parse_all<A: Allocator + Copy>(
     Ok(all)
 }
 
-/// Whether an allocation failed.
+// Returns whether an allocation failed.
 fn is_memory<A: Allocator>(item: &Result<ConfigurationString<A>, ParseError>) -> bool
     ensures { MatchBool result (item.now ≡ Err Memory) (item.now ≢ Err Memory) }
 {

@@ -10,12 +10,12 @@ use crate::hex::HexBytes;
 use std::alloc::{AllocError, Allocator};
 use uefi_base::Guid;
 
-/// The bytes of a GUID.
+// The bytes of a GUID.
 const GUID_LENGTH: usize = 16;
 
 impl ConfigurationString {
-    /// The bytes that a value spells in hex, from either end. No text is refused: what is no digit
-    /// stands for 0, as [`HexBytes`] says.
+    /// Returns the bytes that a value spells in hex, from either end. No text is refused: what is no
+    /// digit stands for 0, as [`HexBytes`] says.
     pub fn parse_bytes_from_hex(text: &str) -> HexBytes<'_>
         ensures bytes { bytes_left result ≡ hex text.now }
         ensures countable { length (bytes_left result) < 2 ^ 64 }
@@ -23,7 +23,7 @@ impl ConfigurationString {
         HexBytes::new(text)
     }
 
-    /// The number that a value spells in hex, the highest byte first. `None` where it spells
+    /// Returns the number that a value spells in hex, the highest byte first. `None` where it spells
     /// another count of bytes than 1, 2, 4 or 8.
     pub fn parse_number_from_hex(text: &str) -> Option<u64>
         ensures { result ≡ number text.now }
@@ -39,8 +39,8 @@ impl ConfigurationString {
         Some(number)
     }
 
-    /// The GUID whose bytes a value spells in hex. `None` where it spells another count of bytes
-    /// than 16.
+    /// Returns the GUID whose bytes a value spells in hex. `None` where it spells another count of
+    /// bytes than 16.
     pub fn parse_guid_from_hex(text: &str) -> Option<Guid>
         ensures { option_map (λ guid. guid.0) result ≡ guid text.now }
     {
@@ -57,8 +57,9 @@ impl ConfigurationString {
 }
 
 impl<A: Allocator + Copy> ConfigurationString<A> {
-    /// The name that a value spells in hex: the text of its UCS-2 units, each of two bytes, the
-    /// high byte first. An odd last byte has to be 0, and is the first half of a NUL that was cut.
+    /// Returns the name that a value spells in hex: the text of its UCS-2 units, each of two bytes,
+    /// the high byte first. An odd last byte has to be 0, and is the first half of a NUL that was
+    /// cut.
     ///
     /// `None` where the value has an odd number of characters, where an odd last byte isn't 0, and
     /// where a unit is zero or a surrogate.
@@ -89,8 +90,8 @@ impl<A: Allocator + Copy> ConfigurationString<A> {
     }
 }
 
-/// The character that a unit of a name is, of which the two bytes are given. `None` for zero and
-/// for surrogates.
+// Returns the character that a unit of a name is, of which the two bytes are given. `None` for zero and
+// for surrogates.
 fn character_of(high: u8, low: u8) -> Option<char>
     ensures { MatchOption result (is_name_unit (high * 256 + low) ≡ false)
         (λ c. (is_name_unit (high * 256 + low) ≡ true) × (c ≡ high * 256 + low)) }
@@ -102,7 +103,7 @@ fn character_of(high: u8, low: u8) -> Option<char>
     char::from_u32(unit)
 }
 
-/// Whether a number has as many bytes.
+// Returns whether a number has as many bytes.
 fn is_length_of_number(count: usize) -> bool
     ensures { result ≡ is_number_length count }
 {

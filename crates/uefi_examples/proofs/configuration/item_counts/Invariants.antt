@@ -7,4 +7,5 @@ use Rattle.uefi_examples.proofs.configuration.item_counts.Given as goal
 abbrev pub invariant-loop-item : goal.invariant-loop-item
 invariant-loop-item l =
     HasCounted l.text (uncut_pairs l.item-iterator) l.configurations l.errors
-    × (l.configurations + l.errors + length (uncut_pairs l.item-iterator) ≤ length (uncut_pairs l.initial.item-iterator))
+    × (l.configurations + l.errors + length (uncut_pairs l.item-iterator) ≤ length
+        (uncut_pairs l.initial.item-iterator))

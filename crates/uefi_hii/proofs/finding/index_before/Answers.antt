@@ -15,5 +15,6 @@ returns-else-found-end c =
 pub loop-index-preserved : goal.loop-index-preserved
 loop-index-preserved c = (
   omega arith,
-  not_in_block c.args.byte c.loop-index.index c.args.bytes.now (omega arith) c.in_default.ensures c.loop-index.invariant.1,
+  not_in_block c.args.byte c.loop-index.index c.args.bytes.now
+      (omega arith) c.in_default.ensures c.loop-index.invariant.1,
 )

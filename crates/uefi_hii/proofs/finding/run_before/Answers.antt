@@ -18,5 +18,6 @@ returns c =
     let long = length-chunk c.args.start 16 c.args.bytes.now c.requires in
     let mask = bitmask_splat w8 eqb block 16 c.args.byte long (omega arith) in
     let set : 0 < mask_l (map (λ x. eqb x c.args.byte) block) = omega arith in
-    let first = ap (count_trailing_zeros 64) mask ∙ trailing_mask_l (λ x. eqb x c.args.byte) 64 block (omega arith) set in
+    let first = ap (count_trailing_zeros 64) mask
+        ∙ trailing_mask_l (λ x. eqb x c.args.byte) 64 block (omega arith) set in
     (first, subst (λ n. n < length block) (sym first) (some_lane_passes (λ x. eqb x c.args.byte) block set))

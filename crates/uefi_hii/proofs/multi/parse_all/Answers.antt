@@ -14,7 +14,14 @@ loop-result-preserved g c =
     (cut_more (pairs c.args.text.now) (uncut_pairs c.loop-result.configurations) (uncut_pairs c.next.new.self) c.loop-result.all.items c.in-Some.result c.loop-result.invariant c.if-is_memory.ensures c.in-Some.ensures.steps.1)
 
 pub returns-clause-cut : goal.returns-clause-cut
-returns-clause-cut g c = cut_all c.args.text.now (uncut_pairs c.loop-result.configurations) c.loop-result.all.items c.loop-result.invariant c.in_default.ensures.steps.0
+returns-clause-cut g c =
+    cut_all c.args.text.now
+    (uncut_pairs c.loop-result.configurations) c.loop-result.all.items c.loop-result.invariant
+    c.in_default.ensures.steps.0
 
 pub returns-clause-only : goal.returns-clause-only
-returns-clause-only g c = cut_only c.args.text.now c.loop-result.all.items (cut_all c.args.text.now (uncut_pairs c.loop-result.configurations) c.loop-result.all.items c.loop-result.invariant c.in_default.ensures.steps.0)
+returns-clause-only g c =
+    cut_only c.args.text.now c.loop-result.all.items
+    (cut_all c.args.text.now
+    (uncut_pairs c.loop-result.configurations) c.loop-result.all.items c.loop-result.invariant
+    c.in_default.ensures.steps.0)

@@ -1,6 +1,6 @@
 use Rattle.std.proofs.Common.{◌∙◌, ap, Some}
 use Rattle.uefi_hii.specs.Views.{configuration_of}
-use Rattle.uefi_examples.proofs.Configurations.{first_is}
+use Rattle.uefi_hii.proofs.FirstResult.{first_is}
 use Rattle.uefi_examples.proofs.contracts.configuration.first_value_at.Goals as goal
 
 pub returns-in-Some-clause-read : goal.returns-in-Some-clause-read
