@@ -34,7 +34,11 @@ fn a_box_keeps_the_path_that_bytes_begin_with(rt: HostRuntime) -> Result<(), Fai
     same_bytes("the path", boxed.as_path().as_bytes(), alone.as_slice())?;
     let cut = bytes(rt.alloc(), "7fff0500")?;
     let refused = BoxedDevicePath::try_from(cut).err();
-    same("no path", &refused, &Some(ByteConversionError::InvalidLength))
+    same(
+        "no path",
+        &refused,
+        &Some(ByteConversionError::InvalidLength),
+    )
 }
 
 // Returns whether the instance in a box is the instance, and its length; or `None` if memory ran

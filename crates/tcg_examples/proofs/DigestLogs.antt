@@ -12,11 +12,13 @@ pub bound_after_event : OneLog → IsBounded
     → (bytes : List ℕ) (last_entry : ℕ) (also : Option HeaderEvent) (log : List Event)
     → IsLog after_event bytes last_entry also log
     → (found : HeaderEvent) → IsHeaderEvent bytes last_entry found.event found.header
-    → (last_entry < start_of after_event found → log ≡ []) × (length log ≤ (last_entry - start_of after_event found) / 16 + 1)
+    → (last_entry < start_of after_event found → log ≡ [])
+    × (length log ≤ (last_entry - start_of after_event found) / 16 + 1)
 bound_after_event one law bytes last_entry None log is found has = absurd (is.0 found.header (found.event, has))
 bound_after_event one law bytes last_entry (Some also) log is found has =
     let same : also ≡ found = one.header_event bytes last_entry also found is.0 has in
-    let there : IsLog after_event bytes last_entry (Some found) log = subst (λ (f : HeaderEvent). IsLog after_event bytes last_entry (Some f) log) same is in
+    let there : IsLog after_event bytes last_entry (Some found) log =
+    subst (λ (f : HeaderEvent). IsLog after_event bytes last_entry (Some f) log) same is in
     let logged = log_of after_event bytes last_entry log (Some found, there) in
     (law.none after_event logged found refl, law.few after_event logged found refl)
 

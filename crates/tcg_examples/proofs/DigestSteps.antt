@@ -18,17 +18,21 @@ IsAt table offset last_entry bytes it =
 -- The log of these bytes with this last entry.
 abbrev pub log_of : (start : Start) (bytes : List ℕ) (last_entry : ℕ) (events : List Event)
     → ((found : Option HeaderEvent) × IsLog start bytes last_entry found events) → Logged start
-log_of start bytes last_entry events log = record { bytes = bytes; last_entry = last_entry; found = log.0; events = events; is_log = log.1 }
+log_of start bytes last_entry events log =
+    record { bytes = bytes; last_entry = last_entry; found = log.0; events = events; is_log = log.1 }
 
 -- A log whose last event starts at the last entry is the log of other bytes that are the same up to that event's end.
-pub same_again : OneLog → IsLocal → (start : Start) (log earlier : Logged start) (end : ℕ) → LastEndsAt start end earlier
+pub same_again : OneLog → IsLocal → (start : Start) (log earlier : Logged start) (end : ℕ)
+    → LastEndsAt start end earlier
     → SameUpTo end earlier.bytes log.bytes → earlier.last_entry ≡ log.last_entry → log.events ≡ earlier.events
 same_again one local start log earlier end ends same entry =
     (one.one start log.bytes log.last_entry log.found earlier.found log.events earlier.events log.is_log
-    (subst (λ (l : ℕ). IsLog start log.bytes l earlier.found earlier.events) entry (local.same start earlier end log.bytes ends same))).1
+    (subst (λ (l : ℕ). IsLog start log.bytes l earlier.found earlier.events) entry
+    (local.same start earlier end log.bytes ends same))).1
 
 -- An event that keeps alone where an iteration stands keeps alone in the log's bytes, and the other way round.
-pub keeps_there : (table : Table) (offset l : ℕ) (b : List ℕ) (it : Iteration) (event : Event) → IsAt table offset l b it
+pub keeps_there : (table : Table) (offset l : ℕ) (b : List ℕ) (it : Iteration) (event : Event)
+    → IsAt table offset l b it
     → KeepsNext it event → EventsKeep table (event ∷ []) offset l b
 keeps_there table offset l b it event at keeps =
     subst (λ (t : Table). EventsKeep t (event ∷ []) offset l b) at.2
@@ -45,13 +49,17 @@ keeps_here table offset l b it event at keeps =
     (subst (λ (x : List ℕ). EventsKeep table (event ∷ []) offset l x) (sym at.0) keeps)))
 
 -- What one step says of the iteration it says of the log's bytes.
-pub step_there : (table : Table) (offset l : ℕ) (b : List ℕ) (it : Iteration) (result : Option PcrEvent) → IsAt table offset l b it
+pub step_there : (table : Table) (offset l : ℕ) (b : List ℕ) (it : Iteration) (result : Option PcrEvent)
+    → IsAt table offset l b it
     → MatchOption result ((event : Event) → KeepsNext it event → ⊥) (λ event. KeepsNext it (event_of event))
-    → MatchOption result ((event : Event) → EventsKeep table (event ∷ []) offset l b → ⊥) (λ event. EventsKeep table (event_of event ∷ []) offset l b)
+    → MatchOption result ((event : Event) → EventsKeep table (event ∷ []) offset l b → ⊥)
+    (λ event. EventsKeep table (event_of event ∷ []) offset l b)
 step_there table offset l b it None at none = λ event keeps. none event (keeps_here table offset l b it event at keeps)
 step_there table offset l b it (Some event) at keeps = keeps_there table offset l b it (event_of event) at keeps
 
 -- An iterator of a log goes on where the event before ended.
 pub moved_on : (table : Table) (offset l n : ℕ) (b : List ℕ) (it next : Iteration) → IsAt table offset l b it
-    → next.bytes ≡ it.bytes → next.table ≡ it.table → next.last_entry ≡ it.last_entry → next.offset ≡ it.offset + n → IsAt table (offset + n) l b next
-moved_on table offset l n b it next at bytes rows entry moved = (bytes ∙ at.0, entry ∙ at.1, rows ∙ at.2, moved ∙ ap (λ (s : ℕ). s + n) at.3)
+    → next.bytes ≡ it.bytes → next.table ≡ it.table → next.last_entry ≡ it.last_entry → next.offset ≡ it.offset + n
+    → IsAt table (offset + n) l b next
+moved_on table offset l n b it next at bytes rows entry moved =
+    (bytes ∙ at.0, entry ∙ at.1, rows ∙ at.2, moved ∙ ap (λ (s : ℕ). s + n) at.3)

@@ -1,5 +1,6 @@
 -- The characters of text, their units and their bytes in UTF-8.
-use Rattle.std.proofs.Common.{◌≡◌, ℕ, zero, suc, ◌+◌, ◌<◌, ◌≤◌, true, Option, None, Some, List, [], ◌∷◌, ◌++◌, length, get_or, take, sym, ◌∙◌, ap, arith, ⊎_elim}
+use Rattle.std.proofs.Common.{◌≡◌, ℕ, zero, suc, ◌+◌, ◌<◌, ◌≤◌, true, Option, None, Some, List, [], ◌∷◌, ◌++◌, length}
+use Rattle.std.proofs.Common.{get_or, take, sym, ◌∙◌, ap, arith, ⊎_elim}
 use Rattle.std.specs.List.{AllWithin, HoldsAt}
 use Rattle.std.specs.Option.{MatchOption}
 use Rattle.std.specs.Str.{chars, IsUtf8}
@@ -11,7 +12,8 @@ use Rattle.uefi_base.specs.Ucs2.{IsSurrogate, IsUcs2Text, HasUnit, MakeUcs2Text}
 use Rattle.uefi_base.specs.private.Search.{IsFirstWithoutUnit}
 
 -- The bytes of i + 1 characters are those of i characters and of the next.
-pub encodes_more : (cs : List ℕ) (i : ℕ) → i < length cs → encodes (take (i + 1) cs) ≡ encodes (take i cs) ++ encode (get_or cs i 0)
+pub encodes_more : (cs : List ℕ) (i : ℕ) → i < length cs
+    → encodes (take (i + 1) cs) ≡ encodes (take i cs) ++ encode (get_or cs i 0)
 encodes_more cs i within =
     ap encodes (take_more cs i 0 within) ∙ encodes-append (take i cs) (get_or cs i 0 ∷ [])
     ∙ ap (λ bytes. encodes (take i cs) ++ bytes) (append-nil (encode (get_or cs i 0)))
@@ -43,9 +45,11 @@ IsUcs2Text-chars bytes utf8 make =
       not_empty = omega arith;
       nul = get_or_push (chars bytes) 0 0 _ (omega arith);
       characters = λ k before.
-          let same : get_or (chars bytes ++ 0 ∷ []) k 0 ≡ get_or (chars bytes) k 0 = get_or_append_left (chars bytes) (0 ∷ []) 0 k (omega arith) in
+          let same : get_or (chars bytes ++ 0 ∷ []) k 0 ≡ get_or (chars bytes) k 0 =
+          get_or_append_left (chars bytes) (0 ∷ []) 0 k (omega arith) in
           let unit = make.have_units k (omega arith) in
-          let sound : ¬ IsSurrogate (get_or (chars bytes) k 0) = no_surrogate _ (scalar_at (chars bytes) k (scalars-chars bytes utf8) (omega arith)) in
+          let sound : ¬ IsSurrogate (get_or (chars bytes) k 0) =
+          no_surrogate _ (scalar_at (chars bytes) k (scalars-chars bytes utf8) (omega arith)) in
           rw same (record { no_surrogate = sound; not_nul = λ zero. omega arith });
     }
 
@@ -54,4 +58,5 @@ pub first_without_unit : (cs : List ℕ) (found : Option ℕ)
     → MatchOption found (AllWithin HasUnit cs 0 (length cs)) (λ c. (¬ HasUnit c) × (i : ℕ) × (i < length cs)
     × HoldsAt (λ d. d ≡ c) cs i × AllWithin HasUnit cs 0 i) → IsFirstWithoutUnit cs found
 first_without_unit cs None each = λ k before. each k 0 (omega arith) before
-first_without_unit cs (Some c) first = (first.1, first.2, sym (first.3 0), (λ k before. first.4 k 0 (omega arith) before), first.0)
+first_without_unit cs (Some c) first =
+    (first.1, first.2, sym (first.3 0), (λ k before. first.4 k 0 (omega arith) before), first.0)

@@ -7,4 +7,7 @@ use Rattle.uefi_base.specs.Flags.{has_bits}
 
 -- Removing the bits without a name leaves a set unchanged exactly if the named bits contain it.
 pub named_bits : (bits named : ℕ) → (bit_and bits named ≡ bits) ↔ IsTrue (has_bits named bits)
-named_bits bits named = (λ stays. grind (arith, stays, and_comm bits named), λ has. grind (arith, has, and_comm bits named))
+named_bits bits named = (
+  λ stays. grind (arith, stays, and_comm bits named),
+  λ has. grind (arith, has, and_comm bits named),
+)

@@ -1,9 +1,11 @@
 -- Parts that are written into a buffer one after another.
-use Rattle.std.proofs.Common.{◌≡◌, ℕ, ◌+◌, ◌*◌, ◌<◌, ◌≤◌, List, [], ◌∷◌, ◌++◌, length, get_or, take, drop, true, refl, sym, ◌∙◌, ap, arith, append_assoc}
+use Rattle.std.proofs.Common.{◌≡◌, ℕ, ◌+◌, ◌*◌, ◌<◌, ◌≤◌, List, [], ◌∷◌, ◌++◌, length, get_or, take, drop, true, refl}
+use Rattle.std.proofs.Common.{sym, ◌∙◌, ap, arith, append_assoc}
 use Rattle.std.specs.Prelude.{nat_le}
 use Rattle.std.proofs.lemmas.Bool.Decides.{nat_tests}
 use Rattle.std.proofs.lemmas.Grind.{flat_map-append}
-use Rattle.std.proofs.lemmas.List.{take_at, take_more, take-append-drop, drop-drop, length-append, length-drop, length-take-le, append-nil}
+use Rattle.std.proofs.lemmas.List.{take_at, take_more, take-append-drop, drop-drop, length-append, length-drop}
+use Rattle.std.proofs.lemmas.List.{length-take-le, append-nil}
 use Rattle.std.proofs.lemmas.Slice.{drop-append-drop}
 use Rattle.uefi_base.specs.Buffer.{put_at, put_prefix}
 use Rattle.uefi_base.specs.LittleEndian.{u16_bytes}
@@ -31,11 +33,13 @@ pub units_put : (offset i : ℕ) (units bytes now : List ℕ) → i < length uni
     → offset + 2 * length units ≤ length bytes → now ≡ put_at offset (unit_bytes (take i units)) bytes
     → put_at (offset + 2 * i) (u16_bytes (get_or units i 0)) now ≡ put_at offset (unit_bytes (take (i + 1) units)) bytes
 units_put offset i units bytes now within room so_far =
-    let sized : length (unit_bytes (take i units)) ≡ 2 * i = units_read_back.sized (take i units) ∙ ap (λ n. 2 * n) (length-take-le i units (omega arith)) in
+    let sized : length (unit_bytes (take i units)) ≡ 2 * i = units_read_back.sized (take i units)
+    ∙ ap (λ n. 2 * n) (length-take-le i units (omega arith)) in
     let here : offset + 2 * i ≡ offset + length (unit_bytes (take i units)) = ap (λ n. offset + n) (sym sized) in
     let more : unit_bytes (take i units) ++ u16_bytes (get_or units i 0) ≡ unit_bytes (take (i + 1) units) =
     ap (λ last. unit_bytes (take i units) ++ last) (sym (append-nil (u16_bytes (get_or units i 0))))
-    ∙ sym (flat_map-append u16_bytes (take i units) (get_or units i 0 ∷ [])) ∙ ap unit_bytes (sym (take_more units i 0 within)) in
+    ∙ sym (flat_map-append u16_bytes (take i units) (get_or units i 0 ∷ []))
+    ∙ ap unit_bytes (sym (take_more units i 0 within)) in
     ap (λ n. put_at n (u16_bytes (get_or units i 0)) now) here
     ∙ ap (λ b. put_at (offset + length (unit_bytes (take i units))) (u16_bytes (get_or units i 0)) b) so_far
     ∙ put_next offset (unit_bytes (take i units)) (u16_bytes (get_or units i 0)) bytes (omega arith)
@@ -46,7 +50,8 @@ put_at-zero : (part bytes : List ℕ) → put_at 0 part bytes ≡ put_prefix par
 put_at-zero part bytes = let plain : 0 + length part ≡ length part = omega arith in ap (λ n. part ++ drop n bytes) plain
 
 -- Writing the first part of a record, which equals the value.
-pub put_first : (part value bytes next : List ℕ) → part ≡ value → next ≡ put_at 0 part bytes → next ≡ put_prefix value bytes
+pub put_first : (part value bytes next : List ℕ) → part ≡ value → next ≡ put_at 0 part bytes
+    → next ≡ put_prefix value bytes
 put_first part value bytes next known is = is ∙ put_at-zero part bytes ∙ ap (λ p. put_prefix p bytes) known
 
 -- Writing the next part of a record after those that are done.
@@ -55,10 +60,13 @@ pub put_more : (offset : ℕ) (done part value bytes now next : List ℕ) → no
     → next ≡ put_prefix (done ++ value) bytes
 put_more offset done part value bytes now next so_far sized within known is =
     let plain : offset ≡ 0 + length done = omega (arith, sized) in
-    is ∙ ap (λ b. put_at offset part b) (so_far ∙ sym (put_at-zero done bytes)) ∙ ap (λ n. put_at n part (put_at 0 done bytes)) plain
-    ∙ put_next 0 done part bytes (omega (arith, sized, within)) ∙ put_at-zero (done ++ part) bytes ∙ ap (λ p. put_prefix (done ++ p) bytes) known
+    is ∙ ap (λ b. put_at offset part b) (so_far ∙ sym (put_at-zero done bytes))
+    ∙ ap (λ n. put_at n part (put_at 0 done bytes)) plain
+    ∙ put_next 0 done part bytes (omega (arith, sized, within)) ∙ put_at-zero (done ++ part) bytes
+    ∙ ap (λ p. put_prefix (done ++ p) bytes) known
 
--- A buffer, whose room is tested once for all parts, with the first ones written; then one part more, or bytes that are left as they were.
+-- A buffer, whose room is tested once for all parts, with the first ones written; then one part more, or bytes that
+-- are left as they were.
 pub record HasPut (room offset : ℕ) (done old now : List ℕ) : Type 0 where
   pub within : room ≤ length old
   pub sized : length done ≡ offset
@@ -85,10 +93,12 @@ then_kept {room} {offset} {done} {old} {now} so_far n before =
     let reaches : offset + n ≤ length old = grind (arith, nat_tests, before, so_far.within) in
     let sized : length (done ++ take n rest) ≡ offset + n = length-append done (take n rest)
     ∙ (λ i. so_far.sized i + length-take-le n rest (omega (arith, reaches, length-drop offset old)) i) in
-    let cut : drop n rest ≡ drop (length (done ++ take n rest)) old = drop-drop n offset old ∙ ap (λ m. drop m old) (sym sized) in
+    let cut : drop n rest ≡ drop (length (done ++ take n rest)) old = drop-drop n offset old
+    ∙ ap (λ m. drop m old) (sym sized) in
     record {
       within = so_far.within;
       sized = sized;
-      is = so_far.is ∙ (λ i. done ++ drop (so_far.sized i) old) ∙ ap (λ r. done ++ r) (sym (take-append-drop n rest) ∙ ap (λ r. take n rest ++ r) cut)
+      is = so_far.is ∙ (λ i. done ++ drop (so_far.sized i) old)
+          ∙ ap (λ r. done ++ r) (sym (take-append-drop n rest) ∙ ap (λ r. take n rest ++ r) cut)
           ∙ sym (append_assoc done (take n rest) (drop (length (done ++ take n rest)) old));
     }

@@ -1,13 +1,19 @@
 -- The worked rows hold.
-use Rattle.std.proofs.Common.{◌≡◌, ℕ, zero, suc, ◌+◌, ◌<◌, List, [], ◌∷◌, ◌++◌, length, replicate, get_or, refl, ◌∙◌, sym, subst, arith, lit<, lit≤}
+use Rattle.std.proofs.Common.{◌≡◌, ℕ, zero, suc, ◌+◌, ◌<◌, List, [], ◌∷◌, ◌++◌, length, replicate, get_or, refl, ◌∙◌}
+use Rattle.std.proofs.Common.{sym, subst, arith, lit<, lit≤}
 use Rattle.std.proofs.lemmas.List.{length-replicate, get_or-replicate, get_or_append_left, get_or_push, length_push}
 use Rattle.uefi_base.specs.Ucs2.{IsSurrogate, IsCharacter, AreCharactersBefore, HasUnit, HaveUnitsBefore}
 use Rattle.uefi_base.specs.Faults.{OffendsFirst}
-use Rattle.uefi_base.specs.rows.Values.{TextRows, FaultRows, LimitRows, OrderRows, CharacterRows, ByteRows, NameRows, RowsHold}
+use Rattle.uefi_base.specs.rows.Values.{TextRows, FaultRows, LimitRows, OrderRows, CharacterRows, ByteRows, NameRows}
+use Rattle.uefi_base.specs.rows.Values.{RowsHold}
 
 -- A unit between zero and the surrogates is a character.
 low : (unit : ℕ) → 0 < unit → unit < 0xd800 → IsCharacter unit
-low unit positive below = record { no_surrogate = λ surrogate. absurd (omega (arith, surrogate.0)); not_nul = λ zero. omega arith }
+low unit positive below = record {
+  no_surrogate = λ surrogate. absurd (omega (arith, surrogate.0));
+  not_nul =
+      λ zero. omega arith;
+}
 
 -- The units before index 0, 1 and 2 are characters.
 none_before : (units : List ℕ) → AreCharactersBefore units 0
@@ -39,9 +45,25 @@ fault_rows : FaultRows
 fault_rows = record {
   no_nul = (lit≤ tt, one_before 0x61 [] (low 0x61 (lit< tt) (lit< tt)));
   empty = (lit≤ tt, none_before []);
-  interior_nul = (record { short = lit≤ tt; within = lit< tt; before = one_before 0x61 (0 ∷ 0x62 ∷ 0 ∷ []) (low 0x61 (lit< tt) (lit< tt)) }, refl, lit< tt);
-  nul_before_surrogate = (record { short = lit≤ tt; within = lit< tt; before = none_before (0 ∷ 0xd800 ∷ 0 ∷ []) }, refl, lit< tt);
-  surrogate = (record { short = lit≤ tt; within = lit< tt; before = none_before (0xd800 ∷ 0 ∷ []) }, (lit≤ tt, lit≤ tt));
+  interior_nul = (
+    record {
+      short = lit≤ tt;
+      within = lit< tt;
+      before =
+          one_before 0x61 (0 ∷ 0x62 ∷ 0 ∷ []) (low 0x61 (lit< tt) (lit< tt));
+    },
+    refl,
+    lit< tt,
+  );
+  nul_before_surrogate = (
+    record { short = lit≤ tt; within = lit< tt; before = none_before (0 ∷ 0xd800 ∷ 0 ∷ []) },
+    refl,
+    lit< tt,
+  );
+  surrogate = (
+    record { short = lit≤ tt; within = lit< tt; before = none_before (0xd800 ∷ 0 ∷ []) },
+    (lit≤ tt, lit≤ tt),
+  );
   surrogate_without_nul = (
     record {
       short = lit≤ tt;
@@ -62,7 +84,8 @@ length-letters : (n : ℕ) → length (letters n ++ 0 ∷ []) ≡ n + 1
 length-letters n = omega (arith, length_push (letters n) 0, length-replicate {A = ℕ} n 0x61)
 
 letter_at : (n k : ℕ) → k < n → get_or (letters n ++ 0 ∷ []) k 0 ≡ 0x61
-letter_at n k before = get_or_append_left (letters n) (0 ∷ []) 0 k (omega (arith, length-replicate {A = ℕ} n 0x61)) ∙ get_or-replicate n k 0x61 0 before
+letter_at n k before = get_or_append_left (letters n) (0 ∷ []) 0 k (omega (arith, length-replicate {A = ℕ} n 0x61))
+    ∙ get_or-replicate n k 0x61 0 before
 
 limit_rows : LimitRows
 limit_rows = record {
@@ -70,12 +93,14 @@ limit_rows = record {
     short = omega (arith, length-letters n);
     not_empty = omega (arith, length-letters n);
     nul = get_or_push (letters n) 0 0 _ (omega (arith, length-letters n, length-replicate {A = ℕ} n 0x61));
-    characters = λ k before. subst IsCharacter (sym (letter_at n k (omega (arith, length-letters n)))) (low 0x61 (lit< tt) (lit< tt));
+    characters = λ k before. subst IsCharacter (sym (letter_at n k (omega (arith, length-letters n))))
+        (low 0x61 (lit< tt) (lit< tt));
   };
   one_unit_more = λ n many. omega (arith, length-letters n);
   most_characters = λ n most. record {
     short = omega (arith, length-replicate {A = ℕ} n 0x61);
-    have_units = λ k before. subst HasUnit (sym (get_or-replicate n k 0x61 0 (omega (arith, length-replicate {A = ℕ} n 0x61)))) (lit< tt, lit≤ tt);
+    have_units = λ k before. subst HasUnit
+        (sym (get_or-replicate n k 0x61 0 (omega (arith, length-replicate {A = ℕ} n 0x61)))) (lit< tt, lit≤ tt);
   };
   one_character_more = λ n many. omega (arith, length-replicate {A = ℕ} n 0x61);
 }
@@ -105,7 +130,8 @@ character_rows = record {
     first_has_unit zero before = (lit< tt, lit≤ tt)
     first_has_unit (suc k) before = absurd (omega arith)
 
-    at_index : (index : ℕ) → index < 2 → HaveUnitsBefore (0x1f600 ∷ 0 ∷ []) index → ◌≡◌ {A = ℕ} (get_or (0x1f600 ∷ 0 ∷ []) index 0) 0 → ⊥
+    at_index : (index : ℕ) → index < 2 → HaveUnitsBefore (0x1f600 ∷ 0 ∷ []) index
+        → ◌≡◌ {A = ℕ} (get_or (0x1f600 ∷ 0 ∷ []) index 0) 0 → ⊥
     at_index zero within before nul = absurd (omega (arith, nul))
     at_index (suc zero) within before nul = absurd (omega (arith, (before 0 (lit< tt)).1))
     at_index (suc (suc k)) within before nul = absurd (omega arith)

@@ -11,7 +11,8 @@ use base.Fml.{Fml, Lft, GName, Share, flft, fdead, fres}
 use mir.Syntax.{Lifetime, erased, w8}
 use mir.Val.{Val}
 use types.Logic.{Logic, sem}
-use types.Kit.{‵, ◌⊛◌, later, some, given, ◌$◌, ◌∵◌, !, qed, mean, move, use1, use2, use3, split, fsplit, fjoin, fpack, pick, show, learn, check, await, updating, now as at_once, done, drop}
+use types.Kit.{‵, ◌⊛◌, later, some, given, ◌$◌, ◌∵◌, !, qed, mean, move, use1, use2, use3, split, fsplit, fjoin, fpack}
+use types.Kit.{pick, show, learn, check, await, updating, now as at_once, done, drop}
 use denote.Builtin.{u8}
 use denote.Plain.{uint_row_laws}
 use denote.Ref.{MutBor}
@@ -37,18 +38,24 @@ module _ {M : Type 1} {𝓤 : Ura M} (𝓛 : Logic 𝓤) where
   -- The reference becomes a `&[u8]`, its buffer holds these bytes from now on, and the token stays.
   pub shares_all : (ℓ ℓ' : Lifetime) (κ : Lft) (q : Share) (r : MutBor (List ℕ)) (vs : List Val)
       → ent 𝓤 (sep 𝓤 (sem 𝓛 ((MutSlice ℓ κ u8).own_val r vs)) (A.lft κ q))
-      (H.⇛ (sep 𝓤 (sem 𝓛 ((ShrSlice ℓ' κ u8).own_val (record { ref_ptr = r.ref_ptr; now = r.now }) vs)) (sep 𝓤 (sem 𝓛 (Ended r.ghost_name r.now)) (A.lft κ q))))
+      (H.⇛ (sep 𝓤 (sem 𝓛 ((ShrSlice ℓ' κ u8).own_val (record { ref_ptr = r.ref_ptr; now = r.now }) vs))
+      (sep 𝓤 (sem 𝓛 (Ended r.ghost_name r.now)) (A.lft κ q))))
   shares_all ℓ ℓ' κ q r vs =
       let b = r.ref_ptr.0 in let o = r.ref_ptr.1 in let xs = r.now in
-      qed 𝓛 (‵ ((MutSlice ℓ κ u8).own_val r vs) ∷ ‵ (flft κ q) ∷ []) ∵ updating ! $ fsplit ! $ pure_l ! (mut_slice_at u8 r vs) (λ p.
+      qed 𝓛 (‵ ((MutSlice ℓ κ u8).own_val r vs) ∷ ‵ (flft κ q) ∷ []) ∵ updating ! $ fsplit ! $
+      pure_l ! (mut_slice_at u8 r vs) (λ p.
       pure_i ! (room u8 (length xs)) (tt, tt) p.1 $ fjoin ! $
-      use2 𝓛 (later (‵ ((Own.ShrSlice erased κ u8).own_val (record { ref_ptr = r.ref_ptr; now = xs })) ⊛ (‵ (finally u8 r.ghost_name xs) ⊛ ‵ (flft κ q))))
-      (sl_Share 𝓛 u8 b o r.ghost_name xs (uint_row_laws w8) κ q (Shares-copy 𝓛 (c_rf (f_int w8)) κ)) $ await ! tt $ split ! $ move ! (1 ∷ []) $ split ! $
+      use2 𝓛 (later (‵ ((Own.ShrSlice erased κ u8).own_val (record { ref_ptr = r.ref_ptr; now = xs }))
+      ⊛ (‵ (finally u8 r.ghost_name xs) ⊛ ‵ (flft κ q))))
+      (sl_Share 𝓛 u8 b o r.ghost_name xs (uint_row_laws w8) κ q (Shares-copy 𝓛 (c_rf (f_int w8)) κ)) $ await ! tt $
+      split ! $ move ! (1 ∷ []) $ split ! $
       use1 𝓛 (‵ (Ended r.ghost_name xs)) (finally-res 𝓛 u8 r.ghost_name xs) $ move ! (2 ∷ []) $ fsplit ! $ drop ! $
-      pure_i ! (shr_slice_at u8 (record { ref_ptr = r.ref_ptr; now = xs }) vs) (tt, (tt, tt)) (p.0, p.1) $ fjoin ! $ at_once ! $ done !)
+      pure_i ! (shr_slice_at u8 (record { ref_ptr = r.ref_ptr; now = xs }) vs) (tt, (tt, tt)) (p.0, p.1) $ fjoin ! $
+      at_once ! $ done !)
 
   -- A buffer that holds these bytes from now on ends with bytes that have their properties.
-  pub ends_as : (s : MutBor (List ℕ)) (v : List ℕ) (Holds : List ℕ → Type 0) → Holds v → ent 𝓤 (sem 𝓛 (Ended s.ghost_name v)) (sem 𝓛 (EndsAs s Holds))
+  pub ends_as : (s : MutBor (List ℕ)) (v : List ℕ) (Holds : List ℕ → Type 0) → Holds v
+      → ent 𝓤 (sem 𝓛 (Ended s.ghost_name v)) (sem 𝓛 (EndsAs s Holds))
   unfolding such_by follows_by
   ends_as s v Holds holds =
       qed 𝓛 (‵ (Ended s.ghost_name v) ∷ []) ∵
@@ -70,15 +77,18 @@ module _ {M : Type 1} {𝓤 : Ura M} (𝓛 : Logic 𝓤) where
       use2 𝓛 (later (some (λ (δ : ℕ). ‵ ((Own.MutSlice erased κ' u8).own_val (record r { ghost_name = δ })) ⊛
       (kept_f 𝓛 u8 κ q κ' r.ghost_name δ xs b o))))
       (sl_relend 𝓛 u8 κ q κ' b o r.ghost_name xs) $ await ! tt $ pick ! (λ δ. split ! $ fsplit ! $ drop ! $
-      pure_i ! (mut_slice_at u8 (record r { ghost_name = δ }) (mut_slice_vals r)) (tt, (tt, tt)) (refl, p.1) $ fjoin ! $ at_once ! $
+      pure_i ! (mut_slice_at u8 (record r { ghost_name = δ }) (mut_slice_vals r)) (tt, (tt, tt)) (refl, p.1) $
+      fjoin ! $ at_once ! $
       show ! (λ (e : ℕ). sep 𝓤
       (sem 𝓛 ((MutSlice ℓ' κ' u8).own_val (record r { ghost_name = e }) (mut_slice_vals r)))
       (mean 𝓛 (kept_f 𝓛 u8 κ q κ' r.ghost_name e r.now r.ref_ptr.0 r.ref_ptr.1))) δ $ done !))
 
   -- After that lifetime it is back, with the bytes that were last written to it.
   pub slice_comes_back : (ℓ : Lifetime) (κ : Lft) (q : Share) (κ' : Lft) (r : MutBor (List ℕ)) (δ : GName) (ys : List ℕ)
-      → ent 𝓤 (sep 𝓤 (A.dead κ') (sep 𝓤 (mean 𝓛 (kept_f 𝓛 u8 κ q κ' r.ghost_name δ r.now r.ref_ptr.0 r.ref_ptr.1)) (sem 𝓛 (finally u8 δ ys))))
-      (H.⇛ (guard 𝓤 (length ys ≡ length r.now) (sep 𝓤 (sem 𝓛 ((MutSlice ℓ κ u8).own_val (record r { now = ys }) (mut_slice_vals r))) (A.lft κ q))))
+      → ent 𝓤 (sep 𝓤 (A.dead κ') (sep 𝓤 (mean 𝓛 (kept_f 𝓛 u8 κ q κ' r.ghost_name δ r.now r.ref_ptr.0 r.ref_ptr.1))
+      (sem 𝓛 (finally u8 δ ys))))
+      (H.⇛ (guard 𝓤 (length ys ≡ length r.now)
+      (sep 𝓤 (sem 𝓛 ((MutSlice ℓ κ u8).own_val (record r { now = ys }) (mut_slice_vals r))) (A.lft κ q))))
   slice_comes_back ℓ κ q κ' r δ ys =
       let b = r.ref_ptr.0 in let o = r.ref_ptr.1 in
       qed 𝓛 (‵ (fdead κ') ∷ (kept_f 𝓛 u8 κ q κ' r.ghost_name δ r.now b o) ∷ ‵ (finally u8 δ ys) ∷ []) ∵ updating ! $

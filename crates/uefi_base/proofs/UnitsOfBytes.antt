@@ -1,5 +1,6 @@
 -- The units of bytes, by their indices.
-use Rattle.std.proofs.Common.{◌≡◌, ℕ, zero, suc, ◌+◌, ◌*◌, ◌/◌, ◌<◌, List, [], ◌∷◌, length, get_or, take, drop, refl, sym, ◌∙◌, ap, arith}
+use Rattle.std.proofs.Common.{◌≡◌, ℕ, zero, suc, ◌+◌, ◌*◌, ◌/◌, ◌<◌, List, [], ◌∷◌, length, get_or, take, drop, refl}
+use Rattle.std.proofs.Common.{sym, ◌∙◌, ap, arith}
 use Rattle.std.proofs.lemmas.Grind.{common_steps}
 use Rattle.uefi_base.specs.LittleEndian.{u16_at}
 use Rattle.uefi_base.specs.Unaligned.{units_of}
@@ -16,7 +17,8 @@ twice : (k : ℕ) → 2 * suc k ≡ suc (suc (2 * k))
 twice k = omega arith
 
 -- A number of two bytes is the low byte and 256 times the high one.
-two_bytes : (bytes : List ℕ) (offset : ℕ) → u16_at bytes offset ≡ get_or bytes offset 0 + 256 * get_or bytes (offset + 1) 0
+two_bytes : (bytes : List ℕ) (offset : ℕ)
+    → u16_at bytes offset ≡ get_or bytes offset 0 + 256 * get_or bytes (offset + 1) 0
 two_bytes bytes offset = grind (arith, common_steps)
 
 -- A unit is the low byte and 256 times the high one at twice its index.
@@ -28,10 +30,12 @@ two_bytes_of_unit (low ∷ high ∷ rest) zero within = refl
 two_bytes_of_unit (low ∷ high ∷ rest) (suc k) within = rw (twice k) (two_bytes_of_unit rest k (omega arith))
 
 -- A unit is the number at twice its index.
-pub unit_at : (bytes : List ℕ) (k : ℕ) → k < length (units_of bytes) → get_or (units_of bytes) k 0 ≡ u16_at bytes (2 * k)
+pub unit_at : (bytes : List ℕ) (k : ℕ) → k < length (units_of bytes)
+    → get_or (units_of bytes) k 0 ≡ u16_at bytes (2 * k)
 unit_at bytes k within =
     let high : suc (2 * k) ≡ 2 * k + 1 = omega arith in
-    two_bytes_of_unit bytes k within ∙ ap (λ i. get_or bytes (2 * k) 0 + 256 * get_or bytes i 0) high ∙ sym (two_bytes bytes (2 * k))
+    two_bytes_of_unit bytes k within ∙ ap (λ i. get_or bytes (2 * k) 0 + 256 * get_or bytes i 0) high
+    ∙ sym (two_bytes bytes (2 * k))
 
 -- The units of the first 2 k bytes are the first k units.
 units_of-take : (bytes : List ℕ) (k : ℕ) → units_of (take (2 * k) bytes) ≡ take k (units_of bytes)

@@ -9,7 +9,8 @@ pub use base.Logic.{emp, id⊢}
 pub use mir.Syntax.{named, w64}
 pub use contract.Monad.{fact, fact_i}
 pub use contract.Running.{tables}
-pub use types.Kit.{‵, raw, ◌⊛◌, some, later, ◌$◌, ◌∵◌, !, qed, done, move, keep, drop, use0, use1, use2, split, join, fsplit, fjoin, pick, await, suffices, frame}
+pub use types.Kit.{‵, raw, ◌⊛◌, some, later, ◌$◌, ◌∵◌, !, qed, done, move, keep, drop, use0, use1, use2, split, join}
+pub use types.Kit.{fsplit, fjoin, pick, await, suffices, frame}
 pub use types.Part.{whole, sub, agg}
 pub use types.Run.{enter, addr, from, fld, hop, stop, and_then, no_more, returns}
 pub use types.ByLocal.{alloc_all, pass_all, free_all, look_at, look_in_at, get, get_in, sets, lands_as}

@@ -48,16 +48,20 @@ leads_name x n h = let y = some_of (name_in n) h in
 leads_path : (x y : List ℕ) (p : Pair) → IsGood PathSlot p
     → (z : List Node) × Leads (AfterName x y) (p ∷ []) (InBody (header_of x y z))
 unfolding step
-leads_path x y p h =
-    (h.0, leads_one (AfterName x y) (InBody (header_of x y h.0)) p
-    (expect-some PathSlot (λ path. InBody (header_of x y path)) _ h.0 (path_in-is p h.0 h.1)))
+leads_path x y p h = (
+  h.0,
+  leads_one (AfterName x y) (InBody (header_of x y h.0)) p
+      (expect-some PathSlot (λ path. InBody (header_of x y path)) _ h.0 (path_in-is p h.0 h.1)),
+)
 
 leads_alt : (x y : List ℕ) (z : List Node) (a : Pair) → IsGood AltSlot a
     → (id : ℕ) × Leads (InBody (header_of x y z)) (a ∷ []) (InBody (with_alt (header_of x y z) id))
 leads_alt x y z a h =
-    let id = some_of (number_in (codes "ALTCFG") a) h in
-    (id.0, leads_one (InBody (header_of x y z)) (InBody (with_alt (header_of x y z) id.0)) a
-        (step-alt x y z a id.0 id.1))
+    let id = some_of (number_in (codes "ALTCFG") a) h in (
+      id.0,
+      leads_one (InBody (header_of x y z)) (InBody (with_alt (header_of x y z) id.0)) a
+          (step-alt x y z a id.0 id.1),
+    )
 
 leads_offset : (c : Configuration) (o : Pair) → IsGood OffsetSlot o
     → (n : ℕ) × Leads (InBody c) (o ∷ []) (AfterOffset c n)
@@ -69,7 +73,7 @@ leads_width : (c : Configuration) (o : ℕ) (w : Pair) → IsGood WidthSlot w
 unfolding step
 leads_width c o w h =
     let n = some_of (number_in (codes "WIDTH") w) h in
-        (n.0, leads_one (AfterOffset c o) (AfterWidth c o n.0) w (expect-some WidthSlot (AfterWidth c o) _ n.0 n.1))
+    (n.0, leads_one (AfterOffset c o) (AfterWidth c o n.0) w (expect-some WidthSlot (AfterWidth c o) _ n.0 n.1))
 
 -- Pairs that are good for the slots of a header, in order, lead on.
 good_guid : (f : List Pair) → AreGood (GuidSlot ∷ []) f → (x : List ℕ) × Leads Start f (AfterGuid x)
@@ -117,9 +121,12 @@ good_offset f h = by_rest h.0 h.1 h.2 h.3.0 h.3.1 h.4
         → AreGood (OffsetSlot ∷ []) rest → (c : Configuration) × (o : ℕ) × Leads Start f (AfterOffset c o)
     by_rest body [] e c s g = absurd g
     by_rest body (o ∷ []) e c s g =
-        let a = leads_offset c o g.0 in
-        (c, a.0, subst (λ x. Leads Start x (AfterOffset c a.0)) (sym e)
-            (leads_on Start (InBody c) (AfterOffset c a.0) body (o ∷ []) (leads_body body c s) a.1))
+        let a = leads_offset c o g.0 in (
+          c,
+          a.0,
+          subst (λ x. Leads Start x (AfterOffset c a.0)) (sym e)
+              (leads_on Start (InBody c) (AfterOffset c a.0) body (o ∷ []) (leads_body body c s) a.1),
+        )
     by_rest body (o ∷ w ∷ rest) e c s g = absurd g.1
 
 good_width : (f : List Pair) → IsBodyThen (OffsetSlot ∷ WidthSlot ∷ []) f
@@ -134,9 +141,13 @@ good_width f h = by_rest h.0 h.1 h.2 h.3.0 h.3.1 h.4
     by_rest body (o ∷ w ∷ []) e c s g =
         let a = leads_offset c o g.0 in
         let b = leads_width c a.0 w g.1.0 in
-        let m = leads_on (InBody c) (AfterOffset c a.0) (AfterWidth c a.0 b.0) (o ∷ []) (w ∷ []) a.1 b.1 in
-        (c, a.0, b.0, subst (λ x. Leads Start x (AfterWidth c a.0 b.0)) (sym e)
-            (leads_on Start (InBody c) (AfterWidth c a.0 b.0) body (o ∷ w ∷ []) (leads_body body c s) m))
+        let m = leads_on (InBody c) (AfterOffset c a.0) (AfterWidth c a.0 b.0) (o ∷ []) (w ∷ []) a.1 b.1 in (
+          c,
+          a.0,
+          b.0,
+          subst (λ x. Leads Start x (AfterWidth c a.0 b.0)) (sym e)
+              (leads_on Start (InBody c) (AfterWidth c a.0 b.0) body (o ∷ w ∷ []) (leads_body body c s) m),
+        )
     by_rest body (o ∷ w ∷ v ∷ rest) e c s g = absurd g.1.1
 
 -- In a body, a pair that isn't good for its slot is wrong: behind the header without an identifier and with one, and
@@ -147,7 +158,7 @@ unfolding step in_body
 alt_fails x y z q key bad =
     let c = header_of x y z in
     ap (λ t. in_body c [] None t (bytes_eq q.key (codes "OFFSET")) (bytes_eq q.key (codes "GUID")) q)
-        (is_key q.key _ key)
+    (is_key q.key _ key)
     ∙ expect-none AltSlot (λ id. InBody (with_alt c id)) _ bad
 
 first_offset_fails : (x y : List ℕ) (z : List Node) (q : Pair) → q.key ≢ codes "ALTCFG" → ¬ IsGood OffsetSlot q
@@ -156,7 +167,7 @@ unfolding step in_body
 first_offset_fails x y z q key bad =
     let c = header_of x y z in
     ap (λ t. in_body c [] None t (bytes_eq q.key (codes "OFFSET")) (bytes_eq q.key (codes "GUID")) q)
-        (is_not_key q.key _ key)
+    (is_not_key q.key _ key)
     ∙ expect-none OffsetSlot (AfterOffset c) _ bad
 
 offset_after_alt_fails : (x y : List ℕ) (z : List Node) (id : ℕ) (q : Pair) → ¬ IsGood OffsetSlot q
@@ -193,21 +204,21 @@ wrong_pair NameSlot f q e bad = let a = good_guid f e in
     (AfterGuid a.0, a.1, expect-none NameSlot (AfterName a.0) _ bad)
 wrong_pair PathSlot f q e bad =
     let a = good_name f e in
-        (AfterName a.0 a.1, a.2, expect-none PathSlot (λ path. InBody (header_of a.0 a.1 path)) _ (no_path q bad))
+    (AfterName a.0 a.1, a.2, expect-none PathSlot (λ path. InBody (header_of a.0 a.1 path)) _ (no_path q bad))
 wrong_pair AltSlot f q e bad =
     let a = good_path f e.0 in (InBody (header_of a.0 a.1 a.2), a.3, alt_fails a.0 a.1 a.2 q e.1 bad)
 wrong_pair OffsetSlot f q (inl e) bad =
     let a = good_path f e.0 in (InBody (header_of a.0 a.1 a.2), a.3, first_offset_fails a.0 a.1 a.2 q e.1 bad)
 wrong_pair OffsetSlot f q (inr (inl e)) bad =
     let a = good_alt f e.0 in
-        (InBody (with_alt (header_of a.0 a.1 a.2) a.3), a.4, offset_after_alt_fails a.0 a.1 a.2 a.3 q bad)
+    (InBody (with_alt (header_of a.0 a.1 a.2) a.3), a.4, offset_after_alt_fails a.0 a.1 a.2 a.3 q bad)
 wrong_pair OffsetSlot f q (inr (inr e)) bad =
     (InBody e.0.0, leads_body f e.0.0 e.0.1, next_offset_fails e.0.0 q e.0.2 e.1 bad)
 wrong_pair WidthSlot f q e bad = let a = good_offset f e in
     (AfterOffset a.0 a.1, a.2, expect-none WidthSlot (AfterWidth a.0 a.1) _ bad)
 wrong_pair ValueSlot f q e bad =
     let a = good_width f e in
-        (AfterWidth a.0 a.1 a.2, a.3, expect-none ValueSlot (λ v. InBody (with_element a.0 (element a.1 a.2 v))) _ bad)
+    (AfterWidth a.0 a.1 a.2, a.3, expect-none ValueSlot (λ v. InBody (with_element a.0 (element a.1 a.2 v))) _ bad)
 
 -- Where no pair is left and one has to come, the result is the slot's error.
 missing_pair : (slot : Slot) (f : List Pair) → MustCome f None slot

@@ -87,5 +87,9 @@ pub has_one_cut : (text : List ℕ) → HasOneCut text
 unfolding AreCut
 has_one_cut text =
     let c = some_cut (length (pairs text)) (pairs text) (omega arith) in
-    record { parts = c.0; cut = record { whole = c.1; each = c.2 }; no_other =
-        λ other o. cut_once other c.0 (o.whole ∙ sym c.1) o.each c.2 }
+    record {
+      parts = c.0;
+      cut = record { whole = c.1; each = c.2 };
+      no_other =
+          λ other o. cut_once other c.0 (o.whole ∙ sym c.1) o.each c.2;
+    }

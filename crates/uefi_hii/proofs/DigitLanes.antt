@@ -31,7 +31,7 @@ pub chosen : (m f g : ℕ → ℕ) (v : List ℕ) {a b d : List ℕ} → a ≡ m
     → sel_l (map (top 7) a) b d ≡ map (λ x. cond (top 7 (m x)) (f x) (g x)) v
 chosen m f g v {a} {b} {d} p q r =
     ap (λ (l : List Bool). sel_l l b d) (ap (map (top 7)) p ∙ map-map (top 7) m v)
-        ∙ ap₂ (sel_l (map (λ x. top 7 (m x)) v)) q r ∙ sel_map (λ x. top 7 (m x)) f g v
+    ∙ ap₂ (sel_l (map (λ x. top 7 (m x)) v)) q r ∙ sel_map (λ x. top 7 (m x)) f g v
 
 -- two lane functions that agree on each hex digit below 256
 value_at : (f : ℕ → ℕ) (x : ℕ)
@@ -58,7 +58,7 @@ pub values_agree : (f : ℕ → ℕ)
 values_agree f all [] h t = refl
 values_agree f all (x ∷ v) h t =
     ap₂ (λ y r. y ∷ r) (value_at f x all h.0 (and_left (is_hex_digit x) (list_all is_hex_digit v) t))
-        (values_agree f all v h.1 (and_right (is_hex_digit x) (list_all is_hex_digit v) t))
+    (values_agree f all v h.1 (and_right (is_hex_digit x) (list_all is_hex_digit v) t))
 
 tests_agree : (f g : ℕ → Bool) → agree_below f g 256 ≡ true → (v : List ℕ) → Each1 (λ x. x < 256) v
     → list_all f v ≡ list_all g v

@@ -47,8 +47,10 @@ after_header before left c h some = record {
     by_alt : (a : Option ℕ) → c.alt_cfg_id ≡ a → (q : Pair) (rest : List Pair) → left ≡ q ∷ rest
         → MustCome h.0 (Some q) OffsetSlot
     by_alt None alt q rest e =
-        inl (header_good h.0 (configuration_of c) h.2 alt,
-            λ key. h.4 alt (subst (λ s. IsKey (codes "ALTCFG") (first_pair s)) (sym e) key))
+        inl (
+          header_good h.0 (configuration_of c) h.2 alt,
+          λ key. h.4 alt (subst (λ s. IsKey (codes "ALTCFG") (first_pair s)) (sym e) key),
+        )
     by_alt (Some id) alt q rest e = inr (inl (header_with_alt_good h.0 (configuration_of c) id h.2 alt, refl))
 
 -- A pair of the element is missing, so the group fails.
@@ -57,24 +59,24 @@ misses_fails : (before left after : List Pair) (c : Configuration) (e : ParseErr
 misses_fails before left after c e some g (inl m) =
     subst (λ x. TakesError before x after) (sym m.0)
     (fails_after OffsetSlot before g.body left after some g.whole (λ q k. g.expects q after k)
-        (λ k. absurd (g.some k)) m.1)
+    (λ k. absurd (g.some k)) m.1)
 misses_fails before left after c e some g (inr (inl m)) =
     let o = m.0 in
     let rest = m.1 in
     subst (λ x. TakesError before x after) (sym m.2)
     (fails_after WidthSlot before (g.body ++ o ∷ []) rest after some
-        (g.whole ∙ ap (λ s. g.body ++ s) m.3 ∙ sym (append_assoc g.body (o ∷ []) rest))
+    (g.whole ∙ ap (λ s. g.body ++ s) m.3 ∙ sym (append_assoc g.body (o ∷ []) rest))
     (λ q k. (g.body, o ∷ [], refl, (c, g.spells), (m.4, tt)))
-        (λ k. (g.body, o ∷ [], refl, (c, g.spells), (m.4, tt))) m.5)
+    (λ k. (g.body, o ∷ [], refl, (c, g.spells), (m.4, tt))) m.5)
 misses_fails before left after c e some g (inr (inr m)) =
     let o = m.0 in
     let w = m.1 in
     let rest = m.2 in
     subst (λ x. TakesError before x after) (sym m.3)
     (fails_after ValueSlot before (g.body ++ o ∷ w ∷ []) rest after some
-        (g.whole ∙ ap (λ s. g.body ++ s) m.4 ∙ sym (append_assoc g.body (o ∷ w ∷ []) rest))
+    (g.whole ∙ ap (λ s. g.body ++ s) m.4 ∙ sym (append_assoc g.body (o ∷ w ∷ []) rest))
     (λ q k. (g.body, o ∷ w ∷ [], refl, (c, g.spells), (m.5, (m.6, tt))))
-        (λ k. (g.body, o ∷ w ∷ [], refl, (c, g.spells), (m.5, (m.6, tt)))) m.7)
+    (λ k. (g.body, o ∷ w ∷ [], refl, (c, g.spells), (m.5, (m.6, tt)))) m.7)
 
 -- So does an element that fails.
 pub element_fails : (A : Type 0) (before left after : List Pair) (c : Configuration) (e : ParseError) → before ≢ []
@@ -102,9 +104,9 @@ pub record ComesAfter (before after : List Pair) (c : Configuration) : Type 0 wh
 pub after_element : {A : Type 0} (before left after : List Pair) (c d : ConfigurationString A)
     (e : ConfigurationStringElement A) → ComesBefore before left (configuration_of c)
     → TakesElement left (Ok e) after
-        → configuration_of d ≡ record (configuration_of c)
-        { elements = map element_of c.elements.items ++ element_of e ∷ [] }
-        → ComesAfter before after (configuration_of d)
+    → configuration_of d ≡ record (configuration_of c)
+    { elements = map element_of c.elements.items ++ element_of e ∷ [] }
+    → ComesAfter before after (configuration_of d)
 after_element before left after c d e g t is = record {
   body = g.body ++ t.0;
   whole = g.whole ∙ ap (λ x. g.body ++ x) t.1 ∙ sym (append_assoc g.body t.0 after);
@@ -118,10 +120,10 @@ after_element before left after c d e g t is = record {
 pub configuration_push : {A : Type 0} (c : ConfigurationString A) (items : List (ConfigurationStringElement A))
     (e : ConfigurationStringElement A) → items ≡ c.elements.items ++ e ∷ []
     → record (configuration_of c) { elements = map element_of items } ≡ record (configuration_of c)
-        { elements = map element_of c.elements.items ++ element_of e ∷ [] }
+    { elements = map element_of c.elements.items ++ element_of e ∷ [] }
 configuration_push c items e is =
     ap (λ x. record (configuration_of c) { elements = x })
-        (ap (map element_of) is ∙ map-append element_of c.elements.items (e ∷ []))
+    (ap (map element_of) is ∙ map-append element_of c.elements.items (e ∷ []))
 
 -- Another element comes where the next key is OFFSET; else the configuration ends.
 pub goes_on : (before after : List Pair) (c : Configuration) → ComesAfter before after c
@@ -137,10 +139,15 @@ goes_on before after c g key = record {
 pub ends : {A : Type 0} (before after : List Pair) (c : ConfigurationString A)
     → ComesAfter before after (configuration_of c) → ¬ IsKey (codes "OFFSET") (first_pair after)
     → TakesGroup before (Ok c) after
-ends before after c g other =
-    (g.body, g.whole,
-    record { not_empty = spells_some g.body (configuration_of c) g.spells; gives =
-    (g.spells, at_end after g.stops other) })
+ends before after c g other = (
+  g.body,
+  g.whole,
+  record {
+    not_empty = spells_some g.body (configuration_of c) g.spells;
+    gives =
+        (g.spells, at_end after g.stops other);
+  },
+)
   where
     by_test : (q : Pair) (t : Bool) → bytes_eq q.key (codes "GUID") ≡ t → ¬ IsSkipped q → (q.key ≢ codes "OFFSET")
         → q.key ≡ codes "GUID"
@@ -156,10 +163,10 @@ ends before after c g other =
 pub takes_element : {A : Type 0} (before one two three after : List Pair) (e : ConfigurationStringElement A)
     (text : List ℕ)
     → Takes (number_in (codes "OFFSET")) before (Some e.offset) one
-        → Takes (number_in (codes "WIDTH")) one (Some e.width) two
-        → Takes (value_at (codes "VALUE")) two (Some text) three
+    → Takes (number_in (codes "WIDTH")) one (Some e.width) two
+    → Takes (value_at (codes "VALUE")) two (Some text) three
     → e.value.items ≡ reverse (hex text) → Skips three (map nv_pair_of e.nvconfig.items) after
-        → TakesElement before (Ok e) after
+    → TakesElement before (Ok e) after
 takes_element before one two three after e text o w v is s = (
   o.0 ∷ w.0 ∷ v.0 ∷ map nv_pair_of e.nvconfig.items,
   o.1 ∙ ap (λ x. o.0 ∷ x) (w.1 ∙ ap (λ x. w.0 ∷ x) (v.1 ∙ ap (λ x. v.0 ∷ x) s.0)),

@@ -19,12 +19,21 @@ pub fails_after : (slot : Slot) (before f rest after : List Pair) → before ≢
     → Misses (IsGood slot) rest after → TakesError before (error_of slot) after
 fails_after slot before f rest after some e next none (inl m) =
     let whole : before ≡ f ++ after = e ∙ ap (λ s. f ++ s) (m.0 ∙ sym m.1) in
-    let all : before ≡ f = e ∙ ap (λ s. f ++ s) m.0 ∙ append-nil f in
-    (f, whole, record { not_empty = λ z. some (all ∙ z); gives =
-        (slot, refl, inr (no_first after m.1, row_of f None slot (none m.0))) })
+    let all : before ≡ f = e ∙ ap (λ s. f ++ s) m.0 ∙ append-nil f in (
+      f,
+      whole,
+      record {
+        not_empty = λ z. some (all ∙ z);
+        gives =
+            (slot, refl, inr (no_first after m.1, row_of f None slot (none m.0)));
+      },
+    )
 fails_after slot before f rest after some e next none (inr m) = (
   f ++ m.0 ∷ [],
   e ∙ ap (λ s. f ++ s) m.1 ∙ sym (append_assoc f (m.0 ∷ []) after),
-  record { not_empty = push_some f m.0; gives =
-      (slot, refl, inl (f, m.0, refl, row_of f (Some m.0) slot (next m.0 m.1), m.2)) },
+  record {
+    not_empty = push_some f m.0;
+    gives =
+        (slot, refl, inl (f, m.0, refl, row_of f (Some m.0) slot (next m.0 m.1), m.2));
+  },
 )

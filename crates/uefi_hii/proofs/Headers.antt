@@ -27,7 +27,7 @@ pub record HasThree (before left : List Pair) (x y : List ℕ) (path : List Node
 
 pub three_taken : {A : Type 0} (before one two left : List Pair) (x y : List ℕ) (path : BoxedDevicePath A)
     → Takes guid_in before (Some x) one → Takes name_in one (Some y) two → TakesPath two (Some path) left
-        → HasThree before left x y (boxed_nodes path)
+    → HasThree before left x y (boxed_nodes path)
 three_taken before one two left x y path g n p = record {
   g = g.0;
   n = n.0;
@@ -57,20 +57,21 @@ path_fails before one two after x y some g n missed =
     let good : IsGood GuidSlot g.0 = some_is (guid_in g.0) x g.2 in
     let named : IsGood NameSlot n.0 = some_is (name_in n.0) y n.2 in
     fails_after PathSlot before (g.0 ∷ n.0 ∷ []) two after some (g.1 ∙ ap (λ s. g.0 ∷ s) n.1)
-        (λ q e. (good, (named, tt))) (λ e. (good, (named, tt))) missed
+    (λ q e. (good, (named, tt))) (λ e. (good, (named, tt))) missed
 
 pub alt_fails : (before left after : List Pair) (x y : List ℕ) (path : List Node) (e : ParseError) → before ≢ []
     → HasThree before left x y path → TakesAlt left (Err e) after → TakesError before e after
 alt_fails before left after x y path e some three missed =
-    let good : IsHeader (three.g ∷ three.n ∷ three.p ∷ []) =
-        (some_is (guid_in three.g) x three.guid,
-        (some_is (name_in three.n) y three.name, ((path, three.has_path), tt))) in
+    let good : IsHeader (three.g ∷ three.n ∷ three.p ∷ []) = (
+      some_is (guid_in three.g) x three.guid,
+      (some_is (name_in three.n) y three.name, ((path, three.has_path), tt)),
+    ) in
     let key : (rest : List Pair) → left ≡ rest
-        → IsKey (codes "ALTCFG") (first_pair rest) =
-        λ rest is. subst (λ s. IsKey (codes "ALTCFG") (first_pair s)) is missed.1 in
+    → IsKey (codes "ALTCFG") (first_pair rest) =
+    λ rest is. subst (λ s. IsKey (codes "ALTCFG") (first_pair s)) is missed.1 in
     subst (λ x. TakesError before x after) (sym missed.0)
     (fails_after AltSlot before (three.g ∷ three.n ∷ three.p ∷ []) left after some three.whole
-        (λ q is. (good, key (q ∷ after) is)) (λ is. (good, key [] is)) missed.2)
+    (λ q is. (good, key (q ∷ after) is)) (λ is. (good, key [] is)) missed.2)
 
 -- The header of an error that is passed on.
 pub header_residual : {A : Type 0} (before after : List Pair) (r : Result (ConfigurationString A) ParseError)

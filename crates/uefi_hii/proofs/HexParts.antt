@@ -22,7 +22,7 @@ pub hex-block : (at : ℕ) (text : List ℕ) → 2 * at + 32 ≤ length text
 hex-block at text room =
     let next : 2 * at + 32 ≡ 2 * (at + 16) = omega arith in
     ap hex (chunk-drop (2 * at) 32 text)
-        ∙ hex-append 16 (chunk (2 * at) 32 text) (drop (2 * at + 32) text) (length-chunk (2 * at) 32 text room)
+    ∙ hex-append 16 (chunk (2 * at) 32 text) (drop (2 * at + 32) text) (length-chunk (2 * at) 32 text room)
     ∙ ap (λ k. hex (chunk (2 * at) 32 text) ++ hex (drop k text)) next
 
 pub length-block : (at : ℕ) (text : List ℕ) → 2 * at + 32 ≤ length text → length (hex (chunk (2 * at) 32 text)) ≡ 16
@@ -32,12 +32,12 @@ length-block at text room = let long = length-chunk (2 * at) 32 text room in len
 -- the item of two bytes, and then the others
 pub hex-two : (at : ℕ) (text : List ℕ) → 2 * at + 1 < length text
     → hex (drop (2 * at) text) ≡ byte_of_two (get_or text (2 * at) 0) (get_or text (2 * at + 1) 0) ∷ hex
-        (drop (2 * (at + 1)) text)
+    (drop (2 * (at + 1)) text)
 hex-two at text room =
     let odd : suc (2 * at) ≡ 2 * at + 1 = omega arith in
     let next : suc (suc (2 * at)) ≡ 2 * (at + 1) = omega arith in
     ap hex (drop-cons text (2 * at) 0 (omega arith)
-        ∙ ap (λ v. get_or text (2 * at) 0 ∷ v) (drop-cons text (suc (2 * at)) 0 (omega arith)))
+    ∙ ap (λ v. get_or text (2 * at) 0 ∷ v) (drop-cons text (suc (2 * at)) 0 (omega arith)))
     ∙ ap (λ k. byte_of_two (get_or text (2 * at) 0) (get_or text k 0) ∷ hex (drop (suc (suc (2 * at))) text)) odd
     ∙ ap (λ k. byte_of_two (get_or text (2 * at) 0) (get_or text (2 * at + 1) 0) ∷ hex (drop k text)) next
 
@@ -46,7 +46,7 @@ pub hex-one : (at : ℕ) (text : List ℕ) → 2 * at < length text → length t
     → hex (drop (2 * at) text) ≡ byte_of_one (get_or text (2 * at) 0) ∷ hex (drop (2 * (at + 1)) text)
 hex-one at text room last =
     ap hex (drop-cons text (2 * at) 0 room
-        ∙ ap (λ v. get_or text (2 * at) 0 ∷ v) (drop_all (suc (2 * at)) text (omega arith)))
+    ∙ ap (λ v. get_or text (2 * at) 0 ∷ v) (drop_all (suc (2 * at)) text (omega arith)))
     ∙ ap (λ v. byte_of_one (get_or text (2 * at) 0) ∷ hex v) (sym (drop_all (2 * (at + 1)) text (omega arith)))
 
 -- n more items that are the text's
@@ -55,4 +55,4 @@ pub filled_more : (at n : ℕ) (text out new items : List ℕ) → IsFilledTo at
     → hex (drop (2 * at) text) ≡ items ++ hex (drop (2 * (at + n)) text) → IsFilledTo (at + n) text new
 filled_more at n text out new items before stored split =
     ap (λ v. v ++ hex (drop (2 * (at + n)) text)) stored ∙ append_assoc (take at out) items _
-        ∙ ap (λ v. take at out ++ v) (sym split) ∙ before
+    ∙ ap (λ v. take at out ++ v) (sym split) ∙ before

@@ -36,7 +36,7 @@ pieces-joined (c ∷ x) y = by_test (is_ampersand c) (pieces-joined x y)
   where
     by_test : (t : Bool) → pieces (x ++ ampersand ∷ y) ≡ pieces x ++ pieces y
         → cond t ([] ∷ pieces (x ++ ampersand ∷ y)) (onto_first c (pieces (x ++ ampersand ∷ y))) ≡ cond t
-            ([] ∷ pieces x) (onto_first c (pieces x)) ++ pieces y
+        ([] ∷ pieces x) (onto_first c (pieces x)) ++ pieces y
     by_test true e = ap (λ z. [] ∷ z) e
     by_test false e = ap (onto_first c) e ∙ onto_first-append c (pieces x) (pieces y) (pieces_some is_ampersand x)
 

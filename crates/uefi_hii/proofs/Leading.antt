@@ -111,7 +111,7 @@ unfolding step in_body
 step-alt g n path a id e =
     let key : bytes_eq a.key (codes "ALTCFG") ≡ true = is_key a.key _ (number_key (codes "ALTCFG") a id e) in
     ap (λ t. in_body (header_of g n path) [] None t (bytes_eq a.key (codes "OFFSET")) (bytes_eq a.key (codes "GUID")) a)
-        key
+    key
     ∙ expect-some AltSlot (λ id. InBody (with_alt (header_of g n path) id)) _ id e
 
 -- The configuration of the header alone.
@@ -145,10 +145,10 @@ leads_header (g ∷ n ∷ p ∷ []) c s =
     subst (λ x. Leads Start (g ∷ n ∷ p ∷ []) (InBody x)) is (leads_three g n p c s.0 s.1 s.2)
 leads_header (g ∷ n ∷ p ∷ a ∷ []) c s =
     let is : with_alt (header_of c.guid c.name c.path) s.3.0 ≡ bare c =
-        ap (λ a. record (bare c) { alt_cfg_id = a }) (sym s.3.2) in
+    ap (λ a. record (bare c) { alt_cfg_id = a }) (sym s.3.2) in
     subst (λ x. Leads Start (g ∷ n ∷ p ∷ a ∷ []) (InBody x)) is
     (leads_on Start _ _ (g ∷ n ∷ p ∷ []) (a ∷ []) (leads_three g n p c s.0 s.1 s.2)
-        (leads_one _ _ a (step-alt c.guid c.name c.path a s.3.0 s.3.1)))
+    (leads_one _ _ a (step-alt c.guid c.name c.path a s.3.0 s.3.1)))
 leads_header (g ∷ n ∷ p ∷ a ∷ b ∷ h) c s = absurd s
 
 -- The last of elements skips a pair more.
@@ -207,16 +207,16 @@ leads_elements : (ps : List Pair) (es : List Element) (c : Configuration) → Sp
 unfolding Leads
 leads_elements ps [] c s =
     subst (λ x. Leads (InBody c) x (InBody (with_elements c []))) (sym s)
-        (ap (λ x. InBody (record c { elements = x })) (sym (append-nil c.elements)))
+    (ap (λ x. InBody (record c { elements = x })) (sym (append-nil c.elements)))
 leads_elements ps (e ∷ es) c s =
     subst (λ x. Leads (InBody c) x (InBody (with_elements c (e ∷ es)))) (sym s.2)
     (leads_on (InBody c) (InBody (with_element c e)) _ s.0 s.1 (leads_element s.0 e c s.3)
     (subst (λ x. Leads (InBody (with_element c e)) s.1 (InBody (record c { elements = x })))
-        (append_assoc c.elements (e ∷ []) es) (leads_elements s.1 es (with_element c e) s.4)))
+    (append_assoc c.elements (e ∷ []) es) (leads_elements s.1 es (with_element c e) s.4)))
 
 -- The pairs of a configuration lead to it.
 pub leads_body : (ps : List Pair) (c : Configuration) → Spells ps c → Leads Start ps (InBody c)
 leads_body ps c s =
     subst (λ x. Leads Start x (InBody c)) (sym s.whole)
     (leads_on Start (InBody (bare c)) (InBody c) s.header s.rest (leads_header s.header c s.is_header)
-        (leads_elements s.rest c.elements (bare c) s.elements))
+    (leads_elements s.rest c.elements (bare c) s.elements))

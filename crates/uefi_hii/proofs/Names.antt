@@ -57,7 +57,7 @@ pub named_bad : (value left text : List ℕ) (a b : ℕ) → HasNamed (hex value
     → is_name_unit (a * 256 + b) ≡ false → name value ≡ None
 named_bad value left text a b named bad =
     ap (λ t. name_by value (is_even (length value)) (is_odd_byte_zero (hex value)) t)
-        (sym named.each ∙ ap (λ t. t && list_all is_name_unit (units left)) bad)
+    (sym named.each ∙ ap (λ t. t && list_all is_name_unit (units left)) bad)
     ∙ by_tests (is_even (length value)) (is_odd_byte_zero (hex value))
   where
     by_tests : (x y : Bool) → name_by value x y false ≡ None

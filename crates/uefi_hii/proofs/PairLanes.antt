@@ -78,7 +78,7 @@ byte_of_digits x y p q = both_digits (hex_digit x) (hex_digit y) _ p q
 hex_lanes : (h k : ℕ → ℕ → ℕ) → ((a b : ℕ) → a < 16 → b < 16 → h (k a 16) b ≡ a * 16 + b) → (n : ℕ) (v : List ℕ)
     → length v ≡ 2 * n
     → list_all is_hex_digit (evens v) ≡ true → list_all is_hex_digit (odds v) ≡ true
-        → zip2 h (zip2 k (map byte_of_one (evens v)) (replicate n 16)) (map byte_of_one (odds v)) ≡ hex v
+    → zip2 h (zip2 k (map byte_of_one (evens v)) (replicate n 16)) (map byte_of_one (odds v)) ≡ hex v
 hex_lanes h k law zero [] e p q = refl
 hex_lanes h k law zero (x ∷ v) e p q = absurd (omega arith)
 hex_lanes h k law (suc n) [] e p q = absurd (omega arith)
@@ -87,8 +87,8 @@ hex_lanes h k law (suc n) (x ∷ y ∷ v) e p q =
     let high = and_left (is_hex_digit x) (list_all is_hex_digit (evens v)) p in
     let low = and_left (is_hex_digit y) (list_all is_hex_digit (odds v)) q in
     ap₂ (λ b r. b ∷ r)
-        (law (byte_of_one x) (byte_of_one y) (value_small x high) (value_small y low)
-        ∙ sym (byte_of_digits x y high low))
+    (law (byte_of_one x) (byte_of_one y) (value_small x high) (value_small y low)
+    ∙ sym (byte_of_digits x y high low))
     (hex_lanes h k law n v (omega arith) (and_right (is_hex_digit x) _ p) (and_right (is_hex_digit y) _ q))
 
 -- the lanes of two vectors that stand side by side in a text, every other one from j on, as `deinterleave` gives them
@@ -113,15 +113,15 @@ lows_are i xs room = ap (λ v. at_places v (twos 1 16)) (joined_chunks i xs)
 pub block_items : (h k : ℕ → ℕ → ℕ) → ((a b : ℕ) → a < 16 → b < 16 → h (k a 16) b ≡ a * 16 + b) → (i : ℕ) (xs : List ℕ)
     → i + 32 ≤ length xs → (p q : List ℕ)
     → list_all is_hex_digit (half 0 i xs) ≡ true → list_all is_hex_digit (half 1 i xs) ≡ true
-        → p ≡ map byte_of_one (half 0 i xs) → q ≡ map byte_of_one (half 1 i xs)
+    → p ≡ map byte_of_one (half 0 i xs) → q ≡ map byte_of_one (half 1 i xs)
     → zip2 h (zip2 k p (replicate 16 16)) q ≡ hex (chunk i 32 xs)
 block_items h k law i xs room p q all_high all_low high low =
     let evens = highs_are i xs room in
     let odds = lows_are i xs room in
     ap₂ (λ a b. zip2 h (zip2 k a (replicate 16 16)) b) (high ∙ ap (map byte_of_one) evens)
-        (low ∙ ap (map byte_of_one) odds)
+    (low ∙ ap (map byte_of_one) odds)
     ∙ hex_lanes h k law 16 (chunk i 32 xs) (length-chunk i 32 xs room)
-        (sym (ap (list_all is_hex_digit) evens) ∙ all_high) (sym (ap (list_all is_hex_digit) odds) ∙ all_low)
+    (sym (ap (list_all is_hex_digit) evens) ∙ all_high) (sym (ap (list_all is_hex_digit) odds) ∙ all_low)
 
 block_fits : (i : ℕ) (xs : List ℕ) → ((k : ℕ) → Fits w8 (get_or xs k 0)) → Each1 (λ x. x < 256) (chunk i 32 xs)
 block_fits i xs fits = below_from_Fits w8 (chunk i 32 xs) (chunk-fits w8 i 32 xs fits)

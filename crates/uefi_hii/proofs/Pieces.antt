@@ -59,7 +59,7 @@ by_parts key value = record { key = key; value = value }
 -- A piece with an equals sign is the pair of what stands before it and after it.
 pub pair_with_value : (text key value : List ℕ) (at end : ℕ) → end ≤ length text
     → FindsFirst equals_sign (take end text) (Some at) → key ≡ slice_range text 0 at
-        → value ≡ slice_range text (at + 1) end
+    → value ≡ slice_range text (at + 1) end
     → by_parts key (Some value) ≡ pair_of (take end text)
 pair_with_value text key value at end within (is, inside) key_is value_is =
     let piece : List ℕ = take end text in
@@ -74,11 +74,11 @@ pair_with_value text key value at end within (is, inside) key_is value_is =
     let its_key : key ≡ before_first is_equals_sign piece =
     key_is ∙ ap (λ n. take n text) (omega arith) ∙ sym before_it ∙ ap (λ n. take n piece) is in
     let its_value : value ≡ after_first is_equals_sign piece = value_is ∙ sym after_it
-        ∙ ap (λ n. drop (n + 1) piece) is in
+    ∙ ap (λ n. drop (n + 1) piece) is in
     ap (λ k. by_parts k (Some value)) its_key
-        ∙ ap (λ v. by_parts (before_first is_equals_sign piece) (Some v)) its_value
+    ∙ ap (λ v. by_parts (before_first is_equals_sign piece) (Some v)) its_value
     ∙ ap (λ t. by_parts (before_first is_equals_sign piece)
-        (if t then Some (after_first is_equals_sign piece) else None))
+    (if t then Some (after_first is_equals_sign piece) else None))
     (sym has)
 
 -- A text has at most as many pairs as characters.

@@ -72,12 +72,21 @@ element_push_skipped (o ∷ w ∷ v ∷ ps) e p s k =
 elements_push_skipped : (ps : List Pair) (es : List Element) (p : Pair) → es ≢ [] → SpellsElements ps es → IsSkipped p
     → SpellsElements (ps ++ p ∷ []) (last_with_pair es p)
 elements_push_skipped ps [] p some s k = absurd (some refl)
-elements_push_skipped ps (e ∷ []) p some s k =
-    (s.0 ++ p ∷ [], [], ap (λ x. x ++ p ∷ []) (s.2 ∙ ap (λ x. s.0 ++ x) s.4 ∙ append-nil s.0)
-        ∙ sym (append-nil (s.0 ++ p ∷ [])), element_push_skipped s.0 e p s.3 k, refl)
-elements_push_skipped ps (e ∷ f ∷ es) p some s k =
-    (s.0, s.1 ++ p ∷ [], ap (λ x. x ++ p ∷ []) s.2 ∙ append_assoc s.0 s.1 (p ∷ []), s.3,
-        elements_push_skipped s.1 (f ∷ es) p (λ z. cc) s.4 k)
+elements_push_skipped ps (e ∷ []) p some s k = (
+  s.0 ++ p ∷ [],
+  [],
+  ap (λ x. x ++ p ∷ []) (s.2 ∙ ap (λ x. s.0 ++ x) s.4 ∙ append-nil s.0)
+      ∙ sym (append-nil (s.0 ++ p ∷ [])),
+  element_push_skipped s.0 e p s.3 k,
+  refl,
+)
+elements_push_skipped ps (e ∷ f ∷ es) p some s k = (
+  s.0,
+  s.1 ++ p ∷ [],
+  ap (λ x. x ++ p ∷ []) s.2 ∙ append_assoc s.0 s.1 (p ∷ []),
+  s.3,
+  elements_push_skipped s.1 (f ∷ es) p (λ z. cc) s.4 k,
+)
 
 -- Elements, and one more.
 elements_push : (ps qs : List Pair) (es : List Element) (e : Element) → SpellsElements ps es → SpellsElement qs e
@@ -115,8 +124,14 @@ spells_bare f c s e =
 
 pub spells_header : (h : List Pair) (c : Configuration) → SpellsHeader h c → c.elements ≡ [] → Spells h c
 spells_header h c s e =
-    record { header = h; rest = []; whole = sym (append-nil h); is_header = s; elements =
-    subst (λ es. SpellsElements [] es) (sym e) refl }
+    record {
+      header = h;
+      rest = [];
+      whole = sym (append-nil h);
+      is_header = s;
+      elements =
+          subst (λ es. SpellsElements [] es) (sym e) refl;
+    }
 
 -- A configuration has pairs, and the first is good for the GUID.
 pub spells_some : (f : List Pair) (c : Configuration) → Spells f c → f ≢ []

@@ -33,7 +33,7 @@ WasRead f (AfterOffset c n) = (body : List Pair) × (o : Pair) × (f ≡ body ++
     × (number_in (codes "OFFSET") o ≡ Some n)
 WasRead f (AfterWidth c n m) =
     (body : List Pair) × (o w : Pair) × (f ≡ body ++ o ∷ w ∷ []) × Spells body c
-        × (number_in (codes "OFFSET") o ≡ Some n) × (number_in (codes "WIDTH") w ≡ Some m)
+    × (number_in (codes "OFFSET") o ≡ Some n) × (number_in (codes "WIDTH") w ≡ Some m)
 
 -- The steps behind a header or an element, each with the reason for it.
 data BodyStep (c : Configuration) (es : List Element) (alt : Option ℕ) (a o g : Bool) (p : Pair) : Step → Type 0 where
@@ -86,22 +86,22 @@ data Says (f : List Pair) (s : State) (p : Pair) : Step → Type 0 where
 
 body_says : (f : List Pair) (c : Configuration) (p : Pair) (st : Step) → Spells f c
     → BodyStep c c.elements c.alt_cfg_id (bytes_eq p.key (codes "ALTCFG")) (bytes_eq p.key (codes "OFFSET"))
-        (bytes_eq p.key (codes "GUID")) p st → Says f (InBody c) p st
+    (bytes_eq p.key (codes "GUID")) p st → Says f (InBody c) p st
 unfolding WasRead
 body_says f c p st s (takes_alt id es alt e) =
     says_next (InBody (with_alt c id))
-        (spells_header (f ++ p ∷ []) (with_alt c id) (header_push_alt f c p id (spells_bare f c s es) alt e) es)
+    (spells_header (f ++ p ∷ []) (with_alt c id) (header_push_alt f c p id (spells_bare f c s es) alt e) es)
 body_says f c p st s (takes_offset n e) = says_next (AfterOffset c n) (f, p, refl, s, e)
 body_says f c p st s (skips es o g) =
     says_next (InBody (with_skipped c p)) (spells_skipped f c p s es (is_other p.key _ o, is_other p.key _ g))
 body_says f c p st s (lacks_alt es alt a e) =
     says_fail AltSlot (header_good f c (spells_bare f c s es) alt, (bytes_eq-Decides p.key (codes "ALTCFG")).0 a)
-        (nothing_in _ e)
+    (nothing_in _ e)
 body_says f c p st s (lacks_offset e (inl h)) =
     says_fail OffsetSlot (inl (header_good f c (spells_bare f c s h.0) h.1, is_other p.key _ h.2)) (nothing_in _ e)
 body_says f c p st s (lacks_offset e (inr (inl h))) =
     says_fail OffsetSlot (inr (inl (header_with_alt_good f c h.1.0 (spells_bare f c s h.0) h.1.1, refl)))
-        (nothing_in _ e)
+    (nothing_in _ e)
 body_says f c p st s (lacks_offset e (inr (inr h))) =
     says_fail OffsetSlot (inr (inr ((c, s, h.0), (bytes_eq-Decides p.key (codes "OFFSET")).0 h.1))) (nothing_in _ e)
 body_says f c p st s (closes es g) = says_stop c refl es ((bytes_eq-Decides p.key (codes "GUID")).0 g)
@@ -133,11 +133,11 @@ step_says f (AfterName g n) p h = by_value (path_in p) refl
     by_value (Some x) e =
         says_next (InBody (header_of g n x))
         (spells_header (f ++ p ∷ []) (header_of g n x)
-            (subst (λ y. SpellsHeader y (header_of g n x)) (sym (ap (λ y. y ++ p ∷ []) h.2))
-            (h.3, h.4, path_in-some p x e, refl)) refl)
+        (subst (λ y. SpellsHeader y (header_of g n x)) (sym (ap (λ y. y ++ p ∷ []) h.2))
+        (h.3, h.4, path_in-some p x e, refl)) refl)
     by_value None e =
         says_fail PathSlot
-            (subst (AreGood (GuidSlot ∷ NameSlot ∷ [])) (sym h.2) (some_is _ _ h.3, (some_is _ _ h.4, tt)))
+        (subst (AreGood (GuidSlot ∷ NameSlot ∷ [])) (sym h.2) (some_is _ _ h.3, (some_is _ _ h.4, tt)))
         (λ good. let k = path_in-is p good.0 good.1 in cc)
 step_says f (InBody c) p h = body_says f c p _ h (body_step c c.elements c.alt_cfg_id _ _ _ p)
 step_says f (AfterOffset c n) p h = by_value (number_in (codes "WIDTH") p) refl
@@ -162,20 +162,32 @@ step_says f (AfterWidth c n m) p h = by_value (bytes_in p) refl
 gives_at_end : (f : List Pair) (s : State) → WasRead f s → Gives f None (result_at_end s)
 unfolding WasRead result_at_end
 gives_at_end f Start h = (GuidSlot, refl, inr (refl, row_of f None GuidSlot (h)))
-gives_at_end f (AfterGuid x) h =
-    (NameSlot, refl,
-    inr (refl, row_of f None NameSlot (subst (AreGood (GuidSlot ∷ [])) (sym h.1) (some_is _ _ h.2, tt))))
-gives_at_end f (AfterName x y) h =
-    (PathSlot, refl,
-    inr (refl, row_of f None PathSlot
-    (subst (AreGood (GuidSlot ∷ NameSlot ∷ [])) (sym h.2) (some_is _ _ h.3, (some_is _ _ h.4, tt)))))
+gives_at_end f (AfterGuid x) h = (
+  NameSlot,
+  refl,
+  inr (refl, row_of f None NameSlot (subst (AreGood (GuidSlot ∷ [])) (sym h.1) (some_is _ _ h.2, tt))),
+)
+gives_at_end f (AfterName x y) h = (
+  PathSlot,
+  refl,
+  inr (
+    refl,
+    row_of f None PathSlot
+        (subst (AreGood (GuidSlot ∷ NameSlot ∷ [])) (sym h.2) (some_is _ _ h.3, (some_is _ _ h.4, tt))),
+  ),
+)
 gives_at_end f (InBody c) h = (h, tt)
 gives_at_end f (AfterOffset c n) h =
     (WidthSlot, refl, inr (refl, row_of f None WidthSlot ((h.0, h.1 ∷ [], h.2, (c, h.3), (some_is _ _ h.4, tt)))))
-gives_at_end f (AfterWidth c n m) h =
-    (ValueSlot, refl,
-    inr (refl, row_of f None ValueSlot
-    ((h.0, h.1 ∷ h.2 ∷ [], h.3, (c, h.4), (some_is _ _ h.5, (some_is _ _ h.6, tt))))))
+gives_at_end f (AfterWidth c n m) h = (
+  ValueSlot,
+  refl,
+  inr (
+    refl,
+    row_of f None ValueSlot
+        ((h.0, h.1 ∷ h.2 ∷ [], h.3, (c, h.4), (some_is _ _ h.5, (some_is _ _ h.6, tt)))),
+  ),
+)
 
 -- The pairs begin with the group that was found, and it gives the result.
 pub record IsFound (ps : List Pair) (o : Outcome) : Type 0 where
@@ -186,8 +198,11 @@ pub found : (s : State) (f ps : List Pair) → WasRead f s → f ++ ps ≢ [] �
 unfolding WasRead result_at_end
 found s f [] h some =
     subst (IsFound (f ++ [])) (sym (run-end s f))
-        (record { whole = refl; group =
-        record { not_empty = λ z. some (append-nil f ∙ z); gives = gives_at_end f s h } })
+    (record {
+      whole = refl;
+      group =
+          record { not_empty = λ z. some (append-nil f ∙ z); gives = gives_at_end f s h };
+    })
 found s f (p ∷ ps) h some =
     by_step (step s p) refl (step_says f s p h)
     (λ t k. found t (f ++ p ∷ []) ps k (λ z. some (sym (append_assoc f (p ∷ []) ps) ∙ z)))
@@ -197,14 +212,17 @@ found s f (p ∷ ps) h some =
         → IsFound (f ++ p ∷ ps) (run s f (p ∷ ps))
     by_step st e (says_next t k) more =
         subst (IsFound (f ++ p ∷ ps)) (sym (run-next s t f p ps e))
-            (subst (λ x. IsFound x (run t (f ++ p ∷ []) ps)) (append_assoc f (p ∷ []) ps) (more t k))
+        (subst (λ x. IsFound x (run t (f ++ p ∷ []) ps)) (append_assoc f (p ∷ []) ps) (more t k))
     by_step st e (says_fail slot k b) more =
         subst (IsFound (f ++ p ∷ ps)) (sym (run-fail s f p ps slot e))
-        (record { whole = sym (append_assoc f (p ∷ []) ps); group =
-            record { not_empty = push_some f p; gives = (slot, refl, inl (f, p, refl, row_of f (Some p) slot k, b)) } })
+        (record {
+          whole = sym (append_assoc f (p ∷ []) ps);
+          group =
+              record { not_empty = push_some f p; gives = (slot, refl, inl (f, p, refl, row_of f (Some p) slot k, b)) };
+        })
     by_step st e (says_stop c k es key) more =
         let spells : Spells f c = subst (WasRead f) k h in
         let gives : Gives f (Some p) (result_at_end s) =
-            subst (λ x. Gives f (Some p) (result_at_end x)) (sym k) (spells, (key, es)) in
+        subst (λ x. Gives f (Some p) (result_at_end x)) (sym k) (spells, (key, es)) in
         subst (IsFound (f ++ p ∷ ps)) (sym (run-stop s f p ps e))
-            (record { whole = refl; group = record { not_empty = spells_some f c spells; gives = gives } })
+        (record { whole = refl; group = record { not_empty = spells_some f c spells; gives = gives } })

@@ -125,7 +125,7 @@ first_same : {A : Type 0} (text : List ℕ) (after : List Pair) (r : Result (Con
 first_same text after r e parts some kept t c =
     let g = taken (pairs text) after r kept t in
     same_first_result (pairs text) g.0 e.group (result_of r) e.result some (after, g.1, g.2)
-        (pairs_of parts, sym c.whole, c.each.0)
+    (pairs_of parts, sym c.whole, c.each.0)
 
 -- Neither a configuration nor another error is out of memory.
 ok_kept : (A : Type 0) (x : ConfigurationString A)

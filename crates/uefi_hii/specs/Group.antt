@@ -14,8 +14,7 @@ FailsAt slot group next =
 -- The result of a group: the configuration that its pairs spell, which ends where the pairs end or, once it has an
 -- element, before a pair with the key GUID; or the error of the slot at which it fails.
 abbrev pub Gives : List Pair → Option Pair → Result Configuration ParseError → Type 0
-Gives group next (Ok c) =
-    Spells group c × MatchOption next ⊤ (λ pair. (pair.key ≡ codes "GUID") × (c.elements ≢ []))
+Gives group next (Ok c) = Spells group c × MatchOption next ⊤ (λ pair. (pair.key ≡ codes "GUID") × (c.elements ≢ []))
 Gives group next (Err error) = (slot : Slot) × (error ≡ error_of slot) × FailsAt slot group next
 
 -- A group before the pair that comes next, if one does, and its result. No group is empty.

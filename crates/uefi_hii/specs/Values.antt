@@ -18,9 +18,8 @@ guid value = if length (hex value) == 16 then Some (hex value) else None
 
 -- The units that bytes are, the high byte of each first. An odd last byte is no unit.
 abbrev pub units : List ℕ → List ℕ
-units [] = []
-units (high ∷ []) = []
 units (high ∷ low ∷ bytes) = (high * 256 + low) ∷ units bytes
+units _ = []
 
 -- An odd last byte is the first half of a NUL.
 abbrev pub is_odd_byte_zero : List ℕ → Bool
@@ -33,6 +32,5 @@ is_odd_byte_zero (high ∷ low ∷ bytes) = is_odd_byte_zero bytes
 abbrev pub name : List ℕ → Option (List ℕ)
 name value =
     if length value % 2 == 0 && is_odd_byte_zero (hex value)
-        && list_all (λ unit. not (unit == 0) && not (is_in_range 0xd800 0xdfff unit)) (units (hex value))
-    then Some (encode_utf8_all (units (hex value)))
-    else None
+    && list_all (λ unit. not (unit == 0) && not (is_in_range 0xd800 0xdfff unit)) (units (hex value))
+    then Some (encode_utf8_all (units (hex value))) else None

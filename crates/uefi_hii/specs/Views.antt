@@ -47,8 +47,11 @@ element_of e = record { offset = e.offset; width = e.width; value = e.value.item
 
 abbrev pub configuration_of : {A : Type 0} → ConfigurationString A → Configuration
 configuration_of c = record {
-  guid = c.guid.0; name = string_bytes c.name; path = boxed_nodes c.device_path;
-  alt_cfg_id = c.alt_cfg_id; elements = map element_of c.elements.items;
+  guid = c.guid.0;
+  name = string_bytes c.name;
+  path = boxed_nodes c.device_path;
+  alt_cfg_id = c.alt_cfg_id;
+  elements = map element_of c.elements.items;
 }
 
 abbrev pub result_of : {A : Type 0} → Result (ConfigurationString A) ParseError → Result Configuration ParseError

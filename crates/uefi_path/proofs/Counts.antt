@@ -11,10 +11,12 @@ four_bytes_each [] = omega arith
 four_bytes_each (n ∷ nodes) = omega (arith, four_bytes_each nodes, length-append (encoding n) (joined nodes))
 
 -- An instance has at least one node.
-pub node_each : (instances : List (List Node)) → AllByRecursion IsInstance instances → length instances ≤ length (concat instances)
+pub node_each : (instances : List (List Node)) → AllByRecursion IsInstance instances
+    → length instances ≤ length (concat instances)
 node_each [] each = omega arith
 node_each ([] ∷ instances) each = absurd each.0.end
-node_each ((n ∷ instance) ∷ instances) each = omega (arith, node_each instances each.1, length-append (n ∷ instance) (concat instances))
+node_each ((n ∷ instance) ∷ instances) each =
+    omega (arith, node_each instances each.1, length-append (n ∷ instance) (concat instances))
 
 -- A list without its last element is no longer than the list.
 length-all_but_last : {A : Type 0} (xs : List A) → length (all_but_last xs) ≤ length xs
@@ -23,8 +25,10 @@ length-all_but_last (x ∷ []) = omega arith
 length-all_but_last (x ∷ y ∷ ys) = omega (arith, length-all_but_last (y ∷ ys))
 
 -- Before the end of the nodes that bytes encode, there are fewer nodes than bytes.
-pub few_before_end : (P : Node → Type 0) (bytes : List ℕ) (nodes : List Node) → IsEncodingOfNodes P bytes nodes → length (all_but_last nodes) ≤ length bytes
-few_before_end P bytes nodes encodes = omega (arith, length-all_but_last nodes, four_bytes_each nodes, ap length encodes.encoded)
+pub few_before_end : (P : Node → Type 0) (bytes : List ℕ) (nodes : List Node) → IsEncodingOfNodes P bytes nodes
+    → length (all_but_last nodes) ≤ length bytes
+few_before_end P bytes nodes encodes =
+    omega (arith, length-all_but_last nodes, four_bytes_each nodes, ap length encodes.encoded)
 
 -- The instances of the nodes that bytes encode are no more than the bytes.
 pub few_instances : (P : Node → Type 0) (bytes : List ℕ) (nodes : List Node) (instances : List (List Node))

@@ -1,5 +1,6 @@
 -- Whether bytes start with a node, with nodes, or with a path.
-use Rattle.std.proofs.Common.{◌≡◌, ℕ, zero, suc, ◌+◌, ◌*◌, ◌<◌, ◌≤◌, List, [], ◌∷◌, ◌++◌, length, drop, get_or, refl, sym, ◌∙◌, ap, arith, append_assoc, length-append}
+use Rattle.std.proofs.Common.{◌≡◌, ℕ, zero, suc, ◌+◌, ◌*◌, ◌<◌, ◌≤◌, List, [], ◌∷◌, ◌++◌, length, drop, get_or, refl}
+use Rattle.std.proofs.Common.{sym, ◌∙◌, ap, arith, append_assoc, length-append}
 use Rattle.std.proofs.Math.Decide.{dec_le, ℕ_discrete}
 use Rattle.std.proofs.lemmas.List.{take-append-drop, get_or-append-add}
 use Rattle.uefi_path.specs.Header.{header_length}
@@ -16,30 +17,44 @@ abbrev pub stated : List ℕ → ℕ
 stated bytes = get_or bytes 2 0 + get_or bytes 3 0 * 256
 
 -- Bytes that start with a node state a length of at least 4, and are at least that long.
-pub node_states : (bytes : List ℕ) → HasNode bytes → (4 ≤ length bytes) × (4 ≤ stated bytes) × (stated bytes ≤ length bytes)
+pub node_states : (bytes : List ℕ) → HasNode bytes
+    → (4 ≤ length bytes) × (4 ≤ stated bytes) × (stated bytes ≤ length bytes)
 node_states bytes has =
     let node = has.0 in
     let rest = has.2.0 in
-    let whole : length bytes ≡ header_length + (length node.payload + length rest) = omega (arith, ap length has.2.1, length-append node.payload rest) in
+    let whole : length bytes ≡ header_length + (length node.payload + length rest) =
+    omega (arith, ap length has.2.1, length-append node.payload rest) in
     let states : stated bytes ≡ header_length + length node.payload = ap stated has.2.1 ∙ stated_length node has.1 in
     (omega (arith, whole), omega (arith, states), omega (arith, states, whole))
 
 -- Bytes start with a node, or with none.
 node_or_none : (bytes : List ℕ) → ((i : ℕ) → get_or bytes i 0 < 256) → Dec (HasNode bytes)
-node_or_none bytes small = by_length (dec_le 4 (length bytes)) (dec_le 4 (stated bytes)) (dec_le (stated bytes) (length bytes))
+node_or_none bytes small = by_length (dec_le 4 (length bytes)) (dec_le 4 (stated bytes))
+    (dec_le (stated bytes) (length bytes))
   where
-    by_length : Dec (4 ≤ length bytes) → Dec (4 ≤ stated bytes) → Dec (stated bytes ≤ length bytes) → Dec (HasNode bytes)
+    by_length : Dec (4 ≤ length bytes) → Dec (4 ≤ stated bytes) → Dec (stated bytes ≤ length bytes)
+        → Dec (HasNode bytes)
     by_length (no few) b c = no (λ has. few (node_states bytes has).0)
     by_length (yes a) (no short) c = no (λ has. short (node_states bytes has).1)
     by_length (yes a) (yes b) (no cut) = no (λ has. cut (node_states bytes has).2)
     by_length (yes a) (yes b) (yes c) =
         let n = stated bytes in
         let header = header_prefix bytes n small a refl in
-        let encodes = node_prefix bytes (get_or bytes 0 0) (get_or bytes 1 0) n small header b c (omega (arith, small 2, small 3)) in
-        yes (encodes.0, encodes.1.fits, (drop n bytes, sym (take-append-drop n bytes) ∙ ap (λ s. s ++ drop n bytes) encodes.1.encoded))
+        let encodes = node_prefix bytes (get_or bytes 0 0) (get_or bytes 1 0) n small header b c
+        (omega (arith, small 2, small 3)) in
+        yes (
+          encodes.0,
+          encodes.1.fits,
+          (
+            drop n bytes,
+            sym (take-append-drop n bytes)
+                ∙ ap (λ s. s ++ drop n bytes) encodes.1.encoded,
+          ),
+        )
 
 -- What follows a node in bytes is bytes.
-bytes_after : (node : Node) (rest bytes : List ℕ) → bytes ≡ encoding node ++ rest → ((i : ℕ) → get_or bytes i 0 < 256) → (i : ℕ) → get_or rest i 0 < 256
+bytes_after : (node : Node) (rest bytes : List ℕ) → bytes ≡ encoding node ++ rest → ((i : ℕ) → get_or bytes i 0 < 256)
+    → (i : ℕ) → get_or rest i 0 < 256
 bytes_after node rest bytes e small i =
     let at : get_or bytes (length (encoding node) + i) 0 ≡ get_or rest i 0 =
     ap (λ b. get_or b (length (encoding node) + i) 0) e ∙ get_or-append-add (encoding node) rest i 0 in
@@ -48,13 +63,21 @@ bytes_after node rest bytes e small i =
 -- Bytes start with nodes of which only the last satisfies P, or with none.
 nodes_or_none : (P : Node → Type 0) → ((node : Node) → Dec (P node)) → (k : ℕ) (bytes : List ℕ) → length bytes ≤ k
     → ((i : ℕ) → get_or bytes i 0 < 256) → Dec (HasNodes P bytes)
-nodes_or_none P d zero bytes short small = no (λ has. absurd (omega (arith, short, (node_states bytes (HasNodes-node P bytes has)).0)))
-nodes_or_none P d (suc k) bytes short small = by_node (node_or_none bytes small) (λ after less fit. nodes_or_none P d k after (omega (arith, less, short)) fit)
+nodes_or_none P d zero bytes short small =
+    no (λ has. absurd (omega (arith, short, (node_states bytes (HasNodes-node P bytes has)).0)))
+nodes_or_none P d (suc k) bytes short small =
+    by_node (node_or_none bytes small) (λ after less fit. nodes_or_none P d k after (omega (arith, less, short)) fit)
   where
-    by_stop : (n : Node) (after : List ℕ) → Fits n → bytes ≡ encoding n ++ after → Dec (P n) → Dec (HasNodes P after) → Dec (HasNodes P bytes)
-    by_stop n after f e (yes so) more = yes (n ∷ [], AreEndedBy-one P n f so, (after, e ∙ sym (append_assoc (encoding n) [] after)))
+    by_stop : (n : Node) (after : List ℕ) → Fits n → bytes ≡ encoding n ++ after → Dec (P n) → Dec (HasNodes P after)
+        → Dec (HasNodes P bytes)
+    by_stop n after f e (yes so) more =
+        yes (n ∷ [], AreEndedBy-one P n f so, (after, e ∙ sym (append_assoc (encoding n) [] after)))
     by_stop n after f e (no not_so) (yes m) =
-        yes (n ∷ m.0, AreEndedBy-cons P n m.0 f not_so m.1, (m.2.0, e ∙ ap (λ s. encoding n ++ s) m.2.1 ∙ sym (append_assoc (encoding n) (joined m.0) m.2.0)))
+        yes (
+          n ∷ m.0,
+          AreEndedBy-cons P n m.0 f not_so m.1,
+          (m.2.0, e ∙ ap (λ s. encoding n ++ s) m.2.1 ∙ sym (append_assoc (encoding n) (joined m.0) m.2.0)),
+        )
     by_stop n after f e (no not_so) (no none) = no (λ has. none (HasNodes-after P bytes after n has f not_so e))
 
     by_node : Dec (HasNode bytes) → ((after : List ℕ) → length after < length bytes

@@ -1,5 +1,6 @@
 -- The header and the node that bytes start with.
-use Rattle.std.proofs.Common.{◌≡◌, ℕ, ◌+◌, ◌-◌, ◌*◌, ◌<◌, ◌≤◌, List, [], ◌∷◌, ◌++◌, length, take, drop, get_or, sym, ◌∙◌, ap, arith}
+use Rattle.std.proofs.Common.{◌≡◌, ℕ, ◌+◌, ◌-◌, ◌*◌, ◌<◌, ◌≤◌, List, [], ◌∷◌, ◌++◌, length, take, drop, get_or, sym}
+use Rattle.std.proofs.Common.{◌∙◌, ap, arith}
 use Rattle.std.proofs.lemmas.List.{length-take-le}
 use Rattle.std.proofs.Math.Seq.{take-append_seam, take-append-add}
 use Rattle.uefi_path.specs.Node.{encoding, HasNode}
@@ -13,12 +14,17 @@ use Rattle.uefi_path.specs.private.OneNode.{stated_length}
 use Rattle.uefi_path.specs.private.Encoding.{EncodesNode}
 
 -- The first four bytes are a header.
-pub header_prefix : (bytes : List ℕ) (n : ℕ) → ((i : ℕ) → get_or bytes i 0 < 256) → 4 ≤ length bytes → n ≡ get_or bytes 2 0 + get_or bytes 3 0 * 256
+pub header_prefix : (bytes : List ℕ) (n : ℕ) → ((i : ℕ) → get_or bytes i 0 < 256) → 4 ≤ length bytes
+    → n ≡ get_or bytes 2 0 + get_or bytes 3 0 * 256
     → IsPrefix (header_bytes (header (get_or bytes 0 0) (get_or bytes 1 0) n)) bytes
 unfolding items_from
 header_prefix bytes n small enough made =
-    let two : u16_bytes n ≡ get_or bytes 2 0 ∷ get_or bytes 3 0 ∷ [] = two_bytes (get_or bytes 2 0) (get_or bytes 3 0) n (small 2) (small 3) made in
-    (drop 4 bytes, drop-items_from 0 4 4 bytes (omega arith) enough ∙ ap (λ s. get_or bytes 0 0 ∷ get_or bytes 1 0 ∷ s ++ drop 4 bytes) (sym two))
+    let two : u16_bytes n ≡ get_or bytes 2 0 ∷ get_or bytes 3 0 ∷ [] =
+    two_bytes (get_or bytes 2 0) (get_or bytes 3 0) n (small 2) (small 3) made in (
+      drop 4 bytes,
+      drop-items_from 0 4 4 bytes (omega arith) enough
+          ∙ ap (λ s. get_or bytes 0 0 ∷ get_or bytes 1 0 ∷ s ++ drop 4 bytes) (sym two),
+    )
 
 -- A prefix with the length that its header states encodes a node.
 pub node_prefix : (bytes : List ℕ) (t u n : ℕ) → ((i : ℕ) → get_or bytes i 0 < 256)
@@ -34,19 +40,27 @@ node_prefix bytes t u n small prefix whole_header within fits =
     let cut : n ≡ length bytes_of_header + (n - 4) = omega arith in (
       record { device_type = t; sub_type = u; payload = payload },
       record {
-        fits = record { device_type = omega (arith, first, small 0); sub_type = omega (arith, second, small 1); payload = omega (arith, sized) };
+        fits = record {
+          device_type = omega (arith, first, small 0);
+          sub_type =
+              omega (arith, second, small 1);
+          payload = omega (arith, sized);
+        };
         encoded =
-            ap (take n) prefix.1 ∙ ap (λ k. take k (bytes_of_header ++ prefix.0)) cut ∙ take-append-add bytes_of_header prefix.0 (n - 4)
+            ap (take n) prefix.1 ∙ ap (λ k. take k (bytes_of_header ++ prefix.0)) cut
+            ∙ take-append-add bytes_of_header prefix.0 (n - 4)
             ∙ ap (λ k. header_bytes (header t u k) ++ payload) stated;
       },
     )
 
 -- If bytes start with a node, the prefix with the length that they state encodes it.
-pub stated_prefix : (bytes : List ℕ) (n : ℕ) → HasNode bytes → n ≡ u16_at bytes LENGTH_OFFSET → EncodesNode (take n bytes)
+pub stated_prefix : (bytes : List ℕ) (n : ℕ) → HasNode bytes → n ≡ u16_at bytes LENGTH_OFFSET
+    → EncodesNode (take n bytes)
 stated_prefix bytes n has made =
     let node = has.0 in
     let rest = has.2.0 in
-    let stated : u16_at bytes LENGTH_OFFSET ≡ header_length + length node.payload = ap (λ b. u16_at b LENGTH_OFFSET) has.2.1 ∙ stated_length node has.1 in
+    let stated : u16_at bytes LENGTH_OFFSET ≡ header_length + length node.payload =
+    ap (λ b. u16_at b LENGTH_OFFSET) has.2.1 ∙ stated_length node has.1 in
     let whole : n ≡ length (encoding node) = omega (arith, made, stated) in (
       node,
       record {

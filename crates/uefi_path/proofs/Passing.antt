@@ -1,5 +1,6 @@
 -- A walk over the nodes that bytes start with.
-use Rattle.std.proofs.Common.{◌≡◌, ℕ, ◌-◌, List, [], ◌∷◌, ◌++◌, length, take, refl, sym, ◌∙◌, ap, subst, arith, append_assoc, length-append}
+use Rattle.std.proofs.Common.{◌≡◌, ℕ, ◌-◌, List, [], ◌∷◌, ◌++◌, length, take, refl, sym, ◌∙◌, ap, subst, arith}
+use Rattle.std.proofs.Common.{append_assoc, length-append}
 use Rattle.std.proofs.lemmas.List.{take_at}
 use Rattle.std.specs.List.{AllByRecursion}
 use Rattle.uefi_path.specs.Node.{Node, Fits, encoding, joined, HasNode}
@@ -21,12 +22,14 @@ abbrev pub HasPassed : (Node → Type 0) → List ℕ → List ℕ → Type 0
 HasPassed P bytes rest = (nodes : List Node) × PassesNodes P bytes rest nodes
 
 -- All elements have a property, and so does one more.
-AllByRecursion-push : {A : Type 0} (P : A → Type 0) (xs : List A) (x : A) → AllByRecursion P xs → P x → AllByRecursion P (xs ++ x ∷ [])
+AllByRecursion-push : {A : Type 0} (P : A → Type 0) (xs : List A) (x : A) → AllByRecursion P xs → P x
+    → AllByRecursion P (xs ++ x ∷ [])
 AllByRecursion-push P [] x all one = (one, tt)
 AllByRecursion-push P (y ∷ xs) x all one = (all.0, AllByRecursion-push P xs x all.1 one)
 
 -- No element satisfies P, and one more does.
-LastAlone-push : {A : Type 0} (P : A → Type 0) (xs : List A) (x : A) → AllByRecursion (λ y. P y → ⊥) xs → P x → LastAlone P (xs ++ x ∷ [])
+LastAlone-push : {A : Type 0} (P : A → Type 0) (xs : List A) (x : A) → AllByRecursion (λ y. P y → ⊥) xs → P x
+    → LastAlone P (xs ++ x ∷ [])
 LastAlone-push P [] x none last = last
 LastAlone-push P (y ∷ []) x none last = (none.0, last)
 LastAlone-push P (y ∷ z ∷ xs) x none last = (none.0, LastAlone-push P (z ∷ xs) x none.1 last)
@@ -34,10 +37,12 @@ LastAlone-push P (y ∷ z ∷ xs) x none last = (none.0, LastAlone-push P (z ∷
 -- The encoding of some nodes and of one more.
 joined-push : (ns : List Node) (n : Node) (s : List ℕ) → joined (ns ++ n ∷ []) ++ s ≡ joined ns ++ (encoding n ++ s)
 joined-push ns n s =
-    ap (λ t. t ++ s) (joined-append ns (n ∷ [])) ∙ append_assoc (joined ns) (encoding n ++ []) s ∙ ap (λ t. joined ns ++ t) (append_assoc (encoding n) [] s)
+    ap (λ t. t ++ s) (joined-append ns (n ∷ [])) ∙ append_assoc (joined ns) (encoding n ++ []) s
+    ∙ ap (λ t. joined ns ++ t) (append_assoc (encoding n) [] s)
 
 -- The walk continues after a node that doesn't satisfy P.
-pub passed_more : (P : Node → Type 0) (bytes rest after : List ℕ) (n : Node) → HasPassed P bytes rest → Fits n → (P n → ⊥)
+pub passed_more : (P : Node → Type 0) (bytes rest after : List ℕ) (n : Node) → HasPassed P bytes rest → Fits n
+    → (P n → ⊥)
     → rest ≡ encoding n ++ after → HasPassed P bytes after
 passed_more P bytes rest after n before fits not_so e = (
   before.0 ++ n ∷ [],
@@ -49,16 +54,22 @@ passed_more P bytes rest after n before fits not_so e = (
 )
 
 -- The walk stops at a node that satisfies P: the bytes up to its end encode such nodes.
-pub passed_end : (P : Node → Type 0) (bytes rest after : List ℕ) (n : Node) → HasPassed P bytes rest → Fits n → P n → rest ≡ encoding n ++ after
+pub passed_end : (P : Node → Type 0) (bytes rest after : List ℕ) (n : Node) → HasPassed P bytes rest → Fits n → P n
+    → rest ≡ encoding n ++ after
     → EncodesNodes P (take (length bytes - length after) bytes)
 passed_end P bytes rest after n before fits so e =
     let nodes : List Node = before.0 ++ n ∷ [] in
     let end : ℕ = length bytes - length after in
-    let split : bytes ≡ joined nodes ++ after = before.1.split ∙ ap (λ s. joined before.0 ++ s) e ∙ sym (joined-push before.0 n after) in
+    let split : bytes ≡ joined nodes ++ after = before.1.split ∙ ap (λ s. joined before.0 ++ s) e
+    ∙ sym (joined-push before.0 n after) in
     let sized : length (joined nodes) ≡ end = omega (arith, ap length split, length-append (joined nodes) after) in (
       nodes,
       record {
-        ended = record { each = AllByRecursion-push Fits before.0 n before.1.each fits; end = LastAlone-push P before.0 n before.1.none so };
+        ended = record {
+          each = AllByRecursion-push Fits before.0 n before.1.each fits;
+          end =
+              LastAlone-push P before.0 n before.1.none so;
+        };
         encoded = ap (take end) split ∙ take_at (joined nodes) after end sized;
       },
     )
@@ -77,9 +88,12 @@ HasNodes-after_all : (P : Node → Type 0) (ns : List Node) (bytes rest : List �
 HasNodes-after_all P [] bytes rest each none has e = subst (HasNodes P) e has
 HasNodes-after_all P (n ∷ ns) bytes rest each none has e =
     let after : List ℕ = joined ns ++ rest in
-    HasNodes-after_all P ns after rest each.1 none.1 (HasNodes-after P bytes after n has each.0 none.0 (e ∙ append_assoc (encoding n) (joined ns) rest)) refl
+    HasNodes-after_all P ns after rest each.1 none.1
+    (HasNodes-after P bytes after n has each.0 none.0 (e ∙ append_assoc (encoding n) (joined ns) rest)) refl
 
 -- If the rest starts with no node, the bytes start with no such nodes.
-pub passed_nowhere : (P : Node → Type 0) (bytes rest : List ℕ) → HasPassed P bytes rest → ¬ HasNode rest → ¬ HasNodes P bytes
+pub passed_nowhere : (P : Node → Type 0) (bytes rest : List ℕ) → HasPassed P bytes rest → ¬ HasNode rest
+    → ¬ HasNodes P bytes
 passed_nowhere P bytes rest before refused has =
-    refused (HasNodes-node P rest (HasNodes-after_all P before.0 bytes rest before.1.each before.1.none has before.1.split))
+    refused (HasNodes-node P rest (HasNodes-after_all P before.0 bytes rest before.1.each before.1.none has
+    before.1.split))

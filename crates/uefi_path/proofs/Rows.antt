@@ -2,21 +2,33 @@
 use Rattle.std.proofs.Common.{ℕ, ◌+◌, ◌<◌, ◌≤◌, List, [], ◌∷◌, ◌++◌, length, refl, arith, lit<, lit≤}
 use Rattle.uefi_path.specs.Node.{Node, Fits, IsEnd, IsEndEntire}
 use Rattle.uefi_path.specs.Path.{IsPath, HasPath}
-use Rattle.uefi_path.specs.rows.Paths.{node, first_instance, second_instance, unknown_end, end_entire, TwoInstances, AnyEnd, EndWithData, NoPath, Nodes, TypeNumbers, RowsHold}
+use Rattle.uefi_path.specs.rows.Paths.{node, first_instance, second_instance, unknown_end, end_entire, TwoInstances}
+use Rattle.uefi_path.specs.rows.Paths.{AnyEnd, EndWithData, NoPath, Nodes, TypeNumbers, RowsHold}
 use Rattle.uefi_path.proofs.Decide.{stated, node_states}
 use Rattle.uefi_path.proofs.Passing.{HasNodes-after}
 use Rattle.uefi_path.proofs.Steps.{HasNodes-node, AreEndedBy-one, AreEndedBy-cons}
 
 -- A node with these fields fits.
 fits : (t s : ℕ) (d : List ℕ) → t < 256 → s < 256 → 4 + length d ≤ 0xffff → Fits (node t s d)
-fits t s d type_fits sub_type_fits payload_fits = record { device_type = type_fits; sub_type = sub_type_fits; payload = payload_fits }
+fits t s d type_fits sub_type_fits payload_fits =
+    record { device_type = type_fits; sub_type = sub_type_fits; payload = payload_fits }
 
 -- The nodes of both instances fit.
-first_nodes_fit : Fits (node 0xa0 0xb0 (0x0a ∷ 0x0b ∷ [])) × Fits (node 0xa1 0xb1 (0x14 ∷ 0x15 ∷ 0x16 ∷ 0x17 ∷ [])) × Fits (node 0x7f 0x01 [])
-first_nodes_fit = (fits _ _ _ (lit< tt) (lit< tt) (lit≤ tt), fits _ _ _ (lit< tt) (lit< tt) (lit≤ tt), fits _ _ _ (lit< tt) (lit< tt) (lit≤ tt))
+first_nodes_fit : Fits (node 0xa0 0xb0 (0x0a ∷ 0x0b ∷ [])) × Fits (node 0xa1 0xb1 (0x14 ∷ 0x15 ∷ 0x16 ∷ 0x17 ∷ []))
+    × Fits (node 0x7f 0x01 [])
+first_nodes_fit = (
+  fits _ _ _ (lit< tt) (lit< tt) (lit≤ tt),
+  fits _ _ _ (lit< tt) (lit< tt) (lit≤ tt),
+  fits _ _ _ (lit< tt) (lit< tt) (lit≤ tt),
+)
 
-second_nodes_fit : Fits (node 0xa2 0xb2 (0x1e ∷ 0x1f ∷ [])) × Fits (node 0xa3 0xb3 (0x28 ∷ 0x29 ∷ 0x2a ∷ 0x2b ∷ [])) × Fits end_entire
-second_nodes_fit = (fits _ _ _ (lit< tt) (lit< tt) (lit≤ tt), fits _ _ _ (lit< tt) (lit< tt) (lit≤ tt), fits _ _ _ (lit< tt) (lit< tt) (lit≤ tt))
+second_nodes_fit : Fits (node 0xa2 0xb2 (0x1e ∷ 0x1f ∷ [])) × Fits (node 0xa3 0xb3 (0x28 ∷ 0x29 ∷ 0x2a ∷ 0x2b ∷ []))
+    × Fits end_entire
+second_nodes_fit = (
+  fits _ _ _ (lit< tt) (lit< tt) (lit≤ tt),
+  fits _ _ _ (lit< tt) (lit< tt) (lit≤ tt),
+  fits _ _ _ (lit< tt) (lit< tt) (lit≤ tt),
+)
 
 -- The nodes of the first instance, followed by a path, are a path.
 first_instance_before : (others : List Node) → IsPath others → IsPath (first_instance ++ others)
@@ -53,8 +65,15 @@ two_instances = record {
 any_end : AnyEnd
 any_end =
     let fits_unknown : Fits unknown_end = fits _ _ _ (lit< tt) (lit< tt) (lit≤ tt) in record {
-      path = AreEndedBy-cons IsEndEntire _ _ fits_unknown (λ e. absurd (omega (arith, e.1))) (AreEndedBy-one IsEndEntire _ second_nodes_fit.2 (refl, refl));
-      instances = record { each = (AreEndedBy-one IsEnd _ fits_unknown refl, (AreEndedBy-one IsEnd _ second_nodes_fit.2 refl, tt)); whole = refl };
+      path = AreEndedBy-cons IsEndEntire _ _ fits_unknown (λ e. absurd (omega (arith, e.1)))
+          (AreEndedBy-one IsEndEntire _ second_nodes_fit.2 (refl, refl));
+      instances = record {
+        each = (
+          AreEndedBy-one IsEnd _ fits_unknown refl,
+          (AreEndedBy-one IsEnd _ second_nodes_fit.2 refl, tt),
+        );
+        whole = refl;
+      };
       bytes = refl;
       nodes = refl;
     }

@@ -6,7 +6,8 @@ use Rattle.uefi_path.specs.Node.{Node, Fits, encoding, joined, HasNode, IsEnd}
 use Rattle.uefi_path.specs.Path.{AreEndedBy, concat, all_but_last}
 use Rattle.uefi_path.specs.private.Encoding.{HasNodes}
 use Rattle.uefi_path.specs.private.Encoding.{IsEncodingOfNodes, EncodesNodes, IsEncodingOfInstances, EncodesInstances}
-use Rattle.uefi_path.specs.private.OnePath.{same_first, one_ended, nodes_encoded_once, instances_encoded_once, joined-append, some_bytes}
+use Rattle.uefi_path.specs.private.OnePath.{same_first, one_ended, nodes_encoded_once, instances_encoded_once}
+use Rattle.uefi_path.specs.private.OnePath.{joined-append, some_bytes}
 
 -- Bytes that start with nodes of which only the last satisfies P start with a node.
 pub HasNodes-node : (P : Node → Type 0) (bytes : List ℕ) → HasNodes P bytes → HasNode bytes
@@ -14,10 +15,15 @@ HasNodes-node P bytes has = go has.0 has.1 has.2
   where
     go : (nodes : List Node) → AreEndedBy P nodes → IsPrefix (joined nodes) bytes → HasNode bytes
     go [] ended prefix = absurd ended.end
-    go (n ∷ nodes) ended prefix = (n, ended.each.0, (joined nodes ++ prefix.0, prefix.1 ∙ append_assoc (encoding n) (joined nodes) prefix.0))
+    go (n ∷ nodes) ended prefix = (
+      n,
+      ended.each.0,
+      (joined nodes ++ prefix.0, prefix.1 ∙ append_assoc (encoding n) (joined nodes) prefix.0),
+    )
 
 -- Bytes that encode such nodes start with them.
-pub HasNodes-encoded : (P : Node → Type 0) (bytes : List ℕ) (nodes : List Node) → IsEncodingOfNodes P bytes nodes → HasNodes P bytes
+pub HasNodes-encoded : (P : Node → Type 0) (bytes : List ℕ) (nodes : List Node) → IsEncodingOfNodes P bytes nodes
+    → HasNodes P bytes
 HasNodes-encoded P bytes nodes encodes = (nodes, encodes.ended, ([], encodes.encoded ∙ sym (append-nil (joined nodes))))
 
 -- One node that satisfies P is such nodes.
@@ -25,10 +31,12 @@ pub AreEndedBy-one : (P : Node → Type 0) (n : Node) → Fits n → P n → Are
 AreEndedBy-one P n fits so = record { each = (fits, tt); end = so }
 
 -- No node precedes the one that ends the list.
-pub none_before_end : (P : Node → Type 0) (bytes after : List ℕ) (n : Node) (nodes : List Node) → IsEncodingOfNodes P bytes nodes → Fits n → P n
+pub none_before_end : (P : Node → Type 0) (bytes after : List ℕ) (n : Node) (nodes : List Node)
+    → IsEncodingOfNodes P bytes nodes → Fits n → P n
     → bytes ≡ encoding n ++ after → all_but_last nodes ≡ []
 none_before_end P bytes after n nodes encodes fits so e =
-    let same : joined nodes ++ [] ≡ joined (n ∷ []) ++ after = append-nil (joined nodes) ∙ sym encodes.encoded ∙ e ∙ sym (append_assoc (encoding n) [] after) in
+    let same : joined nodes ++ [] ≡ joined (n ∷ []) ++ after = append-nil (joined nodes) ∙ sym encodes.encoded ∙ e
+    ∙ sym (append_assoc (encoding n) [] after) in
     ap all_but_last (one_ended P nodes (n ∷ []) [] after encodes.ended (AreEndedBy-one P n fits so) same).0
 
 -- After a node that doesn't end such nodes, the others follow.
@@ -36,29 +44,38 @@ pub after_first : (P : Node → Type 0) (n : Node) (nodes : List Node) (after x 
     → AreEndedBy P nodes → encoding n ++ after ≡ joined nodes ++ x
     → (others : List Node) × AreEndedBy P others × (after ≡ joined others ++ x)
 after_first P n [] after x fits not_so ended e = absurd ended.end
-after_first P n (m ∷ []) after x fits not_so ended e = absurd (not_so (subst P (sym (same_first n m [] after x fits ended.each.0 e).0) ended.end))
-after_first P n (m ∷ k ∷ nodes) after x fits not_so ended e =
-    (k ∷ nodes, record { each = ended.each.1; end = ended.end.1 }, (same_first n m (k ∷ nodes) after x fits ended.each.0 e).1)
+after_first P n (m ∷ []) after x fits not_so ended e =
+    absurd (not_so (subst P (sym (same_first n m [] after x fits ended.each.0 e).0) ended.end))
+after_first P n (m ∷ k ∷ nodes) after x fits not_so ended e = (
+  k ∷ nodes,
+  record { each = ended.each.1; end = ended.end.1 },
+  (same_first n m (k ∷ nodes) after x fits ended.each.0 e).1,
+)
 
 -- So the bytes after it encode the others.
-pub after_node : (P : Node → Type 0) (bytes after : List ℕ) (n : Node) (nodes : List Node) → IsEncodingOfNodes P bytes nodes → Fits n → (P n → ⊥)
+pub after_node : (P : Node → Type 0) (bytes after : List ℕ) (n : Node) (nodes : List Node)
+    → IsEncodingOfNodes P bytes nodes → Fits n → (P n → ⊥)
     → bytes ≡ encoding n ++ after → EncodesNodes P after
 after_node P bytes after n nodes encodes fits not_so e =
-    let others = after_first P n nodes after [] fits not_so encodes.ended (sym e ∙ encodes.encoded ∙ sym (append-nil (joined nodes))) in
+    let others = after_first P n nodes after [] fits not_so encodes.ended
+    (sym e ∙ encodes.encoded ∙ sym (append-nil (joined nodes))) in
     (others.0, record { ended = others.1; encoded = others.2 ∙ append-nil (joined others.0) })
 
 -- One more node before such nodes.
-pub AreEndedBy-cons : (P : Node → Type 0) (n : Node) (others : List Node) → Fits n → (P n → ⊥) → AreEndedBy P others → AreEndedBy P (n ∷ others)
+pub AreEndedBy-cons : (P : Node → Type 0) (n : Node) (others : List Node) → Fits n → (P n → ⊥) → AreEndedBy P others
+    → AreEndedBy P (n ∷ others)
 AreEndedBy-cons P n [] fits not_so ended = absurd ended.end
 AreEndedBy-cons P n (m ∷ others) fits not_so ended = record { each = (fits, ended.each); end = (not_so, ended.end) }
 
 -- The last of one more node before such nodes is their last.
-all_but_last-cons : (P : Node → Type 0) (n : Node) (others : List Node) → AreEndedBy P others → all_but_last (n ∷ others) ≡ n ∷ all_but_last others
+all_but_last-cons : (P : Node → Type 0) (n : Node) (others : List Node) → AreEndedBy P others
+    → all_but_last (n ∷ others) ≡ n ∷ all_but_last others
 all_but_last-cons P n [] ended = absurd ended.end
 all_but_last-cons P n (m ∷ others) ended = refl
 
 -- The node that the bytes start with is the first of those that are left.
-pub next_node : (P : Node → Type 0) (bytes after : List ℕ) (n : Node) (nodes others : List Node) → IsEncodingOfNodes P bytes nodes → Fits n → (P n → ⊥)
+pub next_node : (P : Node → Type 0) (bytes after : List ℕ) (n : Node) (nodes others : List Node)
+    → IsEncodingOfNodes P bytes nodes → Fits n → (P n → ⊥)
     → bytes ≡ encoding n ++ after → IsEncodingOfNodes P after others → all_but_last nodes ≡ n ∷ all_but_last others
 next_node P bytes after n nodes others encodes fits not_so e left =
     let all : nodes ≡ n ∷ others =
@@ -71,15 +88,19 @@ next_node P bytes after n nodes others encodes fits not_so e left =
     ap all_but_last all ∙ all_but_last-cons P n others left.ended
 
 -- If no bytes are left, no instance is left.
-pub no_instance : (bytes : List ℕ) (instances : List (List Node)) → IsEncodingOfInstances bytes instances → length bytes ≡ 0 → instances ≡ []
+pub no_instance : (bytes : List ℕ) (instances : List (List Node)) → IsEncodingOfInstances bytes instances
+    → length bytes ≡ 0 → instances ≡ []
 no_instance bytes [] encodes none = refl
 no_instance bytes (p ∷ instances) encodes none =
-    absurd (some_bytes p (joined (concat instances)) encodes.each.0 (sym (encodes.encoded ∙ joined-append p (concat instances)) ∙ nil_from_length bytes none))
+    absurd (some_bytes p (joined (concat instances)) encodes.each.0
+    (sym (encodes.encoded ∙ joined-append p (concat instances)) ∙ nil_from_length bytes none))
 
 -- If bytes are left, they start with an instance.
-pub some_instance : (bytes : List ℕ) (instances : List (List Node)) → IsEncodingOfInstances bytes instances → (length bytes ≡ 0 → ⊥) → HasNodes IsEnd bytes
+pub some_instance : (bytes : List ℕ) (instances : List (List Node)) → IsEncodingOfInstances bytes instances
+    → (length bytes ≡ 0 → ⊥) → HasNodes IsEnd bytes
 some_instance bytes [] encodes some = absurd (some (ap length encodes.encoded))
-some_instance bytes (p ∷ instances) encodes some = (p, encodes.each.0, (joined (concat instances), encodes.encoded ∙ joined-append p (concat instances)))
+some_instance bytes (p ∷ instances) encodes some =
+    (p, encodes.each.0, (joined (concat instances), encodes.encoded ∙ joined-append p (concat instances)))
 
 -- After an instance, the bytes encode the other instances.
 pub after_instance : (bytes prefix after : List ℕ) (instances : List (List Node))
@@ -99,4 +120,5 @@ pub next_instance : (bytes prefix after : List ℕ) (nodes : List Node) (instanc
     → bytes ≡ prefix ++ after → IsEncodingOfInstances after others → instances ≡ nodes ∷ others
 next_instance bytes prefix after nodes instances others encodes came e left =
     instances_encoded_once instances (nodes ∷ others) encodes.each (came.ended, left.each)
-    (sym encodes.encoded ∙ e ∙ ap (λ b. b ++ after) came.encoded ∙ ap (λ b. joined nodes ++ b) left.encoded ∙ sym (joined-append nodes (concat others)))
+    (sym encodes.encoded ∙ e ∙ ap (λ b. b ++ after) came.encoded ∙ ap (λ b. joined nodes ++ b) left.encoded
+    ∙ sym (joined-append nodes (concat others)))

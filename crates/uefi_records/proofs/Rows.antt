@@ -3,7 +3,8 @@ use Rattle.std.proofs.Common.{refl}
 use Rattle.uefi_records.specs.time.Fields.{time_bytes}
 use Rattle.uefi_records.specs.file.FileInfo.{file_header}
 use Rattle.uefi_records.specs.file.FileSystemInfo.{file_system_header}
-use Rattle.uefi_records.specs.rows.Records.{LocalTime, ZeroTime, UnknownDaylight, Zones, FlagNumbers, FileOfAb, FileSystemOfAb, RecordSizes, Labels, Identities, RowsHold}
+use Rattle.uefi_records.specs.rows.Records.{LocalTime, ZeroTime, UnknownDaylight, Zones, FlagNumbers, FileOfAb}
+use Rattle.uefi_records.specs.rows.Records.{FileSystemOfAb, RecordSizes, Labels, Identities, RowsHold}
 
 local_time : LocalTime
 unfolding time_bytes
@@ -55,4 +56,15 @@ identities : Identities
 identities = record { file_info = refl; file_system_info = refl; volume_label = refl }
 
 pub rows_hold : RowsHold
-rows_hold = (local_time, zero_time, unknown_daylight, zones, flag_numbers, file_of_ab, file_system_of_ab, record_sizes, labels, identities)
+rows_hold = (
+  local_time,
+  zero_time,
+  unknown_daylight,
+  zones,
+  flag_numbers,
+  file_of_ab,
+  file_system_of_ab,
+  record_sizes,
+  labels,
+  identities,
+)

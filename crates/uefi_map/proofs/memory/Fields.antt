@@ -5,7 +5,8 @@ use Rattle.uefi_map.specs.declared.memory.descriptor.MemoryDescriptor.{MemoryDes
 use Rattle.uefi_map.specs.memory.Descriptor.{descriptor_length, descriptor_in, encoding, Fits}
 
 -- A descriptor is its fields.
-same_fields : (one other : MemoryDescriptor) → one.ty.0 ≡ other.ty.0 → one.padding ≡ other.padding → one.phys_start ≡ other.phys_start
+same_fields : (one other : MemoryDescriptor) → one.ty.0 ≡ other.ty.0 → one.padding ≡ other.padding
+    → one.phys_start ≡ other.phys_start
     → one.virt_start ≡ other.virt_start → one.page_count ≡ other.page_count → one.att.0 ≡ other.att.0 → one ≡ other
 same_fields one other ty padding phys_start virt_start page_count att = λ i. record {
   ty = record { 0 = ty i };

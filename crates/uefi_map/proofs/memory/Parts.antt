@@ -1,10 +1,13 @@
 -- A list with one part replaced.
-use Rattle.std.proofs.Common.{◌≡◌, ℕ, ◌+◌, ◌≤◌, List, ◌++◌, length, take, drop, slice_range, sym, ◌∙◌, ap, arith, append_assoc}
+use Rattle.std.proofs.Common.{◌≡◌, ℕ, ◌+◌, ◌≤◌, List, ◌++◌, length, take, drop, slice_range, sym, ◌∙◌, ap, arith}
+use Rattle.std.proofs.Common.{append_assoc}
 use Rattle.std.proofs.lemmas.Grind.{common_steps}
 use Rattle.std.proofs.lemmas.Slice.{drop-append-drop}
 
--- A list with another part from an index on, instead of as many items: what is before it, what is behind it, the part, and the length.
-pub before_part : (list part rest : List ℕ) (at : ℕ) → at ≤ length list → take at (take at list ++ (part ++ rest)) ≡ take at list
+-- A list with another part from an index on, instead of as many items: what is before it, what is behind it, the
+-- part, and the length.
+pub before_part : (list part rest : List ℕ) (at : ℕ) → at ≤ length list
+    → take at (take at list ++ (part ++ rest)) ≡ take at list
 before_part list part rest at within = grind (arith, common_steps)
 
 pub behind_part : (list part : List ℕ) (at : ℕ) → at + length part ≤ length list
@@ -12,9 +15,11 @@ pub behind_part : (list part : List ℕ) (at : ℕ) → at + length part ≤ len
 behind_part list part at within =
     let last = at + length part in
     let reached : length (take at list ++ part) ≡ last = grind (arith, common_steps) in
-    ap (drop last) (sym (append_assoc (take at list) part (drop last list))) ∙ drop-append-drop last list (take at list ++ part) last (omega arith) reached
+    ap (drop last) (sym (append_assoc (take at list) part (drop last list)))
+    ∙ drop-append-drop last list (take at list ++ part) last (omega arith) reached
 
-pub the_part : (list part rest : List ℕ) (at : ℕ) → at ≤ length list → slice_range (take at list ++ (part ++ rest)) at (at + length part) ≡ part
+pub the_part : (list part rest : List ℕ) (at : ℕ) → at ≤ length list
+    → slice_range (take at list ++ (part ++ rest)) at (at + length part) ≡ part
 the_part list part rest at within = grind (arith, common_steps)
 
 pub length-with_part : (list part : List ℕ) (at : ℕ) → at + length part ≤ length list

@@ -86,13 +86,15 @@ module _ {M : Type 1} {𝓤 : Ura M} (𝓛 : Logic 𝓤) where
 
   module _ {T E : Type 0} (name : T → GName) (s : MutBor (List ℕ)) (P : List ℕ → Type 0) where
     -- A value with that reference in it says all.
-    pub rests_in : (made : Result T E) → IsOk made → IfOk made (λ x. name x ≡ s.ghost_name) → ent 𝓤 (emp 𝓤) (sem 𝓛 (RestsIfErr (Array byte 0) s name made P))
+    pub rests_in : (made : Result T E) → IsOk made → IfOk made (λ x. name x ≡ s.ghost_name)
+        → ent 𝓤 (emp 𝓤) (sem 𝓛 (RestsIfErr (Array byte 0) s name made P))
     unfolding such_by follows_by
     rests_in (Ok x) ok same =
         subst (λ (γ : GName). ent 𝓤 (emp 𝓤)
         (sem 𝓛 (such_by (List ℕ) (List ℕ) (Array byte 0).coded.code (Array byte 0).coded.code s.ghost_name
         (maybe.some γ) (λ x n. n ≡ x) (λ n. ⊤)))) (sym same)
-        (qed 𝓛 [] ∵ use0 𝓛 (‵ (follows (Array byte 0) (Array byte 0) s.ghost_name s.ghost_name (λ w. w))) (ends_as_itself s.ghost_name) $
+        (qed 𝓛 [] ∵ use0 𝓛 (‵ (follows (Array byte 0) (Array byte 0) s.ghost_name s.ghost_name (λ w. w)))
+        (ends_as_itself s.ghost_name) $
         fpack ! ((f : (List ℕ → List ℕ) × List ℕ) × ((w : List ℕ) → f.0 w ≡ w) × ⊤)
         (λ f. follows_by (List ℕ) (List ℕ) (Array byte 0).coded.code (Array byte 0).coded.code s.ghost_name
         (maybe.some s.ghost_name) f.0.0 f.0.1) (((λ w. w), []), (λ w. refl), tt) $ done !)
@@ -103,7 +105,8 @@ module _ {M : Type 1} {𝓤 : Ura M} (𝓛 : Logic 𝓤) where
         → ent 𝓤 (sem 𝓛 (Ended 𝓛 s.ghost_name v)) (sem 𝓛 (RestsIfErr (Array byte 0) s name made P))
     unfolding such_by follows_by
     rests_as v holds made e is =
-        subst (λ (r : Result T E). ent 𝓤 (sem 𝓛 (Ended 𝓛 s.ghost_name v)) (sem 𝓛 (RestsIfErr (Array byte 0) s name r P))) (sym is)
+        subst (λ (r : Result T E). ent 𝓤 (sem 𝓛 (Ended 𝓛 s.ghost_name v))
+        (sem 𝓛 (RestsIfErr (Array byte 0) s name r P))) (sym is)
         (qed 𝓛 (‵ (Ended 𝓛 s.ghost_name v) ∷ []) ∵
         fpack ! ((f : (List ℕ → List ℕ) × List ℕ) × ((w : List ℕ) → ⊤) × P f.1)
         (λ f. follows_by (List ℕ) (List ℕ) (coded_list u8.coded).code

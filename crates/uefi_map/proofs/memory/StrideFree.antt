@@ -1,8 +1,10 @@
 -- The entries of a map don't depend on the rest of its strides, and a write leaves that rest.
-use Rattle.std.proofs.Common.{◌≡◌, ◌≢◌, ℕ, ◌+◌, ◌*◌, ◌≤◌, ◌<◌, inl, inr, List, length, take, drop, slice_range, ◌∙◌, ap, arith}
+use Rattle.std.proofs.Common.{◌≡◌, ◌≢◌, ℕ, ◌+◌, ◌*◌, ◌≤◌, ◌<◌, inl, inr, List, length, take, drop, slice_range, ◌∙◌, ap}
+use Rattle.std.proofs.Common.{arith}
 use Rattle.std.proofs.lemmas.Bool.{cases_lt}
 use Rattle.std.proofs.lemmas.Grind.{rows, common_steps}
-use Rattle.uefi_map.specs.memory.Descriptor.{descriptor_length, descriptor_bytes, descriptor_in, encoding, with_descriptor}
+use Rattle.uefi_map.specs.memory.Descriptor.{descriptor_length, descriptor_bytes, descriptor_in, encoding}
+use Rattle.uefi_map.specs.memory.Descriptor.{with_descriptor}
 use Rattle.uefi_map.specs.memory.Map.{count_of}
 use Rattle.uefi_map.specs.memory.Laws.{SameEntries, WritesOne}
 use Rattle.uefi_map.proofs.memory.Fields.{descriptor_in-encoding, length-encoding}
@@ -11,15 +13,18 @@ use Rattle.uefi_map.proofs.memory.Parts.{before_part, behind_part, the_part, len
 use Rattle.uefi_map.proofs.memory.Strides.{ends_within, same_from}
 
 pub same_entries : SameEntries
-same_entries one other meta same = same_from one other meta.desc_size 0 (count_of meta) (λ j above below. same j (omega arith))
+same_entries one other meta same = same_from one other meta.desc_size 0 (count_of meta)
+    (λ j above below. same j (omega arith))
 
 -- A descriptor ends where a later one begins, or before.
 ends_before : (stride i j : ℕ) → descriptor_length ≤ stride → i < j → i * stride + descriptor_length ≤ j * stride
 ends_before stride i j room before = grind (arith, rows, common_steps)
 
 -- The forty bytes of another descriptor stay.
-other_bytes : (old new : List ℕ) (stride i j : ℕ) → descriptor_length ≤ stride → j ≢ i → take (i * stride) new ≡ take (i * stride) old
-    → drop (i * stride + descriptor_length) new ≡ drop (i * stride + descriptor_length) old → descriptor_bytes new stride j ≡ descriptor_bytes old stride j
+other_bytes : (old new : List ℕ) (stride i j : ℕ) → descriptor_length ≤ stride → j ≢ i
+    → take (i * stride) new ≡ take (i * stride) old
+    → drop (i * stride + descriptor_length) new ≡ drop (i * stride + descriptor_length) old
+    → descriptor_bytes new stride j ≡ descriptor_bytes old stride j
 other_bytes old new stride i j room other before after =
     elim (cases_lt j i) [
       | inl lower ↦ range-same_prefix (i * stride) new old (j * stride) (j * stride + descriptor_length)
@@ -39,7 +44,8 @@ writes_one bytes meta i d map within fits =
     let reaches : offset + length (encoding d) ≤ length bytes = omega (arith, sized, ends, map.within) in
     let begins : offset ≤ length bytes = omega (arith, reaches) in
     let before = before_part bytes (encoding d) (drop (offset + descriptor_length) bytes) offset begins in
-    let after : drop (offset + descriptor_length) new ≡ drop (offset + descriptor_length) bytes = rw end at (behind_part bytes (encoding d) offset reaches) in
+    let after : drop (offset + descriptor_length) new ≡ drop (offset + descriptor_length) bytes =
+    rw end at (behind_part bytes (encoding d) offset reaches) in
     let part : slice_range new offset (offset + descriptor_length) ≡ encoding d =
     rw end at (the_part bytes (encoding d) (drop (offset + descriptor_length) bytes) offset begins) in
     record {

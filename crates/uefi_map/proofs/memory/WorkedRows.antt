@@ -2,7 +2,8 @@
 use Rattle.std.proofs.Common.{zero, suc, refl, arith, lit<, lit≤}
 use Rattle.uefi_map.specs.memory.Descriptor.{descriptor_in, encoding}
 use Rattle.uefi_map.specs.memory.Map.{AreSorted}
-use Rattle.uefi_map.specs.rows.Maps.{sizes, level_map, FirmwareMap, WrittenDescriptor, NoMaps, Orders, Numbers, RowsHold}
+use Rattle.uefi_map.specs.rows.Maps.{sizes, level_map, FirmwareMap, WrittenDescriptor, NoMaps, Orders, Numbers}
+use Rattle.uefi_map.specs.rows.Maps.{RowsHold}
 
 firmware_map : FirmwareMap
 unfolding descriptor_in

@@ -1,12 +1,15 @@
 -- All bytes begin with exactly one list, or have exactly one fault.
-use Rattle.std.proofs.Common.{◌≡◌, ℕ, suc, zero, ◌≤◌, ◌⊎◌, List, [], ◌∷◌, ◌++◌, length, drop, refl, sym, ◌∙◌, ap, subst, arith, inl, inr, length-append, length-drop}
+use Rattle.std.proofs.Common.{◌≡◌, ℕ, suc, zero, ◌≤◌, ◌⊎◌, List, [], ◌∷◌, ◌++◌, length, drop, refl, sym, ◌∙◌, ap, subst}
+use Rattle.std.proofs.Common.{arith, inl, inr, length-append, length-drop}
 use Rattle.std.proofs.lemmas.List.{append_cancel_left}
 use Rattle.std.proofs.lemmas.Bool.{cases_eq, cases_lt}
 use Rattle.uefi_map.specs.declared.pci.resource.QwordAddressSpaceDescriptor.{QwordAddressSpaceDescriptor}
 use Rattle.uefi_map.specs.declared.pci.resource_error.ResourceError.{ResourceError}
-use Rattle.uefi_map.specs.declared.pci.resource_error.ResourceError.TheVariants.{NoEndTag, CutRecord, UnknownTag, Memory}
+use Rattle.uefi_map.specs.declared.pci.resource_error.ResourceError.TheVariants.{NoEndTag, CutRecord, UnknownTag}
+use Rattle.uefi_map.specs.declared.pci.resource_error.ResourceError.TheVariants.{Memory}
 use Rattle.uefi_map.specs.pci.Resource.{record_tag, record_length, resource_in, IsRecord}
-use Rattle.uefi_map.specs.pci.ResourceList.{BeginWithRecords, BeginWith, end_tag, HaveList, IsFaultOf, HaveFault, HaveSomeList, HaveSomeFault, HaveOneList, HaveOneFault}
+use Rattle.uefi_map.specs.pci.ResourceList.{BeginWithRecords, BeginWith, end_tag, HaveList, IsFaultOf, HaveFault}
+use Rattle.uefi_map.specs.pci.ResourceList.{HaveSomeList, HaveSomeFault, HaveOneList, HaveOneFault}
 use Rattle.uefi_map.specs.pci.Laws.{ListOrFault, NeverBoth, ListAlone, FaultAlone}
 use Rattle.uefi_map.proofs.pci.Records.{same_part, more_records, first_record}
 
@@ -15,7 +18,8 @@ abbrev NoRecord : List ℕ → Type 0
 NoRecord rest = (first after : List ℕ) (d : QwordAddressSpaceDescriptor) → IsRecord first d → rest ≡ first ++ after → ⊥
 
 -- The records up to where none comes are one list, and what follows them is one.
-one_walk : (ds es : List QwordAddressSpaceDescriptor) (bytes r s : List ℕ) → BeginWithRecords bytes ds r → BeginWithRecords bytes es s
+one_walk : (ds es : List QwordAddressSpaceDescriptor) (bytes r s : List ℕ) → BeginWithRecords bytes ds r
+    → BeginWithRecords bytes es s
     → NoRecord r → NoRecord s → (ds ≡ es) × (r ≡ s)
 one_walk [] [] bytes r s p q none_r none_s = (refl, sym p ∙ q)
 one_walk [] (e ∷ es) bytes r s p q none_r none_s = absurd (none_r q.0 q.1 e q.2 (sym p ∙ q.4))
@@ -31,13 +35,15 @@ one_walk (d ∷ ds) (e ∷ es) bytes r s p q none_r none_s =
     ((cc), rest.1)
 
 -- A record begins with its tag, and has all its bytes.
-tag_of : (text after more : List ℕ) (d : QwordAddressSpaceDescriptor) (tag : ℕ) → IsRecord text d → tag ∷ more ≡ text ++ after → tag ≡ record_tag
+tag_of : (text after more : List ℕ) (d : QwordAddressSpaceDescriptor) (tag : ℕ) → IsRecord text d
+    → tag ∷ more ≡ text ++ after → tag ≡ record_tag
 tag_of [] after more d tag is e = absurd (omega (arith, is.size))
 tag_of (t ∷ text) after more d tag is e =
     let first : t ≡ record_tag = is.tag in
     cc
 
-long_enough : (rest text after : List ℕ) (d : QwordAddressSpaceDescriptor) → IsRecord text d → rest ≡ text ++ after → record_length ≤ length rest
+long_enough : (rest text after : List ℕ) (d : QwordAddressSpaceDescriptor) → IsRecord text d → rest ≡ text ++ after
+    → record_length ≤ length rest
 long_enough rest text after d is e = omega (arith, is.size, ap length e, length-append text after)
 
 other_tag : (rest : List ℕ) (tag : ℕ) → BeginWith rest tag → (tag ≡ record_tag → ⊥) → NoRecord rest
@@ -47,7 +53,8 @@ none_at_end : (rest : List ℕ) → BeginWith rest end_tag → NoRecord rest
 none_at_end rest begin = other_tag rest end_tag begin (λ same. absurd (omega (arith, same)))
 
 none_at_fault : (rest : List ℕ) (fault : ResourceError) → IsFaultOf rest fault → NoRecord rest
-none_at_fault rest NoEndTag empty = λ text after d is e. omega (arith, long_enough rest text after d is e, ap length empty)
+none_at_fault rest NoEndTag empty =
+    λ text after d is e. omega (arith, long_enough rest text after d is e, ap length empty)
 none_at_fault rest CutRecord cut = λ text after d is e. omega (arith, long_enough rest text after d is e, cut.1)
 none_at_fault rest (UnknownTag tag) unknown = other_tag rest tag unknown.0 unknown.1
 none_at_fault rest Memory never = absurd never
@@ -83,13 +90,15 @@ one_fault_of rest (UnknownTag t) Memory p q = absurd q
 
 pub fault_alone : FaultAlone
 fault_alone bytes f g p q =
-    let same : p.1 ≡ q.1 = (one_walk p.0 q.0 bytes p.1 q.1 p.2 q.2 (none_at_fault p.1 f p.3) (none_at_fault q.1 g q.3)).1 in
+    let same : p.1 ≡ q.1 = (one_walk p.0 q.0 bytes p.1 q.1 p.2 q.2 (none_at_fault p.1 f p.3)
+    (none_at_fault q.1 g q.3)).1 in
     one_fault_of q.1 f g (subst (λ (rest : List ℕ). IsFaultOf rest f) same p.3) q.3
 
 -- The end tag is no fault.
 end_is_no_fault : (rest : List ℕ) (fault : ResourceError) → BeginWith rest end_tag → IsFaultOf rest fault → ⊥
 end_is_no_fault rest NoEndTag end p = not_empty rest end_tag p end
-end_is_no_fault rest CutRecord end p = let same : end_tag ≡ record_tag = same_tag rest end_tag record_tag end p.0 in omega (arith, same)
+end_is_no_fault rest CutRecord end p = let same : end_tag ≡ record_tag =
+    same_tag rest end_tag record_tag end p.0 in omega (arith, same)
 end_is_no_fault rest (UnknownTag tag) end p = p.2 (same_tag rest tag end_tag p.0 end)
 end_is_no_fault rest Memory end p = p
 
@@ -97,16 +106,20 @@ pub never_both : NeverBoth
 never_both bytes has faulty =
     let p = has.1 in
     let q = faulty.1 in
-    let same : p.0 ≡ q.1 = (one_walk has.0 q.0 bytes p.0 q.1 p.1 q.2 (none_at_end p.0 p.2) (none_at_fault q.1 faulty.0 q.3)).1 in
+    let same : p.0 ≡ q.1 = (one_walk has.0 q.0 bytes p.0 q.1 p.1 q.2 (none_at_end p.0 p.2)
+    (none_at_fault q.1 faulty.0 q.3)).1 in
     end_is_no_fault q.1 faulty.0 (subst (λ (rest : List ℕ). BeginWith rest end_tag) same p.2) q.3
 
 -- A list or a fault, after one record more.
 abbrev ListOrFaultOf : List ℕ → Type 0
 ListOrFaultOf bytes = HaveSomeList bytes ⊎ HaveSomeFault bytes
 
-after_record : (bytes after : List ℕ) (d : QwordAddressSpaceDescriptor) → BeginWithRecords bytes (d ∷ []) after → ListOrFaultOf after → ListOrFaultOf bytes
-after_record bytes after d first (inl p) = inl (d ∷ p.0, (p.1.0, more_records bytes after p.1.0 (d ∷ []) p.0 first p.1.1, p.1.2))
-after_record bytes after d first (inr p) = inr (p.0, (d ∷ p.1.0, p.1.1, more_records bytes after p.1.1 (d ∷ []) p.1.0 first p.1.2, p.1.3))
+after_record : (bytes after : List ℕ) (d : QwordAddressSpaceDescriptor) → BeginWithRecords bytes (d ∷ []) after
+    → ListOrFaultOf after → ListOrFaultOf bytes
+after_record bytes after d first (inl p) =
+    inl (d ∷ p.0, (p.1.0, more_records bytes after p.1.0 (d ∷ []) p.0 first p.1.1, p.1.2))
+after_record bytes after d first (inr p) =
+    inr (p.0, (d ∷ p.1.0, p.1.1, more_records bytes after p.1.1 (d ∷ []) p.1.0 first p.1.2, p.1.3))
 
 fault_here : (bytes : List ℕ) (fault : ResourceError) → IsFaultOf bytes fault → ListOrFaultOf bytes
 fault_here bytes fault p = inr (fault, ([], bytes, refl, p))
@@ -136,7 +149,8 @@ pub list_or_fault : ListOrFault
 list_or_fault bytes = found_within (length bytes) bytes (omega arith)
 
 -- A list is the only one, and a fault is.
-pub have_one_list : (bytes : List ℕ) (list : List QwordAddressSpaceDescriptor) → HaveList bytes list → HaveOneList bytes list
+pub have_one_list : (bytes : List ℕ) (list : List QwordAddressSpaceDescriptor) → HaveList bytes list
+    → HaveOneList bytes list
 have_one_list bytes list stands = record {
   stands = stands;
   no_other = λ other has. list_alone bytes other list has stands;

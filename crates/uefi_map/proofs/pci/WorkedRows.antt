@@ -2,7 +2,9 @@
 use Rattle.std.proofs.Common.{ℕ, List, [], ◌∷◌, ◌++◌, take, refl, lit<, arith}
 use Rattle.uefi_map.specs.pci.Resource.{resource_in, IsRecord}
 use Rattle.uefi_map.specs.pci.ResourceList.{BeginWithRecords}
-use Rattle.uefi_map.specs.rows.Lists.{ports, low_memory, high_memory, one_bus, ports_record, low_memory_record, high_memory_record, one_bus_record, root_bridge, RecordRows, ListRows, FaultRows, RowsHold}
+use Rattle.uefi_map.specs.rows.Lists.{ports, low_memory, high_memory, one_bus, ports_record, low_memory_record}
+use Rattle.uefi_map.specs.rows.Lists.{high_memory_record, one_bus_record, root_bridge, RecordRows, ListRows, FaultRows}
+use Rattle.uefi_map.specs.rows.Lists.{RowsHold}
 
 is_ports : IsRecord ports_record ports
 unfolding resource_in
@@ -21,7 +23,14 @@ unfolding resource_in
 is_one_bus = record { size = refl; tag = refl; fields = refl }
 
 record_rows : RecordRows
-record_rows = record { ports = is_ports; low_memory = is_low_memory; high_memory = is_high_memory; one_bus = is_one_bus; no_name = refl }
+record_rows = record {
+  ports = is_ports;
+  low_memory = is_low_memory;
+  high_memory = is_high_memory;
+  one_bus =
+      is_one_bus;
+  no_name = refl;
+}
 
 -- The four records, and then the rest.
 four_records : (rest : List ℕ)

@@ -1,5 +1,6 @@
 -- The stated size and the fields of records, and the bytes before their names.
-use Rattle.std.proofs.Common.{◌≡◌, ℕ, ◌+◌, ◌-◌, ◌^◌, ◌<◌, ◌≤◌, List, [], ◌++◌, length, take, drop, Bool, true, false, refl, sym, ◌∙◌, ap, arith, append-nil}
+use Rattle.std.proofs.Common.{◌≡◌, ℕ, ◌+◌, ◌-◌, ◌^◌, ◌<◌, ◌≤◌, List, [], ◌++◌, length, take, drop, Bool, true, false}
+use Rattle.std.proofs.Common.{refl, sym, ◌∙◌, ap, arith, append-nil}
 use Rattle.std.specs.Prelude.{not, ◌==◌, if◌then◌else◌, slice_range}
 use Rattle.std.proofs.lemmas.List.{drop_all, take_all}
 use Rattle.std.proofs.lemmas.Nat.{from_le_bytes-to_le_bytes_4, from_le_bytes-to_le_bytes_8}
@@ -9,7 +10,8 @@ use Rattle.uefi_base.proofs.NumbersBack.{numbers_read_back, length-range, AreByt
 use Rattle.uefi_base.proofs.Ranges.{items_from, drop-items_from}
 use Rattle.uefi_records.specs.time.Fields.{time_at, time_bytes, time_length}
 use Rattle.uefi_records.specs.file.FileInfo.{FileFields, FitFile, file_fields, file_header, file_name_offset, size_in}
-use Rattle.uefi_records.specs.file.FileSystemInfo.{FileSystemFields, FitFileSystem, file_system_fields, file_system_header, label_offset, unused_length}
+use Rattle.uefi_records.specs.file.FileSystemInfo.{FileSystemFields, FitFileSystem, file_system_fields}
+use Rattle.uefi_records.specs.file.FileSystemInfo.{file_system_header, label_offset, unused_length}
 use Rattle.uefi_records.proofs.time.ReadBack.{times_read_back}
 
 -- What was written to a file information record is read from it, whatever follows.
@@ -39,7 +41,8 @@ unfolding file_header time_bytes
 length-file_header size fields = refl
 
 -- The bytes before the name are those of the stated size and the fields that are read from them.
-then_range : (n m : ℕ) (bytes done part : List ℕ) → take n bytes ≡ done → slice_range bytes n (n + m) ≡ part → take (n + m) bytes ≡ done ++ part
+then_range : (n m : ℕ) (bytes done part : List ℕ) → take n bytes ≡ done → slice_range bytes n (n + m) ≡ part
+    → take (n + m) bytes ≡ done ++ part
 then_range n m bytes done part before is =
     let width : m ≡ n + m - n = omega arith in
     take-add n m bytes ∙ (λ i. before i ++ (ap (λ k. take k (drop n bytes)) width ∙ is) i)
@@ -50,7 +53,8 @@ unfolding time_bytes
 time_range bytes offset small within =
     let part : List ℕ = slice_range bytes offset (offset + time_length) in
     let long : length part ≡ time_length = length-range bytes offset time_length within in
-    let stands = times_read_back.read part (AreBytes-range bytes offset (offset + time_length) small) (omega (arith, long)) in
+    let stands = times_read_back.read part (AreBytes-range bytes offset (offset + time_length) small)
+    (omega (arith, long)) in
     sym (take_all time_length part (omega (arith, long))) ∙ ap (take time_length) stands.1.1
 
 number_range : (bytes : List ℕ) (offset : ℕ) → AreBytes bytes → offset + 8 ≤ length bytes
@@ -66,7 +70,8 @@ header_back bytes small within =
     let physical_size = then_range 16 8 bytes _ _ file_size (number_range bytes 16 small (omega (arith, within))) in
     let create_time = then_range 24 16 bytes _ _ physical_size (time_range bytes 24 small (omega (arith, within))) in
     let last_access_time = then_range 40 16 bytes _ _ create_time (time_range bytes 40 small (omega (arith, within))) in
-    let modification_time = then_range 56 16 bytes _ _ last_access_time (time_range bytes 56 small (omega (arith, within))) in
+    let modification_time = then_range 56 16 bytes _ _ last_access_time
+    (time_range bytes 56 small (omega (arith, within))) in
     then_range 72 8 bytes _ _ modification_time (number_range bytes 72 small within)
 
 -- The unused bytes of a file system information record, written out.
@@ -79,15 +84,18 @@ unused_items unused seven =
 pub length-file_system_header : (size : ℕ) (fields : FileSystemFields) (unused : List ℕ)
     → length unused ≡ unused_length → length (file_system_header size fields unused) ≡ label_offset
 unfolding items_from file_system_header
-length-file_system_header size fields unused seven = ap (λ u. length (file_system_header size fields u)) (unused_items unused seven)
+length-file_system_header size fields unused seven =
+    ap (λ u. length (file_system_header size fields u)) (unused_items unused seven)
 
 -- What was written to such a record is read from it, whatever follows and whatever the unused bytes are.
 is_read_only : (read_only : Bool) → not ((if read_only then 1 else 0) == 0) ≡ read_only
 is_read_only true = refl
 is_read_only false = refl
 
-pub file_system_info_back : (size : ℕ) (fields : FileSystemFields) (unused rest : List ℕ) → length unused ≡ unused_length → FitFileSystem fields → size < 2 ^ 64
-    → (size_in (file_system_header size fields unused ++ rest) ≡ size) × (file_system_fields (file_system_header size fields unused ++ rest) ≡ fields)
+pub file_system_info_back : (size : ℕ) (fields : FileSystemFields) (unused rest : List ℕ)
+    → length unused ≡ unused_length → FitFileSystem fields → size < 2 ^ 64
+    → (size_in (file_system_header size fields unused ++ rest) ≡ size)
+    × (file_system_fields (file_system_header size fields unused ++ rest) ≡ fields)
 unfolding items_from file_system_header
 file_system_info_back size fields unused rest seven fits small =
     let read_only = is_read_only fields.read_only in
@@ -96,5 +104,11 @@ file_system_info_back size fields unused rest seven fits small =
     let block_size = from_le_bytes-to_le_bytes_4 fields.block_size fits.block_size in (
       from_le_bytes-to_le_bytes_8 size small,
       ap (λ u. file_system_fields (file_system_header size fields u ++ rest)) (unused_items unused seven)
-          ∙ (λ i. record { read_only = read_only i; volume_size = volume_size i; free_space = free_space i; block_size = block_size i }),
+          ∙ (λ i. record {
+            read_only = read_only i;
+            volume_size = volume_size i;
+            free_space =
+                free_space i;
+            block_size = block_size i;
+          }),
     )

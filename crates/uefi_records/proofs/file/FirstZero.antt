@@ -1,5 +1,6 @@
 -- The first zero among units.
-use Rattle.std.proofs.Common.{◌≡◌, ◌≢◌, ℕ, zero, suc, ◌+◌, ◌-◌, ◌*◌, ◌/◌, ◌<◌, ◌≤◌, Option, Some, List, [], ◌∷◌, length, get_or, take, sym, ◌∙◌, ap, arith, cond, ⊎_elim, subst}
+use Rattle.std.proofs.Common.{◌≡◌, ◌≢◌, ℕ, zero, suc, ◌+◌, ◌-◌, ◌*◌, ◌/◌, ◌<◌, ◌≤◌, Option, Some, List, [], ◌∷◌, length}
+use Rattle.std.proofs.Common.{get_or, take, sym, ◌∙◌, ap, arith, cond, ⊎_elim, subst}
 use Rattle.std.specs.Prelude.{◌==◌}
 use Rattle.std.specs.List.{position_from}
 use Rattle.std.proofs.lemmas.Bool.{cases_eq}
@@ -29,9 +30,11 @@ stops : (n : ℕ) (here later : Option ℕ) → n ≡ 0 → cond (n == 0) here l
 stops n here later is_zero = grind (arith, nat_tests)
 
 -- It is found, from whatever number the count begins; and what is found is it.
-one_found : (units : List ℕ) (i index : ℕ) → IsFirstAt units index → position_from (λ unit. unit == 0) i units ≡ Some (i + index)
+one_found : (units : List ℕ) (i index : ℕ) → IsFirstAt units index
+    → position_from (λ unit. unit == 0) i units ≡ Some (i + index)
 one_found [] i index first = absurd (omega (arith, first.within))
-one_found (u ∷ units) i zero first = stops u (Some i) (position_from (λ unit. unit == 0) (i + 1) units) first.is_zero ∙ ap (λ n. Some n) (omega arith)
+one_found (u ∷ units) i zero first = stops u (Some i) (position_from (λ unit. unit == 0) (i + 1) units) first.is_zero
+    ∙ ap (λ n. Some n) (omega arith)
 one_found (u ∷ units) i (suc index) first =
     passes_on u (Some i) (position_from (λ unit. unit == 0) (i + 1) units) (first.before 0 (omega arith))
     ∙ one_found units (i + 1) index (record {
@@ -46,25 +49,37 @@ pub one_first : (units : List ℕ) (index : ℕ) → IsFirstAt units index → f
 one_first units index first = one_found units 0 index first ∙ ap (λ n. Some n) (omega arith)
 
 later_by_one : (u : ℕ) (units : List ℕ) (index : ℕ) → u ≢ 0 → IsFirstAt units index → IsFirstAt (u ∷ units) (suc index)
-later_by_one u units index positive first = record { within = omega (arith, first.within); is_zero = first.is_zero; before = before }
+later_by_one u units index positive first =
+    record { within = omega (arith, first.within); is_zero = first.is_zero; before = before }
   where
     before : (k : ℕ) → k < suc index → get_or (u ∷ units) k 0 ≢ 0
     before zero within = positive
     before (suc k) within = first.before k (omega arith)
 
-found_first : (units : List ℕ) (i found : ℕ) → position_from (λ unit. unit == 0) i units ≡ Some found → (i ≤ found) × IsFirstAt units (found - i)
+found_first : (units : List ℕ) (i found : ℕ) → position_from (λ unit. unit == 0) i units ≡ Some found
+    → (i ≤ found) × IsFirstAt units (found - i)
 found_first [] i found is = absurd (cc)
 found_first (u ∷ units) i found is = ⊎_elim
     (λ here.
-    let same : Some i ≡ Some found = sym (stops u (Some i) (position_from (λ unit. unit == 0) (i + 1) units) here) ∙ is in
+    let same : Some i ≡ Some found = sym (stops u (Some i) (position_from (λ unit. unit == 0) (i + 1) units) here)
+    ∙ is in
     let index : i ≡ found = cc in
-    let first : found - i ≡ 0 = omega arith in
-    (omega arith, rw first (record { within = omega arith; is_zero = here; before = λ k before. absurd (omega arith) })))
+    let first : found - i ≡ 0 = omega arith in (
+      omega arith,
+      rw first (record {
+        within = omega arith;
+        is_zero = here;
+        before =
+            λ k before. absurd (omega arith);
+      }),
+    ))
     (λ positive.
-    let later = found_first units (i + 1) found (sym (passes_on u (Some i) (position_from (λ unit. unit == 0) (i + 1) units) positive) ∙ is) in
+    let later = found_first units (i + 1) found
+    (sym (passes_on u (Some i) (position_from (λ unit. unit == 0) (i + 1) units) positive) ∙ is) in
     let index : found - i ≡ suc (found - (i + 1)) = omega (arith, later.0) in
     (omega (arith, later.0), rw index (later_by_one u units (found - (i + 1)) positive later.1)))
     (cases_eq u 0)
 
 pub first_zero_is : (units : List ℕ) (index : ℕ) → first_zero units ≡ Some index → IsFirstAt units index
-first_zero_is units index is = let same : index - 0 ≡ index = omega arith in subst (IsFirstAt units) same (found_first units 0 index is).1
+first_zero_is units index is = let same : index - 0 ≡ index =
+    omega arith in subst (IsFirstAt units) same (found_first units 0 index is).1

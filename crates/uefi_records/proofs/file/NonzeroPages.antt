@@ -1,5 +1,6 @@
 -- Pages without a zero, of which runs of units are read side by side.
-use Rattle.std.proofs.Common.{◌≡◌, ◌≢◌, ℕ, ◌+◌, ◌-◌, ◌*◌, ◌/◌, ◌%◌, ◌≤◌, ◌↔◌, true, not, List, length, get_or, take, drop, sym, ap, ◌∙◌, arith, inl, inr}
+use Rattle.std.proofs.Common.{◌≡◌, ◌≢◌, ℕ, ◌+◌, ◌-◌, ◌*◌, ◌/◌, ◌%◌, ◌≤◌, ◌↔◌, true, not, List, length, get_or, take}
+use Rattle.std.proofs.Common.{drop, sym, ap, ◌∙◌, arith, inl, inr}
 use Rattle.std.specs.List.{prefix_len, position_from}
 use Rattle.std.specs.Prelude.{◌==◌}
 use Rattle.std.proofs.lemmas.Bool.{cases_lt}
@@ -24,9 +25,11 @@ block_nonzero bytes index run is whole k within =
     let block : units_of (chunk (2 * index) 32 bytes) ≡ take 16 (drop index (units_of bytes)) =
     units_by_place.front (drop (2 * index) bytes) 16 ∙ ap (take 16) (units_by_place.rest bytes index) in
     let unit : get_or (units_of (chunk (2 * index) 32 bytes)) k 0 ≡ get_or (units_of bytes) (index + k) 0 =
-    ap (λ units. get_or units k 0) block ∙ get_or-take 16 (drop index (units_of bytes)) k 0 within ∙ get_or-drop index (units_of bytes) k 0 in
+    ap (λ units. get_or units k 0) block ∙ get_or-take 16 (drop index (units_of bytes)) k 0 within
+    ∙ get_or-drop index (units_of bytes) k 0 in
     let nonzero = (is_nonzero (get_or (units_of (chunk (2 * index) 32 bytes)) k 0)).0
-    (prefix_len_passes (λ unit. not (unit == 0)) (units_of (chunk (2 * index) 32 bytes)) k 0 (omega (arith, is, whole, within))) in
+    (prefix_len_passes (λ unit. not (unit == 0)) (units_of (chunk (2 * index) 32 bytes)) k 0
+    (omega (arith, is, whole, within))) in
     λ zero. nonzero (unit ∙ zero)
 
 -- One page more, and one run more in each page.
@@ -38,7 +41,8 @@ one_page_more units count start n before here page within =
       | inr not_earlier ↦ let same : page ≡ count = omega arith in rw same here
     ]
 
-pub longer_in_each : (units : List ℕ) (n m : ℕ) → AreNonzeroInEach pages 0 n units → AreNonzeroInEach pages n m units → AreNonzeroInEach pages 0 (n + m) units
+pub longer_in_each : (units : List ℕ) (n m : ℕ) → AreNonzeroInEach pages 0 n units → AreNonzeroInEach pages n m units
+    → AreNonzeroInEach pages 0 (n + m) units
 longer_in_each units n m before here page within k below =
     elim (cases_lt k n) [
       | inl earlier ↦ before page within k earlier
@@ -54,12 +58,14 @@ whole_pages units each k within =
     λ is. each (k / page_units) (omega arith) (k % page_units) (omega arith) (ap (λ j. get_or units j 0) i ∙ is)
 
 -- The search goes on after units of which none is zero.
-pub passes_nonzero : (bytes : List ℕ) (index n : ℕ) → 2 * index + 2 * n ≤ length bytes → AreNonzero 0 n (units_of (chunk (2 * index) (2 * n) bytes))
+pub passes_nonzero : (bytes : List ℕ) (index n : ℕ) → 2 * index + 2 * n ≤ length bytes
+    → AreNonzero 0 n (units_of (chunk (2 * index) (2 * n) bytes))
     → position_from (λ unit. unit == 0) index (units_of (drop (2 * index) bytes)) ≡ position_from
     (λ unit. unit == 0) (index + n) (units_of (drop (2 * (index + n)) bytes))
 passes_nonzero bytes index n within nonzero =
     let block = chunk (2 * index) (2 * n) bytes in
-    let sized : length (units_of block) ≡ n = half_as_many_units block ∙ omega (arith, length-chunk (2 * index) (2 * n) bytes within) in
+    let sized : length (units_of block) ≡ n = half_as_many_units block
+    ∙ omega (arith, length-chunk (2 * index) (2 * n) bytes within) in
     let run : prefix_len (λ unit. not (unit == 0)) (units_of block) ≡ n =
     prefix_len_is (λ unit. not (unit == 0)) (units_of block) n 0 (omega (arith, sized))
     (λ k below. let from_first : 0 + k ≡ k = omega arith in

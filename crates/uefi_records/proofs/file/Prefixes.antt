@@ -13,7 +13,8 @@ use Rattle.uefi_records.specs.file.FileSystemInfo.{file_system_fields, label_off
 pub size_of_prefix : (n : ℕ) (bytes : List ℕ) → 8 ≤ n → size_in (take n bytes) ≡ size_in bytes
 size_of_prefix n bytes covers = ap (from_le_bytes w64) (range-take n bytes 0 8 (omega arith) covers)
 
-pub file_fields_of_prefix : (n : ℕ) (bytes : List ℕ) → file_name_offset ≤ n → file_fields (take n bytes) ≡ file_fields bytes
+pub file_fields_of_prefix : (n : ℕ) (bytes : List ℕ) → file_name_offset ≤ n
+    → file_fields (take n bytes) ≡ file_fields bytes
 file_fields_of_prefix n bytes covers =
     let file_size = range-take n bytes 8 16 (omega arith) (omega arith) in
     let physical_size = range-take n bytes 16 24 (omega arith) (omega arith) in
@@ -30,7 +31,8 @@ file_fields_of_prefix n bytes covers =
       attribute = from_le_bytes w64 (attribute i);
     }
 
-pub file_system_fields_of_prefix : (n : ℕ) (bytes : List ℕ) → label_offset ≤ n → file_system_fields (take n bytes) ≡ file_system_fields bytes
+pub file_system_fields_of_prefix : (n : ℕ) (bytes : List ℕ) → label_offset ≤ n
+    → file_system_fields (take n bytes) ≡ file_system_fields bytes
 file_system_fields_of_prefix n bytes covers =
     let read_only = get_or-take n bytes 8 0 (omega arith) in
     let volume_size = range-take n bytes 16 24 (omega arith) (omega arith) in
@@ -47,9 +49,11 @@ file_system_fields_of_prefix n bytes covers =
 covers : (offset n : ℕ) (bytes : List ℕ) → EndsWithName offset (take n bytes) → offset ≤ n
 covers offset n bytes named = omega (arith, named.before, length-take n bytes)
 
-pub file_fields_of_named : (bytes : List ℕ) (end : ℕ) → EndsWithName file_name_offset (take end bytes) → file_fields (take end bytes) ≡ file_fields bytes
+pub file_fields_of_named : (bytes : List ℕ) (end : ℕ) → EndsWithName file_name_offset (take end bytes)
+    → file_fields (take end bytes) ≡ file_fields bytes
 file_fields_of_named bytes end named = file_fields_of_prefix end bytes (covers file_name_offset end bytes named)
 
 pub file_system_fields_of_named : (bytes : List ℕ) (end : ℕ) → EndsWithName label_offset (take end bytes)
     → file_system_fields (take end bytes) ≡ file_system_fields bytes
-file_system_fields_of_named bytes end named = file_system_fields_of_prefix end bytes (covers label_offset end bytes named)
+file_system_fields_of_named bytes end named =
+    file_system_fields_of_prefix end bytes (covers label_offset end bytes named)

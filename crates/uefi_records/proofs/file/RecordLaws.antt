@@ -1,23 +1,31 @@
 -- The laws of records.
-use Rattle.std.proofs.Common.{◌≡◌, ℕ, ◌+◌, ◌-◌, ◌/◌, ◌<◌, ◌≤◌, min, Option, None, Some, List, [], ◌++◌, length, get_or, take, drop, refl, sym, ◌∙◌, ap, subst, arith, append_assoc}
+use Rattle.std.proofs.Common.{◌≡◌, ℕ, ◌+◌, ◌-◌, ◌/◌, ◌<◌, ◌≤◌, min, Option, None, Some, List, [], ◌++◌, length, get_or}
+use Rattle.std.proofs.Common.{take, drop, refl, sym, ◌∙◌, ap, subst, arith, append_assoc}
 use Rattle.std.proofs.lemmas.List.{take_at, drop_at, length-append, length-take, length-drop, get_or-take}
 use Rattle.uefi_base.specs.Unaligned.{unit_bytes}
 use Rattle.uefi_base.proofs.UnitsOfBytes.{units_by_place}
 use Rattle.uefi_records.specs.declared.file.file_info.FileInfo.{FileInfo}
 use Rattle.uefi_records.specs.file.Name.{IsName, FitName, first_zero, record_end, record_size, units_from}
 use Rattle.uefi_records.specs.file.Verdict.{accepted, judged, verdict}
-use Rattle.uefi_records.specs.file.FileInfo.{file_fields, file_header, file_info_alignment, file_info_size, file_name_offset, size_in}
-use Rattle.uefi_records.specs.file.FileSystemInfo.{file_system_fields, file_system_header, file_system_info_alignment, file_system_info_size, label_offset, lone_label_offset, volume_label_alignment}
-use Rattle.uefi_records.specs.file.Views.{stated_size, file_fields_of, file_info_view, file_info_key, file_header_of, file_name_of}
-use Rattle.uefi_records.specs.Laws.{EqualFiles, FileInfoReadsBack, FileSystemInfoReadsBack, VolumeLabelReadsBack, ReadsBack, WrittenAlone}
-use Rattle.uefi_records.proofs.file.FieldsBack.{file_info_back, length-file_header, header_back, length-file_system_header, file_system_info_back}
+use Rattle.uefi_records.specs.file.FileInfo.{file_fields, file_header, file_info_alignment, file_info_size}
+use Rattle.uefi_records.specs.file.FileInfo.{file_name_offset, size_in}
+use Rattle.uefi_records.specs.file.FileSystemInfo.{file_system_fields, file_system_header, file_system_info_alignment}
+use Rattle.uefi_records.specs.file.FileSystemInfo.{file_system_info_size, label_offset, lone_label_offset}
+use Rattle.uefi_records.specs.file.FileSystemInfo.{volume_label_alignment}
+use Rattle.uefi_records.specs.file.Views.{stated_size, file_fields_of, file_info_view, file_info_key, file_header_of}
+use Rattle.uefi_records.specs.file.Views.{file_name_of}
+use Rattle.uefi_records.specs.Laws.{EqualFiles, FileInfoReadsBack, FileSystemInfoReadsBack, VolumeLabelReadsBack}
+use Rattle.uefi_records.specs.Laws.{ReadsBack, WrittenAlone}
+use Rattle.uefi_records.proofs.file.FieldsBack.{file_info_back, length-file_header, header_back}
+use Rattle.uefi_records.proofs.file.FieldsBack.{length-file_system_header, file_system_info_back}
 use Rattle.uefi_records.proofs.file.FirstZero.{IsFirstAt, one_first, first_zero_is}
 use Rattle.uefi_records.proofs.file.Judging.{units_of_prefix, accepted_at}
 use Rattle.uefi_records.proofs.file.Names.{length-named, units_back}
 use Rattle.uefi_records.proofs.file.Prefixes.{size_of_prefix, file_fields_of_prefix, file_system_fields_of_prefix}
 
 -- Units that start with a name have their first zero at the name's end.
-first_zero_of_name : (units name : List ℕ) → IsName name → take (length name) units ≡ name → length name ≤ length units → IsFirstAt units (length name - 1)
+first_zero_of_name : (units name : List ℕ) → IsName name → take (length name) units ≡ name
+    → length name ≤ length units → IsFirstAt units (length name - 1)
 first_zero_of_name units name is prefix enough =
     let at : (k : ℕ) → k < length name → get_or units k 0 ≡ get_or name k 0 =
     λ k within. sym (get_or-take (length name) units k 0 within) ∙ ap (λ us. get_or us k 0) prefix in
@@ -37,17 +45,20 @@ name_accepted offset alignment header name rest written sized fit covers room =
     let buffer : List ℕ = (header ++ unit_bytes name) ++ rest in
     let end : ℕ = record_end offset (length name) in
     let record_sized : length (header ++ unit_bytes name) ≡ end = length-named offset header name sized in
-    let whole : length buffer ≡ end + length rest = length-append (header ++ unit_bytes name) rest ∙ ap (λ n. n + length rest) record_sized in
+    let whole : length buffer ≡ end + length rest = length-append (header ++ unit_bytes name) rest
+    ∙ ap (λ n. n + length rest) record_sized in
     let seen : List ℕ = units_from offset (take written buffer) in
     let prefix : take (length name) seen ≡ name =
     units_of_prefix buffer offset (length name) written covers
     ∙ ap (units_from offset) (take_at (header ++ unit_bytes name) rest end record_sized)
     ∙ units_back offset header name sized fit.are_units in
-    let counted : length seen ≡ length (drop offset (take written buffer)) / 2 = units_by_place.counted (drop offset (take written buffer)) in
+    let counted : length seen ≡ length (drop offset (take written buffer)) / 2 =
+    units_by_place.counted (drop offset (take written buffer)) in
     let left : length (drop offset (take written buffer)) ≡ min written (length buffer) - offset =
     length-drop offset (take written buffer) ∙ ap (λ n. n - offset) (length-take written buffer) in
     let enough : length name ≤ length seen = omega (arith, counted, left, whole, covers) in
-    let first : first_zero seen ≡ Some (length name - 1) = one_first seen (length name - 1) (first_zero_of_name seen name fit.is_name prefix enough) in
+    let first : first_zero seen ≡ Some (length name - 1) =
+    one_first seen (length name - 1) (first_zero_of_name seen name fit.is_name prefix enough) in
     let count : length name - 1 + 1 ≡ length name = omega (arith, fit.is_name.not_empty) in
     accepted_at offset alignment (length buffer) (length name - 1) (take written buffer) first
     (subst (λ n. record_size offset alignment n ≤ length buffer) (sym count) room)
@@ -57,7 +68,8 @@ file_info_reads_back : FileInfoReadsBack
 file_info_reads_back fields name rest written fits fit small covers room =
     let size : ℕ = file_info_size (length name) in
     let header : List ℕ = file_header size fields in
-    let joined : (header ++ unit_bytes name) ++ rest ≡ header ++ (unit_bytes name ++ rest) = append_assoc header (unit_bytes name) rest in
+    let joined : (header ++ unit_bytes name) ++ rest ≡ header ++ (unit_bytes name ++ rest) =
+    append_assoc header (unit_bytes name) rest in
     let back = file_info_back size fields (unit_bytes name ++ rest) fits small in (
       name_accepted file_name_offset file_info_alignment header name rest written
           (length-file_header size fields) fit covers room,
@@ -71,18 +83,29 @@ file_system_info_reads_back fields unused label rest written seven fits fit smal
     let size : ℕ = file_system_info_size (length label) in
     let header : List ℕ = file_system_header size fields unused in
     let sized : length header ≡ label_offset = length-file_system_header size fields unused seven in
-    let joined : (header ++ unit_bytes label) ++ rest ≡ header ++ (unit_bytes label ++ rest) = append_assoc header (unit_bytes label) rest in
-    let back = file_system_info_back size fields unused (unit_bytes label ++ rest) seven fits small in
-    (name_accepted label_offset file_system_info_alignment header label rest written sized fit covers room, ap size_in joined ∙ back.0, ap file_system_fields joined ∙ back.1)
+    let joined : (header ++ unit_bytes label) ++ rest ≡ header ++ (unit_bytes label ++ rest) =
+    append_assoc header (unit_bytes label) rest in
+    let back = file_system_info_back size fields unused (unit_bytes label ++ rest) seven fits small in (
+      name_accepted label_offset file_system_info_alignment header label rest written sized fit covers room,
+      ap size_in joined ∙ back.0,
+      ap file_system_fields joined ∙ back.1,
+    )
 
 volume_label_reads_back : VolumeLabelReadsBack
-volume_label_reads_back label rest written fit covers room = name_accepted lone_label_offset volume_label_alignment [] label rest written refl fit covers room
+volume_label_reads_back label rest written fit covers room =
+    name_accepted lone_label_offset volume_label_alignment [] label rest written refl fit covers room
 
 pub reads_back : ReadsBack
-reads_back = record { file_info = file_info_reads_back; file_system_info = file_system_info_reads_back; volume_label = volume_label_reads_back }
+reads_back = record {
+  file_info = file_info_reads_back;
+  file_system_info = file_system_info_reads_back;
+  volume_label =
+      volume_label_reads_back;
+}
 
 -- If a record is accepted, the written bytes cover its header.
-accepted_covers : (offset alignment : ℕ) (written name : List ℕ) (room : ℕ) → verdict offset alignment written room ≡ accepted name → offset ≤ length written
+accepted_covers : (offset alignment : ℕ) (written name : List ℕ) (room : ℕ)
+    → verdict offset alignment written room ≡ accepted name → offset ≤ length written
 accepted_covers offset alignment written name room is = by_index (first_zero (units_from offset written)) refl is
   where
     by_index : (found : Option ℕ) → first_zero (units_from offset written) ≡ found
@@ -95,16 +118,23 @@ accepted_covers offset alignment written name room is = by_index (first_zero (un
 covers_of : (offset alignment written : ℕ) (buffer name : List ℕ) → verdict offset alignment (take written buffer)
     (length buffer) ≡ accepted name → offset ≤ written
 covers_of offset alignment written buffer name is =
-    omega (arith, accepted_covers offset alignment (take written buffer) name (length buffer) is, length-take written buffer)
+    omega (
+      arith,
+      accepted_covers offset alignment (take written buffer) name (length buffer) is,
+      length-take written buffer,
+    )
 
 -- Bytes that agree on the header have one stated size and the same fields.
 same_size : (n : ℕ) (one other : List ℕ) → 8 ≤ n → take n one ≡ take n other → size_in one ≡ size_in other
 same_size n one other enough same = sym (size_of_prefix n one enough) ∙ ap size_in same ∙ size_of_prefix n other enough
 
-same_file_fields : (n : ℕ) (one other : List ℕ) → file_name_offset ≤ n → take n one ≡ take n other → file_fields one ≡ file_fields other
-same_file_fields n one other enough same = sym (file_fields_of_prefix n one enough) ∙ ap file_fields same ∙ file_fields_of_prefix n other enough
+same_file_fields : (n : ℕ) (one other : List ℕ) → file_name_offset ≤ n → take n one ≡ take n other
+    → file_fields one ≡ file_fields other
+same_file_fields n one other enough same = sym (file_fields_of_prefix n one enough) ∙ ap file_fields same
+    ∙ file_fields_of_prefix n other enough
 
-same_system_fields : (n : ℕ) (one other : List ℕ) → label_offset ≤ n → take n one ≡ take n other → file_system_fields one ≡ file_system_fields other
+same_system_fields : (n : ℕ) (one other : List ℕ) → label_offset ≤ n → take n one ≡ take n other
+    → file_system_fields one ≡ file_system_fields other
 same_system_fields n one other enough same = sym (file_system_fields_of_prefix n one enough)
     ∙ ap file_system_fields same ∙ file_system_fields_of_prefix n other enough
 
@@ -120,15 +150,18 @@ written_alone = record {
 }
 
 -- What file information records are compared by starts with the bytes before the name, and ends with the name.
-header_in_key : (info : FileInfo) → take file_name_offset (file_info_key info) ≡ take file_name_offset (file_info_view info)
+header_in_key : (info : FileInfo) → take file_name_offset (file_info_key info)
+    ≡ take file_name_offset (file_info_view info)
 unfolding file_info_key
 header_in_key info =
-    take_at (file_header_of info) (file_name_of info) file_name_offset (length-file_header (stated_size info) (file_fields_of info))
+    take_at (file_header_of info) (file_name_of info) file_name_offset
+    (length-file_header (stated_size info) (file_fields_of info))
     ∙ sym (header_back (file_info_view info) info.are_bytes info.named.before)
 
 name_in_key : (info : FileInfo) → drop file_name_offset (file_info_key info) ≡ file_name_of info
 unfolding file_info_key
-name_in_key info = drop_at (file_header_of info) (file_name_of info) file_name_offset (length-file_header (stated_size info) (file_fields_of info))
+name_in_key info = drop_at (file_header_of info) (file_name_of info) file_name_offset
+    (length-file_header (stated_size info) (file_fields_of info))
 
 pub equal_files : EqualFiles
 unfolding file_info_key

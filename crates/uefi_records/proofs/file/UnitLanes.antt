@@ -1,5 +1,6 @@
 -- The units of bytes as the lanes of a vector, and the search through a block of them.
-use Rattle.std.proofs.Common.{◌≡◌, ℕ, zero, suc, ◌+◌, ◌*◌, ◌/◌, ◌%◌, ◌<◌, ◌≤◌, List, [], ◌∷◌, ◌++◌, length, drop, ap, sym, refl, ◌∙◌, arith, cond, Bool, true, false, not}
+use Rattle.std.proofs.Common.{◌≡◌, ℕ, zero, suc, ◌+◌, ◌*◌, ◌/◌, ◌%◌, ◌<◌, ◌≤◌, List, [], ◌∷◌, ◌++◌, length, drop, ap}
+use Rattle.std.proofs.Common.{sym, refl, ◌∙◌, arith, cond, Bool, true, false, not}
 use Rattle.std.specs.Prelude.{Option, Some}
 use Rattle.std.specs.List.{prefix_len, position_from}
 use lib.Lanes.{number_l, digits_l, Each1, chunk}
@@ -9,7 +10,8 @@ use Rattle.uefi_base.proofs.UnitsOfBytes.{half_as_many_units}
 use Rattle.uefi_base.proofs.UnitsBack.{units_read_back}
 
 -- The digits to base 65536 of a number whose digits to base 256 are 2 n bytes are their units.
-pub lanes_are_units : (n : ℕ) (bytes : List ℕ) → length bytes ≡ 2 * n → Each1 (λ x. x < 256) bytes → digits_l 65536 n (number_l 256 bytes) ≡ units_of bytes
+pub lanes_are_units : (n : ℕ) (bytes : List ℕ) → length bytes ≡ 2 * n → Each1 (λ x. x < 256) bytes
+    → digits_l 65536 n (number_l 256 bytes) ≡ units_of bytes
 lanes_are_units zero [] sized small = refl
 lanes_are_units zero (low ∷ bytes) sized small = absurd (omega arith)
 lanes_are_units (suc n) [] sized small = absurd (omega arith)
@@ -22,7 +24,8 @@ lanes_are_units (suc n) (low ∷ high ∷ bytes) sized small =
     let rest : (low + 256 * (high + 256 * others)) / 65536 ≡ others = omega arith in
     rw (first, rest, lanes_are_units n bytes (omega arith) small.1.1)
 
--- The first item of two lists that meets a test: it is in the first list if a shorter prefix of that list than the whole fails the test.
+-- The first item of two lists that meets a test: it is in the first list if a shorter prefix of that list than the
+-- whole fails the test.
 here : (p : ℕ → Bool) (i n k : ℕ) (later : Option ℕ) → (b : Bool) → cond (not b) (1 + k) 0 < suc n
     → (k < n → later ≡ Some (i + 1 + k)) → cond b (Some i) later ≡ Some (i + cond (not b) (1 + k) 0)
 here p i n k later true within more = ap Some (omega arith)
@@ -32,10 +35,12 @@ pub found_in_first : (p : ℕ → Bool) (i : ℕ) (xs ys : List ℕ) → prefix_
     → position_from p i (xs ++ ys) ≡ Some (i + prefix_len (λ x. not (p x)) xs)
 found_in_first p i [] ys within = absurd (omega arith)
 found_in_first p i (x ∷ xs) ys within =
-    here p i (length xs) (prefix_len (λ y. not (p y)) xs) (position_from p (i + 1) (xs ++ ys)) (p x) within (λ k. found_in_first p (i + 1) xs ys k)
+    here p i (length xs) (prefix_len (λ y. not (p y)) xs) (position_from p (i + 1) (xs ++ ys)) (p x) within
+    (λ k. found_in_first p (i + 1) xs ys k)
 
 -- Else it is the first of the second list.
-not_here : (i n k : ℕ) (later rest : Option ℕ) → (b : Bool) → suc n ≤ cond (not b) (1 + k) 0 → (n ≤ k → later ≡ rest) → cond b (Some i) later ≡ rest
+not_here : (i n k : ℕ) (later rest : Option ℕ) → (b : Bool) → suc n ≤ cond (not b) (1 + k) 0 → (n ≤ k → later ≡ rest)
+    → cond b (Some i) later ≡ rest
 not_here i n k later rest true whole more = absurd (omega arith)
 not_here i n k later rest false whole more = more (omega arith)
 
@@ -43,7 +48,8 @@ pub found_in_second : (p : ℕ → Bool) (i : ℕ) (xs ys : List ℕ) → length
     → position_from p i (xs ++ ys) ≡ position_from p (i + length xs) ys
 found_in_second p i [] ys whole = ap (λ k. position_from p k ys) (omega arith)
 found_in_second p i (x ∷ xs) ys whole =
-    not_here i (length xs) (prefix_len (λ y. not (p y)) xs) (position_from p (i + 1) (xs ++ ys)) (position_from p (i + suc (length xs)) ys) (p x) whole
+    not_here i (length xs) (prefix_len (λ y. not (p y)) xs) (position_from p (i + 1) (xs ++ ys))
+    (position_from p (i + suc (length xs)) ys) (p x) whole
     (λ k. found_in_second p (i + 1) xs ys k ∙ ap (λ j. position_from p j ys) (omega arith))
 
 module _ (p : ℕ → Bool) (bytes : List ℕ) (index n run : ℕ) (within : 2 * index + 2 * n ≤ length bytes)
@@ -61,7 +67,8 @@ module _ (p : ℕ → Bool) (bytes : List ℕ) (index n run : ℕ) (within : 2 *
   split : units_of (drop (2 * index) bytes) ≡ units_of block ++ units_of (drop (2 * (index + n)) bytes)
   split =
       let next : 2 * index + 2 * n ≡ 2 * (index + n) = omega arith in
-      ap units_of (chunk-drop (2 * index) (2 * n) bytes) ∙ units_read_back.joined block (drop (2 * index + 2 * n) bytes) (omega (arith, sized))
+      ap units_of (chunk-drop (2 * index) (2 * n) bytes)
+      ∙ units_read_back.joined block (drop (2 * index + 2 * n) bytes) (omega (arith, sized))
       ∙ ap (λ k. units_of block ++ units_of (drop k bytes)) next
 
   -- The first unit that meets the test is in the block if the run before it is shorter than the block.
@@ -72,7 +79,8 @@ module _ (p : ℕ → Bool) (bytes : List ℕ) (index n run : ℕ) (within : 2 *
       ∙ ap (λ k. Some (index + k)) (sym counted_run)
 
   -- Else it is behind the block.
-  pub passes_block : n ≤ run → position_from p index (units_of (drop (2 * index) bytes)) ≡ position_from p (index + n) (units_of (drop (2 * (index + n)) bytes))
+  pub passes_block : n ≤ run → position_from p index (units_of (drop (2 * index) bytes))
+      ≡ position_from p (index + n) (units_of (drop (2 * (index + n)) bytes))
   passes_block whole =
       ap (position_from p index) split ∙ found_in_second p index (units_of block)
       (units_of (drop (2 * (index + n)) bytes)) (omega (arith, units, counted_run, whole))

@@ -11,10 +11,17 @@ use Rattle.uefi_records.specs.declared.file.file_system_info.FileSystemInfo.{Fil
 use Rattle.uefi_records.specs.declared.file.file_system_volume_label.FileSystemVolumeLabel.{FileSystemVolumeLabel}
 use Rattle.uefi_records.specs.file.Name.{FitName, record_end, record_size, units_from}
 use Rattle.uefi_records.specs.private.file.Name.{EndsWithName}
-use Rattle.uefi_records.specs.file.FileInfo.{FileFields, FitFile, file_fields, file_header, file_info_alignment, file_info_size, file_name_offset, size_in}
-use Rattle.uefi_records.specs.file.FileSystemInfo.{FileSystemFields, FitFileSystem, file_system_fields, file_system_header, file_system_info_alignment, file_system_info_size, label_offset, lone_label_offset, unused_bytes, unused_length, volume_label_alignment}
-use Rattle.uefi_records.specs.file.Views.{file_info_view, stated_size, file_fields_of, file_name_of, file_system_info_view, system_stated_size, file_system_fields_of, file_system_label_of, volume_label_view, volume_label_of}
-use Rattle.uefi_records.proofs.file.FieldsBack.{file_info_back, length-file_header, length-file_system_header, file_system_info_back}
+use Rattle.uefi_records.specs.file.FileInfo.{FileFields, FitFile, file_fields, file_header, file_info_alignment}
+use Rattle.uefi_records.specs.file.FileInfo.{file_info_size, file_name_offset, size_in}
+use Rattle.uefi_records.specs.file.FileSystemInfo.{FileSystemFields, FitFileSystem, file_system_fields}
+use Rattle.uefi_records.specs.file.FileSystemInfo.{file_system_header, file_system_info_alignment}
+use Rattle.uefi_records.specs.file.FileSystemInfo.{file_system_info_size, label_offset, lone_label_offset, unused_bytes}
+use Rattle.uefi_records.specs.file.FileSystemInfo.{unused_length, volume_label_alignment}
+use Rattle.uefi_records.specs.file.Views.{file_info_view, stated_size, file_fields_of, file_name_of}
+use Rattle.uefi_records.specs.file.Views.{file_system_info_view, system_stated_size, file_system_fields_of}
+use Rattle.uefi_records.specs.file.Views.{file_system_label_of, volume_label_view, volume_label_of}
+use Rattle.uefi_records.proofs.file.FieldsBack.{file_info_back, length-file_header, length-file_system_header}
+use Rattle.uefi_records.proofs.file.FieldsBack.{file_system_info_back}
 use Rattle.uefi_records.proofs.file.Names.{ends_with, length-named, units_back}
 
 -- A record without fields: they fit.
@@ -22,7 +29,8 @@ pub fits_any : (written : Result ℕ FileInfoCreationError) → OnOk written (Un
 fits_any (Ok end) = tt
 fits_any (Err error) = tt
 
--- A header and a name, of which the fields fit: what the writer of such a record ensures, and what holds once a view of it was made.
+-- A header and a name, of which the fields fit: what the writer of such a record ensures, and what holds once a view
+-- of it was made.
 module _ (offset alignment : ℕ) (header name old : List ℕ) (FieldsFit : Type 0) where
   abbrev Is : Type 0
   Is = FieldsFit × FitName name
@@ -34,7 +42,8 @@ module _ (offset alignment : ℕ) (header name old : List ℕ) (FieldsFit : Type
   Short error = error ≡ InsufficientStorage (record_size offset alignment (length name))
 
   abbrev pub WroteRecord : List ℕ → Result ℕ FileInfoCreationError → Type 0
-  WroteRecord new written = Wrote (header ++ unit_bytes name) old new (record_end offset (length name)) Is Room Short written
+  WroteRecord new written = Wrote (header ++ unit_bytes name) old new
+      (record_end offset (length name)) Is Room Short written
 
   abbrev pub MadeRecord : {V : Type 0} → (V → List ℕ) → List ℕ → Result V FileInfoCreationError → Type 0
   MadeRecord view new made = Made view (header ++ unit_bytes name) old new Is Room Short made
@@ -45,16 +54,20 @@ module _ (offset alignment : ℕ) (header name old : List ℕ) (FieldsFit : Type
 
     pub record_seen_in : (new : List ℕ) (written : Result ℕ FileInfoCreationError) → WroteRecord new written
         → IfOk written (λ end. (end ≤ length new) × EndsWithName offset (take end new))
-    record_seen_in new written wrote = seen_in part_sized (EndsWithName offset) (λ is room. ends_with offset header name (sized room) is.1) written wrote
+    record_seen_in new written wrote = seen_in part_sized (EndsWithName offset)
+        (λ is room. ends_with offset header name (sized room) is.1) written wrote
 
     pub record_made_of : {V : Type 0} (view : V → List ℕ) (new : List ℕ) (written : Result ℕ FileInfoCreationError)
         (made : Result V FileInfoCreationError) → WroteRecord new written
-        → MatchResult written (λ end. IfOk made (λ v. view v ≡ take end new)) (λ error. made ≡ Err error) → IsOk made ↔ IsOk written → MadeRecord view new made
+        → MatchResult written (λ end. IfOk made (λ v. view v ≡ take end new)) (λ error. made ≡ Err error)
+        → IsOk made ↔ IsOk written → MadeRecord view new made
     record_made_of view new written made wrote seen ok = made_of part_sized view written made wrote seen ok
 
 -- What the accessors of a view of a file information record return.
-pub file_info_made : (fields : FileFields) (name old new : List ℕ) → length old < 2 ^ 64 → (made : Result FileInfo FileInfoCreationError)
-    → MadeRecord file_name_offset file_info_alignment (file_header (file_info_size (length name)) fields) name old (FitFile fields) file_info_view new made
+pub file_info_made : (fields : FileFields) (name old new : List ℕ) → length old < 2 ^ 64
+    → (made : Result FileInfo FileInfoCreationError)
+    → MadeRecord file_name_offset file_info_alignment (file_header (file_info_size (length name)) fields) name old
+    (FitFile fields) file_info_view new made
     → IfOk made (λ info. stated_size info ≡ file_info_size (length name))
     × IfOk made (λ info. file_fields_of info ≡ fields) × IfOk made (λ info. file_name_of info ≡ name)
     × OnOk made (FitFile fields) × OnOk made (FitName name)
@@ -71,15 +84,19 @@ file_info_made fields name old new long (Ok info) made =
 file_info_made fields name old new long (Err error) made = (tt, tt, tt, tt, tt)
 
 -- The unused bytes of a buffer with room for a file system information record, and the record's header.
-seven_unused : (label old : List ℕ) → file_system_info_size (length label) ≤ length old → length (unused_bytes old) ≡ unused_length
+seven_unused : (label old : List ℕ) → file_system_info_size (length label) ≤ length old
+    → length (unused_bytes old) ≡ unused_length
 seven_unused label old room = length-take-le unused_length (drop 9 old) (omega (arith, room, length-drop 9 old))
 
-pub system_header_sized : (size : ℕ) (fields : FileSystemFields) (label old : List ℕ) → file_system_info_size (length label) ≤ length old
+pub system_header_sized : (size : ℕ) (fields : FileSystemFields) (label old : List ℕ)
+    → file_system_info_size (length label) ≤ length old
     → length (file_system_header size fields (unused_bytes old)) ≡ label_offset
-system_header_sized size fields label old room = length-file_system_header size fields (unused_bytes old) (seven_unused label old room)
+system_header_sized size fields label old room =
+    length-file_system_header size fields (unused_bytes old) (seven_unused label old room)
 
 -- What the accessors of a view of such a record return, and those of a view of a label.
-pub file_system_info_made : (fields : FileSystemFields) (label old new : List ℕ) → length old < 2 ^ 64 → (made : Result FileSystemInfo FileInfoCreationError)
+pub file_system_info_made : (fields : FileSystemFields) (label old new : List ℕ) → length old < 2 ^ 64
+    → (made : Result FileSystemInfo FileInfoCreationError)
     → MadeRecord label_offset file_system_info_alignment
     (file_system_header (file_system_info_size (length label)) fields (unused_bytes old)) label old
     (FitFileSystem fields) file_system_info_view new made

@@ -17,7 +17,8 @@ unfolding time_bytes
 time_back time rest fits =
     let year = from_le_bytes-to_le_bytes_2 time.year fits.year in
     let nanosecond = from_le_bytes-to_le_bytes_4 time.nanosecond fits.nanosecond in
-    let zone = ap (cast_signed w16) (from_le_bytes-to_le_bytes_2 (cast_unsigned w16 time.zone) (Fits-of_z fits.zone).fits) ∙ to_z-of_z fits.zone in
+    let zone = ap (cast_signed w16) (from_le_bytes-to_le_bytes_2 (cast_unsigned w16 time.zone)
+    (Fits-of_z fits.zone).fits) ∙ to_z-of_z fits.zone in
     λ i. record time { year = year i; nanosecond = nanosecond i; zone = zone i }
 
 -- Sixteen bytes, written out, are those of the time that is read from them.
@@ -30,7 +31,8 @@ sixteen_back bytes rest small long =
     let zone_fits : zone < 2 ^ 16 = omega (arith, small 12, small 13) in
     let year_bytes = numbers_read_back.read.u16 whole 0 small (omega arith) in
     let nanosecond_bytes = numbers_read_back.read.u32 whole 8 small (omega arith) in
-    let zone_bytes = ap u16_bytes (of_z-to_z w16 zone zone_fits) ∙ numbers_read_back.read.u16 whole 12 small (omega arith) in (
+    let zone_bytes = ap u16_bytes (of_z-to_z w16 zone zone_fits)
+    ∙ numbers_read_back.read.u16 whole 12 small (omega arith) in (
       record {
         year = omega (arith, small 0, small 1);
         month = small 2;
@@ -44,12 +46,17 @@ sixteen_back bytes rest small long =
         daylight = small 14;
         last_pad = small 15;
       },
-      (rest, λ i. sym year_bytes i ++ items_from 2 6 bytes ++ sym nanosecond_bytes i ++ sym zone_bytes i ++ items_from 14 2 bytes ++ rest),
+      (
+        rest,
+        λ i. sym year_bytes i ++ items_from 2 6 bytes ++ sym nanosecond_bytes i ++ sym zone_bytes i
+            ++ items_from 14 2 bytes ++ rest,
+      ),
     )
 
 pub stands_in : (bytes : List ℕ) → AreBytes bytes → time_length ≤ length bytes → StandsIn (time_in bytes) bytes
 stands_in bytes small long =
-    let whole : bytes ≡ items_from 0 time_length bytes ++ drop time_length bytes = drop-items_from 0 time_length time_length bytes refl long in
+    let whole : bytes ≡ items_from 0 time_length bytes ++ drop time_length bytes =
+    drop-items_from 0 time_length time_length bytes refl long in
     subst (λ b. StandsIn (time_in b) b) (sym whole)
     (sixteen_back bytes (drop time_length bytes) (subst AreBytes whole small)
     (subst (λ b. time_length ≤ length b) whole long))
@@ -73,4 +80,5 @@ times_read_back = record { written = time_back; read = stands_in }
 
 pub one_time : OneTime
 one_time one other bytes in_one in_other =
-    sym (time_back one in_one.1.0 in_one.0) ∙ ap time_in (sym in_one.1.1 ∙ in_other.1.1) ∙ time_back other in_other.1.0 in_other.0
+    sym (time_back one in_one.1.0 in_one.0) ∙ ap time_in (sym in_one.1.1 ∙ in_other.1.1)
+    ∙ time_back other in_other.1.0 in_other.0

@@ -5,7 +5,8 @@ use Rattle.uefi_tcg.specs.v2.Event.{Event}
 use Rattle.tcg_examples.proofs.digest_logs.count_of_register.Goals as goal
 
 -- The first of the events to come is counted if it passes.
-counted_more : (test : Event → Bool) (count total : ℕ) (event : Event) (events rest : List Event) (passes : Bool) → events ≡ event ∷ rest → test event ≡ passes
+counted_more : (test : Event → Bool) (count total : ℕ) (event : Event) (events rest : List Event) (passes : Bool)
+    → events ≡ event ∷ rest → test event ≡ passes
     → count + count_by test events ≡ total → count + cond passes 1 0 + count_by test rest ≡ total
 counted_more test count total event events rest passes is tested counted =
     let first = sum_by-cons (λ (e : Event). cond (test e) 1 0) event rest in

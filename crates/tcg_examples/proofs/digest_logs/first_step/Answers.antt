@@ -8,5 +8,7 @@ pub returns : goal.returns
 returns c = λ header has.
     let at =
     c.iter-events.ensures.begins c.args.bytes.now c.args.last_entry header
-    (ap (λ (log : LogInput). log.bytes) c.new-log.ensures) (ap (λ (log : LogInput). log.last_entry) c.new-log.ensures) has in
-    step_there header.table (events_start header) c.args.last_entry c.args.bytes.now c.iter-events.result c.next.result at c.next.ensures.keeps
+    (ap (λ (log : LogInput). log.bytes) c.new-log.ensures)
+    (ap (λ (log : LogInput). log.last_entry) c.new-log.ensures) has in
+    step_there header.table (events_start header) c.args.last_entry c.args.bytes.now c.iter-events.result
+    c.next.result at c.next.ensures.keeps

@@ -9,7 +9,8 @@ loop-event-init c =
     (rw c.new-log.ensures at c.iter-event-items.ensures.log)
 
 pub loop-event-preserved : goal.loop-event-preserved
-loop-event-preserved c = simp (c.in_ok-push.ensures.items, map-append, append_assoc) (rw c.in-Some.ensures.steps at c.loop-event.invariant)
+loop-event-preserved c = simp (c.in_ok-push.ensures.items, map-append, append_assoc)
+    (rw c.in-Some.ensures.steps at c.loop-event.invariant)
 
 pub returns-clause-keep : goal.returns-clause-keep
 returns-clause-keep c = let log = simp (c.in-None.ensures.steps.0, append-nil) at c.loop-event.invariant in log.all_keep

@@ -13,7 +13,8 @@ use Rattle.uefi_tcg.specs.v1.Writing.{event_given}
 use Rattle.tcg_examples.proofs.logs.event_read_back.Goals as goal
 
 -- An event's encoding is its header and its data.
-length-event_bytes : (event : Event) → IsEvent event → length (event_bytes event) ≡ header_length + length event.event_data
+length-event_bytes : (event : Event) → IsEvent event
+    → length (event_bytes event) ≡ header_length + length event.event_data
 unfolding event_bytes
 length-event_bytes event is = simp length-append (omega (arith, is.digest))
 
@@ -22,7 +23,8 @@ written_bytes : (event : Event) (old new : List ℕ) (end : ℕ) → IsEvent eve
     → end ≡ header_length + length event.event_data → new ≡ put_prefix (event_bytes event) old
     → take end new ≡ event_bytes event
 written_bytes event old new end is covers written =
-    ap (take end) written ∙ take_at (event_bytes event) (drop (length (event_bytes event)) old) end (length-event_bytes event is ∙ sym covers)
+    ap (take end) written ∙ take_at (event_bytes event) (drop (length (event_bytes event)) old) end
+    (length-event_bytes event is ∙ sym covers)
 
 -- The log of these bytes is the event alone.
 log_alone : OneLog → WrittenIsLog → (event : Event) (bytes : List ℕ) (log : List Event) → IsEvent event
@@ -35,7 +37,8 @@ yields : {S A B : Type 0} (view : A → B) (rest : S → List B) (before after :
     → YieldsFirstBy view rest before item after → rest before ≡ only ∷ []
     → IsSome item × IfSome item (λ x. view x ≡ only)
 yields view rest before after None only yielded left = let no : [] ≡ only ∷ [] = sym yielded.0 ∙ left in cc
-yields view rest before after (Some x) only yielded left = let first : view x ∷ rest after ≡ only ∷ [] = sym yielded ∙ left in (refl, cc)
+yields view rest before after (Some x) only yielded left = let first : view x ∷ rest after ≡ only ∷ [] = sym yielded
+    ∙ left in (refl, cc)
 
 -- The iterator yields the event that was written.
 read : (c : goal.After-next) → IsSome c.next.result
@@ -43,7 +46,8 @@ read : (c : goal.After-next) → IsSome c.next.result
     (λ event. event_of event ≡ event_given c.args.register IPL c.args.digest c.args.event_data.now)
 read c =
     let wrote = c.in-Ok.ensures in
-    let log = subst (λ (input : LogInput). IsLogOf input.bytes input.last_entry c.iter.result.events) c.new.ensures c.iter.ensures.log in
+    let log = subst (λ (input : LogInput). IsLogOf input.bytes input.last_entry c.iter.result.events) c.new.ensures
+    c.iter.ensures.log in
     let bytes = written_bytes _ _ _ _ wrote.is_event wrote.end wrote.written in
     yields event_of (λ iter. iter.events) c.iter.result c.next.new.self c.next.result _ c.next.ensures.first
     (log_alone c.one_log_v1.ensures c.written_event.ensures _ _ _ wrote.is_event bytes log)

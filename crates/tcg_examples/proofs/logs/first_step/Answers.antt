@@ -7,5 +7,6 @@ pub returns : goal.returns
 returns c =
     let at =
     c.iter-events.ensures.begins c.args.bytes.now c.args.last_entry
-    (ap (λ (log : LogInput). log.bytes) c.new-log.ensures) (ap (λ (log : LogInput). log.last_entry) c.new-log.ensures) in
+    (ap (λ (log : LogInput). log.bytes) c.new-log.ensures)
+    (ap (λ (log : LogInput). log.last_entry) c.new-log.ensures) in
     step_there 0 c.args.last_entry c.args.bytes.now c.iter-events.result c.next.result at c.next.ensures.keeps

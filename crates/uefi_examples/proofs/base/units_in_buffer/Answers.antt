@@ -10,5 +10,6 @@ returns c =
     let units = c.args.units.now in
     let rest : List ℕ = drop (0 + length (unit_bytes units)) c.args.buffer.now in
     let are_units : AreUnits units = λ k. omega (arith, c.type_inv.units k) in
-    let bytes = ap (take (2 * length units)) c.put_units.ensures ∙ take_at (unit_bytes units) rest (2 * length units) (law.sized units) in
+    let bytes = ap (take (2 * length units)) c.put_units.ensures
+    ∙ take_at (unit_bytes units) rest (2 * length units) (law.sized units) in
     c.new.ensures ∙ ap units_of bytes ∙ law.written units are_units

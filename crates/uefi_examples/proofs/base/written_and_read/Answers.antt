@@ -12,5 +12,6 @@ characters_of-push cs = let sized = length_push cs 0 in take_at cs (0 ∷ []) (l
 
 pub returns-clause-same : goal.returns-clause-same
 returns-clause-same c =
-    c.in_ok-to_string.ensures ∙ ap (λ (us : List ℕ). encodes (characters_of us)) (c.as_cstr16.ensures ∙ c.in-Ok.ensures.text)
+    c.in_ok-to_string.ensures ∙ ap (λ (us : List ℕ). encodes (characters_of us))
+    (c.as_cstr16.ensures ∙ c.in-Ok.ensures.text)
     ∙ ap encodes (characters_of-push (chars c.args.text.now)) ∙ encodes-chars c.args.text.now c.utf8.text

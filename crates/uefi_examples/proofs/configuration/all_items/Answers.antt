@@ -7,12 +7,12 @@ pub loop-item-init : goal.loop-item-init
 loop-item-init c some =
     no_items c.args.text.now (uncut_pairs c.into_iter-item-iterator.result) c.new-all.result.items
     (ap uncut_pairs c.into_iter-item-iterator.ensures.into_iter_gives ∙ c.new-item-items.ensures.pairs)
-        c.new-all.ensures.items
+    c.new-all.ensures.items
 
 pub loop-item-preserved : goal.loop-item-preserved
 loop-item-preserved c =
     items_more c.args.text.now (uncut_pairs c.loop-item.item-iterator)
-        (uncut_pairs c.next.new.self) c.loop-item.all.items c.push.new.self.items c.in-Some.item
+    (uncut_pairs c.next.new.self) c.loop-item.all.items c.push.new.self.items c.in-Some.item
     c.loop-item.invariant c.in-Some.ensures.steps.1 c.in_ok-push.ensures.items
 
 pub returns : goal.returns

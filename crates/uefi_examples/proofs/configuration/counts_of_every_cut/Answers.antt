@@ -8,5 +8,5 @@ pub returns : goal.returns
 returns c =
     let one = c.one_cut.ensures.one c.args.text.now in
     IfOk-weaker c.item_counts.result _ _
-        (λ counts found parts cut. subst (λ ps. AreCounts counts (results_of ps))
-        (one.no_other found.0 found.1 ∙ sym (one.no_other parts cut)) found.2) c.item_counts.ensures
+    (λ counts found parts cut. subst (λ ps. AreCounts counts (results_of ps))
+    (one.no_other found.0 found.1 ∙ sym (one.no_other parts cut)) found.2) c.item_counts.ensures

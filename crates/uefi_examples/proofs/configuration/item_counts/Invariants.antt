@@ -8,4 +8,4 @@ abbrev pub invariant-loop-item : goal.invariant-loop-item
 invariant-loop-item l =
     HasCounted l.text (uncut_pairs l.item-iterator) l.configurations l.errors
     × (l.configurations + l.errors + length (uncut_pairs l.item-iterator) ≤ length
-        (uncut_pairs l.initial.item-iterator))
+    (uncut_pairs l.initial.item-iterator))

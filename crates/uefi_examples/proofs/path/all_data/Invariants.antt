@@ -5,4 +5,5 @@ use Rattle.uefi_examples.proofs.path.all_data.Given as goal
 
 abbrev pub invariant-loop-node : goal.invariant-loop-node
 invariant-loop-node l =
-    l.bytes.items ++ flat_map (λ node. node.payload) (nodes_left l.node-iterator) ≡ flat_map (λ node. node.payload) (all_but_last (path_nodes l.path))
+    l.bytes.items ++ flat_map (λ node. node.payload) (nodes_left l.node-iterator)
+    ≡ flat_map (λ node. node.payload) (all_but_last (path_nodes l.path))

@@ -18,19 +18,28 @@ length-time time = refl
 -- A list is a prefix of itself with nothing after it.
 nothing_after : (whole part rest : List ℕ) → length part ≡ length whole → whole ≡ part ++ rest → part ≡ whole
 nothing_after whole part [] sized split = sym (split ∙ append-nil part)
-nothing_after whole part (x ∷ rest) sized split = absurd (omega (arith, sized, ap length split, length-append part (x ∷ rest)))
+nothing_after whole part (x ∷ rest) sized split =
+    absurd (omega (arith, sized, ap length split, length-append part (x ∷ rest)))
 
 -- A name has bytes, so a record that was accepted has all fields before its name.
-name_left : (rest name : List ℕ) (room : ℕ) → judged 80 8 (units_of rest) room (first_zero (units_of rest)) ≡ accepted name → 0 < length rest
+name_left : (rest name : List ℕ) (room : ℕ)
+    → judged 80 8 (units_of rest) room (first_zero (units_of rest)) ≡ accepted name → 0 < length rest
 name_left [] name room is = cc
 name_left (x ∷ rest) name room is = omega arith
 
-fields_within : (bytes name : List ℕ) (written : ℕ) → file_info_verdict (take written bytes) (length bytes) ≡ accepted name → 80 ≤ length bytes
+fields_within : (bytes name : List ℕ) (written : ℕ)
+    → file_info_verdict (take written bytes) (length bytes) ≡ accepted name → 80 ≤ length bytes
 fields_within bytes name written is =
-    omega (arith, name_left (drop 80 (take written bytes)) name (length bytes) is, length-drop 80 (take written bytes), length-take written bytes)
+    omega (
+      arith,
+      name_left (drop 80 (take written bytes)) name (length bytes) is,
+      length-drop 80 (take written bytes),
+      length-take written bytes,
+    )
 
 -- A range within bytes has its length, and is bytes.
-length-range : (bytes : List ℕ) (offset n : ℕ) → offset + n ≤ length bytes → length (slice_range bytes offset (offset + n)) ≡ n
+length-range : (bytes : List ℕ) (offset n : ℕ) → offset + n ≤ length bytes
+    → length (slice_range bytes offset (offset + n)) ≡ n
 length-range bytes offset n within = grind (arith, common_steps)
 
 AreBytes-range : (bytes : List ℕ) (offset n : ℕ) → AreBytes bytes → AreBytes (slice_range bytes offset n)
@@ -40,8 +49,10 @@ pub returns : goal.returns
 returns c =
     let bytes : List ℕ = c.args.buffer.now in
     let part : List ℕ = slice_range bytes 24 40 in
-    let sized : length part ≡ 16 = length-range bytes 24 16 (omega (arith, fields_within bytes _ c.args.written c.in-Ok.ensures.verdict)) in
+    let sized : length part ≡ 16 = length-range bytes 24 16
+    (omega (arith, fields_within bytes _ c.args.written c.in-Ok.ensures.verdict)) in
     let each : AreBytes bytes = λ i. omega (arith, c.type_inv.buffer i) in
     let stands = c.times_read_back.ensures.read part (AreBytes-range bytes 24 40 each) (omega (arith, sized)) in
-    c.to_bytes.ensures.bytes ∙ ap time_bytes (c.create_time.ensures ∙ ap (λ fields. fields.create_time) c.in-Ok.ensures.fields)
+    c.to_bytes.ensures.bytes ∙ ap time_bytes
+    (c.create_time.ensures ∙ ap (λ fields. fields.create_time) c.in-Ok.ensures.fields)
     ∙ nothing_after part (time_bytes (time_in part)) stands.1.0 (length-time (time_in part) ∙ sym sized) stands.1.1

@@ -4,7 +4,8 @@ use Rattle.uefi_base.specs.Buffer.{put_prefix}
 use Rattle.uefi_base.specs.Views.{text_units}
 use Rattle.uefi_records.specs.Laws.{FileInfoReadsBack}
 use Rattle.uefi_records.specs.file.Name.{FitName, record_end}
-use Rattle.uefi_records.specs.file.FileInfo.{FileFields, FitFile, file_fields, file_info_bytes, file_info_size, file_info_verdict, file_name_offset, size_in}
+use Rattle.uefi_records.specs.file.FileInfo.{FileFields, FitFile, file_fields, file_info_bytes, file_info_size}
+use Rattle.uefi_records.specs.file.FileInfo.{file_info_verdict, file_name_offset, size_in}
 use Rattle.uefi_records.specs.file.Verdict.{accepted}
 use Rattle.uefi_records.specs.file.Views.{file_fields_given}
 use Rattle.uefi_examples.proofs.NamedRecords.{IfSome_of_ok, is_named}
@@ -17,18 +18,21 @@ record ReadsAs (fields : FileFields) (name : List ℕ) (written : ℕ) (buffer :
   same_fields : file_fields buffer ≡ fields
 
 -- So is one that the record was written to.
-written_reads : FileInfoReadsBack → (fields : FileFields) (name old new : List ℕ) (end : ℕ) → FitFile fields → FitName name → length old < 2 ^ 64
+written_reads : FileInfoReadsBack → (fields : FileFields) (name old new : List ℕ) (end : ℕ) → FitFile fields
+    → FitName name → length old < 2 ^ 64
     → end ≡ record_end file_name_offset (length name) → file_info_size (length name) ≤ length old
     → length new ≡ length old → new ≡ put_prefix (file_info_bytes fields name) old
     → ReadsAs fields name end new
 written_reads law fields name old new end fit fit_name short covers room same written =
     let rest : List ℕ = drop (length (file_info_bytes fields name)) old in
-    let seen = law fields name rest end fit fit_name (omega (arith, short, room)) (omega (arith, covers)) (omega (arith, room, same, ap length written)) in
+    let seen = law fields name rest end fit fit_name (omega (arith, short, room)) (omega (arith, covers))
+    (omega (arith, room, same, ap length written)) in
     subst (ReadsAs fields name end) (sym written) (record { verdict = seen.0; size = seen.1; same_fields = seen.2 })
 
 -- The buffer that was written to reads as what was passed.
 back : (c : goal.After-ok)
-    → ReadsAs (file_fields_given c.args.file_size c.args.physical_size c.args.create_time c.args.last_access_time c.args.modification_time c.args.attribute)
+    → ReadsAs (file_fields_given c.args.file_size c.args.physical_size c.args.create_time c.args.last_access_time
+    c.args.modification_time c.args.attribute)
     (text_units c.args.file_name.now) c.in-Ok.end c.write_file_info-written.new.buffer
 back c =
     let wrote = c.in-Ok.ensures in

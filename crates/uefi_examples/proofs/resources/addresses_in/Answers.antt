@@ -9,7 +9,8 @@ pub returns-in_err-addresses-clause-fits : goal.returns-in_err-addresses-clause-
 returns-in_err-addresses-clause-fits c = λ list has fits.
     let sum : List QwordAddressSpaceDescriptor → ℕ = sum_by (λ range. range.address_length) in
     let same = ap sum (c.in-Ok.ensures.list.no_other list has) in
-    let all = ap (λ iter. sum (resources_left iter)) c.into_iter-range-iterator.ensures.into_iter_gives ∙ ap sum c.iter-range-items.ensures.resources in
+    let all = ap (λ iter. sum (resources_left iter)) c.into_iter-range-iterator.ensures.into_iter_gives
+    ∙ ap sum c.iter-range-items.ensures.resources in
     let next = ap sum c.in-Some.ensures.steps ∙ sum_by-cons _ c.in-Some.range (resources_left c.next.new.self) in
     absurd (c.in_err-addresses.ensures (omega (arith, fits, same, all, next)))
 
@@ -20,7 +21,11 @@ loop-range-preserved c =
 
 pub returns-clause-sum : goal.returns-clause-sum
 returns-clause-sum c =
-    let sum = simp (c.in-None.ensures.steps.0, c.into_iter-range-iterator.ensures.into_iter_gives, c.iter-range-items.ensures.resources) at c.loop-range.invariant in
+    let sum = simp (
+      c.in-None.ensures.steps.0,
+      c.into_iter-range-iterator.ensures.into_iter_gives,
+      c.iter-range-items.ensures.resources,
+    ) at c.loop-range.invariant in
     (resources_of c.in-Ok.list, c.in-Ok.ensures.list.stands, omega (arith, sum))
 
 pub returns-in_default-clause-fits : goal.returns-in_default-clause-fits

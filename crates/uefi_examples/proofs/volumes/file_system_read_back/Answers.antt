@@ -6,7 +6,9 @@ use Rattle.uefi_base.specs.Views.{text_units}
 use Rattle.uefi_records.specs.Laws.{FileSystemInfoReadsBack}
 use Rattle.uefi_records.specs.file.Name.{FitName, record_end}
 use Rattle.uefi_records.specs.file.FileInfo.{size_in}
-use Rattle.uefi_records.specs.file.FileSystemInfo.{FileSystemFields, FitFileSystem, file_system_fields, file_system_info_bytes, file_system_info_size, file_system_info_verdict, label_offset, unused_bytes, unused_length}
+use Rattle.uefi_records.specs.file.FileSystemInfo.{FileSystemFields, FitFileSystem, file_system_fields}
+use Rattle.uefi_records.specs.file.FileSystemInfo.{file_system_info_bytes, file_system_info_size}
+use Rattle.uefi_records.specs.file.FileSystemInfo.{file_system_info_verdict, label_offset, unused_bytes, unused_length}
 use Rattle.uefi_records.specs.file.Verdict.{accepted}
 use Rattle.uefi_records.specs.file.Views.{file_system_fields_given}
 use Rattle.uefi_examples.proofs.NamedRecords.{IfSome_of_ok, is_named, is_read}
@@ -23,23 +25,28 @@ length-unused : (bytes : List ℕ) → 16 ≤ length bytes → length (unused_by
 length-unused bytes room = grind (arith, common_steps)
 
 -- A buffer that the record was written to is read back as that record.
-written_reads : FileSystemInfoReadsBack → (fields : FileSystemFields) (label old new : List ℕ) (end : ℕ) → FitFileSystem fields → FitName label
-    → length old < 2 ^ 64 → end ≡ record_end label_offset (length label) → file_system_info_size (length label) ≤ length old → length new ≡ length old
+written_reads : FileSystemInfoReadsBack → (fields : FileSystemFields) (label old new : List ℕ) (end : ℕ)
+    → FitFileSystem fields → FitName label
+    → length old < 2 ^ 64 → end ≡ record_end label_offset (length label)
+    → file_system_info_size (length label) ≤ length old → length new ≡ length old
     → new ≡ put_prefix (file_system_info_bytes fields (unused_bytes old) label) old → ReadsAs fields label end new
 written_reads law fields label old new end fit fit_label short covers room same written =
     let rest : List ℕ = drop (length (file_system_info_bytes fields (unused_bytes old) label)) old in
     let unused = length-unused old (omega (arith, room)) in
-    let seen = law fields (unused_bytes old) label rest end unused fit fit_label (omega (arith, short, room)) (omega (arith, covers))
+    let seen = law fields (unused_bytes old) label rest end unused fit fit_label (omega (arith, short, room))
+    (omega (arith, covers))
     (omega (arith, room, same, ap length written)) in
     subst (ReadsAs fields label end) (sym written) (record { verdict = seen.0; size = seen.1; same_fields = seen.2 })
 
 -- The buffer that was written to is read as what was passed.
 back : (c : goal.After-ok)
-    → ReadsAs (file_system_fields_given c.args.read_only c.args.volume_size c.args.free_space c.args.block_size) (text_units c.args.volume_label.now)
+    → ReadsAs (file_system_fields_given c.args.read_only c.args.volume_size c.args.free_space c.args.block_size)
+    (text_units c.args.volume_label.now)
     c.in-Ok.end c.write_file_system_info-written.new.buffer
 back c =
     let wrote = c.in-Ok.ensures in
-    written_reads c.reads_back.ensures.file_system_info _ _ _ _ _ wrote.fields_fit wrote.label_fits (omega arith) wrote.end
+    written_reads c.reads_back.ensures.file_system_info _ _ _ _ _ wrote.fields_fit wrote.label_fits
+    (omega arith) wrote.end
     (wrote.fits.0 refl) c.write_file_system_info-written.auto.buffer wrote.written
 
 pub returns-clause-fields : goal.returns-clause-fields
@@ -49,7 +56,8 @@ returns-clause-fields c =
 
 pub returns-clause-label : goal.returns-clause-label
 returns-clause-label c =
-    IfSome_of_ok _ c.from_uefi.result c.ok.result c.ok.ensures.value (is_named _ _ _ c.from_uefi.result c.from_uefi.ensures.verdict (back c).verdict)
+    IfSome_of_ok _ c.from_uefi.result c.ok.result c.ok.ensures.value
+    (is_named _ _ _ c.from_uefi.result c.from_uefi.ensures.verdict (back c).verdict)
 
 pub returns-clause-size : goal.returns-clause-size
 returns-clause-size c =
@@ -57,5 +65,8 @@ returns-clause-size c =
     (IfOk-weaker c.from_uefi.result _ _ (λ info same. same ∙ (back c).size) c.from_uefi.ensures.size)
 
 pub returns-clause-fits : goal.returns-clause-fits
-returns-clause-fits c =
-    (λ _. c.in-Ok.ensures.fits.0 refl, λ _. is_read _ _ _ c.from_uefi.result c.ok.result c.ok.ensures.value c.from_uefi.ensures.verdict (back c).verdict)
+returns-clause-fits c = (
+  λ _. c.in-Ok.ensures.fits.0 refl,
+  λ _. is_read _ _ _ c.from_uefi.result c.ok.result c.ok.ensures.value
+      c.from_uefi.ensures.verdict (back c).verdict,
+)

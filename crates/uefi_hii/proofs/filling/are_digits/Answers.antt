@@ -12,4 +12,4 @@ returns c =
     let letter = joined _ _ _ v (splatted _ v 16 32 long) (splat_is v 16 97 long) in
     none_wrong _ v _ c.is_empty.ensures long c.requires.bytes
     (joined bit_and _ _ v (joined (λ a b. cond (leb a b) 255 0) _ _ v (splat_is v 16 10 long) number)
-        (joined (λ a b. cond (leb a b) 255 0) _ _ v (splat_is v 16 6 long) letter)) refl
+    (joined (λ a b. cond (leb a b) 255 0) _ _ v (splat_is v 16 6 long) letter)) refl

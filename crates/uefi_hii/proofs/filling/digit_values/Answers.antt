@@ -11,4 +11,4 @@ returns c =
     let number = splatted _ v 16 48 long in
     let letter = joined _ _ _ v (splatted _ v 16 32 long) (splat_is v 16 87 long) in
     chosen _ _ _ v (joined _ _ _ v number (splat_is v 16 10 long)) number letter
-        ∙ values_agree _ refl v c.requires.bytes c.requires.digits
+    ∙ values_agree _ refl v c.requires.bytes c.requires.digits

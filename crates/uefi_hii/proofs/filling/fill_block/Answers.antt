@@ -27,10 +27,10 @@ returns-then-are_digits-2 c =
     let out = c.args.out.now in
     let items = hex (chunk (2 * start) 32 text) in
     let lanes = block_items (λ a b. (a + b) % 256) (λ a b. a * b % 256) (λ a b p q. omega arith)
-        (2 * start) text c.requires.text _ _ (sym c.are_digits.ensures ∙ c.if-are_digits.true)
+    (2 * start) text c.requires.text _ _ (sym c.are_digits.ensures ∙ c.if-are_digits.true)
     (sym c.are_digits-then-are_digits.ensures ∙ c.if-are_digits-2.true) c.digit_values.ensures
-        c.digit_values-then-are_digits-2.ensures in
+    c.digit_values-then-are_digits-2.ensures in
     let long = ap length lanes ∙ length-block start text c.requires.text in
     filled_more start 16 text out _ items c.requires.so_far
-        (take_more_put_chunk start out _ (start + 16) (omega (arith, long)) c.requires.room
-        ∙ ap (λ r. take start out ++ r) lanes) (hex-block start text c.requires.text)
+    (take_more_put_chunk start out _ (start + 16) (omega (arith, long)) c.requires.room
+    ∙ ap (λ r. take start out ++ r) lanes) (hex-block start text c.requires.text)

@@ -6,7 +6,7 @@ use Rattle.uefi_hii.proofs.finding.index_from.Goals as goal
 pub returns-then-bytes-index : goal.returns-then-bytes-index
 returns-then-bytes-index c =
     finds c.args.byte c.args.end c.loop-index.index c.args.bytes.now c.requires.within
-        (omega arith) c.loop-index.invariant
+    (omega arith) c.loop-index.invariant
     (eq-eqb _ _ c.if-bytes-index.true)
 
 pub returns : goal.returns

@@ -19,5 +19,5 @@ returns c =
     let mask = bitmask_splat w8 eqb block 16 c.args.byte long (omega arith) in
     let set : 0 < mask_l (map (λ x. eqb x c.args.byte) block) = omega arith in
     let first = ap (count_trailing_zeros 64) mask
-        ∙ trailing_mask_l (λ x. eqb x c.args.byte) 64 block (omega arith) set in
+    ∙ trailing_mask_l (λ x. eqb x c.args.byte) 64 block (omega arith) set in
     (first, subst (λ n. n < length block) (sym first) (some_lane_passes (λ x. eqb x c.args.byte) block set))

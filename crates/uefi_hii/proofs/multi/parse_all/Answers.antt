@@ -5,13 +5,17 @@ use Rattle.uefi_hii.proofs.Wholes.{HasCut, cut_all, cut_more, cut_none, cut_only
 use Rattle.uefi_hii.proofs.multi.parse_all.Goals as goal
 
 pub loop-result-init : goal.loop-result-init
-loop-result-init g c = cut_none (pairs c.args.text.now) _ c.new-all.result.items c.new-configurations.ensures.pairs c.new-all.ensures.items
+loop-result-init g c = cut_none (pairs c.args.text.now) _ c.new-all.result.items c.new-configurations.ensures.pairs
+    c.new-all.ensures.items
 
 pub loop-result-preserved : goal.loop-result-preserved
 loop-result-preserved g c =
-    let push : c.push.new.self.items ≡ c.loop-result.all.items ++ c.in-Some.result ∷ [] = cc (c.in_ok-push.ensures.items) in
+    let push : c.push.new.self.items ≡ c.loop-result.all.items ++ c.in-Some.result ∷ [] =
+    cc (c.in_ok-push.ensures.items) in
     subst (HasCut {A = g.row.A.Denot} (pairs c.args.text.now) (uncut_pairs c.next.new.self)) (sym push)
-    (cut_more (pairs c.args.text.now) (uncut_pairs c.loop-result.configurations) (uncut_pairs c.next.new.self) c.loop-result.all.items c.in-Some.result c.loop-result.invariant c.if-is_memory.ensures c.in-Some.ensures.steps.1)
+    (cut_more (pairs c.args.text.now) (uncut_pairs c.loop-result.configurations)
+    (uncut_pairs c.next.new.self) c.loop-result.all.items c.in-Some.result c.loop-result.invariant
+    c.if-is_memory.ensures c.in-Some.ensures.steps.1)
 
 pub returns-clause-cut : goal.returns-clause-cut
 returns-clause-cut g c =

@@ -28,7 +28,7 @@ returns-in-Some c =
     let text = c.args.text.now in
     let end = c.in-Some.end in
     let found = subst
-        (λ s. FindsFirst ampersand (take (length text) s) (Some end)) c.as_bytes.ensures.value c.in-Some.ensures in
+    (λ s. FindsFirst ampersand (take (length text) s) (Some end)) c.as_bytes.ensures.value c.in-Some.ensures in
     pairs_at text c.range_from.result.now end (subst (λ s. FindsFirst ampersand s (Some end)) (take-length text) found)
     c.range_from.ensures.value
     ∙ ap (λ pair. pair ∷ pairs c.range_from.result.now) (sym c.pair_before.ensures)

@@ -14,43 +14,43 @@ loop-configuration-init g c =
 pub returns-in_err-element : goal.returns-in_err-element
 returns-in_err-element g c =
     residual_fails g.row.A.Denot (peeked_pairs c.args.pairs.now)
-        (peeked_pairs c.read_element.new.pairs) c.from_residual-in_err-element.result c.in_err-element.field-0.0
-        (c.from_residual-in_err-element.ensures.1)
+    (peeked_pairs c.read_element.new.pairs) c.from_residual-in_err-element.result c.in_err-element.field-0.0
+    (c.from_residual-in_err-element.ensures.1)
     (element_fails g.row.A.Denot (peeked_pairs c.args.pairs.now) (peeked_pairs c.loop-configuration.pairs)
-        (peeked_pairs c.read_element.new.pairs)
-        (configuration_of c.loop-configuration.configuration) c.in_err-element.field-0.0 c.requires
-        c.loop-configuration.invariant c.in_err-element.ensures)
+    (peeked_pairs c.read_element.new.pairs)
+    (configuration_of c.loop-configuration.configuration) c.in_err-element.field-0.0 c.requires
+    c.loop-configuration.invariant c.in_err-element.ensures)
 
 pub returns-then-not-is_at : goal.returns-then-not-is_at
 returns-then-not-is_at g c =
     let push : c.push.new.self.items ≡ c.loop-configuration.configuration.elements.items
-        ++ c.in_ok-element.element ∷ [] =
+    ++ c.in_ok-element.element ∷ [] =
     c.push.ensures.items
-        ∙ ap (λ t. if t then c.loop-configuration.configuration.elements.items
-        ++ c.in_ok-element.element ∷ [] else c.loop-configuration.configuration.elements.items)
-        (c.is_err.ensures.negation ∙ ap not c.if-is_err.false) in
+    ∙ ap (λ t. if t then c.loop-configuration.configuration.elements.items
+    ++ c.in_ok-element.element ∷ [] else c.loop-configuration.configuration.elements.items)
+    (c.is_err.ensures.negation ∙ ap not c.if-is_err.false) in
     ends (peeked_pairs c.args.pairs.now) (peeked_pairs c.read_element.new.pairs)
-        (record c.loop-configuration.configuration { elements = c.push.new.self })
+    (record c.loop-configuration.configuration { elements = c.push.new.self })
     (after_element (peeked_pairs c.args.pairs.now) (peeked_pairs c.loop-configuration.pairs)
-        (peeked_pairs c.read_element.new.pairs) c.loop-configuration.configuration
-        (record c.loop-configuration.configuration { elements = c.push.new.self }) c.in_ok-element.element
+    (peeked_pairs c.read_element.new.pairs) c.loop-configuration.configuration
+    (record c.loop-configuration.configuration { elements = c.push.new.self }) c.in_ok-element.element
     c.loop-configuration.invariant c.in_ok-element.ensures
-        (configuration_push c.loop-configuration.configuration c.push.new.self.items c.in_ok-element.element push))
+    (configuration_push c.loop-configuration.configuration c.push.new.self.items c.in_ok-element.element push))
     (λ key. let h = c.is_at.ensures.1 key in let k = c.if-not-is_at.true in let x : true ≡ false = sym h ∙ k in cc)
 
 pub loop-configuration-preserved : goal.loop-configuration-preserved
 loop-configuration-preserved g c =
     let push : c.push.new.self.items ≡ c.loop-configuration.configuration.elements.items
-        ++ c.in_ok-element.element ∷ [] =
+    ++ c.in_ok-element.element ∷ [] =
     c.push.ensures.items
-        ∙ ap (λ t. if t then c.loop-configuration.configuration.elements.items
-        ++ c.in_ok-element.element ∷ [] else c.loop-configuration.configuration.elements.items)
-        (c.is_err.ensures.negation ∙ ap not c.if-is_err.false) in
+    ∙ ap (λ t. if t then c.loop-configuration.configuration.elements.items
+    ++ c.in_ok-element.element ∷ [] else c.loop-configuration.configuration.elements.items)
+    (c.is_err.ensures.negation ∙ ap not c.if-is_err.false) in
     goes_on (peeked_pairs c.args.pairs.now) (peeked_pairs c.read_element.new.pairs)
-        (configuration_of (record c.loop-configuration.configuration { elements = c.push.new.self }))
+    (configuration_of (record c.loop-configuration.configuration { elements = c.push.new.self }))
     (after_element (peeked_pairs c.args.pairs.now) (peeked_pairs c.loop-configuration.pairs)
-        (peeked_pairs c.read_element.new.pairs) c.loop-configuration.configuration
-        (record c.loop-configuration.configuration { elements = c.push.new.self }) c.in_ok-element.element
+    (peeked_pairs c.read_element.new.pairs) c.loop-configuration.configuration
+    (record c.loop-configuration.configuration { elements = c.push.new.self }) c.in_ok-element.element
     c.loop-configuration.invariant c.in_ok-element.ensures
-        (configuration_push c.loop-configuration.configuration c.push.new.self.items c.in_ok-element.element push))
+    (configuration_push c.loop-configuration.configuration c.push.new.self.items c.in_ok-element.element push))
     (c.is_at.ensures.0 c.if-not-is_at.false)

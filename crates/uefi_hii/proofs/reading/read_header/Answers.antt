@@ -11,15 +11,15 @@ returns-in_default u c =
 pub returns-in_default-2 : goal.returns-in_default-2
 returns-in_default-2 u c =
     name_fails (peeked_pairs c.args.pairs.now) (peeked_pairs c.take_guid.new.pairs)
-        (peeked_pairs c.take_name.new.pairs) c.in-Some.guid.0 c.requires c.in-Some.ensures
+    (peeked_pairs c.take_name.new.pairs) c.in-Some.guid.0 c.requires c.in-Some.ensures
     (rw c.in_default-2.is at c.in_ok-name.ensures)
 
 pub returns-in_default-3 : goal.returns-in_default-3
 returns-in_default-3 u c =
     path_fails (peeked_pairs c.args.pairs.now) (peeked_pairs c.take_guid.new.pairs) (peeked_pairs c.take_name.new.pairs)
-        (peeked_pairs c.take_path.new.pairs)
+    (peeked_pairs c.take_path.new.pairs)
     c.in-Some.guid.0 (string_bytes c.in-Some-2.name) c.requires c.in-Some.ensures
-        (rw c.in-Some-2.is at c.in_ok-name.ensures) (rw c.in_default-3.is at c.in_ok-device_path.ensures)
+    (rw c.in-Some-2.is at c.in_ok-name.ensures) (rw c.in_default-3.is at c.in_ok-device_path.ensures)
 
 pub returns-in_err-alt_cfg_id : goal.returns-in_err-alt_cfg_id
 returns-in_err-alt_cfg_id u c =
@@ -28,11 +28,11 @@ returns-in_err-alt_cfg_id u c =
     let after = peeked_pairs c.take_alt_cfg_id.new.pairs in
     let three =
     three_taken before (peeked_pairs c.take_guid.new.pairs) (peeked_pairs c.take_name.new.pairs) left c.in-Some.guid.0
-        (string_bytes c.in-Some-2.name) c.in-Some-3.device_path
+    (string_bytes c.in-Some-2.name) c.in-Some-3.device_path
     c.in-Some.ensures (rw c.in-Some-2.is at c.in_ok-name.ensures) (rw c.in-Some-3.is at c.in_ok-device_path.ensures) in
     let e = c.in_err-alt_cfg_id.field-0.0 in
     header_residual before after c.from_residual-in_err-alt_cfg_id.result e
-        (alt_kept left after e c.in_err-alt_cfg_id.ensures) c.from_residual-in_err-alt_cfg_id.ensures.1
+    (alt_kept left after e c.in_err-alt_cfg_id.ensures) c.from_residual-in_err-alt_cfg_id.ensures.1
     (alt_fails before left after _ _ _ e c.requires three c.in_err-alt_cfg_id.ensures)
 
 pub returns : goal.returns
@@ -41,9 +41,15 @@ returns u c =
     let left = peeked_pairs c.take_path.new.pairs in
     let three =
     three_taken before (peeked_pairs c.take_guid.new.pairs) (peeked_pairs c.take_name.new.pairs) left c.in-Some.guid.0
-        (string_bytes c.in-Some-2.name) c.in-Some-3.device_path
+    (string_bytes c.in-Some-2.name) c.in-Some-3.device_path
     c.in-Some.ensures (rw c.in-Some-2.is at c.in_ok-name.ensures) (rw c.in-Some-3.is at c.in_ok-device_path.ensures) in
     takes_header before left (peeked_pairs c.take_alt_cfg_id.new.pairs)
-    (record { guid = c.in-Some.guid; name = c.in-Some-2.name; device_path = c.in-Some-3.device_path; alt_cfg_id =
-        c.in_ok-alt_cfg_id.alt_cfg_id; elements = c.new.result })
+    (record {
+      guid = c.in-Some.guid;
+      name = c.in-Some-2.name;
+      device_path = c.in-Some-3.device_path;
+      alt_cfg_id =
+          c.in_ok-alt_cfg_id.alt_cfg_id;
+      elements = c.new.result;
+    })
     three c.in_ok-alt_cfg_id.ensures c.new.ensures.items

@@ -8,7 +8,7 @@ use Rattle.uefi_hii.proofs.taking.take_nvconfig.Given as goal
 abbrev pub invariant-loop-key : goal.invariant-loop-key
 invariant-loop-key g l =
     (peeked_pairs l.fn.pairs ≡ map nv_pair_of l.nvconfig.items ++ peeked_pairs l.pairs)
-        × AllByRecursion IsSkipped (map nv_pair_of l.nvconfig.items)
+    × AllByRecursion IsSkipped (map nv_pair_of l.nvconfig.items)
 
 abbrev pub decreases-loop-key : goal.decreases-loop-key
 decreases-loop-key g l = length (peeked_pairs l.pairs)

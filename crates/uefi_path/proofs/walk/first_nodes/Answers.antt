@@ -21,8 +21,11 @@ loop-stop-preserved c =
     let rest = c.loop-stop.rest.now in
     let after = c.first_node.result.1.now in
     let node = node_of c.first_node.result.0 in
-    let goes_on = λ (so : Stops c.args.stop (node_of c.first_node.result.0)). let stopped : false ≡ true = c.if-stops_at.ensures.1 so in absurd (cc) in
+    let goes_on = λ (so : Stops c.args.stop (node_of c.first_node.result.0)). let stopped : false ≡ true =
+    c.if-stops_at.ensures.1 so in absurd (cc) in
     record {
-      passed = passed_more P c.args.bytes.now rest after node c.loop-stop.invariant.passed c.first_node.ensures.fits goes_on c.first_node.ensures.split;
-      left = HasNodes-after P rest after node c.loop-stop.invariant.left c.first_node.ensures.fits goes_on c.first_node.ensures.split;
+      passed = passed_more P c.args.bytes.now rest after node c.loop-stop.invariant.passed c.first_node.ensures.fits
+          goes_on c.first_node.ensures.split;
+      left = HasNodes-after P rest after node c.loop-stop.invariant.left c.first_node.ensures.fits goes_on
+          c.first_node.ensures.split;
     }

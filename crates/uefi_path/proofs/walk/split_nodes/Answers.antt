@@ -8,7 +8,8 @@ use Rattle.uefi_path.proofs.walk.split_nodes.Goals as goal
 pub returns-in_err-node-clause-none : goal.returns-in_err-node-clause-none
 returns-in_err-node-clause-none c =
     MatchResult-from_err c.from_residual.result (λ _. Unit {0}) _ c.from_residual.ensures.0
-    (λ _. passed_nowhere (Stops c.args.stop) c.args.bytes.now c.loop-node.rest.now c.loop-node.invariant c.in_err-node.ensures.none)
+    (λ _. passed_nowhere (Stops c.args.stop) c.args.bytes.now c.loop-node.rest.now c.loop-node.invariant
+    c.in_err-node.ensures.none)
 
 pub returns-then-stops_at-clause-nodes : goal.returns-then-stops_at-clause-nodes
 returns-then-stops_at-clause-nodes c =

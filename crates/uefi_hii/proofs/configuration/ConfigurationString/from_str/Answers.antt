@@ -12,7 +12,7 @@ returns-then-is_empty g c =
 pub returns : goal.returns
 returns g c =
     let first = is_first c.args.text.now (peeked_pairs c.read_group.new.pairs) c.read_group.result
-        (λ e. c.if-is_empty.ensures (c.new-pairs.ensures.pairs ∙ e))
+    (λ e. c.if-is_empty.ensures (c.new-pairs.ensures.pairs ∙ e))
     (subst (λ s. TakesGroup s c.read_group.result (peeked_pairs c.read_group.new.pairs)) c.new-pairs.ensures.pairs
-        c.read_group.ensures) in
+    c.read_group.ensures) in
     record { cut = of_the_cut c.args.text.now c.read_group.result first; only = first }

@@ -14,9 +14,9 @@ returns-in_default-next g c =
     let v = c.args.text.now in
     let so_far = string_bytes c.loop-high.name in
     let left = c.in-Some.ensures.steps
-        ∙ ap (λ s. c.in-Some.high.now ∷ s) (nil_from_length _ c.in_default-next.ensures.steps.0) in
+    ∙ ap (λ s. c.in-Some.high.now ∷ s) (nil_from_length _ c.in_default-next.ensures.steps.0) in
     let is = named_odd v so_far c.in-Some.high.now (equals _ 0 c.if-text-ne0.false)
-        (subst (λ s. HasNamed (hex v) s so_far) left c.loop-high.invariant) in
+    (subst (λ s. HasNamed (hex v) s so_far) left c.loop-high.invariant) in
     elim c.if-high-eq0.branch [
       | then-high-eq0 w ↦ ap (option_map string_bytes) w.result-is
           ∙ sym (is ∙ ap (λ t. if t then Some so_far else None) (equals c.in-Some.high.now 0 w.if-high-eq0.true))
@@ -30,11 +30,11 @@ returns-in_default-character_of g c =
     let so_far = string_bytes c.loop-high.name in
     let left = c.in-Some.ensures.steps ∙ ap (λ s. c.in-Some.high.now ∷ s) c.in-Some-next.ensures.steps in
     sym (named_bad v _ so_far c.in-Some.high.now c.in-Some-next.low.now
-        (subst (λ s. HasNamed (hex v) s so_far) left c.loop-high.invariant) c.in_default-character_of.ensures)
+    (subst (λ s. HasNamed (hex v) s so_far) left c.loop-high.invariant) c.in_default-character_of.ensures)
 
 pub returns : goal.returns
 returns g c =
     let v = c.args.text.now in
     let so_far = string_bytes c.loop-high.name in
     sym (named_all v so_far (equals _ 0 c.if-text-ne0.false)
-        (subst (λ s. HasNamed (hex v) s so_far) (nil_from_length _ c.in_default.ensures.steps.0) c.loop-high.invariant))
+    (subst (λ s. HasNamed (hex v) s so_far) (nil_from_length _ c.in_default.ensures.steps.0) c.loop-high.invariant))

@@ -13,26 +13,34 @@ loop-byte-init c =
 pub overflow_mul-number : goal.overflow_mul-number
 overflow_mul-number c =
     let r = subst (λ s. HasRead (hex c.args.text.now) s c.loop-byte.number) c.in-Some.ensures.steps
-        c.loop-byte.invariant in
+    c.loop-byte.invariant in
     let b = first_small c.loop-byte.bytes.rest.now _ c.in-Some.byte c.in-Some.ensures.steps in
     let size : is_number_length (length (hex c.args.text.now)) ≡ true =
-        cc (c.len.ensures.value, c.new-bytes.ensures.bytes, c.is_length_of_number.ensures,
-        c.if-not-is_length_of_number.false) in
+    cc (
+      c.len.ensures.value,
+      c.new-bytes.ensures.bytes,
+      c.is_length_of_number.ensures,
+      c.if-not-is_length_of_number.false,
+    ) in
     omega (arith, read_fits (hex c.args.text.now) _ c.loop-byte.number c.in-Some.byte r b (at_most_eight _ size))
 
 pub overflow_add-number : goal.overflow_add-number
 overflow_add-number c =
     let r = subst (λ s. HasRead (hex c.args.text.now) s c.loop-byte.number) c.in-Some.ensures.steps
-        c.loop-byte.invariant in
+    c.loop-byte.invariant in
     let b = first_small c.loop-byte.bytes.rest.now _ c.in-Some.byte c.in-Some.ensures.steps in
     let size : is_number_length (length (hex c.args.text.now)) ≡ true =
-        cc (c.len.ensures.value, c.new-bytes.ensures.bytes, c.is_length_of_number.ensures,
-        c.if-not-is_length_of_number.false) in
+    cc (
+      c.len.ensures.value,
+      c.new-bytes.ensures.bytes,
+      c.is_length_of_number.ensures,
+      c.if-not-is_length_of_number.false,
+    ) in
     omega (arith, read_fits (hex c.args.text.now) _ c.loop-byte.number c.in-Some.byte r b (at_most_eight _ size))
 
 pub loop-byte-preserved : goal.loop-byte-preserved
 loop-byte-preserved c =
     let r = subst (λ s. HasRead (hex c.args.text.now) s c.loop-byte.number) c.in-Some.ensures.steps
-        c.loop-byte.invariant in
+    c.loop-byte.invariant in
     let b = first_small c.loop-byte.bytes.rest.now _ c.in-Some.byte c.in-Some.ensures.steps in
     read_more (hex c.args.text.now) (bytes_left c.next.new.self) c.loop-byte.number c.in-Some.byte r b

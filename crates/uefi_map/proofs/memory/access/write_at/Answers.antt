@@ -10,5 +10,6 @@ returns-clause-written c = grind (arith, common_steps)
 pub returns-clause-read_back : goal.returns-clause-read_back
 returns-clause-read_back c =
     let meta = c.args.meta.now in
-    let one = writes_one c.args.bytes.now meta c.args.i c.args.entry.now c.requires.map c.requires.within c.write.ensures.fits in
+    let one = writes_one c.args.bytes.now meta c.args.i c.args.entry.now c.requires.map c.requires.within
+    c.write.ensures.fits in
     ap (λ bytes. descriptor bytes meta.desc_size c.args.i) (returns-clause-written c) ∙ one.set

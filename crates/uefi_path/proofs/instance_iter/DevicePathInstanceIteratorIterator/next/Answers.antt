@@ -17,15 +17,18 @@ first_nodes-requires c =
 pub new-requires : goal.new-requires
 new-requires c =
     let iter = c.args.self.now in
-    after_instance iter.rest.now c.first_nodes.result.0.now c.first_nodes.result.1.now iter.instances.0 iter.instances.1 c.first_nodes.ensures.nodes c.first_nodes.ensures.split
+    after_instance iter.rest.now c.first_nodes.result.0.now c.first_nodes.result.1.now iter.instances.0
+    iter.instances.1 c.first_nodes.ensures.nodes c.first_nodes.ensures.split
 
 pub returns-clause-steps : goal.returns-clause-steps
 returns-clause-steps c =
     let iter = c.args.self.now in
     next_instance iter.rest.now c.first_nodes.result.0.now c.first_nodes.result.1.now
-    (instance_nodes c.new_unchecked.result) iter.instances.0 c.new.result.instances.0 iter.instances.1 c.new_unchecked.ensures c.first_nodes.ensures.split c.new.ensures.instances
+    (instance_nodes c.new_unchecked.result) iter.instances.0 c.new.result.instances.0 iter.instances.1
+    c.new_unchecked.ensures c.first_nodes.ensures.split c.new.ensures.instances
 
 pub returns-clause-goes : goal.returns-clause-goes
 returns-clause-goes c =
-    let fewer : length (instances_left c.new.result) < length (instances_left c.args.self.now) = omega (arith, ap length (returns-clause-steps c)) in
+    let fewer : length (instances_left c.new.result) < length (instances_left c.args.self.now) =
+    omega (arith, ap length (returns-clause-steps c)) in
     search rules

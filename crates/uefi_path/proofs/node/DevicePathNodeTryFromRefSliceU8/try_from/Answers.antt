@@ -14,4 +14,5 @@ new_unchecked-requires c =
     let prefix : IsPrefix (header_bytes (header h.device_type h.sub_type n)) bytes =
     subst (λ m. IsPrefix (header_bytes (header h.device_type h.sub_type m)) bytes) stated c.in_ok-header.ensures.ok in
     rw c.split_at.ensures.front
-    (node_prefix bytes h.device_type h.sub_type n (λ i. omega (arith, c.type_inv.bytes i)) prefix (omega arith) (omega arith) (omega arith))
+    (node_prefix bytes h.device_type h.sub_type n (λ i. omega (arith, c.type_inv.bytes i)) prefix (omega arith)
+    (omega arith) (omega arith))

@@ -7,7 +7,8 @@ use Rattle.uefi_path.proofs.node_iter.DevicePathNodeIteratorIterator.next.Goals 
 pub first_node-requires : goal.first_node-requires
 first_node-requires c =
     let iter = c.args.self.now in
-    HasNodes-node (Stops iter.stop) iter.rest.now (HasNodes-encoded (Stops iter.stop) iter.rest.now iter.nodes.0 iter.nodes.1)
+    HasNodes-node (Stops iter.stop) iter.rest.now
+    (HasNodes-encoded (Stops iter.stop) iter.rest.now iter.nodes.0 iter.nodes.1)
 
 pub returns-then-stops_at-clause-steps : goal.returns-then-stops_at-clause-steps
 returns-then-stops_at-clause-steps c =
@@ -21,7 +22,8 @@ returns-then-stops_at-clause-steps c =
 pub new-requires : goal.new-requires
 new-requires c =
     let iter = c.args.self.now in
-    after_node (Stops iter.stop) iter.rest.now c.first_node.result.1.now (node_of c.first_node.result.0) iter.nodes.0 iter.nodes.1 c.first_node.ensures.fits
+    after_node (Stops iter.stop) iter.rest.now c.first_node.result.1.now
+    (node_of c.first_node.result.0) iter.nodes.0 iter.nodes.1 c.first_node.ensures.fits
     (λ so. let stopped : false ≡ true = c.if-stops_at.ensures.1 so in cc) c.first_node.ensures.split
 
 pub returns-clause-steps : goal.returns-clause-steps
@@ -33,5 +35,6 @@ returns-clause-steps c =
 
 pub returns-clause-goes : goal.returns-clause-goes
 returns-clause-goes c =
-    let first : nodes_left c.args.self.now ≡ node_of c.first_node.result.0 ∷ nodes_left c.new.result = returns-clause-steps c in
+    let first : nodes_left c.args.self.now ≡ node_of c.first_node.result.0 ∷ nodes_left c.new.result =
+    returns-clause-steps c in
     search rules

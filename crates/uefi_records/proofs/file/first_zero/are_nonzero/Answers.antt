@@ -12,4 +12,5 @@ loop-index-preserved c =
     )
 
 pub returns : goal.returns
-returns c is = whole_pages (units_of c.args.pages.now) (λ page within k below. c.loop-index.invariant.1 page within k (omega arith))
+returns c is = whole_pages (units_of c.args.pages.now)
+    (λ page within k below. c.loop-index.invariant.1 page within k (omega arith))

@@ -7,4 +7,5 @@ use Rattle.uefi_records.proofs.file.first_zero.are_nonzero_in_each.Goals as goal
 pub loop-page-preserved : goal.loop-page-preserved
 loop-page-preserved c =
     one_page_more (units_of c.args.pages.now) c.loop-page.page c.args.index 16 c.loop-page.invariant
-    (block_nonzero c.args.pages.now (page_units * c.loop-page.page + c.args.index) c.nonzero_run.result c.nonzero_run.ensures (omega arith))
+    (block_nonzero c.args.pages.now (page_units * c.loop-page.page + c.args.index) c.nonzero_run.result
+    c.nonzero_run.ensures (omega arith))

@@ -9,7 +9,8 @@ use Rattle.uefi_records.proofs.file.first_zero.first_zero_unit.Given as goal
 abbrev pub invariant-loop-index : goal.invariant-loop-index
 invariant-loop-index l =
     (unit_length * l.index ≤ length l.bytes)
-    × (first_zero (units_of l.bytes) ≡ position_from (λ unit. unit == 0) l.index (units_of (drop (unit_length * l.index) l.bytes)))
+    × (first_zero (units_of l.bytes) ≡ position_from (λ unit. unit == 0) l.index
+    (units_of (drop (unit_length * l.index) l.bytes)))
 
 abbrev pub decreases-loop-index : goal.decreases-loop-index
 decreases-loop-index l = length l.bytes - l.index

@@ -11,5 +11,6 @@ loop-index-preserved c =
     let units = pages * page_units in
     let block : c.split_at-in-loop-index.result.0.now ≡ chunk (2 * c.loop-index.index) (2 * units) c.args.bytes.now =
     c.split_at-in-loop-index.ensures.front ∙ ap (take (2 * units)) c.split_at.ensures.back in
-    let nonzero = subst (λ bytes. AreNonzero 0 units (units_of bytes)) block (c.are_nonzero.ensures c.if-not-are_nonzero.false) in
+    let nonzero = subst (λ bytes. AreNonzero 0 units (units_of bytes)) block
+    (c.are_nonzero.ensures c.if-not-are_nonzero.false) in
     (omega arith, before.1 ∙ passes_nonzero c.args.bytes.now c.loop-index.index units (omega arith) nonzero)

@@ -12,7 +12,8 @@ returns-clause-written c =
     let same = c.as_u16_with_nul-name.ensures.units in
     let size = c.in_ok-end.ensures.size ∙ ap (λ (units : List ℕ). file_info_size (length units)) same in
     let room : file_name_offset ≤ length c.args.buffer.now = omega (arith, c.in_ok-end.ensures.fits.0 refl) in
-    let put1 = then_put (none_put file_name_offset c.args.buffer.now room) 8 refl refl (c.to_le_bytes.ensures ∙ ap u64_bytes size) c.put.ensures in
+    let put1 = then_put (none_put file_name_offset c.args.buffer.now room) 8 refl refl
+    (c.to_le_bytes.ensures ∙ ap u64_bytes size) c.put.ensures in
     let put2 = then_put put1 8 refl refl c.to_le_bytes-2.ensures c.put-2.ensures in
     let put3 = then_put put2 8 refl refl c.to_le_bytes-3.ensures c.put-3.ensures in
     let put4 = then_put put3 16 refl refl c.to_bytes.ensures.bytes c.put-4.ensures in

@@ -1,8 +1,21 @@
 -- The buffer is lent to the writer, comes back, and is then shared with the view until its loan ends.
-use Rattle.uefi_records.proofs.file.WriterNames.{◌≡◌, refl, ℕ, List, [], ◌∷◌, full_share, ftrue, flft, id⊢, named, tables, ‵, ◌⊛◌, ◌$◌, ◌∵◌, !, qed, done, keep, fsplit, suffices, whole, sub, agg, enter, addr, from, fld, hop, stop, and_then, no_more, returns, alloc_all, pass_all, free_all, look_at, look_in_at, get, get_in, sets, lands_as, length, u8, usize, no, owns, plain, mut_slice_of, named_lft, mut_slice_vals, mut_slice_Tells, lasts, triple_of, framed, Stays, walk_of, stay_dropped, Goes-spent_slice, ends_at, MatchResult, Result_row, Result_laws, proved, Fml, types_at, valss, all_Typed, mut_slice_Lawful, put_prefix, Error_row, Error_laws, lends_to, shares_with, typed, finishes, opens, Arg, slots, stays, spelled, told, all_go, lawfuls, Nothings, nothings, Written_laws, WroteRecord, MadeRecord, record_seen_in, record_made_of, number64, text16}
+use Rattle.uefi_records.proofs.file.WriterNames.{◌≡◌, refl, ℕ, List, [], ◌∷◌, full_share, ftrue, flft, id⊢, named}
+use Rattle.uefi_records.proofs.file.WriterNames.{tables, ‵, ◌⊛◌, ◌$◌, ◌∵◌, !, qed, done, keep, fsplit, suffices, whole}
+use Rattle.uefi_records.proofs.file.WriterNames.{sub, agg, enter, addr, from, fld, hop, stop, and_then, no_more}
+use Rattle.uefi_records.proofs.file.WriterNames.{returns, alloc_all, pass_all, free_all, look_at, look_in_at, get}
+use Rattle.uefi_records.proofs.file.WriterNames.{get_in, sets, lands_as, length, u8, usize, no, owns, plain}
+use Rattle.uefi_records.proofs.file.WriterNames.{mut_slice_of, named_lft, mut_slice_vals, mut_slice_Tells, lasts}
+use Rattle.uefi_records.proofs.file.WriterNames.{triple_of, framed, Stays, walk_of, stay_dropped, Goes-spent_slice}
+use Rattle.uefi_records.proofs.file.WriterNames.{ends_at, MatchResult, Result_row, Result_laws, proved, Fml, types_at}
+use Rattle.uefi_records.proofs.file.WriterNames.{valss, all_Typed, mut_slice_Lawful, put_prefix, Error_row, Error_laws}
+use Rattle.uefi_records.proofs.file.WriterNames.{lends_to, shares_with, typed, finishes, opens, Arg, slots, stays}
+use Rattle.uefi_records.proofs.file.WriterNames.{spelled, told, all_go, lawfuls, Nothings, nothings, Written_laws}
+use Rattle.uefi_records.proofs.file.WriterNames.{WroteRecord, MadeRecord, record_seen_in, record_made_of, number64}
+use Rattle.uefi_records.proofs.file.WriterNames.{text16}
 use Rattle.uefi_base.proofs.Written.{and_also}
 use Rattle.uefi_records.specs.file.Name.{FitName}
-use Rattle.uefi_records.specs.file.FileInfo.{FileFields, FitFile, file_header, file_info_alignment, file_info_bytes, file_info_size, file_name_offset}
+use Rattle.uefi_records.specs.file.FileInfo.{FileFields, FitFile, file_header, file_info_alignment, file_info_bytes}
+use Rattle.uefi_records.specs.file.FileInfo.{file_info_size, file_name_offset}
 use Rattle.uefi_records.specs.file.Views.{file_fields_given, file_info_view}
 use Rattle.uefi_records.proofs.file.FieldsBack.{length-file_header}
 use Rattle.uefi_records.proofs.file.FileInfoArgs.{time, attributes}
@@ -28,7 +41,8 @@ new_spec 𝓤 𝓛 𝓜 𝓡 wired =
     let c = f.clauses 𝓛 𝓜.mem 𝓡.returns in let 𝓣 = framed 𝓤 𝓛.H 𝓜 (tables 𝓤 𝓛.H 𝓜 𝓡 𝓡.env) in let G =
     triple_of 𝓛 g.signature (g.spec 𝓛 𝓜.mem 𝓡.returns) in let K =
     triple_of 𝓛 h.signature (h.spec 𝓛 𝓜.mem 𝓡.returns) in
-    proved 𝓛 f.ended stayed c 𝓜 𝓡 (Goes-spent_slice 𝓛 3 (0 ∷ []) tt (plain (λ _. u8)), all_go 𝓛 args) f.Key.name code.function (code.unfolded 𝓤 𝓛.H 𝓜 𝓡 wired)
+    proved 𝓛 f.ended stayed c 𝓜 𝓡 (Goes-spent_slice 𝓛 3 (0 ∷ []) tt (plain (λ _. u8)), all_go 𝓛 args) f.Key.name
+    code.function (code.unfolded 𝓤 𝓛.H 𝓜 𝓡 wired)
     (λ κs. (mut_slice_vals, spelled args κs)) (λ κs. (mut_slice_Tells (named 0) κs.0 u8, told args κs))
     (λ κs qs bounds a _ are. let r = a.0 in let κ = κs.0 in let q = qs.0 in
     let Ts = types_at (slots args) κs in let y : (walk_of 𝓛 f.ended stayed c).Ghost =
@@ -74,7 +88,16 @@ new_spec 𝓤 𝓛 𝓜 𝓡 wired =
     sets ! (addr ! (from ! (fld ! refl (hop ! (look_in_at ! 1 (sub ! 0 refl (whole !))) (stop !))))) refl (tt, tt) $
     sets ! (agg ! (and_then ! (get ! refl) (and_then ! (get_in ! (fld ! refl (stop !)) (sub ! 1 refl (whole !)))
     (no_more !)))) refl (tt, (tt, (record { fits = are.0.0.1.0 }, tt))) $
-    let zh : K.Ghost = (((κ, tt), (q, tt), tt, (record { ref_ptr = r.ref_ptr; now = ys }, (w, tt)), (vss.0, (v ∷ [], tt))), tt) in
+    let zh : K.Ghost = (
+      (
+        (κ, tt),
+        (q, tt),
+        tt,
+        (record { ref_ptr = r.ref_ptr; now = ys }, (w, tt)),
+        (vss.0, (v ∷ [], tt)),
+      ),
+      tt,
+    ) in
     shares_with 𝓛 κ q r 𝓣 ys tokens (‵ (Rw.own_val w (v ∷ []))) _
     (record_seen_in file_name_offset file_info_alignment header name r.now (FitFile fields)
     (λ _. length-file_header (file_info_size (length name)) fields) ys w wrote) Re

@@ -13,5 +13,6 @@ returns-then-eq c =
 
 pub returns-else-eq : goal.returns-else-eq
 returns-else-eq c =
-    c.if-eq.false ∙ equal_if c.args.self.now c.args.other.now false (pointwise nat_eq (file_name_of c.args.self.now) (file_name_of c.args.other.now))
+    c.if-eq.false ∙ equal_if c.args.self.now c.args.other.now false
+    (pointwise nat_eq (file_name_of c.args.self.now) (file_name_of c.args.other.now))
     (sym c.if-eq.false ∙ c.eq.ensures ∙ (λ i. pointwise nat_eq (c.header.ensures i) (c.header-2.ensures i))) refl
