@@ -1,0 +1,18 @@
+//! Callers of the exported functions: what the loops of a C program over them find.
+//!
+//! Each loop calls its function from the start until it returns false. What it finds is proved to be
+//! the list that the library's iterator gives.
+
+mod digests;
+mod instances;
+mod log1;
+mod log2;
+mod map;
+mod nodes;
+
+pub use self::digests::digests_by_steps;
+pub use self::instances::instances_by_steps;
+pub use self::log1::log1_by_steps;
+pub use self::log2::{log2_after_event_by_steps, log2_by_steps};
+pub use self::map::entries_by_steps;
+pub use self::nodes::nodes_by_steps;

@@ -1,0 +1,91 @@
+ghost use Rattle.std.specs.Prelude.{◌≡◌, ◌≤◌, ◌<◌, ◌^◌, List, Option, length, IfOk, map};
+ghost use Rattle.uefi_tcg.specs.v2.Event.{Event};
+ghost use Rattle.uefi_tcg.specs.v2.Header.{HeaderEvent, after_header, after_event};
+ghost use Rattle.uefi_tcg.specs.v2.Log.{IsLog, IsLongestFrom};
+ghost use Rattle.uefi_tcg.specs.v2.OneEvent.{parts_of};
+ghost use Rattle.uefi_tcg.specs.v2.Spelling.{spelled};
+ghost use Rattle.uefi_c.specs.Log2.{parts_seen};
+
+use crate::log2::{UefiEvent2, UefiLogHeader, uefi_log2_header, uefi_log2_next};
+use std::alloc::{AllocError, Allocator};
+use uefi_tcg::v2::DigestTable;
+
+/// Collects the events of a version 2 log, by a loop: the log, as the library's `iter` gives it.
+pub fn log2_by_steps<'a, A: Allocator>(
+    alloc: A,
+    log: &'a [u8],
+    last_entry: usize,
+) -> Result<Vec<UefiEvent2<'a>, A>, AllocError>
+    ensures { IfOk result (λ views. (found : Option HeaderEvent) × (events : List Event)
+        × IsLog after_header log.now last_entry found events
+        × (map parts_seen views.items ≡ map parts_of events)) }
+{
+    let mut header = no_header();
+    if !uefi_log2_header(log, last_entry, &mut header) {
+        return Ok(Vec::new(alloc));
+    }
+    events_from(alloc, log, last_entry, &header.table, header.events_start)
+}
+
+/// Collects those after the header event, by a loop, as the library's `iter_after_header_event` gives
+/// them.
+pub fn log2_after_event_by_steps<'a, A: Allocator>(
+    alloc: A,
+    log: &'a [u8],
+    last_entry: usize,
+) -> Result<Vec<UefiEvent2<'a>, A>, AllocError>
+    ensures { IfOk result (λ views. (found : Option HeaderEvent) × (events : List Event)
+        × IsLog after_event log.now last_entry found events
+        × (map parts_seen views.items ≡ map parts_of events)) }
+{
+    let mut header = no_header();
+    if !uefi_log2_header(log, last_entry, &mut header) {
+        return Ok(Vec::new(alloc));
+    }
+    events_from(alloc, log, last_entry, &header.table, header.event_end)
+}
+
+// Collects the events under the table from the start on.
+fn events_from<'a, A: Allocator>(
+    alloc: A,
+    log: &'a [u8],
+    last_entry: usize,
+    table: &DigestTable<'_>,
+    start: usize,
+) -> Result<Vec<UefiEvent2<'a>, A>, AllocError>
+    requires start { start ≤ length log.now }
+    requires few { length (spelled table.now) < 2 ^ 32 }
+    ensures { IfOk result (λ views. (events : List Event)
+        × IsLongestFrom (spelled table.now) start log.now last_entry events
+        × (map parts_seen views.items ≡ map parts_of events)) }
+{
+    let mut views = Vec::new(alloc);
+    let mut offset = start;
+    let mut event = UefiEvent2 {
+        digests: &[],
+        event_data: &[],
+        digest_count: 0,
+        pcr_index: 0,
+        event_type: 0,
+    };
+    while uefi_log2_next(log, last_entry, table, &mut offset, &mut event) {
+        views.push(event)?;
+    }
+    Ok(views)
+}
+
+// Returns a header whose fields are zero and empty.
+fn no_header<'a>() -> UefiLogHeader<'a> {
+    UefiLogHeader {
+        table: DigestTable::from_rows(&[]),
+        rows: &[],
+        vendor: &[],
+        events_start: 0,
+        event_end: 0,
+        platform_class: 0,
+        major: 0,
+        minor: 0,
+        errata: 0,
+        uintn_size: 0,
+    }
+}

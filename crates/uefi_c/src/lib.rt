@@ -1,0 +1,15 @@
+//! The readers of UEFI's record formats, as functions for C (`c/uefi.h`).
+//!
+//! A function takes bytes by a pointer and a length, and most a cursor besides: an offset that the
+//! caller keeps. It reads at the cursor and moves it. Whatever the cursor holds, the contract says
+//! what the function returns, by the definitions of the libraries; where it returns false, all that
+//! it could have written is as it was. No function keeps anything, allocates, or fails to return.
+//!
+//! [`callers`] has a proved loop over the calls for each list that a library's iterator gives.
+#![tactic(auto)]
+
+pub mod callers;
+mod log1;
+mod log2;
+mod map;
+mod path;

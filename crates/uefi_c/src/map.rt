@@ -1,0 +1,85 @@
+ghost use Rattle.std.specs.Prelude.{◌≡◌, ◌<◌, ◌↔◌, length, Some, IsTrue, IsFalse};
+ghost use Rattle.uefi_map.specs.memory.Map.{IsMap, AreSorted, count_of, entry_of};
+ghost use Rattle.uefi_c.specs.Map.{sizes_of, descriptor_of};
+
+use uefi_map::{MemoryDescriptor, MemoryMap, MemoryMapKey, MemoryMapMeta, MemoryMapRef};
+
+/// A descriptor of a memory map.
+#[derive(Clone, Copy)]
+#[repr(C)]
+pub struct UefiDescriptor {
+    /// What the memory is used for.
+    pub ty: u32,
+    /// The four bytes after the type, without meaning.
+    pub padding: u32,
+    /// The first physical address.
+    pub phys_start: u64,
+    /// The first virtual address.
+    pub virt_start: u64,
+    /// The count of pages, of 4096 bytes each.
+    pub page_count: u64,
+    /// What the memory can do, and what it is used for at run time.
+    pub att: u64,
+}
+
+/// Returns whether all the bytes are a map with this stride.
+#[unsafe(no_mangle)]
+pub extern "C" fn uefi_map_check(map: &[u8], stride: usize) -> bool
+    ensures { IsTrue result ↔ IsMap (length map.now) (sizes_of (length map.now) stride) }
+{
+    sizes_of(map.len(), stride).is_map_within(map.len())
+}
+
+/// Reads the descriptor at an index of the map that all the bytes are.
+#[unsafe(no_mangle)]
+pub extern "C" fn uefi_map_entry(
+    map: &[u8],
+    stride: usize,
+    index: usize,
+    out: &mut UefiDescriptor,
+) -> bool
+    ensures found { let sizes = sizes_of (length map.now) stride in
+        IsTrue result ↔ (IsMap (length map.now) sizes × (index < count_of sizes)) }
+    ensures entry { let sizes = sizes_of (length map.now) stride in
+        IsTrue result → entry_of map.now sizes index ≡ Some (descriptor_of out.new) }
+    ensures unchanged { IsFalse result → out.new ≡ out.old }
+{
+    let Ok(map) = MemoryMapRef::new(map, sizes_of(map.len(), stride)) else {
+        return false;
+    };
+    let Some(entry) = map.get(index) else {
+        return false;
+    };
+    out.ty = entry.ty.0;
+    out.padding = entry.padding;
+    out.phys_start = entry.phys_start;
+    out.virt_start = entry.virt_start;
+    out.page_count = entry.page_count;
+    out.att = entry.att.bits();
+    true
+}
+
+/// Returns whether all the bytes are a map with this stride, and no descriptor begins at a lower
+/// physical address than the one before it.
+#[unsafe(no_mangle)]
+pub extern "C" fn uefi_map_is_sorted(map: &[u8], stride: usize) -> bool
+    ensures { let sizes = sizes_of (length map.now) stride in
+        IsTrue result ↔ (IsMap (length map.now) sizes × AreSorted map.now sizes) }
+{
+    match MemoryMapRef::new(map, sizes_of(map.len(), stride)) {
+        Ok(map) => map.is_sorted(),
+        Err(_) => false,
+    }
+}
+
+// Returns what is known of a map that is all the bytes.
+fn sizes_of(map_size: usize, desc_size: usize) -> MemoryMapMeta
+    ensures { result ≡ sizes_of map_size desc_size }
+{
+    MemoryMapMeta {
+        map_size,
+        desc_size,
+        map_key: MemoryMapKey::from_raw(0),
+        desc_version: MemoryDescriptor::VERSION,
+    }
+}
