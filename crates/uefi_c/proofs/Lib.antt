@@ -4,3 +4,6 @@ pub mod Log1Steps
 pub mod Log2Steps
 pub mod PathSteps
 pub mod MapSteps
+pub mod PciRecords
+pub mod Bytes
+pub mod PairSteps

@@ -3,3 +3,7 @@ pub mod Path
 pub mod Map
 pub mod Log1
 pub mod Log2
+pub mod Pci
+pub mod Time
+pub mod Write
+pub mod Config

@@ -9,6 +9,7 @@ mod log1;
 mod log2;
 mod map;
 mod nodes;
+mod pairs;
 
 pub use self::digests::digests_by_steps;
 pub use self::instances::instances_by_steps;
@@ -16,3 +17,4 @@ pub use self::log1::log1_by_steps;
 pub use self::log2::{log2_after_event_by_steps, log2_by_steps};
 pub use self::map::entries_by_steps;
 pub use self::nodes::nodes_by_steps;
+pub use self::pairs::pairs_by_steps;

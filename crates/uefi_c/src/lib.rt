@@ -9,7 +9,12 @@
 #![tactic(auto)]
 
 pub mod callers;
+mod config;
+mod hex;
 mod log1;
 mod log2;
 mod map;
 mod path;
+mod pci;
+mod time;
+mod write;
