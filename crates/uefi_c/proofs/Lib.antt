@@ -7,3 +7,4 @@ pub mod MapSteps
 pub mod PciRecords
 pub mod Bytes
 pub mod PairSteps
+pub mod NameBytes

@@ -1,5 +1,5 @@
 -- Records of a list that a cursor is at.
-use Rattle.std.proofs.Common.{◌≡◌, ℕ, ◌≤◌, List, ◌∷◌, length, take, refl, sym, ap, ◌∙◌}
+use Rattle.std.proofs.Common.{◌≡◌, ℕ, ◌≤◌, List, length, take, ap, ◌∙◌}
 use Rattle.std.specs.Prelude.{slice_index}
 use Rattle.std.proofs.lemmas.List.{length-take-le}
 use Rattle.uefi_map.specs.declared.pci.resource.QwordAddressSpaceDescriptor.{QwordAddressSpaceDescriptor}
@@ -7,7 +7,8 @@ use Rattle.uefi_map.specs.pci.Resource.{record_tag, record_length, resource_in, 
 use Rattle.uefi_map.specs.pci.ResourceList.{BeginWith}
 
 -- As many bytes as a record has, with its tag first, are the record of the resource in them.
-pub is_record : (rest bytes : List ℕ) (resource : QwordAddressSpaceDescriptor) → BeginWith rest record_tag → record_length ≤ length rest
+pub is_record : (rest bytes : List ℕ) (resource : QwordAddressSpaceDescriptor) → BeginWith rest record_tag
+    → record_length ≤ length rest
     → bytes ≡ take record_length rest → resource ≡ resource_in bytes → IsRecord bytes resource
 is_record rest bytes resource tag long is fields = record {
   size = ap length is ∙ length-take-le record_length rest long;

@@ -7,3 +7,4 @@ pub mod Pci
 pub mod Time
 pub mod Write
 pub mod Config
+pub mod Info

@@ -11,6 +11,7 @@
 pub mod callers;
 mod config;
 mod hex;
+mod info;
 mod log1;
 mod log2;
 mod map;

@@ -1,4 +1,4 @@
-use Rattle.std.proofs.Common.{◌≡◌, ℕ, ◌<◌, true, false, get_or, length, sym, ap, ◌∙◌, arith}
+use Rattle.std.proofs.Common.{◌≡◌, get_or, length, sym, arith}
 use Rattle.std.specs.Prelude.{◌==◌}
 use Rattle.std.proofs.lemmas.List.Sums.{position_or_len_is}
 use Rattle.uefi_c.proofs.Bytes.{same_byte, not_yet}
@@ -6,7 +6,8 @@ use Rattle.uefi_c.proofs.config.position_of.Goals as goal
 
 pub returns-then-bytes-index-clause-position : goal.returns-then-bytes-index-clause-position
 returns-then-bytes-index-clause-position c =
-    sym (position_or_len_is (λ byte. byte == c.args.wanted) c.args.bytes.now c.loop-index.index 0 (omega arith) c.loop-index.invariant
+    sym (position_or_len_is (λ byte. byte == c.args.wanted) c.args.bytes.now c.loop-index.index 0 (omega arith)
+    c.loop-index.invariant
     (λ _. same_byte (get_or c.args.bytes.now c.loop-index.index 0) c.args.wanted c.if-bytes-index.true))
 
 pub loop-index-preserved : goal.loop-index-preserved

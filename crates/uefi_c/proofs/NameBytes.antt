@@ -1,0 +1,87 @@
+-- The bytes of a name that a record was accepted with, and the size that a refused one needs.
+use Rattle.std.proofs.Common.{◌≡◌, ℕ, ◌+◌, ◌-◌, ◌*◌, ◌≤◌, Bool, true, false, min, List, length, take, drop, Option, Some, None, refl, sym, ap, ◌∙◌, arith}
+use Rattle.std.specs.Prelude.{nat_le, unwrap_or, if◌then◌else◌}
+use Rattle.std.proofs.lemmas.List.{take-take, drop-take, length-take, length-take-le, length-drop}
+use Rattle.uefi_base.specs.declared.status.Error.{Error}
+use Rattle.uefi_base.specs.Unaligned.{units_of}
+use Rattle.uefi_base.specs.Views.{error_data}
+use Rattle.uefi_base.proofs.UnitsOfBytes.{half_as_many_units, units_by_place}
+use Rattle.uefi_records.specs.File.Name.{first_zero, record_size, units_from}
+use Rattle.uefi_records.specs.File.Verdict.{Verdict, without_name, too_small, accepted, judged, verdict, Refuses}
+use Rattle.uefi_records.proofs.Files.FirstZero.{first_zero_is}
+use Rattle.uefi_c.specs.Info.{NeedsSize}
+
+-- The name of an accepted record is the units up to and with the first zero.
+record IsAccepted (offset : ℕ) (written name : List ℕ) : Type 0 where
+  index : ℕ
+  found : first_zero (units_from offset written) ≡ Some index
+  is_name : name ≡ take (index + 1) (units_from offset written)
+
+abbrev name_of : Verdict → List ℕ → List ℕ
+name_of without_name other = other
+name_of (too_small size) other = other
+name_of (accepted name) other = name
+
+is_accepted : (offset alignment room : ℕ) (written name : List ℕ)
+    → verdict offset alignment written room ≡ accepted name → IsAccepted offset written name
+is_accepted offset alignment room written name is = by_index (first_zero (units_from offset written)) refl is
+  where
+    by_index : (found : Option ℕ) → first_zero (units_from offset written) ≡ found
+        → judged offset alignment (units_from offset written) room found ≡ accepted name
+        → IsAccepted offset written name
+    by_index None at so = absurd cc
+    by_index (Some index) at so = by_size (nat_le (record_size offset alignment (index + 1)) room) so
+      where
+        by_size : (t : Bool) →
+            (if t then accepted (take (index + 1) (units_from offset written)) else too_small
+            (record_size offset alignment (index + 1)))
+            ≡ accepted name → IsAccepted offset written name
+        by_size true e = record { index = index; found = at; is_name = sym (ap (λ v. name_of v name) e) }
+        by_size false e = absurd cc
+
+module _ (offset alignment written : ℕ) (buffer name : List ℕ)
+    (is : verdict offset alignment (take written buffer) (length buffer) ≡ accepted name) where
+  abbrev named : List ℕ
+  named = drop offset (take written buffer)
+
+  there : IsAccepted offset (take written buffer) name
+  there = is_accepted offset alignment (length buffer) (take written buffer) name is
+
+  count : length name ≡ there.index + 1
+  count =
+      ap length there.is_name
+      ∙ length-take-le (there.index + 1) (units_of named)
+      (omega (arith, (first_zero_is (units_of named) there.index there.found).within))
+
+  sized : length named ≡ min written (length buffer) - offset
+  sized = length-drop offset (take written buffer) ∙ ap (λ (n : ℕ). n - offset) (length-take written buffer)
+
+  enough : 2 * length name ≤ length named
+  enough = omega (
+    arith,
+    count,
+    half_as_many_units named,
+    (first_zero_is (units_of named) there.index there.found).within,
+  )
+
+  -- It stands within the buffer.
+  pub name_within : offset + 2 * length name ≤ length buffer
+  name_within = omega (arith, enough, sized, count)
+
+  within_written : offset + 2 * length name ≤ written
+  within_written = omega (arith, enough, sized, count)
+
+  -- Its bytes there have its units.
+  pub name_there : units_of (take (2 * length name) (drop offset buffer)) ≡ name
+  name_there =
+      ap units_of (sym (drop-take offset (2 * length name) buffer)
+      ∙ ap (drop offset) (sym (take-take (offset + 2 * length name) written buffer within_written))
+      ∙ drop-take offset (2 * length name) (take written buffer))
+      ∙ units_by_place.front named (length name) ∙ ap (λ (n : ℕ). take n (units_of named)) count ∙ sym there.is_name
+
+-- The size that is beside an error.
+pub needs : (v : Verdict) (error : Error (Option ℕ)) (needed : ℕ) → Refuses v error
+    → needed ≡ unwrap_or (error_data error) 0 → NeedsSize v needed
+needs without_name error needed refuses is = is ∙ ap (λ (o : Option ℕ). unwrap_or o 0) refuses.1
+needs (too_small size) error needed refuses is = is ∙ ap (λ (o : Option ℕ). unwrap_or o 0) refuses.1
+needs (accepted name) error needed refuses is = absurd refuses

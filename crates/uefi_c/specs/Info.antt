@@ -1,0 +1,39 @@
+-- Records of files and volumes (UEFI 2.10, 13.5 "EFI_FILE_PROTOCOL.GetInfo()") of plain numbers.
+use Rattle.std.specs.Prelude.{ℕ, ◌≡◌}
+use Rattle.uefi_records.specs.File.FileInfo.{FileFields}
+use Rattle.uefi_records.specs.File.FileSystemInfo.{FileSystemFields}
+use Rattle.uefi_records.specs.File.Verdict.{Verdict, without_name, too_small, accepted}
+use Rattle.uefi_records.specs.Time.Fields.{without_pads}
+use Rattle.uefi_c.specs.declared.info.UefiFileInfo.{UefiFileInfo}
+use Rattle.uefi_c.specs.declared.info.UefiFileSystemInfo.{UefiFileSystemInfo}
+use Rattle.uefi_c.specs.Time.{time_seen}
+
+-- The size that a buffer needs, by the verdict on it: that of the record if the buffer is too small, 0 if there is no name.
+abbrev pub NeedsSize : Verdict → ℕ → Type 0
+NeedsSize without_name needed = needed ≡ 0
+NeedsSize (too_small size) needed = needed ≡ size
+NeedsSize (accepted name) needed = ⊥
+
+abbrev pub file_seen : UefiFileInfo → FileFields
+file_seen seen = record {
+  file_size = seen.file_size;
+  physical_size = seen.physical_size;
+  create_time = time_seen seen.create_time;
+  last_access_time = time_seen seen.last_access_time;
+  modification_time = time_seen seen.modification_time;
+  attribute = seen.attribute;
+}
+
+-- The fields, with zeros in the padding of the times.
+abbrev pub without_padding : FileFields → FileFields
+without_padding fields = record {
+  file_size = fields.file_size;
+  physical_size = fields.physical_size;
+  create_time = without_pads fields.create_time;
+  last_access_time = without_pads fields.last_access_time;
+  modification_time = without_pads fields.modification_time;
+  attribute = fields.attribute;
+}
+
+abbrev pub file_system_seen : UefiFileSystemInfo → FileSystemFields
+file_system_seen seen = record { read_only = seen.read_only; volume_size = seen.volume_size; free_space = seen.free_space; block_size = seen.block_size }

@@ -1,0 +1,170 @@
+ghost use Rattle.std.specs.Prelude.{◌≡◌, ◌+◌, ◌*◌, ◌≤◌, length, take, drop, IsTrue, IsFalse};
+ghost use Rattle.uefi_base.specs.Unaligned.{units_of};
+ghost use Rattle.uefi_records.specs.File.FileInfo.{file_fields, file_info_verdict, size_in};
+ghost use Rattle.uefi_records.specs.File.FileSystemInfo.{file_system_fields, file_system_info_verdict, volume_label_verdict};
+ghost use Rattle.uefi_records.specs.File.Verdict.{accepted};
+ghost use Rattle.uefi_c.specs.Info.{NeedsSize, file_seen, without_padding, file_system_seen};
+
+use crate::time::{UefiTime, seen};
+use uefi_records::{FileInfo, FileSystemInfo, FileSystemVolumeLabel};
+
+/// The offset of the name in a file information record.
+const FILE_NAME_OFFSET: usize = 80;
+
+/// The offset of the label in a file system information record.
+const LABEL_OFFSET: usize = 36;
+
+/// A file information record.
+#[derive(Clone, Copy)]
+#[repr(C)]
+pub struct UefiFileInfo<'a> {
+    /// The bytes of the name: units of two bytes, little-endian, of which the last alone is zero.
+    pub name: &'a [u8],
+    /// The size that the record states.
+    pub size: u64,
+    /// The size of the file, in bytes.
+    pub file_size: u64,
+    /// The size that the file occupies on its volume, in bytes.
+    pub physical_size: u64,
+    /// The file's attributes.
+    pub attribute: u64,
+    /// When the file was created, whether or not the time is valid.
+    pub create_time: UefiTime,
+    /// When the file was last accessed.
+    pub last_access_time: UefiTime,
+    /// When the file was last modified.
+    pub modification_time: UefiTime,
+}
+
+/// A file system information record.
+#[derive(Clone, Copy)]
+#[repr(C)]
+pub struct UefiFileSystemInfo<'a> {
+    /// The bytes of the label: units of two bytes, little-endian, of which the last alone is zero.
+    pub label: &'a [u8],
+    /// The size that the record states.
+    pub size: u64,
+    /// The size of the volume, in bytes.
+    pub volume_size: u64,
+    /// The free space on the volume, in bytes.
+    pub free_space: u64,
+    /// The size of the volume's blocks, in bytes.
+    pub block_size: u32,
+    /// Whether the volume can only be read.
+    pub read_only: bool,
+}
+
+/// Reads the file information record in the first `written` bytes of the buffer.
+///
+/// If it returns false, `needed` is the size of the record if the buffer is too small for it, and 0
+/// if the written bytes have no name.
+#[unsafe(no_mangle)]
+pub extern "C" fn uefi_file_info<'a>(
+    buffer: &'a [u8],
+    written: usize,
+    out: &mut UefiFileInfo<'a>,
+    needed: &mut usize,
+) -> bool
+    ensures name { IsTrue result
+        → file_info_verdict (take written buffer.now) (length buffer.now)
+        ≡ accepted (units_of out.new.name.now) }
+    ensures size { IsTrue result → out.new.size ≡ size_in buffer.now }
+    ensures fields { IsTrue result
+        → file_seen out.new ≡ without_padding (file_fields buffer.now) }
+    ensures none { IsFalse result
+        → NeedsSize (file_info_verdict (take written buffer.now) (length buffer.now)) needed.new }
+    ensures unchanged { IsFalse result → out.new ≡ out.old }
+{
+    match FileInfo::from_uefi(buffer, written) {
+        Ok(info) => {
+            out.name = name_bytes(buffer, FILE_NAME_OFFSET, info.file_name().len());
+            out.size = info.size();
+            out.file_size = info.file_size();
+            out.physical_size = info.physical_size();
+            out.attribute = info.attribute().bits();
+            out.create_time = seen(&info.create_time());
+            out.last_access_time = seen(&info.last_access_time());
+            out.modification_time = seen(&info.modification_time());
+            true
+        }
+        Err(error) => {
+            *needed = error.data().unwrap_or(0);
+            false
+        }
+    }
+}
+
+/// Reads the file system information record in the first `written` bytes of the buffer.
+///
+/// If it returns false, `needed` is the size of the record if the buffer is too small for it, and 0
+/// if the written bytes have no label.
+#[unsafe(no_mangle)]
+pub extern "C" fn uefi_file_system_info<'a>(
+    buffer: &'a [u8],
+    written: usize,
+    out: &mut UefiFileSystemInfo<'a>,
+    needed: &mut usize,
+) -> bool
+    ensures label { IsTrue result
+        → file_system_info_verdict (take written buffer.now) (length buffer.now)
+        ≡ accepted (units_of out.new.label.now) }
+    ensures size { IsTrue result → out.new.size ≡ size_in buffer.now }
+    ensures fields { IsTrue result → file_system_seen out.new ≡ file_system_fields buffer.now }
+    ensures none { IsFalse result → NeedsSize
+        (file_system_info_verdict (take written buffer.now) (length buffer.now)) needed.new }
+    ensures unchanged { IsFalse result → out.new ≡ out.old }
+{
+    match FileSystemInfo::from_uefi(buffer, written) {
+        Ok(info) => {
+            out.label = name_bytes(buffer, LABEL_OFFSET, info.volume_label().len());
+            out.size = info.size();
+            out.volume_size = info.volume_size();
+            out.free_space = info.free_space();
+            out.block_size = info.block_size();
+            out.read_only = info.read_only();
+            true
+        }
+        Err(error) => {
+            *needed = error.data().unwrap_or(0);
+            false
+        }
+    }
+}
+
+/// Reads the record of a volume label alone in the first `written` bytes of the buffer: the bytes of
+/// the label, units of two bytes, little-endian, of which the last alone is zero.
+#[unsafe(no_mangle)]
+pub extern "C" fn uefi_volume_label<'a>(
+    buffer: &'a [u8],
+    written: usize,
+    label: &mut &'a [u8],
+    needed: &mut usize,
+) -> bool
+    ensures label { IsTrue result
+        → volume_label_verdict (take written buffer.now) (length buffer.now)
+        ≡ accepted (units_of label.new.now) }
+    ensures none { IsFalse result → NeedsSize
+        (volume_label_verdict (take written buffer.now) (length buffer.now)) needed.new }
+    ensures unchanged { IsFalse result → label.new ≡ label.old }
+{
+    match FileSystemVolumeLabel::from_uefi(buffer, written) {
+        Ok(record) => {
+            *label = name_bytes(buffer, 0, record.volume_label().len());
+            true
+        }
+        Err(error) => {
+            *needed = error.data().unwrap_or(0);
+            false
+        }
+    }
+}
+
+// Returns the bytes of this many units from the offset on.
+fn name_bytes(buffer: &[u8], offset: usize, units: usize) -> &[u8]
+    requires { offset + 2 * units ≤ length buffer.now }
+    ensures { result.now ≡ take (2 * units) (drop offset buffer.now) }
+{
+    let (_, rest) = buffer.split_at(offset);
+    let (name, _) = rest.split_at(2 * units);
+    name
+}
