@@ -1,15 +1,27 @@
 -- The bytes of a name that a record was accepted with, and the size that a refused one needs.
-use Rattle.std.proofs.Common.{◌≡◌, ℕ, ◌+◌, ◌-◌, ◌*◌, ◌≤◌, Bool, true, false, min, List, length, take, drop, Option, Some, None, refl, sym, ap, ◌∙◌, arith}
-use Rattle.std.specs.Prelude.{nat_le, unwrap_or, if◌then◌else◌}
+use Rattle.std.proofs.Common.{◌≡◌, ℕ, ◌+◌, ◌-◌, ◌*◌, ◌<◌, ◌≤◌, Bool, true, false, min, List, [], ◌∷◌, length, take, drop, Option, Some, None, refl, sym, ap, ◌∙◌, arith}
+use Rattle.std.specs.List.{position_from}
+use Rattle.std.specs.Prelude.{nat_le, unwrap_or, if◌then◌else◌, ◌==◌}
 use Rattle.std.proofs.lemmas.List.{take-take, drop-take, length-take, length-take-le, length-drop}
 use Rattle.uefi_base.specs.declared.status.Error.{Error}
 use Rattle.uefi_base.specs.Unaligned.{units_of}
 use Rattle.uefi_base.specs.Views.{error_data}
 use Rattle.uefi_base.proofs.UnitsOfBytes.{half_as_many_units, units_by_place}
-use Rattle.uefi_records.specs.File.Name.{first_zero, record_size, units_from}
-use Rattle.uefi_records.specs.File.Verdict.{Verdict, without_name, too_small, accepted, judged, verdict, Refuses}
-use Rattle.uefi_records.proofs.Files.FirstZero.{first_zero_is}
+use Rattle.uefi_records.specs.file.Name.{first_zero, record_size, units_from}
+use Rattle.uefi_records.specs.file.Verdict.{Verdict, without_name, too_small, accepted, judged, verdict, Refuses}
 use Rattle.uefi_c.specs.Info.{NeedsSize}
+
+-- The first zero unit is one of the units.
+first_within : (units : List ℕ) (start index : ℕ) → position_from (λ unit. unit == 0) start units ≡ Some index
+    → index < start + length units
+first_within [] start index is = absurd cc
+first_within (unit ∷ units) start index is = by_test (unit == 0) is (first_within units (start + 1) index)
+  where
+    by_test : (t : Bool) → (if t then Some start else position_from (λ unit. unit == 0) (start + 1) units) ≡ Some index
+        → (position_from (λ unit. unit == 0) (start + 1) units ≡ Some index → index < start + 1 + length units)
+        → index < start + length (unit ∷ units)
+    by_test true e others = let same : start ≡ index = cc in omega (arith, same)
+    by_test false e others = omega (arith, others e)
 
 -- The name of an accepted record is the units up to and with the first zero.
 record IsAccepted (offset : ℕ) (written name : List ℕ) : Type 0 where
@@ -51,7 +63,7 @@ module _ (offset alignment written : ℕ) (buffer name : List ℕ)
   count =
       ap length there.is_name
       ∙ length-take-le (there.index + 1) (units_of named)
-      (omega (arith, (first_zero_is (units_of named) there.index there.found).within))
+      (omega (arith, first_within (units_of named) 0 there.index there.found))
 
   sized : length named ≡ min written (length buffer) - offset
   sized = length-drop offset (take written buffer) ∙ ap (λ (n : ℕ). n - offset) (length-take written buffer)
@@ -61,7 +73,7 @@ module _ (offset alignment written : ℕ) (buffer name : List ℕ)
     arith,
     count,
     half_as_many_units named,
-    (first_zero_is (units_of named) there.index there.found).within,
+    first_within (units_of named) 0 there.index there.found,
   )
 
   -- It stands within the buffer.

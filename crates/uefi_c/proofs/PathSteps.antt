@@ -4,7 +4,7 @@ use Rattle.std.specs.List.{AllByRecursion}
 use Rattle.std.proofs.lemmas.List.{append-nil, map-append, length-append, length-drop}
 use Rattle.uefi_path.specs.Node.{Node, encoding, joined, IsEnd, IsEndEntire}
 use Rattle.uefi_path.specs.Path.{IsInstance, AreEndedBy, AreInstances, HasNodes, concat, all_but_last}
-use Rattle.uefi_path.specs.OnePath.{same_first, one_ended, joined-append, some_bytes}
+use Rattle.uefi_path.specs.private.OnePath.{same_first, one_ended, joined-append, some_bytes}
 use Rattle.uefi_c.specs.declared.path.UefiNode.{UefiNode}
 use Rattle.uefi_c.specs.Path.{node_seen, IsNextNode, IsNextInstance, EndsWalk}
 use Rattle.uefi_c.proofs.Cursors.{after}

@@ -1,9 +1,9 @@
 -- Records of files and volumes (UEFI 2.10, 13.5 "EFI_FILE_PROTOCOL.GetInfo()") of plain numbers.
 use Rattle.std.specs.Prelude.{ℕ, ◌≡◌}
-use Rattle.uefi_records.specs.File.FileInfo.{FileFields}
-use Rattle.uefi_records.specs.File.FileSystemInfo.{FileSystemFields}
-use Rattle.uefi_records.specs.File.Verdict.{Verdict, without_name, too_small, accepted}
-use Rattle.uefi_records.specs.Time.Fields.{without_pads}
+use Rattle.uefi_records.specs.file.FileInfo.{FileFields}
+use Rattle.uefi_records.specs.file.FileSystemInfo.{FileSystemFields}
+use Rattle.uefi_records.specs.file.Verdict.{Verdict, without_name, too_small, accepted}
+use Rattle.uefi_records.specs.time.Fields.{without_pads}
 use Rattle.uefi_c.specs.declared.info.UefiFileInfo.{UefiFileInfo}
 use Rattle.uefi_c.specs.declared.info.UefiFileSystemInfo.{UefiFileSystemInfo}
 use Rattle.uefi_c.specs.Time.{time_seen}

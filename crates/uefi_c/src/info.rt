@@ -1,8 +1,8 @@
 ghost use Rattle.std.specs.Prelude.{◌≡◌, ◌+◌, ◌*◌, ◌≤◌, length, take, drop, IsTrue, IsFalse};
 ghost use Rattle.uefi_base.specs.Unaligned.{units_of};
-ghost use Rattle.uefi_records.specs.File.FileInfo.{file_fields, file_info_verdict, size_in};
-ghost use Rattle.uefi_records.specs.File.FileSystemInfo.{file_system_fields, file_system_info_verdict, volume_label_verdict};
-ghost use Rattle.uefi_records.specs.File.Verdict.{accepted};
+ghost use Rattle.uefi_records.specs.file.FileInfo.{file_fields, file_info_verdict, size_in};
+ghost use Rattle.uefi_records.specs.file.FileSystemInfo.{file_system_fields, file_system_info_verdict, volume_label_verdict};
+ghost use Rattle.uefi_records.specs.file.Verdict.{accepted};
 ghost use Rattle.uefi_c.specs.Info.{NeedsSize, file_seen, without_padding, file_system_seen};
 
 use crate::time::{UefiTime, seen};

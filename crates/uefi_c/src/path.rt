@@ -2,7 +2,7 @@ ghost use Rattle.std.specs.Prelude.{◌≡◌, ◌++◌, ◌↔◌, List, ℕ, d
 ghost use Rattle.uefi_base.specs.Prefix.{IsPrefix};
 ghost use Rattle.uefi_path.specs.Node.{Node, Fits, encoding, joined, HasNode, IsEnd};
 ghost use Rattle.uefi_path.specs.Path.{IsPath, HasPath, HasNodes};
-ghost use Rattle.uefi_path.specs.Encoding.{EncodesInstance};
+ghost use Rattle.uefi_path.specs.private.Encoding.{EncodesInstance};
 ghost use Rattle.uefi_path.specs.Views.{node_of};
 ghost use Rattle.uefi_c.specs.Path.{node_seen, IsNextNode, IsNextInstance, EndsWalk};
 

@@ -94,18 +94,18 @@ fn step_at(rest: &[u8]) -> u32
 
 // Returns the resource in the bytes of a record.
 #[tactic(auto, unfolding(uefi_map::specs::pci::Resource::resource_in))]
-fn resource_in(record: &[u8]) -> UefiResource
-    requires { record_length ≤ length record.now }
-    ensures { resource_seen result ≡ resource_in record.now }
+fn resource_in(bytes: &[u8]) -> UefiResource
+    requires { record_length ≤ length bytes.now }
+    ensures { resource_seen result ≡ resource_in bytes.now }
 {
     UefiResource {
-        granularity: u64_at(record, 6),
-        address_min: u64_at(record, 14),
-        address_max: u64_at(record, 22),
-        translation_offset: u64_at(record, 30),
-        address_length: u64_at(record, 38),
-        range_type: record[3],
-        general_flags: record[4],
-        type_specific_flags: record[5],
+        granularity: u64_at(bytes, 6),
+        address_min: u64_at(bytes, 14),
+        address_max: u64_at(bytes, 22),
+        translation_offset: u64_at(bytes, 30),
+        address_length: u64_at(bytes, 38),
+        range_type: bytes[3],
+        general_flags: bytes[4],
+        type_specific_flags: bytes[5],
     }
 }

@@ -1,7 +1,7 @@
 ghost use Rattle.std.specs.Prelude.{◌≡◌, ◌≢◌, ◌⊎◌, ◌<◌, length, IsTrue, IsFalse};
-ghost use Rattle.uefi_records.specs.Time.Faults.{reading_faults, no_fault};
-ghost use Rattle.uefi_records.specs.Time.Fields.{TimeFields, StandsIn, time_length, without_pads};
-ghost use Rattle.uefi_records.specs.Time.Views.{time_of};
+ghost use Rattle.uefi_records.specs.time.Faults.{reading_faults, no_fault};
+ghost use Rattle.uefi_records.specs.time.Fields.{TimeFields, StandsIn, time_length, without_pads};
+ghost use Rattle.uefi_records.specs.time.Views.{time_of};
 ghost use Rattle.uefi_c.specs.Time.{time_seen, faults_seen, HasTime, HasFaults};
 
 use uefi_records::{Time, TimeByteConversionError, TimeError};

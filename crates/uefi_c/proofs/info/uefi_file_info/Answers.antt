@@ -1,9 +1,9 @@
 use Rattle.std.proofs.Common.{◌≡◌, ℕ, ◌+◌, ◌*◌, ◌≤◌, List, length, take, drop, Option, sym, ap, subst, ◌∙◌}
 use Rattle.std.specs.Prelude.{unwrap_or}
 use Rattle.uefi_base.specs.Unaligned.{units_of}
-use Rattle.uefi_records.specs.File.FileInfo.{file_info_verdict}
-use Rattle.uefi_records.specs.File.Verdict.{accepted}
-use Rattle.uefi_records.specs.File.Views.{file_name_of}
+use Rattle.uefi_records.specs.file.FileInfo.{file_info_verdict}
+use Rattle.uefi_records.specs.file.Verdict.{accepted}
+use Rattle.uefi_records.specs.file.Views.{file_name_of}
 use Rattle.uefi_c.proofs.NameBytes.{name_within, name_there, needs}
 use Rattle.uefi_c.proofs.info.uefi_file_info.Goals as goal
 

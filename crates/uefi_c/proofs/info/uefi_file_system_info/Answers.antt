@@ -1,7 +1,7 @@
 use Rattle.std.proofs.Common.{◌≡◌, ℕ, ◌+◌, ◌*◌, ◌≤◌, List, length, take, drop, sym, ap, subst, ◌∙◌}
 use Rattle.uefi_base.specs.Unaligned.{units_of}
-use Rattle.uefi_records.specs.File.Verdict.{accepted}
-use Rattle.uefi_records.specs.File.Views.{file_system_label_of}
+use Rattle.uefi_records.specs.file.Verdict.{accepted}
+use Rattle.uefi_records.specs.file.Views.{file_system_label_of}
 use Rattle.uefi_c.proofs.NameBytes.{name_within, name_there}
 use Rattle.uefi_c.proofs.info.uefi_file_system_info.Goals as goal
 

@@ -1,5 +1,5 @@
 use Rattle.std.proofs.Common.{arith, sym, ◌∙◌}
-use Rattle.uefi_path.specs.OnePath.{some_bytes}
+use Rattle.uefi_path.specs.private.OnePath.{some_bytes}
 use Rattle.uefi_c.proofs.Cursors.{none_past}
 use Rattle.uefi_c.proofs.path.uefi_path_next_instance.Goals as goal
 

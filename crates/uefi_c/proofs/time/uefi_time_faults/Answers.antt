@@ -1,5 +1,5 @@
 use Rattle.std.proofs.Common.{inr}
-use Rattle.uefi_records.specs.Time.Views.{time_of}
+use Rattle.uefi_records.specs.time.Views.{time_of}
 use Rattle.uefi_c.proofs.time.uefi_time_faults.Goals as goal
 
 pub returns-in-Ok-clause-none : goal.returns-in-Ok-clause-none

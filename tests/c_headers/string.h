@@ -1,0 +1,2 @@
+#pragma once
+int strcmp(const char *one, const char *other);
