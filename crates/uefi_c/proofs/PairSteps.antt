@@ -4,7 +4,8 @@ use Rattle.std.specs.List.{position_or_len, before_first, after_first}
 use Rattle.std.specs.Prelude.{if◌then◌else◌}
 use Rattle.std.proofs.lemmas.Bool.{lt-ltb}
 use Rattle.std.proofs.lemmas.List.{map-append, drop-drop, length-drop, take_all, nil_from_length}
-use Rattle.uefi_hii.specs.Pairs.{Pair, pairs, pair_of, is_ampersand, is_equals_sign}
+use Rattle.uefi_hii.specs.Pairs.{Pair, pairs, pair_of, is_equals_sign}
+use Rattle.uefi_hii.specs.private.Parts.{is_ampersand}
 use Rattle.uefi_hii.proofs.Pieces.{pairs_first, pairs_alone}
 use Rattle.uefi_c.specs.declared.config.UefiPair.{UefiPair}
 use Rattle.uefi_c.specs.Config.{pair_seen}

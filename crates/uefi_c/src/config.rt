@@ -1,6 +1,6 @@
 ghost use Rattle.std.specs.Prelude.{◌≡◌, ◌==◌, ◌<◌, ◌≤◌, [], ◌∷◌, drop, length, IsTrue, IsFalse};
-ghost use Rattle.std.specs.List.{before_first, after_first, position_or_len};
-ghost use Rattle.uefi_hii.specs.Pairs.{pairs, pair_of, is_ampersand, is_equals_sign};
+ghost use Rattle.std.specs.List.{position_or_len};
+ghost use Rattle.uefi_hii.specs.Pairs.{pairs, pair_of};
 ghost use Rattle.uefi_c.specs.Config.{pair_seen};
 
 /// The byte between two pairs.

@@ -1,6 +1,7 @@
 ghost use Rattle.std.specs.Prelude.{◌≡◌, List, IfOk, map, flat_map};
 ghost use Rattle.std.specs.List.{AllByRecursion};
-ghost use Rattle.uefi_tcg.specs.v2.Event.{Digest, IsDigest, digest_bytes};
+ghost use Rattle.uefi_tcg.specs.v2.Event.{Digest, IsDigest};
+ghost use Rattle.uefi_tcg.specs.v2.OneEvent.{digest_bytes};
 ghost use Rattle.uefi_tcg.specs.v2.Spelling.{spelled};
 ghost use Rattle.uefi_c.specs.Log2.{digest_seen};
 

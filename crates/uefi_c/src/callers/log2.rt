@@ -1,7 +1,8 @@
 ghost use Rattle.std.specs.Prelude.{◌≡◌, ◌≤◌, ◌<◌, ◌^◌, List, Option, length, IfOk, map};
 ghost use Rattle.uefi_tcg.specs.v2.Event.{Event};
 ghost use Rattle.uefi_tcg.specs.v2.Header.{HeaderEvent, after_header, after_event};
-ghost use Rattle.uefi_tcg.specs.v2.Log.{IsLog, IsLongestFrom};
+ghost use Rattle.uefi_tcg.specs.private.v2.Log.{IsLongestFrom};
+ghost use Rattle.uefi_tcg.specs.v2.Log.{IsLog};
 ghost use Rattle.uefi_tcg.specs.v2.OneEvent.{parts_of};
 ghost use Rattle.uefi_tcg.specs.v2.Spelling.{spelled};
 ghost use Rattle.uefi_c.specs.Log2.{parts_seen};

@@ -1,5 +1,5 @@
 use Rattle.std.proofs.Common.{refl, sym, subst, arith}
-use Rattle.uefi_tcg.specs.v2.Event.{digest_bytes}
+use Rattle.uefi_tcg.specs.v2.OneEvent.{digest_bytes}
 use Rattle.uefi_tcg.specs.v2.Spelling.{spelled}
 use Rattle.uefi_c.specs.Log2.{digest_seen}
 use Rattle.uefi_c.proofs.Cursors.{moves, within}

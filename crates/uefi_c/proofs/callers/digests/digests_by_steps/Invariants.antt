@@ -1,6 +1,7 @@
 use Rattle.std.proofs.Common.{◌≡◌, ◌-◌, List, length, flat_map}
 use Rattle.std.specs.List.{AllByRecursion}
-use Rattle.uefi_tcg.specs.v2.Event.{Digest, IsDigest, digest_bytes}
+use Rattle.uefi_tcg.specs.v2.Event.{Digest, IsDigest}
+use Rattle.uefi_tcg.specs.v2.OneEvent.{digest_bytes}
 use Rattle.uefi_tcg.specs.v2.Spelling.{spelled}
 use Rattle.uefi_c.proofs.DigestSteps.{Left}
 use Rattle.uefi_c.proofs.callers.digests.digests_by_steps.Given as goal

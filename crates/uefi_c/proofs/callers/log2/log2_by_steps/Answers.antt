@@ -1,7 +1,7 @@
 use Rattle.std.proofs.Common.{refl, arith}
 use Rattle.std.proofs.lemmas.Result.{IfOk-weaker}
 use Rattle.uefi_tcg.specs.v2.Header.{HeaderEvent, after_header}
-use Rattle.uefi_tcg.proofs.FoundHeader.{start_within}
+use Rattle.uefi_tcg.proofs.v2.FoundHeader.{start_within}
 use Rattle.uefi_c.specs.Log2.{header_seen}
 use Rattle.uefi_c.proofs.Log2Steps.{is_log, no_log}
 use Rattle.uefi_c.proofs.callers.log2.log2_by_steps.Goals as goal
