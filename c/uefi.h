@@ -38,8 +38,8 @@
  * Two archives have the same functions. libuefi.a uses no memory below the
  * stack pointer, so it can stand in firmware, in boot loaders and in kernels,
  * which take interrupts on the running stack. libuefi_user.a, built by LLVM,
- * is smaller and faster, and uses the red zone: link it into programs of an
- * operating system alone. Both run on each x86-64 processor, and call nothing
+ * is smaller, and uses the red zone: link it into programs of an operating
+ * system alone. Both run on each x86-64 processor, and call nothing
  * that they don't have. They follow the System V calling convention; an EFI
  * application gets it by UEFI_CALL below.
  */
