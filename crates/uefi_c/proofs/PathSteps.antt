@@ -4,10 +4,10 @@ use Rattle.std.proofs.Common.{append_assoc, arith, inl, inr}
 use Rattle.std.specs.List.{AllByRecursion}
 use Rattle.std.proofs.lemmas.List.{append-nil, map-append, length-append, length-drop}
 use Rattle.uefi_path.specs.Node.{Node, encoding, joined, IsEnd, IsEndEntire}
-use Rattle.uefi_path.specs.Path.{IsInstance, AreEndedBy, AreInstances, HasNodes, concat, all_but_last}
+use Rattle.uefi_path.specs.Path.{IsInstance, AreEndedBy, AreInstances, concat, all_but_last}
 use Rattle.uefi_path.specs.private.OnePath.{same_first, one_ended, joined-append, some_bytes}
 use Rattle.uefi_c.specs.declared.path.UefiNode.{UefiNode}
-use Rattle.uefi_c.specs.Path.{node_seen, IsNextNode, IsNextInstance, EndsWalk}
+use Rattle.uefi_c.specs.Path.{HasInstance, node_seen, IsNextNode, IsNextInstance, EndsWalk}
 use Rattle.uefi_c.proofs.Cursors.{after}
 
 -- The encoding of a node has bytes.
@@ -158,7 +158,7 @@ module _ (bytes : List ℕ) (start : ℕ) where
           }
 
   -- Where no instance follows, all were seen.
-  pub no_instance_left : (all : List (List Node)) (parts : List (List ℕ)) → ¬ HasNodes IsEnd (drop start bytes)
+  pub no_instance_left : (all : List (List Node)) (parts : List (List ℕ)) → ¬ HasInstance (drop start bytes)
       → LeftInstances all bytes start parts → parts ≡ map joined all
   no_instance_left all parts none left = of_others left.others left.seen left.each left.encoded
     where

@@ -1,6 +1,7 @@
 -- Nodes and instances of device paths (UEFI 2.10, 10.3.1), as a cursor over a path's bytes gives them.
 use Rattle.std.specs.Prelude.{ℕ, ◌≡◌, ◌⊎◌, List, length}
 use Rattle.uefi_path.specs.Node.{Node, Fits, encoding, joined, IsEnd, IsEndEntire}
+use Rattle.uefi_base.specs.Prefix.{IsPrefix}
 use Rattle.uefi_path.specs.Path.{IsInstance}
 use Rattle.uefi_c.specs.declared.path.UefiNode.{UefiNode}
 use Rattle.uefi_c.specs.Cursor.{Stands}
@@ -24,3 +25,7 @@ pub record IsNextInstance (bytes : List ℕ) (start : ℕ) (part : List ℕ) (en
   pub is_instance : IsInstance nodes
   pub encoded : part ≡ joined nodes
   pub stands : Stands part bytes start end
+
+-- Some prefix of the bytes is an instance.
+abbrev pub HasInstance : List ℕ → Type 0
+HasInstance bytes = (nodes : List Node) × IsInstance nodes × IsPrefix (joined nodes) bytes

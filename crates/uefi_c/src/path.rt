@@ -1,10 +1,10 @@
 ghost use Rattle.std.specs.Prelude.{◌≡◌, ◌++◌, ◌↔◌, List, ℕ, drop, IsTrue, IsFalse, IfSome, IfNone};
 ghost use Rattle.uefi_base.specs.Prefix.{IsPrefix};
 ghost use Rattle.uefi_path.specs.Node.{Node, Fits, encoding, joined, HasNode, IsEnd};
-ghost use Rattle.uefi_path.specs.Path.{IsPath, HasPath, HasNodes};
+ghost use Rattle.uefi_path.specs.Path.{IsPath, HasPath};
 ghost use Rattle.uefi_path.specs.private.Encoding.{EncodesInstance};
 ghost use Rattle.uefi_path.specs.Views.{node_of};
-ghost use Rattle.uefi_c.specs.Path.{node_seen, IsNextNode, IsNextInstance, EndsWalk};
+ghost use Rattle.uefi_c.specs.Path.{HasInstance, node_seen, IsNextNode, IsNextInstance, EndsWalk};
 
 use uefi_path::{DevicePath, DevicePathNode, DeviceType};
 
@@ -91,7 +91,7 @@ pub extern "C" fn uefi_path_next_instance<'a>(
 ) -> bool
     ensures instance { IsTrue result
         → IsNextInstance path.now offset.old instance.new.now offset.new }
-    ensures none { IsFalse result → ¬ HasNodes IsEnd (drop offset.old path.now) }
+    ensures none { IsFalse result → ¬ HasInstance (drop offset.old path.now) }
     ensures offset_unchanged { IsFalse result → offset.new ≡ offset.old }
     ensures out_unchanged { IsFalse result → instance.new ≡ instance.old }
 {
@@ -111,7 +111,7 @@ pub extern "C" fn uefi_path_next_instance<'a>(
 fn first_instance(bytes: &[u8]) -> Option<&[u8]>
     ensures instance { IfSome result (λ found. EncodesInstance found.now) }
     ensures prefix { IfSome result (λ found. IsPrefix found.now bytes.now) }
-    ensures none { IfNone result (¬ HasNodes IsEnd bytes.now) }
+    ensures none { IfNone result (¬ HasInstance bytes.now) }
 {
     let mut rest = bytes;
     loop {
