@@ -19,7 +19,7 @@ byte_of_one c = unwrap_or (hex_digit c) 0
 unfoldable pub byte_of_two : ℕ → ℕ → ℕ
 byte_of_two c d = unwrap_or (two_digits (hex_digit c) (hex_digit d)) (if c == 43 then byte_of_one d else 0)
 
--- The bytes that a text spells: one for each two of its characters, and one for an odd last character.
+-- The bytes that a text spells: one for each two bytes of the text, and one for an odd last one.
 abbrev pub hex : List ℕ → List ℕ
 hex [] = []
 hex (c ∷ []) = byte_of_one c ∷ []

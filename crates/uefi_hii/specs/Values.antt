@@ -28,7 +28,7 @@ is_odd_byte_zero (high ∷ []) = high == 0
 is_odd_byte_zero (high ∷ low ∷ bytes) = is_odd_byte_zero bytes
 
 -- A name is the text, in UTF-8, of the units that its value spells, none of which is zero or a surrogate. The value has
--- an even number of characters.
+-- an even number of bytes.
 abbrev pub name : List ℕ → Option (List ℕ)
 name value =
     if length value % 2 == 0 && is_odd_byte_zero (hex value)
