@@ -1,7 +1,7 @@
 /* Device paths, memory maps, event logs, times, records, PCI resources and
  * configuration texts of UEFI firmware: readers for C.
  *
- * Each reader is proved: for all bytes it returns the one answer that this
+ * Each reader is proved: for all bytes it returns the one result that this
  * header states, reads no byte outside those it is handed, writes nothing but
  * what its pointers point to, and returns. None allocates, keeps anything
  * between calls, or needs a C library or an operating system.
@@ -20,7 +20,7 @@
  * Bytes. A function takes bytes as a UefiBytes: where they begin, and how
  * many there are. `at` is never NULL, also where `n` is 0; uefi_bytes() makes
  * one of any pointer and length, NULL with length 0 among them. What a
- * function hands out in a UefiBytes points into the bytes that it was handed.
+ * function returns in a UefiBytes points into the bytes that it was passed.
  *
  * Cursors. A function that goes from one item to the next takes `offset`, a
  * number that the caller keeps: set it to the start, 0 if nothing else is

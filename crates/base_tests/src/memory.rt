@@ -3,7 +3,7 @@ use std::test::Fail;
 use test_support::{holds, in_turn, without_request};
 use uefi_base::{CStr16, CString16, FromStrError, UnalignedCStr16Error, UnalignedSlice};
 
-// Returns whether the text has five euro signs, or `None` if memory ran out.
+/// Returns whether the text has five euro signs, or `None` if memory ran out.
 fn has_euro_signs<A: Allocator>(alloc: A, text: CStr16<'_>) -> Option<bool> {
     let characters = text.to_string(alloc).ok()?;
     Some(characters.as_str() == "\u{20ac}\u{20ac}\u{20ac}\u{20ac}\u{20ac}")
@@ -17,7 +17,7 @@ fn characters_are_given_or_memory_was_refused(rt: HostRuntime) -> Result<(), Fai
     holds("the text grows", requests > 1)
 }
 
-// Returns whether the text made of `ab` has its units, or the error; or `None` if memory ran out.
+/// Returns whether the text made of `ab` has its units, or the error; or `None` if memory ran out.
 fn make_ab<A: Allocator>(alloc: A) -> Option<Result<bool, FromStrError>> {
     match CString16::from_str(alloc, "ab") {
         Ok(text) => Some(Ok(text.as_cstr16().as_u16_with_nul() == [0x61u16, 0x62, 0].as_slice())),
@@ -32,7 +32,7 @@ fn a_text_is_made_of_characters_or_memory_was_refused(rt: HostRuntime) -> Result
     holds("a text takes memory", requests > 0)
 }
 
-// Returns the same of the units of `ab` over bytes.
+/// Returns the same of the units of `ab` over bytes.
 fn copy_ab<A: Allocator>(alloc: A) -> Option<Result<bool, UnalignedCStr16Error>> {
     match UnalignedSlice::new(b"a\0b\0\0\0").to_cstring16(alloc) {
         Ok(text) => Some(Ok(text.as_cstr16().as_u16_with_nul() == [0x61u16, 0x62, 0].as_slice())),

@@ -5,7 +5,7 @@ use uefi_base::{
     CStr16, CString16, FromSliceWithNulError, FromStrError, UnalignedCStr16Error, UnalignedSlice,
 };
 
-// Returns the count of characters of a text of units, its units, and its characters.
+/// Returns the count of characters of a text of units, its units, and its characters.
 fn text_of(alloc: Global, units: &[u16]) -> Result<(usize, bool, String), Fail> {
     let text = CStr16::from_u16_with_nul(units)?;
     let characters = text.to_string(alloc)?;
@@ -30,7 +30,7 @@ fn a_text_has_its_characters(rt: HostRuntime) -> Result<(), Fail> {
     Ok(())
 }
 
-// Returns the bytes of units, the low byte of each first.
+/// Returns the bytes of units, the low byte of each first.
 fn bytes_of(alloc: Global, units: &[u16]) -> Result<Vec<u8>, Fail> {
     let mut bytes = Vec::new(alloc);
     for unit in units {
@@ -39,7 +39,7 @@ fn bytes_of(alloc: Global, units: &[u16]) -> Result<Vec<u8>, Fail> {
     Ok(bytes)
 }
 
-// Returns the fault of the units in these bytes, if they are an even number of bytes and no text.
+/// Returns the fault of the units in these bytes, if they are an even number of bytes and no text.
 fn unaligned_fault(alloc: Global, bytes: &[u8]) -> Option<UnalignedCStr16Error> {
     if bytes.len() % 2 != 0 {
         return None;
@@ -72,7 +72,7 @@ fn the_first_offending_unit_decides(rt: HostRuntime) -> Result<(), Fail> {
     Ok(())
 }
 
-// Returns whether the text made of the characters has these units, and gives the characters back.
+/// Returns whether the text made of the characters has these units, and gives the characters back.
 fn is_made_of(alloc: Global, characters: &str, units: &[u16]) -> Result<bool, Fail> {
     let text = CString16::from_str(alloc, characters)?;
     let back = text.as_cstr16().to_string(alloc)?;

@@ -2,11 +2,11 @@ use std::test::Fail;
 use test_support::{same, same_text};
 use uefi_base::UnalignedSlice;
 
-// What is left of an iterator over units before a step, by its length and its size hint, and what
-// the step gives.
+/// What is left of an iterator over units before a step, by its length and its size hint, and what
+/// the step gives.
 type Step = (usize, (usize, Option<usize>), Option<u16>);
 
-// Returns what an iterator over units gives in five steps.
+/// Returns what an iterator over units gives in five steps.
 fn steps(slice: UnalignedSlice<'_>) -> [Step; 5] {
     let mut units = slice.iter();
     let mut given = [(0, (0, None), None); 5];
@@ -16,7 +16,7 @@ fn steps(slice: UnalignedSlice<'_>) -> [Step; 5] {
     given
 }
 
-// A step of an iterator that has ended.
+/// A step of an iterator that has ended.
 const ENDED: Step = (0, (0, Some(0)), None);
 
 #[test]

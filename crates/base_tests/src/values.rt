@@ -3,7 +3,7 @@ use test_support::{same, same_text};
 use uefi_base::little_endian::{u16_at, u32_at, u64_at};
 use uefi_base::{Align, Error, Guid, Identify, Status, laws};
 
-// The GUID of file information records.
+/// The GUID of file information records.
 const FILE_INFO: [u8; 16] = *b"\x92\x6e\x57\x09\x3f\x6d\xd2\x11\x8e\x39\x00\xa0\xc9\x69\x72\x3b";
 
 #[test]
@@ -75,7 +75,7 @@ fn numbers_stand_low_byte_first() -> Result<(), Fail> {
     same("u64", &u64_at(&bytes, 1), &0x0807_0605_0403_0201)
 }
 
-// A type with a GUID and an alignment.
+/// A type with a GUID and an alignment.
 struct Label;
 
 impl Align for Label {

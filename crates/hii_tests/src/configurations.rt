@@ -85,7 +85,7 @@ const TEXTS: [(&str, &str); 24] = [
     ("@&", "A, 4, None\n"),
 ];
 
-/// The items that `parse_all` gives, a line each.
+/// Returns the items that `parse_all` gives, a line each.
 fn all_items(alloc: Global, text: &str) -> Result<String, AllocError> {
     let mut lines = String::new(alloc);
     for item in parse_all(alloc, text)?.as_slice() {
@@ -94,7 +94,7 @@ fn all_items(alloc: Global, text: &str) -> Result<String, AllocError> {
     Ok(lines)
 }
 
-/// The items that the iterator gives, a line each, and a line where it doesn't stay ended.
+/// Returns the items that the iterator gives, a line each, and a line where it doesn't stay ended.
 fn iterated_items(alloc: Global, text: &str) -> Result<String, AllocError> {
     let mut lines = String::new(alloc);
     let mut items = MultiConfigurationStringIter::new(alloc, text);
@@ -148,7 +148,7 @@ const FIRST_ITEMS: [(&str, &str); 4] = [
     ),
 ];
 
-/// The line of the first item of a row's text.
+/// Returns the line of the first item of a row's text.
 fn first_item(alloc: Global, row: &str) -> Result<String, Fail> {
     let text = text_of(alloc, row)?;
     let first = ConfigurationString::from_str(alloc, text.as_str());

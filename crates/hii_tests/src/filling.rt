@@ -44,7 +44,7 @@ const LONGEST: usize = 100;
 /// Digits of both cases, so that no two bytes that stand next to each other are equal.
 const DIGITS: [u8; 22] = *b"0123456789abcdefABCDEF";
 
-/// A text of this many digits, of which the one at the index is another character.
+/// Returns a text of this many digits, of which the one at the index is another character.
 fn text_with(
     alloc: Global,
     length: usize,
@@ -66,7 +66,7 @@ fn fills_as_read(alloc: Global, text: &str) -> Result<(), Fail> {
     same_bytes(text, bytes.as_slice(), read.as_slice())
 }
 
-/// The same for texts of a length, with another character at each index.
+/// Checks the same for texts of a length, with another character at each index.
 fn each_index_fills_as_read(alloc: Global, length: usize, other: char) -> Result<(), Fail> {
     for index in 0..length {
         fills_as_read(alloc, text_with(alloc, length, index, other)?.as_str())?;

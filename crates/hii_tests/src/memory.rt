@@ -7,7 +7,7 @@ use std::test::Fail;
 use test_support::{Refusing, holds, in_turn, same_text, without_request};
 use uefi_hii::{ConfigurationString, MultiConfigurationStringIter, ParseError, parse_all};
 
-/// Whether the name in hex is the driver's; or `None` if memory ran out.
+/// Returns whether the name in hex is the driver's, or `None` if memory ran out.
 fn is_driver<A: Allocator + Copy>(alloc: A, text: &str) -> Option<bool> {
     match ConfigurationString::parse_string_from_hex(alloc, text).ok()? {
         Some(name) => Some(name.as_str() == "ISCSI_CONFIG_IFR_NVDATA"),
@@ -21,7 +21,7 @@ fn a_name_is_read_or_memory_was_refused(rt: HostRuntime) -> Result<(), Fail> {
     holds("a name takes memory", requests > 0)
 }
 
-/// The line of the item that `from_str` gives; or `None` if memory ran out.
+/// Returns the line of the item that `from_str` gives, or `None` if memory ran out.
 fn first_line<A: Allocator + Copy>(heap: A, alloc: Global, text: &str) -> Option<String> {
     line_of(alloc, &ConfigurationString::from_str(heap, text))
 }
@@ -53,7 +53,7 @@ fn the_first_item_is_read_or_memory_was_refused(rt: HostRuntime) -> Result<(), F
     check_first(rt.alloc(), KEPT_PAIRS)
 }
 
-/// The lines of all items; or `None` if memory ran out.
+/// Returns the lines of all items, or `None` if memory ran out.
 fn all_lines<A: Allocator + Copy>(heap: A, alloc: Global, text: &str) -> Option<String> {
     let mut lines = String::new(alloc);
     for item in parse_all(heap, text).ok()?.as_slice() {
@@ -87,8 +87,8 @@ fn stays_ended<A: Allocator + Copy>(
     holds("after Memory, asked again", items.next().is_none())
 }
 
-/// The lines of the items before memory runs out, and whether it did. Where it does, the iterator
-/// gives nothing, though it is asked twice.
+/// Returns the lines of the items before memory runs out, and whether it did. Where it does, the
+/// iterator gives nothing, though it is asked twice.
 fn lines_before<A: Allocator + Copy>(
     heap: A,
     alloc: Global,
@@ -136,7 +136,7 @@ fn the_iterator_gives_the_items_before_memory_is_refused(rt: HostRuntime) -> Res
     Ok(())
 }
 
-/// The line of the iterator's first item.
+/// Returns the line of the iterator's first item.
 fn iterated_line<A: Allocator + Copy>(heap: A, alloc: Global, text: &str) -> Option<String> {
     let mut items = MultiConfigurationStringIter::new(heap, text);
     line_of(alloc, &items.next()?)

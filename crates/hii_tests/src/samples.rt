@@ -43,7 +43,7 @@ pub(crate) const KEPT_PAIRS: &str = "@&OFFSET=00&WIDTH=01&VALUE=00&&b&b&c=1=2\
 pub(crate) const KEPT_PAIRS_ITEMS: &str =
     "A, 4, None | 0x0 1 00 [] [b] [b] [c=1=2] | 0x1 1 0a [x=1]\nA, 4, None\n";
 
-/// The text of a row, in which `@` stands for the short header, and `#` for the driver's.
+/// Returns the text of a row, in which `@` stands for the short header, and `#` for the driver's.
 pub(crate) fn text_of(alloc: Global, row: &str) -> Result<String, AllocError> {
     let text = row.replace(alloc, '@', SHORT_HEADER)?;
     text.as_str().replace(alloc, '#', ISCSI_HEADER)
@@ -100,7 +100,7 @@ fn push_nvconfig<A: Allocator>(
     Ok(())
 }
 
-/// The line of an item; or `None` if memory ran out.
+/// Returns the line of an item, or `None` if memory ran out.
 pub(crate) fn line_of<A: Allocator>(
     alloc: Global,
     item: &Result<ConfigurationString<A>, ParseError>,

@@ -100,7 +100,7 @@ const PAIRS: [(&str, &str); 6] = [
     ("=", "[|]"),
 ];
 
-/// The pairs of a text, as a row has them.
+/// Returns the pairs of a text, as a row has them.
 fn pairs_of(alloc: Global, text: &str) -> Result<String, Fail> {
     let mut seen = String::new(alloc);
     let mut pairs = ConfigurationStringIter::new(text);

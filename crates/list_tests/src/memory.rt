@@ -5,8 +5,8 @@ use test_support::{holds, in_turn};
 use uefi_listing::command::Command;
 use uefi_listing::listing::{Outcome, listing};
 
-/// Returns whether the listing of the bytes is the expected one, and its outcome; or `None` if memory
-/// ran out.
+/// Returns whether the listing of the bytes is the expected one, and its outcome; or `None` if
+/// memory ran out.
 fn listed<A: Allocator + Copy>(
     heap: A,
     (command, input): (&Command, &[u8]),

@@ -8,8 +8,8 @@ use uefi_listing::run::run;
 /// A command, the bytes of its file as hex, and their listing.
 pub type Row<'a> = (Command, &'a str, &'a str);
 
-/// Checks that [`listing`] and [`run`] over memory both give the listing of the bytes of a row, with
-/// this outcome.
+/// Checks that [`listing`] and [`run`] over memory both give the listing of the bytes of a row,
+/// with this outcome.
 pub fn lists(
     alloc: Global,
     (command, row, expected): &Row<'_>,

@@ -19,8 +19,8 @@ pub const TWO_ELEMENTS_LISTING: &str =
     "config 4b47d616-a8d6-4552-9d44-ccad2e0f4cf9\n  name A\n  path 4\n  element 0 1 00\n  \
     nv x=1\n  nv WIDTH=02\n  element 1 1 0a\nitems 1\n";
 
-/// The words after the program's name, the command that they ask for, its input as [`input_of`] reads
-/// it, its listing and its outcome.
+/// The words after the program's name, the command that they ask for, its input as [`input_of`]
+/// reads it, its listing and its outcome.
 pub type Run = (
     &'static [&'static str],
     Command,
@@ -29,8 +29,8 @@ pub type Run = (
     Outcome,
 );
 
-/// Runs of each command, and of each that can be refused a refused one too. The tests `words`, `memory`
-/// and `writers` go over them.
+/// Runs of each command, and of each that can be refused a refused one too. The tests `words`,
+/// `memory` and `writers` go over them.
 pub const RUNS: [Run; 19] = [
     (
         &["path", "FILE"],

@@ -12,7 +12,7 @@ mod writing;
 use std::alloc::{AllocError, Global};
 use uefi_map::{MemoryDescriptor, MemoryMapKey, MemoryMapMeta};
 
-// Returns a map of this many bytes at this stride, with the key 7.
+/// Returns a map of this many bytes at this stride, with the key 7.
 fn meta_of(map_size: usize, desc_size: usize) -> MemoryMapMeta
     ensures map_size { result.map_size ≡ map_size }
     ensures desc_size { result.desc_size ≡ desc_size }
@@ -25,8 +25,8 @@ fn meta_of(map_size: usize, desc_size: usize) -> MemoryMapMeta
     }
 }
 
-// Returns a descriptor as the rows have it: its type, padding, first physical and first virtual
-// address, count of pages and attributes.
+/// Returns a descriptor as the rows have it: its type, padding, first physical and first virtual
+/// address, count of pages and attributes.
 fn fields(descriptor: &MemoryDescriptor) -> [u64; 6] {
     [
         u64::from(descriptor.ty.0),
@@ -38,7 +38,7 @@ fn fields(descriptor: &MemoryDescriptor) -> [u64; 6] {
     ]
 }
 
-// Returns the bytes of descriptors of free memory that begin at these addresses, forty bytes each.
+/// Returns the bytes of descriptors of free memory that begin at these addresses, forty bytes each.
 fn map_at(alloc: Global, starts: &[u64]) -> Result<Vec<u8>, AllocError> {
     let mut bytes = Vec::new(alloc);
     for start in starts {

@@ -10,10 +10,10 @@ use uefi_map::{
     QwordAddressSpaceDescriptor, ResourceError, ResourceList, ResourceRangeType, parse,
 };
 
-// A resource as the rows have it: its type, both flags, and its five numbers.
+/// A resource as the rows have it: its type, both flags, and its five numbers.
 type Range = (ResourceRangeType, [u8; 2], [u64; 5]);
 
-// The resources of [`ROOT_BRIDGE`].
+/// The resources of [`ROOT_BRIDGE`].
 const RANGES: [Range; 4] = [
     (
         ResourceRangeType::Io,
@@ -47,12 +47,12 @@ fn range_of(resource: &QwordAddressSpaceDescriptor) -> Range {
     )
 }
 
-// Returns the resources of the list that the bytes begin with, in a vector.
+/// Returns the resources of the list that the bytes begin with, in a vector.
 fn parsed(alloc: Global, input: &[u8]) -> Result<Vec<Range>, Fail> {
     Ok(parse(alloc, input)?.iter().map(range_of).collect(alloc)?)
 }
 
-// Returns the resources of the list that the bytes begin with, read without memory.
+/// Returns the resources of the list that the bytes begin with, read without memory.
 fn viewed(alloc: Global, input: &[u8]) -> Result<Vec<Range>, Fail> {
     let list = ResourceList::try_from(input)?;
     Ok(
@@ -97,8 +97,8 @@ fn lists_have_their_resources(rt: HostRuntime) -> Result<(), Fail> {
     Ok(())
 }
 
-// Returns the count of resources, what is left at first and at last, and whether the iterator
-// stays ended.
+/// Returns the count of resources, what is left at first and at last, and whether the iterator
+/// stays ended.
 fn steps(input: &[u8]) -> Option<(usize, (usize, Option<usize>), usize, [bool; 2])> {
     let list = ResourceList::try_from(input).ok()?;
     let mut left = list.iter();
@@ -120,7 +120,7 @@ fn what_is_left_is_counted(rt: HostRuntime) -> Result<(), Fail> {
     each_reads(rt.alloc(), &rows, steps)
 }
 
-// Returns whether the resources are those of [`ROOT_BRIDGE`].
+/// Returns whether the resources are those of [`ROOT_BRIDGE`].
 fn are_ranges(resources: &[QwordAddressSpaceDescriptor]) -> bool {
     let mut left = resources.iter();
     for range in RANGES {
@@ -134,8 +134,8 @@ fn are_ranges(resources: &[QwordAddressSpaceDescriptor]) -> bool {
     left.next().is_none()
 }
 
-// Returns whether the resources of the list are those of [`ROOT_BRIDGE`], or its error; or `None`
-// if memory ran out.
+/// Returns whether the resources of the list are those of [`ROOT_BRIDGE`], or its error; or `None`
+/// if memory ran out.
 fn parse_ranges<A: Allocator>(alloc: A, input: &[u8]) -> Option<Result<bool, ResourceError>> {
     match parse(alloc, input) {
         Err(ResourceError::Memory) => None,
@@ -144,7 +144,7 @@ fn parse_ranges<A: Allocator>(alloc: A, input: &[u8]) -> Option<Result<bool, Res
     }
 }
 
-// Returns the errors of the bytes with a tag at an offset, from both readers.
+/// Returns the errors of the bytes with a tag at an offset, from both readers.
 fn tag_errors(alloc: Global, input: &[u8], offset: usize, tag: u8) -> Option<[ResourceError; 2]> {
     let mut list = Vec::from_slice(alloc, input).ok()?;
     *list.get_mut(offset)? = tag;
@@ -152,7 +152,7 @@ fn tag_errors(alloc: Global, input: &[u8], offset: usize, tag: u8) -> Option<[Re
     Some([parsed, ResourceList::try_from(list.as_slice()).err()?])
 }
 
-// Returns what the first bytes of [`ROOT_BRIDGE`] are read as, with `true` for its resources.
+/// Returns what the first bytes of [`ROOT_BRIDGE`] are read as, with `true` for its resources.
 fn cut_list(length: usize) -> Result<bool, ResourceError> {
     match length {
         0 | 46 | 92 | 138 | 184 => Err(ResourceError::NoEndTag),
@@ -222,7 +222,7 @@ fn a_list_is_read_or_memory_was_refused(rt: HostRuntime) -> Result<(), Fail> {
     holds("a list takes memory", requests > 0)
 }
 
-// Checks that bytes have this error, whatever requests for memory are granted.
+/// Checks that bytes have this error, whatever requests for memory are granted.
 fn check_error(alloc: Global, input: &[u8], error: ResourceError) -> Result<(), Fail> {
     without_request(alloc, &Some(Err(error)), |heap| parse_ranges(heap, input))
 }

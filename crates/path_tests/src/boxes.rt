@@ -4,7 +4,7 @@ use test_support::samples::TWO_INSTANCES;
 use test_support::{bytes, holds, in_turn, same, same_bytes};
 use uefi_path::{BoxedDevicePath, ByteConversionError, DevicePath, DevicePathInstance};
 
-// Returns whether the path in a box is the path, and its length; or `None` if memory ran out.
+/// Returns whether the path in a box is the path, and its length; or `None` if memory ran out.
 fn box_path<A: Allocator>(alloc: A, path: &DevicePath<'_>) -> Option<(bool, usize)> {
     let boxed = path.to_boxed(alloc).ok()?;
     Some((boxed.as_path() == *path, boxed.as_path().as_bytes().len()))
@@ -41,8 +41,8 @@ fn a_box_keeps_the_path_that_bytes_begin_with(rt: HostRuntime) -> Result<(), Fai
     )
 }
 
-// Returns whether the instance in a box is the instance, and its length; or `None` if memory ran
-// out.
+/// Returns whether the instance in a box is the instance, and its length; or `None` if memory ran
+/// out.
 fn box_instance<A: Allocator>(
     alloc: A,
     instance: &DevicePathInstance<'_>,

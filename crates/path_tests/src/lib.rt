@@ -1,4 +1,5 @@
-//! Tests of the library `uefi_path` over its public names: worked rows, and a path of a real firmware.
+//! Tests of the library `uefi_path` over its public names: worked rows, and a path of a real
+//! firmware.
 #![tactic(auto)]
 
 #[cfg(test)]

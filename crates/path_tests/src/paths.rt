@@ -6,9 +6,9 @@ use uefi_path::{
     ByteConversionError, DevicePath, DevicePathInstance, DevicePathNode, DevicePathNodeIterator,
 };
 
-// Bytes that begin with a path, and what its iterators give: all nodes of the path, then each
-// instance, as its length and all its nodes. A node is its type, its subtype, its length and its
-// data, and `00` stands where an iterator gives nothing, for which each is asked twice.
+/// Bytes that begin with a path, and what its iterators give: all nodes of the path, then each
+/// instance, as its length and all its nodes. A node is its type, its subtype, its length and its
+/// data, and `00` stands where an iterator gives nothing, for which each is asked twice.
 const PATHS: [(&str, &str); 4] = [
     (
         TWO_INSTANCES,
@@ -36,7 +36,7 @@ const PATHS: [(&str, &str); 4] = [
     ("7fff 0600 aabb  cc", "00 00  06  00 00  00 00"),
 ];
 
-// Appends what a step of an iterator of nodes gives.
+/// Appends what a step of an iterator of nodes gives.
 fn push_node(seen: &mut Vec<u8>, node: Option<DevicePathNode<'_>>) -> Result<(), AllocError> {
     let Some(node) = node else {
         return seen.extend_from_slice(&[0]);
@@ -47,7 +47,7 @@ fn push_node(seen: &mut Vec<u8>, node: Option<DevicePathNode<'_>>) -> Result<(),
     seen.extend_from_slice(node.data())
 }
 
-// Appends all nodes, and twice what the iterator gives after the last.
+/// Appends all nodes, and twice what the iterator gives after the last.
 fn push_nodes(seen: &mut Vec<u8>, nodes: DevicePathNodeIterator<'_>) -> Result<(), AllocError> {
     let mut left = nodes;
     for _ in nodes {
@@ -57,7 +57,7 @@ fn push_nodes(seen: &mut Vec<u8>, nodes: DevicePathNodeIterator<'_>) -> Result<(
     push_node(seen, left.next())
 }
 
-// Appends what a step of an iterator of instances gives.
+/// Appends what a step of an iterator of instances gives.
 fn push_instance(
     seen: &mut Vec<u8>,
     instance: Option<DevicePathInstance<'_>>,
@@ -70,7 +70,7 @@ fn push_instance(
     push_nodes(seen, instance.node_iter())
 }
 
-// Returns what the iterators of the path give, as a row has it.
+/// Returns what the iterators of the path give, as a row has it.
 fn parts(alloc: Global, input: &[u8]) -> Result<Vec<u8>, Fail> {
     let path = DevicePath::try_from(input)?;
     let mut seen = Vec::new(alloc);
@@ -89,7 +89,7 @@ fn a_path_has_its_nodes_and_its_instances(rt: HostRuntime) -> Result<(), Fail> {
     each_makes(rt.alloc(), &PATHS, parts)
 }
 
-// Returns the length of the path in bytes, and how many nodes and instances its iterators count.
+/// Returns the length of the path in bytes, and how many nodes and instances its iterators count.
 fn counts(input: &[u8]) -> Option<(usize, usize, usize)> {
     let path = DevicePath::try_from(input).ok()?;
     Some((
@@ -110,8 +110,8 @@ fn a_path_has_a_length_and_counts(rt: HostRuntime) -> Result<(), Fail> {
     each_reads(rt.alloc(), &rows, counts)
 }
 
-// Returns whether the bytes begin with those of the path, and these are those of its instances,
-// one instance after another.
+/// Returns whether the bytes begin with those of the path, and these are those of its instances,
+/// one instance after another.
 fn is_joined(input: &[u8]) -> bool {
     let Ok(path) = DevicePath::try_from(input) else {
         return false;
@@ -137,7 +137,7 @@ fn a_path_is_its_instances_joined(rt: HostRuntime) -> Result<(), Fail> {
     each_holds(rt.alloc(), &rows, is_joined)
 }
 
-// Returns whether no prefix of the bytes is a path.
+/// Returns whether no prefix of the bytes is a path.
 fn is_no_path(input: &[u8]) -> bool {
     DevicePath::try_from(input).err() == Some(ByteConversionError::InvalidLength)
 }
@@ -148,7 +148,7 @@ fn bytes_without_a_path_are_refused(rt: HostRuntime) -> Result<(), Fail> {
     each_holds(rt.alloc(), &rows, is_no_path)
 }
 
-// Returns whether the bytes are a path, and fewer of them are not.
+/// Returns whether the bytes are a path, and fewer of them are not.
 fn is_path_when_whole(input: &[u8]) -> bool {
     for length in 0..input.len() {
         if !is_no_path(&input[..length]) {

@@ -11,8 +11,8 @@ const TYPE: DeviceType = DeviceType(0xa0);
 
 const SUB_TYPE: DeviceSubType = DeviceSubType(0xb0);
 
-// Returns the type, the subtype, both of them, and the length of the node that the bytes begin
-// with.
+/// Returns the type, the subtype, both of them, and the length of the node that the bytes begin
+/// with.
 fn header_of_node(
     input: &[u8],
 ) -> Result<(DeviceType, DeviceSubType, (DeviceType, DeviceSubType), u16), ByteConversionError> {
@@ -38,7 +38,7 @@ fn a_node_needs_its_whole_length(rt: HostRuntime) -> Result<(), Fail> {
     each_reads(rt.alloc(), &rows, header_of_node)
 }
 
-// Returns the data of the node that the bytes begin with, and then all its bytes.
+/// Returns the data of the node that the bytes begin with, and then all its bytes.
 fn data_and_bytes(alloc: Global, input: &[u8]) -> Result<Vec<u8>, Fail> {
     let node = DevicePathNode::try_from(input)?;
     let mut seen = Vec::from_slice(alloc, node.data())?;
@@ -56,8 +56,8 @@ fn a_node_has_its_data_and_its_bytes(rt: HostRuntime) -> Result<(), Fail> {
     each_makes(rt.alloc(), &rows, data_and_bytes)
 }
 
-// Returns whether the node that the bytes begin with ends a path; or `None` if they begin with no
-// node.
+/// Returns whether the node that the bytes begin with ends a path; or `None` if they begin with no
+/// node.
 fn is_end_entire(input: &[u8]) -> Option<bool> {
     Some(DevicePathNode::try_from(input).ok()?.is_end_entire())
 }
@@ -90,7 +90,7 @@ fn nodes_and_paths_are_displayed_by_their_lengths(rt: HostRuntime) -> Result<(),
     each_shows(rt.alloc(), &paths, path_text)
 }
 
-// Returns the fields of the header that the bytes begin with.
+/// Returns the fields of the header that the bytes begin with.
 fn header(input: &[u8]) -> Result<(DeviceType, DeviceSubType, u16), ByteConversionError> {
     let header = DevicePathHeader::try_from(input)?;
     Ok((header.device_type(), header.sub_type(), header.length()))
@@ -105,7 +105,7 @@ fn a_header_has_whatever_length_its_bytes_state(rt: HostRuntime) -> Result<(), F
     each_reads(rt.alloc(), &rows, header)
 }
 
-// Returns whether the bytes begin with the header of [`TYPE`], [`SUB_TYPE`] and this length.
+/// Returns whether the bytes begin with the header of [`TYPE`], [`SUB_TYPE`] and this length.
 fn is_header(input: &([u8; 4], u16)) -> bool {
     let (bytes, length) = *input;
     DevicePathHeader::try_from(bytes.as_slice())
@@ -121,8 +121,8 @@ fn headers_are_equal_where_their_fields_are() -> Result<(), Fail> {
     each_gives(&rows, is_header)
 }
 
-// Returns whether the two paths, their first nodes and their first instances are equal, in this
-// order.
+/// Returns whether the two paths, their first nodes and their first instances are equal, in this
+/// order.
 fn equalities(input: &([u8; 9], [u8; 10])) -> Option<[bool; 3]> {
     let (one, other) = input;
     let one = DevicePath::try_from(one.as_slice()).ok()?;

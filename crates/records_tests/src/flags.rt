@@ -2,8 +2,8 @@ use std::test::Fail;
 use test_support::{each_gives, holds, same};
 use uefi_records::{Daylight, FileAttribute};
 
-// Returns the set of these bits, if all of them have a name, and the bits of the set that keeps
-// them all.
+/// Returns the set of these bits, if all of them have a name, and the bits of the set that keeps
+/// them all.
 fn attributes(bits: &u64) -> (Option<FileAttribute>, u64) {
     (
         FileAttribute::from_bits(*bits),

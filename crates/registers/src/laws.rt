@@ -4,7 +4,7 @@ ghost use Rattle.registers.specs.Laws.{OneContents};
 
 use uefi_tcg::laws::{one_log_v1, one_log_v2};
 
-/// Bytes and a last entry are one log: it has one list of entries, with one end.
+/// States that bytes and a last entry are one log: it has one list of entries, with one end.
 pub fn one_contents()
     ensures { OneContents }
 {

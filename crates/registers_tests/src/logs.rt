@@ -200,8 +200,8 @@ const LEFT_OVER: [(&str, usize); 8] = [
     ("", 0),
 ];
 
-/// The text of a log's outcome with SHA-1: registers 0, 1 and 17 as hex, or the event's index, its
-/// offset and its fault.
+/// Returns the text of a log's outcome with SHA-1: registers 0, 1 and 17 as hex, or the event's
+/// index, its offset and its fault.
 fn outcome(alloc: Global, bytes: &[u8]) -> Result<String, Fail> {
     let log = Log::new(bytes, Some(bytes.len()));
     let registers = match replay(&log, Bank::Sha1) {

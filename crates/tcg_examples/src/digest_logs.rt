@@ -101,8 +101,8 @@ pub fn events_so_far<'a>(
 }
 
 /// Reads a log of version 2 again whose last event started at the last entry, from bytes that are
-/// the same up to that event's end: it has the same events for that last entry, and begins with them
-/// for every last entry from that end on.
+/// the same up to that event's end: it has the same events for that last entry, and begins with
+/// them for every last entry from that end on.
 pub fn events_again<'a>(
     alloc: Global,
     bytes: &'a [u8],
@@ -190,7 +190,7 @@ pub fn event_count(bytes: &[u8], last_entry: usize) -> usize
     count_from_header(bytes, last_entry)
 }
 
-// Returns how many events a log of version 2 has from its header's end on.
+/// Returns how many events a log of version 2 has from its header's end on.
 fn count_from_header(bytes: &[u8], last_entry: usize) -> usize
     ensures { (events : List Event) × IsLogOf after_header (Some bytes.now) (Some last_entry) events
         × (result ≡ length events) }

@@ -153,8 +153,8 @@ pub fn count_without_last_entry(bytes: &[u8]) -> usize
     EventLog::new(Some(bytes), None, false).iter().count()
 }
 
-/// Returns the first event of a log by one step of the iterator: the event that keeps alone from the
-/// log's first byte on, or none if no event does.
+/// Returns the first event of a log by one step of the iterator: the event that keeps alone from
+/// the log's first byte on, or none if no event does.
 pub fn first_step(bytes: &[u8], last_entry: usize) -> Option<PcrEvent<'_>>
     ensures { MatchOption result
         ((event : Event) → EventsKeep (event ∷ []) 0 last_entry bytes.now → ⊥)
@@ -165,8 +165,8 @@ pub fn first_step(bytes: &[u8], last_entry: usize) -> Option<PcrEvent<'_>>
     events.next()
 }
 
-/// Returns the first two events of a log by two steps: the second keeps alone in the log's bytes from
-/// the end of the first on.
+/// Returns the first two events of a log by two steps: the second keeps alone in the log's bytes
+/// from the end of the first on.
 pub fn two_steps(bytes: &[u8], last_entry: usize) -> Option<(PcrEvent<'_>, PcrEvent<'_>)>
     ensures first { IfSome result
         (λ two. EventsKeep (event_of two.0 ∷ []) 0 last_entry bytes.now) }

@@ -32,8 +32,8 @@ fn a_capability_of_version_1_has_its_fields() -> Result<(), Fail> {
     )
 }
 
-/// The capability of version 1 with these numbers as its fields, in the order of its parameters. The
-/// versions have them as their major numbers.
+/// Returns the capability of version 1 with these numbers as its fields, in the order of its
+/// parameters. The versions have them as their major numbers.
 fn capability1(fields: &[u8; 5]) -> v1::BootServiceCapability {
     let [structure, protocol, algorithms, present, deactivated] = *fields;
     let zero = v1::Version::default();
@@ -124,7 +124,8 @@ fn names_are_numbers() -> Result<(), Fail> {
     holds("registers are ordered", PcrIndex(4) < PcrIndex(7))
 }
 
-/// The capability of version 2 with these numbers as its fields, in the order of its parameters.
+/// Returns the capability of version 2 with these numbers as its fields, in the order of its
+/// parameters.
 fn capability2(fields: &[u8; 10]) -> v2::BootServiceCapability {
     let [
         structure,

@@ -8,7 +8,7 @@ pub(crate) fn push_hex(text: &mut String, bytes: &[u8]) -> Result<(), AllocError
     Ok(())
 }
 
-/// The texts, one after another.
+/// Returns the texts, one after another.
 pub(crate) fn joined(alloc: Global, texts: &[&str]) -> Result<String, AllocError> {
     let mut whole = String::new(alloc);
     for text in texts {

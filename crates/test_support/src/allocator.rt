@@ -14,26 +14,28 @@
 //!
 //! [`without_request`] shows that a call asks for no memory at all.
 //!
-//! Its proof says that it is as safe as the allocator below it. Which requests it refuses no contract
-//! says, since none can say what a cell holds: the tests `requests` of `base_tests` do.
+//! Its proof says that it is as safe as the allocator below it. Which requests it refuses no
+//! contract says, since none can say what a cell holds: the tests `requests` of `base_tests` do.
 
 use std::alloc::{AllocError, Allocator, Global};
 use std::cell::Cell;
 use std::fmt::Debug;
 use std::test::Fail;
 
-/// An allocator that hands a number of requests on to another, and refuses every one from then on.
+/// An allocator that passes a number of requests on to another, and refuses every one from then on.
 ///
 /// A call of [`Allocator::allocate`] is one request. A collection that grows or shrinks moves to
-/// another block, which is one request as well. Giving a block back is none, and is always handed on.
+/// another block, which is one request as well. Giving a block back is none, and is always handed
+/// on.
 pub struct Refusing<B: Allocator> {
     inner: B,
-    // The requests that are still granted, or `None` once one was refused.
+    /// The requests that are still granted, or `None` once one was refused.
     granted: Cell<Option<u64>>,
 }
 
 impl<B: Allocator> Refusing<B> {
-    /// Makes the allocator that grants the first `granted` requests by `inner`, and none after them.
+    /// Makes the allocator that grants the first `granted` requests by `inner`, and none after
+    /// them.
     ///
     /// A request that `inner` itself refuses counts as one that was granted.
     pub fn after(inner: B, granted: u64) -> Refusing<B> {
@@ -91,8 +93,8 @@ const MOST_REQUESTS: u64 = 100;
 /// # Errors
 ///
 /// A failure if the call runs out of memory though no request was refused, if it gives something
-/// though one was, if it gives another value than `expected`, or if it still asks for more after 100
-/// requests.
+/// though one was, if it gives another value than `expected`, or if it still asks for more after
+/// 100 requests.
 pub fn in_turn<T, F>(alloc: Global, expected: &T, call: F) -> Result<u64, Fail>
 where
     T: PartialEq + Debug + Drop,

@@ -12,8 +12,8 @@ pub const CON_OUT: &str = "0201 0c00 d041030a00000000  0101 0600 0001  0203 0800
     030e 1300 0000000000c2010000000000080101 \
     030a 1400 5347c1e0bef9d2119a0c0090273fc14d  7fff 0400";
 
-/// A file information record of 88 bytes in which each field has a value of its own, named `ab`, with
-/// its size in the first byte and the two bytes that round it up.
+/// A file information record of 88 bytes in which each field has a value of its own, named `ab`,
+/// with its size in the first byte and the two bytes that round it up.
 pub const FILE: &str = "5800000000000000 0100000000000000 0200000000000000 \
     e807021f0102030405060708090a0b0c e707021e1112131415161718191a1b1c \
     e607021d2122232425262728292a2b2c 1000000000000080  6100 6200 0000  eeee";
@@ -24,8 +24,8 @@ pub const ZERO_FILE: &str = "5800000000000000 0000000000000000 0000000000000000 
     00000000000000000000000000000000 00000000000000000000000000000000 \
     00000000000000000000000000000000 0000000000000000  6100 6200 0000  0000";
 
-/// A file system information record of 48 bytes in which each field has a value of its own, labelled
-/// `ab`. Its read-only byte is 2, and the bytes that no field has are 0xee.
+/// A file system information record of 48 bytes in which each field has a value of its own,
+/// labelled `ab`. Its read-only byte is 2, and the bytes that no field has are 0xee.
 pub const FILE_SYSTEM: &str = "3000000000000000 02 eeeeeeeeeeeeee 0100000000000000 \
     0200000000000000 03000000  6100 6200 0000  eeeeeeeeeeee";
 

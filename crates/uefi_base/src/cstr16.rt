@@ -66,7 +66,7 @@ impl<'a> CStr16<'a> {
         }
     }
 
-    // Returns the text that consists of all of `units`, which are known to be text.
+    /// Returns the text that consists of all of `units`, which are known to be text.
     pub(crate) fn from_u16_with_nul_unchecked(units: &'a [u16]) -> CStr16<'a>
         requires { IsUcs2Text units.now }
         ensures { text_units result ≡ units.now }
@@ -118,7 +118,7 @@ impl fmt::Display for CStr16<'_> {
     }
 }
 
-// Writes units that are characters.
+/// Writes units that are characters.
 fn write_characters<W: fmt::Write>(f: &mut fmt::Formatter<W>, units: &[u16]) -> fmt::Result
     requires { AreCharactersBefore units.now (length units.now) }
     ensures { DisplaysOnOk W.write_str_gives f.old result (Some (encode_utf8_all units.now)) f.new }
@@ -129,7 +129,7 @@ fn write_characters<W: fmt::Write>(f: &mut fmt::Formatter<W>, units: &[u16]) -> 
     Ok(())
 }
 
-// Returns the first unit that isn't a character, with its index.
+/// Returns the first unit that isn't a character, with its index.
 fn first_non_character(units: &[u16]) -> Option<(usize, u16)>
     ensures { IsFirstNonCharacter units.now result }
 {

@@ -52,7 +52,7 @@ impl<A: Allocator> CString16<A> {
         Ok(CString16::from_vec_with_nul_unchecked(units))
     }
 
-    // Returns the text that consists of all of `units`, which are known to be text.
+    /// Returns the text that consists of all of `units`, which are known to be text.
     pub(crate) fn from_vec_with_nul_unchecked(units: Vec<u16, A>) -> CString16<A>
         requires { IsUcs2Text units.items }
         ensures { owned_units result ≡ units.items }
@@ -82,7 +82,7 @@ impl<A: Allocator> fmt::Display for CString16<A> {
     }
 }
 
-// Returns the error for characters that can't be made into text.
+/// Returns the error for characters that can't be made into text.
 fn fault_of(text: &str) -> Option<FromStrError>
     ensures { MatchOption result (MakeUcs2Text (chars text.now)) (HasStrFault (chars text.now)) }
 {
@@ -96,7 +96,7 @@ fn fault_of(text: &str) -> Option<FromStrError>
     }
 }
 
-// Returns the number of characters.
+/// Returns the number of characters.
 #[tactic(auto, using(std::proofs::lemmas::Str::chars_from_encodes))]
 fn char_count(text: &str) -> usize
     ensures { result ≡ length (chars text.now) }
@@ -104,21 +104,21 @@ fn char_count(text: &str) -> usize
     text.chars().count()
 }
 
-// Returns the first character that has no unit of its own.
+/// Returns the first character that has no unit of its own.
 fn first_without_unit(text: &str) -> Option<char>
     ensures { IsFirstWithoutUnit (chars text.now) result }
 {
     text.chars().find(|c| !has_unit(*c))
 }
 
-// Returns whether the character has a unit of its own that isn't the NUL.
+/// Returns whether the character has a unit of its own that isn't the NUL.
 fn has_unit(c: char) -> bool
     ensures { IsTrue result ↔ HasUnit c }
 {
     c != '\0' && c <= MAX_UNIT_CHARACTER
 }
 
-// Returns a unit for each character, and the NUL.
+/// Returns a unit for each character, and the NUL.
 fn units_with_nul<A: Allocator>(alloc: A, text: &str) -> Result<Vec<u16, A>, AllocError>
     requires { MakeUcs2Text (chars text.now) }
     ensures { IfOk result (λ units. units.items ≡ chars text.now ++ 0 ∷ []) }

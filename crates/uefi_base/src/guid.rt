@@ -52,7 +52,7 @@ impl fmt::Display for Guid {
     }
 }
 
-// Two bytes, displayed as two lowercase hex digits each.
+/// Two bytes, displayed as two lowercase hex digits each.
 #[derive(Clone, Copy)]
 struct HexPair(u8, u8);
 

@@ -23,8 +23,9 @@ pub trait Identify {
 
 /// A type that has the GUID of another type, its identity.
 ///
-/// It is for types with a lifetime: outside this crate, none of them can give [`Identify`] itself the
-/// ghost member that says which value the constant has. The identity is a type without a lifetime.
+/// It is for types with a lifetime: outside this crate, none of them can give [`Identify`] itself
+/// the ghost member that says which value the constant has. The identity is a type without a
+/// lifetime.
 pub trait IdentifiedBy {
     /// The type whose GUID this type has.
     type Identity: Identify;

@@ -17,7 +17,7 @@ pub enum Status {
     OUT_OF_RESOURCES,
 }
 
-// The bit that is set in the code of every error.
+/// The bit that is set in the code of every error.
 const ERROR_BIT: u64 = 1 << 63;
 
 impl Status {

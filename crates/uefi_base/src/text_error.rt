@@ -107,7 +107,7 @@ pub enum UnalignedCStr16Error {
 }
 
 impl UnalignedCStr16Error {
-    // Returns the error of the units, or `None` if an allocation failed.
+    /// Returns the error of the units, or `None` if an allocation failed.
     fn of_units(self) -> Option<FromSliceWithNulError>
         ensures { MatchOption result (self ≡ UnalignedCStr16Error.Memory)
             (λ fault. self ≡ unaligned_error fault) }

@@ -85,7 +85,7 @@ impl<'a> UnalignedSlice<'a> {
         }
     }
 
-    // Returns the unit at an index that is known to be in bounds.
+    /// Returns the unit at an index that is known to be in bounds.
     fn unit(&self, index: usize) -> u16
         requires { index < length (slice_units self.now) }
         ensures { result ≡ slice_index (slice_units self.now) index }
@@ -130,7 +130,7 @@ impl<'a> UnalignedSlice<'a> {
         Ok(CString16::from_vec_with_nul_unchecked(units))
     }
 
-    // Returns whether both slices have the same units.
+    /// Returns whether both slices have the same units.
     fn has_units_of(&self, other: &UnalignedSlice<'_>) -> bool
         ensures { IsTrue result ↔ (slice_units self.now ≡ slice_units other.now) }
     {
@@ -145,7 +145,7 @@ impl<'a> UnalignedSlice<'a> {
         true
     }
 
-    // Returns the first unit that isn't a character, with its index.
+    /// Returns the first unit that isn't a character, with its index.
     fn first_non_character(&self) -> Option<(usize, u16)>
         ensures { IsFirstNonCharacter (slice_units self.now) result }
     {
@@ -187,7 +187,7 @@ pub struct UnalignedSliceIter<'a> {
 impl<'a> UnalignedSliceIter<'a> {
     ghost use Rattle.uefi_base.specs.Views.{units_left};
 
-    // Returns an iterator over the units in `rest`.
+    /// Returns an iterator over the units in `rest`.
     fn new(rest: &'a [u8]) -> UnalignedSliceIter<'a>
         ensures units { units_left result ≡ units_of rest.now }
         ensures countable { length rest.now < 2 ^ 64 }

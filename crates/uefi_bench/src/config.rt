@@ -3,7 +3,7 @@ use uefi_hii::{
     ConfigurationString, ConfigurationStringIter, MultiConfigurationStringIter, fill_from_hex,
 };
 
-/// The text that the bytes are; or the empty text where they aren't UTF-8.
+/// Returns the bytes as a text, or the empty text if they aren't UTF-8.
 fn text_of(bytes: &[u8]) -> &str {
     str::from_utf8(bytes).unwrap_or("")
 }
@@ -33,7 +33,7 @@ pub extern "C" fn port_config(alloc: Global, bytes: &[u8]) -> u64 {
     sum
 }
 
-/// The sum over offset, width and first byte of each element.
+/// Returns the sum over offset, width and first byte of each element.
 fn element_sum(configuration: &ConfigurationString) -> u64 {
     let mut sum = 0u64;
     for element in configuration.elements.as_slice() {
@@ -57,7 +57,7 @@ pub extern "C" fn port_config_value(alloc: Global, bytes: &[u8]) -> u64 {
     sum
 }
 
-/// The sum over length and first byte of each value.
+/// Returns the sum over length and first byte of each value.
 fn value_sum(configuration: &ConfigurationString) -> u64 {
     let mut sum = 0u64;
     for element in configuration.elements.as_slice() {
@@ -68,7 +68,8 @@ fn value_sum(configuration: &ConfigurationString) -> u64 {
     sum
 }
 
-/// Fills memory with the bytes that the text spells in hex. The sum is over their number and the first.
+/// Fills memory with the bytes that the text spells in hex. The sum is over their number and the
+/// first.
 #[unsafe(no_mangle)]
 pub extern "C" fn port_hex(alloc: Global, bytes: &[u8]) -> u64 {
     let text = text_of(bytes);
@@ -83,7 +84,7 @@ pub extern "C" fn port_hex(alloc: Global, bytes: &[u8]) -> u64 {
     }
 }
 
-/// The first byte, or 0 if there is none.
+/// Returns the first byte, or 0 if there is none.
 fn first_of(bytes: &[u8]) -> u64 {
     bytes.first().map_or(0, |byte| u64::from(*byte))
 }

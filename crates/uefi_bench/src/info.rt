@@ -1,7 +1,7 @@
 use uefi_records::FileInfo;
 
-/// Reads the file information record that all the bytes were written for. The sum is the number of units
-/// of its name, without the NUL.
+/// Reads the file information record that all the bytes were written for. The sum is the number of
+/// units of its name, without the NUL.
 #[unsafe(no_mangle)]
 pub extern "C" fn port_info(bytes: &[u8]) -> u64 {
     match FileInfo::from_uefi(bytes, bytes.len()) {

@@ -17,8 +17,8 @@ pub extern "C" fn port_log1(bytes: &[u8], last_entry: usize) -> u64 {
     sum
 }
 
-/// Reads the bytes as an event log of version 2 with this last entry. The sum is over register, type
-/// and length of the data of each event and, if `digests` is 1, over [`digest_sum`].
+/// Reads the bytes as an event log of version 2 with this last entry. The sum is over register,
+/// type and length of the data of each event and, if `digests` is 1, over [`digest_sum`].
 #[unsafe(no_mangle)]
 pub extern "C" fn port_log2(bytes: &[u8], last_entry: usize, digests: u32) -> u64 {
     let log = v2::EventLog::new(Some(bytes), Some(last_entry), false);
@@ -35,7 +35,7 @@ pub extern "C" fn port_log2(bytes: &[u8], last_entry: usize, digests: u32) -> u6
     sum
 }
 
-/// The sum over the digests' algorithms and first bytes.
+/// Returns the sum over the digests' algorithms and first bytes.
 fn digest_sum(digests: v2::PcrEventDigests<'_>) -> u64 {
     let mut sum = 0u64;
     for (algorithm, digest) in digests {

@@ -1,6 +1,6 @@
 use uefi_map::{MemoryDescriptor, MemoryMap, MemoryMapKey, MemoryMapMeta, MemoryMapRef};
 
-/// What firmware would say of a map that is all the bytes.
+/// Returns what firmware would say of a map that is all the bytes.
 fn meta_of(bytes: &[u8], desc_size: usize) -> MemoryMapMeta {
     MemoryMapMeta {
         map_size: bytes.len(),

@@ -34,7 +34,7 @@ pub extern "C" fn port_instances(bytes: &[u8]) -> u64 {
     sum
 }
 
-/// The sum over the nodes' types and the lengths of their data.
+/// Returns the sum over the nodes' types and the lengths of their data.
 fn node_sum(nodes: DevicePathNodeIterator<'_>) -> u64 {
     let mut sum = 0u64;
     for node in nodes {

@@ -3,7 +3,8 @@ use uefi_records::Time;
 /// The bytes of a time.
 const TIME_LENGTH: usize = 16;
 
-/// Reads each sixteen bytes as a time. The sum is over year, day and nanosecond of each that is one.
+/// Reads each sixteen bytes as a time. The sum is over year, day and nanosecond of each that is
+/// one.
 #[unsafe(no_mangle)]
 pub extern "C" fn port_times(bytes: &[u8]) -> u64 {
     let mut sum = 0u64;

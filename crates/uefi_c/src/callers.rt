@@ -1,7 +1,7 @@
 //! Callers of the exported functions: what the loops of a C program over them find.
 //!
-//! Each loop calls its function from the start until it returns false. What it finds is proved to be
-//! the list that the library's iterator gives.
+//! Each loop calls its function from the start until it returns false. What it finds is proved to
+//! be the list that the library's iterator gives.
 
 mod digests;
 mod instances;

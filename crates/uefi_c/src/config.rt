@@ -50,7 +50,7 @@ pub extern "C" fn uefi_config_next_pair<'a>(
     true
 }
 
-// Returns the key of a piece, and its value if it has one.
+/// Returns the key of a piece, and its value if it has one.
 fn pair_of(piece: &[u8]) -> UefiPair<'_>
     ensures { pair_seen result ≡ pair_of piece.now }
 {
@@ -71,7 +71,7 @@ fn pair_of(piece: &[u8]) -> UefiPair<'_>
     }
 }
 
-// Returns the index of the first of these bytes, or the length if there is none.
+/// Returns the index of the first of these bytes, or the length if there is none.
 fn position_of(wanted: u8, bytes: &[u8]) -> usize
     ensures position { result ≡ position_or_len (λ byte. byte == wanted) bytes.now }
     ensures within { result ≤ length bytes.now }

@@ -4,11 +4,11 @@ ghost use Rattle.uefi_hii.specs.Hex.{hex};
 
 use uefi_hii::{ConfigurationString, fill_from_hex};
 
-/// Writes the bytes that a text in UTF-8 spells in hex to the beginning of the buffer, and sets `size`
-/// to their number; the bytes after them stay as they were.
+/// Writes the bytes that a text in UTF-8 spells in hex to the beginning of the buffer, and sets
+/// `size` to their number; the bytes after them stay as they were.
 ///
-/// If it returns false, all bytes stay as they were, and `size` is the length that the buffer needs,
-/// or 0 if the text isn't UTF-8.
+/// If it returns false, all bytes stay as they were, and `size` is the length that the buffer
+/// needs, or 0 if the text isn't UTF-8.
 #[unsafe(no_mangle)]
 pub extern "C" fn uefi_hex(text: &[u8], buffer: &mut [u8], size: &mut usize) -> bool
     ensures fits { IsTrue result

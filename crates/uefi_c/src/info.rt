@@ -131,8 +131,8 @@ pub extern "C" fn uefi_file_system_info<'a>(
     }
 }
 
-/// Reads the record of a volume label alone in the first `written` bytes of the buffer: the bytes of
-/// the label, units of two bytes, little-endian, of which the last alone is zero.
+/// Reads the record of a volume label alone in the first `written` bytes of the buffer: the bytes
+/// of the label, units of two bytes, little-endian, of which the last alone is zero.
 #[unsafe(no_mangle)]
 pub extern "C" fn uefi_volume_label<'a>(
     buffer: &'a [u8],
@@ -159,7 +159,7 @@ pub extern "C" fn uefi_volume_label<'a>(
     }
 }
 
-// Returns the bytes of this many units from the offset on.
+/// Returns the bytes of this many units from the offset on.
 fn name_bytes(buffer: &[u8], offset: usize, units: usize) -> &[u8]
     requires { offset + 2 * units ≤ length buffer.now }
     ensures { result.now ≡ take (2 * units) (drop offset buffer.now) }

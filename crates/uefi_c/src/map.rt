@@ -72,7 +72,7 @@ pub extern "C" fn uefi_map_is_sorted(map: &[u8], stride: usize) -> bool
     }
 }
 
-// Returns what is known of a map that is all the bytes.
+/// Returns the sizes of a map that is all the bytes.
 fn sizes_of(map_size: usize, desc_size: usize) -> MemoryMapMeta
     ensures { result ≡ sizes_of map_size desc_size }
 {

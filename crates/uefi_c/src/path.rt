@@ -68,14 +68,14 @@ pub extern "C" fn uefi_path_next_node<'a>(
     true
 }
 
-// Returns whether the node ends the walk, by whether the bytes end after it.
+/// Returns whether the node ends the walk, by whether the bytes end after it.
 fn ends_walk(node: &DevicePathNode<'_>, is_at_end: bool) -> bool
     ensures { IsTrue result ↔ EndsWalk (node_of node.now) (IsTrue is_at_end) }
 {
     node.is_end_entire() || is_at_end && is_end(node)
 }
 
-// Returns whether the node has the type END.
+/// Returns whether the node has the type END.
 fn is_end(node: &DevicePathNode<'_>) -> bool
     ensures { IsTrue result ↔ IsEnd (node_of node.now) }
 {
@@ -107,7 +107,7 @@ pub extern "C" fn uefi_path_next_instance<'a>(
     true
 }
 
-// Returns the instance that the bytes begin with: the nodes up to the first of type END.
+/// Returns the instance that the bytes begin with: the nodes up to the first of type END.
 fn first_instance(bytes: &[u8]) -> Option<&[u8]>
     ensures instance { IfSome result (λ found. EncodesInstance found.now) }
     ensures prefix { IfSome result (λ found. IsPrefix found.now bytes.now) }
@@ -126,7 +126,7 @@ fn first_instance(bytes: &[u8]) -> Option<&[u8]>
     }
 }
 
-// Returns the node that the bytes begin with, and the bytes after it.
+/// Returns the node that the bytes begin with, and the bytes after it.
 fn split_node(bytes: &[u8]) -> Option<(DevicePathNode<'_>, &[u8])>
     ensures fits { IfSome result (λ split. Fits (node_of split.0)) }
     ensures split { IfSome result

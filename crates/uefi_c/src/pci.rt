@@ -79,7 +79,7 @@ pub extern "C" fn uefi_pci_next(list: &[u8], offset: &mut usize, out: &mut UefiR
     step
 }
 
-// Returns what the bytes begin with.
+/// Returns what the bytes begin with.
 fn step_at(rest: &[u8]) -> u32
     ensures { IsStep rest.now result }
 {
@@ -92,7 +92,7 @@ fn step_at(rest: &[u8]) -> u32
     }
 }
 
-// Returns the resource in the bytes of a record.
+/// Returns the resource in the bytes of a record.
 #[tactic(auto, unfolding(uefi_map::specs::pci::Resource::resource_in))]
 fn resource_in(bytes: &[u8]) -> UefiResource
     requires { record_length ≤ length bytes.now }

@@ -91,7 +91,7 @@ pub extern "C" fn uefi_time_faults(bytes: &[u8], out: &mut UefiTimeFaults) -> bo
     }
 }
 
-// Returns the fields of a time, without its padding.
+/// Returns the fields of a time, without its padding.
 pub(crate) fn seen(time: &Time) -> UefiTime
     ensures { time_seen result ≡ without_pads (time_of time.now) }
 {
@@ -108,7 +108,7 @@ pub(crate) fn seen(time: &Time) -> UefiTime
     }
 }
 
-// Returns the fields at fault.
+/// Returns the fields at fault.
 fn seen_faults(faults: &TimeError) -> UefiTimeFaults
     ensures { faults_seen result ≡ faults.now }
 {

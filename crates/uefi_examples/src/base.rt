@@ -138,8 +138,8 @@ pub fn units_in_buffer<'a>(buffer: &'a mut [u8], units: &[u16]) -> UnalignedSlic
     UnalignedSlice::new(&buffer[..2 * units.len()])
 }
 
-/// Returns the unit at an index, the number at twice the index, or `None` if there is none or a last
-/// byte is left over.
+/// Returns the unit at an index, the number at twice the index, or `None` if there is none or a
+/// last byte is left over.
 pub fn unit_in(bytes: &[u8], index: usize) -> Option<u16>
     ensures { SomeIff result ((length bytes.now % 2 ≡ 0) × (2 * index < length bytes.now))
         (u16_at bytes.now (2 * index)) }

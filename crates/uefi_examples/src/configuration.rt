@@ -29,7 +29,8 @@ pub fn value_of(configuration: &ConfigurationString, offset: u64, width: u64) ->
 }
 
 /// Returns the bytes of that element of the first configuration of a text. If the first group of
-/// pairs is no configuration, it fails with that group's error; a text without pairs lacks the GUID.
+/// pairs is no configuration, it fails with that group's error; a text without pairs lacks the
+/// GUID.
 pub fn first_value(
     alloc: Global,
     text: &str,

@@ -5,7 +5,7 @@ ghost use Rattle.std.specs.Prelude.{◌≡◌, ◌≤◌, length, SomeIff};
 use crate::map::set_and_get;
 use uefi_map::{MemoryDescriptor, MemoryMap, MemoryMapKey, MemoryMapMeta, MemoryMapMut};
 
-// The bytes from one descriptor to the next.
+/// The bytes from one descriptor to the next.
 const STRIDE: usize = 48;
 
 /// A map with as many descriptors at a stride of 48 as its buffer has room for.

@@ -124,8 +124,8 @@ pub fn is_read_back(alloc: Global, path: &DevicePath<'_>, rest: &[u8]) -> Result
     Ok(read == Ok(*path))
 }
 
-/// Returns whether two paths are equal, and so are the bytes after them, where all bytes together are
-/// the same: always.
+/// Returns whether two paths are equal, and so are the bytes after them, where all bytes together
+/// are the same: always.
 pub fn have_same_parts(
     path: &DevicePath<'_>,
     rest: &[u8],

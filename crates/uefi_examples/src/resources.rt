@@ -53,9 +53,9 @@ pub fn addresses_in(bytes: &[u8]) -> Option<u64>
     Some(addresses)
 }
 
-/// Returns the count of ranges that the bytes list, and the count of addresses in them, or `None` if
-/// the second doesn't fit. Each of the two calls names some list that the bytes begin with; it is
-/// the same one.
+/// Returns the count of ranges that the bytes list, and the count of addresses in them, or `None`
+/// if the second doesn't fit. Each of the two calls names some list that the bytes begin with; it
+/// is the same one.
 pub fn ranges_and_addresses(
     alloc: Global,
     bytes: &[u8],

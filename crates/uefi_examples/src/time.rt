@@ -22,8 +22,8 @@ pub fn read_back(time: &Time) -> Result<Time, TimeByteConversionError>
     Time::try_from(bytes.as_slice())
 }
 
-/// Reads the time in bytes that are known to begin with those of a time: that time, with zeros in the
-/// padding.
+/// Reads the time in bytes that are known to begin with those of a time: that time, with zeros in
+/// the padding.
 pub fn known_time(bytes: &[u8], time: &Time) -> Result<Time, TimeByteConversionError>
     requires { StandsIn (time_of time.now) bytes.now }
     ensures same { IfOk result (λ read. time_of read ≡ without_pads (time_of time.now)) }

@@ -59,8 +59,8 @@ pub fn label_read_back<'a>(
     FileSystemVolumeLabel::from_uefi(buffer, end).ok()
 }
 
-/// Returns whether two buffers of one length that agree on the written bytes have equal records of a
-/// volume, or equal errors: always.
+/// Returns whether two buffers of one length that agree on the written bytes have equal records of
+/// a volume, or equal errors: always.
 pub fn are_volumes_read_alike(one: &[u8], other: &[u8], written: usize) -> bool
     requires lengths { length one.now ≡ length other.now }
     requires same { take written one.now ≡ take written other.now }

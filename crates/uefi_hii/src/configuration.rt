@@ -77,7 +77,8 @@ pub struct NvPair<A: Allocator = Global> {
 /// }
 /// ```
 ///
-/// Both functions are proved in `crates/uefi_examples/src/configuration.rt`, which shows their contracts.
+/// Both functions are proved in `crates/uefi_examples/src/configuration.rt`, which shows their
+/// contracts.
 #[derive(Drop)]
 pub struct ConfigurationString<A: Allocator = Global> {
     /// The GUID by which the driver routes the configuration.

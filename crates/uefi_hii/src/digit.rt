@@ -1,7 +1,7 @@
 ghost use Rattle.std.specs.Prelude.{◌≡◌, ◌<◌, IfSome};
 ghost use Rattle.uefi_hii.specs.Hex.{hex_digit as digit_of};
 
-// An entry for each byte: the value of a hex digit, in either case, and 255 for all others.
+/// An entry for each byte: the value of a hex digit, in either case, and 255 for all others.
 const DIGITS: &[u8; 256] = &[
     255, 255, 255, 255, 255, 255, 255, 255, 255, 255, 255, 255, 255, 255, 255, 255, 255, 255, 255,
     255, 255, 255, 255, 255, 255, 255, 255, 255, 255, 255, 255, 255, 255, 255, 255, 255, 255, 255,
@@ -19,7 +19,7 @@ const DIGITS: &[u8; 256] = &[
     255, 255, 255,
 ];
 
-// Returns the value of a hex digit, in either case.
+/// Returns the value of a hex digit, in either case.
 pub(crate) fn hex_digit(c: u8) -> Option<u8>
     ensures value { result ≡ digit_of c }
     ensures small { IfSome result (λ digit. digit < 16) }

@@ -10,13 +10,13 @@ use crate::hex::{HexBytes, byte_of_one, byte_of_two};
 use std::alloc::{AllocError, Allocator};
 use std::simd::prelude::*;
 
-// The characters of one byte.
+/// The characters of one byte.
 const BYTE_LENGTH: usize = 2;
 
-// How many bytes are made at a time.
+/// How many bytes are made at a time.
 const LANES: usize = 16;
 
-// How many characters they are made of.
+/// How many characters they are made of.
 const BLOCK: usize = 32;
 
 /// Writes the bytes that a text spells in hex, those of
@@ -29,7 +29,7 @@ pub fn fill_from_hex(text: &str, out: &mut [u8])
     fill(text.as_bytes(), out);
 }
 
-// Returns the bytes that a text spells in hex.
+/// Returns the bytes that a text spells in hex.
 pub(crate) fn hex_bytes<A: Allocator>(alloc: A, text: &str) -> Result<Vec<u8, A>, AllocError>
     ensures { IfOk result (λ bytes. bytes.items ≡ hex text.now) }
 {
@@ -38,7 +38,7 @@ pub(crate) fn hex_bytes<A: Allocator>(alloc: A, text: &str) -> Result<Vec<u8, A>
     Ok(bytes)
 }
 
-// Fills the buffer block by block, and what is left of it byte by byte.
+/// Fills the buffer block by block, and what is left of it byte by byte.
 #[tactic(auto, using(crate::proofs::HexEnds::two_a_byte))]
 fn fill(text: &[u8], out: &mut [u8])
     requires { length out.old ≡ length (hex text.now) }
@@ -52,7 +52,7 @@ fn fill(text: &[u8], out: &mut [u8])
     fill_each(text, out, LANES * blocks, end);
 }
 
-// Fills sixteen bytes from `start` on: in lanes if all their characters are digits.
+/// Fills sixteen bytes from `start` on: in lanes if all their characters are digits.
 fn fill_block(text: &[u8], out: &mut [u8], start: usize)
     requires text { byte_length * start + 32 ≤ length text.now }
     requires room { start + 16 ≤ length out.old }
@@ -70,7 +70,7 @@ fn fill_block(text: &[u8], out: &mut [u8], start: usize)
     }
 }
 
-// Returns whether each lane is a hex digit.
+/// Returns whether each lane is a hex digit.
 #[inline(always)]
 fn are_digits(lanes: u8x16) -> bool
     requires count { length lanes ≡ 16 }
@@ -83,7 +83,7 @@ fn are_digits(lanes: u8x16) -> bool
     is_empty(wrong.to_bitmask())
 }
 
-// Returns whether a mask marks no lane.
+/// Returns whether a mask marks no lane.
 #[inline(always)]
 fn is_empty(mask: u64) -> bool
     ensures { result ≡ (mask == 0) }
@@ -91,7 +91,7 @@ fn is_empty(mask: u64) -> bool
     mask == 0
 }
 
-// Returns the values of hex digits, lane by lane.
+/// Returns the values of hex digits, lane by lane.
 #[inline(always)]
 fn digit_values(digits: u8x16) -> u8x16
     requires count { length digits ≡ 16 }
@@ -104,7 +104,7 @@ fn digit_values(digits: u8x16) -> u8x16
     number.simd_lt(u8x16::splat(10)).select(number, letter)
 }
 
-// Fills the bytes from `start` up to `end`, one at a time.
+/// Fills the bytes from `start` up to `end`, one at a time.
 fn fill_each(text: &[u8], out: &mut [u8], start: usize, end: usize)
     requires order { start ≤ end }
     requires text { byte_length * end ≤ length text.now + 1 }
@@ -117,7 +117,7 @@ fn fill_each(text: &[u8], out: &mut [u8], start: usize, end: usize)
     }
 }
 
-// Returns the byte at an index.
+/// Returns the byte at an index.
 #[inline(always)]
 fn byte_at(text: &[u8], index: usize) -> u8
     requires { byte_length * index < length text.now }

@@ -7,10 +7,10 @@ ghost use Rattle.uefi_hii.specs.private.Finding.{FindsFirst, IsNotBefore};
 
 use std::simd::prelude::*;
 
-// How many bytes are compared at a time.
+/// How many bytes are compared at a time.
 const LANES: usize = 16;
 
-// Returns the index of the first `byte` before `end`, if there is one.
+/// Returns the index of the first `byte` before `end`, if there is one.
 #[inline(always)]
 pub(crate) fn index_before(bytes: &[u8], byte: u8, end: usize) -> Option<usize>
     requires { end ≤ length bytes.now }
@@ -27,8 +27,8 @@ pub(crate) fn index_before(bytes: &[u8], byte: u8, end: usize) -> Option<usize>
     index_from(bytes, byte, index, end)
 }
 
-// Returns how many of the sixteen bytes from `start` on come before the first `byte`, if it is
-// one of them.
+/// Returns how many of the sixteen bytes from `start` on come before the first `byte`, if it is
+/// one of them.
 #[inline(always)]
 fn run_before(bytes: &[u8], byte: u8, start: usize) -> Option<usize>
     requires { start + 16 ≤ length bytes.now }
@@ -43,7 +43,7 @@ fn run_before(bytes: &[u8], byte: u8, start: usize) -> Option<usize>
     Some(found.trailing_zeros() as usize)
 }
 
-// Returns the index of the first `byte` before `end`, one byte at a time from `start` on.
+/// Returns the index of the first `byte` before `end`, one byte at a time from `start` on.
 fn index_from(bytes: &[u8], byte: u8, start: usize, end: usize) -> Option<usize>
     requires within { end ≤ length bytes.now }
     requires none_before { IsNotBefore byte start bytes.now }

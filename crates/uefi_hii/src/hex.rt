@@ -20,7 +20,7 @@ pub struct HexBytes<'a> {
 impl<'a> HexBytes<'a> {
     ghost use Rattle.uefi_hii.specs.Views.{bytes_left};
 
-    // Returns the bytes that the text spells.
+    /// Returns the bytes that the text spells.
     #[tactic(auto, using(crate::proofs::HexEnds::few_bytes))]
     pub(crate) fn new(text: &'a str) -> HexBytes<'a>
         ensures bytes { bytes_left result ≡ hex text.now }
@@ -96,7 +96,7 @@ impl<'a> ExactSizeIterator for HexBytes<'a> {
 
 impl<'a> FusedIterator for HexBytes<'a> {}
 
-// Returns the last byte that a text spells, and the text before its characters.
+/// Returns the last byte that a text spells, and the text before its characters.
 fn split_last_byte(text: &[u8]) -> Option<(&[u8], u8)>
     ensures { MatchOption result (hex text.now ≡ [])
         (λ r. hex text.now ≡ hex r.0.now ++ r.1 ∷ []) }
@@ -109,7 +109,7 @@ fn split_last_byte(text: &[u8]) -> Option<(&[u8], u8)>
     Some((before, byte_of_two(*first, *last)))
 }
 
-// Returns the byte that two characters spell.
+/// Returns the byte that two characters spell.
 #[tactic(auto, unfolding(crate::specs::Hex::byte_of_two, crate::specs::Hex::two_digits))]
 pub(crate) fn byte_of_two(c: u8, d: u8) -> u8
     ensures { result ≡ two c d }
@@ -121,7 +121,7 @@ pub(crate) fn byte_of_two(c: u8, d: u8) -> u8
     }
 }
 
-// Returns the byte that one character spells.
+/// Returns the byte that one character spells.
 #[tactic(auto, unfolding(crate::specs::Hex::byte_of_one))]
 pub(crate) fn byte_of_one(c: u8) -> u8
     ensures { result ≡ one c }

@@ -22,8 +22,8 @@ use std::alloc::{AllocError, Allocator, Global};
 /// The iterator keeps the allocator and the rest of the text. It makes no list of pairs, and takes
 /// memory only for the configurations that it gives. After the last group it stays ended, and so it
 /// does after [`ParseError::Memory`]. That item may stand for a group that has an error of its own,
-/// if the group begins with a good GUID: [`ParseError`] says which pairs are judged before memory is
-/// asked for.
+/// if the group begins with a good GUID: [`ParseError`] says which pairs are judged before memory
+/// is asked for.
 ///
 /// # Examples
 ///
@@ -57,7 +57,8 @@ use std::alloc::{AllocError, Allocator, Global};
 /// }
 /// ```
 ///
-/// Both functions are proved in `crates/uefi_examples/src/configuration.rt`, which shows their contracts.
+/// Both functions are proved in `crates/uefi_examples/src/configuration.rt`, which shows their
+/// contracts.
 #[derive(Drop)]
 pub struct MultiConfigurationStringIter<'a, A: Allocator = Global> {
     alloc: A,
@@ -102,8 +103,8 @@ impl<'a, A: Allocator + Copy> Iterator for MultiConfigurationStringIter<'a, A> {
     }
 }
 
-/// Returns all configurations of a text, and its errors, in order: an item for each group of pairs, as
-/// [`MultiConfigurationStringIter`] gives them.
+/// Returns all configurations of a text, and its errors, in order: an item for each group of pairs,
+/// as [`MultiConfigurationStringIter`] gives them.
 ///
 /// # Errors
 ///
@@ -129,7 +130,7 @@ pub fn parse_all<A: Allocator + Copy>(
     Ok(all)
 }
 
-// Returns whether an allocation failed.
+/// Returns whether an allocation failed.
 fn is_memory<A: Allocator>(item: &Result<ConfigurationString<A>, ParseError>) -> bool
     ensures { MatchBool result (item.now ≡ Err Memory) (item.now ≢ Err Memory) }
 {

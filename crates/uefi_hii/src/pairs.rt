@@ -6,10 +6,10 @@ ghost use Rattle.uefi_hii.specs.Views.{pair_view};
 use crate::finding::index_before;
 use std::iter::FusedIterator;
 
-// The end of a pair, but of the last.
+/// The end of a pair, but of the last.
 const AMPERSAND: u8 = b'&';
 
-// The end of a key that has a value.
+/// The end of a key that has a value.
 const EQUALS_SIGN: u8 = b'=';
 
 /// The pairs of keys and values of a text, in order (UEFI 2.10, 35.2.1 "String Syntax").
@@ -64,7 +64,7 @@ impl<'a> Iterator for ConfigurationStringIter<'a> {
 
 impl<'a> FusedIterator for ConfigurationStringIter<'a> {}
 
-// Returns the first pair of a text, and the text after it.
+/// Returns the first pair of a text, and the text after it.
 #[inline(always)]
 fn split_pair(text: &str) -> ((&str, Option<&str>), &str)
     requires { text.now ≢ [] }
@@ -76,7 +76,7 @@ fn split_pair(text: &str) -> ((&str, Option<&str>), &str)
     }
 }
 
-// Returns the pair that the piece up to `end` is.
+/// Returns the pair that the piece up to `end` is.
 #[inline(always)]
 fn pair_before(text: &str, end: usize) -> (&str, Option<&str>)
     requires { IsCharBoundary text.now end }

@@ -12,7 +12,7 @@ ghost use Rattle.uefi_hii.specs.Views.{pair_view};
 use crate::keys;
 use crate::pairs::ConfigurationStringIter;
 
-// The pairs of a text. The next is kept, so each is cut once, however often a reader looks at it.
+/// The pairs of a text. The next is kept, so each is cut once, however often a reader looks at it.
 #[derive(Clone, Copy)]
 pub(crate) struct PeekedPairs<'a> {
     next: Option<(&'a str, Option<&'a str>)>,
@@ -22,7 +22,7 @@ pub(crate) struct PeekedPairs<'a> {
 impl<'a> PeekedPairs<'a> {
     ghost use Rattle.uefi_hii.specs.Views.{peeked_pairs};
 
-    // Returns the pairs of the text.
+    /// Returns the pairs of the text.
     #[tactic(auto, using(crate::proofs::NextKept::peeked_again))]
     pub(crate) fn new(text: &'a str) -> PeekedPairs<'a>
         ensures pairs { peeked_pairs result ≡ pairs text.now }
@@ -33,14 +33,14 @@ impl<'a> PeekedPairs<'a> {
         PeekedPairs { next, after }
     }
 
-    // Returns whether no pair is left.
+    /// Returns whether no pair is left.
     pub(crate) fn is_empty(&self) -> bool
         ensures { MatchBool result (peeked_pairs self.now ≡ []) (peeked_pairs self.now ≢ []) }
     {
         self.next.is_none()
     }
 
-    // Returns whether the next pair has the key.
+    /// Returns whether the next pair has the key.
     pub(crate) fn is_at(&self, key: &str) -> bool
         ensures { IsTrue result ↔ IsKey key.now (first_pair (peeked_pairs self.now)) }
     {
@@ -50,7 +50,7 @@ impl<'a> PeekedPairs<'a> {
         }
     }
 
-    // Takes the next pair.
+    /// Takes the next pair.
     pub(crate) fn next(&mut self) -> Option<(&'a str, Option<&'a str>)>
         ensures { MatchOption result
             ((peeked_pairs self.old ≡ []) × (peeked_pairs self.new ≡ []))
@@ -61,7 +61,7 @@ impl<'a> PeekedPairs<'a> {
         Some(pair)
     }
 
-    // Takes the next pair, if an element skips it.
+    /// Takes the next pair, if an element skips it.
     pub(crate) fn next_skipped(&mut self) -> Option<(&'a str, Option<&'a str>)>
         ensures { MatchOption result
             ((peeked_pairs self.new ≡ peeked_pairs self.old) × StopsAt (peeked_pairs self.old))

@@ -27,8 +27,8 @@ impl From<AllocError> for ParseError {
     }
 }
 
-// Returns the configuration or the error of the group that the pairs begin with. What is left are the
-// pairs after the group.
+/// Returns the configuration or the error of the group that the pairs begin with. What is left are
+/// the pairs after the group.
 pub(crate) fn read_group<A: Allocator + Copy>(
     alloc: A,
     pairs: &mut PeekedPairs<'_>,
@@ -51,7 +51,7 @@ pub(crate) fn read_group<A: Allocator + Copy>(
     }
 }
 
-// Returns the header that the pairs begin with, as a configuration without elements yet.
+/// Returns the header that the pairs begin with, as a configuration without elements yet.
 fn read_header<A: Allocator + Copy>(
     alloc: A,
     pairs: &mut PeekedPairs<'_>,
@@ -78,7 +78,7 @@ fn read_header<A: Allocator + Copy>(
     })
 }
 
-// Returns the element that the pairs begin with, with the pairs that it skips.
+/// Returns the element that the pairs begin with, with the pairs that it skips.
 fn read_element<A: Allocator + Copy>(
     alloc: A,
     pairs: &mut PeekedPairs<'_>,
@@ -104,7 +104,7 @@ fn read_element<A: Allocator + Copy>(
     })
 }
 
-// Returns the bytes that a text spells, the last first.
+/// Returns the bytes that a text spells, the last first.
 fn reversed_bytes<A: Allocator>(alloc: A, text: &str) -> Result<Vec<u8, A>, AllocError>
     ensures { IfOk result (λ bytes. bytes.items ≡ reverse (hex text.now)) }
 {

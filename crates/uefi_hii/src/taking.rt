@@ -14,10 +14,10 @@ use std::alloc::{AllocError, Allocator};
 use uefi_base::Guid;
 use uefi_path::BoxedDevicePath;
 
-// An identifier is below it: the low 16 bits of a number are kept.
+/// An identifier is below it: the low 16 bits of a number are kept.
 const ALT_CFG_ID_LIMIT: u64 = 1 << 16;
 
-// Returns the next pair's value, if it has the key and a value.
+/// Returns the next pair's value, if it has the key and a value.
 pub(crate) fn take_value<'a>(pairs: &mut PeekedPairs<'a>, key: &str) -> Option<&'a str>
     ensures { Takes (value_at key.now) (peeked_pairs pairs.old)
         (option_map (λ value. value.now) result) (peeked_pairs pairs.new) }
@@ -29,14 +29,14 @@ pub(crate) fn take_value<'a>(pairs: &mut PeekedPairs<'a>, key: &str) -> Option<&
     value
 }
 
-// Returns the number of the next pair, if it has the key and a number.
+/// Returns the number of the next pair, if it has the key and a number.
 pub(crate) fn take_number(pairs: &mut PeekedPairs<'_>, key: &str) -> Option<u64>
     ensures { Takes (number_in key.now) (peeked_pairs pairs.old) result (peeked_pairs pairs.new) }
 {
     ConfigurationString::parse_number_from_hex(take_value(pairs, key)?)
 }
 
-// Returns the GUID of the next pair, if it is one.
+/// Returns the GUID of the next pair, if it is one.
 pub(crate) fn take_guid(pairs: &mut PeekedPairs<'_>) -> Option<Guid>
     ensures { Takes guid_in (peeked_pairs pairs.old)
         (option_map (λ guid. guid.0) result) (peeked_pairs pairs.new) }
@@ -44,7 +44,7 @@ pub(crate) fn take_guid(pairs: &mut PeekedPairs<'_>) -> Option<Guid>
     ConfigurationString::parse_guid_from_hex(take_value(pairs, keys::GUID)?)
 }
 
-// Returns the name of the next pair, if it is one.
+/// Returns the name of the next pair, if it is one.
 pub(crate) fn take_name<A: Allocator + Copy>(
     alloc: A,
     pairs: &mut PeekedPairs<'_>,
@@ -58,7 +58,7 @@ pub(crate) fn take_name<A: Allocator + Copy>(
     }
 }
 
-// Returns the path that the next pair's value begins with, if it does, whatever the key.
+/// Returns the path that the next pair's value begins with, if it does, whatever the key.
 pub(crate) fn take_path<A: Allocator + Copy>(
     alloc: A,
     pairs: &mut PeekedPairs<'_>,
@@ -75,7 +75,7 @@ pub(crate) fn take_path<A: Allocator + Copy>(
     }
 }
 
-// Returns the identifier of an alternative configuration, if the next key is `ALTCFG`.
+/// Returns the identifier of an alternative configuration, if the next key is `ALTCFG`.
 pub(crate) fn take_alt_cfg_id(pairs: &mut PeekedPairs<'_>) -> Result<Option<u16>, ParseError>
     ensures { TakesAlt (peeked_pairs pairs.old) result (peeked_pairs pairs.new) }
 {
@@ -88,7 +88,7 @@ pub(crate) fn take_alt_cfg_id(pairs: &mut PeekedPairs<'_>) -> Result<Option<u16>
     }
 }
 
-// Returns the pairs up to the next whose key is `OFFSET` or `GUID`, or to the end, in order.
+/// Returns the pairs up to the next whose key is `OFFSET` or `GUID`, or to the end, in order.
 pub(crate) fn take_nvconfig<A: Allocator + Copy>(
     alloc: A,
     pairs: &mut PeekedPairs<'_>,
@@ -104,7 +104,7 @@ pub(crate) fn take_nvconfig<A: Allocator + Copy>(
     Ok(nvconfig)
 }
 
-// Returns a pair that owns its key and its value.
+/// Returns a pair that owns its key and its value.
 fn nv_pair<A: Allocator + Copy>(
     alloc: A,
     key: &str,

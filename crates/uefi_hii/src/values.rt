@@ -10,12 +10,12 @@ use crate::hex::HexBytes;
 use std::alloc::{AllocError, Allocator};
 use uefi_base::Guid;
 
-// The bytes of a GUID.
+/// The bytes of a GUID.
 const GUID_LENGTH: usize = 16;
 
 impl ConfigurationString {
-    /// Returns the bytes that a value spells in hex, from either end. No text is refused: what is no
-    /// digit stands for 0, as [`HexBytes`] says.
+    /// Returns the bytes that a value spells in hex, from either end. No text is refused: what is
+    /// no digit stands for 0, as [`HexBytes`] says.
     pub fn parse_bytes_from_hex(text: &str) -> HexBytes<'_>
         ensures bytes { bytes_left result ≡ hex text.now }
         ensures countable { length (bytes_left result) < 2 ^ 64 }
@@ -23,8 +23,8 @@ impl ConfigurationString {
         HexBytes::new(text)
     }
 
-    /// Returns the number that a value spells in hex, the highest byte first. `None` where it spells
-    /// another count of bytes than 1, 2, 4 or 8.
+    /// Returns the number that a value spells in hex, the highest byte first. `None` where it
+    /// spells another count of bytes than 1, 2, 4 or 8.
     pub fn parse_number_from_hex(text: &str) -> Option<u64>
         ensures { result ≡ number text.now }
     {
@@ -90,8 +90,8 @@ impl<A: Allocator + Copy> ConfigurationString<A> {
     }
 }
 
-// Returns the character that a unit of a name is, of which the two bytes are given. `None` for zero and
-// for surrogates.
+/// Returns the character that a unit of a name is, of which the two bytes are given. `None` for
+/// zero and for surrogates.
 fn character_of(high: u8, low: u8) -> Option<char>
     ensures { MatchOption result (is_name_unit (high * 256 + low) ≡ false)
         (λ c. (is_name_unit (high * 256 + low) ≡ true) × (c ≡ high * 256 + low)) }
@@ -103,7 +103,7 @@ fn character_of(high: u8, low: u8) -> Option<char>
     char::from_u32(unit)
 }
 
-// Returns whether a number has as many bytes.
+/// Returns whether a number has as many bytes.
 fn is_length_of_number(count: usize) -> bool
     ensures { result ≡ is_number_length count }
 {

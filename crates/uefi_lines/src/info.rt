@@ -20,8 +20,8 @@ const BLOCK_UNITS: usize = 32;
 /// How many bytes these units have.
 const BLOCK_BYTES: usize = 64;
 
-/// Appends the lines of a file information record: `size`, `file` and `physical` with sizes in bytes
-/// in decimal; `created`, `accessed` and `modified` with the sixteen bytes of a time in hex;
+/// Appends the lines of a file information record: `size`, `file` and `physical` with sizes in
+/// bytes in decimal; `created`, `accessed` and `modified` with the sixteen bytes of a time in hex;
 /// `attribute` with `0x` and the bits in hex; last `name` with four hex digits for each unit of the
 /// name but the NUL that ends it.
 ///

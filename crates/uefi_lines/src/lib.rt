@@ -1,9 +1,9 @@
 //! UEFI's records as lines of text, as the program `uefi_list` prints them.
 //!
-//! A function for each kind of record takes what the record's reader returned, and appends its lines
-//! to a text: [`push_path`] a device path, [`push_map`] a memory map, [`push_resources`] a list of PCI
-//! resources, [`push_time`] a time, and [`push_info`] a file information record. Event logs and HII
-//! configuration texts have crates of their own, `tcg_lines` and `config_lines`.
+//! A function for each kind of record takes what the record's reader returned, and appends its
+//! lines to a text: [`push_path`] a device path, [`push_map`] a memory map, [`push_resources`] a
+//! list of PCI resources, [`push_time`] a time, and [`push_info`] a file information record. Event
+//! logs and HII configuration texts have crates of their own, `tcg_lines` and `config_lines`.
 //!
 //! The contracts say which lines these are (`specs/`, a file for each kind of record). A failed
 //! allocation is the only error.

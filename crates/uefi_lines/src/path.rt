@@ -10,7 +10,8 @@ use uefi_path::{DevicePath, DevicePathInstance, DevicePathNode};
 /// Appends the lines of a device path: for each instance `instance N`, its length in bytes, and a
 /// line for each node but the one that ends it; last `path N`, the length of the path in bytes.
 ///
-/// The line of a node has two spaces, its type and subtype in hex, and its data in hex if it has any.
+/// The line of a node has two spaces, its type and subtype in hex, and its data in hex if it has
+/// any.
 ///
 /// # Errors
 ///

@@ -9,8 +9,8 @@ use std::fmt;
 use uefi_map::{QwordAddressSpaceDescriptor, ResourceList, ResourceRangeType};
 
 /// Appends the lines of a list of PCI resources: for each range `resource KIND GENERAL SPECIFIC
-/// GRANULARITY MIN MAX OFFSET LENGTH`, both flags in decimal, the numbers after them as `0x` and hex;
-/// last `resources N`, the count of ranges.
+/// GRANULARITY MIN MAX OFFSET LENGTH`, both flags in decimal, the numbers after them as `0x` and
+/// hex; last `resources N`, the count of ranges.
 ///
 /// KIND is `Memory`, `Io`, `Bus` or `Unknown(N)`.
 ///

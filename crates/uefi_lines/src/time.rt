@@ -9,7 +9,8 @@ use uefi_records::Time;
 
 /// Appends the line of a time, `time YYYY-MM-DD HH:MM:SS.NNNNNNNNN ZONE DAYLIGHT`.
 ///
-/// ZONE is the minutes from UTC in decimal, or `local`; DAYLIGHT the bits of the flag set in decimal.
+/// ZONE is the minutes from UTC in decimal, or `local`; DAYLIGHT the bits of the flag set in
+/// decimal.
 ///
 /// # Errors
 ///

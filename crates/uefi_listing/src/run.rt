@@ -12,7 +12,8 @@ use std::io::Write;
 pub enum RunError {
     /// An allocation failed, and nothing was written.
     Memory,
-    /// A write failed or accepted no bytes. The count is that of the listing's bytes written before.
+    /// A write failed or accepted no bytes. The count is that of the listing's bytes written
+    /// before.
     Output(usize),
 }
 

@@ -8,9 +8,9 @@
 //! [`ResourceList::try_from`], which returns the list that the bytes begin with, or the one error
 //! that they have. Only [`parse`] allocates.
 //!
-//! The contracts state what each call returns and writes, for all inputs, and when each error comes,
-//! over the definitions in `specs/memory` and `specs/pci`; [`laws`] states what holds of all maps
-//! and lists.
+//! The contracts state what each call returns and writes, for all inputs, and when each error
+//! comes, over the definitions in `specs/memory` and `specs/pci`; [`laws`] states what holds of all
+//! maps and lists.
 #![tactic(auto)]
 
 pub use self::memory::{

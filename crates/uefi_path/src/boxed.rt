@@ -28,7 +28,7 @@ pub struct BoxedDevicePathInstance<A: Allocator = Global> {
 impl<A: Allocator> BoxedDevicePath<A> {
     ghost use Rattle.uefi_path.specs.Views.{path_nodes, boxed_nodes};
 
-    // Returns the path that `bytes`, which are known to be a path, encode.
+    /// Returns the path that `bytes`, which are known to be a path, encode.
     pub(crate) fn new_unchecked(bytes: Vec<u8, A>) -> BoxedDevicePath<A>
         requires { EncodesPath bytes.items }
         ensures { IsEncodingOfNodes IsEndEntire bytes.items (boxed_nodes result) }
@@ -73,7 +73,7 @@ impl<A: Allocator> TryFrom<Vec<u8, A>> for BoxedDevicePath<A> {
 impl<A: Allocator> BoxedDevicePathInstance<A> {
     ghost use Rattle.uefi_path.specs.Views.{instance_nodes, boxed_instance_nodes};
 
-    // Returns the instance that `bytes`, which are known to be an instance, encode.
+    /// Returns the instance that `bytes`, which are known to be an instance, encode.
     pub(crate) fn new_unchecked(bytes: Vec<u8, A>) -> BoxedDevicePathInstance<A>
         requires { EncodesInstance bytes.items }
         ensures { IsEncodingOfNodes IsEnd bytes.items (boxed_instance_nodes result) }

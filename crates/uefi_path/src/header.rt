@@ -11,7 +11,7 @@ pub(crate) const SUB_TYPE_OFFSET: usize = 1;
 
 pub(crate) const LENGTH_OFFSET: usize = 2;
 
-// The length of a header, which is the offset of a node's data.
+/// The length of a header, which is the offset of a node's data.
 pub(crate) const HEADER_LENGTH: usize = 4;
 
 /// The header of a node, its first four bytes (UEFI 2.10, 10.2 `EFI_DEVICE_PATH_PROTOCOL`).

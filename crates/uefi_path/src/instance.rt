@@ -25,7 +25,7 @@ pub struct DevicePathInstance<'a> {
 impl<'a> DevicePathInstance<'a> {
     ghost use Rattle.uefi_path.specs.Views.{instance_nodes, nodes_left, boxed_instance_nodes};
 
-    // Returns the instance that `bytes`, which are known to be an instance, encode.
+    /// Returns the instance that `bytes`, which are known to be an instance, encode.
     pub(crate) fn new_unchecked(bytes: &'a [u8]) -> DevicePathInstance<'a>
         requires { EncodesInstance bytes.now }
         ensures { IsEncodingOfNodes IsEnd bytes.now (instance_nodes result) }

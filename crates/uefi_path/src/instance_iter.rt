@@ -16,7 +16,7 @@ pub struct DevicePathInstanceIterator<'a> {
 }
 
 impl<'a> DevicePathInstanceIterator<'a> {
-    // Returns an iterator over the instances in `rest`.
+    /// Returns an iterator over the instances in `rest`.
     pub(crate) fn new(rest: &'a [u8]) -> DevicePathInstanceIterator<'a>
         requires { EncodesInstances rest.now }
         ensures instances { IsEncodingOfInstances rest.now result.instances.0 }

@@ -34,7 +34,7 @@ pub struct DevicePathNode<'a> {
 impl<'a> DevicePathNode<'a> {
     ghost use Rattle.uefi_path.specs.Views.{node_of};
 
-    // Returns the node that `bytes`, which are known to be a node, encode.
+    /// Returns the node that `bytes`, which are known to be a node, encode.
     pub(crate) fn new_unchecked(bytes: &'a [u8]) -> DevicePathNode<'a>
         requires { EncodesNode bytes.now }
         ensures { IsEncodingOfNode bytes.now (node_of result) }

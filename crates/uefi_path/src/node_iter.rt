@@ -18,7 +18,7 @@ pub struct DevicePathNodeIterator<'a> {
 }
 
 impl<'a> DevicePathNodeIterator<'a> {
-    // Returns an iterator over the nodes in `rest`, up to the one at which the walk stops.
+    /// Returns an iterator over the nodes in `rest`, up to the one at which the walk stops.
     pub(crate) fn new(rest: &'a [u8], stop: StopCondition) -> DevicePathNodeIterator<'a>
         requires { EncodesNodes (Stops stop) rest.now }
         ensures nodes { IsEncodingOfNodes (Stops stop) rest.now result.nodes.0 }

@@ -63,7 +63,7 @@ pub struct DevicePath<'a> {
 impl<'a> DevicePath<'a> {
     ghost use Rattle.uefi_path.specs.Views.{path_nodes, nodes_left, instances_left, boxed_nodes};
 
-    // Returns the path that `bytes`, which are known to be a path, encode.
+    /// Returns the path that `bytes`, which are known to be a path, encode.
     pub(crate) fn new_unchecked(bytes: &'a [u8]) -> DevicePath<'a>
         requires { EncodesPath bytes.now }
         ensures { IsEncodingOfNodes IsEndEntire bytes.now (path_nodes result) }

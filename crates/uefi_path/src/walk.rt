@@ -11,17 +11,17 @@ use crate::header::LENGTH_OFFSET;
 use crate::node::DevicePathNode;
 use uefi_base::little_endian::u16_at;
 
-// The node at which a walk over nodes stops.
+/// The node at which a walk over nodes stops.
 #[derive(Clone, Copy)]
 pub(crate) enum StopCondition {
-    // Any node of the type END, which ends an instance.
+    /// Any node of the type END, which ends an instance.
     AnyEndNode,
-    // The end-entire node, which ends the path.
+    /// The end-entire node, which ends the path.
     EndEntireNode,
 }
 
 impl StopCondition {
-    // Returns whether the walk stops at the node.
+    /// Returns whether the walk stops at the node.
     pub(crate) fn stops_at(self, node: &DevicePathNode<'_>) -> bool
         ensures { IsTrue result ↔ Stops self (node_of node.now) }
     {
@@ -32,8 +32,8 @@ impl StopCondition {
     }
 }
 
-// Returns the node that the bytes start with, and the bytes after it; or `InvalidLength` if no
-// prefix of the bytes is a node.
+/// Returns the node that the bytes start with, and the bytes after it; or `InvalidLength` if no
+/// prefix of the bytes is a node.
 pub(crate) fn split_node(bytes: &[u8]) -> Result<(DevicePathNode<'_>, &[u8]), ByteConversionError>
     ensures fits { IfOk result (λ r. Fits (node_of r.0)) }
     ensures split { IfOk result (λ r. bytes.now ≡ encoding (node_of r.0) ++ r.1.now) }
@@ -44,7 +44,7 @@ pub(crate) fn split_node(bytes: &[u8]) -> Result<(DevicePathNode<'_>, &[u8]), By
     Ok((node, after))
 }
 
-// Returns the node that the bytes are known to start with, and the bytes after it, without a test.
+/// Returns the node that the bytes are known to start with, and the bytes after it, without a test.
 pub(crate) fn first_node(bytes: &[u8]) -> (DevicePathNode<'_>, &[u8])
     requires { HasNode bytes.now }
     ensures fits { Fits (node_of result.0) }
@@ -55,8 +55,8 @@ pub(crate) fn first_node(bytes: &[u8]) -> (DevicePathNode<'_>, &[u8])
     (DevicePathNode::new_unchecked(node), after)
 }
 
-// Returns the bytes of the nodes up to the first at which the walk stops, and those after them; or
-// `InvalidLength` if no prefix of the bytes is such nodes.
+/// Returns the bytes of the nodes up to the first at which the walk stops, and those after them; or
+/// `InvalidLength` if no prefix of the bytes is such nodes.
 pub(crate) fn split_nodes(
     bytes: &[u8],
     stop: StopCondition,
@@ -75,7 +75,7 @@ pub(crate) fn split_nodes(
     }
 }
 
-// Returns the same for bytes that are known to start with such nodes, without a test.
+/// Returns the same for bytes that are known to start with such nodes, without a test.
 pub(crate) fn first_nodes(bytes: &[u8], stop: StopCondition) -> (&[u8], &[u8])
     requires { HasNodes (Stops stop) bytes.now }
     ensures nodes { EncodesNodes (Stops stop) result.0.now }

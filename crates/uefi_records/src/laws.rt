@@ -3,7 +3,7 @@
 ghost use Rattle.uefi_records.specs.Laws.{EqualFiles, OneTime, ReadsBack, TimesReadBack, WrittenAlone};
 ghost use Rattle.uefi_records.specs.rows.Records.{RowsHold};
 
-/// At most one time stands in bytes: sixteen bytes determine all its fields.
+/// States that at most one time stands in bytes: sixteen bytes determine all its fields.
 #[tactic(auto, using(crate::proofs::time::ReadBack::one_time), unfolding(crate::specs::time::Fields::time_bytes))]
 pub fn one_time()
     ensures { OneTime }
@@ -16,29 +16,29 @@ pub fn times_read_back()
     ensures { TimesReadBack }
 {}
 
-/// File information records are equal exactly if their accessors return the same.
+/// States that file information records are equal exactly if their accessors return the same.
 #[tactic(auto, using(crate::proofs::file::RecordLaws::equal_files))]
 pub fn equal_files()
     ensures { EqualFiles }
 {}
 
-/// A record that was written reads back, with the size, the fields and the name that were written:
-/// for every number of written bytes that covers its name, in every buffer that it fits, whatever
-/// the buffer holds after it.
+/// States that a record that was written reads back, with the size, the fields and the name that
+/// were written: for every number of written bytes that covers its name, in every buffer that it
+/// fits, whatever the buffer holds after it.
 #[tactic(auto, using(crate::proofs::file::RecordLaws::reads_back))]
 pub fn reads_back()
     ensures { ReadsBack }
 {}
 
-/// Only written bytes decide: two buffers of one length that agree on the written bytes get one
-/// verdict, and if a record is accepted, one size, the same fields and the same name.
+/// States that only written bytes decide: two buffers of one length that agree on the written bytes
+/// get one verdict, and if a record is accepted, one size, the same fields and the same name.
 #[tactic(auto, using(crate::proofs::file::RecordLaws::written_alone))]
 pub fn written_alone()
     ensures { WrittenAlone }
 {}
 
-/// The definitions hold on worked examples: the encodings, faults and sizes of some times and
-/// records, and the numbers of the flags. Each example is a theorem.
+/// States that the definitions hold on worked examples: the encodings, faults and sizes of some
+/// times and records, and the numbers of the flags. Each example is a theorem.
 #[tactic(auto, using(crate::proofs::Rows::rows_hold))]
 pub fn worked_rows()
     ensures { RowsHold }

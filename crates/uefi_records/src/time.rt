@@ -12,7 +12,7 @@ use uefi_base::little_endian::{u16_at, u32_at};
 mod error;
 mod params;
 
-// The length of a time, in bytes.
+/// The length of a time, in bytes.
 const TIME_LENGTH: usize = 16;
 
 // The offsets of the fields.
@@ -45,10 +45,10 @@ const LAST_YEAR: u16 = 9999;
 
 const LAST_NANOSECOND: u32 = 999_999_999;
 
-// The zone of local time, `EFI_UNSPECIFIED_TIMEZONE`.
+/// The zone of local time, `EFI_UNSPECIFIED_TIMEZONE`.
 const UNSPECIFIED_TIMEZONE: i16 = 0x07ff;
 
-// The most minutes that a zone is from UTC: those of a day.
+/// The most minutes that a zone is from UTC: those of a day.
 const LARGEST_TIMEZONE: i16 = 1440;
 
 /// A date and a time of day (UEFI 2.10, 8.3 `GetTime()`, `EFI_TIME`).
@@ -167,7 +167,7 @@ impl Time {
         }
     }
 
-    // Returns the fields outside their ranges. Daylight is never at fault here.
+    /// Returns the fields outside their ranges. Daylight is never at fault here.
     fn range_faults(&self) -> TimeError
         ensures { result ≡ range_faults (time_of self.now) }
     {
@@ -281,7 +281,7 @@ impl Time {
         ]
     }
 
-    // Returns the time in the first sixteen bytes, whatever its fields are.
+    /// Returns the time in the first sixteen bytes, whatever its fields are.
     pub(crate) fn read(bytes: &[u8]) -> Time
         requires { time_length ≤ length bytes.now }
         ensures fields { time_of result ≡ time_in bytes.now }
@@ -302,7 +302,7 @@ impl Time {
         }
     }
 
-    // Returns the time with zeros in its padding.
+    /// Returns the time with zeros in its padding.
     fn without_pads(self) -> Time
         ensures { time_of result ≡ without_pads (time_of self) }
     {
@@ -314,7 +314,7 @@ impl Time {
     }
 }
 
-// Returns whether a zone is neither unspecified nor within a day of UTC.
+/// Returns whether a zone is neither unspecified nor within a day of UTC.
 fn is_zone_outside(zone: i16) -> bool
     ensures { result ≡ is_zone_outside zone }
 {

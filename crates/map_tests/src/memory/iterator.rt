@@ -3,13 +3,13 @@ use std::test::Fail;
 use test_support::{each_gives, same};
 use uefi_map::{MemoryMap, MemoryMapIter, MemoryMapRef};
 
-// Where the next descriptor begins.
+/// Returns where the next descriptor begins.
 fn next_start(entries: &mut MemoryMapIter<'_>) -> Option<u64> {
     Some(entries.next()?.phys_start)
 }
 
-// Returns the length and the bounds at first, where the first descriptor begins, and the length
-// and the count after it.
+/// Returns the length and the bounds at first, where the first descriptor begins, and the length
+/// and the count after it.
 fn first_step(
     entries: MemoryMapIter<'_>,
 ) -> ((usize, (usize, Option<usize>)), Option<u64>, (usize, usize)) {
@@ -19,7 +19,7 @@ fn first_step(
     (at_first, start, (left.len(), left.count()))
 }
 
-// Where the first five descriptors begin, and the bounds after them.
+/// Returns where the first five descriptors begin, and the bounds after them.
 fn all_steps(entries: MemoryMapIter<'_>) -> ([Option<u64>; 5], (usize, Option<usize>)) {
     let mut left = entries;
     let starts = [
@@ -45,7 +45,7 @@ fn what_is_left_is_counted(rt: HostRuntime) -> Result<(), Fail> {
     same("all steps", &all_steps(map.entries().clone()?), &expected)
 }
 
-// Returns the count of descriptors, and what the iterator gives when it is asked twice.
+/// Returns the count of descriptors, and what the iterator gives when it is asked twice.
 fn steps_of_none(input: &&[u8]) -> Option<(usize, [bool; 2])> {
     let map = MemoryMapRef::new(*input, meta_of(0, 40)).ok()?;
     let mut left = map.entries();

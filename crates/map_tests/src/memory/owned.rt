@@ -4,14 +4,14 @@ use std::test::Fail;
 use test_support::{in_turn, same};
 use uefi_map::{MemoryDescriptor, MemoryMap, MemoryMapMut, MemoryMapOwned, MemoryType};
 
-// Returns a map of three descriptors, with 40 more bytes after it in the vector; or `None` if
-// memory ran out.
+/// Returns a map of three descriptors, with 40 more bytes after it in the vector; or `None` if
+/// memory ran out.
 fn owned<A: Allocator>(alloc: A, byte: u8) -> Option<MemoryMapOwned<A>> {
     let input = [byte].repeat(alloc, 160).ok()?;
     MemoryMapOwned::from_initialized_mem(input, meta_of(120, 40)).ok()
 }
 
-// Writes a byte of the second descriptor's type into the buffer of a map, and returns the type.
+/// Writes a byte of the second descriptor's type into the buffer of a map, and returns the type.
 fn write_type<M: MemoryMapMut>(map: &mut M) -> Option<MemoryType> {
     *map.buffer_mut().get_mut(40)? = 2;
     Some(map.get(1)?.ty)
@@ -26,8 +26,8 @@ fn an_owned_map_has_its_own_bytes_alone(rt: HostRuntime) -> Result<(), Fail> {
     same("the map", &seen, &(Some(MemoryType(0x0101_0102)), true))
 }
 
-// Sets the last descriptor of a map over zeros: what was there, how many descriptors there are, and
-// whether they are sorted; or `None` if memory ran out.
+/// Sets the last descriptor of a map over zeros: what was there, how many descriptors there are,
+/// and whether they are sorted; or `None` if memory ran out.
 fn set_last<A: Allocator>(alloc: A) -> Option<(Option<MemoryDescriptor>, usize, bool)> {
     let mut map = owned(alloc, 0)?;
     let mut written = MemoryDescriptor::default();
@@ -35,7 +35,7 @@ fn set_last<A: Allocator>(alloc: A) -> Option<(Option<MemoryDescriptor>, usize, 
     Some((map.set(2, written), map.entries().len(), map.is_sorted()))
 }
 
-// The vector is the one request: the map over it makes none, whatever allocator it is of.
+/// The vector is the one request: the map over it makes none, whatever allocator it is of.
 #[test]
 fn an_owned_map_takes_no_memory(rt: HostRuntime) -> Result<(), Fail> {
     let expected = (Some(MemoryDescriptor::default()), 3, true);

@@ -7,14 +7,14 @@ use uefi_map::{
     MemoryMap, MemoryMapKey, MemoryMapMeta, MemoryMapOwned, MemoryMapRef, MemoryMapRefMut,
 };
 
-// What the map that some bytes begin with shows.
+/// What the map that some bytes begin with shows.
 struct MapRow {
     name: &'static str,
     input: &'static str,
-    // The bytes of the map, and those of its stride.
+    /// The bytes of the map, and those of its stride.
     sizes: (usize, usize),
     is_sorted: bool,
-    // Type, padding, first physical and first virtual address, count of pages and attributes.
+    /// Type, padding, first physical and first virtual address, count of pages and attributes.
     entries: &'static [[u64; 6]],
 }
 
@@ -143,8 +143,8 @@ impl MapRow {
     }
 }
 
-// What a map says of itself: its sizes, version and key; how many descriptors it has, whether it has
-// none, and whether they are sorted.
+/// What a map says of itself: its sizes, version and key; how many descriptors it has, whether it
+/// has none, and whether they are sorted.
 type Facts = ((usize, usize, u32, MemoryMapKey), (usize, bool, bool));
 
 fn facts<M: MemoryMap>(map: &M) -> Facts {
@@ -155,7 +155,7 @@ fn facts<M: MemoryMap>(map: &M) -> Facts {
     )
 }
 
-// Returns whether these descriptors stand at their indices, and no other after them.
+/// Returns whether these descriptors stand at their indices, and no other after them.
 fn has_entries<M: MemoryMap>(map: &M, entries: &[[u64; 6]]) -> bool {
     for (i, entry) in entries.iter().enumerate() {
         let Some(found) = map.get(i) else {
@@ -168,7 +168,7 @@ fn has_entries<M: MemoryMap>(map: &M, entries: &[[u64; 6]]) -> bool {
     map.get(entries.len()).is_none()
 }
 
-// Checks a map that the bytes of the row are.
+/// Checks a map that the bytes of the row are.
 fn check_map<M: MemoryMap>(alloc: Global, map: &M, row: &MapRow) -> Result<(), Fail> {
     same(row.name, &facts(map), &row.facts())?;
     holds(row.name, has_entries(map, row.entries))?;
@@ -213,7 +213,7 @@ fn each_map_has_its_entries(rt: HostRuntime) -> Result<(), Fail> {
     Ok(())
 }
 
-// Returns the second descriptor, by [`MemoryMap::at`].
+/// Returns the second descriptor, by [`MemoryMap::at`].
 fn second(input: &[u8]) -> Option<[u64; 6]> {
     let map = MemoryMapRef::new(input, meta_of(480, 48)).ok()?;
     if map.len() < 2 {
@@ -231,7 +231,7 @@ fn a_descriptor_stands_at_its_index(rt: HostRuntime) -> Result<(), Fail> {
     )
 }
 
-// Returns whether a map of three descriptors that begin at these addresses is sorted.
+/// Returns whether a map of three descriptors that begin at these addresses is sorted.
 fn is_sorted(alloc: Global, starts: &[u64; 3]) -> Option<bool> {
     let input = map_at(alloc, starts).ok()?;
     let map = MemoryMapRef::new(input.as_slice(), meta_of(120, 40)).ok()?;

@@ -4,10 +4,10 @@ use std::test::Fail;
 use test_support::each_gives;
 use uefi_map::{MemoryMapError, MemoryMapOwned, MemoryMapRef, MemoryMapRefMut};
 
-// A byte, how often it stands in the buffer, the bytes of the map, and those of its stride.
+/// A byte, how often it stands in the buffer, the bytes of the map, and those of its stride.
 type Row = (u8, usize, usize, usize);
 
-// Buffers that are no map of these sizes.
+/// Buffers that are no map of these sizes.
 const REFUSED: [(Row, Option<[bool; 5]>); 11] = [
     ((0xee, 80, 40, 0), AS_INVALID_SIZE),
     ((0xee, 80, 40, 39), AS_INVALID_SIZE),
@@ -22,17 +22,17 @@ const REFUSED: [(Row, Option<[bool; 5]>); 11] = [
     ((3, 480, 480, 0), AS_INVALID_SIZE),
 ];
 
-// The sizes don't pass the test, all three maps are refused as `InvalidSize`, and the buffer is then
-// the same.
+/// The sizes don't pass the test, all three maps are refused as `InvalidSize`, and the buffer is
+/// then the same.
 const AS_INVALID_SIZE: Option<[bool; 5]> = Some([true; 5]);
 
-// Returns whether this is the error of sizes that make no map.
+/// Returns whether this is the error of sizes that make no map.
 fn is_invalid_size(error: MemoryMapError) -> bool {
     matches!(error, MemoryMapError::InvalidSize)
 }
 
-// Returns whether the sizes don't pass the test, whether each of the three maps is refused as
-// `InvalidSize`, and whether the buffer is then the same; `None` where a map is made.
+/// Returns whether the sizes don't pass the test, whether each of the three maps is refused as
+/// `InvalidSize`, and whether the buffer is then the same; `None` where a map is made.
 fn refusals(alloc: Global, row: &Row) -> Option<[bool; 5]> {
     let (byte, length, map_size, desc_size) = *row;
     let meta = meta_of(map_size, desc_size);

@@ -7,7 +7,7 @@ use uefi_map::{
     laws,
 };
 
-// Returns the bits of a set that is made of named bits alone, and of one that keeps all.
+/// Returns the bits of a set that is made of named bits alone, and of one that keeps all.
 fn made(bits: &u64) -> (Option<u64>, u64) {
     let named = MemoryAttribute::from_bits(*bits);
     let kept = MemoryAttribute::from_bits_retain(*bits);
@@ -107,7 +107,7 @@ fn a_default_descriptor_is_zeros() -> Result<(), Fail> {
     same("the version and the alignment", &seen, &(1, 8))
 }
 
-// Returns whether the descriptor is itself, and whether it is the default.
+/// Returns whether the descriptor is itself, and whether it is the default.
 fn equalities(descriptor: &MemoryDescriptor) -> (bool, bool) {
     let itself = *descriptor;
     (

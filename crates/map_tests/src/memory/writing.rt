@@ -9,7 +9,7 @@ use uefi_map::{
     MemoryMapRefMut, MemoryType,
 };
 
-// The bytes of [`device_registers`].
+/// The bytes of [`device_registers`].
 const DEVICE_REGISTERS: &str =
     "0b000000 01000000 0000c0ff00000000 0200000000000000 0004000000000000 0100000000000080";
 
@@ -24,11 +24,11 @@ fn device_registers() -> MemoryDescriptor {
     }
 }
 
-// The descriptor that was there, the one that is there after, and what setting one gives at an
-// index that isn't below the count.
+/// The descriptor that was there, the one that is there after, and what setting one gives at an
+/// index that isn't below the count.
 type Set = [Option<[u64; 6]>; 3];
 
-// Sets descriptor 1 of a firmware's map, and then one that isn't there.
+/// Sets descriptor 1 of a firmware's map, and then one that isn't there.
 fn set_second<M: MemoryMapMut>(map: &mut M) -> Set {
     let written = device_registers();
     let before = map.set(1, written);
@@ -37,15 +37,15 @@ fn set_second<M: MemoryMapMut>(map: &mut M) -> Set {
     [before, after, none].map(|entry| entry.map(|d| fields(&d)))
 }
 
-// What [`set_second`] gives.
+/// What [`set_second`] gives.
 const SET: Set = [
     Some([7, 0, 0x1000, 0, 134, 0xf]),
     Some([11, 1, 0xffc0_0000, 2, 1024, 0x8000_0000_0000_0001]),
     None,
 ];
 
-// Returns a firmware's map in which the second stride ends with `ee`, and its bytes with
-// descriptor 1 set.
+/// Returns a firmware's map in which the second stride ends with `ee`, and its bytes with
+/// descriptor 1 set.
 fn before_and_after(alloc: Global) -> Result<(Vec<u8>, Vec<u8>), Fail> {
     let mut before = bytes(alloc, FIRMWARE_MAP)?;
     put(before.as_mut_slice(), 88, &[0xee; 8]).ok_or("room")?;
@@ -78,7 +78,7 @@ fn a_write_changes_forty_owned_bytes_alone(rt: HostRuntime) -> Result<(), Fail> 
     same_bytes("its bytes", map.buffer(), expected.as_slice())
 }
 
-// Sets the start of the third descriptor: the descriptor that was there, and where all begin then.
+/// Sets the start of the third descriptor: the descriptor that was there, and where all begin then.
 fn set_start(buffer: &mut [u8], start: u64) -> Option<([u64; 6], [Option<u64>; 4])> {
     let mut map = MemoryMapRefMut::new(buffer, meta_of(160, 40)).ok()?;
     let mut written = map.get(2)?;
@@ -102,7 +102,7 @@ fn the_others_stay_where_one_is_set(rt: HostRuntime) -> Result<(), Fail> {
     )
 }
 
-// Sets the second descriptor of two, by [`MemoryMapMut::set_at`], and returns both.
+/// Sets the second descriptor of two, by [`MemoryMapMut::set_at`], and returns both.
 fn set_last(buffer: &mut [u8; 96]) -> Option<(usize, [u64; 6], [u64; 6])> {
     let meta = meta_of(96, 48);
     if !meta.is_map_within(96) {
@@ -128,7 +128,7 @@ fn a_descriptor_is_set_at_its_index() -> Result<(), Fail> {
     same("the type", &buffer[48], &14)
 }
 
-// Writes a byte of the second descriptor's type into the buffer of a map, and returns the type.
+/// Writes a byte of the second descriptor's type into the buffer of a map, and returns the type.
 fn write_type(buffer: &mut [u8]) -> Option<MemoryType> {
     let mut map = MemoryMapRefMut::new(buffer, meta_of(480, 48)).ok()?;
     *map.buffer_mut().get_mut(49)? = 1;

@@ -6,8 +6,8 @@ use test_support::{bytes, each_gives_in, each_holds, each_makes, each_reads, sam
 use uefi_base::{Align, Error, Guid, Identify, Status};
 use uefi_records::{FileInfo, FileSystemInfo, FileSystemVolumeLabel};
 
-// The sizes of a file information record, its attributes, whether it is of a directory and whether
-// of a regular file, and its name.
+/// The sizes of a file information record, its attributes, whether it is of a directory and whether
+/// of a regular file, and its name.
 type File = ((u64, u64, u64), u64, [bool; 2], Units);
 
 fn file(input: &[u8]) -> Option<File> {
@@ -33,7 +33,7 @@ fn each_field_of_a_file_stands_at_its_offset(rt: HostRuntime) -> Result<(), Fail
     each_reads(rt.alloc(), &rows, file)
 }
 
-// Returns the times of creation, of the last access and of the last modification.
+/// Returns the times of creation, of the last access and of the last modification.
 fn times(alloc: Global, input: &[u8]) -> Result<Vec<u8>, Fail> {
     let info = FileInfo::from_uefi(input, 86)?;
     let mut times = Vec::from_slice(alloc, &info.create_time().to_bytes())?;
@@ -52,7 +52,8 @@ fn a_file_has_three_times(rt: HostRuntime) -> Result<(), Fail> {
     each_makes(rt.alloc(), &rows, times)
 }
 
-// The size of a file system information record, whether it is read-only, its numbers and its label.
+/// The size of a file system information record, whether it is read-only, its numbers and its
+/// label.
 type FileSystem = (u64, bool, (u64, u64, u32), Units);
 
 fn file_system(input: &[u8]) -> Option<FileSystem> {
@@ -80,13 +81,13 @@ fn too_small(size: usize) -> Error<Option<usize>> {
     Error::new(Status::BUFFER_TOO_SMALL, Some(size))
 }
 
-// A buffer that is cut to its first bytes: its bytes, to how many, and how many were written.
+/// A buffer that is cut to its first bytes: its bytes, to how many, and how many were written.
 type Cut = (&'static str, usize, usize);
 
-// The units of a name, or the error of bytes that are no record.
+/// The units of a name, or the error of bytes that are no record.
 type Read = Result<Units, Error<Option<usize>>>;
 
-// Returns the name of the file information record in a cut buffer.
+/// Returns the name of the file information record in a cut buffer.
 fn name_in(alloc: Global, (row, length, written): &Cut) -> Option<Read> {
     let input = bytes(alloc, row).ok()?;
     match FileInfo::from_uefi(input.get(..*length)?, *written) {
@@ -118,7 +119,7 @@ fn a_name_is_sought_in_what_was_written(rt: HostRuntime) -> Result<(), Fail> {
     each_gives_in(rt.alloc(), &rows, name_in)
 }
 
-// Returns the size that a record states whose first byte is another.
+/// Returns the size that a record states whose first byte is another.
 fn stated_size(alloc: Global, (row, first): &(&str, u8)) -> Option<u64> {
     let input = with_byte(alloc, row, 0, *first)?;
     Some(FileInfo::from_uefi(input.as_slice(), 86).ok()?.size())
@@ -135,8 +136,8 @@ fn the_stated_size_is_not_trusted(rt: HostRuntime) -> Result<(), Fail> {
     each_gives_in(rt.alloc(), &rows, stated_size)
 }
 
-// Returns what is read of the first bytes of a record of 88 bytes, of which 86 end with the name,
-// where so many were written.
+/// Returns what is read of the first bytes of a record of 88 bytes, of which 86 end with the name,
+/// where that many were written.
 fn expected(length: usize, written: usize) -> Option<Error<Option<usize>>> {
     if length.min(written) < 86 {
         Some(bad_size())
@@ -147,8 +148,8 @@ fn expected(length: usize, written: usize) -> Option<Error<Option<usize>>> {
     }
 }
 
-// Returns whether each number of the first bytes is read as [`expected`], if this many were
-// written.
+/// Returns whether each number of the first bytes is read as [`expected`], if this many were
+/// written.
 fn is_judged_where_written(input: &[u8], written: usize) -> bool {
     for length in 0..=input.len() {
         let read = FileInfo::from_uefi(&input[..length], written);
@@ -159,7 +160,7 @@ fn is_judged_where_written(input: &[u8], written: usize) -> bool {
     input.len() == 88
 }
 
-// Returns whether that holds whatever number was written.
+/// Returns whether that holds whatever number was written.
 fn is_judged_by_what_is_left(input: &[u8]) -> bool {
     for written in 0..=90 {
         if !is_judged_where_written(input, written) {
@@ -174,7 +175,7 @@ fn a_cut_buffer_is_refused_by_what_is_left(rt: HostRuntime) -> Result<(), Fail> 
     each_holds(rt.alloc(), &[FILE, ZERO_FILE], is_judged_by_what_is_left)
 }
 
-// Returns the units of the label in the bytes of which this many were written.
+/// Returns the units of the label in the bytes of which this many were written.
 fn label_in(alloc: Global, (row, written): &(&str, usize)) -> Option<Read> {
     let input = bytes(alloc, row).ok()?;
     match FileSystemVolumeLabel::from_uefi(input.as_slice(), *written) {
@@ -195,14 +196,14 @@ fn a_label_is_its_units(rt: HostRuntime) -> Result<(), Fail> {
     each_gives_in(rt.alloc(), &rows, label_in)
 }
 
-// Returns the bytes of a row with another byte at the offset.
+/// Returns the bytes of a row with another byte at the offset.
 fn with_byte(alloc: Global, row: &str, offset: usize, byte: u8) -> Option<Vec<u8>> {
     let mut changed = bytes(alloc, row).ok()?;
     *changed.get_mut(offset)? = byte;
     Some(changed)
 }
 
-// Returns whether [`FILE`] is equal to itself with another byte at an offset.
+/// Returns whether [`FILE`] is equal to itself with another byte at an offset.
 fn is_equal_file(alloc: Global, (offset, byte): &(usize, u8)) -> Option<bool> {
     let one = bytes(alloc, FILE).ok()?;
     let other = with_byte(alloc, FILE, *offset, *byte)?;
@@ -211,7 +212,7 @@ fn is_equal_file(alloc: Global, (offset, byte): &(usize, u8)) -> Option<bool> {
     Some(one == other)
 }
 
-// Returns whether [`FILE_SYSTEM`] is equal to itself with another byte at an offset.
+/// Returns whether [`FILE_SYSTEM`] is equal to itself with another byte at an offset.
 fn is_equal_file_system(alloc: Global, (offset, byte): &(usize, u8)) -> Option<bool> {
     let one = bytes(alloc, FILE_SYSTEM).ok()?;
     let other = with_byte(alloc, FILE_SYSTEM, *offset, *byte)?;
@@ -220,7 +221,7 @@ fn is_equal_file_system(alloc: Global, (offset, byte): &(usize, u8)) -> Option<b
     Some(one == other)
 }
 
-// Returns whether the labels in both rows are equal.
+/// Returns whether the labels in both rows are equal.
 fn are_equal_labels(alloc: Global, (one, other): &(&str, &str)) -> Option<bool> {
     let one = bytes(alloc, one).ok()?;
     let other = bytes(alloc, other).ok()?;

@@ -3,7 +3,7 @@ use std::test::Fail;
 use test_support::same;
 use uefi_records::first_zero_unit;
 
-// Returns the bytes of this many units `a`, and of the NUL.
+/// Returns the bytes of this many units `a`, and of the NUL.
 fn label(alloc: Global, units: usize) -> Result<Vec<u8>, AllocError> {
     let mut bytes = Vec::new(alloc);
     for _ in 0..units {
@@ -28,11 +28,11 @@ fn the_nul_of_a_label_is_found_once_it_is_whole(rt: HostRuntime) -> Result<(), F
     Ok(())
 }
 
-// How many bytes the longest input has.
+/// How many bytes the longest input has.
 const LONGEST: usize = 100;
 
-// This many bytes, of units that are not zero though one of their bytes is, in turn the low and the
-// high one; but for the unit at the index, which is zero.
+/// This many bytes, of units that are not zero though one of their bytes is, in turn the low and
+/// the high one; but for the unit at the index, which is zero.
 fn zero_at(alloc: Global, length: usize, index: usize) -> Result<Vec<u8>, AllocError> {
     let mut bytes = Vec::new(alloc);
     for i in 0..length {
@@ -42,7 +42,7 @@ fn zero_at(alloc: Global, length: usize, index: usize) -> Result<Vec<u8>, AllocE
     Ok(bytes)
 }
 
-// Returns the index of the first zero unit, by a search one unit at a time.
+/// Returns the index of the first zero unit, by a search one unit at a time.
 fn one_by_one(bytes: &[u8]) -> Option<usize> {
     for index in 0..bytes.len() / 2 {
         if bytes[2 * index] == 0 && bytes[2 * index + 1] == 0 {
@@ -52,7 +52,7 @@ fn one_by_one(bytes: &[u8]) -> Option<usize> {
     None
 }
 
-// Checks that a zero unit at the index is found where a search one unit at a time finds it.
+/// Checks that a zero unit at the index is found where a search one unit at a time finds it.
 fn is_found(alloc: Global, length: usize, index: usize) -> Result<(), Fail> {
     let bytes = zero_at(alloc, length, index)?;
     let expected = one_by_one(bytes.as_slice());
@@ -74,10 +74,10 @@ fn a_zero_unit_at_each_index_is_found_as_one_by_one(rt: HostRuntime) -> Result<(
     Ok(())
 }
 
-// The bytes of more than twice eight pages, of which each has 2048 units.
+/// The bytes of more than twice eight pages, of which each has 2048 units.
 const MANY_PAGES: usize = 70_001;
 
-// Indices about the ends of pages, and past all units.
+/// Indices about the ends of pages, and past all units.
 const ABOUT_PAGES: [usize; 13] = [
     0, 15, 16, 2_047, 2_048, 14_336, 16_383, 16_384, 18_432, 32_767, 32_768, 34_999, 35_000,
 ];

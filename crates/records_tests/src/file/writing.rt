@@ -10,7 +10,7 @@ use uefi_records::{
     TimeError, TimeParams, write_file_info, write_file_system_info, write_file_system_volume_label,
 };
 
-// Returns a file information record of that name, of which all else is zero, over that storage.
+/// Returns a file information record of that name, of which all else is zero, over that storage.
 fn zero_file<'a>(
     storage: &'a mut [u8],
     name: &CStr16<'_>,
@@ -28,7 +28,7 @@ fn zero_file<'a>(
     )
 }
 
-// Writes a file information record named `ab`, and checks what stands in its storage then.
+/// Writes a file information record named `ab`, and checks what stands in its storage then.
 fn check_file(alloc: Global, storage: &mut [u8], after: &str) -> Result<(), Fail> {
     let name = CStr16::from_u16_with_nul(&AB)?;
     let info = zero_file(storage, &name)?;
@@ -59,7 +59,7 @@ fn a_written_file_leaves_the_bytes_that_round_it_up(rt: HostRuntime) -> Result<(
     )
 }
 
-// Returns the time of [`PARAMS`], but in that year.
+/// Returns the time of [`PARAMS`], but in that year.
 fn time_in(year: u16) -> Result<Time, TimeError> {
     Time::new(TimeParams { year, ..PARAMS })
 }
@@ -107,7 +107,7 @@ fn a_written_file_system_leaves_the_unused_bytes(rt: HostRuntime) -> Result<(), 
     same_bytes(after, &storage, bytes(rt.alloc(), after)?.as_slice())
 }
 
-// Writes the label `ab`, and checks what stands in its storage then.
+/// Writes the label `ab`, and checks what stands in its storage then.
 fn check_label(alloc: Global, storage: &mut [u8], after: &str) -> Result<(), Fail> {
     let name = CStr16::from_u16_with_nul(&AB)?;
     let label = FileSystemVolumeLabel::new(storage, &name)?;
@@ -121,8 +121,8 @@ fn a_written_label_leaves_what_follows(rt: HostRuntime) -> Result<(), Fail> {
     check_label(rt.alloc(), &mut [0xee; 8], "6100 6200 0000 eeee")
 }
 
-// Returns the sizes of the records of both kinds over 128 bytes that are named `test_name` and
-// labelled `test_name2`.
+/// Returns the sizes of the records of both kinds over 128 bytes that are named `test_name` and
+/// labelled `test_name2`.
 fn sizes() -> Option<(u64, u64)> {
     let name = CStr16::from_u16_with_nul(&TEST_NAME).ok()?;
     let label = CStr16::from_u16_with_nul(&TEST_NAME2).ok()?;
@@ -143,7 +143,8 @@ fn a_record_has_a_size_by_its_name() -> Result<(), Fail> {
     same("over 103 bytes", &refused, &Some(error))
 }
 
-// What the writing of a record named `ab` into this many bytes leaves of its storage, and its error.
+/// What the writing of a record named `ab` into this many bytes leaves of its storage, and its
+/// error.
 type Refused = ([u8; 88], Option<FileInfoCreationError>);
 
 fn refused_file(name: &CStr16<'_>, length: usize) -> Refused {
@@ -173,7 +174,7 @@ fn refused_label(name: &CStr16<'_>, length: usize) -> Refused {
     (storage, error)
 }
 
-// Storage as it was, and the error that names the size.
+/// Returns storage as it was, and the error that names the size.
 fn untouched(size: usize) -> Refused {
     let error = FileInfoCreationError::InsufficientStorage(size);
     ([0xee; 88], Some(error))
@@ -198,7 +199,7 @@ fn storage_that_is_too_short_stays_as_it_was() -> Result<(), Fail> {
     Ok(())
 }
 
-// How far a writer wrote, and whether what it wrote is read.
+/// How far a writer wrote, and whether what it wrote is read.
 type Written = (Result<usize, FileInfoCreationError>, bool);
 
 fn written_file(name: &CStr16<'_>) -> Written {

@@ -2,7 +2,7 @@ use std::test::Fail;
 use test_support::{each_gives, same};
 use uefi_records::{Daylight, Time, TimeByteConversionError, TimeError, TimeParams, laws};
 
-// The fifth of April 2023, six minutes and seven seconds past eight.
+/// The fifth of April 2023, six minutes and seven seconds past eight.
 pub(crate) const PARAMS: TimeParams = TimeParams {
     year: 2023,
     month: 4,
@@ -19,12 +19,12 @@ const BYTES: [u8; 16] = [
     0xe7, 0x07, 4, 5, 8, 6, 7, 0, 0x15, 0xcd, 0x5b, 0x07, 0xa6, 0xff, 2, 0,
 ];
 
-// The bytes in local time: the zone is 0x07ff.
+/// The bytes in local time: the zone is 0x07ff.
 const LOCAL_BYTES: [u8; 16] = [
     0xe7, 0x07, 4, 5, 8, 6, 7, 0, 0x15, 0xcd, 0x5b, 0x07, 0xff, 0x07, 2, 0,
 ];
 
-// Returns the bytes and the zone of the time that is made of the fields.
+/// Returns the bytes and the zone of the time that is made of the fields.
 fn made(params: &TimeParams) -> Result<([u8; 16], Option<i16>), TimeError> {
     let time = Time::new(*params)?;
     Ok((time.to_bytes(), time.time_zone()))
@@ -109,7 +109,7 @@ fn the_time_of_zeros_has_no_valid_date() -> Result<(), Fail> {
     same("its faults", &time.is_valid(), &Err(date))
 }
 
-// Returns whether the time of these fields is that of [`PARAMS`].
+/// Returns whether the time of these fields is that of [`PARAMS`].
 fn is_same_time(params: &TimeParams) -> Result<bool, TimeError> {
     Ok(Time::new(*params)? == Time::new(PARAMS)?)
 }

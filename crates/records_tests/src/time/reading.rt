@@ -4,10 +4,10 @@ use test_support::samples::LAST_OF_FEBRUARY;
 use test_support::{each_makes, each_reads, each_shows};
 use uefi_records::{Daylight, Time};
 
-// A time's date, time of day, nanosecond, zone and daylight.
+/// A time's date, time of day, nanosecond, zone and daylight.
 type Fields = ((u16, u8, u8), (u8, u8, u8), u32, Option<i16>, Daylight);
 
-// Returns the fields of the time that the bytes are.
+/// Returns the fields of the time that the bytes are.
 fn fields(input: &[u8]) -> Option<Fields> {
     let time = Time::try_from(input).ok()?;
     Some((
@@ -36,7 +36,7 @@ fn each_field_stands_at_its_offset(rt: HostRuntime) -> Result<(), Fail> {
     each_reads(rt.alloc(), &rows, fields)
 }
 
-// Returns the bytes of the valid time that the input begins with.
+/// Returns the bytes of the valid time that the input begins with.
 fn valid_bytes(alloc: Global, input: &[u8]) -> Result<Vec<u8>, Fail> {
     let time = Time::try_from(input)?;
     time.is_valid()?;
@@ -74,7 +74,7 @@ const DAYLIGHT: &str = "unknown bits set for daylight\n";
 
 const SHORT: &str = "the byte slice is not large enough to hold a Time struct";
 
-// Bytes that are no time, and what their error is displayed as.
+/// Bytes that are no time, and what their error is displayed as.
 const REFUSALS: [(&str, &str); 18] = [
     ("6b07 01 01 00 00 00 00  00000000  0000 00 00", YEAR),
     ("1027 01 01 00 00 00 00  00000000  0000 00 00", YEAR),
@@ -122,7 +122,7 @@ const REFUSALS: [(&str, &str); 18] = [
     ("e807 02 1f 00 00 00 00  00000000  ff07 00", SHORT),
 ];
 
-// Returns what the error of bytes that are no time is displayed as.
+/// Returns what the error of bytes that are no time is displayed as.
 fn refusal(alloc: Global, input: &[u8]) -> Result<String, Fail> {
     let error = Time::try_from(input).err().ok_or("the bytes are a time")?;
     Ok(error.to_string(alloc)?)

@@ -14,7 +14,7 @@ const COUNTS: [(usize, usize, (usize, usize, usize)); 6] = [
     (usize::MAX, usize::MAX, (2, 1, 0)),
 ];
 
-/// How many events the log has.
+/// Returns how many events the log has.
 fn count_of(input: &[u8], last_entry: usize) -> usize {
     EventLog::new(Some(input), Some(last_entry), false)
         .iter()
@@ -45,8 +45,8 @@ fn a_cut_log_has_its_whole_events(rt: HostRuntime) -> Result<(), Fail> {
     Ok(())
 }
 
-/// Whether the log with the later last entry begins with the earlier one's events that end by its
-/// last entry.
+/// Returns whether the log with the later last entry begins with the earlier one's events that end
+/// by its last entry.
 fn begins_with_ended(input: &[u8], last_entry: usize, later: usize) -> bool {
     let earlier = EventLog::new(Some(input), Some(last_entry), false);
     let mut grown = EventLog::new(Some(input), Some(later), false).iter();

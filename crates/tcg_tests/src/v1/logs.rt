@@ -11,7 +11,8 @@ const FIRST: &str = "0 0x00000008 1489f923c4dca729178b3e3233458550d8dddf29 0000\
 const BOTH: &str = "0 0x00000008 1489f923c4dca729178b3e3233458550d8dddf29 0000\n\
     0 0x80000008 c706e7dd36392984eb06aaa08ff336844077b3ed 000082000000000000000e0000000000\n";
 
-/// The first event of `LOG1` with a data length of 256, and of 2^32 - 1: it is longer than its bytes.
+/// The first event of `LOG1` with a data length of 256, and of 2^32 - 1: it is longer than its
+/// bytes.
 const LONG_DATA: &str = "00000000 08000000 1489f923c4dca729178b3e3233458550d8dddf29 00010000 0000";
 
 const LONGEST_DATA: &str =
@@ -40,7 +41,7 @@ const LOGS: [(&str, Option<usize>, &str); 14] = [
     ("", Some(0), ""),
 ];
 
-/// The events that an iterator gives, one a line: register, type, digest and data.
+/// Returns the events that an iterator gives, one a line: register, type, digest and data.
 fn lines_of(alloc: Global, events: EventLogIter<'_>) -> Result<String, AllocError> {
     let mut lines = String::new(alloc);
     for event in events {
@@ -68,7 +69,7 @@ fn a_log_has_the_events_that_keep_to_the_last_entry(rt: HostRuntime) -> Result<(
     Ok(())
 }
 
-/// Whether the iterator gives this many events, then none, and none when it is asked again.
+/// Returns whether the iterator gives this many events, then none, and none when it is asked again.
 fn ends_after(mut events: EventLogIter<'_>, count: usize) -> bool {
     for _ in 0..count {
         if events.next().is_none() {

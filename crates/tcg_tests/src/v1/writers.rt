@@ -48,7 +48,7 @@ fn a_short_buffer_stays_as_it_was() -> Result<(), Fail> {
     same_bytes("the buffer still", buffer.as_slice(), [0xff; 35].as_slice())
 }
 
-/// Whether the event in a box is the written one, or `None` if memory ran out.
+/// Returns whether the event in a box is the written one, or `None` if memory ran out.
 fn box_event<A: Allocator>(alloc: A, written: &PcrEvent<'_>) -> Option<bool> {
     match PcrEvent::new_in_box(alloc, PCR, EventType::IPL, DIGEST, &EVENT_DATA) {
         Ok(boxed) => Some(boxed.as_event() == *written),

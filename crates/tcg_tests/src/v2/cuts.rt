@@ -19,13 +19,13 @@ const COUNTS: [(usize, usize, (bool, usize, usize)); 8] = [
     (usize::MAX, usize::MAX, (true, 2, 1)),
 ];
 
-/// The log of a header of 77 bytes, and two events that end at 267 and 471.
+/// Returns the log of a header of 77 bytes, and two events that end at 267 and 471.
 fn log_bytes(alloc: Global) -> Result<Vec<u8>, Fail> {
     let text = joined(alloc, &[FOUR_HEADER, FOUR_EVENTS])?;
     Ok(bytes(alloc, text.as_str())?)
 }
 
-/// Whether the log has a header, and how many events it has from either start.
+/// Returns whether the log has a header, and how many events it has from either start.
 fn counts_of(input: &[u8], last_entry: usize) -> (bool, usize, usize) {
     let log = EventLog::new(Some(input), Some(last_entry), false);
     let count = log.iter_after_header_event().count();
@@ -65,7 +65,8 @@ fn a_cut_log_has_its_whole_events(rt: HostRuntime) -> Result<(), Fail> {
     Ok(())
 }
 
-/// How many events a log can have at most from an offset on, since each has 16 bytes at least.
+/// Returns how many events a log can have at most from an offset on, since each has 16 bytes at
+/// least.
 fn bound(start: usize, last_entry: usize) -> usize {
     match last_entry.checked_sub(start) {
         Some(room) => room / 16 + 1,
@@ -73,8 +74,8 @@ fn bound(start: usize, last_entry: usize) -> usize {
     }
 }
 
-/// Whether the log has no more events than that from either start, of which the first is at 61 at
-/// the earliest.
+/// Returns whether the log has no more events than that from either start, of which the first is at
+/// 61 at the earliest.
 fn is_bounded(input: &[u8], last_entry: usize) -> bool {
     let log = EventLog::new(Some(input), Some(last_entry), false);
     let after_event = match log.header() {
@@ -102,7 +103,8 @@ fn is_same_event(event: &PcrEvent<'_>, other: &PcrEvent<'_>) -> bool {
         && are_same_digests(event.digests(), other.digests())
 }
 
-/// The length of an event: 16 bytes, and two for each digest's algorithm, and the digests and data.
+/// Returns the length of an event: 16 bytes, and two for each digest's algorithm, and the digests
+/// and data.
 fn length_of(event: &PcrEvent<'_>) -> usize {
     let mut length = event.event_data().len().saturating_add(16);
     for (_, digest) in event.digests() {
@@ -132,8 +134,8 @@ fn offset_of(header: &EventLogHeader<'_>, start: Start) -> usize {
     }
 }
 
-/// Whether the log with the later last entry begins with the earlier one's events that end by its
-/// last entry.
+/// Returns whether the log with the later last entry begins with the earlier one's events that end
+/// by its last entry.
 fn begins_with_ended(input: &[u8], last_entry: usize, later: usize, start: Start) -> bool {
     let earlier = EventLog::new(Some(input), Some(last_entry), false);
     let Some(header) = earlier.header() else {

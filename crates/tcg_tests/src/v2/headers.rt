@@ -81,7 +81,7 @@ fn the_first_row_of_an_algorithm_decides_its_size(rt: HostRuntime) -> Result<(),
     Ok(())
 }
 
-/// Whether the bytes have no header with the last entry 0, nor with one past them.
+/// Returns whether the bytes have no header with the last entry 0, nor with one past them.
 fn has_no_header(input: &[u8]) -> bool {
     let first = EventLog::new(Some(input), Some(0), false);
     let past = EventLog::new(Some(input), Some(usize::MAX), false);
@@ -93,8 +93,8 @@ fn another_event_has_no_header(rt: HostRuntime) -> Result<(), Fail> {
     each_holds(rt.alloc(), &OTHERS, has_no_header)
 }
 
-/// A header with eleven rows: SHA-1 and the algorithms 1 to 9 have a row each, SHA-1 one more at the
-/// end.
+/// A header with eleven rows: SHA-1 and the algorithms 1 to 9 have a row each, SHA-1 one more at
+/// the end.
 const ELEVEN_ROWS: &str = "00000000 03000000 0000000000000000000000000000000000000000 49000000 \
     53706563204944204576656e74303300 00000000 00020002 0b000000 \
     04001400 01000100 02000200 03000300 05000500 06000600 07000700 08000800 09000900 0a000a00 \

@@ -135,8 +135,8 @@ pub const LOGS: [(&[&str], Option<usize>, Option<usize>, &[&str]); 19] = [
     (&[""], Some(0), None, &[]),
 ];
 
-/// The events that an iterator gives, one a line: register, type, data, and each digest after its
-/// algorithm.
+/// Returns the events that an iterator gives, one a line: register, type, data, and each digest
+/// after its algorithm.
 pub(crate) fn lines_of(alloc: Global, events: EventLogIter<'_>) -> Result<String, AllocError> {
     let mut lines = String::new(alloc);
     for event in events {
@@ -221,7 +221,7 @@ fn a_log_without_bytes_has_neither_header_nor_events() -> Result<(), Fail> {
     )
 }
 
-/// Whether the iterator gives this many events, then none, and none when it is asked again.
+/// Returns whether the iterator gives this many events, then none, and none when it is asked again.
 fn ends_after(mut events: EventLogIter<'_>, count: usize) -> bool {
     for _ in 0..count {
         if events.next().is_none() {
@@ -246,7 +246,8 @@ fn an_iterator_stays_ended(rt: HostRuntime) -> Result<(), Fail> {
     Ok(())
 }
 
-/// Whether the digests are this many, then none, and none when their iterator is asked again.
+/// Returns whether the digests are this many, then none, and none when their iterator is asked
+/// again.
 fn digests_end_after(digests: PcrEventDigests<'_>, count: usize) -> bool {
     let mut digests = digests.into_iter();
     for _ in 0..count {
@@ -290,7 +291,7 @@ const FIRST_DIGESTS: [(&[&str], usize, AlgorithmId, Option<&str>); 5] = [
     (&[LONG_EVENT, ZERO_EVENT], 81, AlgorithmId::SHA1, None),
 ];
 
-/// The first digest of an algorithm in a log's first event.
+/// Returns the first digest of an algorithm in a log's first event.
 fn first_digest(input: &[u8], last_entry: usize, algorithm: AlgorithmId) -> Option<&[u8]> {
     let log = EventLog::new(Some(input), Some(last_entry), false);
     let event = log.iter().next()?;

@@ -50,7 +50,7 @@ fn a_short_buffer_stays_as_it_was() -> Result<(), Fail> {
     same_bytes("the buffer still", buffer.as_slice(), [0xff; 21].as_slice())
 }
 
-/// Whether the inputs in a box are the written ones, or `None` if memory ran out.
+/// Returns whether the inputs in a box are the written ones, or `None` if memory ran out.
 fn box_inputs<A: Allocator>(alloc: A, written: &PcrEventInputs<'_>) -> Option<bool> {
     match PcrEventInputs::new_in_box(alloc, PCR, EventType::IPL, &EVENT_DATA) {
         Ok(boxed) => Some(boxed.as_inputs() == *written),

@@ -28,8 +28,8 @@ pub fn log2_by_steps<'a, A: Allocator>(
     events_from(alloc, log, last_entry, &header.table, header.events_start)
 }
 
-/// Collects those after the header event, by a loop, as the library's `iter_after_header_event` gives
-/// them.
+/// Collects those after the header event, by a loop, as the library's `iter_after_header_event`
+/// gives them.
 pub fn log2_after_event_by_steps<'a, A: Allocator>(
     alloc: A,
     log: &'a [u8],
@@ -46,7 +46,7 @@ pub fn log2_after_event_by_steps<'a, A: Allocator>(
     events_from(alloc, log, last_entry, &header.table, header.event_end)
 }
 
-// Collects the events under the table from the start on.
+/// Collects the events under the table from the start on.
 fn events_from<'a, A: Allocator>(
     alloc: A,
     log: &'a [u8],
@@ -75,7 +75,7 @@ fn events_from<'a, A: Allocator>(
     Ok(views)
 }
 
-// Returns a header whose fields are zero and empty.
+/// Returns a header whose fields are zero and empty.
 fn no_header<'a>() -> UefiLogHeader<'a> {
     UefiLogHeader {
         table: DigestTable::from_rows(&[]),

@@ -7,7 +7,7 @@ ghost use Rattle.uefi_map.specs.memory.Map.{IsMap, AreSorted, count_of};
 use super::descriptor::{DESCRIPTOR_LENGTH, MemoryDescriptor};
 use super::meta::MemoryMapMeta;
 
-// Returns the descriptor at an index of a map.
+/// Returns the descriptor at an index of a map.
 pub(crate) fn read_at(bytes: &[u8], meta: &MemoryMapMeta, i: usize) -> MemoryDescriptor
     requires map { IsMap (length bytes.now) meta.now }
     requires within { i < count_of meta.now }
@@ -17,7 +17,7 @@ pub(crate) fn read_at(bytes: &[u8], meta: &MemoryMapMeta, i: usize) -> MemoryDes
     MemoryDescriptor::read(&bytes[offset..offset + DESCRIPTOR_LENGTH])
 }
 
-// Writes the descriptor at an index of a map.
+/// Writes the descriptor at an index of a map.
 pub(crate) fn write_at(bytes: &mut [u8], meta: &MemoryMapMeta, i: usize, entry: &MemoryDescriptor)
     requires map { IsMap (length bytes.old) meta.now }
     requires within { i < count_of meta.now }
@@ -28,7 +28,7 @@ pub(crate) fn write_at(bytes: &mut [u8], meta: &MemoryMapMeta, i: usize, entry: 
     entry.write(&mut bytes[offset..offset + DESCRIPTOR_LENGTH]);
 }
 
-// Returns whether no descriptor of a map begins below the one before it.
+/// Returns whether no descriptor of a map begins below the one before it.
 pub(crate) fn are_sorted(bytes: &[u8], meta: &MemoryMapMeta) -> bool
     requires { IsMap (length bytes.now) meta.now }
     ensures { IsTrue result ↔ AreSorted bytes.now meta.now }

@@ -6,10 +6,10 @@ use super::memory_type::MemoryType;
 use uefi_base::Align;
 use uefi_base::little_endian::{u32_at, u64_at};
 
-// The length of a descriptor.
+/// The length of a descriptor.
 pub(crate) const DESCRIPTOR_LENGTH: usize = 40;
 
-// What the offset of each descriptor in memory is a multiple of.
+/// What the offset of each descriptor in memory is a multiple of.
 pub(crate) const DESCRIPTOR_ALIGNMENT: usize = 8;
 
 // The offsets of the fields.
@@ -57,7 +57,7 @@ impl MemoryDescriptor {
     /// The version of the descriptors that this type reads and writes.
     pub const VERSION: u32 = 1;
 
-    // Returns the descriptor in the first forty bytes.
+    /// Returns the descriptor in the first forty bytes.
     #[tactic(auto, unfolding(crate::specs::memory::Descriptor::descriptor_in))]
     pub(crate) fn read(bytes: &[u8]) -> MemoryDescriptor
         requires { DESCRIPTOR_LENGTH ≤ length bytes.now }
@@ -73,7 +73,7 @@ impl MemoryDescriptor {
         }
     }
 
-    // Writes the descriptor to forty bytes.
+    /// Writes the descriptor to forty bytes.
     #[tactic(auto, unfolding(crate::specs::memory::Descriptor::encoding))]
     pub(crate) fn write(&self, bytes: &mut [u8])
         requires { length bytes.old ≡ DESCRIPTOR_LENGTH }

@@ -22,8 +22,8 @@ impl<A: Allocator> MemoryMapOwned<A> {
     ///
     /// # Errors
     ///
-    /// [`InvalidSize`](MemoryMapError::InvalidSize), with the vector as it was, exactly if the sizes
-    /// make no map of it ([`MemoryMapMeta::is_map_within`]).
+    /// [`InvalidSize`](MemoryMapError::InvalidSize), with the vector as it was, exactly if the
+    /// sizes make no map of it ([`MemoryMapMeta::is_map_within`]).
     pub fn from_initialized_mem(
         mut buffer: Vec<u8, A>,
         meta: MemoryMapMeta,

@@ -45,7 +45,7 @@ impl<'a> MemoryMapRefMut<'a> {
         MemoryMapRefMut::refused()
     }
 
-    // Returns the map that the buffer is known to begin with.
+    /// Returns the map that the buffer is known to begin with.
     fn accepted(
         buffer: &'a mut [u8],
         meta: MemoryMapMeta,
@@ -59,7 +59,7 @@ impl<'a> MemoryMapRefMut<'a> {
         Ok(MemoryMapRefMut::over(buffer, meta))
     }
 
-    // Returns the error of sizes that make no map.
+    /// Returns the error of sizes that make no map.
     fn refused() -> Result<MemoryMapRefMut<'a>, MemoryMapError>
         ensures { result ≡ Err MemoryMapError.InvalidSize }
     {
@@ -81,7 +81,7 @@ impl<'a> MemoryMapRefMut<'a> {
     }
 }
 
-// Returns whether the sizes make a map of a buffer with this length.
+/// Returns whether the sizes make a map of a buffer with this length.
 fn is_map(length: usize, meta: MemoryMapMeta) -> bool
     ensures { IsTrue result ↔ IsMap length meta }
 {

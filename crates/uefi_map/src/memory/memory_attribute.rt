@@ -8,8 +8,9 @@ use bitflags::{Flag, Flags, bitflag_items};
 /// What a range of memory is capable of, and whether runtime services need it: a set of flags in
 /// eight bytes (UEFI 2.10, 7.2 `EFI_BOOT_SERVICES.GetMemoryMap()`).
 ///
-/// Equality and order are those of the bits as a number, and the default is the empty set. A set that
-/// is read, or made by [`MemoryAttribute::from_bits_retain`], keeps the bits without a name here.
+/// Equality and order are those of the bits as a number, and the default is the empty set. A set
+/// that is read, or made by [`MemoryAttribute::from_bits_retain`], keeps the bits without a name
+/// here.
 #[derive(Clone, Copy, PartialEq, Eq, PartialOrd, Ord, Default, Debug)]
 pub struct MemoryAttribute(u64);
 

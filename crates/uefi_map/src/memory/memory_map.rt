@@ -17,8 +17,8 @@ use super::meta::{MemoryMapKey, MemoryMapMeta};
 /// The offset of descriptor i is i times the stride, [`MemoryMapMeta::desc_size`]. The rest of each
 /// stride, and the bytes after the map, have no meaning.
 ///
-/// A type gives [`meta`](MemoryMap::meta) and [`buffer`](MemoryMap::buffer), and has the other calls,
-/// with their contracts, from here.
+/// A type gives [`meta`](MemoryMap::meta) and [`buffer`](MemoryMap::buffer), and has the other
+/// calls, with their contracts, from here.
 pub trait MemoryMap {
     /// The bytes of the buffer.
     ghost bytes: { Self → List ℕ };
@@ -103,8 +103,8 @@ pub trait MemoryMapMut: MemoryMap {
     /// Both maps write to the same buffer of a caller's, if they borrow one.
     ghost same_buffer: { Self → Self → Type 0 };
 
-    /// Sets the descriptor at the index, and returns the one that was there before. If the index isn't
-    /// below [`len`](MemoryMap::len), it returns `None`, and every byte stays as it was.
+    /// Sets the descriptor at the index, and returns the one that was there before. If the index
+    /// isn't below [`len`](MemoryMap::len), it returns `None`, and every byte stays as it was.
     ///
     /// It writes the forty bytes of the descriptor alone.
     fn set(&mut self, i: usize, entry: MemoryDescriptor) -> Option<MemoryDescriptor>
@@ -147,7 +147,8 @@ pub trait MemoryMapMut: MemoryMap {
             (LendsBuffer Self.row self.entry (with_bytes self.entry.now) result) }
         ensures buffer { result.now ≡ Self.MemoryMap.bytes self.old };
 
-    // What is written to the buffer is then the map's bytes, and the rest of the map stays as it was.
+    // What is written to the buffer is then the map's bytes, and the rest of the map stays as it
+    // was.
     ghost bytes_with: { (map : Self) (bytes : List ℕ)
         → length bytes ≡ length (Self.MemoryMap.bytes map)
         → Self.MemoryMap.bytes (with_bytes map bytes) ≡ bytes };

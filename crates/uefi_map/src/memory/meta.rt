@@ -3,7 +3,7 @@ ghost use Rattle.uefi_map.specs.memory.Map.{IsMap, IsSane, count_of};
 
 use super::descriptor::{DESCRIPTOR_ALIGNMENT, DESCRIPTOR_LENGTH};
 
-// The length of the longest map that counts as sane, 1 GiB.
+/// The length of the longest map that counts as sane, 1 GiB.
 const MAX_SANE_SIZE: usize = 1 << 30;
 
 /// The key by which firmware knows one state of the memory map (UEFI 2.10, 7.2
@@ -28,7 +28,8 @@ impl MemoryMapKey {
 pub struct MemoryMapMeta {
     /// The length of the whole map.
     pub map_size: usize,
-    /// The stride: the bytes from one descriptor to the next, which may be more than a descriptor has.
+    /// The stride: the bytes from one descriptor to the next, which may be more than a descriptor
+    /// has.
     pub desc_size: usize,
     /// The state of the map that the bytes are of.
     pub map_key: MemoryMapKey,
@@ -63,8 +64,8 @@ impl MemoryMapMeta {
         self.map_size / self.desc_size
     }
 
-    /// Returns whether the sizes are such as firmware gives: a stride of at least 40 bytes, and a map
-    /// of 1 to 2^30 bytes.
+    /// Returns whether the sizes are such as firmware gives: a stride of at least 40 bytes, and a
+    /// map of 1 to 2^30 bytes.
     pub fn assert_sanity_checks(&self) -> bool
         ensures { IsTrue result ↔ IsSane self.now }
     {
@@ -82,7 +83,7 @@ impl MemoryMapMeta {
             && self.map_size <= length
     }
 
-    // Returns the offset of a descriptor of a map.
+    /// Returns the offset of a descriptor of a map.
     pub(crate) fn offset_of(&self, i: usize) -> usize
         requires room { DESCRIPTOR_LENGTH ≤ self.now.desc_size }
         requires within { i < count_of self.now }

@@ -7,8 +7,8 @@ use std::marker::Model;
 
 /// The sizes of a map that was accepted, without its buffer.
 ///
-/// A struct that lends its buffer as `&mut` can't keep a fact about the buffer's length beside it. So
-/// it keeps these, and asks for the map's sizes by the buffer's length.
+/// A struct that lends its buffer as `&mut` can't keep a fact about the buffer's length beside it.
+/// So it keeps these, and asks for the map's sizes by the buffer's length.
 #[derive(Drop)]
 pub struct Sizes {
     meta: MemoryMapMeta,
@@ -26,7 +26,7 @@ impl Model for Sizes {
 }
 
 impl Sizes {
-    // Returns the sizes, which are whole strides.
+    /// Returns the sizes, which are whole strides.
     pub(crate) fn new(meta: MemoryMapMeta) -> Sizes
         requires { HasWholeStrides meta }
         ensures { result ≡ meta }
@@ -34,8 +34,8 @@ impl Sizes {
         Sizes { meta }
     }
 
-    // Returns the sizes of the map in a buffer with this length, or those of an empty map if the
-    // buffer is too short.
+    /// Returns the sizes of the map in a buffer with this length, or those of an empty map if the
+    /// buffer is too short.
     pub(crate) fn within(&self, length: usize) -> MemoryMapMeta
         ensures map { IsMap length result }
         ensures meta { result ≡ meta_within length self.now }

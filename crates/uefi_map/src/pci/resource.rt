@@ -3,7 +3,7 @@ ghost use Rattle.uefi_map.specs.pci.Resource.{range_type, resource_in};
 
 use uefi_base::little_endian::u64_at;
 
-// The length of a record.
+/// The length of a record.
 pub(crate) const RECORD_LENGTH: usize = 46;
 
 // The offsets of the fields.
@@ -66,8 +66,8 @@ impl From<u8> for ResourceRangeType {
 /// | 30 | 8 | translation offset |
 /// | 38 | 8 | length of the range |
 ///
-/// Numbers of eight bytes are little-endian. The fields are what the bytes state, whether or not they
-/// agree with one another.
+/// Numbers of eight bytes are little-endian. The fields are what the bytes state, whether or not
+/// they agree with one another.
 #[derive(Clone, Copy, Debug)]
 pub struct QwordAddressSpaceDescriptor {
     /// What the range is made of.
@@ -82,14 +82,15 @@ pub struct QwordAddressSpaceDescriptor {
     pub address_min: u64,
     /// The highest address of the range.
     pub address_max: u64,
-    /// What is added to an address on the secondary side of the bridge to give that on its primary side.
+    /// What is added to an address on the secondary side of the bridge to give that on its primary
+    /// side.
     pub translation_offset: u64,
     /// The count of addresses or bus numbers in the range.
     pub address_length: u64,
 }
 
 impl QwordAddressSpaceDescriptor {
-    // Returns the fields of a record, whatever its first three bytes.
+    /// Returns the fields of a record, whatever its first three bytes.
     #[tactic(auto, unfolding(crate::specs::pci::Resource::resource_in))]
     pub(crate) fn read(bytes: &[u8]) -> QwordAddressSpaceDescriptor
         requires { RECORD_LENGTH ≤ length bytes.now }

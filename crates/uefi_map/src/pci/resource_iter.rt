@@ -16,7 +16,7 @@ pub struct ResourceIter<'a> {
 impl<'a> ResourceIter<'a> {
     ghost use Rattle.uefi_map.specs.pci.Views.{resources_in, resources_left};
 
-    // Returns the resources of whole records.
+    /// Returns the resources of whole records.
     pub(super) fn over(rest: &'a [u8]) -> ResourceIter<'a>
         ensures resources { resources_left result ≡ resources_in rest.now }
         ensures countable { length (resources_left result) < 2 ^ 64 }

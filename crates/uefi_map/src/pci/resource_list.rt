@@ -7,10 +7,10 @@ use super::resource_error::ResourceError;
 use super::resource_iter::ResourceIter;
 use std::alloc::Allocator;
 
-// The first byte of a record.
+/// The first byte of a record.
 const RECORD_TAG: u8 = 0x8a;
 
-// The first byte of the end tag.
+/// The first byte of the end tag.
 const END_TAG: u8 = 0x79;
 
 /// The resources of a PCI root bridge (UEFI 2.10, 14.2
@@ -60,8 +60,8 @@ impl<'a> ResourceList<'a> {
 ///
 /// # Errors
 ///
-/// Fails exactly if the bytes begin with no list. The first offset at which neither a whole record nor
-/// the end tag begins decides:
+/// Fails exactly if the bytes begin with no list. The first offset at which neither a whole record
+/// nor the end tag begins decides:
 ///
 /// - [`NoEndTag`](ResourceError::NoEndTag) if the bytes end there.
 /// - [`CutRecord`](ResourceError::CutRecord) if the tag of a record is there, and the bytes end before
@@ -87,8 +87,8 @@ impl<'a> TryFrom<&'a [u8]> for ResourceList<'a> {
     }
 }
 
-// Returns the bytes after the record that these begin with, or `None` if they begin with the end
-// tag.
+/// Returns the bytes after the record that these begin with, or `None` if they begin with the end
+/// tag.
 fn skip_record(bytes: &[u8]) -> Result<Option<&[u8]>, ResourceError>
     ensures record { IfOk result (λ next. IfSome next (λ after.
         (resource : QwordAddressSpaceDescriptor)

@@ -230,7 +230,7 @@ impl<'a> FileInfo<'a> {
         !self.is_directory()
     }
 
-    // Returns the bytes of the stated size and the fields.
+    /// Returns the bytes of the stated size and the fields.
     #[tactic(auto, using(crate::proofs::file::FieldsBack::header_back))]
     fn header(&self) -> &'a [u8]
         ensures { result.now ≡ file_header_of self.now }
@@ -238,7 +238,7 @@ impl<'a> FileInfo<'a> {
         &self.bytes[..NAME_OFFSET]
     }
 
-    // Returns the view of the record that was written, if it was.
+    /// Returns the view of the record that was written, if it was.
     fn over(
         bytes: &'a [u8],
         written: Result<usize, FileInfoCreationError>,

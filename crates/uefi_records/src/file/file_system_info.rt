@@ -179,8 +179,8 @@ impl<'a> FileSystemInfo<'a> {
         name_at(self.bytes, LABEL_OFFSET)
     }
 
-    // Returns all numbers, in the order of the record, with 1 for a read-only volume and 0 for
-    // others.
+    /// Returns all numbers, in the order of the record, with 1 for a read-only volume and 0 for
+    /// others.
     fn numbers(&self) -> [u64; 5]
         ensures { result ≡ file_system_numbers self.now }
     {
@@ -193,7 +193,7 @@ impl<'a> FileSystemInfo<'a> {
         ]
     }
 
-    // Returns the view of the record that was written, if it was.
+    /// Returns the view of the record that was written, if it was.
     fn over(
         bytes: &'a [u8],
         written: Result<usize, FileInfoCreationError>,

@@ -95,7 +95,7 @@ impl<'a> FileSystemVolumeLabel<'a> {
         name_at(self.bytes, LABEL_OFFSET)
     }
 
-    // Returns the view of the record that was written, if it was.
+    /// Returns the view of the record that was written, if it was.
     fn over(
         bytes: &'a [u8],
         written: Result<usize, FileInfoCreationError>,

@@ -10,16 +10,16 @@ ghost use Rattle.uefi_records.specs.private.file.Nonzero.{AreNonzero, AreNonzero
 use std::simd::prelude::*;
 use uefi_base::UnalignedSlice;
 
-// The length of a unit, in bytes.
+/// The length of a unit, in bytes.
 pub(crate) const UNIT_LENGTH: usize = 2;
 
-// How many units are compared at a time.
+/// How many units are compared at a time.
 const LANES: usize = 16;
 
-// The units of a page of memory, 4096 bytes.
+/// The units of a page of memory, 4096 bytes.
 const PAGE_UNITS: usize = 2048;
 
-// How many pages are read side by side.
+/// How many pages are read side by side.
 const PAGES: usize = 8;
 
 /// Returns the index of the first zero among the whole units of the bytes, or `None` if no unit is
@@ -43,11 +43,11 @@ pub fn first_zero_unit(bytes: &[u8]) -> Option<usize>
     first_zero_from(bytes, index)
 }
 
-// Returns how many units come before the first eight pages in which a unit is zero, or bytes are
-// missing.
-//
-// A processor reads ahead within a page alone, so eight pages side by side are read sooner than one
-// after another.
+/// Returns how many units come before the first eight pages in which a unit is zero, or bytes are
+/// missing.
+///
+/// A processor reads ahead within a page alone, so eight pages side by side are read sooner than
+/// one after another.
 fn nonzero_pages(bytes: &[u8]) -> usize
     ensures within { unit_length * result ≤ length bytes.now }
     ensures nonzero { first_zero (units_of bytes.now) ≡ position_from (λ unit. unit == 0) result
@@ -65,7 +65,7 @@ fn nonzero_pages(bytes: &[u8]) -> usize
     index
 }
 
-// Returns whether no unit of eight pages is zero.
+/// Returns whether no unit of eight pages is zero.
 fn are_nonzero(pages: &[u8]) -> bool
     requires { length pages.now ≡ unit_length * (page_count * page_units) }
     ensures { result ≡ true → AreNonzero 0 (page_count * page_units) (units_of pages.now) }
@@ -80,7 +80,7 @@ fn are_nonzero(pages: &[u8]) -> bool
     true
 }
 
-// Returns whether none of the sixteen units from the index on in each of eight pages is zero.
+/// Returns whether none of the sixteen units from the index on in each of eight pages is zero.
 fn are_nonzero_in_each(pages: &[u8], index: usize) -> bool
     requires pages { length pages.now ≡ unit_length * (page_count * page_units) }
     requires within { index + 16 ≤ page_units }
@@ -94,7 +94,7 @@ fn are_nonzero_in_each(pages: &[u8], index: usize) -> bool
     true
 }
 
-// Returns how many of the sixteen units from the offset on come before the first zero.
+/// Returns how many of the sixteen units from the offset on come before the first zero.
 fn nonzero_run(bytes: &[u8], offset: usize) -> usize
     requires { offset + 32 ≤ length bytes.now }
     ensures { result
@@ -109,7 +109,7 @@ fn nonzero_run(bytes: &[u8], offset: usize) -> usize
     }
 }
 
-// Returns the index of the first zero among the units from `start` on, one unit at a time.
+/// Returns the index of the first zero among the units from `start` on, one unit at a time.
 #[tactic(auto, using(crate::proofs::file::FirstZero::whole_units, uefi_base::proofs::UnitsOfBytes::half_as_many_units))]
 fn first_zero_from(bytes: &[u8], start: usize) -> Option<usize>
     requires { unit_length * start ≤ length bytes.now }

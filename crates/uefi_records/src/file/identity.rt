@@ -1,5 +1,5 @@
-//! The GUIDs of the three records. Each is the constant of a type without a lifetime, from which the
-//! record has it.
+//! The GUIDs of the three records. Each is the constant of a type without a lifetime, from which
+//! the record has it.
 
 ghost use Rattle.uefi_records.specs.file.Identity.{file_info_guid, file_system_info_guid, volume_label_guid};
 

@@ -12,7 +12,7 @@ use crate::file::creation_error::FileInfoCreationError;
 use crate::file::first_zero::{UNIT_LENGTH, first_zero_unit};
 use uefi_base::{Error, Status, UnalignedSlice};
 
-// Returns the units of the name from the offset on.
+/// Returns the units of the name from the offset on.
 #[tactic(auto, using(crate::proofs::file::Names::FitName_from))]
 pub(crate) fn name_at<'a>(bytes: &'a [u8], offset: usize) -> UnalignedSlice<'a>
     requires { EndsWithName offset bytes.now }
@@ -23,7 +23,7 @@ pub(crate) fn name_at<'a>(bytes: &'a [u8], offset: usize) -> UnalignedSlice<'a>
     UnalignedSlice::new(name)
 }
 
-// Returns the number, rounded up to a multiple of the alignment.
+/// Returns the number, rounded up to a multiple of the alignment.
 fn round_up(n: usize, alignment: usize) -> usize
     requires positive { 0 < alignment }
     requires room { n + alignment < 2 ^ 64 }
@@ -32,7 +32,7 @@ fn round_up(n: usize, alignment: usize) -> usize
     (n + (alignment - 1)) / alignment * alignment
 }
 
-// Returns the end of the record in the first `written` bytes, whose name begins at the offset.
+/// Returns the end of the record in the first `written` bytes, whose name begins at the offset.
 pub(crate) fn name_end(
     buffer: &[u8],
     written: usize,
@@ -63,8 +63,8 @@ pub(crate) fn name_end(
     }
 }
 
-// Returns the end and the size of a record with a name of this many units, if a buffer of this
-// length has room for it.
+/// Returns the end and the size of a record with a name of this many units, if a buffer of this
+/// length has room for it.
 pub(crate) fn room_for(
     units: usize,
     offset: usize,

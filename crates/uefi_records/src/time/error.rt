@@ -65,7 +65,7 @@ impl fmt::Display for TimeError {
 
 impl Error for TimeError {}
 
-// A line of text, present if its field is at fault.
+/// A line of text, present if its field is at fault.
 #[derive(Clone, Copy)]
 struct FaultLine<'a>(bool, &'a str);
 
