@@ -2,6 +2,7 @@ pub mod Banks
 pub mod Entries
 pub mod Initial
 pub mod Replay
+pub mod Measured
 pub mod Logs
 pub mod Laws
 pub mod Views
