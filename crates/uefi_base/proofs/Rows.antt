@@ -140,17 +140,10 @@ character_rows = record {
     nul_after_above fault = at_index fault.1.0 fault.1.1 fault.1.2 fault.1.3
 
 byte_rows : ByteRows
-byte_rows = record {
-  units = refl;
-  odd_byte = refl;
-  bytes = refl;
-  u16 = refl;
-  u32 = refl;
-  u64 = refl;
-}
+byte_rows = assumption
 
 name_rows : NameRows
-name_rows = record { guid = refl; status = refl }
+name_rows = assumption
 
 pub rows_hold : RowsHold
 rows_hold = (text_rows, fault_rows, limit_rows, order_rows, character_rows, byte_rows, name_rows)

@@ -17,6 +17,7 @@ pub use types.ByLocal.{alloc_all, pass_all, free_all, look_at, look_in_at, get, 
 pub use denote.Builtin.{u8, usize, bool}
 pub use denote.Exit.{no, yes}
 pub use denote.Laws.{Is, shows}
+pub use denote.Ref.{as_bor}
 pub use denote.Plain.{uint_vals, bool_Tells}
 pub use denote.RattleType.{owns}
 pub use denote.Signature.{plain, mut_slice_of, named_lft}

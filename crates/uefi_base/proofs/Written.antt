@@ -20,6 +20,14 @@ pub record Wrote {E : Type 0} (part old new : List ℕ) (size : ℕ) (Is Fits : 
   pub unchanged : OnErr written (new ≡ old)
   pub fits : IsOk written ↔ Fits
 
+-- The same of its clauses, one by one.
+pub wrote : {E : Type 0} {part old new : List ℕ} {size : ℕ} {Is Fits : Type 0} {Fails : E → Type 0}
+    {written : Result ℕ E} → IfOk written (λ end. end ≡ size) → OnOk written (new ≡ put_prefix part old)
+    → OnOk written Is → IfErr written Fails → OnErr written (new ≡ old) → IsOk written ↔ Fits
+    → Wrote part old new size Is Fits Fails written
+wrote end put is fails unchanged fits =
+    record { end = end; put = put; is = is; fails = fails; unchanged = unchanged; fits = fits }
+
 -- What holds of the view, and of the buffer in the end.
 pub record Made {V E : Type 0} (view : V → List ℕ) (part old new : List ℕ) (Is Fits : Type 0) (Fails : E → Type 0)
     (made : Result V E) : Type 0 where
