@@ -54,11 +54,14 @@
 extern "C" {
 #endif
 
+/* For targets whose functions follow Microsoft's convention. */
 #ifndef UEFI_CALL
-#if defined(__GNUC__) && (defined(_WIN64) || defined(__MINGW32__))
+#if !defined(_WIN64) && !defined(__UEFI__)
+#define UEFI_CALL
+#elif defined(__GNUC__) || defined(__clang__)
 #define UEFI_CALL __attribute__((sysv_abi))
 #else
-#define UEFI_CALL
+#error "uefi.h: this compiler can't call functions of the System V convention"
 #endif
 #endif
 
@@ -316,9 +319,11 @@ typedef struct {
 UEFI_CALL bool uefi_config_next_pair(UefiBytes text, size_t *offset, UefiPair *out);
 
 /* Writes the bytes that a text in UTF-8 spells in hex to the beginning of the
- * buffer, two characters a byte, and sets `*size` to their number. What is no
- * digit stands for 0. If it returns false, the buffer is as it was, and
- * `*size` is the length that it needs, or 0 if the text isn't UTF-8. */
+ * buffer, and sets `*size` to their number: one for each two bytes of the
+ * text, and one for an odd last one. Two digits spell a byte, as do a plus
+ * sign and a digit, and an odd last digit; all else spells 0. If it returns
+ * false, the buffer is as it was, and `*size` is the length that it needs, or 0
+ * if the text isn't UTF-8. */
 UEFI_CALL bool uefi_hex(UefiBytes text, UefiBuffer buffer, size_t *size);
 
 #ifdef __cplusplus

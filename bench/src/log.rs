@@ -27,7 +27,7 @@ fn read_events1(bytes: &[u8]) -> u64 {
 }
 
 /// Events of version 1 with data of 0 to 40 bytes.
-fn make_log1(count: usize) -> Vec<u8> {
+pub fn make_log1(count: usize) -> Vec<u8> {
     let mut random = Random::new();
     let mut bytes = Vec::new();
     for _ in 0..count {

@@ -84,7 +84,7 @@ fn make_header(rows: usize) -> Vec<u8> {
 }
 
 /// Events of version 2 with data of 0 to 40 bytes, and with a digest for each row.
-fn make_log(count: usize, rows: usize) -> Vec<u8> {
+pub fn make_log(count: usize, rows: usize) -> Vec<u8> {
     let mut random = Random::new();
     let mut bytes = make_header(rows);
     for _ in 0..count {

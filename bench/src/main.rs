@@ -1,5 +1,6 @@
 //! Measures the proved readers beside plain Rust readers of the same formats, and whole runs of the
-//! proved program beside plain Rust that prints the same listings.
+//! proved program beside plain Rust that prints the same listings. The calls of the library for C are
+//! measured beside plain C.
 //!
 //! Both read the same input, made here with a fixed seed, and must give the same sum or listing. A
 //! line for a reader has the best of five rounds of each: nanoseconds an item and bytes a second of
@@ -9,6 +10,7 @@
 //! `bench PROGRAM FOLDER` measures, with the runs' files in that folder. `bench list COMMAND FILE
 //! [ARG]` is the plain Rust that a run is measured beside.
 
+mod c_library;
 mod config;
 mod info;
 mod list;
@@ -33,8 +35,8 @@ const ROUNDS: usize = 5;
 /// The calls of each reader in a round, in turn. A round's time is that of its best call.
 const CALLS: usize = 10;
 
-/// A reader: its name, what one call of the proved reader and of the Rust reader does, its input,
-/// and how many items that has.
+/// A reader: its name, what one call of the proved reader and of the Rust (or C) reader does, its
+/// input, and how many items that has.
 pub struct Case<'a> {
     pub name: &'static str,
     pub port: unsafe extern "C" fn(*const u8, usize) -> u64,
@@ -84,6 +86,7 @@ fn measure_readers() -> bool {
     map::with_cases(|case| equal &= measure(case));
     resources::with_cases(|case| equal &= measure(case));
     time::with_cases(|case| equal &= measure(case));
+    c_library::with_cases(|case| equal &= measure(case));
     equal
 }
 

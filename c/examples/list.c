@@ -3,8 +3,10 @@
  *     list path|pci FILE
  *     list log1|log2|log2after FILE [LAST_ENTRY]
  *     list map FILE STRIDE
- *     list pairs FILE          the pairs of a configuration text
+ *     list pairs FILE
  *
+ * The last lists the pairs of a configuration text, for which uefi_list has no
+ * command: `pair KEY`, and on a line below it `  value VALUE` where it has one.
  * The exit status is 0 where all was listed, 1 where the bytes were refused,
  * and 2 where the words ask for nothing or the file can't be read.
  */
@@ -155,7 +157,7 @@ static int list_pairs(UefiBytes text) {
         printf("pair ");
         fwrite(pair.key.at, 1, pair.key.n, stdout);
         if (pair.has_value) {
-            putchar('=');
+            printf("\n  value ");
             fwrite(pair.value.at, 1, pair.value.n, stdout);
         }
         putchar('\n');

@@ -1,14 +1,9 @@
 /* Mutated inputs before a guard page: each result is that of a plain walk, and where a call returns false,
  * nothing was written. fuzz SECONDS SEED FILE.. */
-#include <stdio.h>
-#include <stdlib.h>
-#include <string.h>
+#include "fuzz.h"
+
 #include <sys/mman.h>
 #include <time.h>
-
-#include "uefi.h"
-
-enum { AREA = 1 << 14 };
 
 static uint8_t *area(void) {
     uint8_t *at = mmap(0, AREA + 4096, PROT_READ | PROT_WRITE, MAP_PRIVATE | MAP_ANONYMOUS, -1, 0);
@@ -17,21 +12,19 @@ static uint8_t *area(void) {
 }
 
 static uint64_t state;
-static uint64_t any(void) { return state ^= state << 13, state ^= state >> 7, state ^= state << 17; }
-static size_t below(size_t n) { return n ? any() % n : 0; }
+uint64_t any(void) { return state ^= state << 13, state ^= state >> 7, state ^= state << 17; }
+size_t below(size_t n) { return n ? any() % n : 0; }
 
-static uint32_t u16(const uint8_t *b) { return b[0] | (uint32_t)b[1] << 8; }
-static uint32_t u32(const uint8_t *b) { return u16(b) | u16(b + 2) << 16; }
+uint32_t u16(const uint8_t *b) { return b[0] | (uint32_t)b[1] << 8; }
+uint32_t u32(const uint8_t *b) { return u16(b) | u16(b + 2) << 16; }
 
 static bool keeps(size_t last, size_t start, size_t end) {
     return start < last ? end <= last : start == last;
 }
 
-static void need(bool holds, int line) {
-    if (!holds) printf("differs: line %d\n", line), exit(1);
+void need(bool holds, const char *file, int line) {
+    if (!holds) printf("differs: %s, line %d\n", file, line), exit(1);
 }
-#define NEED(holds) need(holds, __LINE__)
-#define SAME(out) NEED(!memcmp(&out, &untouched, sizeof out))
 
 /* Where a version 1 event ends; 0 for none. */
 static size_t plain1(UefiBytes log, size_t last, size_t at) {
@@ -88,7 +81,7 @@ static size_t plain_header(UefiBytes log, size_t last, size_t *event_end) {
     return vendor + 1 + log.at[vendor] <= *event_end ? vendor : 0;
 }
 
-static size_t headers, events1, events2, digests, nodes, entries, resources, pairs, records, times;
+static size_t headers, events1, events2, digests, nodes, entries, resources, pairs;
 
 static bool one1(UefiBytes log, size_t last, size_t *at) {
     UefiEvent1 out, untouched;
@@ -224,54 +217,6 @@ static void one_pair(UefiBytes text, size_t at) {
     pairs++;
 }
 
-static void one_record(UefiBytes buffer) {
-    UefiFileInfo out, untouched;
-    memset(&out, 0xcc, sizeof out), memset(&untouched, 0xcc, sizeof out);
-    size_t written = any() & 1 ? buffer.n : below(buffer.n + 9), n = written < buffer.n ? written : buffer.n, needed = 7, end = 0;
-    for (size_t i = 80; !end && i + 2 <= n; i += 2)
-        if (!u16(buffer.at + i)) end = i + 2;
-    size_t size = (end + 7) / 8 * 8;
-    bool found = uefi_file_info(buffer, written, &out, &needed);
-    NEED(found == (end && size <= buffer.n));
-    if (!found) { NEED(needed == (end ? size : 0)); SAME(out); return; }
-    NEED(needed == 7 && out.name.at == buffer.at + 80 && out.name.n == end - 80 && !memcmp(&out.size, buffer.at, 8));
-    NEED(!memcmp(&out.attribute, buffer.at + 72, 8) && out.create_time.year == u16(buffer.at + 24) && out.modification_time.day == buffer.at[59]);
-    records++;
-}
-
-static void one_time(UefiBytes bytes) {
-    UefiTime out, untouched;
-    UefiTimeFaults faults;
-    memset(&out, 0xcc, sizeof out), memset(&untouched, 0xcc, sizeof out);
-    uint8_t *b = (uint8_t *)bytes.at;
-    if (bytes.n >= 16 && any() & 1) b[0] = any(), b[1] = 7 + below(2), b[2] = below(14), b[3] = below(33), b[4] = below(25), b[14] = below(5), b[13] = 0, b[11] = 0, b[6] = b[5] = below(61);
-    bool there = bytes.n >= 16, wrong = false;
-    if (there) {
-        int16_t zone = (int16_t)u16(b + 12);
-        wrong = b[14] > 3 || u16(b) < 1900 || u16(b) > 9999 || b[2] < 1 || b[2] > 12 || b[3] < 1 || b[3] > 31 || b[4] > 23 || b[5] > 59 || b[6] > 59 ||
-                u32(b + 8) > 999999999 || (zone != 0x7ff && (zone < -1440 || zone > 1440));
-    }
-    NEED(uefi_time(bytes, &out) == (there && !wrong));
-    NEED(uefi_time_faults(bytes, &faults) == (there && wrong));
-    if (!there || wrong) { SAME(out); return; }
-    NEED(out.year == u16(b) && out.month == b[2] && out.nanosecond == u32(b + 8) && out.zone == (int16_t)u16(b + 12) && out.daylight == b[14]);
-    times++;
-}
-
-static void one_event_written(UefiBytes data) {
-    static uint8_t room[AREA + 64], wanted[AREA + 64];
-    uint8_t digest[20];
-    for (int i = 0; i < 20; i++) digest[i] = any();
-    uint32_t pcr = any(), type = any();
-    size_t n = any() & 1 ? 32 + data.n + below(30) : below(34 + data.n), size = 0;
-    memset(room, 0x5a, n), memset(wanted, 0x5a, n);
-    bool fits = n >= 32 + data.n;
-    uint32_t length = data.n;
-    if (fits) memcpy(wanted, &pcr, 4), memcpy(wanted + 4, &type, 4), memcpy(wanted + 8, digest, 20), memcpy(wanted + 28, &length, 4), memcpy(wanted + 32, data.at, data.n);
-    NEED(uefi_write_event(uefi_buffer(room, n), data, (const uint8_t(*)[20])digest, pcr, type, &size) == fits);
-    NEED(size == 32 + data.n && !memcmp(room, wanted, n));
-}
-
 static bool memcmp_le(const uint8_t *one, const uint8_t *other) {
     uint64_t a, b;
     memcpy(&a, one, 8), memcpy(&b, other, 8);
@@ -328,10 +273,10 @@ int main(int argc, char **argv) {
         size_t cut = below(n + 1);
         UefiBytes part = {log.at + cut, n - cut};
         at = any() & 1 ? 0 : any() & 3 ? below(part.n + 3) : (size_t)any();
-        one_digest(&table, part, at), one_path(part, at), one_resource(part, at), one_pair(part, at);
-        one_entry(part), one_record(part), one_event_written(part), one_time(part);
+        one_digest(&table, part, at), one_path(part, at), one_resource(part, at), one_pair(part, at), one_entry(part);
+        records_of(part);
     }
     printf("%zu inputs, 0 differences: %zu headers, %zu and %zu events, %zu digests, %zu nodes, %zu entries, %zu resources, "
-           "%zu pairs, %zu records, %zu times\n",
-           inputs, headers, events1, events2, digests, nodes, entries, resources, pairs, records, times);
+           "%zu pairs, %zu records, %zu times, %zu texts, %zu events written\n",
+           inputs, headers, events1, events2, digests, nodes, entries, resources, pairs, records, times, texts, written_events);
 }

@@ -1,2 +1,5 @@
 #pragma once
+#include <stddef.h>
 int strcmp(const char *one, const char *other);
+int memcmp(const void *one, const void *other, size_t n);
+void *memcpy(void *to, const void *from, size_t n);

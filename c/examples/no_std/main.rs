@@ -22,18 +22,28 @@ fn paths_are_right() -> bool {
     path.len() == 103 && uefi::nodes(path).count() == 9 && ends == 1 && data == 63 && uefi::path(&path[1..]).is_none()
 }
 
+/// What a log holds: the counts of its events and of their digests, the lengths of the events' data, in
+/// all, and the lengths of the SHA-256 digests, in all.
+fn sums(header: &uefi::Header<'_>) -> [usize; 4] {
+    let mut sums = [0; 4];
+    for event in header.events() {
+        let sha256: usize = event.digests().filter(|it| it.0 == 0xb).map(|it| it.1.len()).sum();
+        let [events, digests, data, sha256_bytes] = &mut sums;
+        *events += 1;
+        *digests += event.digests().count();
+        *data += event.data.len();
+        *sha256_bytes += sha256;
+    }
+    sums
+}
+
 fn log_is_right() -> bool {
-    let Some(header) = uefi::header(LOG, LOG.len()) else {
+    let Some(header) = uefi::header(LOG, 5294) else {
         return false;
     };
-    let mut sum = 0;
-    for event in header.events() {
-        if event.digests().any(|(algorithm, digest)| algorithm == 0xb && digest.len() != 32) {
-            return false;
-        }
-        sum += event.data.len() + event.digests().count() + (event.pcr_index > 23) as usize * 1000;
-    }
-    header.events().count() > 0 && sum > 0 && uefi::header(&[], 0).is_none() && header.events().all(|it| it.event_type != 0xffff)
+    let first = header.events().next().map(|it| (it.pcr_index, it.event_type));
+    let wrong_last_entry = uefi::header(LOG, 1).is_some() || uefi::header(&[], 0).is_some();
+    sums(&header) == [25, 100, 745, 25 * 32] && first == Some((0, 8)) && !wrong_last_entry
 }
 
 #[unsafe(no_mangle)]

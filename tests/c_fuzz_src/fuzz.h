@@ -1,0 +1,29 @@
+/* What the files of the program share. */
+#ifndef FUZZ_H
+#define FUZZ_H
+
+#include <stdio.h>
+#include <stdlib.h>
+#include <string.h>
+
+#include "uefi.h"
+
+enum { AREA = 1 << 14 };
+
+/* Numbers from the seed: any, and one below a limit (0 for the limit 0). */
+uint64_t any(void);
+size_t below(size_t n);
+
+uint32_t u16(const uint8_t *b);
+uint32_t u32(const uint8_t *b);
+
+/* Ends the program where this is false. */
+void need(bool holds, const char *file, int line);
+#define NEED(holds) need(holds, __FILE__, __LINE__)
+#define SAME(out) NEED(!memcmp(&out, &untouched, sizeof out))
+
+/* Times, records, texts in hex and written events, of these bytes. */
+void records_of(UefiBytes part);
+extern size_t records, times, texts, written_events;
+
+#endif

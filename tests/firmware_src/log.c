@@ -1,0 +1,150 @@
+/* The event log of EFI_TCG2_PROTOCOL.GetEventLog, with firmware's own last entry. */
+#include "app.h"
+
+/* How often the walk is repeated: firmware takes interrupts on the stack of the proved functions. */
+#define REPEATS 2000
+
+typedef struct {
+    UefiBytes bytes;
+    size_t last_entry;
+} Log;
+
+static void add_event(Tally *tally, uint32_t pcr_index, uint32_t event_type, UefiBytes data) {
+    add_number(tally, pcr_index);
+    add_number(tally, event_type);
+    add_bytes(tally, data);
+    tally->count++;
+}
+
+static void add_digest(Tally *tally, uint16_t algorithm, UefiBytes digest) {
+    add_number(tally, algorithm);
+    add_bytes(tally, digest);
+}
+
+static size_t add_digests(Tally *tally, const UefiEvent2 *event, const UefiDigestTable *table) {
+    UefiDigest digest;
+    size_t count = 0;
+    for (size_t at = 0; uefi_digest_next(event->digests, table, &at, &digest); count++)
+        add_digest(tally, digest.algorithm, digest.bytes);
+    return count;
+}
+
+/* The events and their digests by the proved functions, and where the last event ends. */
+static Tally proved_tally(const Log *log, size_t *digests, size_t *end) {
+    Tally tally = {0};
+    UefiLogHeader header;
+    UefiEvent2 event;
+    *digests = *end = 0;
+    if (!uefi_log2_header(log->bytes, log->last_entry, &header))
+        return tally;
+    *end = header.events_start;
+    while (uefi_log2_next(log->bytes, log->last_entry, &header.table, end, &event)) {
+        add_event(&tally, event.pcr_index, event.event_type, event.event_data);
+        *digests += add_digests(&tally, &event, &header.table);
+    }
+    return tally;
+}
+
+/* The size of an algorithm's digests, by the first row of the header that has it. */
+static size_t plain_size(const uint8_t *log, uint16_t algorithm) {
+    for (uint32_t row = 0; row < u32_at(log + 56); row++) {
+        if (u16_at(log + 60 + 4 * row) == algorithm)
+            return u16_at(log + 62 + 4 * row);
+    }
+    return 0;
+}
+
+/* Where the digests of the event at an offset end. */
+static size_t plain_digests_end(const uint8_t *log, size_t at) {
+    uint32_t count = u32_at(log + at + 8);
+    for (at += 12; count--;)
+        at += 2 + plain_size(log, u16_at(log + at));
+    return at;
+}
+
+/* Adds the event at an offset, and returns where it ends. */
+static size_t plain_event(Tally *tally, const uint8_t *log, size_t at) {
+    size_t end = plain_digests_end(log, at), next = at + 12;
+    add_event(tally, u32_at(log + at), u32_at(log + at + 4), uefi_bytes(log + end + 4, u32_at(log + end)));
+    while (next < end) {
+        UefiBytes digest = uefi_bytes(log + next + 2, plain_size(log, u16_at(log + next)));
+        add_digest(tally, u16_at(log + next), digest);
+        next += 2 + digest.n;
+    }
+    return end + 4 + u32_at(log + end);
+}
+
+/* The same by plain C: the events from the header event's end to the one that starts at the last entry. */
+static Tally plain_tally(const Log *log, size_t *digests, size_t *end) {
+    Tally tally = {0};
+    const uint8_t *at = log->bytes.at;
+    *digests = 0;
+    for (*end = 32 + u32_at(at + 28); *end <= log->last_entry; *end = plain_event(&tally, at, *end))
+        *digests += u32_at(at + *end + 8);
+    return tally;
+}
+
+static void repeat(const Log *log, Tally wanted) {
+    size_t wrong = 0, digests, end;
+    for (size_t k = 0; k < REPEATS; k++) {
+        Tally tally = proved_tally(log, &digests, &end);
+        wrong += tally.count != wanted.count || tally.sum != wanted.sum;
+    }
+    text("event log, walked ");
+    decimal(REPEATS);
+    text(" times with interrupts on: ");
+    decimal(wrong);
+    text(" wrong");
+    end_line();
+    differences += wrong;
+}
+
+static void compare(const Log *log) {
+    size_t digests, end, plain_digests, plain_end;
+    Tally proved = proved_tally(log, &digests, &end), plain = plain_tally(log, &plain_digests, &plain_end);
+    expect(end == plain_end, "where the log ends");
+    expect(digests == plain_digests, "the count of digests");
+    text("event log, ");
+    decimal(end);
+    text(" bytes, last entry ");
+    decimal(log->last_entry);
+    text(", ");
+    decimal(digests);
+    text(" digests");
+    end_tally(" events", proved, plain);
+    /* No byte of the log is lost; with one byte fewer the last event is. */
+    Log whole = {uefi_bytes(log->bytes.at, end), log->last_entry};
+    Log cut = {uefi_bytes(log->bytes.at, end - 1), log->last_entry};
+    expect(proved_tally(&whole, &digests, &end).sum == proved.sum, "the log alone");
+    expect(proved_tally(&cut, &digests, &end).count == proved.count - 1, "a cut log");
+    repeat(&whole, proved);
+    keep_file("event.log", whole.bytes);
+}
+
+/* What firmware has logged up to now. False if there is no log. */
+static bool get_log(EfiTcg2 *tcg2, Log *log) {
+    uint64_t start = 0, last = 0;
+    bool truncated = false;
+    if (tcg2->get_event_log(tcg2, EFI_LOG_FORMAT_2, &start, &last, &truncated) != EFI_SUCCESS || !start)
+        return false;
+    expect(!truncated, "the log isn't truncated");
+    log->bytes = readable_from((const void *)start);
+    log->last_entry = (size_t)(last - start);
+    return true;
+}
+
+void read_log(void) {
+    static const EfiGuid guid = GUID_TCG2;
+    EfiTcg2 *tcg2 = NULL;
+    Log log, later;
+    if (firmware->boot->locate_protocol(&guid, NULL, (void **)&tcg2) != EFI_SUCCESS || !get_log(tcg2, &log)) {
+        expect(false, "there is an event log");
+        return;
+    }
+    compare(&log);
+    text("last_entry ");
+    decimal(log.last_entry);
+    end_line();
+    keep_registers(tcg2);
+    expect(get_log(tcg2, &later) && later.last_entry == log.last_entry, "nothing was logged since");
+}
