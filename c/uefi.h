@@ -7,20 +7,27 @@
  * between calls, or needs a C library or an operating system.
  *
  *     // The events of a version 2 log, as EFI_TCG2_PROTOCOL.GetEventLog
- *     // gives it: `last` is the offset of the last event in `log`.
+ *     // gives it: `last` is the offset of the last event in `log`, and
+ *     // `size` how many bytes can be read from its start.
  *     UefiBytes log = uefi_bytes(start, size);
  *     UefiLogHeader header;
  *     UefiEvent2 event;
+ *     UefiDigest digest;
  *     if (uefi_log2_header(log, last, &header)) {
- *         size_t at = header.events_start;
- *         while (uefi_log2_next(log, last, &header.table, &at, &event))
- *             measure(event.pcr_index, event.event_type, event.event_data);
+ *         size_t at = header.event_end;
+ *         while (uefi_log2_next(log, last, &header.table, &at, &event)) {
+ *             size_t next = 0;
+ *             while (uefi_digest_next(event.digests, &header.table, &next, &digest))
+ *                 measure(event.pcr_index, digest.algorithm, digest.bytes);
+ *         }
+ *         if (at <= last)
+ *             damaged(at); // what begins there is no whole event
  *     }
  *
  * Bytes. A function takes bytes as a UefiBytes: where they begin, and how
  * many there are. `at` is never NULL, also where `n` is 0; uefi_bytes() makes
- * one of any pointer and length, NULL with length 0 among them. What a
- * function returns in a UefiBytes points into the bytes that it was passed.
+ * one of any pointer and length, and of NULL no bytes. What a function returns
+ * in a UefiBytes, or in a table, points into the bytes that it was passed.
  *
  * Cursors. A function that goes from one item to the next takes `offset`, a
  * number that the caller keeps: set it to the start, 0 if nothing else is
@@ -77,16 +84,16 @@ typedef struct {
     size_t n;
 } UefiBuffer;
 
-/* The `n` bytes at `at`, which may be NULL if `n` is 0. */
+/* The `n` bytes at `at`; none if `at` is NULL. */
 static inline UefiBytes uefi_bytes(const void *at, size_t n) {
     static const uint8_t none[1] = {0};
-    UefiBytes bytes = {at && n ? (const uint8_t *)at : none, n};
+    UefiBytes bytes = {at && n ? (const uint8_t *)at : none, at ? n : 0};
     return bytes;
 }
 
 static inline UefiBuffer uefi_buffer(void *at, size_t n) {
     static uint8_t none[1];
-    UefiBuffer buffer = {at && n ? (uint8_t *)at : none, n};
+    UefiBuffer buffer = {at && n ? (uint8_t *)at : none, at ? n : 0};
     return buffer;
 }
 
@@ -103,12 +110,15 @@ typedef struct {
  * ends the path. */
 UEFI_CALL bool uefi_path(UefiBytes bytes, UefiBytes *path);
 
-/* The next node of a path, or of an instance, that `path` holds and nothing
- * more. False at the node that ends it, which is not handed out. */
+/* The next node of a path that uefi_path returned, or of an instance that
+ * uefi_path_next_instance returned. False at the node that ends it, which is
+ * not handed out. The nodes of a path are those of all its instances, with
+ * the nodes that end the others (type 0x7f, subtype 0x01). */
 UEFI_CALL bool uefi_path_next_node(UefiBytes path, size_t *offset, UefiNode *out);
 
 /* The next instance of a path: its bytes, with those of the node that ends
- * it. False after the last. */
+ * it. False after the last. Two ends side by side have an empty instance
+ * between them, of the second end alone. */
 UEFI_CALL bool uefi_path_next_instance(UefiBytes path, size_t *offset, UefiBytes *instance);
 
 /* ---- Memory maps (UEFI 2.10, 7.2 GetMemoryMap) ---- */
@@ -140,7 +150,13 @@ UEFI_CALL bool uefi_map_is_sorted(UefiBytes map, size_t stride);
  * `last_entry` is the offset at which the last event starts, firmware's
  * EventLogLastEntry less EventLogLocation. An event that starts there may end
  * at any later offset of the log's bytes; an event that starts before it also
- * ends there or before. */
+ * ends there or before; none starts after it. If it isn't known, pass the
+ * log's length: then each whole event is returned.
+ *
+ * Where a function for the next event has returned false, an offset past
+ * `last_entry` says that the last event was read. From another offset on the
+ * bytes are no whole event: the log is cut or damaged, or `last_entry` isn't
+ * its own. */
 
 typedef struct {
     UefiBytes event_data;
@@ -168,10 +184,10 @@ typedef struct {
 
 typedef struct {
     UefiDigestTable table;
-    UefiBytes rows;   /* all rows of the table, four bytes each */
+    UefiBytes rows;   /* all rows of the table, four bytes each: rows.n / 4 */
     UefiBytes vendor; /* at most 255 bytes */
-    size_t events_start; /* where the log's events start: the header's end */
-    size_t event_end;    /* where the event ends that has the header */
+    size_t events_start; /* where the header's own bytes end */
+    size_t event_end;    /* where the event ends that has the header: there, or later */
     uint32_t platform_class;
     uint8_t major;
     uint8_t minor;
@@ -192,12 +208,16 @@ typedef struct {
     uint16_t algorithm; /* 4: SHA-1, 0xb: SHA-256, 0xc: SHA-384, 0xd: SHA-512 */
 } UefiDigest;
 
-/* The header of a version 2 log. False if the log has none. */
+/* The header of a version 2 log, which stands in its first event, of type
+ * EV_NO_ACTION. False if the log doesn't begin with one: the log is of
+ * version 1, the header is cut or damaged, or its event doesn't end at
+ * `last_entry` or before, unless it starts there. */
 UEFI_CALL bool uefi_log2_header(UefiBytes log, size_t last_entry, UefiLogHeader *out);
 
-/* The next event of a version 2 log under the header's table (TCG_PCR_EVENT2).
- * Start at the header's `events_start`, or, where the header event's data is
- * longer than the header, at its `event_end`. */
+/* The next event of a version 2 log under the header's table
+ * (TCG_PCR_EVENT2). Start at the header's `event_end`: the event that has the
+ * header isn't returned. (From `events_start` on the Rust crate `uefi` reads;
+ * both are the same unless more follows the header in its event.) */
 UEFI_CALL bool uefi_log2_next(UefiBytes log, size_t last_entry, const UefiDigestTable *table,
                               size_t *offset, UefiEvent2 *out);
 
@@ -209,7 +229,7 @@ UEFI_CALL bool uefi_digest_next(UefiBytes digests, const UefiDigestTable *table,
  * `*size` to its length. If it returns false, the buffer is as it was, and
  * `*size` is the length that it needs, or 0 if the data has 2^32 bytes or
  * more. */
-UEFI_CALL bool uefi_write_event(UefiBuffer buffer, UefiBytes event_data, const uint8_t (*digest)[20],
+UEFI_CALL bool uefi_write_event(UefiBuffer buffer, UefiBytes event_data, const uint8_t digest[20],
                                 uint32_t pcr_index, uint32_t event_type, size_t *size);
 
 /* The same of what firmware is handed to log an event (EFI_TCG2_EVENT). */

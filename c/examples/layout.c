@@ -40,7 +40,7 @@ static int events(void) {
     uint8_t room[34] = {[33] = 0xcc};
     UefiEvent1 event;
     size_t size = 0, at = 0;
-    if (!uefi_write_event(uefi_buffer(room, sizeof room), uefi_bytes("x", 1), &digest, 7, 8, &size))
+    if (!uefi_write_event(uefi_buffer(room, sizeof room), uefi_bytes("x", 1), digest, 7, 8, &size))
         return 5;
     if (size != 33 || room[0] != 7 || room[4] != 8 || room[8] != 1 || room[32] != 'x' || room[33] != 0xcc)
         return 6;

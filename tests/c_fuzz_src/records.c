@@ -147,7 +147,7 @@ static void one_event_written(UefiBytes data) {
     memset(room, 0x5a, n), memset(wanted, 0x5a, n);
     bool fits = n >= 32 + data.n;
     if (fits) memcpy(wanted, &pcr, 4), memcpy(wanted + 4, &type, 4), memcpy(wanted + 8, digest, 20), memcpy(wanted + 28, &length, 4), memcpy(wanted + 32, data.at, data.n);
-    NEED(uefi_write_event(uefi_buffer(room, n), data, (const uint8_t(*)[20])digest, pcr, type, &size) == fits);
+    NEED(uefi_write_event(uefi_buffer(room, n), data, digest, pcr, type, &size) == fits);
     NEED(size == 32 + data.n && !memcmp(room, wanted, n));
     written_events += fits;
 }
