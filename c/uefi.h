@@ -20,7 +20,7 @@
  *             while (uefi_digest_next(event.digests, &header.table, &next, &digest))
  *                 measure(event.pcr_index, digest.algorithm, digest.bytes);
  *         }
- *         if (at <= last)
+ *         if (at <= last && at < size)
  *             damaged(at); // what begins there is no whole event
  *     }
  *
@@ -154,9 +154,9 @@ UEFI_CALL bool uefi_map_is_sorted(UefiBytes map, size_t stride);
  * log's length: then each whole event is returned.
  *
  * Where a function for the next event has returned false, an offset past
- * `last_entry` says that the last event was read. From another offset on the
- * bytes are no whole event: the log is cut or damaged, or `last_entry` isn't
- * its own. */
+ * `last_entry`, or at the log's end, says that the last event was read. From
+ * another offset on the bytes are no whole event: the log is cut or damaged,
+ * or `last_entry` isn't its own. */
 
 typedef struct {
     UefiBytes event_data;
