@@ -1,5 +1,6 @@
-ghost use Rattle.std.specs.Prelude.{◌≡◌, ◌↔◌, ◌++◌, IsTrue, IfOk, OnErr};
+ghost use Rattle.std.specs.Prelude.{◌≡◌, ◌↔◌, ◌≤◌, ◌++◌, length, drop, IsTrue, IfOk, OnErr};
 ghost use Rattle.uefi_path.specs.Node.{Fits, encoding, HasNode};
+ghost use Rattle.uefi_path.specs.private.Stop.{StatesLength};
 ghost use Rattle.uefi_path.specs.private.Encoding.{HasNodes};
 ghost use Rattle.uefi_path.specs.private.Stop.{Stops};
 ghost use Rattle.uefi_path.specs.private.Encoding.{EncodesNodes};
@@ -7,7 +8,7 @@ ghost use Rattle.uefi_path.specs.Views.{node_of};
 
 use crate::device_type::DeviceType;
 use crate::error::ByteConversionError;
-use crate::header::LENGTH_OFFSET;
+use crate::header::{HEADER_LENGTH, LENGTH_OFFSET};
 use crate::node::DevicePathNode;
 use uefi_base::little_endian::u16_at;
 
@@ -32,26 +33,50 @@ impl StopCondition {
     }
 }
 
-/// Returns the node that the bytes start with, and the bytes after it; or `InvalidLength` if no
-/// prefix of the bytes is a node.
-pub(crate) fn split_node(bytes: &[u8]) -> Result<(DevicePathNode<'_>, &[u8]), ByteConversionError>
-    ensures fits { IfOk result (λ r. Fits (node_of r.0)) }
-    ensures split { IfOk result (λ r. bytes.now ≡ encoding (node_of r.0) ++ r.1.now) }
-    ensures none { OnErr result (¬ HasNode bytes.now) }
+/// Returns the length of the node that starts at the offset; or `InvalidLength` if no node does.
+///
+/// The walks ask for the length of the next node before they go there, so that a processor needn't
+/// know where the node starts to load it.
+fn length_at(bytes: &[u8], offset: usize) -> Result<usize, ByteConversionError>
+    requires { offset ≤ length bytes.now }
+    ensures node { IfOk result (λ _. HasNode (drop offset bytes.now)) }
+    ensures stated { IfOk result (λ n. StatesLength (drop offset bytes.now) n) }
+    ensures none { OnErr result (¬ HasNode (drop offset bytes.now)) }
 {
-    let node = DevicePathNode::try_from(bytes)?;
-    let (_, after) = bytes.split_at(node.as_bytes().len());
-    Ok((node, after))
+    let left = bytes.len() - offset;
+    if left < HEADER_LENGTH {
+        return Err(ByteConversionError::InvalidLength);
+    }
+    let length = usize::from(u16_at(bytes, offset + LENGTH_OFFSET));
+    if length < HEADER_LENGTH {
+        return Err(ByteConversionError::InvalidLength);
+    }
+    if left < length {
+        return Err(ByteConversionError::InvalidLength);
+    }
+    Ok(length)
 }
 
-/// Returns the node that the bytes are known to start with, and the bytes after it, without a test.
-pub(crate) fn first_node(bytes: &[u8]) -> (DevicePathNode<'_>, &[u8])
-    requires { HasNode bytes.now }
+/// Returns the length of the node that is known to start at the offset, without a test.
+pub(crate) fn known_length_at(bytes: &[u8], offset: usize) -> usize
+    requires within { offset ≤ length bytes.now }
+    requires node { HasNode (drop offset bytes.now) }
+    ensures { StatesLength (drop offset bytes.now) result }
+{
+    usize::from(u16_at(bytes, offset + LENGTH_OFFSET))
+}
+
+/// Returns the node of the stated length that the bytes are known to start with, and the bytes after
+/// it.
+pub(crate) fn cut_node(bytes: &[u8], node_length: usize) -> (DevicePathNode<'_>, &[u8])
+    requires node { HasNode bytes.now }
+    requires stated { StatesLength bytes.now node_length }
     ensures fits { Fits (node_of result.0) }
     ensures split { bytes.now ≡ encoding (node_of result.0) ++ result.1.now }
+    ensures after { result.1.now ≡ drop node_length bytes.now }
+    ensures within { node_length ≤ length bytes.now }
 {
-    let length = usize::from(u16_at(bytes, LENGTH_OFFSET));
-    let (node, after) = bytes.split_at(length);
+    let (node, after) = bytes.split_at(node_length);
     (DevicePathNode::new_unchecked(node), after)
 }
 
@@ -66,12 +91,14 @@ pub(crate) fn split_nodes(
     ensures none { OnErr result (¬ HasNodes (Stops stop) bytes.now) }
 {
     let mut rest = bytes;
+    let mut length = length_at(rest, 0)?;
     loop {
-        let (node, after) = split_node(rest)?;
-        rest = after;
+        let (node, after) = cut_node(rest, length);
         if stop.stops_at(&node) {
-            return Ok(bytes.split_at(bytes.len() - rest.len()));
+            return Ok(bytes.split_at(bytes.len() - after.len()));
         }
+        length = length_at(rest, length)?;
+        rest = after;
     }
 }
 
@@ -82,11 +109,13 @@ pub(crate) fn first_nodes(bytes: &[u8], stop: StopCondition) -> (&[u8], &[u8])
     ensures split { bytes.now ≡ result.0.now ++ result.1.now }
 {
     let mut rest = bytes;
+    let mut length = known_length_at(rest, 0);
     loop {
-        let (node, after) = first_node(rest);
-        rest = after;
+        let (node, after) = cut_node(rest, length);
         if stop.stops_at(&node) {
-            return bytes.split_at(bytes.len() - rest.len());
+            return bytes.split_at(bytes.len() - after.len());
         }
+        length = known_length_at(rest, length);
+        rest = after;
     }
 }
