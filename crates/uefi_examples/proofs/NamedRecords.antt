@@ -1,11 +1,12 @@
 -- Records that were read.
-use Rattle.std.proofs.Common.{◌≡◌, ◌∙◌, ℕ, List, refl, sym, subst}
+use Rattle.std.proofs.Common.{◌≡◌, ◌∙◌, ℕ, List, length, take, refl, sym, subst}
 use Rattle.std.specs.Prelude.{Option, None, Some, Result, Ok, Err, IfOk, IfSome, IsSome}
 use Rattle.std.specs.Result.{result_ok}
 use Rattle.uefi_base.specs.declared.status.Error.{Error}
 use Rattle.uefi_base.specs.declared.status.Status.{Status}
 use Rattle.uefi_base.specs.Views.{error_status, error_data}
-use Rattle.uefi_records.specs.file.Verdict.{Verdict, FollowsVerdict, Refuses, accepted, too_small, without_name}
+use Rattle.uefi_records.specs.Laws.{WrittenAlone}
+use Rattle.uefi_records.specs.file.Verdict.{Verdict, FollowsVerdict, Refuses, accepted, too_small, verdict, without_name}
 
 -- A record that was read has a name.
 pub has_name : {V : Type 0} (name_of : V → List ℕ) (verdict : Verdict) (result : Result V (Error (Option ℕ))) (read : V)
@@ -42,6 +43,13 @@ pub IfSome_of_ok : {V E : Type 0} (P : V → Type 0) (result : Result V E) (opti
 IfSome_of_ok P (Ok value) option is holds = rw is holds
 IfSome_of_ok P (Err error) option is holds = rw is tt
 
+-- So does what a field of the value is.
+pub IfSome_is : {V E X : Type 0} (field : V → X) (x y : X) (result : Result V E) (option : Option V)
+    → option ≡ result_ok result → x ≡ y → IfOk result (λ value. field value ≡ x)
+    → IfSome option (λ value. field value ≡ y)
+IfSome_is field x y (Ok value) option is same holds = rw is (holds ∙ same)
+IfSome_is field x y (Err error) option is same holds = rw is tt
+
 -- Errors with one status and one data are equal.
 by_parts : (one other : Error (Option ℕ)) → error_status one ≡ error_status other → error_data one ≡ error_data other
     → one ≡ other
@@ -56,18 +64,27 @@ one_error without_name one other said also = by_parts one other (said.0 ∙ sym 
 one_error (too_small size) one other said also = by_parts one other (said.0 ∙ sym also.0) (said.1 ∙ sym also.1)
 one_error (accepted name) one other said also = absurd said
 
--- Verdicts that are equal refuse with equal errors, or accept one name, or else one of them isn't what it is said to
--- be.
-pub same_error : (seen also : Verdict) (one other : Error (Option ℕ)) → seen ≡ also → Refuses seen one
-    → Refuses also other → one ≡ other
-same_error seen also one other same refused refused_too =
-    one_error also one other (subst (λ v. Refuses v one) same refused) refused_too
+-- Two buffers of one length that agree on the written bytes: both are refused with one error, or both accepted with
+-- one name.
+module _ (law : WrittenAlone) (offset alignment written : ℕ) (one other : List ℕ)
+    (lengths : length one ≡ length other) (same : take written one ≡ take written other) where
+  one_verdict : verdict offset alignment (take written one) (length one)
+      ≡ verdict offset alignment (take written other) (length other)
+  one_verdict = law.verdicts offset alignment written one other lengths same
 
-pub same_name : (seen also : Verdict) (name other : List ℕ) → seen ≡ also → seen ≡ accepted name
-    → also ≡ accepted other → name ≡ other
-same_name seen also name other same is is_too = let both : accepted name ≡ accepted other = sym is
-    ∙ (same ∙ is_too) in cc
+  pub errors_alike : (error also : Error (Option ℕ))
+      → Refuses (verdict offset alignment (take written one) (length one)) error
+      → Refuses (verdict offset alignment (take written other) (length other)) also → error ≡ also
+  errors_alike error also refused refused_too =
+      one_error _ error also (subst (λ v. Refuses v error) one_verdict refused) refused_too
 
-pub no_error : (verdict : Verdict) (name : List ℕ) (error : Error (Option ℕ)) → verdict ≡ accepted name
-    → Refuses verdict error → ⊥
-no_error verdict name error is refused = subst (λ v. Refuses v error) is refused
+  pub names_alike : (name also : List ℕ)
+      → verdict offset alignment (take written one) (length one) ≡ accepted name
+      → verdict offset alignment (take written other) (length other) ≡ accepted also → name ≡ also
+  names_alike name also is is_too =
+      let both : accepted name ≡ accepted also = sym is ∙ (one_verdict ∙ is_too) in cc
+
+  pub not_refused_alone : {X : Type 0} (name : List ℕ) (error : Error (Option ℕ))
+      → verdict offset alignment (take written one) (length one) ≡ accepted name
+      → Refuses (verdict offset alignment (take written other) (length other)) error → X
+  not_refused_alone name error is refused = absurd (subst (λ v. Refuses v error) (sym one_verdict ∙ is) refused)

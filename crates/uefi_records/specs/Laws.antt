@@ -6,7 +6,7 @@ use Rattle.uefi_records.specs.time.Fields.{TimeFields, Fits, StandsIn, time_byte
 use Rattle.uefi_records.specs.file.Name.{FitName, record_end}
 use Rattle.uefi_records.specs.file.Verdict.{accepted, verdict}
 use Rattle.uefi_records.specs.file.FileInfo.{FileFields, FitFile, file_fields, file_info_bytes, file_info_size, file_info_verdict, file_name_offset, size_in}
-use Rattle.uefi_records.specs.file.FileSystemInfo.{FileSystemFields, FitFileSystem, file_system_fields, file_system_info_bytes, file_system_info_size, file_system_info_verdict, label_offset, lone_label_offset, unused_length, volume_label_bytes, volume_label_size, volume_label_verdict}
+use Rattle.uefi_records.specs.file.FileSystemInfo.{FileSystemFields, FitFileSystem, file_system_fields, file_system_info_bytes, file_system_info_size, file_system_info_verdict, label_offset, lone_label_offset, volume_label_bytes, volume_label_size, volume_label_verdict}
 use Rattle.uefi_records.specs.file.Views.{stated_size, file_fields_of, file_name_of, file_info_key}
 
 -- At most one time stands in bytes.
@@ -38,7 +38,7 @@ FileInfoReadsBack = (fields : FileFields) (name rest : List ℕ) (written : ℕ)
 
 abbrev pub FileSystemInfoReadsBack : Type 0
 FileSystemInfoReadsBack = (fields : FileSystemFields) (unused label rest : List ℕ) (written : ℕ)
-    → length unused ≡ unused_length → FitFileSystem fields → FitName label
+    → length unused ≡ 7 → FitFileSystem fields → FitName label
     → file_system_info_size (length label) < 2 ^ 64
     → let buffer = file_system_info_bytes fields unused label ++ rest in
     record_end label_offset (length label) ≤ written → file_system_info_size (length label) ≤ length buffer

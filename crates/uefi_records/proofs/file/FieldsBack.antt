@@ -11,7 +11,7 @@ use Rattle.uefi_base.proofs.Ranges.{items_from, drop-items_from}
 use Rattle.uefi_records.specs.time.Fields.{time_at, time_bytes, time_length}
 use Rattle.uefi_records.specs.file.FileInfo.{FileFields, FitFile, file_fields, file_header, file_name_offset, size_in}
 use Rattle.uefi_records.specs.file.FileSystemInfo.{FileSystemFields, FitFileSystem, file_system_fields}
-use Rattle.uefi_records.specs.file.FileSystemInfo.{file_system_header, label_offset, unused_length}
+use Rattle.uefi_records.specs.file.FileSystemInfo.{file_system_header, label_offset}
 use Rattle.uefi_records.proofs.time.ReadBack.{times_read_back}
 
 -- What was written to a file information record is read from it, whatever follows.
@@ -75,14 +75,14 @@ header_back bytes small within =
     then_range 72 8 bytes _ _ modification_time (number_range bytes 72 small within)
 
 -- The unused bytes of a file system information record, written out.
-unused_items : (unused : List ℕ) → length unused ≡ unused_length → unused ≡ items_from 0 unused_length unused
+unused_items : (unused : List ℕ) → length unused ≡ 7 → unused ≡ items_from 0 7 unused
 unused_items unused seven =
-    drop-items_from 0 unused_length unused_length unused refl (omega (arith, seven))
-    ∙ ap (λ rest. items_from 0 unused_length unused ++ rest) (drop_all unused_length unused (omega (arith, seven)))
-    ∙ append-nil (items_from 0 unused_length unused)
+    drop-items_from 0 7 7 unused refl (omega (arith, seven))
+    ∙ ap (λ rest. items_from 0 7 unused ++ rest) (drop_all 7 unused (omega (arith, seven)))
+    ∙ append-nil (items_from 0 7 unused)
 
 pub length-file_system_header : (size : ℕ) (fields : FileSystemFields) (unused : List ℕ)
-    → length unused ≡ unused_length → length (file_system_header size fields unused) ≡ label_offset
+    → length unused ≡ 7 → length (file_system_header size fields unused) ≡ label_offset
 unfolding items_from file_system_header
 length-file_system_header size fields unused seven =
     ap (λ u. length (file_system_header size fields u)) (unused_items unused seven)
@@ -93,7 +93,7 @@ is_read_only true = refl
 is_read_only false = refl
 
 pub file_system_info_back : (size : ℕ) (fields : FileSystemFields) (unused rest : List ℕ)
-    → length unused ≡ unused_length → FitFileSystem fields → size < 2 ^ 64
+    → length unused ≡ 7 → FitFileSystem fields → size < 2 ^ 64
     → (size_in (file_system_header size fields unused ++ rest) ≡ size)
     × (file_system_fields (file_system_header size fields unused ++ rest) ≡ fields)
 unfolding items_from file_system_header

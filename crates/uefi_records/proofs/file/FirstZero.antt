@@ -1,6 +1,6 @@
 -- The first zero among units.
 use Rattle.std.proofs.Common.{◌≡◌, ◌≢◌, ℕ, zero, suc, ◌+◌, ◌-◌, ◌*◌, ◌/◌, ◌<◌, ◌≤◌, Option, Some, List, [], ◌∷◌, length}
-use Rattle.std.proofs.Common.{get_or, take, sym, ◌∙◌, ap, arith, cond, ⊎_elim, subst}
+use Rattle.std.proofs.Common.{get_or, take, drop, sym, ◌∙◌, ap, arith, cond, ⊎_elim, subst}
 use Rattle.std.specs.Prelude.{◌==◌}
 use Rattle.std.specs.List.{position_from}
 use Rattle.std.proofs.lemmas.Bool.{cases_eq}
@@ -8,7 +8,7 @@ use Rattle.std.proofs.lemmas.Bool.Decides.{nat_tests}
 use Rattle.std.proofs.lemmas.List.{take_all}
 use Rattle.uefi_base.specs.Unaligned.{units_of}
 use Rattle.uefi_base.proofs.UnitsOfBytes.{units_by_place}
-use Rattle.uefi_records.specs.file.Name.{first_zero}
+use Rattle.uefi_records.specs.file.Name.{first_zero, unit_length}
 
 -- An odd last byte is in no unit.
 pub whole_units : (bytes : List ℕ) → units_of (take (length bytes / 2 * 2) bytes) ≡ units_of bytes
@@ -16,6 +16,13 @@ whole_units bytes =
     let twice : length bytes / 2 * 2 ≡ 2 * (length bytes / 2) = omega arith in
     ap (λ n. units_of (take n bytes)) twice ∙ units_by_place.front bytes (length bytes / 2)
     ∙ take_all (length bytes / 2) (units_of bytes) (omega (arith, units_by_place.counted bytes))
+
+-- No unit before the index is zero.
+abbrev pub NoZeroBefore : ℕ → List ℕ → Type 0
+NoZeroBefore index bytes =
+    (unit_length * index ≤ length bytes)
+    × (first_zero (units_of bytes) ≡ position_from (λ unit. unit == 0) index
+    (units_of (drop (unit_length * index) bytes)))
 
 -- The unit at the index is zero, and none before it is.
 pub record IsFirstAt (units : List ℕ) (index : ℕ) : Type 0 where

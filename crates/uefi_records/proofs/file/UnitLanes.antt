@@ -1,10 +1,10 @@
 -- The units of bytes as the lanes of a vector, and the search through a block of them.
 use Rattle.std.proofs.Common.{◌≡◌, ℕ, zero, suc, ◌+◌, ◌*◌, ◌/◌, ◌%◌, ◌<◌, ◌≤◌, List, [], ◌∷◌, ◌++◌, length, drop, ap}
-use Rattle.std.proofs.Common.{sym, refl, ◌∙◌, arith, cond, Bool, true, false, not}
+use Rattle.std.proofs.Common.{sym, refl, ◌∙◌, arith, cond, Bool, true, false, not, get_or, w8, Fits}
 use Rattle.std.specs.Prelude.{Option, Some}
 use Rattle.std.specs.List.{prefix_len, position_from}
 use lib.Lanes.{number_l, digits_l, Each1, chunk}
-use Rattle.std.proofs.lemmas.Simd.{chunk-drop, length-chunk}
+use Rattle.std.proofs.lemmas.Simd.{chunk-drop, length-chunk, chunk-fits, below_from_Fits}
 use Rattle.uefi_base.specs.Unaligned.{units_of}
 use Rattle.uefi_base.proofs.UnitsOfBytes.{half_as_many_units}
 use Rattle.uefi_base.proofs.UnitsBack.{units_read_back}
@@ -23,6 +23,14 @@ lanes_are_units (suc n) (low ∷ high ∷ bytes) sized small =
     let first : (low + 256 * (high + 256 * others)) % 65536 ≡ low + 256 * high = omega arith in
     let rest : (low + 256 * (high + 256 * others)) / 65536 ≡ others = omega arith in
     rw (first, rest, lanes_are_units n bytes (omega arith) small.1.1)
+
+-- So are those of a block of bytes.
+pub block_lanes_are_units : (offset : ℕ) (bytes : List ℕ) → offset + 32 ≤ length bytes
+    → ((i : ℕ) → Fits w8 (get_or bytes i 0))
+    → digits_l 65536 16 (number_l 256 (chunk offset 32 bytes)) ≡ units_of (chunk offset 32 bytes)
+block_lanes_are_units offset bytes room fit =
+    lanes_are_units 16 (chunk offset 32 bytes) (length-chunk offset 32 bytes room)
+    (below_from_Fits w8 (chunk offset 32 bytes) (chunk-fits w8 offset 32 bytes fit))
 
 -- The first item of two lists that meets a test: it is in the first list if a shorter prefix of that list than the
 -- whole fails the test.

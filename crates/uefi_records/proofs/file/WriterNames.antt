@@ -6,7 +6,7 @@ pub use Rattle.uefi_base.proofs.WalkNames.{free_all, look_at, look_in_at, get, g
 pub use Rattle.uefi_base.proofs.WalkNames.{usize, no, owns, plain, mut_slice_of, named_lft, mut_slice_vals}
 pub use Rattle.uefi_base.proofs.WalkNames.{mut_slice_Tells, lasts, triple_of, framed, Stays, walk_of, stay_dropped}
 pub use Rattle.uefi_base.proofs.WalkNames.{Goes-spent_slice, ends_at, Laws, of_field, copy_shared, u64-field, u64-laws}
-pub use Rattle.uefi_base.proofs.WalkNames.{u64-copy, MatchResult, Result_row, Result_laws, proved}
+pub use Rattle.uefi_base.proofs.WalkNames.{u64-copy, MatchResult, Result_row, Result_laws, proved, as_bor}
 pub use base.Fml.{Fml}
 pub use denote.Signature.{types_at}
 pub use denote.Laws.{valss, all_Typed}

@@ -16,7 +16,7 @@ use Rattle.uefi_records.specs.file.FileInfo.{file_info_size, file_name_offset, s
 use Rattle.uefi_records.specs.file.FileSystemInfo.{FileSystemFields, FitFileSystem, file_system_fields}
 use Rattle.uefi_records.specs.file.FileSystemInfo.{file_system_header, file_system_info_alignment}
 use Rattle.uefi_records.specs.file.FileSystemInfo.{file_system_info_size, label_offset, lone_label_offset, unused_bytes}
-use Rattle.uefi_records.specs.file.FileSystemInfo.{unused_length, volume_label_alignment}
+use Rattle.uefi_records.specs.file.FileSystemInfo.{volume_label_alignment}
 use Rattle.uefi_records.specs.file.Views.{file_info_view, stated_size, file_fields_of, file_name_of}
 use Rattle.uefi_records.specs.file.Views.{file_system_info_view, system_stated_size, file_system_fields_of}
 use Rattle.uefi_records.specs.file.Views.{file_system_label_of, volume_label_view, volume_label_of}
@@ -85,8 +85,8 @@ file_info_made fields name old new long (Err error) made = (tt, tt, tt, tt, tt)
 
 -- The unused bytes of a buffer with room for a file system information record, and the record's header.
 seven_unused : (label old : List ℕ) → file_system_info_size (length label) ≤ length old
-    → length (unused_bytes old) ≡ unused_length
-seven_unused label old room = length-take-le unused_length (drop 9 old) (omega (arith, room, length-drop 9 old))
+    → length (unused_bytes old) ≡ 7
+seven_unused label old room = length-take-le 7 (drop 9 old) (omega (arith, room, length-drop 9 old))
 
 pub system_header_sized : (size : ℕ) (fields : FileSystemFields) (label old : List ℕ)
     → file_system_info_size (length label) ≤ length old

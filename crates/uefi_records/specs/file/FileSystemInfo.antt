@@ -23,9 +23,9 @@ pub record FitFileSystem (fields : FileSystemFields) : Type 0 where
 abbrev pub label_offset : ℕ
 label_offset = 36
 
--- How many bytes have no meaning.
-abbrev pub unused_length : ℕ
-unused_length = 7
+-- The seven bytes without meaning.
+abbrev pub unused_bytes : List ℕ → List ℕ
+unused_bytes bytes = slice_range bytes 9 16
 
 -- The size of the record is a multiple of this.
 abbrev pub file_system_info_alignment : ℕ
@@ -39,10 +39,6 @@ file_system_fields bytes = record {
   free_space = u64_at bytes 24;
   block_size = u32_at bytes 32;
 }
-
--- The bytes without meaning.
-abbrev pub unused_bytes : List ℕ → List ℕ
-unused_bytes bytes = slice_range bytes 9 16
 
 -- The size of the record of a label of this many units, and the verdict on bytes that were written.
 abbrev pub file_system_info_size : ℕ → ℕ

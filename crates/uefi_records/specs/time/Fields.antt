@@ -80,18 +80,22 @@ stated_zone zone = if int_eq zone unspecified_zone then None else Some zone
 abbrev pub without_pads : TimeFields → TimeFields
 without_pads time = record time { first_pad = 0; last_pad = 0 }
 
--- The time whose bytes are all zero.
-abbrev pub zero_time : TimeFields
-zero_time = record {
-  year = 0;
-  month = 0;
-  day = 0;
-  hour = 0;
-  minute = 0;
-  second = 0;
+-- The time with these fields, and with zeros in its padding.
+abbrev pub time_given : ℕ → ℕ → ℕ → ℕ → ℕ → ℕ → ℕ → ℤ → ℕ → TimeFields
+time_given year month day hour minute second nanosecond zone daylight = record {
+  year = year;
+  month = month;
+  day = day;
+  hour = hour;
+  minute = minute;
+  second = second;
   first_pad = 0;
-  nanosecond = 0;
-  zone = pos 0;
-  daylight = 0;
+  nanosecond = nanosecond;
+  zone = zone;
+  daylight = daylight;
   last_pad = 0;
 }
+
+-- The time whose bytes are all zero.
+abbrev pub zero_time : TimeFields
+zero_time = time_given 0 0 0 0 0 0 0 (pos 0) 0

@@ -1,5 +1,4 @@
-use Rattle.std.proofs.Common.{arith, refl, sym, ap, ◌∙◌, subst, ◌≡◌, ◌<◌, ◌≤◌, ◌^◌, ℕ, List, length, take, drop}
-use Rattle.std.proofs.lemmas.Result.{IfOk-weaker}
+use Rattle.std.proofs.Common.{arith, refl, sym, ap, subst, ◌≡◌, ◌<◌, ◌≤◌, ◌^◌, ℕ, List, length, take, drop}
 use Rattle.uefi_base.specs.Buffer.{put_prefix}
 use Rattle.uefi_base.specs.Views.{text_units}
 use Rattle.uefi_records.specs.Laws.{FileInfoReadsBack}
@@ -8,7 +7,7 @@ use Rattle.uefi_records.specs.file.FileInfo.{FileFields, FitFile, file_fields, f
 use Rattle.uefi_records.specs.file.FileInfo.{file_info_verdict, file_name_offset, size_in}
 use Rattle.uefi_records.specs.file.Verdict.{accepted}
 use Rattle.uefi_records.specs.file.Views.{file_fields_given}
-use Rattle.uefi_examples.proofs.NamedRecords.{IfSome_of_ok, is_named}
+use Rattle.uefi_examples.proofs.NamedRecords.{IfSome_of_ok, IfSome_is, is_named}
 use Rattle.uefi_examples.proofs.records.file_read_back.Goals as goal
 
 -- A buffer is read back as the record with these fields and this name.
@@ -41,13 +40,12 @@ back c =
 
 pub returns-clause-fields : goal.returns-clause-fields
 returns-clause-fields c =
-    IfSome_of_ok _ c.from_uefi.result c.ok.result c.ok.ensures.value
-    (IfOk-weaker c.from_uefi.result _ _ (λ info same. same ∙ (back c).same_fields) c.from_uefi.ensures.fields)
+    IfSome_is _ _ _ c.from_uefi.result c.ok.result c.ok.ensures.value (back c).same_fields c.from_uefi.ensures.fields
 
 pub returns-clause-name : goal.returns-clause-name
 returns-clause-name c = IfSome_of_ok _ c.from_uefi.result c.ok.result c.ok.ensures.value
     (is_named _ _ _ c.from_uefi.result c.from_uefi.ensures.verdict (back c).verdict)
 
 pub returns-clause-size : goal.returns-clause-size
-returns-clause-size c = IfSome_of_ok _ c.from_uefi.result c.ok.result c.ok.ensures.value
-    (IfOk-weaker c.from_uefi.result _ _ (λ info same. same ∙ (back c).size) c.from_uefi.ensures.size)
+returns-clause-size c =
+    IfSome_is _ _ _ c.from_uefi.result c.ok.result c.ok.ensures.value (back c).size c.from_uefi.ensures.size

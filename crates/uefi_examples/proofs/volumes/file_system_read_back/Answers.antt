@@ -1,6 +1,5 @@
-use Rattle.std.proofs.Common.{arith, refl, sym, ap, ◌∙◌, subst, ◌≡◌, ◌<◌, ◌≤◌, ◌^◌, ℕ, List, length, take, drop}
+use Rattle.std.proofs.Common.{arith, refl, sym, ap, subst, ◌≡◌, ◌<◌, ◌≤◌, ◌^◌, ℕ, List, length, take, drop}
 use Rattle.std.proofs.lemmas.Grind.{common_steps}
-use Rattle.std.proofs.lemmas.Result.{IfOk-weaker}
 use Rattle.uefi_base.specs.Buffer.{put_prefix}
 use Rattle.uefi_base.specs.Views.{text_units}
 use Rattle.uefi_records.specs.Laws.{FileSystemInfoReadsBack}
@@ -8,10 +7,10 @@ use Rattle.uefi_records.specs.file.Name.{FitName, record_end}
 use Rattle.uefi_records.specs.file.FileInfo.{size_in}
 use Rattle.uefi_records.specs.file.FileSystemInfo.{FileSystemFields, FitFileSystem, file_system_fields}
 use Rattle.uefi_records.specs.file.FileSystemInfo.{file_system_info_bytes, file_system_info_size}
-use Rattle.uefi_records.specs.file.FileSystemInfo.{file_system_info_verdict, label_offset, unused_bytes, unused_length}
+use Rattle.uefi_records.specs.file.FileSystemInfo.{file_system_info_verdict, label_offset, unused_bytes}
 use Rattle.uefi_records.specs.file.Verdict.{accepted}
 use Rattle.uefi_records.specs.file.Views.{file_system_fields_given}
-use Rattle.uefi_examples.proofs.NamedRecords.{IfSome_of_ok, is_named, is_read}
+use Rattle.uefi_examples.proofs.NamedRecords.{IfSome_of_ok, IfSome_is, is_named, is_read}
 use Rattle.uefi_examples.proofs.volumes.file_system_read_back.Goals as goal
 
 -- A buffer is read back as the record with these fields and this label.
@@ -21,7 +20,7 @@ record ReadsAs (fields : FileSystemFields) (label : List ℕ) (written : ℕ) (b
   same_fields : file_system_fields buffer ≡ fields
 
 -- A buffer with room for a record has all the bytes without meaning.
-length-unused : (bytes : List ℕ) → 16 ≤ length bytes → length (unused_bytes bytes) ≡ unused_length
+length-unused : (bytes : List ℕ) → 16 ≤ length bytes → length (unused_bytes bytes) ≡ 7
 length-unused bytes room = grind (arith, common_steps)
 
 -- A buffer that the record was written to is read back as that record.
@@ -51,8 +50,7 @@ back c =
 
 pub returns-clause-fields : goal.returns-clause-fields
 returns-clause-fields c =
-    IfSome_of_ok _ c.from_uefi.result c.ok.result c.ok.ensures.value
-    (IfOk-weaker c.from_uefi.result _ _ (λ info same. same ∙ (back c).same_fields) c.from_uefi.ensures.fields)
+    IfSome_is _ _ _ c.from_uefi.result c.ok.result c.ok.ensures.value (back c).same_fields c.from_uefi.ensures.fields
 
 pub returns-clause-label : goal.returns-clause-label
 returns-clause-label c =
@@ -61,8 +59,7 @@ returns-clause-label c =
 
 pub returns-clause-size : goal.returns-clause-size
 returns-clause-size c =
-    IfSome_of_ok _ c.from_uefi.result c.ok.result c.ok.ensures.value
-    (IfOk-weaker c.from_uefi.result _ _ (λ info same. same ∙ (back c).size) c.from_uefi.ensures.size)
+    IfSome_is _ _ _ c.from_uefi.result c.ok.result c.ok.ensures.value (back c).size c.from_uefi.ensures.size
 
 pub returns-clause-fits : goal.returns-clause-fits
 returns-clause-fits c = (

@@ -5,7 +5,6 @@ use Rattle.uefi_base.specs.LittleEndian.{u64_bytes}
 use Rattle.uefi_base.specs.Unaligned.{unit_bytes}
 use Rattle.uefi_base.proofs.Parts.{none_put, then_put, then_kept}
 use Rattle.uefi_records.specs.file.FileSystemInfo.{file_system_header, file_system_info_size, label_offset}
-use Rattle.uefi_records.specs.file.FileSystemInfo.{unused_length}
 use Rattle.uefi_records.proofs.file.write.write_file_system_info.Goals as goal
 
 byte_of : (read_only : Bool) → ◌≡◌ {A = List ℕ} (bool_byte read_only ∷ []) ((if read_only then 1 else 0) ∷ [])
@@ -21,7 +20,7 @@ returns-clause-written c =
     let put1 = then_put (none_put label_offset c.args.buffer.now room) 8 refl refl
     (c.to_le_bytes.ensures ∙ ap u64_bytes size) c.put.ensures in
     let put2 = then_put put1 1 refl refl (byte_of c.args.read_only) c.put-2.ensures in
-    let kept = then_kept put2 unused_length refl in
+    let kept = then_kept put2 7 refl in
     let put3 = then_put kept 8 refl refl c.to_le_bytes-2.ensures c.put-3.ensures in
     let put4 = then_put put3 8 refl refl c.to_le_bytes-3.ensures c.put-4.ensures in
     let put5 = then_put put4 4 refl refl c.to_le_bytes-4.ensures c.put-5.ensures in

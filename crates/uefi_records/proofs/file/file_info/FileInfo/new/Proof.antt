@@ -11,8 +11,8 @@ use Rattle.uefi_records.proofs.file.WriterNames.{valss, all_Typed, mut_slice_Law
 use Rattle.uefi_records.proofs.file.WriterNames.{lends_to, shares_with, typed, finishes, opens, Arg, slots, stays}
 use Rattle.uefi_records.proofs.file.WriterNames.{spelled, told, all_go, lawfuls, Nothings, nothings, Written_laws}
 use Rattle.uefi_records.proofs.file.WriterNames.{WroteRecord, MadeRecord, record_seen_in, record_made_of, number64}
-use Rattle.uefi_records.proofs.file.WriterNames.{text16}
-use Rattle.uefi_base.proofs.Written.{and_also}
+use Rattle.uefi_records.proofs.file.WriterNames.{text16, as_bor}
+use Rattle.uefi_base.proofs.Written.{and_also, wrote}
 use Rattle.uefi_records.specs.file.Name.{FitName}
 use Rattle.uefi_records.specs.file.FileInfo.{FileFields, FitFile, file_header, file_info_alignment, file_info_bytes}
 use Rattle.uefi_records.specs.file.FileInfo.{file_info_size, file_name_offset}
@@ -74,40 +74,25 @@ new_spec 𝓤 𝓛 𝓜 𝓡 wired =
     (and_then ! (get ! refl) (and_then ! (get ! refl) (and_then ! (get ! refl) (no_more !)))))))))
     (λ α δ v. id⊢ 𝓤 _) (λ α δ ws. qed 𝓛 (‵ (left α δ ws) ∷ []) ∵ fsplit ! $ fsplit ! $ fsplit ! $ keep !
     (0 ∷ []) $ done !)
-    (λ w ws t. record {
-      end = t.0;
-      put = t.1.0;
-      is =
-          and_also (FitFile fields) (FitName name) w t.1.1.0 t.1.1.1.0;
-      fails = t.1.1.1.1.0;
-      unchanged =
-          t.1.1.1.1.1.0;
-      fits = t.1.1.1.1.1.1.0;
-    }) (λ v w ys wrote. typed 𝓛 κ q r Rw Written_laws w v
+    (λ w ws t. wrote t.0 t.1.0 (and_also (FitFile fields) (FitName name) w t.1.1.0 t.1.1.1.0) t.1.1.1.1.0 t.1.1.1.1.1.0
+    t.1.1.1.1.1.1.0)
+    (λ v w ys held. typed 𝓛 κ q r Rw Written_laws w v
     (λ t. lands_as ! refl refl t.0 $
     sets ! (addr ! (from ! (fld ! refl (hop ! (look_in_at ! 1 (sub ! 0 refl (whole !))) (stop !))))) refl (tt, tt) $
     sets ! (agg ! (and_then ! (get ! refl) (and_then ! (get_in ! (fld ! refl (stop !)) (sub ! 1 refl (whole !)))
     (no_more !)))) refl (tt, (tt, (record { fits = are.0.0.1.0 }, tt))) $
-    let zh : K.Ghost = (
-      (
-        (κ, tt),
-        (q, tt),
-        tt,
-        (record { ref_ptr = r.ref_ptr; now = ys }, (w, tt)),
-        (vss.0, (v ∷ [], tt)),
-      ),
-      tt,
-    ) in
+    let zh : K.Ghost =
+    (((κ, tt), (q, tt), tt, (as_bor (record r { now = ys }), (w, tt)), (vss.0, (v ∷ [], tt))), tt) in
     shares_with 𝓛 κ q r 𝓣 ys tokens (‵ (Rw.own_val w (v ∷ []))) _
     (record_seen_in file_name_offset file_info_alignment header name r.now (FitFile fields)
-    (λ _. length-file_header (file_info_size (length name)) fields) ys w wrote) Re
+    (λ _. length-file_header (file_info_size (length name)) fields) ys w held) Re
     (λ es. lasts h.ended zh.0.0 zh.0.3 es) (λ e (es : Unit {0} × (Unit {0} × Unit {0})). _ ∷ _ ∷ [])
     (λ e. MadeRecord file_name_offset file_info_alignment header name r.now
     (FitFile fields) file_info_view ys e)
     K (h-thm.met 𝓤 𝓛 𝓜 𝓡 (code.calls-uefi_records::file::file_info::FileInfo::over 𝓡.env wired)) zh (id⊢ 𝓤 _)
     (and_then ! (get ! refl) (and_then ! (get ! refl) (no_more !))) (λ v'. id⊢ 𝓤 _)
     (λ e es t. record_made_of file_name_offset file_info_alignment header name r.now (FitFile fields)
-    (λ _. length-file_header (file_info_size (length name)) fields) file_info_view ys w e wrote t.0 t.1.0)
+    (λ _. length-file_header (file_info_size (length name)) fields) file_info_view ys w e held t.0 t.1.0)
     (λ v' e made. typed 𝓛 κ q r Re (Result_laws Rv Error_row (View_laws (named_lft 3 0 tt κs)) Error_laws) e v'
     (λ t. lands_as ! refl refl t.0 $ returns ! (look_at ! 0 refl) $ free_all ! refl $ suffices ! _
     (ends_at 𝓛 f.ended stayed c y v' e (tt, nothings args) (tt, nothings args)) $

@@ -10,8 +10,8 @@ use Rattle.uefi_records.proofs.file.WriterNames.{Result_row, Result_laws, proved
 use Rattle.uefi_records.proofs.file.WriterNames.{mut_slice_Lawful, put_prefix, Error_row, Error_laws, lends_to}
 use Rattle.uefi_records.proofs.file.WriterNames.{shares_with, typed, finishes, opens, Arg, slots, stays, spelled, told}
 use Rattle.uefi_records.proofs.file.WriterNames.{all_go, lawfuls, Nothings, nothings, Written_laws, WroteRecord}
-use Rattle.uefi_records.proofs.file.WriterNames.{MadeRecord, record_seen_in, record_made_of, text16}
-use Rattle.uefi_base.proofs.Written.{and_also}
+use Rattle.uefi_records.proofs.file.WriterNames.{MadeRecord, record_seen_in, record_made_of, text16, as_bor}
+use Rattle.uefi_base.proofs.Written.{and_also, wrote}
 use Rattle.uefi_records.specs.file.Name.{FitName}
 use Rattle.uefi_records.specs.file.FileSystemInfo.{lone_label_offset, volume_label_alignment, volume_label_bytes}
 use Rattle.uefi_records.specs.file.Views.{volume_label_view}
@@ -63,40 +63,25 @@ new_spec 𝓤 𝓛 𝓜 𝓡 wired =
     (λ α δ. id⊢ 𝓤 _)
     (λ α δ. and_then ! (get ! refl) (and_then ! (get ! refl) (no_more !))) (λ α δ v. id⊢ 𝓤 _)
     (λ α δ ws. qed 𝓛 (‵ (left α δ ws) ∷ []) ∵ fsplit ! $ fsplit ! $ fsplit ! $ keep ! (0 ∷ []) $ done !)
-    (λ w ws t. record {
-      end = t.0;
-      put = t.1.0;
-      is =
-          and_also (Unit {0}) (FitName name) w (fits_any w) t.1.1.0;
-      fails = t.1.1.1.0;
-      unchanged =
-          t.1.1.1.1.0;
-      fits = t.1.1.1.1.1.0;
-    }) (λ v w ys wrote. typed 𝓛 κ q r Rw Written_laws w v
+    (λ w ws t. wrote t.0 t.1.0 (and_also (Unit {0}) (FitName name) w (fits_any w) t.1.1.0) t.1.1.1.0 t.1.1.1.1.0
+    t.1.1.1.1.1.0)
+    (λ v w ys held. typed 𝓛 κ q r Rw Written_laws w v
     (λ t. lands_as ! refl refl t.0 $
     sets ! (addr ! (from ! (fld ! refl (hop ! (look_in_at ! 1 (sub ! 0 refl (whole !))) (stop !))))) refl (tt, tt) $
     sets ! (agg ! (and_then ! (get ! refl) (and_then ! (get_in ! (fld ! refl (stop !)) (sub ! 1 refl (whole !)))
     (no_more !)))) refl (tt, (tt, (record { fits = are.0.0.1.0 }, tt))) $
-    let zh : K.Ghost = (
-      (
-        (κ, tt),
-        (q, tt),
-        tt,
-        (record { ref_ptr = r.ref_ptr; now = ys }, (w, tt)),
-        (vss.0, (v ∷ [], tt)),
-      ),
-      tt,
-    ) in
+    let zh : K.Ghost =
+    (((κ, tt), (q, tt), tt, (as_bor (record r { now = ys }), (w, tt)), (vss.0, (v ∷ [], tt))), tt) in
     shares_with 𝓛 κ q r 𝓣 ys tokens (‵ (Rw.own_val w (v ∷ []))) _
     (record_seen_in lone_label_offset volume_label_alignment [] name r.now (Unit {0})
-    (λ _. refl) ys w wrote) Re (λ es. lasts h.ended zh.0.0 zh.0.3 es)
+    (λ _. refl) ys w held) Re (λ es. lasts h.ended zh.0.0 zh.0.3 es)
     (λ e (es : Unit {0} × (Unit {0} × Unit {0})). _ ∷ _ ∷ [])
     (λ e. MadeRecord lone_label_offset volume_label_alignment [] name r.now (Unit {0}) volume_label_view ys e)
     K (h-thm.met 𝓤 𝓛 𝓜 𝓡
     (code.calls-uefi_records::file::file_system_volume_label::FileSystemVolumeLabel::over 𝓡.env wired)) zh
     (id⊢ 𝓤 _) (and_then ! (get ! refl) (and_then ! (get ! refl) (no_more !))) (λ v'. id⊢ 𝓤 _)
     (λ e es t. record_made_of lone_label_offset volume_label_alignment [] name r.now (Unit {0})
-    (λ _. refl) volume_label_view ys w e wrote t.0 t.1.0)
+    (λ _. refl) volume_label_view ys w e held t.0 t.1.0)
     (λ v' e made. typed 𝓛 κ q r Re (Result_laws Rv Error_row (View_laws (named_lft 3 0 tt κs)) Error_laws) e v'
     (λ t. lands_as ! refl refl t.0 $ returns ! (look_at ! 0 refl) $ free_all ! refl $ suffices ! _
     (ends_at 𝓛 f.ended stayed c y v' e (tt, nothings args) (tt, nothings args)) $
