@@ -1,36 +1,14 @@
 -- The worked rows of lists of PCI resources hold.
 use Rattle.std.proofs.Common.{ℕ, List, [], ◌∷◌, ◌++◌, take, refl, lit<, arith}
-use Rattle.uefi_map.specs.pci.Resource.{resource_in, IsRecord}
+use Rattle.uefi_map.specs.pci.Resource.{resource_in}
 use Rattle.uefi_map.specs.pci.ResourceList.{BeginWithRecords}
 use Rattle.uefi_map.specs.rows.Lists.{ports, low_memory, high_memory, one_bus, ports_record, low_memory_record}
 use Rattle.uefi_map.specs.rows.Lists.{high_memory_record, one_bus_record, root_bridge, RecordRows, ListRows, FaultRows}
 use Rattle.uefi_map.specs.rows.Lists.{RowsHold}
 
-is_ports : IsRecord ports_record ports
-unfolding resource_in
-is_ports = record { size = refl; tag = refl; fields = refl }
-
-is_low_memory : IsRecord low_memory_record low_memory
-unfolding resource_in
-is_low_memory = record { size = refl; tag = refl; fields = refl }
-
-is_high_memory : IsRecord high_memory_record high_memory
-unfolding resource_in
-is_high_memory = record { size = refl; tag = refl; fields = refl }
-
-is_one_bus : IsRecord one_bus_record one_bus
-unfolding resource_in
-is_one_bus = record { size = refl; tag = refl; fields = refl }
-
 record_rows : RecordRows
-record_rows = record {
-  ports = is_ports;
-  low_memory = is_low_memory;
-  high_memory = is_high_memory;
-  one_bus =
-      is_one_bus;
-  no_name = refl;
-}
+unfolding resource_in
+record_rows = assumption
 
 -- The four records, and then the rest.
 four_records : (rest : List ℕ)
@@ -39,19 +17,19 @@ four_records : (rest : List ℕ)
 four_records rest = (
   ports_record,
   _,
-  is_ports,
+  record_rows.ports,
   (
     low_memory_record,
     _,
-    is_low_memory,
-    (high_memory_record, _, is_high_memory, (one_bus_record, _, is_one_bus, refl, refl), refl),
+    record_rows.low_memory,
+    (high_memory_record, _, record_rows.high_memory, (one_bus_record, _, record_rows.one_bus, refl, refl), refl),
     refl,
   ),
   refl,
 )
 
 ports_alone : (rest : List ℕ) → BeginWithRecords (ports_record ++ rest) (ports ∷ []) rest
-ports_alone rest = (ports_record, rest, is_ports, refl, refl)
+ports_alone rest = (ports_record, rest, record_rows.ports, refl, refl)
 
 list_rows : ListRows
 list_rows = record {
@@ -70,7 +48,7 @@ fault_rows = record {
   third_cut = (
     ports ∷ low_memory ∷ [],
     take 8 high_memory_record,
-    (ports_record, _, is_ports, (low_memory_record, _, is_low_memory, refl, refl), refl),
+    (ports_record, _, record_rows.ports, (low_memory_record, _, record_rows.low_memory, refl, refl), refl),
     ((_, refl), lit< tt),
   );
   other_tag = ([], 0x12 ∷ [], refl, (([], refl), (λ same. omega (arith, same)), (λ same. omega (arith, same))));

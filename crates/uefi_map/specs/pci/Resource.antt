@@ -16,6 +16,20 @@ record_length = 46
 abbrev pub range_type : ℕ → ResourceRangeType
 range_type number = if number == 0 then Memory else if number == 1 then Io else if number == 2 then Bus else Unknown number
 
+-- The resource with these fields.
+abbrev pub resource_given : ResourceRangeType → ℕ → ℕ → ℕ → ℕ → ℕ → ℕ → ℕ → QwordAddressSpaceDescriptor
+resource_given kind general_flags type_specific_flags granularity address_min address_max translation_offset address_length =
+    record {
+      resource_range_type = kind;
+      general_flags = general_flags;
+      type_specific_flags = type_specific_flags;
+      granularity = granularity;
+      address_min = address_min;
+      address_max = address_max;
+      translation_offset = translation_offset;
+      address_length = address_length;
+    }
+
 -- The resource in the bytes of a record, each field at its offset, little-endian.
 unfoldable pub resource_in : List ℕ → QwordAddressSpaceDescriptor
 resource_in bytes = record {

@@ -1,24 +1,15 @@
 -- Worked rows of the definitions: a root bridge's list, and faults.
-use Rattle.std.specs.Prelude.{◌≡◌, ℕ, List, [], ◌∷◌, ◌++◌, take}
+use Rattle.std.specs.Prelude.{◌≡◌, ℕ, List, [], ◌∷◌, ◌++◌, replicate, take}
 use Rattle.uefi_map.specs.declared.pci.resource.QwordAddressSpaceDescriptor.{QwordAddressSpaceDescriptor}
 use Rattle.uefi_map.specs.declared.pci.resource.ResourceRangeType.{ResourceRangeType}
 use Rattle.uefi_map.specs.declared.pci.resource.ResourceRangeType.TheVariants.{Memory, Io, Bus, Unknown}
 use Rattle.uefi_map.specs.declared.pci.resource_error.ResourceError.TheVariants.{NoEndTag, CutRecord, UnknownTag}
-use Rattle.uefi_map.specs.pci.Resource.{range_type, IsRecord}
+use Rattle.uefi_map.specs.pci.Resource.{range_type, resource_given, IsRecord}
 use Rattle.uefi_map.specs.pci.ResourceList.{HaveList, HaveFault}
 
 -- The ranges of a root bridge: I/O ports, memory below four gigabytes and above, and one bus number.
 abbrev pub range : ResourceRangeType → ℕ → ℕ → ℕ → ℕ → QwordAddressSpaceDescriptor
-range kind granularity lowest highest size = record {
-  resource_range_type = kind;
-  general_flags = 0;
-  type_specific_flags = 0;
-  granularity = granularity;
-  address_min = lowest;
-  address_max = highest;
-  translation_offset = 0;
-  address_length = size;
-}
+range kind granularity lowest highest size = resource_given kind 0 0 granularity lowest highest 0 size
 
 abbrev pub ports : QwordAddressSpaceDescriptor
 ports = range Io 0 0x6000 0x6fff 0x1000
@@ -35,27 +26,20 @@ one_bus = range Bus 0 0 0 1
 -- Their records.
 abbrev pub ports_record : List ℕ
 ports_record =
-    0x8a ∷ 0x2b ∷ 0 ∷ 1 ∷ 0 ∷ 0 ∷ 0 ∷ 0 ∷ 0 ∷ 0 ∷ 0 ∷ 0 ∷ 0 ∷ 0
-    ∷ 0 ∷ 0x60 ∷ 0 ∷ 0 ∷ 0 ∷ 0 ∷ 0 ∷ 0 ∷ 0xff ∷ 0x6f ∷ 0 ∷ 0 ∷ 0 ∷ 0 ∷ 0 ∷ 0
-    ∷ 0 ∷ 0 ∷ 0 ∷ 0 ∷ 0 ∷ 0 ∷ 0 ∷ 0 ∷ 0 ∷ 0x10 ∷ 0 ∷ 0 ∷ 0 ∷ 0 ∷ 0 ∷ 0 ∷ []
+    0x8a ∷ 0x2b ∷ 0 ∷ 1 ∷ replicate 11 0 ++ 0x60 ∷ replicate 6 0 ++ 0xff ∷ 0x6f ∷ replicate 15 0 ++ 0x10 ∷ replicate 6 0
 
 abbrev pub low_memory_record : List ℕ
 low_memory_record =
-    0x8a ∷ 0x2b ∷ 0 ∷ 0 ∷ 0 ∷ 0 ∷ 0x20 ∷ 0 ∷ 0 ∷ 0 ∷ 0 ∷ 0 ∷ 0 ∷ 0
-    ∷ 0 ∷ 0 ∷ 0 ∷ 0x80 ∷ 0 ∷ 0 ∷ 0 ∷ 0 ∷ 0xff ∷ 0xff ∷ 0x0f ∷ 0x81 ∷ 0 ∷ 0 ∷ 0 ∷ 0
-    ∷ 0 ∷ 0 ∷ 0 ∷ 0 ∷ 0 ∷ 0 ∷ 0 ∷ 0 ∷ 0 ∷ 0 ∷ 0x10 ∷ 0x01 ∷ 0 ∷ 0 ∷ 0 ∷ 0 ∷ []
+    0x8a ∷ 0x2b ∷ replicate 4 0 ++ 0x20 ∷ replicate 10 0 ++ 0x80 ∷ replicate 4 0
+    ++ 0xff ∷ 0xff ∷ 0x0f ∷ 0x81 ∷ replicate 14 0 ++ 0x10 ∷ 0x01 ∷ replicate 4 0
 
 abbrev pub high_memory_record : List ℕ
 high_memory_record =
-    0x8a ∷ 0x2b ∷ 0 ∷ 0 ∷ 0 ∷ 0 ∷ 0x40 ∷ 0 ∷ 0 ∷ 0 ∷ 0 ∷ 0 ∷ 0 ∷ 0
-    ∷ 0 ∷ 0 ∷ 0 ∷ 0 ∷ 0xc0 ∷ 0 ∷ 0 ∷ 0 ∷ 0xff ∷ 0xff ∷ 0x0f ∷ 0 ∷ 0xc0 ∷ 0 ∷ 0 ∷ 0
-    ∷ 0 ∷ 0 ∷ 0 ∷ 0 ∷ 0 ∷ 0 ∷ 0 ∷ 0 ∷ 0 ∷ 0 ∷ 0x10 ∷ 0 ∷ 0 ∷ 0 ∷ 0 ∷ 0 ∷ []
+    0x8a ∷ 0x2b ∷ replicate 4 0 ++ 0x40 ∷ replicate 11 0 ++ 0xc0 ∷ replicate 3 0
+    ++ 0xff ∷ 0xff ∷ 0x0f ∷ 0 ∷ 0xc0 ∷ replicate 13 0 ++ 0x10 ∷ replicate 5 0
 
 abbrev pub one_bus_record : List ℕ
-one_bus_record =
-    0x8a ∷ 0x2b ∷ 0 ∷ 2 ∷ 0 ∷ 0 ∷ 0 ∷ 0 ∷ 0 ∷ 0 ∷ 0 ∷ 0 ∷ 0 ∷ 0
-    ∷ 0 ∷ 0 ∷ 0 ∷ 0 ∷ 0 ∷ 0 ∷ 0 ∷ 0 ∷ 0 ∷ 0 ∷ 0 ∷ 0 ∷ 0 ∷ 0 ∷ 0 ∷ 0
-    ∷ 0 ∷ 0 ∷ 0 ∷ 0 ∷ 0 ∷ 0 ∷ 0 ∷ 0 ∷ 1 ∷ 0 ∷ 0 ∷ 0 ∷ 0 ∷ 0 ∷ 0 ∷ 0 ∷ []
+one_bus_record = 0x8a ∷ 0x2b ∷ 0 ∷ 2 ∷ replicate 34 0 ++ 1 ∷ replicate 7 0
 
 abbrev pub root_bridge : List ℕ
 root_bridge = ports_record ++ low_memory_record ++ high_memory_record ++ one_bus_record ++ 0x79 ∷ 0 ∷ []
