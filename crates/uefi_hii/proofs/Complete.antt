@@ -2,7 +2,6 @@
 use Rattle.std.proofs.Common.{◌≡◌, ◌≢◌, ℕ, Bool, true, false, List, [], ◌∷◌, ◌++◌, refl, sym, ◌∙◌, ap, subst}
 use Rattle.std.proofs.Common.{append_assoc, inl, inr}
 use Rattle.std.specs.Prelude.{Option, Some, None, Result, Ok, Err, IsSome, codes}
-use Rattle.std.specs.Str.{bytes_eq}
 use Rattle.uefi_hii.specs.declared.error.ParseError.{ParseError}
 use Rattle.uefi_path.specs.Node.{Node}
 use Rattle.uefi_hii.specs.Pairs.{Pair}
@@ -14,7 +13,8 @@ use Rattle.uefi_hii.specs.Group.{FailsAt, Gives}
 use Rattle.uefi_hii.specs.private.Parts.{EndsBefore}
 use Rattle.uefi_hii.specs.Cut.{first_pair}
 use Rattle.uefi_hii.proofs.Expecting.{MustCome, by_row}
-use Rattle.uefi_hii.proofs.Leading.{expect-some, is_key, is_not_key, leads_body, step-alt, step-offset, step-stop}
+use Rattle.uefi_hii.proofs.Leading.{expect-some, is_key, is_not_key, leads_body, step-alt, step-header, step-offset}
+use Rattle.uefi_hii.proofs.Leading.{step-stop}
 use Rattle.uefi_hii.proofs.Machine.{AfterGuid, AfterName, AfterOffset, AfterWidth, Fail, InBody, Leads, Start, State}
 use Rattle.uefi_hii.proofs.Machine.{element, expect, header_of, in_body, leads_on, leads_one, outcome, result_at_end}
 use Rattle.uefi_hii.proofs.Machine.{run, run-end, run-fail, run-leads, run-stop, step, with_alt, with_element}
@@ -154,21 +154,16 @@ good_width f h = by_rest h.0 h.1 h.2 h.3.0 h.3.1 h.4
 -- behind an element.
 alt_fails : (x y : List ℕ) (z : List Node) (q : Pair) → q.key ≡ codes "ALTCFG" → ¬ IsGood AltSlot q
     → step (InBody (header_of x y z)) q ≡ Fail AltSlot
-unfolding step in_body
+unfolding in_body
 alt_fails x y z q key bad =
-    let c = header_of x y z in
-    ap (λ t. in_body c [] None t (bytes_eq q.key (codes "OFFSET")) (bytes_eq q.key (codes "GUID")) q)
-    (is_key q.key _ key)
-    ∙ expect-none AltSlot (λ id. InBody (with_alt c id)) _ bad
+    step-header x y z q true (is_key q.key _ key)
+    ∙ expect-none AltSlot (λ id. InBody (with_alt (header_of x y z) id)) _ bad
 
 first_offset_fails : (x y : List ℕ) (z : List Node) (q : Pair) → q.key ≢ codes "ALTCFG" → ¬ IsGood OffsetSlot q
     → step (InBody (header_of x y z)) q ≡ Fail OffsetSlot
-unfolding step in_body
+unfolding in_body
 first_offset_fails x y z q key bad =
-    let c = header_of x y z in
-    ap (λ t. in_body c [] None t (bytes_eq q.key (codes "OFFSET")) (bytes_eq q.key (codes "GUID")) q)
-    (is_not_key q.key _ key)
-    ∙ expect-none OffsetSlot (AfterOffset c) _ bad
+    step-header x y z q false (is_not_key q.key _ key) ∙ expect-none OffsetSlot (AfterOffset (header_of x y z)) _ bad
 
 offset_after_alt_fails : (x y : List ℕ) (z : List Node) (id : ℕ) (q : Pair) → ¬ IsGood OffsetSlot q
     → step (InBody (with_alt (header_of x y z) id)) q ≡ Fail OffsetSlot

@@ -3,7 +3,7 @@ use Rattle.std.proofs.Common.{◌≡◌, ◌≢◌, ℕ, Bool, true, false, List
 use Rattle.std.proofs.Common.{append_assoc, inl, inr}
 use Rattle.std.proofs.lemmas.List.{map-append}
 use Rattle.std.proofs.lemmas.Slice.Eq.{bytes_eq-Decides}
-use Rattle.std.specs.Prelude.{option_map, reverse, Option, Some, None, Result, Ok, Err, IsErrAnd, codes}
+use Rattle.std.specs.Prelude.{if◌then◌else◌, option_map, reverse, Option, Some, None, Result, Ok, Err, IsErrAnd, codes}
 use Rattle.std.specs.Str.{bytes_eq}
 use Rattle.uefi_hii.specs.declared.configuration.ConfigurationString.{ConfigurationString}
 use Rattle.uefi_hii.specs.declared.configuration.ConfigurationStringElement.{ConfigurationStringElement}
@@ -32,6 +32,11 @@ pub record ComesBefore (before left : List Pair) (c : Configuration) : Type 0 wh
   pub spells : Spells body c
   pub expects : (q : Pair) (rest : List Pair) → left ≡ q ∷ rest → MustCome body (Some q) OffsetSlot
   pub some : left ≢ []
+
+-- A push that didn't fail added the element.
+pub pushed : {X : Type 0} (t : Bool) (before after : List X) (x : X) → after ≡ if t then before ++ x ∷ [] else before
+    → t ≡ true → after ≡ before ++ x ∷ []
+pushed t before after x is fine = is ∙ ap (λ b. if b then before ++ x ∷ [] else before) fine
 
 -- After a header an element comes, if a pair is left.
 pub after_header : {A : Type 0} (before left : List Pair) (c : ConfigurationString A) → TakesHeader before (Ok c) left

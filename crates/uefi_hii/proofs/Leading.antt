@@ -104,14 +104,21 @@ unfolding step
 step-stop c p some key =
     in_body-stop c c.elements c.alt_cfg_id _ _ _ p some (apart p.key _ (codes "OFFSET") key refl) (is_key p.key _ key)
 
+-- The step behind a header without an identifier, by whether the key is ALTCFG.
+pub step-header : (g n : List ℕ) (path : List Node) (p : Pair) (t : Bool) → bytes_eq p.key (codes "ALTCFG") ≡ t
+    → step (InBody (header_of g n path)) p
+    ≡ in_body (header_of g n path) [] None t (bytes_eq p.key (codes "OFFSET")) (bytes_eq p.key (codes "GUID")) p
+unfolding step
+step-header g n path p t key =
+    ap (λ b. in_body (header_of g n path) [] None b (bytes_eq p.key (codes "OFFSET")) (bytes_eq p.key (codes "GUID")) p)
+    key
+
 -- Behind a header, a pair with an identifier is read.
 pub step-alt : (g n : List ℕ) (path : List Node) (a : Pair) (id : ℕ) → number_in (codes "ALTCFG") a ≡ Some id
     → step (InBody (header_of g n path)) a ≡ Next (InBody (with_alt (header_of g n path) id))
-unfolding step in_body
+unfolding in_body
 step-alt g n path a id e =
-    let key : bytes_eq a.key (codes "ALTCFG") ≡ true = is_key a.key _ (number_key (codes "ALTCFG") a id e) in
-    ap (λ t. in_body (header_of g n path) [] None t (bytes_eq a.key (codes "OFFSET")) (bytes_eq a.key (codes "GUID")) a)
-    key
+    step-header g n path a true (is_key a.key _ (number_key (codes "ALTCFG") a id e))
     ∙ expect-some AltSlot (λ id. InBody (with_alt (header_of g n path) id)) _ id e
 
 -- The configuration of the header alone.

@@ -1,8 +1,10 @@
 -- A number read byte by byte.
-use Rattle.std.proofs.Common.{◌≡◌, ℕ, zero, suc, ◌+◌, ◌*◌, ◌<◌, ◌≤◌, List, ◌∷◌, length, refl, arith, true}
+use Rattle.std.proofs.Common.{◌≡◌, ℕ, zero, suc, ◌+◌, ◌*◌, ◌<◌, ◌≤◌, Bool, true, List, ◌∷◌, length, refl, subst, arith}
 use Rattle.std.specs.Prelude.{fold}
 use Rattle.std.proofs.lemmas.Bool.Decides.{nat_tests}
+use Rattle.uefi_hii.specs.Hex.{hex}
 use Rattle.uefi_hii.specs.Values.{is_number_length}
+use Rattle.uefi_hii.proofs.HexBounds.{first_small}
 use Rattle.uefi_hii.specs.private.Parts.{big_endian}
 
 -- The numbers of this many bytes are below it.
@@ -36,13 +38,21 @@ unfolding limit
 read_more all left n byte read small =
     record { number = read.number; size = (suc read.size.0, omega (arith, read.size.1), omega (arith, read.size.2)) }
 
--- A number of at most eight bytes fits 64 bits.
-pub read_fits : (all left : List ℕ) (n byte : ℕ) → HasRead all (byte ∷ left) n → byte < 256 → length all ≤ 8
+at_most_eight : (n : ℕ) → is_number_length n ≡ true → n ≤ 8
+at_most_eight n e = grind (arith, nat_tests)
+
+-- A number of 1, 2, 4 or 8 bytes, of which another byte is read, fits 64 bits.
+read_fits : (all left : List ℕ) (n byte : ℕ) → HasRead all (byte ∷ left) n → byte < 256 → length all ≤ 8
     → n * 256 + byte < 18446744073709551616
 unfolding limit
 read_fits all left n byte read small short =
     let below : limit (suc read.size.0) ≤ limit 8 = limit-grows (suc read.size.0) 8 (omega (arith, read.size.1)) in
     omega (arith, below, read.size.2, limit_of_eight)
 
-pub at_most_eight : (n : ℕ) → is_number_length n ≡ true → n ≤ 8
-at_most_eight n e = grind (arith, nat_tests)
+pub next_fits : (text rest left first : List ℕ) (n byte count : ℕ) (is_one : Bool) → HasRead (hex text) (hex rest) n
+    → hex rest ≡ byte ∷ left → count ≡ length first → first ≡ hex text → is_one ≡ is_number_length count → is_one ≡ true
+    → n * 256 + byte < 18446744073709551616
+next_fits text rest left first n byte count is_one read steps counted all tested holds =
+    let size : is_number_length (length (hex text)) ≡ true = cc in
+    read_fits (hex text) left n byte (subst (λ s. HasRead (hex text) s n) steps read) (first_small rest left byte steps)
+    (at_most_eight (length (hex text)) size)

@@ -34,19 +34,15 @@ past_two : (x y : ℕ) (v : List ℕ) (i n : ℕ) → at_places (x ∷ y ∷ v) 
 past_two x y v i zero = refl
 past_two x y v i (suc n) = ap (λ r. get_or v i 0 ∷ r) (past_two x y v (suc (suc i)) n)
 
-evens_at : (n : ℕ) (v : List ℕ) → length v ≡ 2 * n → at_places v (twos 0 n) ≡ evens v
-evens_at zero [] e = refl
-evens_at zero (x ∷ v) e = absurd (omega arith)
-evens_at (suc n) [] e = absurd (omega arith)
-evens_at (suc n) (x ∷ []) e = absurd (omega arith)
-evens_at (suc n) (x ∷ y ∷ v) e = ap (λ r. x ∷ r) (past_two x y v 0 n ∙ evens_at n v (omega arith))
-
-odds_at : (n : ℕ) (v : List ℕ) → length v ≡ 2 * n → at_places v (twos 1 n) ≡ odds v
-odds_at zero [] e = refl
-odds_at zero (x ∷ v) e = absurd (omega arith)
-odds_at (suc n) [] e = absurd (omega arith)
-odds_at (suc n) (x ∷ []) e = absurd (omega arith)
-odds_at (suc n) (x ∷ y ∷ v) e = ap (λ r. y ∷ r) (past_two x y v 1 n ∙ odds_at n v (omega arith))
+both_at : (n : ℕ) (v : List ℕ) → length v ≡ 2 * n
+    → (at_places v (twos 0 n) ≡ evens v) × (at_places v (twos 1 n) ≡ odds v)
+both_at zero [] e = (refl, refl)
+both_at zero (x ∷ v) e = absurd (omega arith)
+both_at (suc n) [] e = absurd (omega arith)
+both_at (suc n) (x ∷ []) e = absurd (omega arith)
+both_at (suc n) (x ∷ y ∷ v) e =
+    let rest = both_at n v (omega arith) in
+    (ap (λ r. x ∷ r) (past_two x y v 0 n ∙ rest.0), ap (λ r. y ∷ r) (past_two x y v 1 n ∙ rest.1))
 
 evens_fit : (P : ℕ → Type 0) (v : List ℕ) → Each1 P v → Each1 P (evens v)
 evens_fit P [] h = tt
@@ -103,11 +99,11 @@ joined_chunks i xs = ap (λ r. take 16 (drop i xs) ++ take 16 r) (sym (drop-drop
 
 highs_are : (i : ℕ) (xs : List ℕ) → i + 32 ≤ length xs → half 0 i xs ≡ evens (chunk i 32 xs)
 highs_are i xs room = ap (λ v. at_places v (twos 0 16)) (joined_chunks i xs)
-    ∙ evens_at 16 (chunk i 32 xs) (length-chunk i 32 xs room)
+    ∙ (both_at 16 (chunk i 32 xs) (length-chunk i 32 xs room)).0
 
 lows_are : (i : ℕ) (xs : List ℕ) → i + 32 ≤ length xs → half 1 i xs ≡ odds (chunk i 32 xs)
 lows_are i xs room = ap (λ v. at_places v (twos 1 16)) (joined_chunks i xs)
-    ∙ odds_at 16 (chunk i 32 xs) (length-chunk i 32 xs room)
+    ∙ (both_at 16 (chunk i 32 xs) (length-chunk i 32 xs room)).1
 
 -- both halves are digits, and so the sum of the lanes is the items
 pub block_items : (h k : ℕ → ℕ → ℕ) → ((a b : ℕ) → a < 16 → b < 16 → h (k a 16) b ≡ a * 16 + b) → (i : ℕ) (xs : List ℕ)

@@ -68,7 +68,7 @@ cut_none all left items nothing_cut none = record {
 }
 
 -- A group that was taken, unless memory ran out.
-taken : {A : Type 0} (before after : List Pair) (r : Result (ConfigurationString A) ParseError) → r ≢ Err Memory
+pub taken : {A : Type 0} (before after : List Pair) (r : Result (ConfigurationString A) ParseError) → r ≢ Err Memory
     → TakesGroup before r after
     → (g : List Pair) × (before ≡ g ++ after) × Group g (first_pair after) (result_of r)
 taken before after (Ok c) some t = t

@@ -1,8 +1,7 @@
-use Rattle.std.proofs.Common.{◌≡◌, ◌++◌, ◌∷◌, [], false, true, not, sym, ◌∙◌, ap}
-use Rattle.std.specs.Prelude.{if◌then◌else◌}
+use Rattle.std.proofs.Common.{◌≡◌, false, true, not, sym, ◌∙◌, ap}
 use Rattle.uefi_hii.specs.Views.{configuration_of, peeked_pairs}
 use Rattle.uefi_hii.proofs.Elements.{after_element, after_header, configuration_push, element_fails, ends, goes_on}
-use Rattle.uefi_hii.proofs.Elements.{residual_fails}
+use Rattle.uefi_hii.proofs.Elements.{pushed, residual_fails}
 use Rattle.uefi_hii.proofs.reading.read_group.Goals as goal
 
 pub loop-configuration-init : goal.loop-configuration-init
@@ -23,12 +22,8 @@ returns-in_err-element g c =
 
 pub returns-then-not-is_at : goal.returns-then-not-is_at
 returns-then-not-is_at g c =
-    let push : c.push.new.self.items ≡ c.loop-configuration.configuration.elements.items
-    ++ c.in_ok-element.element ∷ [] =
-    c.push.ensures.items
-    ∙ ap (λ t. if t then c.loop-configuration.configuration.elements.items
-    ++ c.in_ok-element.element ∷ [] else c.loop-configuration.configuration.elements.items)
-    (c.is_err.ensures.negation ∙ ap not c.if-is_err.false) in
+    let push = pushed _ c.loop-configuration.configuration.elements.items c.push.new.self.items c.in_ok-element.element
+    c.push.ensures.items (c.is_err.ensures.negation ∙ ap not c.if-is_err.false) in
     ends (peeked_pairs c.args.pairs.now) (peeked_pairs c.read_element.new.pairs)
     (record c.loop-configuration.configuration { elements = c.push.new.self })
     (after_element (peeked_pairs c.args.pairs.now) (peeked_pairs c.loop-configuration.pairs)
@@ -40,12 +35,8 @@ returns-then-not-is_at g c =
 
 pub loop-configuration-preserved : goal.loop-configuration-preserved
 loop-configuration-preserved g c =
-    let push : c.push.new.self.items ≡ c.loop-configuration.configuration.elements.items
-    ++ c.in_ok-element.element ∷ [] =
-    c.push.ensures.items
-    ∙ ap (λ t. if t then c.loop-configuration.configuration.elements.items
-    ++ c.in_ok-element.element ∷ [] else c.loop-configuration.configuration.elements.items)
-    (c.is_err.ensures.negation ∙ ap not c.if-is_err.false) in
+    let push = pushed _ c.loop-configuration.configuration.elements.items c.push.new.self.items c.in_ok-element.element
+    c.push.ensures.items (c.is_err.ensures.negation ∙ ap not c.if-is_err.false) in
     goes_on (peeked_pairs c.args.pairs.now) (peeked_pairs c.read_element.new.pairs)
     (configuration_of (record c.loop-configuration.configuration { elements = c.push.new.self }))
     (after_element (peeked_pairs c.args.pairs.now) (peeked_pairs c.loop-configuration.pairs)

@@ -27,9 +27,8 @@ returns-in_err-alt_cfg_id u c =
     let left = peeked_pairs c.take_path.new.pairs in
     let after = peeked_pairs c.take_alt_cfg_id.new.pairs in
     let three =
-    three_taken before (peeked_pairs c.take_guid.new.pairs) (peeked_pairs c.take_name.new.pairs) left c.in-Some.guid.0
-    (string_bytes c.in-Some-2.name) c.in-Some-3.device_path
-    c.in-Some.ensures (rw c.in-Some-2.is at c.in_ok-name.ensures) (rw c.in-Some-3.is at c.in_ok-device_path.ensures) in
+    three_taken before _ _ left _ _ c.in-Some-3.device_path c.in-Some.ensures
+    (rw c.in-Some-2.is at c.in_ok-name.ensures) (rw c.in-Some-3.is at c.in_ok-device_path.ensures) in
     let e = c.in_err-alt_cfg_id.field-0.0 in
     header_residual before after c.from_residual-in_err-alt_cfg_id.result e
     (alt_kept left after e c.in_err-alt_cfg_id.ensures) c.from_residual-in_err-alt_cfg_id.ensures.1
@@ -40,9 +39,8 @@ returns u c =
     let before = peeked_pairs c.args.pairs.now in
     let left = peeked_pairs c.take_path.new.pairs in
     let three =
-    three_taken before (peeked_pairs c.take_guid.new.pairs) (peeked_pairs c.take_name.new.pairs) left c.in-Some.guid.0
-    (string_bytes c.in-Some-2.name) c.in-Some-3.device_path
-    c.in-Some.ensures (rw c.in-Some-2.is at c.in_ok-name.ensures) (rw c.in-Some-3.is at c.in_ok-device_path.ensures) in
+    three_taken before _ _ left _ _ c.in-Some-3.device_path c.in-Some.ensures
+    (rw c.in-Some-2.is at c.in_ok-name.ensures) (rw c.in-Some-3.is at c.in_ok-device_path.ensures) in
     takes_header before left (peeked_pairs c.take_alt_cfg_id.new.pairs)
     (record {
       guid = c.in-Some.guid;
