@@ -1,6 +1,6 @@
 -- The bytes of a name that a record was accepted with, and the size that a refused one needs.
 use Rattle.std.proofs.Common.{◌≡◌, ℕ, ◌+◌, ◌-◌, ◌*◌, ◌<◌, ◌≤◌, Bool, true, false, min, List, [], ◌∷◌, length, take}
-use Rattle.std.proofs.Common.{drop, Option, Some, None, refl, sym, ap, ◌∙◌, arith}
+use Rattle.std.proofs.Common.{drop, Option, Some, None, refl, sym, ap, subst, ◌∙◌, arith}
 use Rattle.std.specs.List.{position_from}
 use Rattle.std.specs.Prelude.{nat_le, unwrap_or, if◌then◌else◌, ◌==◌}
 use Rattle.std.proofs.lemmas.List.{take-take, drop-take, length-take, length-take-le, length-drop}
@@ -91,6 +91,20 @@ module _ (offset alignment written : ℕ) (buffer name : List ℕ)
       ∙ ap (drop offset) (sym (take-take (offset + 2 * length name) written buffer within_written))
       ∙ drop-take offset (2 * length name) (take written buffer))
       ∙ units_by_place.front named (length name) ∙ ap (λ (n : ℕ). take n (units_of named)) count ∙ sym there.is_name
+
+  -- A view of as many units there is within the buffer, and is the name.
+  module _ (units : ℕ) (counted : List ℕ) (long : units ≡ length counted) (are : counted ≡ name) where
+    sized_name : length name ≡ units
+    sized_name = sym (long ∙ ap length are)
+
+    pub view_within : offset + 2 * units ≤ length buffer
+    view_within = subst (λ (n : ℕ). offset + 2 * n ≤ length buffer) sized_name name_within
+
+    pub view_named : (view : List ℕ) → view ≡ take (2 * units) (drop offset buffer)
+        → verdict offset alignment (take written buffer) (length buffer) ≡ accepted (units_of view)
+    view_named view there =
+        is ∙ ap (λ (n : List ℕ). accepted n) (sym name_there
+        ∙ ap (λ (n : ℕ). units_of (take (2 * n) (drop offset buffer))) sized_name ∙ ap units_of (sym there))
 
 -- The size that is beside an error.
 pub needs : (v : Verdict) (error : Error (Option ℕ)) (needed : ℕ) → Refuses v error

@@ -26,13 +26,10 @@ file_seen seen = record {
 
 -- The fields, with zeros in the padding of the times.
 abbrev pub without_padding : FileFields → FileFields
-without_padding fields = record {
-  file_size = fields.file_size;
-  physical_size = fields.physical_size;
+without_padding fields = record fields {
   create_time = without_pads fields.create_time;
   last_access_time = without_pads fields.last_access_time;
   modification_time = without_pads fields.modification_time;
-  attribute = fields.attribute;
 }
 
 abbrev pub file_system_seen : UefiFileSystemInfo → FileSystemFields

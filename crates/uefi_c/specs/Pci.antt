@@ -2,21 +2,14 @@
 use Rattle.std.specs.Prelude.{ℕ, ◌≡◌, ◌≤◌, List, length}
 use Rattle.uefi_map.specs.declared.pci.resource.QwordAddressSpaceDescriptor.{QwordAddressSpaceDescriptor}
 use Rattle.uefi_map.specs.declared.pci.resource_error.ResourceError.TheVariants.{NoEndTag, CutRecord, UnknownTag}
-use Rattle.uefi_map.specs.pci.Resource.{range_type, record_tag, record_length}
+use Rattle.uefi_map.specs.pci.Resource.{range_type, resource_given, record_tag, record_length}
 use Rattle.uefi_map.specs.pci.ResourceList.{BeginWith, IsFaultOf, end_tag}
 use Rattle.uefi_c.specs.declared.pci.UefiResource.{UefiResource}
 
 abbrev pub resource_seen : UefiResource → QwordAddressSpaceDescriptor
-resource_seen seen = record {
-  resource_range_type = range_type seen.range_type;
-  general_flags = seen.general_flags;
-  type_specific_flags = seen.type_specific_flags;
-  granularity = seen.granularity;
-  address_min = seen.address_min;
-  address_max = seen.address_max;
-  translation_offset = seen.translation_offset;
-  address_length = seen.address_length;
-}
+resource_seen seen =
+    resource_given (range_type seen.range_type) seen.general_flags seen.type_specific_flags seen.granularity
+    seen.address_min seen.address_max seen.translation_offset seen.address_length
 
 -- What each number says of the rest of a list: 0 the end tag, 1 a record, and the faults from 2 on.
 pub record IsStep (rest : List ℕ) (step : ℕ) : Type 0 where

@@ -2,25 +2,13 @@
 use Rattle.std.specs.Prelude.{ℕ, ◌≡◌, ◌≢◌, List}
 use Rattle.uefi_records.specs.declared.time.error.TimeError.{TimeError}
 use Rattle.uefi_records.specs.time.Faults.{reading_faults, no_fault}
-use Rattle.uefi_records.specs.time.Fields.{TimeFields, StandsIn, without_pads}
+use Rattle.uefi_records.specs.time.Fields.{TimeFields, StandsIn, time_given, without_pads}
 use Rattle.uefi_c.specs.declared.time.UefiTime.{UefiTime}
 use Rattle.uefi_c.specs.declared.time.UefiTimeFaults.{UefiTimeFaults}
 
 -- The fields that were read, with zeros in their padding.
 abbrev pub time_seen : UefiTime → TimeFields
-time_seen seen = record {
-  year = seen.year;
-  month = seen.month;
-  day = seen.day;
-  hour = seen.hour;
-  minute = seen.minute;
-  second = seen.second;
-  first_pad = 0;
-  nanosecond = seen.nanosecond;
-  zone = seen.zone;
-  daylight = seen.daylight;
-  last_pad = 0;
-}
+time_seen seen = time_given seen.year seen.month seen.day seen.hour seen.minute seen.second seen.nanosecond seen.zone seen.daylight
 
 abbrev pub faults_seen : UefiTimeFaults → TimeError
 faults_seen seen = record {

@@ -1,23 +1,9 @@
-use Rattle.std.proofs.Common.{◌≡◌, ℕ, ◌+◌, ◌*◌, ◌≤◌, List, length, take, drop, sym, ap, subst, ◌∙◌}
-use Rattle.uefi_base.specs.Unaligned.{units_of}
-use Rattle.uefi_records.specs.file.Verdict.{accepted}
-use Rattle.uefi_records.specs.file.Views.{volume_label_of}
-use Rattle.uefi_c.proofs.NameBytes.{name_within, name_there}
+use Rattle.uefi_c.proofs.NameBytes.{view_within, view_named}
 use Rattle.uefi_c.proofs.info.uefi_volume_label.Goals as goal
 
 pub name_bytes-requires : goal.name_bytes-requires
-name_bytes-requires c =
-    let name = volume_label_of c.in-Ok.record in
-    let count : c.len.result ≡ length name = c.len.ensures ∙ ap length c.volume_label.ensures.units in
-    subst (λ (n : ℕ). 0 + 2 * n ≤ length c.args.buffer.now) (sym count)
-    (name_within 0 2 c.args.written c.args.buffer.now name c.in-Ok.ensures.verdict)
+name_bytes-requires c = view_within 0 2 _ _ _ c.in-Ok.ensures.verdict _ _ c.len.ensures c.volume_label.ensures.units
 
 pub returns-in-Ok-clause-label : goal.returns-in-Ok-clause-label
-returns-in-Ok-clause-label c = λ _.
-    let buffer = c.args.buffer.now in
-    let name = volume_label_of c.in-Ok.record in
-    let count : c.len.result ≡ length name = c.len.ensures ∙ ap length c.volume_label.ensures.units in
-    c.in-Ok.ensures.verdict
-    ∙ ap (λ (n : List ℕ). accepted n)
-    (sym (name_there 0 2 c.args.written buffer name c.in-Ok.ensures.verdict)
-    ∙ ap (λ (n : ℕ). units_of (take (2 * n) (drop 0 buffer))) (sym count) ∙ ap units_of (sym c.name_bytes.ensures))
+returns-in-Ok-clause-label c =
+    λ _. view_named 0 2 _ _ _ c.in-Ok.ensures.verdict _ _ c.len.ensures c.volume_label.ensures.units _ c.name_bytes.ensures

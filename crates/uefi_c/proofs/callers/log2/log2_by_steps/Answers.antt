@@ -1,6 +1,5 @@
 use Rattle.std.proofs.Common.{refl, arith}
-use Rattle.std.proofs.lemmas.Result.{IfOk-weaker}
-use Rattle.uefi_tcg.specs.v2.Header.{HeaderEvent, after_header}
+use Rattle.uefi_tcg.specs.v2.Header.{after_header}
 use Rattle.uefi_tcg.proofs.v2.FoundHeader.{start_within}
 use Rattle.uefi_c.specs.Log2.{header_seen}
 use Rattle.uefi_c.proofs.Log2Steps.{is_log, no_log}
@@ -20,10 +19,8 @@ events_from-requires-clause-start g c =
 
 pub returns : goal.returns
 returns g c =
-    let header = c.uefi_log2_header.new.out in
     let ensures = c.if-not-uefi_log2_header.ensures in
     let has = ensures.header refl in
-    let found : HeaderEvent = record { event = has.0; header = header_seen header } in
-    IfOk-weaker c.events_from.result _ _
-    (λ views. is_log after_header c.args.last_entry header.events_start c.args.log.now found views.items has.1
-    (ensures.start refl)) c.events_from.ensures
+    is_log c.events_from.result (λ views. views.items) after_header c.args.last_entry _ c.args.log.now
+    (record { event = has.0; header = header_seen c.uefi_log2_header.new.out }) has.1 (ensures.start refl)
+    c.events_from.ensures
