@@ -1,6 +1,8 @@
 -- Logs of version 2 in a caller: a log with what it is of, and one step of an iterator over it.
-use Rattle.std.proofs.Common.{◌≡◌, ◌∙◌, ℕ, ◌+◌, List, [], ◌∷◌, Option, None, Some, sym, ap, subst}
-use Rattle.std.specs.Prelude.{MatchOption}
+use Rattle.std.proofs.Common.{◌≡◌, ◌∙◌, ℕ, ◌+◌, ◌≤◌, List, [], ◌∷◌, Option, None, Some, sym, ap, subst}
+use Rattle.std.specs.Prelude.{MatchOption, Result, IfOk}
+use Rattle.std.proofs.lemmas.Result.{IfOk-weaker}
+use Rattle.uefi_base.specs.Prefix.{IsPrefix}
 use Rattle.uefi_tcg.specs.declared.v2.event.PcrEvent.{PcrEvent}
 use Rattle.uefi_tcg.specs.v1.Laws.{SameUpTo}
 use Rattle.uefi_tcg.specs.v2.Event.{Event, Table}
@@ -29,6 +31,23 @@ same_again one local start log earlier end ends same entry =
     (one.one start log.bytes log.last_entry log.found earlier.found log.events earlier.events log.is_log
     (subst (λ (l : ℕ). IsLog start log.bytes l earlier.found earlier.events) entry
     (local.same start earlier end log.bytes ends same))).1
+
+-- So a log that was read again has the events that it had, and for later last entries it begins with them.
+module _ {V E : Type 0} (result : Result V E) (events_of : V → List Event) (start : Start) (bytes : List ℕ)
+    (last_entry : ℕ)
+    (logs : IfOk result (λ read. (found : Option HeaderEvent) × IsLog start bytes last_entry found (events_of read))) where
+  pub has_same : OneLog → IsLocal → IfOk result (λ read. (earlier : Logged start) (end : ℕ)
+      → LastEndsAt start end earlier → SameUpTo end earlier.bytes bytes → earlier.last_entry ≡ last_entry
+      → events_of read ≡ earlier.events)
+  has_same one local = IfOk-weaker result _ _
+      (λ read log. same_again one local start (log_of start bytes last_entry (events_of read) log)) logs
+
+  pub begins_with : IsLocal → IfOk result (λ read. (earlier : Logged start) (end : ℕ)
+      → LastEndsAt start end earlier → SameUpTo end earlier.bytes bytes → end ≤ last_entry
+      → IsPrefix earlier.events (events_of read))
+  begins_with local = IfOk-weaker result _ _
+      (λ read log earlier end ends same later. (local.longer start earlier
+      (log_of start bytes last_entry (events_of read) log) end ends same later).1) logs
 
 -- An event that keeps alone where an iteration stands keeps alone in the log's bytes, and the other way round.
 pub keeps_there : (table : Table) (offset l : ℕ) (b : List ℕ) (it : Iteration) (event : Event)

@@ -4,20 +4,21 @@ use Rattle.std.proofs.Common.{refl, sym, ◌∙◌, ap, subst, arith, append_ass
 use Rattle.std.proofs.lemmas.List.{append-nil, length-append, map-append}
 use Rattle.std.proofs.lemmas.List.Elements.{All-cons, All-head, All-nil, All-same, All-tail}
 use Rattle.std.specs.Prelude.{◌==◌, ◌&&◌, if◌then◌else◌, Option, Some, None, MatchOption, Result, Ok, Err, option_map}
-use Rattle.std.specs.Prelude.{slice_get, filter, is_ok, is_err}
+use Rattle.std.specs.Prelude.{filter, is_ok, is_err}
 use Rattle.std.specs.List.{All, find}
 use Rattle.uefi_hii.specs.declared.configuration.ConfigurationString.{ConfigurationString}
 use Rattle.uefi_hii.specs.declared.configuration.ConfigurationStringElement.{ConfigurationStringElement}
 use Rattle.uefi_hii.specs.declared.multi.MultiConfigurationStringIter.{MultiConfigurationStringIter}
 use Rattle.uefi_hii.specs.declared.error.ParseError.{ParseError}
-use Rattle.uefi_hii.specs.declared.error.ParseError.TheVariants.{BlockConfig, BlockName, ConfigHdr, Memory}
+use Rattle.uefi_hii.specs.declared.error.ParseError.TheVariants.{Memory}
 use Rattle.uefi_hii.specs.Pairs.{Pair, pairs}
 use Rattle.uefi_hii.specs.Configuration.{Configuration}
 use Rattle.uefi_hii.specs.Group.{Group}
 use Rattle.uefi_hii.specs.Cut.{AreGroups, Cut, Part, first_pair, pairs_of, results_of}
 use Rattle.uefi_hii.specs.Laws.{OneGroup}
-use Rattle.uefi_hii.specs.Reading.{AreResults, IsFirstResult, TakesGroup, YieldsGroup}
-use Rattle.uefi_hii.specs.Views.{configuration_of, element_of, result_of, uncut_pairs}
+use Rattle.uefi_hii.specs.Reading.{AreResults, TakesGroup, YieldsGroup}
+use Rattle.uefi_hii.specs.Views.{element_of, result_of, uncut_pairs}
+use Rattle.uefi_hii.proofs.Wholes.{taken}
 use Rattle.uefi_examples.specs.Configurations.{AreCounts, IsOnlyResult}
 
 -- Groups of a text were read, and these pairs are left: their groups and those to come are a cut.
@@ -35,16 +36,6 @@ all_and_last P [] last each = (All-nil P, All-head P last [] each)
 all_and_last P (item ∷ items) last each =
     let rest = all_and_last P items last (All-tail P item (items ++ last ∷ []) each) in
     (All-cons P item items (All-head P item (items ++ last ∷ []) each) rest.0, rest.1)
-
--- A step of the iterator that found memory takes a group.
-taken : {A : Type 0} (before after : List Pair) (item : Result (ConfigurationString A) ParseError) → item ≢ Err Memory
-    → TakesGroup before item after
-    → (group : List Pair) × (before ≡ group ++ after) × Group group (first_pair after) (result_of item)
-taken before after (Ok c) some step = step
-taken before after (Err (ConfigHdr section)) some step = step
-taken before after (Err BlockName) some step = step
-taken before after (Err BlockConfig) some step = step
-taken before after (Err Memory) some step = absurd (some refl)
 
 -- With the group of one more step it was read up to the pairs after that group.
 read_more : (text : List ℕ) (left after group : List Pair) (read : List Part) (result : Result Configuration ParseError)
