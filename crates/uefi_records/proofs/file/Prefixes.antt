@@ -49,6 +49,11 @@ file_system_fields_of_prefix n bytes covers =
 covers : (offset n : ℕ) (bytes : List ℕ) → EndsWithName offset (take n bytes) → offset ≤ n
 covers offset n bytes named = omega (arith, named.before, length-take n bytes)
 
+pub size_of_named : (offset : ℕ) (bytes : List ℕ) (end : ℕ) → 8 ≤ offset → EndsWithName offset (take end bytes)
+    → size_in (take end bytes) ≡ size_in bytes
+size_of_named offset bytes end after named =
+    size_of_prefix end bytes (omega (arith, covers offset end bytes named, after))
+
 pub file_fields_of_named : (bytes : List ℕ) (end : ℕ) → EndsWithName file_name_offset (take end bytes)
     → file_fields (take end bytes) ≡ file_fields bytes
 file_fields_of_named bytes end named = file_fields_of_prefix end bytes (covers file_name_offset end bytes named)
