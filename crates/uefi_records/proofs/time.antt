@@ -1,2 +1,3 @@
 -- Times and their bytes.
 pub mod ReadBack
+pub mod Lanes

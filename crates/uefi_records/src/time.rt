@@ -6,11 +6,13 @@ ghost use Rattle.uefi_records.specs.time.Faults.{IsValid, range_faults, is_zone_
 
 pub use self::error::{TimeByteConversionError, TimeError};
 pub use self::params::TimeParams;
+use self::ranges::are_bytes_within;
 use crate::flags::Daylight;
 use uefi_base::little_endian::{u16_at, u32_at};
 
 mod error;
 mod params;
+mod ranges;
 
 /// The length of a time, in bytes.
 const TIME_LENGTH: usize = 16;
@@ -98,6 +100,7 @@ pub struct Time {
 impl Time {
     ghost use Rattle.uefi_records.specs.time.Views.{time_of, fields_of};
     ghost use Rattle.uefi_records.specs.flags.Views.{daylight_bits};
+    ghost use Rattle.uefi_records.specs.private.time.Within.{are_numbers_within};
 
     /// Makes the time with these fields, and zeros in its padding. A zone of `None` is stored as
     /// 0x07ff, so the zone 2047 reads back as `None`.
@@ -165,6 +168,15 @@ impl Time {
         } else {
             Err(faults)
         }
+    }
+
+    /// Returns whether year, nanosecond and zone are within their ranges.
+    fn are_numbers_within(&self) -> bool
+        ensures { result ≡ are_numbers_within (time_of self.now) }
+    {
+        !(self.year < FIRST_YEAR || self.year > LAST_YEAR)
+            && !(self.nanosecond > LAST_NANOSECOND)
+            && !is_zone_outside(self.zone)
     }
 
     /// Returns the fields outside their ranges. Daylight is never at fault here.
@@ -351,10 +363,11 @@ impl TryFrom<&[u8]> for Time {
                 ..TimeError::default()
             }));
         }
-        match time.is_valid() {
-            Ok(()) => Ok(time.without_pads()),
-            Err(faults) => Err(TimeByteConversionError::InvalidFields(faults)),
+        if time.are_numbers_within() && are_bytes_within(bytes) {
+            return Ok(time.without_pads());
         }
+        let faults = time.range_faults();
+        Err(TimeByteConversionError::InvalidFields(faults))
     }
 }
 
