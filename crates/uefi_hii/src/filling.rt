@@ -39,7 +39,6 @@ pub(crate) fn hex_bytes<A: Allocator>(alloc: A, text: &str) -> Result<Vec<u8, A>
 }
 
 /// Fills the buffer block by block, and what is left of it byte by byte.
-#[tactic(auto, using(crate::proofs::HexEnds::two_a_byte))]
 fn fill(text: &[u8], out: &mut [u8])
     requires { length out.old ≡ length (hex text.now) }
     ensures { out.new ≡ hex text.now }

@@ -1,4 +1,5 @@
-use Rattle.std.proofs.Common.{◌≡◌, false, true, not, sym, ◌∙◌, ap}
+use Rattle.std.proofs.lemmas.Grind.{pieces, common_steps}
+use Rattle.std.proofs.Common.{◌≡◌, false, true, not, sym, ◌∙◌, ap, arith}
 use Rattle.uefi_hii.specs.Views.{configuration_of, peeked_pairs}
 use Rattle.uefi_hii.proofs.Elements.{after_element, after_header, configuration_push, element_fails, ends, goes_on}
 use Rattle.uefi_hii.proofs.Elements.{pushed, residual_fails}
@@ -45,3 +46,9 @@ loop-configuration-preserved g c =
     c.loop-configuration.invariant c.in_ok-element.ensures
     (configuration_push c.loop-configuration.configuration c.push.new.self.items c.in_ok-element.element push))
     (c.is_at.ensures.0 c.if-not-is_at.false)
+
+pub returns-then-is_err : goal.returns-then-is_err
+returns-then-is_err g c = search (pieces, arith)
+
+pub loop-configuration-smaller : goal.loop-configuration-smaller
+loop-configuration-smaller g c = grind (arith, common_steps)

@@ -1,4 +1,5 @@
-use Rattle.std.proofs.Common.{◌∷◌, sym, ◌∙◌, ap, subst}
+use Rattle.std.proofs.lemmas.Grind.{common_steps}
+use Rattle.std.proofs.Common.{◌∷◌, sym, ◌∙◌, ap, subst, arith}
 use Rattle.std.specs.Prelude.{string_bytes, Some, None, option_map, if◌then◌else◌}
 use Rattle.std.proofs.lemmas.List.{nil_from_length}
 use Rattle.uefi_hii.specs.Hex.{hex}
@@ -38,3 +39,6 @@ returns g c =
     let so_far = string_bytes c.loop-high.name in
     sym (named_all v so_far (equals _ 0 c.if-text-ne0.false)
     (subst (λ s. HasNamed (hex v) s so_far) (nil_from_length _ c.in_default.ensures.steps.0) c.loop-high.invariant))
+
+pub loop-high-preserved : goal.loop-high-preserved
+loop-high-preserved g c = grind (arith, common_steps)
