@@ -1,0 +1,4 @@
+pub mod Banks
+pub mod Registers
+pub mod Replay
+pub mod private

@@ -1,0 +1,61 @@
+use clap::{Arg, ArgAction, ArgMatches, Command, Error};
+use std::alloc::Global;
+
+/// The banks that `--bank` takes.
+const BANKS: [&str; 4] = ["sha1", "sha256", "sha384", "sha512"];
+
+/// Returns what `clap` makes of the words, of which the first is the program's name.
+///
+/// # Errors
+///
+/// What `clap` says of other words, the help or the version that they ask for, or
+/// [`OutOfMemory`](clap::error::ErrorKind::OutOfMemory) if an allocation fails.
+pub fn matches_of<'a>(alloc: Global, words: &'a [String]) -> Result<ArgMatches<'a>, Error> {
+    let command = Command::new(alloc, "uefi_audit")
+        .version("0.1.0")
+        .about(
+            "Audits event logs of measured boot: what a TPM's registers must be, from the log's bytes",
+        )
+        .subcommand_required(true)
+        .arg_required_else_help(true)
+        .subcommand(replay(alloc)?)?;
+    command.try_get_matches_from(words)
+}
+
+fn replay<'a>(alloc: Global) -> Result<Command<'a>, Error> {
+    let bank = Arg::new(alloc, "bank")
+        .long("bank")
+        .value_name("BANK")
+        .value_parser(BANKS.as_slice())
+        .help("Replays this bank alone");
+    let command = Command::new(alloc, "replay")
+        .about("Prints the registers that the logs lead to, as tpm2_pcrread prints them")
+        .arg(logs(alloc))?
+        .arg(bank)?;
+    reading(alloc, command)
+}
+
+/// Returns the argument for logs, of which there may be many.
+fn logs<'a>(alloc: Global) -> Arg<'a> {
+    Arg::new(alloc, "logs")
+        .value_name("LOG")
+        .required(true)
+        .num_args(1..)
+        .action(ArgAction::Append)
+        .help("Files with event logs")
+}
+
+/// Adds the arguments that say how logs are read.
+fn reading<'a>(alloc: Global, command: Command<'a>) -> Result<Command<'a>, Error> {
+    let last_entry = Arg::new(alloc, "last-entry")
+        .long("last-entry")
+        .value_name("N|none")
+        .help(
+            "The offset at which the last event starts, none if the log is empty [default: the file's length]",
+        );
+    let allow_left_over = Arg::new(alloc, "allow-left-over")
+        .long("allow-left-over")
+        .action(ArgAction::SetTrue)
+        .help("Accepts logs with bytes after their last event");
+    Ok(command.arg(last_entry)?.arg(allow_left_over)?)
+}
