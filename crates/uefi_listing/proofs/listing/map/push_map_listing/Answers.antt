@@ -1,4 +1,5 @@
-use Rattle.std.proofs.Common.{◌∙◌, length, refl}
+use Rattle.std.proofs.Common.{◌∙◌, length, refl, rules}
+use Rattle.std.specs.Prelude.{codes}
 use Rattle.uefi_map.specs.memory.Map.{entries_of}
 use Rattle.uefi_lines.specs.Map.{map_lines}
 use Rattle.uefi_listing.specs.Listing.Map.{file_meta}
@@ -23,3 +24,7 @@ returns-in_ok-push_map-in-Ok g c =
       ),
       rw (same, sizes) at grown.2,
     )
+
+pub returns-in_ok-writeln-in-Err : goal.returns-in_ok-writeln-in-Err
+returns-in_ok-writeln-in-Err g c =
+    (codes "refused InvalidSize\n", (search rules, refl), c.in_ok-writeln-in-Err.ensures.bytes)
