@@ -110,7 +110,6 @@ fn nonzero_run(bytes: &[u8], offset: usize) -> usize
 }
 
 /// Returns the index of the first zero among the units from `start` on, one unit at a time.
-#[tactic(auto, using(crate::proofs::file::FirstZero::whole_units, uefi_base::proofs::UnitsOfBytes::half_as_many_units))]
 fn first_zero_from(bytes: &[u8], start: usize) -> Option<usize>
     requires { unit_length * start ≤ length bytes.now }
     ensures first { result ≡ position_from (λ unit. unit == 0) start

@@ -1,5 +1,5 @@
-use Rattle.std.proofs.lemmas.Grind.{pieces, common_steps}
 use Rattle.std.proofs.Common.{◌≡◌, false, true, not, sym, ◌∙◌, ap, arith}
+use Rattle.std.proofs.lemmas.Grind.{pieces, common_steps}
 use Rattle.uefi_hii.specs.Views.{configuration_of, peeked_pairs}
 use Rattle.uefi_hii.proofs.Elements.{after_element, after_header, configuration_push, element_fails, ends, goes_on}
 use Rattle.uefi_hii.proofs.Elements.{pushed, residual_fails}

@@ -1,4 +1,5 @@
 use Rattle.std.proofs.Common.{arith}
+use Rattle.std.proofs.lemmas.Grind.{common_steps}
 use Rattle.uefi_records.specs.file.FileInfo.{file_name_offset}
 use Rattle.uefi_records.proofs.file.Prefixes.{size_of_named, file_fields_of_named}
 use Rattle.uefi_records.proofs.file.file_info.FileInfo.from_uefi.Goals as goal
@@ -12,3 +13,6 @@ returns-clause-size c =
 
 pub returns-clause-fields : goal.returns-clause-fields
 returns-clause-fields c = file_fields_of_named c.args.buffer.now c.in_ok-end.end c.in_ok-end.ensures.1
+
+pub invariant_of-result : goal.invariant_of-result
+invariant_of-result c = grind (arith, common_steps)
