@@ -2,4 +2,5 @@
 
 mod cuts;
 mod logs;
+mod steps;
 mod writers;

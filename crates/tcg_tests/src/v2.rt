@@ -4,4 +4,6 @@ mod cuts;
 mod headers;
 mod logs;
 mod starts;
+mod steps;
+mod tables;
 mod writers;
