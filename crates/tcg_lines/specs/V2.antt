@@ -5,12 +5,11 @@ use Rattle.std.specs.Int.{w16, w32, to_be_bytes}
 use Rattle.std.specs.declared.string.String.{String}
 use Rattle.uefi_tcg.specs.LogInput.{LogInput}
 use Rattle.uefi_tcg.specs.v2.Event.{Digest, Event}
-use Rattle.uefi_tcg.specs.v2.Header as header
-use Rattle.uefi_tcg.specs.v2.Header.{Header}
+use Rattle.uefi_tcg.specs.declared.v2.start.Start.{Start as StartNamed}
+use Rattle.uefi_tcg.specs.v2.Header.{Header, Start}
 use Rattle.uefi_tcg.specs.v2.Log.{HasHeaderOf, IsLogOf}
+use Rattle.uefi_tcg.specs.v2.Views.{start_named}
 use Rattle.hex_display.specs.Text.{gap_before, hex_of, AppendsText}
-use Rattle.tcg_lines.specs.declared.v2.Start.{Start}
-use Rattle.tcg_lines.specs.declared.v2.Start.TheVariants.{AfterHeader, AfterEvent}
 
 -- The platform class, the version of the specification and the size of a `UINTN`, in decimal.
 unfoldable pub fields_line : Header → List ℕ
@@ -57,10 +56,9 @@ event_lines event = event_line event ++ flat_map digest_line event.digests
 abbrev pub log_lines : List Event → List ℕ
 log_lines events = flat_map event_lines events ++ codes "events " ++ decimal (length events) ++ codes "\n"
 
--- The start that the value names.
-abbrev pub start_of : Start → header.Start
-start_of AfterHeader = header.after_header
-start_of AfterEvent = header.after_event
+-- The start that a value names.
+abbrev pub start_of : StartNamed → Start
+start_of start = start_named start
 
 -- The header of the log of bytes with a last entry, if it has one.
 abbrev pub IsHeaderOf : Option (List ℕ) → Option ℕ → Option Header → Type 0
@@ -68,7 +66,7 @@ IsHeaderOf bytes last_entry (Some header) = HasHeaderOf bytes last_entry header
 IsHeaderOf bytes last_entry None = (header : Header) → HasHeaderOf bytes last_entry header → ⊥
 
 -- The text grows by the lines of the log's header, if it has one, and of its events, which begin at the start.
-abbrev pub AppendsLogLines : {A : Type 0} → header.Start → String A → String A → LogInput → Type 0
+abbrev pub AppendsLogLines : {A : Type 0} → Start → String A → String A → LogInput → Type 0
 AppendsLogLines start old new log =
     (header : Option Header) × (events : List Event) × IsHeaderOf log.bytes log.last_entry header × IsLogOf start log.bytes log.last_entry events
     × AppendsText old new (log_header_lines header ++ log_lines events)
