@@ -4,7 +4,11 @@ use Rattle.serde_json.specs.Data.{Data, string}
 use Rattle.serde_json.specs.View.{items_of}
 use Rattle.serde_json.specs.Written.{has_float, items_have_float}
 use Rattle.uefi_tcg.specs.v2.Event.{Digest, Event}
+use Rattle.uefi_path.specs.Node.{Node}
+use Rattle.uefi_path.specs.Path.{all_but_last}
 use Rattle.registers.specs.Entries.{Entry}
+use Rattle.audit_events.specs.Content.{Content, unread, text, separator, locality, variable, image}
+use Rattle.audit_events.specs.ContentJson.{content_json, image_json, node_json, path_json, variable_json}
 use Rattle.audit_events.specs.Json.{algorithm_json, digest_json, event_json, hashed_banks, hashed_bank, name_or_number, named_number, type_json}
 use Rattle.audit_events.specs.Names.{algorithm_name, bank_name, type_name}
 use Rattle.registers.specs.Measured.{is_hash_of_data}
@@ -65,7 +69,28 @@ banks event =
     joined (one ++ two ++ three) four (joined (one ++ two) three (joined one two (bank event Sha1) (bank event Sha256))
     (bank event Sha384)) (bank event Sha512)
 
-pub no_float : (log : List ℕ) (index : ℕ) (entry : Entry) → has_float (event_json log index entry) ≡ false
+-- What data say has no float.
+nodes : (nodes : List Node) → items_have_float (items_of (map node_json nodes)) ≡ false
+unfolding node_json
+nodes [] = refl
+nodes (n ∷ ns) = nodes ns
+
+path : (found : Option (List Node)) → has_float (path_json found) ≡ false
+unfolding path_json
+path (Some found) = nodes (all_but_last found)
+path None = refl
+
+contents : (content : Content) → has_float (content_json content) ≡ false
+unfolding content_json variable_json image_json
+contents unread = refl
+contents (text bytes) = refl
+contents (separator n) = refl
+contents (locality n) = refl
+contents (variable read) = refl
+contents (image read found) = rw (path found) refl
+
+pub no_float : (log : List ℕ) (index : ℕ) (entry : Entry) (content : Content)
+    → has_float (event_json log index entry content) ≡ false
 unfolding event_json
-no_float log index entry =
-    rw (digests entry.event.digests) (rw (banks entry.event) (rw (event_type entry.event.event_type) refl))
+no_float log index entry content =
+    rw (contents content) (rw (digests entry.event.digests) (rw (banks entry.event) (rw (event_type entry.event.event_type) refl)))

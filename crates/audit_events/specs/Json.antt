@@ -1,13 +1,16 @@
 -- An event as JSON. The keys of an object come in order.
-use Rattle.std.specs.Prelude.{ℕ, List, [], ◌∷◌, ◌++◌, map, Option, Some, None, codes, if◌then◌else◌}
+use Rattle.std.specs.Prelude.{ℕ, ◌≡◌, List, [], ◌∷◌, ◌++◌, map, Option, Some, None, codes, if◌then◌else◌}
 use Rattle.hex.specs.Hex.{encode_lower}
 use Rattle.serde_json.specs.Data.{Data, number, unsigned, string, array, object, member, no_members}
 use Rattle.serde_json.specs.View.{items_of}
+use Rattle.serde_json.specs.Written.{compact_text}
 use Rattle.uefi_tcg.specs.v2.Event.{Digest, Event}
 use Rattle.registers.specs.declared.bank.Bank.{Bank}
 use Rattle.registers.specs.declared.bank.Bank.TheVariants.{Sha1, Sha256, Sha384, Sha512}
 use Rattle.registers.specs.Entries.{Entry}
 use Rattle.registers.specs.Measured.{is_hash_of_data}
+use Rattle.audit_events.specs.Content.{Content, Says, form_of}
+use Rattle.audit_events.specs.ContentJson.{content_json}
 use Rattle.audit_events.specs.Names.{algorithm_name, bank_name, type_name}
 
 -- The name, or the number of what has none.
@@ -38,14 +41,20 @@ hashed_bank event bank = if is_hash_of_data bank event then string (bank_name ba
 unfoldable pub hashed_banks : Event → List Data
 hashed_banks event = hashed_bank event Sha1 ++ hashed_bank event Sha256 ++ hashed_bank event Sha384 ++ hashed_bank event Sha512
 
--- An event of a log of this name, at this index: its data in hex, its digests in order, the banks of which the digest is the hash of the data, its offset, its register and its type.
-unfoldable pub event_json : List ℕ → ℕ → Entry → Data
-event_json log index entry =
-    object (member (codes "data") (string (encode_lower entry.event.event_data))
+-- An event of a log of this name, at this index: what its data say, the data in hex, its digests in order, the banks of which the digest is the hash of the data, its offset, its register and its type.
+unfoldable pub event_json : List ℕ → ℕ → Entry → Content → Data
+event_json log index entry content =
+    object (member (codes "content") (content_json content)
+    (member (codes "data") (string (encode_lower entry.event.event_data))
     (member (codes "digests") (array (items_of (map digest_json entry.event.digests)))
     (member (codes "hashes_to") (array (items_of (hashed_banks entry.event)))
     (member (codes "index") (number (unsigned index))
     (member (codes "log") (string log)
     (member (codes "offset") (number (unsigned entry.offset))
     (member (codes "register") (number (unsigned entry.event.pcr_index))
-    (member (codes "type") (type_json entry.event.event_type) no_members))))))))
+    (member (codes "type") (type_json entry.event.event_type) no_members)))))))))
+
+-- The text of an event, with what its data say by its type.
+abbrev pub IsEventLine : List ℕ → ℕ → Entry → List ℕ → Type 0
+IsEventLine log index entry line = (content : Content) × Says (form_of entry.event.event_type) entry.event.event_data content
+    × (line ≡ compact_text (event_json log index entry content))

@@ -1,2 +1,7 @@
 pub mod Names
+pub mod Variable
+pub mod Image
+pub mod Content
+pub mod ContentJson
 pub mod Json
+pub mod Views

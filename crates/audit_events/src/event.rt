@@ -2,10 +2,12 @@ ghost use Rattle.std.specs.Prelude.{◌≡◌, IfOk, string_bytes};
 ghost use Rattle.hex.specs.Hex.{encode_lower};
 ghost use Rattle.serde_json.specs.Data.{string};
 ghost use Rattle.serde_json.specs.View.{view};
-ghost use Rattle.serde_json.specs.Written.{compact_text};
 ghost use Rattle.registers.specs.Views.{entry_of};
-ghost use Rattle.audit_events.specs.Json.{event_json, type_json};
+ghost use Rattle.audit_events.specs.Json.{IsEventLine, event_json, type_json};
+ghost use Rattle.audit_events.specs.Views.{content_of};
 
+use crate::content::{Content, read_content};
+use crate::content_json::content_json;
 use crate::digests::{digests_json, hashed_banks};
 use crate::names::type_name;
 use registers::LogEntry;
@@ -18,6 +20,7 @@ use uefi_tcg::EventType;
 ///
 /// | key | value |
 /// |---|---|
+/// | `content` | what the data say, as below; `null` where they aren't read |
 /// | `data` | the data in hex |
 /// | `digests` | for each digest, in order, an object with `algorithm` and `digest` |
 /// | `hashes_to` | the names of the banks whose digest is the hash of the data |
@@ -29,6 +32,19 @@ use uefi_tcg::EventType;
 /// An algorithm is its name, or the number of one without a name; a digest is in hex. A bank is in
 /// `hashes_to` if the event has one digest of it, of its length, and that is the hash.
 ///
+/// | type of the event | `content` |
+/// |---|---|
+/// | `EV_NO_ACTION` | `locality`, if the data are `StartupLocality`, a zero byte and it |
+/// | `EV_SEPARATOR` | `separator`, the number that four bytes of data are |
+/// | `EV_ACTION`, `EV_EFI_ACTION`, `EV_OMIT_BOOT_DEVICE_EVENTS`, `EV_EFI_HCRTM_EVENT` | `text` |
+/// | `EV_EFI_VARIABLE_DRIVER_CONFIG`, `_BOOT`, `_BOOT2`, `_AUTHORITY` | `variable` |
+/// | `EV_EFI_BOOT_SERVICES_APPLICATION`, `_DRIVER`, `EV_EFI_RUNTIME_SERVICES_DRIVER` | `image` |
+///
+/// A text is in characters of ASCII that print. A variable has `guid`, `name` and `data`; in its
+/// name U+FFFD stands for a surrogate. An image has `address`, `length`, `link_address` and `path`,
+/// the nodes of its device path but the one that ends it, each with `type`, `subtype` and `data`;
+/// the path is `null` if its bytes are none.
+///
 /// # Errors
 ///
 /// [`AllocError`] if an allocation fails.
@@ -38,26 +54,30 @@ pub fn event_line(
     index: usize,
     entry: &LogEntry<'_>,
 ) -> Result<String, AllocError>
-    ensures { IfOk result (λ text. string_bytes text
-        ≡ compact_text (event_json log.now index (entry_of entry.now))) }
+    ensures { IfOk result
+        (λ line. IsEventLine log.now index (entry_of entry.now) (string_bytes line)) }
 {
-    let value = event_json(alloc, log, index, entry)?;
+    let content = read_content(&entry.event);
+    let value = event_json(alloc, log, index, entry, &content)?;
     value.to_string(alloc)
 }
 
-/// Returns an event as JSON.
+/// Returns an event as JSON, with what its data say.
 #[tactic(auto, unfolding(crate::specs::Json::event_json))]
 pub(crate) fn event_json(
     alloc: Global,
     log: &str,
     index: usize,
     entry: &LogEntry<'_>,
+    content: &Content<'_>,
 ) -> Result<Value, AllocError>
-    ensures { IfOk result
-        (λ value. view value ≡ event_json log.now index (entry_of entry.now)) }
+    ensures { IfOk result (λ value. view value
+        ≡ event_json log.now index (entry_of entry.now) (content_of content.now)) }
 {
     let event = &entry.event;
     let mut members = Map::new(alloc);
+    let content = content_json(alloc, content)?;
+    put(&mut members, alloc, "content", content)?;
     let data = hex_json(alloc, event.event_data())?;
     put(&mut members, alloc, "data", data)?;
     let digests = Value::Array(digests_json(alloc, event)?);

@@ -8,8 +8,16 @@
 //! `specs/Json.antt`, with each object's keys in order. A failed allocation is the only error.
 #![tactic(auto)]
 
+pub use self::content::{Content, read_content};
 pub use self::event::event_line;
+pub use self::image::Image;
+pub use self::variable::Variable;
 
+mod content;
+mod content_json;
 mod digests;
 mod event;
+mod form;
+mod image;
 mod names;
+mod variable;
