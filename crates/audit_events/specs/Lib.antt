@@ -4,4 +4,5 @@ pub mod Image
 pub mod Content
 pub mod ContentJson
 pub mod Json
+pub mod Laws
 pub mod Views

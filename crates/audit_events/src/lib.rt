@@ -19,5 +19,6 @@ mod digests;
 mod event;
 mod form;
 mod image;
+pub mod laws;
 mod names;
 mod variable;
