@@ -12,12 +12,11 @@ use uefi_tcg::laws::{bound_v2, cut_v2, local_v2, one_log_v2, same_where_nothing_
 use uefi_tcg::v2::{EventLog, PcrEvent};
 use uefi_tcg::{AlgorithmId, PcrIndex};
 
+/// The events of a log, or that an allocation failed.
+type Events<'a> = Result<Vec<PcrEvent<'a>>, AllocError>;
+
 /// Collects the events of a log of version 2: they are the log under its own header's table.
-pub fn collected_events<'a>(
-    alloc: Global,
-    bytes: &'a [u8],
-    last_entry: usize,
-) -> Result<Vec<PcrEvent<'a>>, AllocError>
+pub fn collected_events<'a>(alloc: Global, bytes: &'a [u8], last_entry: usize) -> Events<'a>
     ensures { IfOk result
         (λ events. IsLogOf after_header (Some bytes.now) (Some last_entry)
         (map event_of events.items)) }
@@ -32,7 +31,7 @@ pub fn events_after_header_event<'a>(
     alloc: Global,
     bytes: &'a [u8],
     last_entry: usize,
-) -> Result<Vec<PcrEvent<'a>>, AllocError>
+) -> Events<'a>
     ensures { IfOk result
         (λ events. IsLogOf after_event (Some bytes.now) (Some last_entry)
         (map event_of events.items)) }
@@ -71,11 +70,7 @@ pub fn count_after_header_event(bytes: &[u8], last_entry: usize) -> usize
 
 /// Returns the events of a log of version 2: every list of events under the header's table that
 /// keeps to the last entry is a prefix of them.
-pub fn every_event<'a>(
-    alloc: Global,
-    bytes: &'a [u8],
-    last_entry: usize,
-) -> Result<Vec<PcrEvent<'a>>, AllocError>
+pub fn every_event<'a>(alloc: Global, bytes: &'a [u8], last_entry: usize) -> Events<'a>
     ensures { IfOk result (λ events. (header : Header) (others : List Event)
         → HasHeader bytes.now last_entry header
         → EventsKeep header.table others (events_start header) last_entry bytes.now
@@ -87,11 +82,7 @@ pub fn every_event<'a>(
 
 /// Returns the events of a log of version 2 that may have grown: they begin with those of each
 /// earlier log, the same up to its last entry, that ended at that entry or before it.
-pub fn events_so_far<'a>(
-    alloc: Global,
-    bytes: &'a [u8],
-    last_entry: usize,
-) -> Result<Vec<PcrEvent<'a>>, AllocError>
+pub fn events_so_far<'a>(alloc: Global, bytes: &'a [u8], last_entry: usize) -> Events<'a>
     ensures { IfOk result (λ events. (earlier : Logged after_header) (ended : List Event)
         → SameUpTo earlier.last_entry earlier.bytes bytes.now → earlier.last_entry ≤ last_entry
         → HaveEnded after_header ended earlier → IsPrefix ended (map event_of events.items)) }
@@ -103,11 +94,7 @@ pub fn events_so_far<'a>(
 /// Reads a log of version 2 again whose last event started at the last entry, from bytes that are
 /// the same up to that event's end: it has the same events for that last entry, and begins with
 /// them for every last entry from that end on.
-pub fn events_again<'a>(
-    alloc: Global,
-    bytes: &'a [u8],
-    last_entry: usize,
-) -> Result<Vec<PcrEvent<'a>>, AllocError>
+pub fn events_again<'a>(alloc: Global, bytes: &'a [u8], last_entry: usize) -> Events<'a>
     ensures same { IfOk result (λ events. (earlier : Logged after_header) (end : ℕ)
         → LastEndsAt after_header end earlier → SameUpTo end earlier.bytes bytes.now
         → earlier.last_entry ≡ last_entry → map event_of events.items ≡ earlier.events) }
@@ -125,7 +112,7 @@ pub fn events_again_after_header_event<'a>(
     alloc: Global,
     bytes: &'a [u8],
     last_entry: usize,
-) -> Result<Vec<PcrEvent<'a>>, AllocError>
+) -> Events<'a>
     ensures same { IfOk result (λ events. (earlier : Logged after_event) (end : ℕ)
         → LastEndsAt after_event end earlier → SameUpTo end earlier.bytes bytes.now
         → earlier.last_entry ≡ last_entry → map event_of events.items ≡ earlier.events) }
@@ -147,7 +134,7 @@ pub fn events_of_part<'a>(
     bytes: &'a [u8],
     count: usize,
     last_entry: usize,
-) -> Result<Vec<PcrEvent<'a>>, AllocError>
+) -> Events<'a>
     requires { count ≤ length bytes.now }
     ensures of_part { IfOk result
         (λ events. IsLogOf after_header (Some (take count bytes.now)) (Some last_entry)
@@ -167,7 +154,7 @@ pub fn part_after_header_event<'a>(
     bytes: &'a [u8],
     count: usize,
     last_entry: usize,
-) -> Result<Vec<PcrEvent<'a>>, AllocError>
+) -> Events<'a>
     requires { count ≤ length bytes.now }
     ensures { IfOk result (λ events. (found : Option HeaderEvent) (log : List Event)
         → IsLog after_event bytes.now last_entry found log

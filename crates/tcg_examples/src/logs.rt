@@ -11,13 +11,12 @@ use uefi_tcg::laws::{bound_v1, cut_v1, local_v1, one_log_v1, written_event};
 use uefi_tcg::v1::{EventLog, PcrEvent, Sha1Digest, write_event};
 use uefi_tcg::{EventType, PcrIndex};
 
+/// The events of a log, or that an allocation failed.
+type Events<'a> = Result<Vec<PcrEvent<'a>>, AllocError>;
+
 /// Returns the events of a log, by `for`: they keep to the last entry, and no event can be added to
 /// them.
-pub fn audited_events<'a>(
-    alloc: Global,
-    bytes: &'a [u8],
-    last_entry: usize,
-) -> Result<Vec<PcrEvent<'a>>, AllocError>
+pub fn audited_events<'a>(alloc: Global, bytes: &'a [u8], last_entry: usize) -> Events<'a>
     ensures keep { IfOk result
         (λ events. EventsKeep (map event_of events.items) 0 last_entry bytes.now) }
     ensures none_missing { IfOk result (λ events. (event : Event)
@@ -32,11 +31,7 @@ pub fn audited_events<'a>(
 }
 
 /// Collects the events of a log: they are the log.
-pub fn collected_events<'a>(
-    alloc: Global,
-    bytes: &'a [u8],
-    last_entry: usize,
-) -> Result<Vec<PcrEvent<'a>>, AllocError>
+pub fn collected_events<'a>(alloc: Global, bytes: &'a [u8], last_entry: usize) -> Events<'a>
     ensures { IfOk result (λ events. IsLog bytes.now last_entry (map event_of events.items)) }
 {
     EventLog::new(Some(bytes), Some(last_entry), false)
@@ -46,11 +41,7 @@ pub fn collected_events<'a>(
 
 /// Returns the events of a log: every list of events that keeps to the last entry is a prefix of
 /// them.
-pub fn every_event<'a>(
-    alloc: Global,
-    bytes: &'a [u8],
-    last_entry: usize,
-) -> Result<Vec<PcrEvent<'a>>, AllocError>
+pub fn every_event<'a>(alloc: Global, bytes: &'a [u8], last_entry: usize) -> Events<'a>
     ensures { IfOk result (λ events. (others : List Event)
         → EventsKeep others 0 last_entry bytes.now
         → IsPrefix others (map event_of events.items)) }
@@ -61,11 +52,7 @@ pub fn every_event<'a>(
 
 /// Returns the events of a log that may have grown: they begin with those of each earlier log, the
 /// same up to its last entry, that ended at that entry or before it.
-pub fn events_so_far<'a>(
-    alloc: Global,
-    bytes: &'a [u8],
-    last_entry: usize,
-) -> Result<Vec<PcrEvent<'a>>, AllocError>
+pub fn events_so_far<'a>(alloc: Global, bytes: &'a [u8], last_entry: usize) -> Events<'a>
     ensures { IfOk result (λ events. (earlier : Logged) (ended : List Event)
         → SameUpTo earlier.last_entry earlier.bytes bytes.now → earlier.last_entry ≤ last_entry
         → IsPrefix ended earlier.events → bytes_of ended ≤ earlier.last_entry
@@ -78,11 +65,7 @@ pub fn events_so_far<'a>(
 /// Reads a log again whose last event started at the last entry, from bytes that are the same up to
 /// that event's end: it has the same events for that last entry, and begins with them for every
 /// last entry from that end on.
-pub fn events_again<'a>(
-    alloc: Global,
-    bytes: &'a [u8],
-    last_entry: usize,
-) -> Result<Vec<PcrEvent<'a>>, AllocError>
+pub fn events_again<'a>(alloc: Global, bytes: &'a [u8], last_entry: usize) -> Events<'a>
     ensures same { IfOk result (λ events. (earlier : Logged) (end : ℕ) → LastEndsAt end earlier
         → SameUpTo end earlier.bytes bytes.now → earlier.last_entry ≡ last_entry
         → map event_of events.items ≡ earlier.events) }
@@ -101,7 +84,7 @@ pub fn events_of_part<'a>(
     bytes: &'a [u8],
     count: usize,
     last_entry: usize,
-) -> Result<Vec<PcrEvent<'a>>, AllocError>
+) -> Events<'a>
     requires { count ≤ length bytes.now }
     ensures of_part { IfOk result
         (λ events. IsLog (take count bytes.now) last_entry (map event_of events.items)) }
