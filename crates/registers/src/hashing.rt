@@ -16,12 +16,13 @@ pub(crate) fn hash_joined(bank: Bank, first: &[u8], second: &[u8]) -> RegisterVa
 {
     match bank {
         Bank::Sha1 => joined_sha1(first, second),
-        Bank::Sha256 => joined_sha256(first, second),
-        Bank::Sha384 => joined_sha384(first, second),
-        Bank::Sha512 => joined_sha512(first, second),
+        Bank::Sha256 => RegisterValue::new(joined::<Sha256>(first, second).as_slice()),
+        Bank::Sha384 => RegisterValue::new(joined::<Sha384>(first, second).as_slice()),
+        Bank::Sha512 => RegisterValue::new(joined::<Sha512>(first, second).as_slice()),
     }
 }
 
+/// Returns the SHA-1 digest of two parts that follow one another.
 fn joined_sha1(first: &[u8], second: &[u8]) -> RegisterValue
     ensures { value_of result ≡ sha1 (first.now ++ second.now) }
 {
@@ -32,32 +33,12 @@ fn joined_sha1(first: &[u8], second: &[u8]) -> RegisterValue
     RegisterValue::new(digest.as_slice())
 }
 
-fn joined_sha256(first: &[u8], second: &[u8]) -> RegisterValue
-    ensures { value_of result ≡ sha256 (first.now ++ second.now) }
+/// Returns the SHA-2 digest of two parts that follow one another.
+fn joined<D: Digest>(first: &[u8], second: &[u8]) -> D::Output
+    ensures { D.digest_of (first.now ++ second.now) result }
 {
-    let mut hasher = Sha256::new();
+    let mut hasher = D::new();
     hasher.update(first);
     hasher.update(second);
-    let digest = hasher.finalize();
-    RegisterValue::new(digest.as_slice())
-}
-
-fn joined_sha384(first: &[u8], second: &[u8]) -> RegisterValue
-    ensures { value_of result ≡ sha384 (first.now ++ second.now) }
-{
-    let mut hasher = Sha384::new();
-    hasher.update(first);
-    hasher.update(second);
-    let digest = hasher.finalize();
-    RegisterValue::new(digest.as_slice())
-}
-
-fn joined_sha512(first: &[u8], second: &[u8]) -> RegisterValue
-    ensures { value_of result ≡ sha512 (first.now ++ second.now) }
-{
-    let mut hasher = Sha512::new();
-    hasher.update(first);
-    hasher.update(second);
-    let digest = hasher.finalize();
-    RegisterValue::new(digest.as_slice())
+    hasher.finalize()
 }
