@@ -1,5 +1,6 @@
 -- The bytes of images and of device paths.
-use Rattle.std.proofs.Common.{◌≡◌, ℕ, ◌+◌, ◌-◌, ◌<◌, ◌≤◌, ◌^◌, List, [], ◌++◌, length, drop, sym, ap, ◌∙◌, arith, append-nil, length-append, length-drop, refl, Some, None}
+use Rattle.std.proofs.Common.{◌≡◌, ℕ, ◌+◌, ◌-◌, ◌<◌, ◌≤◌, ◌^◌, List, [], ◌++◌, length, drop, sym, ap, ◌∙◌, arith}
+use Rattle.std.proofs.Common.{append-nil, length-append, length-drop, refl, Some, None}
 use Rattle.std.proofs.lemmas.List.{nil_from_length}
 use Rattle.uefi_base.specs.LittleEndian.{AreBytes, u64_at, u64_bytes}
 use Rattle.uefi_base.specs.Prefix.{IsPrefix}
@@ -15,7 +16,8 @@ found_image : (bytes path : List ℕ) (address size link long : ℕ) → AreByte
     → long ≡ u64_at bytes 24 → path ≡ drop 32 bytes → long ≡ length path
     → bytes ≡ image_bytes (record { address = address; size = size; link_address = link; path = path })
 unfolding image_bytes
-found_image bytes path address size link long each eight sixteen more room address_is size_is link_is long_is path_is same =
+found_image bytes path address size link long each eight sixteen more room address_is size_is link_is long_is
+    path_is same =
     let one = u64_bytes address in
     let two = u64_bytes size in
     let three = u64_bytes link in
@@ -31,12 +33,13 @@ pub whole_image : (bytes path : List ℕ) (address size link long : ℕ) → Are
     → address < 2 ^ 64 → size < 2 ^ 64 → link < 2 ^ 64 → long < 2 ^ 64 → path ≡ drop 32 bytes → long ≡ length path
     → ReadsImage bytes (Some (record { address = address; size = size; link_address = link; path = path }))
 unfolding ReadsImage
-whole_image bytes path address size link long each room address_is size_is link_is long_is fits also third fourth path_is same = (
-  record { address = fits; size = also; link_address = third; path = below (length path) long same fourth },
-  found_image bytes path address size link long each (least 8 (length bytes) (omega arith) room)
-      (least 16 (length bytes) (omega arith) room) (least 24 (length bytes) (omega arith) room) room address_is size_is
-      link_is long_is path_is same,
-)
+whole_image bytes path address size link long each room address_is size_is link_is long_is fits also third fourth
+    path_is same = (
+      record { address = fits; size = also; link_address = third; path = below (length path) long same fourth },
+      found_image bytes path address size link long each (least 8 (length bytes) (omega arith) room)
+          (least 16 (length bytes) (omega arith) room) (least 24 (length bytes) (omega arith) room) room address_is size_is
+          link_is long_is path_is same,
+    )
   where
     least : (k n : ℕ) → k ≤ 32 → 32 ≤ n → k ≤ n
     least k n few room = omega arith
@@ -52,7 +55,8 @@ image_says image is =
     let before : List ℕ = u64_bytes image.address ++ (u64_bytes image.size ++ u64_bytes image.link_address) in
     (omega arith, numbers_read_back.written.u64 before image.path (length image.path) is.path)
 
-pub no_image : (bytes : List ℕ) (long : ℕ) → long ≡ u64_at bytes 24 → (32 + long ≡ length bytes → ⊥) → ReadsImage bytes None
+pub no_image : (bytes : List ℕ) (long : ℕ) → long ≡ u64_at bytes 24 → (32 + long ≡ length bytes → ⊥)
+    → ReadsImage bytes None
 unfolding ReadsImage
 no_image bytes long long_is other image is same =
     let says = image_says image is in
@@ -88,7 +92,8 @@ pub whole_nodes : (bytes seen : List ℕ) (found : List Node) → IsPath found �
     → seen ≡ joined found → length seen ≡ length bytes → ReadsNodes bytes (Some found)
 unfolding ReadsNodes
 whole_nodes bytes seen found (path, (rest, is)) seen_is same =
-    let none : length rest ≡ 0 = left (length seen) (length (joined found)) (length bytes) (length rest) (ap length seen_is)
+    let none : length rest ≡ 0 = left (length seen) (length (joined found)) (length bytes) (length rest)
+    (ap length seen_is)
     same (ap length is ∙ length-append (joined found) rest) in
     (path, is ∙ ap (λ r. joined found ++ r) (nil_from_length rest none) ∙ append-nil (joined found))
   where

@@ -9,7 +9,8 @@ use Rattle.uefi_path.specs.Path.{all_but_last}
 use Rattle.registers.specs.Entries.{Entry}
 use Rattle.audit_events.specs.Content.{Content, unread, text, separator, locality, variable, image}
 use Rattle.audit_events.specs.ContentJson.{content_json, image_json, node_json, path_json, variable_json}
-use Rattle.audit_events.specs.Json.{algorithm_json, digest_json, event_json, hashed_banks, hashed_bank, name_or_number, named_number, type_json}
+use Rattle.audit_events.specs.Json.{algorithm_json, digest_json, event_json, hashed_banks, hashed_bank}
+use Rattle.audit_events.specs.Json.{name_or_number, named_number, type_json}
 use Rattle.audit_events.specs.Names.{algorithm_name, bank_name, type_name}
 use Rattle.registers.specs.Measured.{is_hash_of_data}
 use Rattle.registers.specs.declared.bank.Bank.{Bank}
@@ -93,4 +94,5 @@ pub no_float : (log : List ℕ) (index : ℕ) (entry : Entry) (content : Content
     → has_float (event_json log index entry content) ≡ false
 unfolding event_json
 no_float log index entry content =
-    rw (contents content) (rw (digests entry.event.digests) (rw (banks entry.event) (rw (event_type entry.event.event_type) refl)))
+    rw (contents content) (rw (digests entry.event.digests) (rw (banks entry.event) (rw
+    (event_type entry.event.event_type) refl)))

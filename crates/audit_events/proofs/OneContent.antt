@@ -1,19 +1,19 @@
 -- Data of a form say one thing.
-use Rattle.std.proofs.Common.{◌≡◌, ℕ, ◌+◌, ◌*◌, List, [], ◌∷◌, ◌++◌, length, take, drop, sym, ap, ◌∙◌, arith, append_assoc, length-append, Option, Some, None, refl, subst}
+use Rattle.std.proofs.Common.{◌≡◌, ℕ, ◌*◌, List, [], ◌++◌, length, take, drop, sym, ap, ◌∙◌, arith}
+use Rattle.std.proofs.Common.{append_assoc, length-append, Option, Some, None, refl, subst}
 use Rattle.std.proofs.lemmas.List.{drop_at, take_at}
 use Rattle.uefi_base.specs.LittleEndian.{u64_at, u64_bytes}
 use Rattle.uefi_base.specs.Unaligned.{units_of, unit_bytes}
 use Rattle.uefi_base.proofs.NumbersBack.{numbers_read_back}
 use Rattle.uefi_base.proofs.UnitsBack.{units_read_back}
 use Rattle.uefi_path.specs.Laws.{OneFront}
-use Rattle.uefi_path.specs.Node.{Node, joined}
-use Rattle.uefi_path.specs.Path.{IsPath}
+use Rattle.uefi_path.specs.Node.{Node}
 use Rattle.audit_events.specs.Content.{Content, Says, ImageContent, variable_content, image}
 use Rattle.audit_events.specs.Image.{Image, IsImage, ReadsImage, ReadsNodes, image_bytes}
 use Rattle.audit_events.specs.Laws.{OneContent}
 use Rattle.audit_events.specs.Variable.{Variable, IsVariable, ReadsVariable, variable_bytes}
-use Rattle.audit_events.specs.declared.form.Form.{Form}
-use Rattle.audit_events.specs.declared.form.Form.TheVariants.{OfLocality, OfSeparator, OfText, OfVariable, OfImage, Other}
+use Rattle.audit_events.specs.declared.form.Form.TheVariants.{OfLocality, OfSeparator, OfText, OfVariable, OfImage}
+use Rattle.audit_events.specs.declared.form.Form.TheVariants.{Other}
 use Rattle.audit_events.proofs.VariableBytes.{says_sizes}
 
 -- The variable that bytes would be.
@@ -40,7 +40,8 @@ variable_back v is =
     sym (take_at v.guid (u64_bytes (length v.name) ++ (u64_bytes (length v.payload) ++ tail)) 16 is.guid) in
     let name : v.name ≡ units_of (take (2 * length v.name) (drop 32 (variable_bytes v))) =
     sym (ap (λ r. units_of (take (2 * length v.name) r)) rest
-    ∙ ap units_of (take_at (unit_bytes v.name) v.payload (2 * length v.name) size) ∙ units_read_back.written v.name is.units) in
+    ∙ ap units_of (take_at (unit_bytes v.name) v.payload (2 * length v.name) size)
+    ∙ units_read_back.written v.name is.units) in
     let payload : v.payload ≡ drop (2 * length v.name) (drop 32 (variable_bytes v)) =
     sym (ap (drop (2 * length v.name)) rest ∙ drop_at (unit_bytes v.name) v.payload (2 * length v.name) size) in
     λ i. record { guid = guid i; name = name i; payload = payload i }
@@ -85,7 +86,8 @@ image_back v is =
     sym (numbers_read_back.written.u64 (one ++ two) (four ++ v.path) v.link_address is.link_address) in
     λ i. record { address = address i; size = size i; link_address = link i; path = v.path }
 
-one_image : (bytes : List ℕ) (found other : Option Image) → ReadsImage bytes found → ReadsImage bytes other → found ≡ other
+one_image : (bytes : List ℕ) (found other : Option Image) → ReadsImage bytes found → ReadsImage bytes other
+    → found ≡ other
 unfolding ReadsImage
 one_image bytes (Some v) (Some w) (is, same) (also, other) =
     ap Some (image_back v is ∙ ap image_in (sym same ∙ other) ∙ sym (image_back w also))
@@ -93,7 +95,8 @@ one_image bytes (Some v) None (is, same) none = absurd (none v is same)
 one_image bytes None (Some w) none (also, other) = absurd (none w also other)
 one_image bytes None None none other = refl
 
-one_path : OneFront → (bytes : List ℕ) (found other : Option (List Node)) → ReadsNodes bytes found → ReadsNodes bytes other
+one_path : OneFront → (bytes : List ℕ) (found other : Option (List Node)) → ReadsNodes bytes found
+    → ReadsNodes bytes other
     → found ≡ other
 unfolding ReadsNodes
 one_path law bytes (Some v) (Some w) (is, same) (also, other) =
@@ -107,7 +110,8 @@ one_loaded : OneFront → (found other : Option Image) (a b : Content) → found
 unfolding ImageContent
 one_loaded law (Some v) (Some w) a b same (nodes, read, is) (also, other, that) =
     let image_same : v ≡ w = cc in
-    let path_same : nodes ≡ also = one_path law w.path nodes also (subst (λ x. ReadsNodes x.path nodes) image_same read) other in
+    let path_same : nodes ≡ also = one_path law w.path nodes also (subst
+    (λ x. ReadsNodes x.path nodes) image_same read) other in
     is ∙ ap (λ x. image x nodes) image_same ∙ ap (image w) path_same ∙ sym that
 one_loaded law (Some v) None a b same says other = cc
 one_loaded law None (Some w) a b same says other = cc

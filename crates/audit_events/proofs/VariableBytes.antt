@@ -1,5 +1,7 @@
 -- The bytes of variables and of images.
-use Rattle.std.proofs.Common.{◌≡◌, ℕ, ◌+◌, ◌-◌, ◌*◌, ◌/◌, ◌%◌, ◌<◌, ◌≤◌, ◌^◌, List, ◌++◌, length, get_or, take, drop, sym, ap, ◌∙◌, arith, append_assoc, take-append-drop, length-append, length-drop, refl, subst, zero, suc, [], ◌∷◌, lit<, Some, None}
+use Rattle.std.proofs.Common.{◌≡◌, ℕ, ◌+◌, ◌-◌, ◌*◌, ◌/◌, ◌%◌, ◌<◌, ◌≤◌, ◌^◌, List, ◌++◌, length, get_or, take, drop}
+use Rattle.std.proofs.Common.{sym, ap, ◌∙◌, arith, append_assoc, take-append-drop, length-append, length-drop, refl}
+use Rattle.std.proofs.Common.{subst, zero, suc, [], ◌∷◌, lit<, Some, None}
 use Rattle.std.specs.Prelude.{slice_range}
 use Rattle.std.proofs.lemmas.Grind.{common_steps}
 use Rattle.std.proofs.lemmas.List.{drop-drop, length-take-le}
@@ -13,7 +15,8 @@ use Rattle.audit_events.specs.Variable.{Variable, IsVariable, ReadsVariable, var
 -- A range and what follows it.
 cut_range : (bytes : List ℕ) (from to : ℕ) → from ≤ to → slice_range bytes from to ++ drop to bytes ≡ drop from bytes
 cut_range bytes from to ordered =
-    ap (λ m. take (to - from) (drop from bytes) ++ m) (ap (λ m. drop m bytes) (omega arith) ∙ sym (drop-drop (to - from) from bytes))
+    ap (λ m. take (to - from) (drop from bytes) ++ m) (ap (λ m. drop m bytes) (omega arith) ∙ sym (drop-drop
+    (to - from) from bytes))
     ∙ take-append-drop (to - from) (drop from bytes)
 
 -- A number of eight bytes and what follows it.
@@ -22,7 +25,8 @@ pub cut_number : (bytes : List ℕ) (from to number : ℕ) → AreBytes bytes �
 cut_number bytes from to number each next within is =
     let inside : from + 8 ≤ length bytes = within_next from to (length bytes) next within in
     let ordered : from ≤ to = before_next from to next in
-    ap (λ n. u64_bytes n ++ drop to bytes) is ∙ ap (λ part. part ++ drop to bytes) (numbers_read_back.read.u64 bytes from each inside
+    ap (λ n. u64_bytes n ++ drop to bytes) is ∙ ap (λ part. part ++ drop to bytes)
+    (numbers_read_back.read.u64 bytes from each inside
     ∙ ap (λ m. slice_range bytes from m) next) ∙ cut_range bytes from to ordered
   where
     within_next : (from to n : ℕ) → from + 8 ≡ to → to ≤ n → from + 8 ≤ n
@@ -66,8 +70,10 @@ found bytes units size each room less units_are size_is guid name payload guid_i
     let parts : name ++ payload ≡ drop 32 bytes =
     ap (λ n. n ++ payload) name_is ∙ ap (λ p. take (2 * units) (drop 32 bytes) ++ p) payload_is
     ∙ take-append-drop (2 * units) (drop 32 bytes) in
-    sym (ap (λ g. g ++ (u64_bytes (length (units_of name)) ++ (u64_bytes (length payload) ++ (unit_bytes (units_of name) ++ payload)))) guid_is
-    ∙ ap (λ n. take 16 bytes ++ (u64_bytes n ++ (u64_bytes (length payload) ++ (unit_bytes (units_of name) ++ payload)))) count
+    sym (ap (λ g. g ++ (u64_bytes (length (units_of name)) ++ (u64_bytes (length payload) ++ (unit_bytes
+    (units_of name) ++ payload)))) guid_is
+    ∙ ap (λ n. take 16 bytes ++ (u64_bytes n ++ (u64_bytes (length payload) ++ (unit_bytes
+    (units_of name) ++ payload)))) count
     ∙ ap (λ n. take 16 bytes ++ (u64_bytes units ++ (u64_bytes n ++ (unit_bytes (units_of name) ++ payload)))) long
     ∙ ap (λ n. take 16 bytes ++ (u64_bytes units ++ (u64_bytes size ++ (n ++ payload)))) back
     ∙ ap (λ n. take 16 bytes ++ (u64_bytes units ++ (u64_bytes size ++ n))) parts
@@ -89,7 +95,8 @@ says_sizes v is =
     let front : List ℕ = v.guid ++ u64_bytes (length v.name) in
     let front_size : length front ≡ 24 = length-append v.guid (u64_bytes (length v.name)) ∙ omega (arith, is.guid) in
     let cut : variable_bytes v ≡ front ++ u64_bytes (length v.payload) ++ tail =
-    sym (append_assoc front (u64_bytes (length v.payload)) tail ∙ append_assoc v.guid (u64_bytes (length v.name)) after) in
+    sym (append_assoc front (u64_bytes (length v.payload)) tail ∙ append_assoc v.guid (u64_bytes
+    (length v.name)) after) in
     record {
       whole = length-append v.guid (u64_bytes (length v.name) ++ after)
           ∙ omega (arith, is.guid, length-append (unit_bytes v.name) v.payload, units_read_back.sized v.name);
@@ -114,7 +121,8 @@ not_whole bytes units size units_are size_is other v is same =
 
 -- Bytes that are too short, whose name is too long, or whose data have another length.
 pub short : (bytes : List ℕ) → length bytes < 32 → ReadsVariable bytes None
-short bytes few = not_whole bytes (u64_at bytes 16) (u64_at bytes 24) refl refl (too_short (length bytes) (2 * u64_at bytes 16 + u64_at bytes 24) few)
+short bytes few = not_whole bytes (u64_at bytes 16) (u64_at bytes 24) refl refl (too_short (length bytes)
+    (2 * u64_at bytes 16 + u64_at bytes 24) few)
   where
     too_short : (n x : ℕ) → n < 32 → 32 + x ≡ n → ⊥
     too_short n x few whole = omega arith
@@ -142,16 +150,20 @@ pub whole_variable : (bytes rest : List ℕ) (units size : ℕ) → AreBytes byt
     → name ≡ take (2 * units) rest → names ≡ units_of name → payload ≡ drop (2 * units) rest → length payload ≡ size
     → ReadsVariable bytes (Some (record { guid = guid; name = names; payload = payload }))
 unfolding ReadsVariable
-whole_variable bytes rest units size each room units_are size_is units_fit size_fits rest_is few guid name names payload guid_is name_is names_are payload_is long =
+whole_variable bytes rest units size each room units_are size_is units_fit size_fits rest_is few guid name names
+    payload guid_is name_is names_are payload_is long =
     let whole : 32 + (2 * units + size) ≡ length bytes =
-    whole_size bytes rest payload units size room few (ap length rest_is ∙ length-drop 32 bytes) (ap length payload_is ∙ length-drop (2 * units) rest) long in
+    whole_size bytes rest payload units size room few (ap length rest_is ∙ length-drop 32 bytes)
+    (ap length payload_is ∙ length-drop (2 * units) rest) long in
     let name_all : name ≡ take (2 * units) (drop 32 bytes) = name_is ∙ ap (take (2 * units)) rest_is in
     let payload_all : payload ≡ drop (2 * units) (drop 32 bytes) = payload_is ∙ ap (drop (2 * units)) rest_is in
     let name_each : AreBytes name = λ k. subst (λ (l : List ℕ). get_or l k 0 < 256) (sym name_all)
     (AreBytes-part bytes (2 * units) 32 each k) in
     let double : length name ≡ 2 * units = ap length name_all ∙ (sizes bytes units size whole).0 in
-    let count : length (units_of name) ≡ units = halved (length name) units (length (units_of name)) double (half_as_many_units name) in
-    let back : unit_bytes (units_of name) ≡ name = units_read_back.read name name_each (even (length name) units double) in
+    let count : length (units_of name) ≡ units = halved (length name) units (length (units_of name)) double
+    (half_as_many_units name) in
+    let back : unit_bytes (units_of name) ≡ name = units_read_back.read name name_each (even
+    (length name) units double) in
     subst (λ ns. IsVariable (record { guid = guid; name = ns; payload = payload })
     × (bytes ≡ variable_bytes (record { guid = guid; name = ns; payload = payload }))) (sym names_are) (
       record {

@@ -5,9 +5,8 @@ ghost use Rattle.audit_events.specs.Laws.{OneContent};
 
 use uefi_path::laws::one_front;
 
-/// States that the data of an event say one thing, by the form that its type gives them. So an event
-/// has one line, as [`event_line`](crate::event_line) promises it.
-#[tactic(auto, using(crate::proofs::OneContent::one_content))]
+/// States that the data of an event say one thing, by the form that its type gives them. So an
+/// event has one line, as [`event_line`](crate::event_line) promises it.
 pub fn one_content()
     ensures { OneContent }
 {
