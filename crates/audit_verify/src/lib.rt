@@ -1,0 +1,21 @@
+//! Whether an event log leads to the registers that a TPM held.
+//!
+//! [`held_in_text`] reads registers from what `tpm2_pcrread` printed, [`held_in_file`] one register
+//! from its file in Linux's sysfs. [`agreeing_locality`] compares them with those that a log leads
+//! to, and [`push_verdict`] appends the lines that say what differs.
+//!
+//! The contracts say what text is read as which registers (`specs/Reading.antt`), and that registers
+//! agree exactly if they are equal (`specs/Agreement.antt`).
+#![tactic(auto)]
+
+pub use self::agreement::{agreeing_locality, agrees, agrees_at};
+pub use self::held::HeldRegister;
+pub use self::line::{bank_in_line, register_in_line};
+pub use self::reading::{HeldError, held_in_file, held_in_text};
+pub use self::verdict::push_verdict;
+
+mod agreement;
+mod held;
+mod line;
+mod reading;
+mod verdict;
