@@ -3,7 +3,6 @@
 //! Each loop calls its function from the start until it returns false. What it finds is proved to
 //! be the list that the library's iterator gives.
 
-mod digests;
 mod instances;
 mod log1;
 mod log2;
@@ -11,10 +10,9 @@ mod map;
 mod nodes;
 mod pairs;
 
-pub use self::digests::digests_by_steps;
 pub use self::instances::instances_by_steps;
 pub use self::log1::log1_by_steps;
-pub use self::log2::{log2_after_event_by_steps, log2_by_steps};
+pub use self::log2::{digests_by_steps, log2_after_event_by_steps, log2_by_steps};
 pub use self::map::entries_by_steps;
 pub use self::nodes::nodes_by_steps;
 pub use self::pairs::pairs_by_steps;

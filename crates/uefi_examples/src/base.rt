@@ -89,19 +89,13 @@ pub fn unit_count(slice: &UnalignedSlice<'_>) -> usize
     slice.iter().count()
 }
 
-/// Returns the number of units that an iterator hasn't returned yet, by `len`.
-pub fn count_left(iter: &UnalignedSliceIter<'_>) -> usize
-    ensures { result ≡ length (units_left iter.now) }
+/// Returns the number of units that an iterator hasn't returned yet, by `len` and as both bounds of
+/// `size_hint`.
+pub fn counts_left(iter: &UnalignedSliceIter<'_>) -> (usize, (usize, Option<usize>))
+    ensures count { result.0 ≡ length (units_left iter.now) }
+    ensures bounds { result.1 ≡ (length (units_left iter.now), Some (length (units_left iter.now))) }
 {
-    iter.len()
-}
-
-/// Returns the same, by `size_hint`.
-pub fn bounds_of_left(iter: &UnalignedSliceIter<'_>) -> (usize, Option<usize>)
-    ensures least { result.0 ≡ length (units_left iter.now) }
-    ensures most { result.1 ≡ Some (length (units_left iter.now)) }
-{
-    iter.size_hint()
+    (iter.len(), iter.size_hint())
 }
 
 /// Returns the units that aren't zero, by `for`.

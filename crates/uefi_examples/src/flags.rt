@@ -8,58 +8,39 @@ use uefi_records::{Daylight, FileAttribute};
 use uefi_tcg::HashAlgorithm;
 use uefi_tcg::v2::EventLogFormat;
 
-/// Returns the default of daylight: no bit is set.
-pub fn no_daylight() -> Daylight
-    ensures { daylight_bits result ≡ 0 }
+/// Returns the default of each kind of set: no bit is set.
+pub fn empty_sets() -> (Daylight, FileAttribute, HashAlgorithm, EventLogFormat)
+    ensures daylight { daylight_bits result.0 ≡ 0 }
+    ensures attributes { attribute_bits result.1 ≡ 0 }
+    ensures algorithms { algorithm_bits result.2 ≡ 0 }
+    ensures formats { format_bits result.3 ≡ 0 }
 {
-    Daylight::default()
+    (
+        Daylight::default(),
+        FileAttribute::default(),
+        HashAlgorithm::default(),
+        EventLogFormat::default(),
+    )
 }
 
-/// Returns the order of daylight: that of its bits as a number.
-pub fn daylight_order(one: &Daylight, other: &Daylight) -> Ordering
-    ensures { result ≡ nat_cmp (daylight_bits one.now) (daylight_bits other.now) }
+/// Returns the order of two sets of each kind: that of their bits as numbers.
+pub fn orders(
+    daylight: (Daylight, Daylight),
+    attributes: (FileAttribute, FileAttribute),
+    algorithms: (HashAlgorithm, HashAlgorithm),
+    formats: (EventLogFormat, EventLogFormat),
+) -> (Ordering, Ordering, Ordering, Ordering)
+    ensures daylight { result.0 ≡ nat_cmp (daylight_bits daylight.0) (daylight_bits daylight.1) }
+    ensures attributes { result.1
+        ≡ nat_cmp (attribute_bits attributes.0) (attribute_bits attributes.1) }
+    ensures algorithms { result.2
+        ≡ nat_cmp (algorithm_bits algorithms.0) (algorithm_bits algorithms.1) }
+    ensures formats { result.3 ≡ nat_cmp (format_bits formats.0) (format_bits formats.1) }
 {
-    one.cmp(other)
-}
-
-/// Returns the default of file attributes: no bit is set.
-pub fn no_file_attribute() -> FileAttribute
-    ensures { attribute_bits result ≡ 0 }
-{
-    FileAttribute::default()
-}
-
-/// Returns the order of file attributes: that of their bits as numbers.
-pub fn file_attribute_order(one: &FileAttribute, other: &FileAttribute) -> Ordering
-    ensures { result ≡ nat_cmp (attribute_bits one.now) (attribute_bits other.now) }
-{
-    one.cmp(other)
-}
-
-/// Returns the default of hash algorithms: no bit is set.
-pub fn no_algorithm() -> HashAlgorithm
-    ensures { algorithm_bits result ≡ 0 }
-{
-    HashAlgorithm::default()
-}
-
-/// Returns the order of sets of hash algorithms: that of their bits as numbers.
-pub fn algorithm_order(one: &HashAlgorithm, other: &HashAlgorithm) -> Ordering
-    ensures { result ≡ nat_cmp (algorithm_bits one.now) (algorithm_bits other.now) }
-{
-    one.cmp(other)
-}
-
-/// Returns the default of formats of event logs: no bit is set.
-pub fn no_format() -> EventLogFormat
-    ensures { format_bits result ≡ 0 }
-{
-    EventLogFormat::default()
-}
-
-/// Returns the order of sets of formats: that of their bits as numbers.
-pub fn format_order(one: &EventLogFormat, other: &EventLogFormat) -> Ordering
-    ensures { result ≡ nat_cmp (format_bits one.now) (format_bits other.now) }
-{
-    one.cmp(other)
+    (
+        daylight.0.cmp(&daylight.1),
+        attributes.0.cmp(&attributes.1),
+        algorithms.0.cmp(&algorithms.1),
+        formats.0.cmp(&formats.1),
+    )
 }

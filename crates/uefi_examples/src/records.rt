@@ -99,17 +99,13 @@ pub fn label_written(buffer: &mut [u8], label: &CStr16<'_>) -> Result<(), FileIn
 /// passed.
 pub fn file_read_back<'a>(
     buffer: &'a mut [u8],
-    file_size: u64,
-    physical_size: u64,
-    create_time: Time,
-    last_access_time: Time,
-    modification_time: Time,
+    sizes: (u64, u64),
+    times: (Time, Time, Time),
     attribute: FileAttribute,
     file_name: &CStr16<'_>,
 ) -> Option<FileInfo<'a>>
     ensures fields { IfSome result (λ info. file_fields_of info
-        ≡ file_fields_given file_size physical_size create_time last_access_time
-        modification_time attribute) }
+        ≡ file_fields_given sizes.0 sizes.1 times.0 times.1 times.2 attribute) }
     ensures name { IfSome result (λ info. file_name_of info ≡ text_units file_name.now) }
     ensures size { IfSome result
         (λ info. stated_size info ≡ file_info_size (length (text_units file_name.now))) }
@@ -118,14 +114,7 @@ pub fn file_read_back<'a>(
 {
     reads_back();
     let written = write_file_info(
-        buffer,
-        file_size,
-        physical_size,
-        create_time,
-        last_access_time,
-        modification_time,
-        attribute,
-        file_name,
+        buffer, sizes.0, sizes.1, times.0, times.1, times.2, attribute, file_name,
     );
     let Ok(end) = written else {
         return None;

@@ -1,7 +1,7 @@
 //! The listings of the program `uefi_list`, over bytes in memory and any writer.
 //!
 //! [`command`] judges the words of the command line. [`listing`](mod@listing) makes the listing of
-//! bytes in memory: there each command has its module, which reads the bytes by the library for
+//! bytes in memory: there each command has its function, which reads the bytes by the library for
 //! them, and appends the lines of what was read, which come from the libraries `uefi_lines`,
 //! `tcg_lines` and `config_lines`, or the line of a refusal. [`run`](mod@run) writes a listing.
 //!

@@ -4,16 +4,9 @@ ghost use Rattle.uefi_listing.specs.Listing.{Listing};
 
 use crate::command::Command;
 use std::alloc::{AllocError, Allocator};
-use tcg_lines::v2::Start;
+use uefi_tcg::v2::Start;
 
-mod config;
-mod info;
-mod log1;
-mod log2;
-mod map;
-mod path;
-mod pci;
-mod time;
+mod commands;
 
 /// Whether the bytes were what the command lists.
 #[derive(Clone, Copy, PartialEq, Eq, Debug)]
@@ -52,14 +45,19 @@ fn push_listing<A: Allocator + Copy>(
     ensures { IfOk result (AppendsListing (Listing command.now bytes.now) text.old text.new) }
 {
     match command {
-        Command::Path => path::push_path_listing(text, bytes),
-        Command::Log1(last) => log1::push_log1_listing(text, bytes, *last),
-        Command::Log2(last) => log2::push_log2_listing(text, bytes, *last, Start::AfterHeader),
-        Command::Log2After(last) => log2::push_log2_listing(text, bytes, *last, Start::AfterEvent),
-        Command::Config => config::push_config_listing(text, alloc, bytes),
-        Command::Map(stride) => map::push_map_listing(text, bytes, *stride),
-        Command::Pci => pci::push_pci_listing(text, bytes),
-        Command::Time => time::push_time_listing(text, bytes),
-        Command::Info(written) => info::push_info_listing(text, bytes, *written),
+        Command::Path => commands::push_path_listing(text, bytes),
+        Command::Log1(last) => commands::push_log1_listing(text, bytes, *last),
+        Command::Log2(last) => commands::push_log2_listing(text, bytes, *last, Start::AfterHeader),
+        Command::Log2After(last) => commands::push_log2_listing(
+            text,
+            bytes,
+            *last,
+            Start::AfterEvent,
+        ),
+        Command::Config => commands::push_config_listing(text, alloc, bytes),
+        Command::Map(stride) => commands::push_map_listing(text, bytes, *stride),
+        Command::Pci => commands::push_pci_listing(text, bytes),
+        Command::Time => commands::push_time_listing(text, bytes),
+        Command::Info(written) => commands::push_info_listing(text, bytes, *written),
     }
 }

@@ -1,13 +1,16 @@
-ghost use Rattle.std.specs.Prelude.{◌≡◌, ◌≤◌, ◌<◌, ◌^◌, List, Option, length, IfOk, map};
-ghost use Rattle.uefi_tcg.specs.v2.Event.{Event};
+ghost use Rattle.std.specs.Prelude.{◌≡◌, ◌≤◌, ◌<◌, ◌^◌, List, Option, length, IfOk, map, flat_map};
+ghost use Rattle.std.specs.List.{AllByRecursion};
+ghost use Rattle.uefi_tcg.specs.v2.Event.{Digest, Event, IsDigest};
 ghost use Rattle.uefi_tcg.specs.v2.Header.{HeaderEvent, after_header, after_event};
 ghost use Rattle.uefi_tcg.specs.private.v2.Log.{IsLongestFrom};
 ghost use Rattle.uefi_tcg.specs.v2.Log.{IsLog};
-ghost use Rattle.uefi_tcg.specs.v2.OneEvent.{parts_of};
+ghost use Rattle.uefi_tcg.specs.v2.OneEvent.{digest_bytes, parts_of};
 ghost use Rattle.uefi_tcg.specs.v2.Spelling.{spelled};
-ghost use Rattle.uefi_c.specs.Log2.{parts_seen};
+ghost use Rattle.uefi_c.specs.Log2.{digest_seen, parts_seen};
 
-use crate::log2::{UefiEvent2, UefiLogHeader, uefi_log2_header, uefi_log2_next};
+use crate::log2::{
+    UefiDigest, UefiEvent2, UefiLogHeader, uefi_digest_next, uefi_log2_header, uefi_log2_next,
+};
 use std::alloc::{AllocError, Allocator};
 use uefi_tcg::v2::DigestTable;
 
@@ -89,4 +92,27 @@ fn no_header<'a>() -> UefiLogHeader<'a> {
         errata: 0,
         uintn_size: 0,
     }
+}
+
+/// Collects the digests that bytes encode under this table, by a loop: those of the event that has
+/// the bytes, as the library's `digests` gives them.
+pub fn digests_by_steps<'a, A: Allocator>(
+    alloc: A,
+    digests: &'a [u8],
+    table: &DigestTable<'_>,
+) -> Result<Vec<UefiDigest<'a>, A>, AllocError>
+    ensures { IfOk result (λ views. (all : List Digest)
+        → AllByRecursion (IsDigest (spelled table.now)) all
+        → digests.now ≡ flat_map digest_bytes all → map digest_seen views.items ≡ all) }
+{
+    let mut views = Vec::new(alloc);
+    let mut offset = 0;
+    let mut digest = UefiDigest {
+        bytes: &[],
+        algorithm: 0,
+    };
+    while uefi_digest_next(digests, table, &mut offset, &mut digest) {
+        views.push(digest)?;
+    }
+    Ok(views)
 }

@@ -30,8 +30,8 @@ written_reads law fields name old new end fit fit_name short covers room same wr
 
 -- The buffer that was written to reads as what was passed.
 back : (c : goal.After-ok)
-    → ReadsAs (file_fields_given c.args.file_size c.args.physical_size c.args.create_time c.args.last_access_time
-    c.args.modification_time c.args.attribute)
+    → ReadsAs (file_fields_given c.args.sizes.0 c.args.sizes.1 c.args.times.0 c.args.times.1 c.args.times.2
+    c.args.attribute)
     (text_units c.args.file_name.now) c.in-Ok.end c.write_file_info-written.new.buffer
 back c =
     let wrote = c.in-Ok.ensures in

@@ -1,7 +1,0 @@
-use Rattle.std.proofs.Common.{refl, rules}
-use Rattle.std.specs.Prelude.{codes}
-use Rattle.uefi_listing.proofs.listing.path.push_path_listing.Goals as goal
-
-pub returns-in_ok-writeln-in-Err-InvalidLength : goal.returns-in_ok-writeln-in-Err-InvalidLength
-returns-in_ok-writeln-in-Err-InvalidLength g c =
-    (codes "refused InvalidLength\n", (search rules, refl), c.in_ok-writeln-in-Err-InvalidLength.ensures.bytes)
