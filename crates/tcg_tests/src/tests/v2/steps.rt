@@ -1,9 +1,8 @@
-use crate::texts::joined;
-use crate::v2::logs::{LONG_EVENT, ZERO_EVENT};
+use crate::tests::v2::logs::{LONG_EVENT, ZERO_EVENT};
 use std::alloc::Global;
 use std::test::Fail;
 use test_support::samples::{FOUR_EVENTS, FOUR_HEADER};
-use test_support::{bytes, holds, same};
+use test_support::{bytes, holds, joined, same};
 use uefi_tcg::v2::{
     DigestTable, EventLog, EventLogIter, EventParts, PcrEvent, PcrEventDigests, event_starting_at,
 };
