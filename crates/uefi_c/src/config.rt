@@ -3,12 +3,6 @@ ghost use Rattle.std.specs.List.{position_or_len};
 ghost use Rattle.uefi_hii.specs.Pairs.{pairs, pair_of};
 ghost use Rattle.uefi_c.specs.Config.{pair_seen};
 
-/// The byte between two pairs.
-const AMPERSAND: u8 = b'&';
-
-/// The byte between a key and its value.
-const EQUALS_SIGN: u8 = b'=';
-
 /// A key of a configuration text, and its value if it has one.
 #[derive(Clone, Copy)]
 #[repr(C)]
@@ -20,6 +14,12 @@ pub struct UefiPair<'a> {
     /// Whether there is a value.
     pub has_value: bool,
 }
+
+/// The byte between two pairs.
+const AMPERSAND: u8 = b'&';
+
+/// The byte between a key and its value.
+const EQUALS_SIGN: u8 = b'=';
 
 /// Reads the pair of a configuration text at the offset, and moves the offset to the next.
 #[unsafe(no_mangle)]

@@ -142,11 +142,8 @@ fn an_offset_may_be_any_number(rt: HostRuntime) -> Result<(), Fail> {
     let input = bytes(rt.alloc(), text.as_str())?;
     for (offset, last_entry, expected) in STEPS {
         let found = shape(input.as_slice(), offset, last_entry);
-        same(
-            "a step",
-            &(offset, last_entry, found),
-            &(offset, last_entry, expected),
-        )?;
+        let row = (offset, last_entry, expected);
+        same("a step", &(offset, last_entry, found), &row)?;
     }
     Ok(())
 }
