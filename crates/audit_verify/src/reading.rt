@@ -16,7 +16,8 @@ use std::alloc::{AllocError, Allocator};
 pub enum HeldError {
     /// An allocation failed.
     Memory,
-    /// The line that begins at this offset neither begins a bank nor states a register of a bank that
+    /// The line that begins at this offset neither begins a bank nor states a register of a bank
+    /// that
     /// can be replayed, or it doesn't end.
     Line(usize),
 }
@@ -29,13 +30,15 @@ impl From<AllocError> for HeldError {
     }
 }
 
-/// Returns the registers that `tpm2_pcrread` of tpm2-tools printed. Hex digits may be of either case.
+/// Returns the registers that `tpm2_pcrread` of tpm2-tools printed. Hex digits may be of either
+/// case.
 ///
 /// # Errors
 ///
 /// - [`HeldError::Memory`] if an allocation fails.
 /// - [`HeldError::Line`] with the offset of the first line that is none of `tpm2_pcrread`'s, that
-///   states a register of a bank that can't be replayed, or a value of another length than its bank's.
+///   states a register of a bank that can't be replayed, or a value of another length than its
+/// bank's.
 pub fn held_in_text<A: Allocator + Copy>(
     alloc: A,
     text: &[u8],
@@ -86,7 +89,8 @@ fn read_line<A: Allocator + Copy>(
 /// # Errors
 ///
 /// - [`HeldError::Memory`] if an allocation fails.
-/// - [`HeldError::Line`] with 0 if the text is something else, or the value hasn't the bank's length.
+/// - [`HeldError::Line`] with 0 if the text is something else, or the value hasn't the bank's
+///   length.
 pub fn held_in_file<A: Allocator + Copy>(
     alloc: A,
     bank: Bank,

@@ -1,4 +1,4 @@
-use clap::{Arg, ArgAction, ArgMatches, Command, Error};
+use clap::{Arg, ArgAction, ArgMatches, Command, Error, value_parser};
 use std::alloc::Global;
 
 /// The banks that `--bank` takes.
@@ -18,7 +18,8 @@ pub fn matches_of<'a>(alloc: Global, words: &'a [String]) -> Result<ArgMatches<'
         )
         .subcommand_required(true)
         .arg_required_else_help(true)
-        .subcommand(replay(alloc)?)?;
+        .subcommand(replay(alloc)?)?
+        .subcommand(verify(alloc)?)?;
     command.try_get_matches_from(words)
 }
 
@@ -32,6 +33,29 @@ fn replay<'a>(alloc: Global) -> Result<Command<'a>, Error> {
         .about("Prints the registers that the logs lead to, as tpm2_pcrread prints them")
         .arg(logs(alloc))?
         .arg(bank)?;
+    reading(alloc, command)
+}
+
+fn verify<'a>(alloc: Global) -> Result<Command<'a>, Error> {
+    let log = Arg::new(alloc, "log")
+        .value_name("LOG")
+        .required(true)
+        .help("A file with an event log");
+    let registers = Arg::new(alloc, "registers")
+        .long("registers")
+        .value_name("FILE")
+        .required(true)
+        .help("What tpm2_pcrread printed, or a folder with files such as pcr-sha256/0");
+    let locality = Arg::new(alloc, "locality")
+        .long("locality")
+        .value_name("N")
+        .value_parser(value_parser!(u8))
+        .help("Begins register 0 at this locality, whatever the log states");
+    let command = Command::new(alloc, "verify")
+        .about("Compares the registers that a log leads to with those of a TPM")
+        .arg(log)?
+        .arg(registers)?
+        .arg(locality)?;
     reading(alloc, command)
 }
 

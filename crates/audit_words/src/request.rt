@@ -12,6 +12,8 @@ use registers::Bank;
 pub enum Request<'m, 'a> {
     /// `replay LOG.. [--bank B]`: the registers that each log leads to.
     Replay(&'m [&'a str], Option<Bank>),
+    /// `verify LOG --registers FILE [--locality N]`: whether they are those of a TPM.
+    Verify(&'a str, &'a str, Option<u8>),
 }
 
 /// How logs are read.
@@ -52,6 +54,10 @@ pub fn request_of<'m, 'a>(matches: &'m ArgMatches<'a>) -> Option<(Request<'m, 'a
     let reading = reading_of(of)?;
     let request = match name {
         "replay" => Request::Replay(of.get_strs("logs")?, bank_of(of)?),
+        "verify" => {
+            let (log, registers) = (of.get_str("log")?, of.get_str("registers")?);
+            Request::Verify(log, registers, of.get_one::<u8>("locality"))
+        }
         _ => return None,
     };
     Some((request, reading))

@@ -1,6 +1,7 @@
 use crate::failure::{Failure, Status};
-use crate::input::file_bytes;
-use audit_lines::{LogFile, push_replay};
+use crate::input::{file_bytes, held_registers};
+use audit_lines::{LogFile, push_left_over, push_replay};
+use audit_verify::push_verdict;
 use audit_words::{Reading, Request};
 use registers::Bank;
 use std::io::{self, Write};
@@ -14,6 +15,9 @@ pub(crate) fn answer<R: Files + Input + Print + Eprint + AllocGlobal>(
 ) -> Result<Status, Failure> {
     match *request {
         Request::Replay(logs, bank) => replay_logs(rt, logs, reading, bank),
+        Request::Verify(log, registers, locality) => {
+            verify_log(rt, log, registers, reading, locality)
+        }
     }
 }
 
@@ -57,6 +61,33 @@ fn replay_log<R: Print + AllocGlobal>(
         writeln!(text, "{name}:")?;
     }
     let well = push_replay(&mut text, rt.alloc(), file, bank, reading.allow_left_over)?;
+    print_text(rt, text.as_str())?;
+    Ok(Status::of(well))
+}
+
+/// Prints whether a log leads to the registers of a TPM.
+fn verify_log<R: Files + Input + Print + Eprint + AllocGlobal>(
+    rt: &R,
+    log: &str,
+    registers: &str,
+    reading: Reading,
+    locality: Option<u8>,
+) -> Result<Status, Failure> {
+    let Some(held) = held_registers(rt, registers) else {
+        return Ok(Status::Unread);
+    };
+    let Some(bytes) = file_bytes(rt, log) else {
+        return Ok(Status::Unread);
+    };
+    let last_entry = reading.last_entry.of_length(bytes.len());
+    let file = LogFile {
+        name: log,
+        bytes: bytes.as_slice(),
+        last_entry,
+    };
+    let mut text = String::new(rt.alloc());
+    let whole = reading.allow_left_over || push_left_over(&mut text, &file)?;
+    let well = whole && push_verdict(&mut text, rt.alloc(), &file, held.as_slice(), locality)?;
     print_text(rt, text.as_str())?;
     Ok(Status::of(well))
 }

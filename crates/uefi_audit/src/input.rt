@@ -1,5 +1,8 @@
+use audit_lines::bank_name;
+use audit_verify::{HeldError, HeldRegister, held_in_file, held_in_text};
+use registers::{Bank, REGISTER_COUNT};
 use std::fs;
-use std::io::{self, Read};
+use std::io::{self, ErrorKind, Read};
 use std::rt::Files;
 
 /// Returns the bytes of a file; `None` if it wasn't read, which is told on standard error.
@@ -34,4 +37,90 @@ fn read_file<R: Files>(rt: &R, path: &str, bytes: &mut Vec<u8>) -> io::Result<us
 /// Tells on standard error why a file wasn't read. If that is closed, the exit status still tells.
 fn tell<R: Eprint>(rt: &R, path: &str, error: &io::Error) {
     let _ = eprintln!(rt; "uefi_audit: {path}: {error}");
+}
+
+/// Returns the registers of a TPM in a file that `tpm2_pcrread` printed, or in a folder as Linux
+/// has
+/// it; `None` if there are none to be read, which is told on standard error.
+pub(crate) fn held_registers<R: Files + Input + Eprint + AllocGlobal>(
+    rt: &R,
+    path: &str,
+) -> Option<Vec<HeldRegister>> {
+    let held = match fs::metadata(rt, path) {
+        Ok(found) if found.is_dir() => held_in_folder(rt, path)?,
+        _ => held_in_listing(rt, path)?,
+    };
+    if held.is_empty() {
+        let _ = eprintln!(rt; "uefi_audit: {path}: there are no registers");
+        return None;
+    }
+    Some(held)
+}
+
+/// Returns the registers in a file that `tpm2_pcrread` printed.
+fn held_in_listing<R: Files + Input + Eprint + AllocGlobal>(
+    rt: &R,
+    path: &str,
+) -> Option<Vec<HeldRegister>> {
+    let bytes = file_bytes(rt, path)?;
+    match held_in_text(rt.alloc(), bytes.as_slice()) {
+        Ok(held) => Some(held),
+        Err(error) => {
+            tell_held(rt, path, error);
+            None
+        }
+    }
+}
+
+/// Tells on standard error why a file has no registers that can be compared.
+fn tell_held<R: Eprint>(rt: &R, path: &str, error: HeldError) {
+    let _ = match error {
+        HeldError::Memory => eprintln!(rt; "uefi_audit: {path}: out of memory"),
+        HeldError::Line(offset) => eprintln!(rt;
+            "uefi_audit: {path}: the line at offset {offset} states no register of a bank that can be replayed"
+        ),
+    };
+}
+
+/// Returns the registers of which the folder has a file, as `pcr-sha256/0`.
+fn held_in_folder<R: Files + Input + Eprint + AllocGlobal>(
+    rt: &R,
+    path: &str,
+) -> Option<Vec<HeldRegister>> {
+    let mut held = Vec::new(rt.alloc());
+    for bank in Bank::ALL {
+        for register in 0..REGISTER_COUNT as u32 {
+            if let Some(found) = held_in_bank(rt, path, bank, register)? {
+                held.push(found).ok()?;
+            }
+        }
+    }
+    Some(held)
+}
+
+/// Returns the register of a bank, if the folder has a file for it.
+fn held_in_bank<R: Files + Input + Eprint + AllocGlobal>(
+    rt: &R,
+    folder: &str,
+    bank: Bank,
+    register: u32,
+) -> Option<Option<HeldRegister>> {
+    let name = bank_name(bank);
+    let path = format!(in rt.alloc(); "{folder}/pcr-{name}/{register}").ok()?;
+    match fs::metadata(rt, path.as_str()) {
+        Err(error) if error.kind() == ErrorKind::NotFound => return Some(None),
+        _ => {}
+    }
+    let bytes = file_bytes(rt, path.as_str())?;
+    match held_in_file(rt.alloc(), bank, bytes.as_slice()) {
+        Ok(value) => Some(Some(HeldRegister {
+            bank,
+            register,
+            value,
+        })),
+        Err(error) => {
+            tell_held(rt, path.as_str(), error);
+            None
+        }
+    }
 }

@@ -2,8 +2,7 @@
 //!
 //! A byte goes through it in this order. [`program`] takes the words of the command line, which the
 //! library `audit_words` judges, and [`input`] reads the files, a log at a time. `audit_lines`
-//! makes the
-//! text of a log in memory, which is then written.
+//! and `audit_verify` make the text of a log in memory, which is then written.
 //!
 //! What the libraries return is proved. [`program`] and [`input`] join it with the files, the
 //! streams
