@@ -37,7 +37,8 @@ whole_image bytes path address size link long each room address_is size_is link_
     path_is same = (
       record { address = fits; size = also; link_address = third; path = below (length path) long same fourth },
       found_image bytes path address size link long each (least 8 (length bytes) (omega arith) room)
-          (least 16 (length bytes) (omega arith) room) (least 24 (length bytes) (omega arith) room) room address_is size_is
+          (least 16 (length bytes) (omega arith) room) (least 24 (length bytes) (omega arith) room) room address_is
+          size_is
           link_is long_is path_is same,
     )
   where

@@ -7,7 +7,8 @@ use Rattle.audit_lines.specs.Registers.{register_line, register_lines}
 -- The line of the next register, and those that follow.
 pub next_line : (values : List (List ℕ)) (number : ℕ) (value : List ℕ) → number < length values
     → get_or values number [] ≡ value
-    → register_lines number (drop number values) ≡ register_line number value ++ register_lines (number + 1) (drop (number + 1) values)
+    → register_lines number (drop number values) ≡ register_line number value
+    ++ register_lines (number + 1) (drop (number + 1) values)
 unfolding register_lines
 next_line values number value within is =
     let after : suc number ≡ number + 1 = omega arith in

@@ -31,7 +31,12 @@ use Rattle.audit_lines.proofs.LeftOver.{few_left, ended_at, Leaves}
 
 -- Of no algorithm nothing is appended.
 pub no_banks : {A : Type 0} (file : LogFile) (text : String A) → AppendsBanks file [] text text true
-no_banks file text = λ contents is. ([], record { lines = refl; all_known = refl }, sym (append-nil (string_bytes text)))
+no_banks file text = λ contents is. (
+  [],
+  record { lines = refl; all_known = refl },
+  sym
+      (append-nil (string_bytes text)),
+)
 
 -- The bank of one more algorithm follows those before it.
 pub banks_more : {A : Type 0} (file : LogFile) (algorithms : List ℕ) (algorithm : ℕ) (old now next : String A)
@@ -45,7 +50,8 @@ banks_more file algorithms algorithm old now next well more before step = λ con
       a.0 ++ b.0,
       record {
         lines = ap₂ (λ x y. x ++ y) a.1.lines b.1.lines ∙ sym (flat_map-append f algorithms (algorithm ∷ []));
-        all_known = ap₂ (λ x y. x && y) a.1.all_known b.1.all_known ∙ sym (list_all-append p algorithms (algorithm ∷ []));
+        all_known = ap₂ (λ x y. x && y) a.1.all_known b.1.all_known
+            ∙ sym (list_all-append p algorithms (algorithm ∷ []));
       },
       b.2 ∙ ap (λ t. t ++ b.0) a.2 ∙ append_assoc (string_bytes old) a.0 b.0,
     )
@@ -115,7 +121,8 @@ shown_log file bank allowed rest old new well leaves whole asked =
       shown.2,
     )
 
-pub refused_log : {A : Type 0} (file : LogFile) (bank : Option Bank) (allowed : Bool) (rest : List ℕ) (old new : String A)
+pub refused_log : {A : Type 0} (file : LogFile) (bank : Option Bank) (allowed : Bool) (rest : List ℕ)
+    (old new : String A)
     → Leaves file.bytes.now file.last_entry rest → allowed ≡ false → (rest ≡ [] → ⊥)
     → AppendsText old new (left_over_line file.name.now (length file.bytes.now - length rest) (length rest))
     → AppendsReplay (IsReplay file.name.now file.bytes.now file.last_entry bank allowed) old new false

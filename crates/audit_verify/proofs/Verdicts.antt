@@ -27,7 +27,8 @@ agree bytes last_entry given stated held locality contents is same so =
 -- They agree at none.
 pub disagree : (log_bytes bytes : List ℕ) (log_last last_entry given stated : Option ℕ) (held : List HeldRegister)
     → log_bytes ≡ bytes → log_last ≡ last_entry
-    → ((contents : Contents) → AreContents log_bytes log_last contents → stated ≡ given_or_stated given contents.entries)
+    → ((contents : Contents) → AreContents log_bytes log_last contents → stated
+    ≡ given_or_stated given contents.entries)
     → ((contents : Contents) → AreContents log_bytes log_last contents
     → (locality : ℕ) → IsPossible stated locality → AgreeAt contents.entries locality held → ⊥)
     → Agree bytes last_entry given held → ⊥

@@ -35,7 +35,8 @@ same_again one local start log earlier end ends same entry =
 -- So a log that was read again has the events that it had, and for later last entries it begins with them.
 module _ {V E : Type 0} (result : Result V E) (events_of : V → List Event) (start : Start) (bytes : List ℕ)
     (last_entry : ℕ)
-    (logs : IfOk result (λ read. (found : Option HeaderEvent) × IsLog start bytes last_entry found (events_of read))) where
+    (logs : IfOk result (λ read. (found : Option HeaderEvent)
+    × IsLog start bytes last_entry found (events_of read))) where
   pub has_same : OneLog → IsLocal → IfOk result (λ read. (earlier : Logged start) (end : ℕ)
       → LastEndsAt start end earlier → SameUpTo end earlier.bytes bytes → earlier.last_entry ≡ last_entry
       → events_of read ≡ earlier.events)

@@ -6,7 +6,8 @@ use Rattle.uefi_base.specs.declared.status.Error.{Error}
 use Rattle.uefi_base.specs.declared.status.Status.{Status}
 use Rattle.uefi_base.specs.Views.{error_status, error_data}
 use Rattle.uefi_records.specs.Laws.{WrittenAlone}
-use Rattle.uefi_records.specs.file.Verdict.{Verdict, FollowsVerdict, Refuses, accepted, too_small, verdict, without_name}
+use Rattle.uefi_records.specs.file.Verdict.{Verdict, FollowsVerdict, Refuses, accepted}
+use Rattle.uefi_records.specs.file.Verdict.{too_small, verdict, without_name}
 
 -- A record that was read has a name.
 pub has_name : {V : Type 0} (name_of : V → List ℕ) (verdict : Verdict) (result : Result V (Error (Option ℕ))) (read : V)

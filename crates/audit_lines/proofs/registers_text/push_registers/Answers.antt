@@ -10,7 +10,8 @@ loop-number-preserved g c =
     let values = c.values-values.result.now in
     let number = c.loop-number.number in
     let item = c.index-values-number.result in
-    let size : length all ≡ length values = sym (ap length c.values-values.ensures.values) ∙ length-map values value_of in
+    let size : length all ≡ length values = sym (ap length c.values-values.ensures.values)
+    ∙ length-map values value_of in
     let is : get_or all number [] ≡ c.as_bytes.result.now =
     ap (λ vs. get_or vs number []) (sym c.values-values.ensures.values)
     ∙ get_or-map value_of values number item [] c.loop-number-test.true ∙ ap value_of (sym c.index-values-number.is)
@@ -23,6 +24,7 @@ pub returns : goal.returns
 returns g c =
     let all = values_of c.args.registers.now in
     let values = c.values-values.result.now in
-    let size : length all ≡ length values = sym (ap length c.values-values.ensures.values) ∙ length-map values value_of in
+    let size : length all ≡ length values = sym (ap length c.values-values.ensures.values)
+    ∙ length-map values value_of in
     all_appended all c.loop-number.number (string_bytes c.args.text.now) (string_bytes c.loop-number.text)
     (omega (arith, c.loop-number-test.false, size)) c.loop-number.invariant

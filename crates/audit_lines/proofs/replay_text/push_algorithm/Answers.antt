@@ -16,7 +16,8 @@ returns-in_default g c = λ contents is. (
 pub returns-in_ok-push_bank-in-Ok : goal.returns-in_ok-push_bank-in-Ok
 returns-in_ok-push_bank-in-Ok g c = λ contents is. (
   bank_lines c.in-Some.bank (values_of c.in-Ok.registers),
-  shown_registers c.args.file.now.name.now contents.entries c.args.algorithm.0 c.in-Some.bank (values_of c.in-Ok.registers)
+  shown_registers c.args.file.now.name.now contents.entries c.args.algorithm.0 c.in-Some.bank
+      (values_of c.in-Ok.registers)
       (sym c.in-Some.ensures)
       (c.in-Ok.ensures.every contents (to_log _ _ _ _ contents c.log.ensures.bytes c.log.ensures.last_entry is)),
   c.in_ok-push_bank-in-Ok.ensures,
@@ -25,7 +26,8 @@ returns-in_ok-push_bank-in-Ok g c = λ contents is. (
 pub returns-in_ok-push_unreplayable-in-Err : goal.returns-in_ok-push_unreplayable-in-Err
 returns-in_ok-push_unreplayable-in-Err g c = λ contents is. (
   unreplayable_line c.args.file.now.name.now c.in-Some.bank c.in-Err.at,
-  shown_fault c.args.file.now.name.now contents.entries c.args.algorithm.0 c.in-Some.bank c.in-Err.at (sym c.in-Some.ensures)
+  shown_fault c.args.file.now.name.now contents.entries c.args.algorithm.0 c.in-Some.bank c.in-Err.at
+      (sym c.in-Some.ensures)
       (c.in-Err.ensures.every contents (to_log _ _ _ _ contents c.log.ensures.bytes c.log.ensures.last_entry is)),
   c.in_ok-push_unreplayable-in-Err.ensures,
 )

@@ -21,4 +21,5 @@ pub returns : goal.returns
 returns g c =
     subst (λ (all : List AlgorithmId). AppendsBanks c.args.file.now (map (λ algorithm. algorithm.0) all) c.args.text.now
     c.loop-algorithm.text c.loop-algorithm.well)
-    (take_all c.loop-algorithm.algorithm-index c.args.algorithms.now c.loop-algorithm-test.false) c.loop-algorithm.invariant
+    (take_all c.loop-algorithm.algorithm-index c.args.algorithms.now c.loop-algorithm-test.false)
+    c.loop-algorithm.invariant

@@ -5,4 +5,5 @@ use Rattle.audit_lines.proofs.replay_text.push_banks.Given as goal
 -- The banks of the algorithms before the index were appended.
 abbrev pub invariant-loop-algorithm : goal.invariant-loop-algorithm
 invariant-loop-algorithm g l =
-    AppendsBanks l.file (map (λ algorithm. algorithm.0) (take l.algorithm-index l.algorithms)) l.initial.text l.text l.well
+    AppendsBanks l.file (map (λ algorithm. algorithm.0) (take l.algorithm-index l.algorithms)) l.initial.text l.text
+    l.well

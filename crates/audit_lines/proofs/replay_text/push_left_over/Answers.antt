@@ -9,10 +9,12 @@ push_left_over_line-requires g c =
 pub returns-then-is_empty : goal.returns-then-is_empty
 returns-then-is_empty g c =
     none_left _ _ _ (string_bytes c.args.text.now) _
-    (of_file _ _ _ _ _ c.log.ensures.bytes c.log.ensures.last_entry c.left_over-left_over.ensures) (empty_if _ c.if-is_empty.ensures)
+    (of_file _ _ _ _ _ c.log.ensures.bytes c.log.ensures.last_entry c.left_over-left_over.ensures)
+    (empty_if _ c.if-is_empty.ensures)
 
 pub returns : goal.returns
 returns g c =
     some_left _ _ _ (string_bytes c.args.text.now) _ _
-    (of_file _ _ _ _ _ c.log.ensures.bytes c.log.ensures.last_entry c.left_over-left_over.ensures) (filled_if _ c.if-is_empty.ensures)
+    (of_file _ _ _ _ _ c.log.ensures.bytes c.log.ensures.last_entry c.left_over-left_over.ensures)
+    (filled_if _ c.if-is_empty.ensures)
     c.in_ok-push_left_over_line.ensures

@@ -6,4 +6,5 @@ name_bytes-requires c = view_within 0 2 _ _ _ c.in-Ok.ensures.verdict _ _ c.len.
 
 pub returns-in-Ok-clause-label : goal.returns-in-Ok-clause-label
 returns-in-Ok-clause-label c =
-    λ _. view_named 0 2 _ _ _ c.in-Ok.ensures.verdict _ _ c.len.ensures c.volume_label.ensures.units _ c.name_bytes.ensures
+    λ _. view_named 0 2 _ _ _ c.in-Ok.ensures.verdict _ _ c.len.ensures c.volume_label.ensures.units _
+    c.name_bytes.ensures

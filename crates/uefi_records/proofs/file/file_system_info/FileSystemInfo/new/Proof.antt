@@ -74,7 +74,8 @@ new_spec 𝓤 𝓛 𝓜 𝓡 wired =
     (and_then ! (get ! refl) (and_then ! (get ! refl) (and_then ! (get ! refl) (no_more !)))))))
     (λ α δ v. id⊢ 𝓤 _) (λ α δ ws. qed 𝓛 (‵ (left α δ ws) ∷ []) ∵ fsplit ! $ fsplit ! $ fsplit ! $ keep !
     (0 ∷ []) $ done !)
-    (λ w ws t. wrote t.0 t.1.0 (and_also (FitFileSystem fields) (FitName name) w t.1.1.0 t.1.1.1.0) t.1.1.1.1.0 t.1.1.1.1.1.0
+    (λ w ws t. wrote t.0 t.1.0 (and_also (FitFileSystem fields) (FitName name) w t.1.1.0 t.1.1.1.0) t.1.1.1.1.0
+    t.1.1.1.1.1.0
     t.1.1.1.1.1.1.0)
     (λ v w ys held. typed 𝓛 κ q r Rw Written_laws w v
     (λ t. lands_as ! refl refl t.0 $
