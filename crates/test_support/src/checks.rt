@@ -1,5 +1,3 @@
-ghost use Rattle.std.specs.Iterator.{IsFinite};
-
 use std::fmt::Debug;
 use std::test::Fail;
 
@@ -49,19 +47,4 @@ pub fn holds(row: &str, is_so: bool) -> Result<(), Fail> {
         return Ok(());
     }
     Err(Fail::new(format_args!("{row}: it does not hold")))
-}
-
-/// Returns whether an iterator gives this many items, then none, and none when it is asked again.
-pub fn ends_after<I>(mut items: I, count: usize) -> bool
-where
-    I: Iterator + Drop,
-    I::Item: Drop,
-    requires { I.can_next items × IsFinite (I.remaining items) }
-{
-    for _ in 0..count {
-        if items.next().is_none() {
-            return false;
-        }
-    }
-    items.next().is_none() && items.next().is_none()
 }

@@ -2,7 +2,7 @@ use crate::tests::texts::{push_hex, push_kind};
 use std::alloc::{AllocError, Global};
 use std::test::Fail;
 use test_support::samples::{CRTM_VERSION, LOG1};
-use test_support::{bytes, ends_after, holds, same, same_text};
+use test_support::{bytes, holds, same, same_text};
 use uefi_tcg::v1::{EventLog, EventLogIter};
 
 /// The lines of both events of `LOG1`.
@@ -62,6 +62,16 @@ fn a_log_has_the_events_that_keep_to_the_last_entry(rt: HostRuntime) -> Result<(
         same_text(row, lines_of(rt.alloc(), log.iter())?.as_str(), lines)?;
     }
     Ok(())
+}
+
+/// Returns whether the iterator gives this many events, then none, and none when it is asked again.
+fn ends_after(mut events: EventLogIter<'_>, count: usize) -> bool {
+    for _ in 0..count {
+        if events.next().is_none() {
+            return false;
+        }
+    }
+    events.next().is_none() && events.next().is_none()
 }
 
 #[test]
