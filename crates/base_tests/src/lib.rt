@@ -3,4 +3,12 @@
 #![tactic(auto)]
 
 #[cfg(test)]
-mod tests;
+mod memory;
+#[cfg(test)]
+mod requests;
+#[cfg(test)]
+mod texts;
+#[cfg(test)]
+mod units;
+#[cfg(test)]
+mod values;

@@ -2,4 +2,12 @@
 #![tactic(auto)]
 
 #[cfg(test)]
-mod tests;
+mod configurations;
+#[cfg(test)]
+mod filling;
+#[cfg(test)]
+mod memory;
+#[cfg(test)]
+mod samples;
+#[cfg(test)]
+mod values;

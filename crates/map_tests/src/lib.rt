@@ -3,4 +3,8 @@
 #![tactic(auto)]
 
 #[cfg(test)]
-mod tests;
+mod changed;
+#[cfg(test)]
+mod memory;
+#[cfg(test)]
+mod pci;

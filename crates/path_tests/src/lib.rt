@@ -3,4 +3,8 @@
 #![tactic(auto)]
 
 #[cfg(test)]
-mod tests;
+mod boxes;
+#[cfg(test)]
+mod paths;
+#[cfg(test)]
+mod values;

@@ -2,4 +2,8 @@
 #![tactic(auto)]
 
 #[cfg(test)]
-mod tests;
+mod file;
+#[cfg(test)]
+mod flags;
+#[cfg(test)]
+mod time;

@@ -3,4 +3,6 @@
 #![tactic(auto)]
 
 #[cfg(test)]
-mod tests;
+mod logs;
+#[cfg(test)]
+mod machine_log;

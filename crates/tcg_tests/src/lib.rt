@@ -3,4 +3,12 @@
 #![tactic(auto)]
 
 #[cfg(test)]
-mod tests;
+mod capabilities;
+#[cfg(test)]
+mod machine_log;
+#[cfg(test)]
+mod texts;
+#[cfg(test)]
+mod v1;
+#[cfg(test)]
+mod v2;

@@ -1,0 +1,84 @@
+use std::alloc::Allocator;
+use std::test::Fail;
+use test_support::{holds, in_turn, without_request};
+use uefi_base::{CStr16, CString16, FromStrError, UnalignedCStr16Error, UnalignedSlice};
+
+/// Returns whether the text has five euro signs, or `None` if memory ran out.
+fn has_euro_signs<A: Allocator>(alloc: A, text: CStr16<'_>) -> Option<bool> {
+    let characters = text.to_string(alloc).ok()?;
+    Some(characters.as_str() == "\u{20ac}\u{20ac}\u{20ac}\u{20ac}\u{20ac}")
+}
+
+#[test]
+fn characters_are_given_or_memory_was_refused(rt: HostRuntime) -> Result<(), Fail> {
+    // Each character takes three bytes, so the text grows past the room that it begins with.
+    let text = CStr16::from_u16_with_nul(&[0x20ac, 0x20ac, 0x20ac, 0x20ac, 0x20ac, 0])?;
+    let requests = in_turn(rt.alloc(), &true, |heap| has_euro_signs(heap, text))?;
+    holds("the text grows", requests > 1)
+}
+
+/// Returns whether the text made of `ab` has its units, or the error; or `None` if memory ran out.
+fn make_ab<A: Allocator>(alloc: A) -> Option<Result<bool, FromStrError>> {
+    match CString16::from_str(alloc, "ab") {
+        Ok(text) => Some(Ok(text.as_cstr16().as_u16_with_nul() == [0x61u16, 0x62, 0].as_slice())),
+        Err(FromStrError::Memory) => None,
+        Err(fault) => Some(Err(fault)),
+    }
+}
+
+#[test]
+fn a_text_is_made_of_characters_or_memory_was_refused(rt: HostRuntime) -> Result<(), Fail> {
+    let requests = in_turn(rt.alloc(), &Ok(true), |heap| make_ab(heap))?;
+    holds("a text takes memory", requests > 0)
+}
+
+/// Returns the same of the units of `ab` over bytes.
+fn copy_ab<A: Allocator>(alloc: A) -> Option<Result<bool, UnalignedCStr16Error>> {
+    match UnalignedSlice::new(b"a\0b\0\0\0").to_cstring16(alloc) {
+        Ok(text) => Some(Ok(text.as_cstr16().as_u16_with_nul() == [0x61u16, 0x62, 0].as_slice())),
+        Err(UnalignedCStr16Error::Memory) => None,
+        Err(fault) => Some(Err(fault)),
+    }
+}
+
+#[test]
+fn a_text_is_made_of_units_or_memory_was_refused(rt: HostRuntime) -> Result<(), Fail> {
+    let requests = in_turn(rt.alloc(), &Ok(true), |heap| copy_ab(heap))?;
+    holds("a text takes memory", requests > 0)
+}
+
+#[test]
+fn a_named_fault_of_characters_asks_for_no_memory(rt: HostRuntime) -> Result<(), Fail> {
+    for (characters, fault) in [
+        ("ab\u{1f600}", FromStrError::InvalidChar),
+        ("ab\0", FromStrError::InteriorNul),
+    ] {
+        without_request(rt.alloc(), &Some(fault), |heap| {
+            CString16::from_str(heap, characters).err()
+        })?;
+    }
+    Ok(())
+}
+
+#[test]
+fn a_named_fault_of_units_asks_for_no_memory(rt: HostRuntime) -> Result<(), Fail> {
+    for (slice, fault) in [
+        (
+            UnalignedSlice::new(b"a\0\0\xd8"),
+            UnalignedCStr16Error::InvalidChar(1),
+        ),
+        (
+            UnalignedSlice::new(b"a\0\0\0b\0\0\0"),
+            UnalignedCStr16Error::InteriorNul(1),
+        ),
+        (
+            UnalignedSlice::new(b"a\0b\0"),
+            UnalignedCStr16Error::NotNulTerminated,
+        ),
+    ] {
+        without_request(rt.alloc(), &Some(fault), |heap| {
+            slice.to_cstring16(heap).err()
+        })?;
+    }
+    Ok(())
+}

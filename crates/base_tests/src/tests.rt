@@ -1,5 +1,0 @@
-mod memory;
-mod requests;
-mod texts;
-mod units;
-mod values;

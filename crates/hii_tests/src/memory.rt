@@ -1,0 +1,176 @@
+use crate::samples::{
+    ISCSI_ALTERNATIVES, ISCSI_ALTERNATIVES_ITEMS, ISCSI_NAME, ISCSI_TWICE, ISCSI_TWICE_ITEMS,
+    KEPT_PAIRS, KEPT_PAIRS_ITEMS, line_of, push_item, text_of,
+};
+use std::alloc::{AllocError, Allocator, Global};
+use std::test::Fail;
+use test_support::{Refusing, holds, in_turn, same_text, without_request};
+use uefi_hii::{ConfigurationString, MultiConfigurationStringIter, ParseError, parse_all};
+
+/// Returns whether the name in hex is the driver's, or `None` if memory ran out.
+fn is_driver<A: Allocator + Copy>(alloc: A, text: &str) -> Option<bool> {
+    match ConfigurationString::parse_string_from_hex(alloc, text).ok()? {
+        Some(name) => Some(name.as_str() == "ISCSI_CONFIG_IFR_NVDATA"),
+        None => Some(false),
+    }
+}
+
+#[test]
+fn a_name_is_read_or_memory_was_refused(rt: HostRuntime) -> Result<(), Fail> {
+    let requests = in_turn(rt.alloc(), &true, |heap| is_driver(heap, ISCSI_NAME))?;
+    holds("a name takes memory", requests > 0)
+}
+
+/// Returns the line of the item that `from_str` gives, or `None` if memory ran out.
+fn first_line<A: Allocator + Copy>(heap: A, alloc: Global, text: &str) -> Option<String> {
+    line_of(alloc, &ConfigurationString::from_str(heap, text))
+}
+
+/// Texts, as `text_of` has them, and all their items.
+const TEXTS: [(&str, &str); 4] = [
+    (ISCSI_TWICE, ISCSI_TWICE_ITEMS),
+    (ISCSI_ALTERNATIVES, ISCSI_ALTERNATIVES_ITEMS),
+    (KEPT_PAIRS, KEPT_PAIRS_ITEMS),
+    (
+        "GUID=00&@&OFFSET=00&WIDTH=01&VALUE=1122",
+        "ConfigHdr(Guid)\nA, 4, None | 0x0 1 2211\n",
+    ),
+];
+
+/// Checks that the first item of a row's text is read, or memory was refused.
+fn check_first(alloc: Global, row: &str) -> Result<(), Fail> {
+    let text = text_of(alloc, row)?;
+    let text = text.as_str();
+    let line = first_line(alloc, alloc, text).ok_or("memory")?;
+    let requests = in_turn(alloc, &line, |heap| first_line(heap, alloc, text))?;
+    holds("a configuration takes memory", requests > 0)
+}
+
+#[test]
+fn the_first_item_is_read_or_memory_was_refused(rt: HostRuntime) -> Result<(), Fail> {
+    check_first(rt.alloc(), ISCSI_TWICE)?;
+    check_first(rt.alloc(), ISCSI_ALTERNATIVES)?;
+    check_first(rt.alloc(), KEPT_PAIRS)
+}
+
+/// Returns the lines of all items, or `None` if memory ran out.
+fn all_lines<A: Allocator + Copy>(heap: A, alloc: Global, text: &str) -> Option<String> {
+    let mut lines = String::new(alloc);
+    for item in parse_all(heap, text).ok()?.as_slice() {
+        push_item(&mut lines, item).ok()?;
+    }
+    Some(lines)
+}
+
+/// Checks that all items of a row's text are read, or memory was refused.
+fn check_all(alloc: Global, row: &str, items: &str) -> Result<(), Fail> {
+    let text = text_of(alloc, row)?;
+    let text = text.as_str();
+    let lines = String::from_str(alloc, items)?;
+    let requests = in_turn(alloc, &lines, |heap| all_lines(heap, alloc, text))?;
+    holds("configurations take memory", requests > 0)
+}
+
+#[test]
+fn all_items_are_read_or_memory_was_refused(rt: HostRuntime) -> Result<(), Fail> {
+    for (row, items) in TEXTS {
+        check_all(rt.alloc(), row, items)?;
+    }
+    Ok(())
+}
+
+/// Checks that the iterator gives nothing, though it is asked twice.
+fn stays_ended<A: Allocator + Copy>(
+    items: &mut MultiConfigurationStringIter<'_, A>,
+) -> Result<(), Fail> {
+    holds("after Memory", items.next().is_none())?;
+    holds("after Memory, asked again", items.next().is_none())
+}
+
+/// Returns the lines of the items before memory runs out, and whether it did. Where it does, the
+/// iterator gives nothing, though it is asked twice.
+fn lines_before<A: Allocator + Copy>(
+    heap: A,
+    alloc: Global,
+    text: &str,
+) -> Result<(String, bool), Fail> {
+    let mut lines = String::new(alloc);
+    let mut items = MultiConfigurationStringIter::new(heap, text);
+    while let Some(item) = items.next() {
+        if let Err(ParseError::Memory) = &item {
+            stays_ended(&mut items)?;
+            return Ok((lines, true));
+        }
+        push_item(&mut lines, &item)?;
+    }
+    Ok((lines, false))
+}
+
+/// The most requests that the test below grants.
+const MOST_REQUESTS: u64 = 100;
+
+/// Checks the items before memory runs out, with each request in turn as the first that is refused.
+fn check_items_before(alloc: Global, row: &str, items: &str) -> Result<(), Fail> {
+    let text = text_of(alloc, row)?;
+    for granted in 0..MOST_REQUESTS {
+        let heap = Refusing::after(alloc, granted);
+        let (lines, ran_out) = lines_before(&heap, alloc, text.as_str())?;
+        holds(
+            "memory runs out where it is refused",
+            ran_out != heap.is_waiting(),
+        )?;
+        holds("the items before", items.starts_with(lines.as_str()))?;
+        if !ran_out {
+            same_text("all items", lines.as_str(), items)?;
+            return holds("configurations take memory", granted > 0);
+        }
+    }
+    holds("the items take fewer requests", false)
+}
+
+#[test]
+fn the_iterator_gives_the_items_before_memory_is_refused(rt: HostRuntime) -> Result<(), Fail> {
+    for (row, items) in TEXTS {
+        check_items_before(rt.alloc(), row, items)?;
+    }
+    Ok(())
+}
+
+/// Returns the line of the iterator's first item.
+fn iterated_line<A: Allocator + Copy>(heap: A, alloc: Global, text: &str) -> Option<String> {
+    let mut items = MultiConfigurationStringIter::new(heap, text);
+    line_of(alloc, &items.next()?)
+}
+
+#[test]
+fn a_wrong_guid_is_an_error_though_memory_is_refused(rt: HostRuntime) -> Result<(), Fail> {
+    let alloc = rt.alloc();
+    let line = Some(String::from_str(alloc, "ConfigHdr(Guid)\n")?);
+    for text in ["GUID=00", "X", "NAME=0041"] {
+        without_request(alloc, &line, |heap| iterated_line(heap, alloc, text))?;
+        without_request(alloc, &line, |heap| first_line(heap, alloc, text))?;
+    }
+    without_request(alloc, &line, |heap| first_line(heap, alloc, ""))
+}
+
+/// Checks that an iterator over the text is made without a request for memory.
+fn check_made(alloc: Global, text: &str) -> Result<(), Fail> {
+    without_request(alloc, &true, |heap| {
+        let _items = MultiConfigurationStringIter::new(heap, text);
+        true
+    })
+}
+
+#[test]
+fn an_iterator_is_made_without_memory(rt: HostRuntime) -> Result<(), Fail> {
+    let alloc = rt.alloc();
+    check_made(alloc, "")?;
+    for (row, _) in TEXTS {
+        check_made(alloc, text_of(alloc, row)?.as_str())?;
+    }
+    without_request(
+        alloc,
+        &true,
+        |heap| MultiConfigurationStringIter::new(heap, "").next().is_none(),
+    )
+}

@@ -1,5 +1,0 @@
-mod configurations;
-mod filling;
-mod memory;
-mod samples;
-mod values;

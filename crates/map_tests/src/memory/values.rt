@@ -1,0 +1,228 @@
+use super::meta_of;
+use std::test::Fail;
+use test_support::{each_gives, same, same_text};
+use uefi_base::Align;
+use uefi_map::{
+    MemoryAttribute, MemoryDescriptor, MemoryMapError, MemoryMapKey, MemoryMapMeta, MemoryType,
+    laws,
+};
+
+/// Returns the bits of a set that is made of named bits alone, and of one that keeps all.
+fn made(bits: &u64) -> (Option<u64>, u64) {
+    let named = MemoryAttribute::from_bits(*bits);
+    let kept = MemoryAttribute::from_bits_retain(*bits);
+    (named.map(|set| set.bits()), kept.bits())
+}
+
+#[test]
+fn a_set_is_made_of_named_bits_alone() -> Result<(), Fail> {
+    let rows = [
+        (
+            0x8000_0000_0000_0009,
+            (Some(0x8000_0000_0000_0009), 0x8000_0000_0000_0009),
+        ),
+        (6, (Some(6), 6)),
+        (0x10, (None, 0x10)),
+        (0x4000_0000_0000_0000, (None, 0x4000_0000_0000_0000)),
+        (u64::MAX, (None, u64::MAX)),
+    ];
+    each_gives(&rows, made)
+}
+
+#[test]
+fn sets_have_their_bits() -> Result<(), Fail> {
+    let rows = [
+        (MemoryAttribute::UNCACHEABLE, 0x1),
+        (MemoryAttribute::WRITE_COMBINE, 0x2),
+        (MemoryAttribute::WRITE_THROUGH, 0x4),
+        (MemoryAttribute::WRITE_BACK, 0x8),
+        (MemoryAttribute::RUNTIME, 0x8000_0000_0000_0000),
+        (
+            MemoryAttribute::WRITE_COMBINE.union(MemoryAttribute::WRITE_THROUGH),
+            6,
+        ),
+        (MemoryAttribute::empty(), 0),
+        (MemoryAttribute::default(), 0),
+    ];
+    each_gives(&rows, MemoryAttribute::bits)
+}
+
+#[test]
+fn a_set_contains_its_flags() -> Result<(), Fail> {
+    let set = MemoryAttribute::from_bits_retain(0x8000_0000_0000_0009);
+    let two = MemoryAttribute::WRITE_BACK.union(MemoryAttribute::WRITE_COMBINE);
+    let seen = (
+        set.contains(MemoryAttribute::RUNTIME),
+        set.contains(MemoryAttribute::UNCACHEABLE),
+        set.contains(two),
+    );
+    same("bits 63, 3 and 0", &seen, &(true, true, false))
+}
+
+#[test]
+fn sets_are_ordered_by_their_bits() -> Result<(), Fail> {
+    let empty = MemoryAttribute::empty();
+    let seen = (
+        MemoryAttribute::default() == empty,
+        empty < MemoryAttribute::UNCACHEABLE,
+        MemoryAttribute::WRITE_BACK < MemoryAttribute::RUNTIME,
+    );
+    same("the default, and two pairs", &seen, &(true, true, true))
+}
+
+#[test]
+fn types_have_their_numbers() -> Result<(), Fail> {
+    let rows = [
+        (MemoryType::RESERVED, 0),
+        (MemoryType::LOADER_CODE, 1),
+        (MemoryType::LOADER_DATA, 2),
+        (MemoryType::BOOT_SERVICES_CODE, 3),
+        (MemoryType::BOOT_SERVICES_DATA, 4),
+        (MemoryType::RUNTIME_SERVICES_CODE, 5),
+        (MemoryType::RUNTIME_SERVICES_DATA, 6),
+        (MemoryType::CONVENTIONAL, 7),
+        (MemoryType::UNUSABLE, 8),
+        (MemoryType::ACPI_RECLAIM, 9),
+        (MemoryType::ACPI_NON_VOLATILE, 10),
+        (MemoryType::MMIO, 11),
+        (MemoryType::MMIO_PORT_SPACE, 12),
+        (MemoryType::PAL_CODE, 13),
+        (MemoryType::PERSISTENT_MEMORY, 14),
+    ];
+    each_gives(&rows, |ty| ty.0)
+}
+
+#[test]
+fn a_default_descriptor_is_zeros() -> Result<(), Fail> {
+    let zeros = MemoryDescriptor {
+        ty: MemoryType(0),
+        padding: 0,
+        phys_start: 0,
+        virt_start: 0,
+        page_count: 0,
+        att: MemoryAttribute::empty(),
+    };
+    same("the default", &MemoryDescriptor::default(), &zeros)?;
+    let seen = (MemoryDescriptor::VERSION, MemoryDescriptor::alignment());
+    same("the version and the alignment", &seen, &(1, 8))
+}
+
+/// Returns whether the descriptor is itself, and whether it is the default.
+fn equalities(descriptor: &MemoryDescriptor) -> (bool, bool) {
+    let itself = *descriptor;
+    (
+        *descriptor == itself,
+        *descriptor == MemoryDescriptor::default(),
+    )
+}
+
+#[test]
+fn descriptors_are_equal_where_every_field_is() -> Result<(), Fail> {
+    let zeros = MemoryDescriptor::default();
+    let rows = [
+        (zeros, (true, true)),
+        (
+            MemoryDescriptor {
+                ty: MemoryType(1),
+                ..zeros
+            },
+            (true, false),
+        ),
+        (
+            MemoryDescriptor {
+                padding: 1,
+                ..zeros
+            },
+            (true, false),
+        ),
+        (
+            MemoryDescriptor {
+                phys_start: 1,
+                ..zeros
+            },
+            (true, false),
+        ),
+        (
+            MemoryDescriptor {
+                virt_start: 1,
+                ..zeros
+            },
+            (true, false),
+        ),
+        (
+            MemoryDescriptor {
+                page_count: 1,
+                ..zeros
+            },
+            (true, false),
+        ),
+        (
+            MemoryDescriptor {
+                att: MemoryAttribute::UNCACHEABLE,
+                ..zeros
+            },
+            (true, false),
+        ),
+    ];
+    each_gives(&rows, equalities)
+}
+
+#[test]
+fn keys_are_their_numbers() -> Result<(), Fail> {
+    let default = MemoryMapKey::default();
+    let seen = (
+        default == MemoryMapKey::from_raw(0),
+        default == MemoryMapKey::from_raw(1),
+    );
+    same("the default", &seen, &(true, false))
+}
+
+fn is_sane(sizes: &(usize, usize)) -> bool {
+    meta_of(sizes.0, sizes.1).assert_sanity_checks()
+}
+
+#[test]
+fn sane_sizes_are_those_that_firmware_gives() -> Result<(), Fail> {
+    let rows = [
+        ((480, 48), true),
+        ((1, 40), true),
+        ((1 << 30, 40), true),
+        (((1 << 30) + 1, 40), false),
+        ((0, 40), false),
+        ((480, 39), false),
+        ((480, 0), false),
+    ];
+    each_gives(&rows, is_sane)
+}
+
+#[test]
+fn descriptors_are_counted_by_their_stride() -> Result<(), Fail> {
+    let counts = (meta_of(480, 48).entry_count(), meta_of(0, 1).entry_count());
+    same("counts", &counts, &(10, 0))
+}
+
+#[test]
+fn errors_are_displayed_by_their_names(rt: HostRuntime) -> Result<(), Fail> {
+    for (error, name) in [
+        (MemoryMapError::InvalidSize, "InvalidSize"),
+        (MemoryMapError::Misaligned, "Misaligned"),
+    ] {
+        same_text(name, error.to_string(rt.alloc())?.as_str(), name)?;
+    }
+    Ok(())
+}
+
+#[test]
+fn the_laws_take_nothing_to_run() {
+    laws::stride_free();
+    laws::one_list();
+    laws::worked_rows();
+}
+
+#[test]
+fn sizes_without_key_and_version_have_zeros() -> Result<(), Fail> {
+    let meta = MemoryMapMeta::of(480, 48);
+    same("sizes", &(meta.map_size, meta.desc_size), &(480, 48))?;
+    let none = (MemoryMapKey::default(), 0);
+    same("key, version", &(meta.map_key, meta.desc_version), &none)
+}

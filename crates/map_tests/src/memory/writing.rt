@@ -1,0 +1,144 @@
+use super::{fields, map_at, meta_of};
+use crate::changed::put;
+use std::alloc::Global;
+use std::test::Fail;
+use test_support::samples::FIRMWARE_MAP;
+use test_support::{bytes, same, same_bytes};
+use uefi_map::{
+    MemoryAttribute, MemoryDescriptor, MemoryMap, MemoryMapKey, MemoryMapMut, MemoryMapOwned,
+    MemoryMapRefMut, MemoryType,
+};
+
+/// The bytes of [`device_registers`].
+const DEVICE_REGISTERS: &str =
+    "0b000000 01000000 0000c0ff00000000 0200000000000000 0004000000000000 0100000000000080";
+
+fn device_registers() -> MemoryDescriptor {
+    MemoryDescriptor {
+        ty: MemoryType::MMIO,
+        padding: 1,
+        phys_start: 0xffc0_0000,
+        virt_start: 2,
+        page_count: 1024,
+        att: MemoryAttribute::UNCACHEABLE.union(MemoryAttribute::RUNTIME),
+    }
+}
+
+/// The descriptor that was there, the one that is there after, and what setting one gives at an
+/// index that isn't below the count.
+type Set = [Option<[u64; 6]>; 3];
+
+/// Sets descriptor 1 of a firmware's map, and then one that isn't there.
+fn set_second<M: MemoryMapMut>(map: &mut M) -> Set {
+    let written = device_registers();
+    let before = map.set(1, written);
+    let after = map.get(1);
+    let none = map.set(10, written);
+    [before, after, none].map(|entry| entry.map(|d| fields(&d)))
+}
+
+/// What [`set_second`] gives.
+const SET: Set = [
+    Some([7, 0, 0x1000, 0, 134, 0xf]),
+    Some([11, 1, 0xffc0_0000, 2, 1024, 0x8000_0000_0000_0001]),
+    None,
+];
+
+/// Returns a firmware's map in which the second stride ends with `ee`, and its bytes with
+/// descriptor 1 set.
+fn before_and_after(alloc: Global) -> Result<(Vec<u8>, Vec<u8>), Fail> {
+    let mut before = bytes(alloc, FIRMWARE_MAP)?;
+    put(before.as_mut_slice(), 88, &[0xee; 8]).ok_or("room")?;
+    let mut after = before.clone()?;
+    let written = bytes(alloc, DEVICE_REGISTERS)?;
+    put(after.as_mut_slice(), 48, written.as_slice()).ok_or("room")?;
+    Ok((before, after))
+}
+
+#[test]
+fn a_write_changes_forty_bytes_alone(rt: HostRuntime) -> Result<(), Fail> {
+    let (mut buffer, expected) = before_and_after(rt.alloc())?;
+    let mut map = MemoryMapRefMut::new(buffer.as_mut_slice(), meta_of(480, 48))?;
+    same("descriptors", &set_second(&mut map), &SET)?;
+    let seen = (map.len(), map.key(), map.is_sorted());
+    same("the map", &seen, &(10, MemoryMapKey::from_raw(7), false))?;
+    same_bytes("its bytes", map.buffer(), expected.as_slice())?;
+    same_bytes("the buffer", buffer.as_slice(), expected.as_slice())
+}
+
+#[test]
+fn a_write_changes_forty_owned_bytes_alone(rt: HostRuntime) -> Result<(), Fail> {
+    let (buffer, expected) = before_and_after(rt.alloc())?;
+    let Ok(mut map) = MemoryMapOwned::from_initialized_mem(buffer, meta_of(480, 48)) else {
+        return Err(Fail::new("480 bytes are ten descriptors"));
+    };
+    same("descriptors", &set_second(&mut map), &SET)?;
+    let seen = (map.len(), map.key(), map.is_sorted());
+    same("the map", &seen, &(10, MemoryMapKey::from_raw(7), false))?;
+    same_bytes("its bytes", map.buffer(), expected.as_slice())
+}
+
+/// Sets the start of the third descriptor: the descriptor that was there, and where all begin then.
+fn set_start(buffer: &mut [u8], start: u64) -> Option<([u64; 6], [Option<u64>; 4])> {
+    let mut map = MemoryMapRefMut::new(buffer, meta_of(160, 40)).ok()?;
+    let mut written = map.get(2)?;
+    written.phys_start = start;
+    let before = map.set(2, written)?;
+    Some((
+        fields(&before),
+        [0, 1, 2, 3].map(|i| Some(map.get(i)?.phys_start)),
+    ))
+}
+
+#[test]
+fn the_others_stay_where_one_is_set(rt: HostRuntime) -> Result<(), Fail> {
+    let mut input = map_at(rt.alloc(), &[2000, 3000, 0, 1000])?;
+    let starts = [Some(2000), Some(3000), Some(300), Some(1000)];
+    let expected = Some(([7, 0, 0, 0, 1, 0], starts));
+    same(
+        "the third",
+        &set_start(input.as_mut_slice(), 300),
+        &expected,
+    )
+}
+
+/// Sets the second descriptor of two, by [`MemoryMapMut::set_at`], and returns both.
+fn set_last(buffer: &mut [u8; 96]) -> Option<(usize, [u64; 6], [u64; 6])> {
+    let meta = meta_of(96, 48);
+    if !meta.is_map_within(96) {
+        return None;
+    }
+    let mut map = MemoryMapRefMut::over(buffer, meta);
+    let last = MemoryDescriptor {
+        ty: MemoryType::PERSISTENT_MEMORY,
+        phys_start: 1,
+        page_count: 2,
+        att: MemoryAttribute::from_bits_retain(3),
+        ..MemoryDescriptor::default()
+    };
+    map.set_at(1, last);
+    Some((map.len(), fields(&map.at(0)), fields(&map.at(1))))
+}
+
+#[test]
+fn a_descriptor_is_set_at_its_index() -> Result<(), Fail> {
+    let mut buffer = [0u8; 96];
+    let expected = Some((2, [0; 6], [14, 0, 1, 0, 2, 3]));
+    same("the descriptors", &set_last(&mut buffer), &expected)?;
+    same("the type", &buffer[48], &14)
+}
+
+/// Writes a byte of the second descriptor's type into the buffer of a map, and returns the type.
+fn write_type(buffer: &mut [u8]) -> Option<MemoryType> {
+    let mut map = MemoryMapRefMut::new(buffer, meta_of(480, 48)).ok()?;
+    *map.buffer_mut().get_mut(49)? = 1;
+    Some(map.get(1)?.ty)
+}
+
+#[test]
+fn what_is_written_into_the_buffer_is_the_map(rt: HostRuntime) -> Result<(), Fail> {
+    let mut input = bytes(rt.alloc(), FIRMWARE_MAP)?;
+    let ty = write_type(input.as_mut_slice());
+    same("the type", &ty, &Some(MemoryType(0x107)))?;
+    same("the byte", &input.get(49), &Some(&1))
+}

@@ -1,3 +1,0 @@
-mod changed;
-mod memory;
-mod pci;

@@ -1,3 +1,0 @@
-mod boxes;
-mod paths;
-mod values;

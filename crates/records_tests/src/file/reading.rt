@@ -1,0 +1,305 @@
+use crate::file::names::{UNITS_OF_AB, Units, units};
+use std::alloc::Global;
+use std::test::Fail;
+use test_support::samples::{FILE, FILE_SYSTEM, ZERO_FILE};
+use test_support::{bytes, each_gives_in, each_holds, each_makes, each_reads, same, same_text};
+use uefi_base::{Align, Error, Guid, Identify, Status};
+use uefi_records::{FileInfo, FileSystemInfo, FileSystemVolumeLabel};
+
+/// The sizes of a file information record, its attributes, whether it is of a directory and whether
+/// of a regular file, and its name.
+type File = ((u64, u64, u64), u64, [bool; 2], Units);
+
+fn file(input: &[u8]) -> Option<File> {
+    let info = FileInfo::from_uefi(input, 86).ok()?;
+    Some((
+        (info.size(), info.file_size(), info.physical_size()),
+        info.attribute().bits(),
+        [info.is_directory(), info.is_regular_file()],
+        units(info.file_name()),
+    ))
+}
+
+#[test]
+fn each_field_of_a_file_stands_at_its_offset(rt: HostRuntime) -> Result<(), Fail> {
+    let directory = 0x8000_0000_0000_0010;
+    let rows = [
+        (
+            FILE,
+            Some(((88, 1, 2), directory, [true, false], UNITS_OF_AB)),
+        ),
+        (ZERO_FILE, Some(((88, 0, 0), 0, [false, true], UNITS_OF_AB))),
+    ];
+    each_reads(rt.alloc(), &rows, file)
+}
+
+/// Returns the times of creation, of the last access and of the last modification.
+fn times(alloc: Global, input: &[u8]) -> Result<Vec<u8>, Fail> {
+    let info = FileInfo::from_uefi(input, 86)?;
+    let mut times = Vec::from_slice(alloc, &info.create_time().to_bytes())?;
+    times.extend_from_slice(&info.last_access_time().to_bytes())?;
+    times.extend_from_slice(&info.modification_time().to_bytes())?;
+    Ok(times)
+}
+
+#[test]
+fn a_file_has_three_times(rt: HostRuntime) -> Result<(), Fail> {
+    let rows = [(
+        FILE,
+        "e807021f0102030405060708090a0b0c e707021e1112131415161718191a1b1c \
+            e607021d2122232425262728292a2b2c",
+    )];
+    each_makes(rt.alloc(), &rows, times)
+}
+
+/// The size of a file system information record, whether it is read-only, its numbers and its
+/// label.
+type FileSystem = (u64, bool, (u64, u64, u32), Units);
+
+fn file_system(input: &[u8]) -> Option<FileSystem> {
+    let info = FileSystemInfo::from_uefi(input, 42).ok()?;
+    let numbers = (info.volume_size(), info.free_space(), info.block_size());
+    Some((
+        info.size(),
+        info.read_only(),
+        numbers,
+        units(info.volume_label()),
+    ))
+}
+
+#[test]
+fn each_field_of_a_file_system_stands_at_its_offset(rt: HostRuntime) -> Result<(), Fail> {
+    let rows = [(FILE_SYSTEM, Some((48, true, (1, 2, 3), UNITS_OF_AB)))];
+    each_reads(rt.alloc(), &rows, file_system)
+}
+
+fn bad_size() -> Error<Option<usize>> {
+    Error::new(Status::BAD_BUFFER_SIZE, None)
+}
+
+fn too_small(size: usize) -> Error<Option<usize>> {
+    Error::new(Status::BUFFER_TOO_SMALL, Some(size))
+}
+
+/// A buffer that is cut to its first bytes: its bytes, to how many, and how many were written.
+type Cut = (&'static str, usize, usize);
+
+/// The units of a name, or the error of bytes that are no record.
+type Read = Result<Units, Error<Option<usize>>>;
+
+/// Returns the name of the file information record in a cut buffer.
+fn name_in(alloc: Global, (row, length, written): &Cut) -> Option<Read> {
+    let input = bytes(alloc, row).ok()?;
+    match FileInfo::from_uefi(input.get(..*length)?, *written) {
+        Ok(info) => Some(Ok(units(info.file_name()))),
+        Err(error) => Some(Err(error)),
+    }
+}
+
+#[test]
+fn a_name_is_sought_in_what_was_written(rt: HostRuntime) -> Result<(), Fail> {
+    let rows = [
+        ((FILE, 88, 86), Some(Ok(UNITS_OF_AB))),
+        ((FILE, 88, 87), Some(Ok(UNITS_OF_AB))),
+        ((FILE, 88, 1000), Some(Ok(UNITS_OF_AB))),
+        ((FILE, 88, usize::MAX), Some(Ok(UNITS_OF_AB))),
+        ((FILE, 88, 0), Some(Err(bad_size()))),
+        ((FILE, 88, 1), Some(Err(bad_size()))),
+        ((FILE, 88, 79), Some(Err(bad_size()))),
+        ((FILE, 88, 80), Some(Err(bad_size()))),
+        ((FILE, 88, 84), Some(Err(bad_size()))),
+        ((FILE, 88, 85), Some(Err(bad_size()))),
+        ((FILE, 86, 86), Some(Err(too_small(88)))),
+        ((ZERO_FILE, 88, 86), Some(Ok(UNITS_OF_AB))),
+        ((ZERO_FILE, 88, 1000), Some(Ok(UNITS_OF_AB))),
+        ((ZERO_FILE, 86, 86), Some(Err(too_small(88)))),
+        ((ZERO_FILE, 88, 85), Some(Err(bad_size()))),
+        ((ZERO_FILE, 88, 0), Some(Err(bad_size()))),
+    ];
+    each_gives_in(rt.alloc(), &rows, name_in)
+}
+
+/// Returns the size that a record states whose first byte is another.
+fn stated_size(alloc: Global, (row, first): &(&str, u8)) -> Option<u64> {
+    let input = with_byte(alloc, row, 0, *first)?;
+    Some(FileInfo::from_uefi(input.as_slice(), 86).ok()?.size())
+}
+
+#[test]
+fn the_stated_size_is_not_trusted(rt: HostRuntime) -> Result<(), Fail> {
+    let rows = [
+        ((FILE, 0), Some(0)),
+        ((FILE, 255), Some(255)),
+        ((ZERO_FILE, 0), Some(0)),
+        ((ZERO_FILE, 255), Some(255)),
+    ];
+    each_gives_in(rt.alloc(), &rows, stated_size)
+}
+
+/// Returns what is read of the first bytes of a record of 88 bytes, of which 86 end with the name,
+/// where that many were written.
+fn expected(length: usize, written: usize) -> Option<Error<Option<usize>>> {
+    if length.min(written) < 86 {
+        Some(bad_size())
+    } else if length < 88 {
+        Some(too_small(88))
+    } else {
+        None
+    }
+}
+
+/// Returns whether each number of the first bytes is read as [`expected`], if this many were
+/// written.
+fn is_judged_where_written(input: &[u8], written: usize) -> bool {
+    for length in 0..=input.len() {
+        let read = FileInfo::from_uefi(&input[..length], written);
+        if read.err() != expected(length, written) {
+            return false;
+        }
+    }
+    input.len() == 88
+}
+
+/// Returns whether that holds whatever number was written.
+fn is_judged_by_what_is_left(input: &[u8]) -> bool {
+    for written in 0..=90 {
+        if !is_judged_where_written(input, written) {
+            return false;
+        }
+    }
+    is_judged_where_written(input, 1000) && is_judged_where_written(input, usize::MAX)
+}
+
+#[test]
+fn a_cut_buffer_is_refused_by_what_is_left(rt: HostRuntime) -> Result<(), Fail> {
+    each_holds(rt.alloc(), &[FILE, ZERO_FILE], is_judged_by_what_is_left)
+}
+
+/// Returns the units of the label in the bytes of which this many were written.
+fn label_in(alloc: Global, (row, written): &(&str, usize)) -> Option<Read> {
+    let input = bytes(alloc, row).ok()?;
+    match FileSystemVolumeLabel::from_uefi(input.as_slice(), *written) {
+        Ok(label) => Some(Ok(units(label.volume_label()))),
+        Err(error) => Some(Err(error)),
+    }
+}
+
+#[test]
+fn a_label_is_its_units(rt: HostRuntime) -> Result<(), Fail> {
+    let rows = [
+        (
+            ("6100 0000", 4),
+            Some(Ok((2, [Some(0x61), Some(0), None, None]))),
+        ),
+        (("6100 0000", 3), Some(Err(bad_size()))),
+    ];
+    each_gives_in(rt.alloc(), &rows, label_in)
+}
+
+/// Returns the bytes of a row with another byte at the offset.
+fn with_byte(alloc: Global, row: &str, offset: usize, byte: u8) -> Option<Vec<u8>> {
+    let mut changed = bytes(alloc, row).ok()?;
+    *changed.get_mut(offset)? = byte;
+    Some(changed)
+}
+
+/// Returns whether [`FILE`] is equal to itself with another byte at an offset.
+fn is_equal_file(alloc: Global, (offset, byte): &(usize, u8)) -> Option<bool> {
+    let one = bytes(alloc, FILE).ok()?;
+    let other = with_byte(alloc, FILE, *offset, *byte)?;
+    let one = FileInfo::from_uefi(one.as_slice(), 86).ok()?;
+    let other = FileInfo::from_uefi(other.as_slice(), 86).ok()?;
+    Some(one == other)
+}
+
+/// Returns whether [`FILE_SYSTEM`] is equal to itself with another byte at an offset.
+fn is_equal_file_system(alloc: Global, (offset, byte): &(usize, u8)) -> Option<bool> {
+    let one = bytes(alloc, FILE_SYSTEM).ok()?;
+    let other = with_byte(alloc, FILE_SYSTEM, *offset, *byte)?;
+    let one = FileSystemInfo::from_uefi(one.as_slice(), 42).ok()?;
+    let other = FileSystemInfo::from_uefi(other.as_slice(), 42).ok()?;
+    Some(one == other)
+}
+
+/// Returns whether the labels in both rows are equal.
+fn are_equal_labels(alloc: Global, (one, other): &(&str, &str)) -> Option<bool> {
+    let one = bytes(alloc, one).ok()?;
+    let other = bytes(alloc, other).ok()?;
+    let one = FileSystemVolumeLabel::from_uefi(one.as_slice(), 8).ok()?;
+    let other = FileSystemVolumeLabel::from_uefi(other.as_slice(), 8).ok()?;
+    Some(one == other)
+}
+
+#[test]
+fn records_are_equal_by_their_fields_and_names(rt: HostRuntime) -> Result<(), Fail> {
+    let files = [
+        ((87, 0), Some(true)),
+        ((0, 0), Some(false)),
+        ((30, 0), Some(false)),
+        ((82, 1), Some(false)),
+    ];
+    each_gives_in(rt.alloc(), &files, is_equal_file)?;
+    let file_systems = [
+        ((8, 1), Some(true)),
+        ((9, 0), Some(true)),
+        ((47, 0), Some(true)),
+        ((0, 0), Some(false)),
+        ((8, 0), Some(false)),
+        ((16, 0), Some(false)),
+        ((35, 1), Some(false)),
+        ((36, 0x62), Some(false)),
+    ];
+    each_gives_in(rt.alloc(), &file_systems, is_equal_file_system)?;
+    let labels = [
+        (("6100 6200 0000", "6100 6200 0000"), Some(true)),
+        (("6100 6200 0000", "6100 6200 0000  eeee"), Some(true)),
+        (("6100 6200 0000", "6100 6300 0000"), Some(false)),
+        (("6100 6200 0000", "6100 0000"), Some(false)),
+        (("6100 0000", "0000 6100"), Some(false)),
+    ];
+    each_gives_in(rt.alloc(), &labels, are_equal_labels)
+}
+
+fn shows(alloc: Global, guid: Guid, text: &str) -> Result<(), Fail> {
+    same_text(text, guid.to_string(alloc)?.as_str(), text)
+}
+
+#[test]
+fn each_record_has_its_guid(rt: HostRuntime) -> Result<(), Fail> {
+    shows(
+        rt.alloc(),
+        FileInfo::GUID,
+        "09576e92-6d3f-11d2-8e39-00a0c969723b",
+    )?;
+    shows(
+        rt.alloc(),
+        FileSystemInfo::GUID,
+        "09576e93-6d3f-11d2-8e39-00a0c969723b",
+    )?;
+    shows(
+        rt.alloc(),
+        FileSystemVolumeLabel::GUID,
+        "db47d7d3-fe81-11d3-9a35-0090273fc14d",
+    )
+}
+
+#[test]
+fn each_record_has_its_alignment_and_its_identity() -> Result<(), Fail> {
+    let alignments = (
+        FileInfo::alignment(),
+        FileSystemInfo::alignment(),
+        FileSystemVolumeLabel::alignment(),
+    );
+    same("alignments", &alignments, &(8, 8, 2))?;
+    let identities = (
+        FileInfo::identity(),
+        FileSystemInfo::identity(),
+        FileSystemVolumeLabel::identity(),
+    );
+    let guids = (
+        FileInfo::GUID,
+        FileSystemInfo::GUID,
+        FileSystemVolumeLabel::GUID,
+    );
+    same("identities", &identities, &guids)
+}

@@ -1,5 +1,0 @@
-mod capabilities;
-mod machine_log;
-mod texts;
-mod v1;
-mod v2;

@@ -1,0 +1,118 @@
+use crate::texts::push_hex;
+use std::alloc::{AllocError, Global};
+use std::test::Fail;
+use test_support::samples::{CRTM_VERSION, LOG1};
+use test_support::{bytes, holds, same, same_text};
+use uefi_tcg::v1::{EventLog, EventLogIter};
+
+/// The lines of both events of `LOG1`.
+const FIRST: &str = "0 0x00000008 1489f923c4dca729178b3e3233458550d8dddf29 0000\n";
+
+const BOTH: &str = "0 0x00000008 1489f923c4dca729178b3e3233458550d8dddf29 0000\n\
+    0 0x80000008 c706e7dd36392984eb06aaa08ff336844077b3ed 000082000000000000000e0000000000\n";
+
+/// The first event of `LOG1` with a data length of 256, and of 2^32 - 1: it is longer than its
+/// bytes.
+const LONG_DATA: &str = "00000000 08000000 1489f923c4dca729178b3e3233458550d8dddf29 00010000 0000";
+
+const LONGEST_DATA: &str =
+    "00000000 08000000 1489f923c4dca729178b3e3233458550d8dddf29 ffffffff 0000";
+
+/// `LOG1` without its last byte.
+const CUT: &str = "00000000 08000000 1489f923c4dca729178b3e3233458550d8dddf29 02000000 0000 \
+    00000000 08000080 c706e7dd36392984eb06aaa08ff336844077b3ed \
+    10000000 000082000000000000000e00000000";
+
+/// Bytes, a last entry, and the events of that log.
+const LOGS: [(&str, Option<usize>, &str); 14] = [
+    (LOG1, Some(34), BOTH),
+    (LOG1, Some(82), BOTH),
+    (LOG1, Some(1000), BOTH),
+    (LOG1, Some(usize::MAX), BOTH),
+    (LOG1, Some(0), FIRST),
+    (LOG1, Some(40), FIRST),
+    (LOG1, Some(1), ""),
+    (LOG1, None, ""),
+    (CUT, Some(34), FIRST),
+    (CRTM_VERSION, Some(34), FIRST),
+    (CRTM_VERSION, None, ""),
+    (LONG_DATA, Some(34), ""),
+    (LONGEST_DATA, Some(0), ""),
+    ("", Some(0), ""),
+];
+
+/// Returns the events that an iterator gives, one a line: register, type, digest and data.
+fn lines_of(alloc: Global, events: EventLogIter<'_>) -> Result<String, AllocError> {
+    let mut lines = String::new(alloc);
+    for event in events {
+        write!(
+            lines,
+            "{} 0x{:08x} ",
+            event.pcr_index().0,
+            event.event_type().0
+        )?;
+        push_hex(&mut lines, event.digest().as_slice())?;
+        lines.push(' ')?;
+        push_hex(&mut lines, event.event_data())?;
+        lines.push('\n')?;
+    }
+    Ok(lines)
+}
+
+#[test]
+fn a_log_has_the_events_that_keep_to_the_last_entry(rt: HostRuntime) -> Result<(), Fail> {
+    for (row, last_entry, lines) in LOGS {
+        let input = bytes(rt.alloc(), row)?;
+        let log = EventLog::new(Some(input.as_slice()), last_entry, false);
+        same_text(row, lines_of(rt.alloc(), log.iter())?.as_str(), lines)?;
+    }
+    Ok(())
+}
+
+/// Returns whether the iterator gives this many events, then none, and none when it is asked again.
+fn ends_after(mut events: EventLogIter<'_>, count: usize) -> bool {
+    for _ in 0..count {
+        if events.next().is_none() {
+            return false;
+        }
+    }
+    events.next().is_none() && events.next().is_none()
+}
+
+#[test]
+fn an_iterator_stays_ended(rt: HostRuntime) -> Result<(), Fail> {
+    for (row, last_entry, count) in [(LOG1, 34usize, 2usize), (LOG1, 1, 0), (LONG_DATA, 34, 0)] {
+        let input = bytes(rt.alloc(), row)?;
+        let log = EventLog::new(Some(input.as_slice()), Some(last_entry), false);
+        holds(row, ends_after(log.iter(), count))?;
+    }
+    Ok(())
+}
+
+#[test]
+fn the_parts_of_an_event_are_parts_of_its_bytes(rt: HostRuntime) -> Result<(), Fail> {
+    let input = bytes(rt.alloc(), LOG1)?;
+    let first = bytes(rt.alloc(), CRTM_VERSION)?;
+    let log = EventLog::new(Some(input.as_slice()), Some(34), false);
+    let mut events = log.iter();
+    let event = events.next().ok_or("the first event")?;
+    let next = events.next().ok_or("the second event")?;
+    holds(
+        "the first event's bytes",
+        event.as_bytes() == first.as_slice(),
+    )?;
+    holds("an event is itself", event == event)?;
+    holds("it isn't the next", event != next)?;
+    same("the next one's length", &next.as_bytes().len(), &48)
+}
+
+#[test]
+fn a_log_without_bytes_has_no_event(rt: HostRuntime) -> Result<(), Fail> {
+    let log = EventLog::new(None, Some(0), true);
+    same("events", &log.iter().count(), &0)?;
+    holds("it is truncated", log.is_truncated())?;
+    holds(
+        "it isn't truncated",
+        !EventLog::new(None, None, false).is_truncated(),
+    )
+}

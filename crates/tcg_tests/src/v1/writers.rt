@@ -1,0 +1,89 @@
+use std::alloc::Allocator;
+use std::test::Fail;
+use test_support::{bytes, holds, in_turn, same, same_bytes};
+use uefi_base::{Align, Error, Status};
+use uefi_tcg::v1::{EventLog, PcrEvent, Sha1Digest, write_event};
+use uefi_tcg::{EventType, PcrIndex};
+
+const PCR: PcrIndex = PcrIndex(4);
+
+const DIGEST: Sha1Digest = [
+    0, 1, 2, 3, 4, 5, 6, 7, 8, 9, 10, 11, 12, 13, 14, 15, 16, 17, 18, 19,
+];
+
+const EVENT_DATA: [u8; 4] = [0x14, 0x15, 0x16, 0x17];
+
+/// The event of these fields, with the type IPL.
+const EVENT: &str = "04000000 0d000000 000102030405060708090a0b0c0d0e0f10111213 04000000 14151617";
+
+#[test]
+fn an_event_is_written_to_the_beginning_of_a_buffer(rt: HostRuntime) -> Result<(), Fail> {
+    let row = bytes(rt.alloc(), EVENT)?;
+    let mut buffer = [0xff; 40];
+    let Ok(event) = PcrEvent::new_in_buffer(&mut buffer, PCR, EventType::IPL, DIGEST, &EVENT_DATA)
+    else {
+        return Err(Fail::from("the event fits"));
+    };
+    same_bytes("the event", event.as_bytes(), row.as_slice())?;
+    same("its register", &event.pcr_index(), &PCR)?;
+    same("its type", &event.event_type(), &EventType::IPL)?;
+    same_bytes("its digest", event.digest().as_slice(), DIGEST.as_slice())?;
+    same_bytes("its data", event.event_data(), EVENT_DATA.as_slice())?;
+    holds("the buffer's beginning", buffer.starts_with(row.as_slice()))?;
+    holds("the bytes that follow", buffer.ends_with(&[0xff; 4]))
+}
+
+#[test]
+fn a_short_buffer_stays_as_it_was() -> Result<(), Fail> {
+    let expected = Error::new(Status::BUFFER_TOO_SMALL, Some(36));
+    let mut buffer = [0xff; 35];
+    let written = write_event(&mut buffer, PCR, EventType::IPL, DIGEST, &EVENT_DATA);
+    holds("the error", written == Err(expected))?;
+    same_bytes("the buffer", buffer.as_slice(), [0xff; 35].as_slice())?;
+    let event = PcrEvent::new_in_buffer(&mut buffer, PCR, EventType::IPL, DIGEST, &EVENT_DATA);
+    holds(
+        "the same error",
+        event.err() == Some(Error::new(Status::BUFFER_TOO_SMALL, Some(36))),
+    )?;
+    same_bytes("the buffer still", buffer.as_slice(), [0xff; 35].as_slice())
+}
+
+/// Returns whether the event in a box is the written one, or `None` if memory ran out.
+fn box_event<A: Allocator>(alloc: A, written: &PcrEvent<'_>) -> Option<bool> {
+    match PcrEvent::new_in_box(alloc, PCR, EventType::IPL, DIGEST, &EVENT_DATA) {
+        Ok(boxed) => Some(boxed.as_event() == *written),
+        Err(error) if error == Error::new(Status::OUT_OF_RESOURCES, ()) => None,
+        Err(_) => Some(false),
+    }
+}
+
+#[test]
+fn an_event_in_a_box_is_the_one_in_a_buffer(rt: HostRuntime) -> Result<(), Fail> {
+    let mut buffer = [0; 36];
+    let Ok(written) = PcrEvent::new_in_buffer(&mut buffer, PCR, EventType::IPL, DIGEST, &EVENT_DATA)
+    else {
+        return Err(Fail::from("the event fits"));
+    };
+    same(
+        "ample memory",
+        &box_event(rt.alloc(), &written),
+        &Some(true),
+    )?;
+    let requests = in_turn(rt.alloc(), &true, |heap| box_event(heap, &written))?;
+    holds("a box takes memory", requests > 0)
+}
+
+#[test]
+fn a_written_event_is_a_log(rt: HostRuntime) -> Result<(), Fail> {
+    let row = bytes(rt.alloc(), EVENT)?;
+    let log = EventLog::new(Some(row.as_slice()), Some(0), false);
+    let mut events = log.iter();
+    let event = events.next().ok_or("the event")?;
+    same_bytes("the event", event.as_bytes(), row.as_slice())?;
+    holds("there is no other", events.next().is_none())
+}
+
+#[test]
+fn an_event_can_start_at_any_byte() -> Result<(), Fail> {
+    same("alignment", &PcrEvent::alignment(), &1)
+}

@@ -1,0 +1,197 @@
+use crate::texts::joined;
+use crate::v2::logs::{LONG_EVENT, ZERO_EVENT};
+use std::alloc::Global;
+use std::test::Fail;
+use test_support::samples::{FOUR_EVENTS, FOUR_HEADER};
+use test_support::{bytes, holds, same};
+use uefi_tcg::v2::{EventLog, EventLogHeader, EventLogIter, PcrEvent, PcrEventDigests};
+
+/// For the last entries from the first to the second number, whether the log has a header, and how
+/// many events it has from either start, whole and cut to its first 267 to 470 bytes.
+const COUNTS: [(usize, usize, (bool, usize, usize)); 8] = [
+    (0, 0, (true, 0, 0)),
+    (1, 76, (false, 0, 0)),
+    (77, 77, (true, 1, 1)),
+    (78, 266, (true, 0, 0)),
+    (267, 267, (true, 2, 1)),
+    (268, 470, (true, 1, 1)),
+    (471, 473, (true, 2, 1)),
+    (usize::MAX, usize::MAX, (true, 2, 1)),
+];
+
+/// Returns the log of a header of 77 bytes, and two events that end at 267 and 471.
+fn log_bytes(alloc: Global) -> Result<Vec<u8>, Fail> {
+    let text = joined(alloc, &[FOUR_HEADER, FOUR_EVENTS])?;
+    Ok(bytes(alloc, text.as_str())?)
+}
+
+/// Returns whether the log has a header, and how many events it has from either start.
+fn counts_of(input: &[u8], last_entry: usize) -> (bool, usize, usize) {
+    let log = EventLog::new(Some(input), Some(last_entry), false);
+    let count = log.iter_after_header_event().count();
+    (log.header().is_some(), log.iter().count(), count)
+}
+
+/// Checks every cut of the log for one last entry.
+fn check_cuts(
+    input: &[u8],
+    last_entry: usize,
+    (has_header, whole, cut): (bool, usize, usize),
+) -> Result<(), Fail> {
+    for length in 0..=input.len() {
+        let expected = match length {
+            471 => (has_header, whole, whole),
+            267..471 => (has_header, cut, cut),
+            77..267 => (has_header, 0, 0),
+            _ => (false, 0, 0),
+        };
+        same(
+            "a cut",
+            &(last_entry, length, counts_of(&input[..length], last_entry)),
+            &(last_entry, length, expected),
+        )?;
+    }
+    Ok(())
+}
+
+#[test]
+fn a_cut_log_has_its_whole_events(rt: HostRuntime) -> Result<(), Fail> {
+    let input = log_bytes(rt.alloc())?;
+    for (first, last, counts) in COUNTS {
+        for last_entry in first..=last {
+            check_cuts(input.as_slice(), last_entry, counts)?;
+        }
+    }
+    Ok(())
+}
+
+/// Returns how many events a log can have at most from an offset on, since each has 16 bytes at
+/// least.
+fn bound(start: usize, last_entry: usize) -> usize {
+    match last_entry.checked_sub(start) {
+        Some(room) => room / 16 + 1,
+        None => 0,
+    }
+}
+
+/// Returns whether the log has no more events than that from either start, of which the first is at
+/// 61 at the earliest.
+fn is_bounded(input: &[u8], last_entry: usize) -> bool {
+    let log = EventLog::new(Some(input), Some(last_entry), false);
+    let after_event = match log.header() {
+        Some(header) => bound(header.event_size(), last_entry),
+        None => 0,
+    };
+    log.iter().count() <= bound(61, last_entry)
+        && log.iter_after_header_event().count() <= after_event
+}
+
+fn are_same_digests(digests: PcrEventDigests<'_>, others: PcrEventDigests<'_>) -> bool {
+    let mut others = others.into_iter();
+    for digest in digests {
+        if others.next() != Some(digest) {
+            return false;
+        }
+    }
+    others.next().is_none()
+}
+
+fn is_same_event(event: &PcrEvent<'_>, other: &PcrEvent<'_>) -> bool {
+    event.pcr_index() == other.pcr_index()
+        && event.event_type() == other.event_type()
+        && event.event_data() == other.event_data()
+        && are_same_digests(event.digests(), other.digests())
+}
+
+/// Returns the length of an event: 16 bytes, and two for each digest's algorithm, and the digests
+/// and data.
+fn length_of(event: &PcrEvent<'_>) -> usize {
+    let mut length = event.event_data().len().saturating_add(16);
+    for (_, digest) in event.digests() {
+        length = length.saturating_add(2).saturating_add(digest.len());
+    }
+    length
+}
+
+/// Where the events of a log start.
+#[derive(Clone, Copy, PartialEq, Eq, Debug)]
+enum Start {
+    AfterHeader,
+    AfterHeaderEvent,
+}
+
+fn events_from<'a>(log: &EventLog<'a>, start: Start) -> EventLogIter<'a> {
+    match start {
+        Start::AfterHeader => log.iter(),
+        Start::AfterHeaderEvent => log.iter_after_header_event(),
+    }
+}
+
+fn offset_of(header: &EventLogHeader<'_>, start: Start) -> usize {
+    match start {
+        Start::AfterHeader => header.size_in_bytes(),
+        Start::AfterHeaderEvent => header.event_size(),
+    }
+}
+
+/// Returns whether the log with the later last entry begins with the earlier one's events that end
+/// by its last entry.
+fn begins_with_ended(input: &[u8], last_entry: usize, later: usize, start: Start) -> bool {
+    let earlier = EventLog::new(Some(input), Some(last_entry), false);
+    let Some(header) = earlier.header() else {
+        return events_from(&earlier, start).next().is_none();
+    };
+    let later = EventLog::new(Some(input), Some(later), false);
+    let mut grown = events_from(&later, start);
+    let mut end = offset_of(&header, start);
+    for event in events_from(&earlier, start) {
+        end = end.saturating_add(length_of(&event));
+        let same = match grown.next() {
+            Some(other) => is_same_event(&event, &other),
+            None => false,
+        };
+        if end <= last_entry && !same {
+            return false;
+        }
+    }
+    true
+}
+
+fn grows(input: &[u8], last_entry: usize, later: usize) -> bool {
+    begins_with_ended(input, last_entry, later, Start::AfterHeader)
+        && begins_with_ended(input, last_entry, later, Start::AfterHeaderEvent)
+}
+
+/// Checks one last entry against every later one.
+fn check_growth(input: &[u8], last_entry: usize) -> Result<(), Fail> {
+    holds("the bound on events", is_bounded(input, last_entry))?;
+    for later in last_entry..=input.len() {
+        holds("growth", grows(input, last_entry, later))?;
+    }
+    holds("growth to the end", grows(input, last_entry, usize::MAX))
+}
+
+#[test]
+fn a_log_that_grows_keeps_its_events(rt: HostRuntime) -> Result<(), Fail> {
+    let input = log_bytes(rt.alloc())?;
+    for last_entry in 0..=471usize {
+        check_growth(input.as_slice(), last_entry)?;
+    }
+    holds(
+        "the bound past the bytes",
+        is_bounded(input.as_slice(), usize::MAX),
+    )
+}
+
+#[test]
+fn a_log_that_starts_inside_its_header_event_keeps_its_events(rt: HostRuntime) -> Result<(), Fail> {
+    let text = joined(rt.alloc(), &[LONG_EVENT, ZERO_EVENT])?;
+    let input = bytes(rt.alloc(), text.as_str())?;
+    for last_entry in 0..=97usize {
+        check_growth(input.as_slice(), last_entry)?;
+    }
+    holds(
+        "the bound past the bytes",
+        is_bounded(input.as_slice(), usize::MAX),
+    )
+}

@@ -1,0 +1,312 @@
+use crate::texts::{joined, push_hex};
+use std::alloc::{AllocError, Global};
+use std::test::Fail;
+use test_support::samples::{FOUR_EVENTS, FOUR_HEADER, SHA1_HEADER};
+use test_support::{bytes, holds, same, same_text};
+use uefi_tcg::AlgorithmId;
+use uefi_tcg::v2::{EventLog, EventLogIter, PcrEventDigests};
+
+/// The lines of both events of `FOUR_EVENTS`.
+pub const FIRST: &str = "0 0x00000008 0000 \
+    0004:1489f923c4dca729178b3e3233458550d8dddf29 \
+    000b:96a296d224f285c67bee93c30f8a309157f0daa35dc5b87e410b78630a09cfc7 \
+    000c:1dd6f7b457ad880d840d41c961283bab688e94e4b59359ea\
+    45686581e90feccea3c624b1226113f824f315eb60ae0a7c \
+    000d:5ea71dc6d0b4f57bf39aadd07c208c35f06cd2bac5fde210397f70de11d439c6\
+    2ec1cdf3183758865fd387fcea0bada2f6c37a4a17851dd1d78fefe6f204ee54\n";
+
+pub const SECOND: &str = "0 0x80000008 000082000000000000000e0000000000 \
+    0004:c706e7dd36392984eb06aaa08ff336844077b3ed \
+    000b:3a308e958784bfd0f6e3f1bd4d4214d30a4c5500a45b06da96fc90338f69b361 \
+    000c:c0d07596c59a907b79716fc9f36aad8f0f26f202675b425a\
+    523f72ecb6f2539957f0d92c0a7dceaaf99e600e5418f1dc \
+    000d:9ae925dc9cd29df0e5805435a599061fcf3298cc2a15e48799a20c9ce56c8fe5\
+    840975aff0e1b69820075ee429798b5dbbe5d1a27436ab49f19b7a0411d2962c\n";
+
+/// `SHA1_HEADER` with 2^32 - 1 rows, and with 255 bytes for the vendor: the header is longer than
+/// its event.
+const MOST_ROWS: &str = "00000000 03000000 0000000000000000000000000000000000000000 21000000 \
+    53706563204944204576656e74303300 00000000 00020002 ffffffff 04001400 00";
+
+const MOST_VENDOR_BYTES: &str =
+    "00000000 03000000 0000000000000000000000000000000000000000 21000000 \
+    53706563204944204576656e74303300 00000000 00020002 01000000 04001400 ff";
+
+/// A header of 69 bytes with two rows for SHA-1, the second with another size.
+const SHA1_TWICE: &str = "00000000 03000000 0000000000000000000000000000000000000000 25000000 \
+    53706563204944204576656e74303300 00000000 00020002 02000000 04001400 04000400 00";
+
+/// `SHA1_HEADER` with the size 0.
+const NO_DIGEST_BYTES: &str = "00000000 03000000 0000000000000000000000000000000000000000 21000000 \
+    53706563204944204576656e74303300 00000000 00020002 01000000 04000000 00";
+
+/// `SHA1_HEADER` in an event of 81 bytes: 16 zero bytes follow the header.
+pub const LONG_EVENT: &str = "00000000 03000000 0000000000000000000000000000000000000000 31000000 \
+    53706563204944204576656e74303300 00000000 00020002 01000000 04001400 00 \
+    00000000000000000000000000000000";
+
+/// An event of two SHA-1 digests.
+const TWO_DIGESTS: &str = "00000000 08000000 02000000 \
+    0400 1111111111111111111111111111111111111111 \
+    0400 2222222222222222222222222222222222222222 00000000";
+
+/// An event whose data has a length of 256, and is shorter.
+const CUT_DATA: &str = "00000000 08000000 01000000 \
+    0400 1111111111111111111111111111111111111111 00010000 0000";
+
+/// A header of 101 bytes with ten rows: algorithm and size are 1 to 9, and then algorithm 9 has
+/// another size. Then the same without the last row, of 97 bytes.
+const TEN_ROWS: &str = "00000000 03000000 0000000000000000000000000000000000000000 45000000 \
+    53706563204944204576656e74303300 00000000 00020002 0a000000 \
+    01000100 02000200 03000300 04000400 05000500 06000600 07000700 08000800 09000900 \
+    09000100 00";
+
+const NINE_ROWS: &str = "00000000 03000000 0000000000000000000000000000000000000000 41000000 \
+    53706563204944204576656e74303300 00000000 00020002 09000000 \
+    01000100 02000200 03000300 04000400 05000500 06000600 07000700 08000800 09000900 00";
+
+/// An event of one digest, of algorithm 9 and of nine bytes.
+const NINTH: &str = "00000000 08000000 01000000 0900 aaaaaaaaaaaaaaaaaa 00000000";
+
+const NINTH_LINE: &str = "0 0x00000008  0009:aaaaaaaaaaaaaaaaaa\n";
+
+pub const ZERO_EVENT: &str = "00000000 00000000 00000000 00000000";
+
+/// The parts of a log, a last entry, where the header ends if there is one, and the lines of the
+/// events from there on.
+pub const LOGS: [(&[&str], Option<usize>, Option<usize>, &[&str]); 19] = [
+    (&[SHA1_HEADER], Some(0), Some(65), &[]),
+    (&[SHA1_HEADER], None, None, &[]),
+    (&[MOST_ROWS], Some(0), None, &[]),
+    (&[MOST_VENDOR_BYTES], Some(0), None, &[]),
+    (
+        &[FOUR_HEADER, FOUR_EVENTS],
+        Some(267),
+        Some(77),
+        &[FIRST, SECOND],
+    ),
+    (
+        &[FOUR_HEADER, FOUR_EVENTS],
+        Some(471),
+        Some(77),
+        &[FIRST, SECOND],
+    ),
+    (&[FOUR_HEADER, FOUR_EVENTS], Some(77), Some(77), &[FIRST]),
+    (&[FOUR_HEADER, FOUR_EVENTS], Some(0), Some(77), &[]),
+    (&[SHA1_HEADER, TWO_DIGESTS], Some(65), Some(65), &[]),
+    (
+        &[SHA1_TWICE, TWO_DIGESTS],
+        Some(69),
+        Some(69),
+        &[
+            "0 0x00000008  0004:1111111111111111111111111111111111111111 \
+            0004:2222222222222222222222222222222222222222\n",
+        ],
+    ),
+    (&[SHA1_HEADER, CUT_DATA], Some(105), Some(65), &[]),
+    // The first event is inside the header's own.
+    (
+        &[LONG_EVENT, ZERO_EVENT],
+        Some(81),
+        Some(65),
+        &["0 0x00000000 \n", "0 0x00000000 \n"],
+    ),
+    (&[LONG_EVENT, ZERO_EVENT], Some(65), None, &[]),
+    (
+        &[NO_DIGEST_BYTES, "00000000 08000000 01000000 0400 00000000"],
+        Some(65),
+        Some(65),
+        &["0 0x00000008  0004:\n"],
+    ),
+    (
+        &[NO_DIGEST_BYTES, "00000000 08000000 ffffffff 0400 00000000"],
+        Some(65),
+        Some(65),
+        &[],
+    ),
+    (
+        &[NO_DIGEST_BYTES, "00000000 08000000 01000000 0400 ffffffff"],
+        Some(65),
+        Some(65),
+        &[],
+    ),
+    (&[TEN_ROWS, NINTH], Some(101), Some(101), &[NINTH_LINE]),
+    (&[NINE_ROWS, NINTH], Some(97), Some(97), &[NINTH_LINE]),
+    (&[""], Some(0), None, &[]),
+];
+
+/// Returns the events that an iterator gives, one a line: register, type, data, and each digest
+/// after its algorithm.
+pub(crate) fn lines_of(alloc: Global, events: EventLogIter<'_>) -> Result<String, AllocError> {
+    let mut lines = String::new(alloc);
+    for event in events {
+        write!(
+            lines,
+            "{} 0x{:08x} ",
+            event.pcr_index().0,
+            event.event_type().0
+        )?;
+        push_hex(&mut lines, event.event_data())?;
+        push_digests(&mut lines, event.digests())?;
+        lines.push('\n')?;
+    }
+    Ok(lines)
+}
+
+/// Appends a digest after its algorithm.
+fn push_digest(text: &mut String, algorithm: AlgorithmId, digest: &[u8]) -> Result<(), AllocError> {
+    write!(text, " {:04x}:", algorithm.0)?;
+    push_hex(text, digest)
+}
+
+fn push_digests(text: &mut String, digests: PcrEventDigests<'_>) -> Result<(), AllocError> {
+    for (algorithm, digest) in digests {
+        push_digest(text, algorithm, digest)?;
+    }
+    Ok(())
+}
+
+/// Checks where the header of a log ends, and what the events from there on are.
+fn check_log(
+    alloc: Global,
+    row: &str,
+    log: &EventLog<'_>,
+    start: Option<usize>,
+    lines: &[&str],
+) -> Result<(), Fail> {
+    let found = log.header().map(|header| header.size_in_bytes());
+    same(row, &found, &start)?;
+    let lines = joined(alloc, lines)?;
+    same_text(row, lines_of(alloc, log.iter())?.as_str(), lines.as_str())
+}
+
+#[test]
+fn a_log_has_its_header_and_the_events_that_keep_to_the_last_entry(
+    rt: HostRuntime,
+) -> Result<(), Fail> {
+    for (parts, last_entry, start, lines) in LOGS {
+        let row = joined(rt.alloc(), parts)?;
+        let input = bytes(rt.alloc(), row.as_str())?;
+        let log = EventLog::new(Some(input.as_slice()), last_entry, false);
+        check_log(rt.alloc(), row.as_str(), &log, start, lines)?;
+    }
+    Ok(())
+}
+
+#[test]
+fn an_event_without_its_last_byte_is_none(rt: HostRuntime) -> Result<(), Fail> {
+    let row = joined(rt.alloc(), &[FOUR_HEADER, FOUR_EVENTS])?;
+    let input = bytes(rt.alloc(), row.as_str())?;
+    let (_, cut) = input.as_slice().split_last().ok_or("the last byte")?;
+    let log = EventLog::new(Some(cut), Some(267), false);
+    same("the length", &cut.len(), &470)?;
+    check_log(
+        rt.alloc(),
+        "all but the last byte",
+        &log,
+        Some(77),
+        &[FIRST],
+    )
+}
+
+#[test]
+fn a_log_without_bytes_has_neither_header_nor_events() -> Result<(), Fail> {
+    let log = EventLog::new(None, Some(0), true);
+    holds("the header", log.header().is_none())?;
+    same("events", &log.iter().count(), &0)?;
+    holds("it is truncated", log.is_truncated())?;
+    holds(
+        "it isn't truncated",
+        !EventLog::new(None, None, false).is_truncated(),
+    )
+}
+
+/// Returns whether the iterator gives this many events, then none, and none when it is asked again.
+fn ends_after(mut events: EventLogIter<'_>, count: usize) -> bool {
+    for _ in 0..count {
+        if events.next().is_none() {
+            return false;
+        }
+    }
+    events.next().is_none() && events.next().is_none()
+}
+
+#[test]
+fn an_iterator_stays_ended(rt: HostRuntime) -> Result<(), Fail> {
+    let row = joined(rt.alloc(), &[FOUR_HEADER, FOUR_EVENTS])?;
+    let input = bytes(rt.alloc(), row.as_str())?;
+    for (last_entry, count) in [(267usize, 2usize), (268, 1), (0, 0), (1, 0)] {
+        let log = EventLog::new(Some(input.as_slice()), Some(last_entry), false);
+        same(
+            "the last entry",
+            &(last_entry, ends_after(log.iter(), count)),
+            &(last_entry, true),
+        )?;
+    }
+    Ok(())
+}
+
+/// Returns whether the digests are this many, then none, and none when their iterator is asked
+/// again.
+fn digests_end_after(digests: PcrEventDigests<'_>, count: usize) -> bool {
+    let mut digests = digests.into_iter();
+    for _ in 0..count {
+        if digests.next().is_none() {
+            return false;
+        }
+    }
+    digests.next().is_none() && digests.next().is_none()
+}
+
+#[test]
+fn an_iterator_over_digests_stays_ended(rt: HostRuntime) -> Result<(), Fail> {
+    let row = joined(rt.alloc(), &[FOUR_HEADER, FOUR_EVENTS, ZERO_EVENT])?;
+    let input = bytes(rt.alloc(), row.as_str())?;
+    let log = EventLog::new(Some(input.as_slice()), Some(471), false);
+    let mut events = log.iter();
+    for count in [4usize, 4, 0] {
+        let event = events.next().ok_or("an event")?;
+        holds("the digests", digests_end_after(event.digests(), count))?;
+    }
+    holds("the events", events.next().is_none())
+}
+
+/// The parts of a log, its last entry, an algorithm, and the first digest of that algorithm in the
+/// log's first event.
+const FIRST_DIGESTS: [(&[&str], usize, AlgorithmId, Option<&str>); 5] = [
+    (
+        &[SHA1_TWICE, TWO_DIGESTS],
+        69,
+        AlgorithmId::SHA1,
+        Some("1111111111111111111111111111111111111111"),
+    ),
+    (&[SHA1_TWICE, TWO_DIGESTS], 69, AlgorithmId::SHA256, None),
+    (
+        &[FOUR_HEADER, FOUR_EVENTS],
+        77,
+        AlgorithmId::SHA256,
+        Some("96a296d224f285c67bee93c30f8a309157f0daa35dc5b87e410b78630a09cfc7"),
+    ),
+    (&[FOUR_HEADER, FOUR_EVENTS], 77, AlgorithmId::SM3_256, None),
+    (&[LONG_EVENT, ZERO_EVENT], 81, AlgorithmId::SHA1, None),
+];
+
+/// Returns the first digest of an algorithm in a log's first event.
+fn first_digest(input: &[u8], last_entry: usize, algorithm: AlgorithmId) -> Option<&[u8]> {
+    let log = EventLog::new(Some(input), Some(last_entry), false);
+    let event = log.iter().next()?;
+    event.digest(algorithm)
+}
+
+#[test]
+fn an_event_has_the_first_digest_of_an_algorithm(rt: HostRuntime) -> Result<(), Fail> {
+    for (parts, last_entry, algorithm, digest) in FIRST_DIGESTS {
+        let row = joined(rt.alloc(), parts)?;
+        let input = bytes(rt.alloc(), row.as_str())?;
+        let expected = bytes(rt.alloc(), digest.unwrap_or(""))?;
+        let expected = digest.map(|_| expected.as_slice());
+        let found = first_digest(input.as_slice(), last_entry, algorithm);
+        holds(row.as_str(), found == expected)?;
+    }
+    Ok(())
+}
