@@ -3,12 +3,4 @@
 #![tactic(auto)]
 
 #[cfg(test)]
-mod memory;
-#[cfg(test)]
-mod requests;
-#[cfg(test)]
-mod texts;
-#[cfg(test)]
-mod units;
-#[cfg(test)]
-mod values;
+mod tests;

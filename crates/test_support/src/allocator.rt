@@ -120,6 +120,23 @@ where
     Err(Fail::new("the call asks for more than 100 requests"))
 }
 
+/// Makes a call as [`in_turn`] does, and checks that it asks for memory.
+///
+/// # Errors
+///
+/// A failure where [`in_turn`] fails, or if the call made no request.
+pub fn takes_memory<T, F>(alloc: Global, expected: &T, call: F) -> Result<(), Fail>
+where
+    T: PartialEq + Debug + Drop,
+    F: Fn(&Refusing<Global>) -> Option<T>,
+    requires { F.IsAlwaysCallable call }
+{
+    match in_turn(alloc, expected, call)? {
+        0 => Err(Fail::new("the call asks for no memory")),
+        _ => Ok(()),
+    }
+}
+
 /// The most requests that [`without_request`] grants.
 const FEW_REQUESTS: u64 = 4;
 

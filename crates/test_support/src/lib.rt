@@ -26,11 +26,12 @@
 ghost use Rattle.std.specs.Prelude.{◌≡◌, ◌==◌, IfOk, not, filter};
 ghost use Rattle.hex.specs.Hex.{decode_of};
 
-pub use self::allocator::{Refusing, in_turn, without_request};
+pub use self::allocator::{Refusing, in_turn, takes_memory, without_request};
 pub use self::checks::{holds, same, same_bytes, same_text};
 pub use self::tables::{each_gives, each_gives_in, each_holds, each_makes, each_reads, each_shows};
 use hex::FromHexError;
-use std::alloc::Global;
+use std::alloc::{AllocError, Global};
+use std::test::Fail;
 
 mod allocator;
 mod checks;
@@ -54,4 +55,27 @@ pub fn bytes(alloc: Global, text: &str) -> Result<Vec<u8>, FromHexError>
         return Err(FromHexError::OutOfMemory);
     };
     hex::decode(alloc, digits.as_slice())
+}
+
+/// Returns the texts, one after another.
+///
+/// # Errors
+///
+/// [`AllocError`] if an allocation fails.
+pub fn joined(alloc: Global, texts: &[&str]) -> Result<String, AllocError> {
+    let mut whole = String::new(alloc);
+    for text in texts {
+        whole.push_str(text)?;
+    }
+    Ok(whole)
+}
+
+/// Returns the bytes that texts of hex digits stand for, one after another.
+///
+/// # Errors
+///
+/// A failure where [`joined`] or [`bytes`] fails.
+pub fn joined_bytes(alloc: Global, texts: &[&str]) -> Result<Vec<u8>, Fail> {
+    let whole = joined(alloc, texts)?;
+    Ok(bytes(alloc, whole.as_str())?)
 }

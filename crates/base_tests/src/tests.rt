@@ -1,0 +1,5 @@
+mod memory;
+mod requests;
+mod texts;
+mod units;
+mod values;
