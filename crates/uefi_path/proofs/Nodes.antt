@@ -4,7 +4,7 @@ use Rattle.std.proofs.Common.{◌∙◌, ap, arith}
 use Rattle.std.proofs.lemmas.Grind.{common_steps}
 use Rattle.std.proofs.lemmas.List.{drop-drop, length-append, length-take-le, take-append-drop}
 use Rattle.std.specs.Int.{w16, from_le_bytes}
-use Rattle.std.proofs.Math.Seq.{take-append_seam, take-append-add}
+use Rattle.std.proofs.Math.Seq.{drop-append_seam, take-append_seam, take-append-add}
 use Rattle.uefi_path.specs.Node.{encoding, HasNode}
 use Rattle.uefi_base.specs.LittleEndian.{u16_at, u16_bytes}
 use Rattle.uefi_base.specs.Prefix.{IsPrefix}
@@ -72,6 +72,19 @@ stated_prefix bytes n has made =
             ∙ take-append_seam (encoding node) rest;
       },
     )
+
+-- Bytes that start with a node are that node, and then the bytes after the length that they state.
+pub first_cut : (bytes : List ℕ) (n : ℕ) (has : HasNode bytes) → n ≡ u16_at bytes LENGTH_OFFSET
+    → bytes ≡ encoding has.0 ++ drop n bytes
+first_cut bytes n has made =
+    let node = has.0 in
+    let rest = has.2.0 in
+    let stated : u16_at bytes LENGTH_OFFSET ≡ header_length + length node.payload =
+    ap (λ b. u16_at b LENGTH_OFFSET) has.2.1 ∙ stated_length node has.1 in
+    let whole : n ≡ length (encoding node) = omega (arith, made, stated) in
+    let after : drop n bytes ≡ rest =
+    ap (drop n) has.2.1 ∙ ap (λ k. drop k (encoding node ++ rest)) whole ∙ drop-append_seam (encoding node) rest in
+    has.2.1 ∙ ap (λ s. encoding node ++ s) (sym after)
 
 -- Bytes that start with a node state a length of at least 4, and are at least that long.
 pub states_length : (bytes : List ℕ) → HasNode bytes

@@ -1,10 +1,10 @@
 ghost use Rattle.std.specs.Prelude.{◌^◌, ◌<◌, length};
-ghost use Rattle.uefi_path.specs.private.Stop.{StatesLength, Stops, Stops-prop};
+ghost use Rattle.uefi_path.specs.private.Stop.{Stops, Stops-prop};
 ghost use Rattle.uefi_path.specs.private.Encoding.{IsEncodingOfNodes, EncodesNodes};
 ghost use Rattle.uefi_path.specs.private.OnePath.{EncodesNodes-prop};
 
 use crate::node::DevicePathNode;
-use crate::walk::{StopCondition, cut_node, known_length_at};
+use crate::walk::{StopCondition, first_node};
 
 /// An iterator over the nodes of a path or of an instance, in order, without the last one.
 ///
@@ -13,10 +13,7 @@ use crate::walk::{StopCondition, cut_node, known_length_at};
 #[derive(Clone, Copy)]
 pub struct DevicePathNodeIterator<'a> {
     rest: &'a [u8],
-    /// The length of the first node in `rest`.
-    first_length: usize,
     stop: StopCondition,
-    ghost stated: { StatesLength rest.now first_length },
     pub ghost nodes: { EncodesNodes (Stops stop) rest.now } by { EncodesNodes-prop (Stops stop) (Stops-prop stop) rest.now },
 }
 
@@ -27,27 +24,9 @@ impl<'a> DevicePathNodeIterator<'a> {
         ensures nodes { IsEncodingOfNodes (Stops stop) rest.now result.nodes.0 }
         ensures countable { length rest.now < 2 ^ 64 }
     {
-        DevicePathNodeIterator::from_first(rest, known_length_at(rest, 0), stop)
-    }
-
-    /// Returns the same where the length of the first node is known.
-    fn from_first(
-        rest: &'a [u8],
-        first_length: usize,
-        stop: StopCondition,
-    ) -> DevicePathNodeIterator<'a>
-        requires nodes { EncodesNodes (Stops stop) rest.now }
-        requires stated { StatesLength rest.now first_length }
-        ensures nodes { IsEncodingOfNodes (Stops stop) rest.now result.nodes.0 }
-        ensures countable { length rest.now < 2 ^ 64 }
-    {
         // The length of a slice fits `usize`, so its nodes can be counted.
         let _length = rest.len();
-        DevicePathNodeIterator {
-            rest,
-            first_length,
-            stop,
-        }
+        DevicePathNodeIterator { rest, stop }
     }
 }
 
@@ -62,12 +41,11 @@ impl<'a> Iterator for DevicePathNodeIterator<'a> {
     ghost remaining = { item_count nodes_left };
 
     fn next(&mut self) -> Option<DevicePathNode<'a>> {
-        let (node, after) = cut_node(self.rest, self.first_length);
-        if self.stop.stops_at(&node) {
+        if self.stop.stops_at(self.rest) {
             return None;
         }
-        let length = known_length_at(self.rest, self.first_length);
-        *self = DevicePathNodeIterator::from_first(after, length, self.stop);
+        let (node, after) = first_node(self.rest);
+        *self = DevicePathNodeIterator::new(after, self.stop);
         Some(node)
     }
 }

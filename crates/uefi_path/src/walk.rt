@@ -1,5 +1,6 @@
 ghost use Rattle.std.specs.Prelude.{◌≡◌, ◌↔◌, ◌≤◌, ◌++◌, length, drop, IsTrue, IfOk, OnErr};
-ghost use Rattle.uefi_path.specs.Node.{Fits, encoding, HasNode};
+ghost use Rattle.uefi_base.specs.Prefix.{IsPrefix};
+ghost use Rattle.uefi_path.specs.Node.{Node, Fits, encoding, HasNode};
 ghost use Rattle.uefi_path.specs.private.Stop.{StatesLength};
 ghost use Rattle.uefi_path.specs.private.Encoding.{HasNodes};
 ghost use Rattle.uefi_path.specs.private.Stop.{Stops};
@@ -8,9 +9,12 @@ ghost use Rattle.uefi_path.specs.Views.{node_of};
 
 use crate::device_type::DeviceType;
 use crate::error::ByteConversionError;
-use crate::header::{HEADER_LENGTH, LENGTH_OFFSET};
+use crate::header::{DEVICE_TYPE_OFFSET, HEADER_LENGTH, LENGTH_OFFSET};
 use crate::node::DevicePathNode;
 use uefi_base::little_endian::u16_at;
+
+/// The type END and the subtype END_ENTIRE, as the number that stands in their two bytes.
+const END_ENTIRE_NUMBER: u16 = 0xff7f;
 
 /// The node at which a walk over nodes stops.
 #[derive(Clone, Copy)]
@@ -22,13 +26,16 @@ pub(crate) enum StopCondition {
 }
 
 impl StopCondition {
-    /// Returns whether the walk stops at the node.
-    pub(crate) fn stops_at(self, node: &DevicePathNode<'_>) -> bool
-        ensures { IsTrue result ↔ Stops self (node_of node.now) }
+    /// Returns whether the walk stops at the node that the bytes are known to start with.
+    pub(crate) fn stops_at(self, bytes: &[u8]) -> bool
+        requires { HasNode bytes.now }
+        ensures { (node : Node) → IsPrefix (encoding node) bytes.now
+            → (IsTrue result ↔ Stops self node) }
     {
         match self {
-            StopCondition::AnyEndNode => node.device_type() == DeviceType::END,
-            StopCondition::EndEntireNode => node.is_end_entire(),
+            StopCondition::AnyEndNode => bytes[DEVICE_TYPE_OFFSET] == DeviceType::END.0,
+            // Both bytes in one test, which a processor foresees: END alone also ends instances.
+            StopCondition::EndEntireNode => u16_at(bytes, DEVICE_TYPE_OFFSET) == END_ENTIRE_NUMBER,
         }
     }
 }
@@ -58,7 +65,7 @@ fn length_at(bytes: &[u8], offset: usize) -> Result<usize, ByteConversionError>
 }
 
 /// Returns the length of the node that is known to start at the offset, without a test.
-pub(crate) fn known_length_at(bytes: &[u8], offset: usize) -> usize
+fn known_length_at(bytes: &[u8], offset: usize) -> usize
     requires within { offset ≤ length bytes.now }
     requires node { HasNode (drop offset bytes.now) }
     ensures { StatesLength (drop offset bytes.now) result }
@@ -66,17 +73,13 @@ pub(crate) fn known_length_at(bytes: &[u8], offset: usize) -> usize
     usize::from(u16_at(bytes, offset + LENGTH_OFFSET))
 }
 
-/// Returns the node of the stated length that the bytes are known to start with, and the bytes after
-/// it.
-pub(crate) fn cut_node(bytes: &[u8], node_length: usize) -> (DevicePathNode<'_>, &[u8])
-    requires node { HasNode bytes.now }
-    requires stated { StatesLength bytes.now node_length }
+/// Returns the node that the bytes are known to start with, and the bytes after it, without a test.
+pub(crate) fn first_node(bytes: &[u8]) -> (DevicePathNode<'_>, &[u8])
+    requires { HasNode bytes.now }
     ensures fits { Fits (node_of result.0) }
     ensures split { bytes.now ≡ encoding (node_of result.0) ++ result.1.now }
-    ensures after { result.1.now ≡ drop node_length bytes.now }
-    ensures within { node_length ≤ length bytes.now }
 {
-    let (node, after) = bytes.split_at(node_length);
+    let (node, after) = bytes.split_at(known_length_at(bytes, 0));
     (DevicePathNode::new_unchecked(node), after)
 }
 
@@ -93,12 +96,13 @@ pub(crate) fn split_nodes(
     let mut rest = bytes;
     let mut length = length_at(rest, 0)?;
     loop {
-        let (node, after) = cut_node(rest, length);
-        if stop.stops_at(&node) {
-            return Ok(bytes.split_at(bytes.len() - after.len()));
+        if stop.stops_at(rest) {
+            return Ok(bytes.split_at(bytes.len() - rest.len() + length));
         }
-        length = length_at(rest, length)?;
+        let next_length = length_at(rest, length)?;
+        let (_, after) = rest.split_at(length);
         rest = after;
+        length = next_length;
     }
 }
 
@@ -111,11 +115,12 @@ pub(crate) fn first_nodes(bytes: &[u8], stop: StopCondition) -> (&[u8], &[u8])
     let mut rest = bytes;
     let mut length = known_length_at(rest, 0);
     loop {
-        let (node, after) = cut_node(rest, length);
-        if stop.stops_at(&node) {
-            return bytes.split_at(bytes.len() - after.len());
+        if stop.stops_at(rest) {
+            return bytes.split_at(bytes.len() - rest.len() + length);
         }
-        length = known_length_at(rest, length);
+        let next_length = known_length_at(rest, length);
+        let (_, after) = rest.split_at(length);
         rest = after;
+        length = next_length;
     }
 }

@@ -4,12 +4,12 @@ use Rattle.uefi_path.specs.private.Stop.{StatesLength, Stops}
 use Rattle.uefi_path.proofs.Passing.{HasPassed}
 use Rattle.uefi_path.proofs.walk.first_nodes.Given as goal
 
-abbrev pub invariant-loop-rest : goal.invariant-loop-rest
-invariant-loop-rest l = record {
+abbrev pub invariant-loop-stop : goal.invariant-loop-stop
+invariant-loop-stop l = record {
   passed : HasPassed (Stops l.stop) l.bytes l.rest;
   left : HasNodes (Stops l.stop) l.rest;
   stated : StatesLength l.rest l.length;
 }
 
-abbrev pub decreases-loop-rest : goal.decreases-loop-rest
-decreases-loop-rest l = length l.rest
+abbrev pub decreases-loop-stop : goal.decreases-loop-stop
+decreases-loop-stop l = length l.rest

@@ -1,9 +1,7 @@
-use Rattle.std.proofs.Common.{◌≡◌, ℕ, List, true, false, sym, subst}
+use Rattle.std.proofs.Common.{◌≡◌, drop, true, false}
 use Rattle.std.proofs.lemmas.Result.{MatchResult-from_err}
-use Rattle.uefi_path.specs.Node.{HasNode}
-use Rattle.uefi_path.specs.private.Stop.{StatesLength, Stops}
-use Rattle.uefi_path.specs.Views.{node_of}
-use Rattle.uefi_path.proofs.Passing.{passed_more, passed_end, passed_nowhere}
+use Rattle.uefi_path.specs.private.Stop.{Stops}
+use Rattle.uefi_path.proofs.Passing.{passed_nowhere, passed_over, passed_up_to}
 use Rattle.uefi_path.proofs.Steps.{HasNodes-node}
 use Rattle.uefi_path.proofs.walk.split_nodes.Goals as goal
 
@@ -14,30 +12,29 @@ returns-in_err-length-clause-none c =
 
 pub returns-then-stops_at-clause-nodes : goal.returns-then-stops_at-clause-nodes
 returns-then-stops_at-clause-nodes c =
+    let has = c.loop-stop.invariant.node in
     rw c.split_at.ensures.front
-    (passed_end (Stops c.args.stop) c.args.bytes.now c.loop-rest.rest.now c.cut_node.result.1.now
-    (node_of c.cut_node.result.0) c.loop-rest.invariant.passed c.cut_node.ensures.fits
-    (c.stops_at.ensures.0 c.if-stops_at.true) c.cut_node.ensures.split)
+    (passed_up_to (Stops c.args.stop) c.args.bytes.now c.loop-stop.rest.now c.loop-stop.length has
+    c.loop-stop.invariant.passed c.loop-stop.invariant.stated
+    ((c.stops_at.ensures has.0 has.2).0 c.if-stops_at.true))
 
-pub returns-in_err-length-2-clause-none : goal.returns-in_err-length-2-clause-none
-returns-in_err-length-2-clause-none c =
-    let after = c.cut_node.result.1.now in
-    let passed = passed_more (Stops c.args.stop) c.args.bytes.now c.loop-rest.rest.now after
-    (node_of c.cut_node.result.0) c.loop-rest.invariant.passed c.cut_node.ensures.fits
-    (λ so. let stopped : false ≡ true = c.if-stops_at.ensures.1 so in cc)
-    c.cut_node.ensures.split in
-    MatchResult-from_err c.from_residual-in_err-length-2.result (λ _. Unit {0}) _
-    c.from_residual-in_err-length-2.ensures.0
-    (λ _. passed_nowhere (Stops c.args.stop) c.args.bytes.now after passed
-    (subst (λ (s : List ℕ). ¬ HasNode s) (sym c.cut_node.ensures.after) c.in_err-length-2.ensures.none))
+pub returns-in_err-next_length-clause-none : goal.returns-in_err-next_length-clause-none
+returns-in_err-next_length-clause-none c =
+    let P = Stops c.args.stop in
+    let has = c.loop-stop.invariant.node in
+    let passed = passed_over P c.args.bytes.now c.loop-stop.rest.now c.loop-stop.length has
+    c.loop-stop.invariant.passed c.loop-stop.invariant.stated
+    (λ so. let stopped : false ≡ true = (c.if-stops_at.ensures has.0 has.2).1 so in cc) in
+    MatchResult-from_err c.from_residual-in_err-next_length.result (λ _. Unit {0}) _
+    c.from_residual-in_err-next_length.ensures.0
+    (λ _. passed_nowhere P c.args.bytes.now (drop c.loop-stop.length c.loop-stop.rest.now) passed
+    c.in_err-next_length.ensures.none)
 
-pub loop-rest-preserved : goal.loop-rest-preserved
-loop-rest-preserved c = record {
-  passed = passed_more (Stops c.args.stop) c.args.bytes.now c.loop-rest.rest.now c.cut_node.result.1.now
-      (node_of c.cut_node.result.0) c.loop-rest.invariant.passed c.cut_node.ensures.fits
-      (λ so. let stopped : false ≡ true = c.if-stops_at.ensures.1 so in cc)
-      c.cut_node.ensures.split;
-  node = subst HasNode (sym c.cut_node.ensures.after) c.in_ok-length-2.ensures.node;
-  stated = subst (λ (s : List ℕ). StatesLength s c.in_ok-length-2.length) (sym c.cut_node.ensures.after)
-      c.in_ok-length-2.ensures.stated;
-}
+pub loop-stop-preserved : goal.loop-stop-preserved
+loop-stop-preserved c =
+    let has = c.loop-stop.invariant.node in
+    let passed = passed_over (Stops c.args.stop) c.args.bytes.now c.loop-stop.rest.now c.loop-stop.length has
+    c.loop-stop.invariant.passed c.loop-stop.invariant.stated
+    (λ so. let stopped : false ≡ true = (c.if-stops_at.ensures has.0 has.2).1 so in cc) in
+    rw c.split_at-in-loop-stop.ensures.back
+    (record { passed = passed; node = c.in_ok-next_length.ensures.node; stated = c.in_ok-next_length.ensures.stated })
