@@ -3,12 +3,4 @@
 #![tactic(auto)]
 
 #[cfg(test)]
-mod capabilities;
-#[cfg(test)]
-mod machine_log;
-#[cfg(test)]
-mod texts;
-#[cfg(test)]
-mod v1;
-#[cfg(test)]
-mod v2;
+mod tests;

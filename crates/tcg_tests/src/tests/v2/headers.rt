@@ -1,32 +1,16 @@
 use std::test::Fail;
-use test_support::{bytes, each_holds, same, same_bytes};
+use test_support::{bytes, holds, same, same_bytes};
 use uefi_tcg::AlgorithmId;
-use uefi_tcg::v2::EventLog;
+use uefi_tcg::v2::{AlgorithmDigestSizes, EventLog};
 
 /// A header event of 76 bytes, in which each field has a value of its own. SHA-1 has two rows.
 const HEADER: &str = "00000000 03000000 0000000000000000000000000000000000000000 2c000000 \
     53706563204944204576656e74303300 01000000 03 02 69 04 \
     03000000 04001400 0b002000 04000400 03 aabbcc";
 
-/// The same with another register, with another type, with a digest that isn't zero, with another
-/// signature, and without its last byte.
-const OTHERS: [&str; 5] = [
-    "01000000 03000000 0000000000000000000000000000000000000000 2c000000 \
-        53706563204944204576656e74303300 01000000 03 02 69 04 \
-        03000000 04001400 0b002000 04000400 03 aabbcc",
-    "00000000 04000000 0000000000000000000000000000000000000000 2c000000 \
-        53706563204944204576656e74303300 01000000 03 02 69 04 \
-        03000000 04001400 0b002000 04000400 03 aabbcc",
-    "00000000 03000000 0000000000000000000000000000000000000001 2c000000 \
-        53706563204944204576656e74303300 01000000 03 02 69 04 \
-        03000000 04001400 0b002000 04000400 03 aabbcc",
-    "00000000 03000000 0000000000000000000000000000000000000000 2c000000 \
-        53706563204944204576656e74303200 01000000 03 02 69 04 \
-        03000000 04001400 0b002000 04000400 03 aabbcc",
-    "00000000 03000000 0000000000000000000000000000000000000000 2c000000 \
-        53706563204944204576656e74303300 01000000 03 02 69 04 \
-        03000000 04001400 0b002000 04000400 03 aabb",
-];
+/// The offset of a byte of `HEADER`, and another byte there: another register, another type, a
+/// digest that isn't zero, another signature, and data that end before the vendor's last byte.
+const OTHERS: [(usize, u8); 5] = [(0, 1), (4, 4), (27, 1), (46, 0x32), (28, 0x2b)];
 
 #[test]
 fn a_header_has_its_fields(rt: HostRuntime) -> Result<(), Fail> {
@@ -45,11 +29,16 @@ fn a_header_has_its_fields(rt: HostRuntime) -> Result<(), Fail> {
     same("where the events start", &header.size_in_bytes(), &76)
 }
 
+/// Returns the table of the header that the bytes begin with.
+fn sizes_in(input: &[u8]) -> Option<AlgorithmDigestSizes<'_>> {
+    let log = EventLog::new(Some(input), Some(0), false);
+    Some(log.header()?.algorithm_digest_sizes())
+}
+
 #[test]
 fn a_table_has_its_rows(rt: HostRuntime) -> Result<(), Fail> {
     let input = bytes(rt.alloc(), HEADER)?;
-    let log = EventLog::new(Some(input.as_slice()), Some(0), false);
-    let sizes = log.header().ok_or("the header")?.algorithm_digest_sizes();
+    let sizes = sizes_in(input.as_slice()).ok_or("the header")?;
     for (index, row) in [
         (0usize, Some((AlgorithmId::SHA1, 20u16))),
         (1, Some((AlgorithmId::SHA256, 32))),
@@ -65,8 +54,7 @@ fn a_table_has_its_rows(rt: HostRuntime) -> Result<(), Fail> {
 #[test]
 fn the_first_row_of_an_algorithm_decides_its_size(rt: HostRuntime) -> Result<(), Fail> {
     let input = bytes(rt.alloc(), HEADER)?;
-    let log = EventLog::new(Some(input.as_slice()), Some(0), false);
-    let sizes = log.header().ok_or("the header")?.algorithm_digest_sizes();
+    let sizes = sizes_in(input.as_slice()).ok_or("the header")?;
     for (algorithm, size) in [
         (AlgorithmId::SHA1, Some(20u16)),
         (AlgorithmId::SHA256, Some(32)),
@@ -90,7 +78,18 @@ fn has_no_header(input: &[u8]) -> bool {
 
 #[test]
 fn another_event_has_no_header(rt: HostRuntime) -> Result<(), Fail> {
-    each_holds(rt.alloc(), &OTHERS, has_no_header)
+    for (offset, byte) in OTHERS {
+        let mut input = bytes(rt.alloc(), HEADER)?;
+        *input.get_mut(offset).ok_or("the byte")? = byte;
+        same(
+            "a byte",
+            &(offset, has_no_header(input.as_slice())),
+            &(offset, true),
+        )?;
+    }
+    let input = bytes(rt.alloc(), HEADER)?;
+    let (_, cut) = input.as_slice().split_last().ok_or("the last byte")?;
+    holds("without its last byte", has_no_header(cut))
 }
 
 /// A header with eleven rows: SHA-1 and the algorithms 1 to 9 have a row each, SHA-1 one more at
@@ -103,8 +102,7 @@ const ELEVEN_ROWS: &str = "00000000 03000000 00000000000000000000000000000000000
 #[test]
 fn a_row_after_the_first_eight_algorithms_is_found(rt: HostRuntime) -> Result<(), Fail> {
     let input = bytes(rt.alloc(), ELEVEN_ROWS)?;
-    let log = EventLog::new(Some(input.as_slice()), Some(0), false);
-    let sizes = log.header().ok_or("the header")?.algorithm_digest_sizes();
+    let sizes = sizes_in(input.as_slice()).ok_or("the header")?;
     for algorithm in 0..=12u16 {
         let size = match algorithm {
             4 => Some(20),

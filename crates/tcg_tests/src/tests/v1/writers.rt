@@ -1,6 +1,6 @@
 use std::alloc::Allocator;
 use std::test::Fail;
-use test_support::{bytes, holds, in_turn, same, same_bytes};
+use test_support::{bytes, holds, same, same_bytes, takes_memory};
 use uefi_base::{Align, Error, Status};
 use uefi_tcg::v1::{EventLog, PcrEvent, Sha1Digest, write_event};
 use uefi_tcg::{EventType, PcrIndex};
@@ -69,8 +69,7 @@ fn an_event_in_a_box_is_the_one_in_a_buffer(rt: HostRuntime) -> Result<(), Fail>
         &box_event(rt.alloc(), &written),
         &Some(true),
     )?;
-    let requests = in_turn(rt.alloc(), &true, |heap| box_event(heap, &written))?;
-    holds("a box takes memory", requests > 0)
+    takes_memory(rt.alloc(), &true, |heap| box_event(heap, &written))
 }
 
 #[test]

@@ -1,10 +1,9 @@
-use crate::texts::joined;
-use crate::v2::logs::{FIRST, LOGS, LONG_EVENT, SECOND, ZERO_EVENT, lines_of};
+use crate::tests::v2::logs::{FIRST, LOGS, LONG_EVENT, SECOND, ZERO_EVENT, lines_of};
 use std::alloc::Global;
 use std::test::Fail;
 use test_support::samples::{FOUR_EVENTS, FOUR_HEADER, SHA1_HEADER};
-use test_support::{bytes, same, same_text};
-use uefi_tcg::v2::EventLog;
+use test_support::{bytes, joined, same, same_text};
+use uefi_tcg::v2::{EventLog, EventLogHeader, EventLogIter, Start};
 
 /// The header of `LONG_EVENT`, which 16 bytes ff follow in its event.
 const FOLLOWED: &str = "00000000 03000000 0000000000000000000000000000000000000000 31000000 \
@@ -84,6 +83,20 @@ const STARTS: [Row; 14] = [
     (&[""], Some(0), None, &[], &[]),
 ];
 
+/// Checks where the header of a log and its event end, and the events from a start on, as they are
+/// returned together.
+fn check_start(
+    alloc: Global,
+    row: &str,
+    (header, events): (Option<EventLogHeader<'_>>, EventLogIter<'_>),
+    ends: Option<(usize, usize)>,
+    lines: &str,
+) -> Result<(), Fail> {
+    let found = header.map(|header| (header.size_in_bytes(), header.event_size()));
+    same(row, &found, &ends)?;
+    same_text(row, lines_of(alloc, events)?.as_str(), lines)
+}
+
 /// Checks where the header of a log and its event end, and the events from both ends on.
 fn check_starts(
     alloc: Global,
@@ -92,15 +105,15 @@ fn check_starts(
     ends: Option<(usize, usize)>,
     (after_header, after_event): (&[&str], &[&str]),
 ) -> Result<(), Fail> {
-    let found = log
-        .header()
-        .map(|header| (header.size_in_bytes(), header.event_size()));
-    same(row, &found, &ends)?;
     let lines = joined(alloc, after_header)?;
-    same_text(row, lines_of(alloc, log.iter())?.as_str(), lines.as_str())?;
-    let events = lines_of(alloc, log.iter_after_header_event())?;
+    check_start(alloc, row, (log.header(), log.iter()), ends, lines.as_str())?;
+    let found = log.header_and_events(Start::AfterHeader);
+    check_start(alloc, row, found, ends, lines.as_str())?;
     let lines = joined(alloc, after_event)?;
-    same_text(row, events.as_str(), lines.as_str())
+    let found = (log.header(), log.iter_after_header_event());
+    check_start(alloc, row, found, ends, lines.as_str())?;
+    let found = log.header_and_events(Start::AfterEvent);
+    check_start(alloc, row, found, ends, lines.as_str())
 }
 
 #[test]

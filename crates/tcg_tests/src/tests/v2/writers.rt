@@ -1,6 +1,6 @@
 use std::alloc::Allocator;
 use std::test::Fail;
-use test_support::{bytes, holds, in_turn, same, same_bytes};
+use test_support::{bytes, holds, same, same_bytes, takes_memory};
 use uefi_base::{Align, Error, Status};
 use uefi_tcg::v2::{PcrEventInputs, write_event_inputs};
 use uefi_tcg::{EventType, PcrIndex};
@@ -71,8 +71,7 @@ fn inputs_in_a_box_are_the_ones_in_a_buffer(rt: HostRuntime) -> Result<(), Fail>
         &box_inputs(rt.alloc(), &written),
         &Some(true),
     )?;
-    let requests = in_turn(rt.alloc(), &true, |heap| box_inputs(heap, &written))?;
-    holds("a box takes memory", requests > 0)
+    takes_memory(rt.alloc(), &true, |heap| box_inputs(heap, &written))
 }
 
 #[test]

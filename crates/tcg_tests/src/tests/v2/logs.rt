@@ -1,8 +1,8 @@
-use crate::texts::{joined, push_hex};
+use crate::tests::texts::{push_hex, push_kind};
 use std::alloc::{AllocError, Global};
 use std::test::Fail;
 use test_support::samples::{FOUR_EVENTS, FOUR_HEADER, SHA1_HEADER};
-use test_support::{bytes, holds, same, same_text};
+use test_support::{bytes, holds, joined, joined_bytes, same, same_text};
 use uefi_tcg::AlgorithmId;
 use uefi_tcg::v2::{EventLog, EventLogIter, PcrEventDigests};
 
@@ -140,12 +140,7 @@ pub const LOGS: [(&[&str], Option<usize>, Option<usize>, &[&str]); 19] = [
 pub(crate) fn lines_of(alloc: Global, events: EventLogIter<'_>) -> Result<String, AllocError> {
     let mut lines = String::new(alloc);
     for event in events {
-        write!(
-            lines,
-            "{} 0x{:08x} ",
-            event.pcr_index().0,
-            event.event_type().0
-        )?;
+        push_kind(&mut lines, event.pcr_index(), event.event_type())?;
         push_hex(&mut lines, event.event_data())?;
         push_digests(&mut lines, event.digests())?;
         lines.push('\n')?;
@@ -180,23 +175,33 @@ fn check_log(
     same_text(row, lines_of(alloc, log.iter())?.as_str(), lines.as_str())
 }
 
+/// Checks the same of the log that the parts are.
+fn check_parts(
+    alloc: Global,
+    parts: &[&str],
+    last_entry: Option<usize>,
+    start: Option<usize>,
+    lines: &[&str],
+) -> Result<(), Fail> {
+    let row = joined(alloc, parts)?;
+    let input = bytes(alloc, row.as_str())?;
+    let log = EventLog::new(Some(input.as_slice()), last_entry, false);
+    check_log(alloc, row.as_str(), &log, start, lines)
+}
+
 #[test]
 fn a_log_has_its_header_and_the_events_that_keep_to_the_last_entry(
     rt: HostRuntime,
 ) -> Result<(), Fail> {
     for (parts, last_entry, start, lines) in LOGS {
-        let row = joined(rt.alloc(), parts)?;
-        let input = bytes(rt.alloc(), row.as_str())?;
-        let log = EventLog::new(Some(input.as_slice()), last_entry, false);
-        check_log(rt.alloc(), row.as_str(), &log, start, lines)?;
+        check_parts(rt.alloc(), parts, last_entry, start, lines)?;
     }
     Ok(())
 }
 
 #[test]
 fn an_event_without_its_last_byte_is_none(rt: HostRuntime) -> Result<(), Fail> {
-    let row = joined(rt.alloc(), &[FOUR_HEADER, FOUR_EVENTS])?;
-    let input = bytes(rt.alloc(), row.as_str())?;
+    let input = joined_bytes(rt.alloc(), &[FOUR_HEADER, FOUR_EVENTS])?;
     let (_, cut) = input.as_slice().split_last().ok_or("the last byte")?;
     let log = EventLog::new(Some(cut), Some(267), false);
     same("the length", &cut.len(), &470)?;
@@ -221,27 +226,15 @@ fn a_log_without_bytes_has_neither_header_nor_events() -> Result<(), Fail> {
     )
 }
 
-/// Returns whether the iterator gives this many events, then none, and none when it is asked again.
-fn ends_after(mut events: EventLogIter<'_>, count: usize) -> bool {
-    for _ in 0..count {
-        if events.next().is_none() {
-            return false;
-        }
-    }
-    events.next().is_none() && events.next().is_none()
-}
-
 #[test]
 fn an_iterator_stays_ended(rt: HostRuntime) -> Result<(), Fail> {
-    let row = joined(rt.alloc(), &[FOUR_HEADER, FOUR_EVENTS])?;
-    let input = bytes(rt.alloc(), row.as_str())?;
+    let input = joined_bytes(rt.alloc(), &[FOUR_HEADER, FOUR_EVENTS])?;
     for (last_entry, count) in [(267usize, 2usize), (268, 1), (0, 0), (1, 0)] {
         let log = EventLog::new(Some(input.as_slice()), Some(last_entry), false);
-        same(
-            "the last entry",
-            &(last_entry, ends_after(log.iter(), count)),
-            &(last_entry, true),
-        )?;
+        let mut events = log.iter();
+        let has_ended = events.nth(count).is_none() && events.next().is_none();
+        let found = (last_entry, log.iter().count(), has_ended);
+        same("the last entry", &found, &(last_entry, count, true))?;
     }
     Ok(())
 }
@@ -251,17 +244,16 @@ fn an_iterator_stays_ended(rt: HostRuntime) -> Result<(), Fail> {
 fn digests_end_after(digests: PcrEventDigests<'_>, count: usize) -> bool {
     let mut digests = digests.into_iter();
     for _ in 0..count {
-        if digests.next().is_none() {
+        let Some(_) = digests.next() else {
             return false;
-        }
+        };
     }
     digests.next().is_none() && digests.next().is_none()
 }
 
 #[test]
 fn an_iterator_over_digests_stays_ended(rt: HostRuntime) -> Result<(), Fail> {
-    let row = joined(rt.alloc(), &[FOUR_HEADER, FOUR_EVENTS, ZERO_EVENT])?;
-    let input = bytes(rt.alloc(), row.as_str())?;
+    let input = joined_bytes(rt.alloc(), &[FOUR_HEADER, FOUR_EVENTS, ZERO_EVENT])?;
     let log = EventLog::new(Some(input.as_slice()), Some(471), false);
     let mut events = log.iter();
     for count in [4usize, 4, 0] {

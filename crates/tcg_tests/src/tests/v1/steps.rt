@@ -62,11 +62,8 @@ fn an_offset_may_be_any_number(rt: HostRuntime) -> Result<(), Fail> {
     let input = bytes(rt.alloc(), LOG1)?;
     for (offset, last_entry, expected) in STEPS {
         let found = step(input.as_slice(), offset, last_entry);
-        same(
-            "a step",
-            &(offset, last_entry, found),
-            &(offset, last_entry, expected),
-        )?;
+        let row = (offset, last_entry, expected);
+        same("a step", &(offset, last_entry, found), &row)?;
     }
     Ok(())
 }

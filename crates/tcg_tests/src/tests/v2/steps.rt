@@ -1,9 +1,8 @@
-use crate::texts::joined;
-use crate::v2::logs::{LONG_EVENT, ZERO_EVENT};
+use crate::tests::v2::logs::{LONG_EVENT, ZERO_EVENT};
 use std::alloc::Global;
 use std::test::Fail;
 use test_support::samples::{FOUR_EVENTS, FOUR_HEADER};
-use test_support::{bytes, holds, same};
+use test_support::{bytes, holds, joined, same};
 use uefi_tcg::v2::{
     DigestTable, EventLog, EventLogIter, EventParts, PcrEvent, PcrEventDigests, event_starting_at,
 };
@@ -143,11 +142,8 @@ fn an_offset_may_be_any_number(rt: HostRuntime) -> Result<(), Fail> {
     let input = bytes(rt.alloc(), text.as_str())?;
     for (offset, last_entry, expected) in STEPS {
         let found = shape(input.as_slice(), offset, last_entry);
-        same(
-            "a step",
-            &(offset, last_entry, found),
-            &(offset, last_entry, expected),
-        )?;
+        let row = (offset, last_entry, expected);
+        same("a step", &(offset, last_entry, found), &row)?;
     }
     Ok(())
 }

@@ -1,10 +1,9 @@
-use crate::texts::joined;
-use crate::v2::logs::{LONG_EVENT, ZERO_EVENT};
+use crate::tests::v2::logs::{LONG_EVENT, ZERO_EVENT};
 use std::alloc::Global;
 use std::test::Fail;
 use test_support::samples::{FOUR_EVENTS, FOUR_HEADER};
-use test_support::{bytes, holds, same};
-use uefi_tcg::v2::{EventLog, EventLogHeader, EventLogIter, PcrEvent, PcrEventDigests};
+use test_support::{holds, joined_bytes, same};
+use uefi_tcg::v2::{EventLog, EventLogHeader, EventLogIter, PcrEvent, PcrEventDigests, Start};
 
 /// For the last entries from the first to the second number, whether the log has a header, and how
 /// many events it has from either start, whole and cut to its first 267 to 470 bytes.
@@ -21,8 +20,7 @@ const COUNTS: [(usize, usize, (bool, usize, usize)); 8] = [
 
 /// Returns the log of a header of 77 bytes, and two events that end at 267 and 471.
 fn log_bytes(alloc: Global) -> Result<Vec<u8>, Fail> {
-    let text = joined(alloc, &[FOUR_HEADER, FOUR_EVENTS])?;
-    Ok(bytes(alloc, text.as_str())?)
+    joined_bytes(alloc, &[FOUR_HEADER, FOUR_EVENTS])
 }
 
 /// Returns whether the log has a header, and how many events it has from either start.
@@ -113,24 +111,18 @@ fn length_of(event: &PcrEvent<'_>) -> usize {
     length
 }
 
-/// Where the events of a log start.
-#[derive(Clone, Copy, PartialEq, Eq, Debug)]
-enum Start {
-    AfterHeader,
-    AfterHeaderEvent,
-}
-
+/// Returns the events of the log from that start on.
 fn events_from<'a>(log: &EventLog<'a>, start: Start) -> EventLogIter<'a> {
     match start {
         Start::AfterHeader => log.iter(),
-        Start::AfterHeaderEvent => log.iter_after_header_event(),
+        Start::AfterEvent => log.iter_after_header_event(),
     }
 }
 
 fn offset_of(header: &EventLogHeader<'_>, start: Start) -> usize {
     match start {
         Start::AfterHeader => header.size_in_bytes(),
-        Start::AfterHeaderEvent => header.event_size(),
+        Start::AfterEvent => header.event_size(),
     }
 }
 
@@ -159,7 +151,7 @@ fn begins_with_ended(input: &[u8], last_entry: usize, later: usize, start: Start
 
 fn grows(input: &[u8], last_entry: usize, later: usize) -> bool {
     begins_with_ended(input, last_entry, later, Start::AfterHeader)
-        && begins_with_ended(input, last_entry, later, Start::AfterHeaderEvent)
+        && begins_with_ended(input, last_entry, later, Start::AfterEvent)
 }
 
 /// Checks one last entry against every later one.
@@ -185,8 +177,7 @@ fn a_log_that_grows_keeps_its_events(rt: HostRuntime) -> Result<(), Fail> {
 
 #[test]
 fn a_log_that_starts_inside_its_header_event_keeps_its_events(rt: HostRuntime) -> Result<(), Fail> {
-    let text = joined(rt.alloc(), &[LONG_EVENT, ZERO_EVENT])?;
-    let input = bytes(rt.alloc(), text.as_str())?;
+    let input = joined_bytes(rt.alloc(), &[LONG_EVENT, ZERO_EVENT])?;
     for last_entry in 0..=97usize {
         check_growth(input.as_slice(), last_entry)?;
     }

@@ -1,3 +1,4 @@
+use std::fmt::Debug;
 use std::test::Fail;
 use test_support::{holds, same};
 use uefi_tcg::{AlgorithmId, EventType, HashAlgorithm, PcrIndex, v1, v2};
@@ -52,6 +53,28 @@ fn capability1(fields: &[u8; 5]) -> v1::BootServiceCapability {
     )
 }
 
+/// Checks that a capability comes before another, and is equal to itself alone.
+fn comes_before<T: PartialOrd + Debug>(one: &T, other: &T) -> Result<(), Fail> {
+    let found = (*one < *other, *other < *one, *one == *other, *one == *one);
+    if found == (true, false, false, true) {
+        return Ok(());
+    }
+    Err(Fail::new(format_args!("{one:?}, {other:?}: found {found:?}")))
+}
+
+/// Checks that what is made of the first part of each row comes before what is made of the second.
+fn each_is_ordered<R, T, F>(rows: &[(R, R)], made: F) -> Result<(), Fail>
+where
+    T: PartialOrd + Debug + Drop,
+    F: Fn(&R) -> T,
+    requires { F.IsAlwaysCallable made }
+{
+    for (lesser, greater) in rows {
+        comes_before(&made(lesser), &made(greater))?;
+    }
+    Ok(())
+}
+
 /// Two capabilities each, of which the first differing field decides.
 const ORDERED_V1: [([u8; 5], [u8; 5]); 5] = [
     ([1, 9, 9, 9, 9], [2, 0, 0, 0, 0]),
@@ -62,25 +85,17 @@ const ORDERED_V1: [([u8; 5], [u8; 5]); 5] = [
 ];
 
 #[test]
-fn capabilities_of_version_1_are_ordered_field_by_field() -> Result<(), Fail> {
-    for (lesser, greater) in ORDERED_V1 {
-        let (one, other) = (capability1(&lesser), capability1(&greater));
-        let found = (lesser, one < other, other < one, one == other, one == one);
-        same("a pair", &found, &(lesser, true, false, false, true))?;
-    }
-    Ok(())
-}
-
-#[test]
-fn the_default_capability_of_version_1_is_zero() -> Result<(), Fail> {
+fn the_default_capabilities_are_zero() -> Result<(), Fail> {
     let zero = v1::BootServiceCapability::default();
-    same("the default", &zero, &capability1(&[0; 5]))?;
+    same("version 1", &zero, &capability1(&[0; 5]))?;
     holds("no TPM", !zero.tpm_present())?;
-    same(
-        "its versions",
-        &zero.structure_version(),
-        &v1::Version::default(),
-    )
+    let version = v1::Version::default();
+    same("the versions", &zero.structure_version(), &version)?;
+    let zero = v2::BootServiceCapability::default();
+    same("version 2", &zero, &capability2(&[0; 10]))?;
+    holds("no TPM either", !zero.tpm_present())?;
+    let version = v2::Version::default();
+    same("the versions still", &zero.structure_version, &version)
 }
 
 #[test]
@@ -231,25 +246,9 @@ const ORDERED: [([u8; 10], [u8; 10]); 10] = [
 ];
 
 #[test]
-fn capabilities_of_version_2_are_ordered_field_by_field() -> Result<(), Fail> {
-    for (lesser, greater) in ORDERED {
-        let (one, other) = (capability2(&lesser), capability2(&greater));
-        let found = (lesser, one < other, other < one, one == other, one == one);
-        same("a pair", &found, &(lesser, true, false, false, true))?;
-    }
-    Ok(())
-}
-
-#[test]
-fn the_default_capability_of_version_2_is_zero() -> Result<(), Fail> {
-    let zero = v2::BootServiceCapability::default();
-    same("the default", &zero, &capability2(&[0; 10]))?;
-    holds("no TPM", !zero.tpm_present())?;
-    same(
-        "its versions",
-        &zero.structure_version,
-        &v2::Version::default(),
-    )
+fn capabilities_are_ordered_field_by_field() -> Result<(), Fail> {
+    each_is_ordered(&ORDERED_V1, capability1)?;
+    each_is_ordered(&ORDERED, capability2)
 }
 
 #[test]

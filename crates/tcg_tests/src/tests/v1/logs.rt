@@ -1,4 +1,4 @@
-use crate::texts::push_hex;
+use crate::tests::texts::{push_hex, push_kind};
 use std::alloc::{AllocError, Global};
 use std::test::Fail;
 use test_support::samples::{CRTM_VERSION, LOG1};
@@ -45,12 +45,7 @@ const LOGS: [(&str, Option<usize>, &str); 14] = [
 fn lines_of(alloc: Global, events: EventLogIter<'_>) -> Result<String, AllocError> {
     let mut lines = String::new(alloc);
     for event in events {
-        write!(
-            lines,
-            "{} 0x{:08x} ",
-            event.pcr_index().0,
-            event.event_type().0
-        )?;
+        push_kind(&mut lines, event.pcr_index(), event.event_type())?;
         push_hex(&mut lines, event.digest().as_slice())?;
         lines.push(' ')?;
         push_hex(&mut lines, event.event_data())?;
@@ -69,22 +64,14 @@ fn a_log_has_the_events_that_keep_to_the_last_entry(rt: HostRuntime) -> Result<(
     Ok(())
 }
 
-/// Returns whether the iterator gives this many events, then none, and none when it is asked again.
-fn ends_after(mut events: EventLogIter<'_>, count: usize) -> bool {
-    for _ in 0..count {
-        if events.next().is_none() {
-            return false;
-        }
-    }
-    events.next().is_none() && events.next().is_none()
-}
-
 #[test]
 fn an_iterator_stays_ended(rt: HostRuntime) -> Result<(), Fail> {
     for (row, last_entry, count) in [(LOG1, 34usize, 2usize), (LOG1, 1, 0), (LONG_DATA, 34, 0)] {
         let input = bytes(rt.alloc(), row)?;
         let log = EventLog::new(Some(input.as_slice()), Some(last_entry), false);
-        holds(row, ends_after(log.iter(), count))?;
+        same(row, &log.iter().count(), &count)?;
+        let mut events = log.iter();
+        holds(row, events.nth(count).is_none() && events.next().is_none())?;
     }
     Ok(())
 }

@@ -1,0 +1,5 @@
+mod capabilities;
+mod machine_log;
+mod texts;
+mod v1;
+mod v2;
