@@ -3,8 +3,4 @@
 #![tactic(auto)]
 
 #[cfg(test)]
-mod boxes;
-#[cfg(test)]
-mod paths;
-#[cfg(test)]
-mod values;
+mod tests;

@@ -1,7 +1,7 @@
 use std::alloc::Allocator;
 use std::test::Fail;
 use test_support::samples::TWO_INSTANCES;
-use test_support::{bytes, holds, in_turn, same, same_bytes};
+use test_support::{bytes, same, same_bytes, takes_memory};
 use uefi_path::{BoxedDevicePath, ByteConversionError, DevicePath, DevicePathInstance};
 
 /// Returns whether the path in a box is the path, and its length; or `None` if memory ran out.
@@ -19,8 +19,7 @@ fn a_box_has_the_path_or_memory_was_refused(rt: HostRuntime) -> Result<(), Fail>
         &box_path(rt.alloc(), &path),
         &Some((true, 36)),
     )?;
-    let requests = in_turn(rt.alloc(), &(true, 36), |heap| box_path(heap, &path))?;
-    holds("a box takes memory", requests > 0)?;
+    takes_memory(rt.alloc(), &(true, 36), |heap| box_path(heap, &path))?;
     same_bytes("the path stays", path.as_bytes(), input.as_slice())?;
     same("its nodes stay", &path.node_iter().count(), &5)
 }
@@ -64,12 +63,11 @@ fn a_box_has_the_instance_or_memory_was_refused(rt: HostRuntime) -> Result<(), F
         &box_instance(rt.alloc(), &instance),
         &Some((true, 18)),
     )?;
-    let requests = in_turn(
+    takes_memory(
         rt.alloc(),
         &(true, 18),
         |heap| box_instance(heap, &instance),
     )?;
-    holds("a box takes memory", requests > 0)?;
     same("its length stays", &instance.as_bytes().len(), &18)?;
     same("its nodes stay", &instance.node_iter().count(), &2)
 }
