@@ -3,8 +3,4 @@
 #![tactic(auto)]
 
 #[cfg(test)]
-mod changed;
-#[cfg(test)]
-mod memory;
-#[cfg(test)]
-mod pci;
+mod tests;

@@ -3,9 +3,7 @@
 use std::alloc::{Allocator, Global};
 use std::test::Fail;
 use test_support::samples::ROOT_BRIDGE;
-use test_support::{
-    bytes, each_gives, each_reads, holds, in_turn, same, same_text, without_request,
-};
+use test_support::{bytes, each_gives, each_reads, same, same_text, takes_memory, without_request};
 use uefi_map::{
     QwordAddressSpaceDescriptor, ResourceError, ResourceList, ResourceRangeType, parse,
 };
@@ -218,8 +216,7 @@ fn a_number_names_a_range_type() -> Result<(), Fail> {
 fn a_list_is_read_or_memory_was_refused(rt: HostRuntime) -> Result<(), Fail> {
     let input = bytes(rt.alloc(), ROOT_BRIDGE)?;
     let list = input.as_slice();
-    let requests = in_turn(rt.alloc(), &Ok(true), |heap| parse_ranges(heap, list))?;
-    holds("a list takes memory", requests > 0)
+    takes_memory(rt.alloc(), &Ok(true), |heap| parse_ranges(heap, list))
 }
 
 /// Checks that bytes have this error, whatever requests for memory are granted.

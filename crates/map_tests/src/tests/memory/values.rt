@@ -72,24 +72,25 @@ fn sets_are_ordered_by_their_bits() -> Result<(), Fail> {
 
 #[test]
 fn types_have_their_numbers() -> Result<(), Fail> {
-    let rows = [
-        (MemoryType::RESERVED, 0),
-        (MemoryType::LOADER_CODE, 1),
-        (MemoryType::LOADER_DATA, 2),
-        (MemoryType::BOOT_SERVICES_CODE, 3),
-        (MemoryType::BOOT_SERVICES_DATA, 4),
-        (MemoryType::RUNTIME_SERVICES_CODE, 5),
-        (MemoryType::RUNTIME_SERVICES_DATA, 6),
-        (MemoryType::CONVENTIONAL, 7),
-        (MemoryType::UNUSABLE, 8),
-        (MemoryType::ACPI_RECLAIM, 9),
-        (MemoryType::ACPI_NON_VOLATILE, 10),
-        (MemoryType::MMIO, 11),
-        (MemoryType::MMIO_PORT_SPACE, 12),
-        (MemoryType::PAL_CODE, 13),
-        (MemoryType::PERSISTENT_MEMORY, 14),
+    let types = [
+        MemoryType::RESERVED.0,
+        MemoryType::LOADER_CODE.0,
+        MemoryType::LOADER_DATA.0,
+        MemoryType::BOOT_SERVICES_CODE.0,
+        MemoryType::BOOT_SERVICES_DATA.0,
+        MemoryType::RUNTIME_SERVICES_CODE.0,
+        MemoryType::RUNTIME_SERVICES_DATA.0,
+        MemoryType::CONVENTIONAL.0,
+        MemoryType::UNUSABLE.0,
+        MemoryType::ACPI_RECLAIM.0,
+        MemoryType::ACPI_NON_VOLATILE.0,
+        MemoryType::MMIO.0,
+        MemoryType::MMIO_PORT_SPACE.0,
+        MemoryType::PAL_CODE.0,
+        MemoryType::PERSISTENT_MEMORY.0,
     ];
-    each_gives(&rows, |ty| ty.0)
+    let numbers = [0, 1, 2, 3, 4, 5, 6, 7, 8, 9, 10, 11, 12, 13, 14];
+    same("types", &types, &numbers)
 }
 
 #[test]

@@ -1,5 +1,5 @@
 use super::{fields, map_at, meta_of};
-use crate::changed::put;
+use crate::tests::changed::put;
 use std::alloc::Global;
 use std::test::Fail;
 use test_support::samples::FIRMWARE_MAP;

@@ -1,0 +1,3 @@
+mod changed;
+mod memory;
+mod pci;
