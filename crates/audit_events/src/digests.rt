@@ -59,9 +59,13 @@ fn digest_json(alloc: Global, algorithm: AlgorithmId, digest: &[u8]) -> Result<V
     json!(in alloc; {"algorithm": algorithm, "digest": digest})
 }
 
-/// Returns the name of an algorithm, or the number of one without a name.
+/// Returns an algorithm as JSON: its name, or the number of one without a name.
+///
+/// # Errors
+///
+/// [`AllocError`] if an allocation fails.
 #[tactic(auto, unfolding(crate::specs::Json::algorithm_json))]
-fn algorithm_json(alloc: Global, algorithm: AlgorithmId) -> Result<Value, AllocError>
+pub fn algorithm_json(alloc: Global, algorithm: AlgorithmId) -> Result<Value, AllocError>
     ensures { IfOk result (λ value. view value ≡ algorithm_json algorithm.0) }
 {
     match algorithm_name(algorithm) {

@@ -9,6 +9,7 @@
 #![tactic(auto)]
 
 pub use self::content::{Content, read_content};
+pub use self::digests::algorithm_json;
 pub use self::event::event_line;
 pub use self::image::Image;
 pub use self::variable::Variable;

@@ -7,9 +7,8 @@ use crate::naming::bank_name;
 use registers::{Bank, Registers};
 use std::alloc::{AllocError, Allocator};
 
-/// Appends the registers of a bank, as `tpm2_pcrread` of tpm2-tools 5.4 prints them: the bank's
-/// name,
-/// and a line for each register with its value in hex, in upper case.
+/// Appends the registers of a bank, as `tpm2_pcrread` of tpm2-tools 5.4 prints them: a line with the
+/// bank's name, and a line for each register with its value in hex, in upper case.
 ///
 /// # Errors
 ///

@@ -71,7 +71,7 @@ pub fn push_left_over<A: Allocator>(
     Ok(false)
 }
 
-/// Appends the line of a log with so many bytes left over.
+/// Appends the line that says how many bytes of a log are left over, and where.
 fn push_left_over_line<A: Allocator>(
     text: &mut String<A>,
     file: &LogFile<'_>,

@@ -4,9 +4,8 @@
 //! from its file in Linux's sysfs. [`agreeing_locality`] compares them with those that a log leads
 //! to, and [`push_verdict`] appends the lines that say what differs.
 //!
-//! The contracts say what text is read as which registers (`specs/Reading.antt`), and that
-//! registers
-//! agree exactly if they are equal (`specs/Agreement.antt`).
+//! The contracts say what text is read as which registers (`specs/Reading.antt`), and that they
+//! agree with those of the log exactly if they are equal (`specs/Agreement.antt`).
 #![tactic(auto)]
 
 pub use self::agreement::{agreeing_locality, agrees, agrees_at};

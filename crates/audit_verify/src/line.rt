@@ -7,8 +7,7 @@ use registers::{Bank, RegisterValue};
 use std::alloc::{AllocError, Allocator};
 
 /// Returns the name in the line that a bank begins with, as `tpm2_pcrread` prints it: two spaces,
-/// the
-/// name and a colon.
+/// the name and a colon.
 pub fn bank_in_line(line: &[u8]) -> Option<&[u8]>
     ensures { IfSome result (λ name. line.now ≡ codes "  " ++ name.now ++ codes ":") }
 {

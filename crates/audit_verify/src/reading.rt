@@ -17,8 +17,7 @@ pub enum HeldError {
     /// An allocation failed.
     Memory,
     /// The line that begins at this offset neither begins a bank nor states a register of a bank
-    /// that
-    /// can be replayed, or it doesn't end.
+    /// that can be replayed, or it doesn't end.
     Line(usize),
 }
 

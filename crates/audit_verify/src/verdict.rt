@@ -15,9 +15,8 @@ use uefi_tcg::PcrIndex;
 /// register that differs. Returns whether it does.
 ///
 /// Register 0 begins with the locality that is `given`, or else with the one that the log states.
-/// If
-/// the log states none, it may agree as begun at 0, 3 or 4. The line says at which; if they don't
-/// agree, the lines are those of the locality at which the fewest differ.
+/// If the log states none, it may agree as begun at 0, 3 or 4. The line says at which; if they
+/// don't agree, the lines are those of the locality at which the fewest differ.
 ///
 /// # Errors
 ///
@@ -68,8 +67,7 @@ fn given_or_stated(log: &Log<'_>, given: Option<u8>) -> Option<u8>
 }
 
 /// Returns the locality at which the fewest registers differ: the one that is `stated`, or else
-/// 0, 3
-/// or 4.
+/// 0, 3 or 4.
 fn nearest_locality(log: &Log<'_>, held: &[HeldRegister], stated: Option<u8>) -> u8 {
     if let Some(stated) = stated {
         return stated;

@@ -1,12 +1,19 @@
 -- What the values that `clap` found ask for.
-use Rattle.std.specs.Prelude.{ℕ, ◌≡◌, ◌<◌, ◌^◌, ◌⊎◌, List, map, codes, Bool, true, false, Option, None, Some}
+use Rattle.std.specs.Prelude.{ℕ, ◌≡◌, ◌<◌, ◌^◌, List, map, codes, Bool, true, false, Option, None, Some}
 use Rattle.std.specs.Option.{option_map}
 use Rattle.std.specs.Borrow.{Bor}
 use Rattle.std.specs.Str.Parse.{IsNumeral, digits_value}
 use Rattle.clap.specs.Words.{first_value, matched_of, one_text, raw_values}
 use Rattle.clap.specs.declared.parser.matches.Found.{Found}
+use Rattle.registers.specs.declared.bank.Bank.{Bank}
+use Rattle.audit_lines.specs.Banks.{bank_name}
+use Rattle.audit_words.specs.declared.request.Format.{Format}
+use Rattle.audit_words.specs.declared.request.Format.TheVariants.{Text, Json}
 use Rattle.audit_words.specs.declared.request.LastEntry.{LastEntry}
 use Rattle.audit_words.specs.declared.request.LastEntry.TheVariants.{Length, At, Empty}
+use Rattle.audit_words.specs.declared.request.Reading.{Reading}
+use Rattle.audit_words.specs.declared.request.Request.{Request}
+use Rattle.audit_words.specs.declared.request.Request.TheVariants.{Events, Replay, Verify}
 
 -- The word is the number in decimal: one or more digits 0 to 9, and at most 2^64 - 1.
 abbrev pub IsDecimal : List ℕ → ℕ → Type 0
@@ -21,9 +28,45 @@ NamesLastEntry word (At n) = (digits : List ℕ) × (word ≡ Some digits) × Is
 abbrev pub AsksLastEntry : Found → LastEntry → Type 0
 AsksLastEntry found last_entry = NamesLastEntry (first_value found (codes "last-entry")) last_entry
 
+-- What it is in a log of this length.
+abbrev pub last_entry_of : LastEntry → ℕ → Option ℕ
+last_entry_of Length length = Some length
+last_entry_of (At offset) length = Some offset
+last_entry_of Empty length = None
+
 -- Whether a flag was given, which `clap` keeps as a text.
 abbrev pub FlagIs : Option (List ℕ) → Bool → Type 0
 FlagIs text given = (text ≡ Some (codes "true") → given ≡ true) × (text ≡ Some (codes "false") → given ≡ false) × (text ≡ None → given ≡ false)
 
 abbrev pub AsksFlag : Found → List ℕ → Bool → Type 0
 AsksFlag found id given = FlagIs (one_text found id) given
+
+-- How logs are read.
+abbrev pub AsksReading : Found → Reading → Type 0
+AsksReading found reading =
+    AsksLastEntry found reading.last_entry × AsksFlag found (codes "allow-left-over") reading.allow_left_over
+
+-- The bank that `--bank` names, if it is there.
+abbrev pub AsksBank : Found → Option Bank → Type 0
+AsksBank found bank = first_value found (codes "bank") ≡ option_map bank_name bank
+
+-- The format by `--json`.
+abbrev pub is_json : Format → Bool
+is_json Json = true
+is_json Text = false
+
+abbrev pub AsksFormat : Found → Format → Type 0
+AsksFormat found format = AsksFlag found (codes "json") (is_json format)
+
+-- The values of LOG.., in order.
+abbrev pub AsksLogs : Found → List (Bor (List ℕ)) → Type 0
+AsksLogs found logs = option_map raw_values (matched_of found (codes "logs")) ≡ Some (map (λ log. log.now) logs)
+
+-- What the values of a command ask for, by its name.
+abbrev pub Asks : List ℕ → Found → Request → Type 0
+Asks name found (Events logs) = (name ≡ codes "events") × AsksLogs found logs.now
+Asks name found (Replay logs bank format) =
+    (name ≡ codes "replay") × AsksLogs found logs.now × AsksBank found bank × AsksFormat found format
+Asks name found (Verify log registers locality) =
+    (name ≡ codes "verify") × (first_value found (codes "log") ≡ Some log.now)
+    × (first_value found (codes "registers") ≡ Some registers.now)

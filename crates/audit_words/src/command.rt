@@ -18,24 +18,40 @@ pub fn matches_of<'a>(alloc: Global, words: &'a [String]) -> Result<ArgMatches<'
         )
         .subcommand_required(true)
         .arg_required_else_help(true)
+        .subcommand(events(alloc)?)?
         .subcommand(replay(alloc)?)?
         .subcommand(verify(alloc)?)?;
     command.try_get_matches_from(words)
 }
 
+/// Returns the command `events`.
+fn events<'a>(alloc: Global) -> Result<Command<'a>, Error> {
+    let command = Command::new(alloc, "events")
+        .about("Prints the events of the logs, a JSON object a line")
+        .arg(logs(alloc))?;
+    reading(alloc, command)
+}
+
+/// Returns the command `replay`.
 fn replay<'a>(alloc: Global) -> Result<Command<'a>, Error> {
     let bank = Arg::new(alloc, "bank")
         .long("bank")
         .value_name("BANK")
         .value_parser(BANKS.as_slice())
         .help("Replays this bank alone");
+    let json = Arg::new(alloc, "json")
+        .long("json")
+        .action(ArgAction::SetTrue)
+        .help("Prints a JSON object a log, on a line");
     let command = Command::new(alloc, "replay")
         .about("Prints the registers that the logs lead to, as tpm2_pcrread prints them")
         .arg(logs(alloc))?
-        .arg(bank)?;
+        .arg(bank)?
+        .arg(json)?;
     reading(alloc, command)
 }
 
+/// Returns the command `verify`.
 fn verify<'a>(alloc: Global) -> Result<Command<'a>, Error> {
     let log = Arg::new(alloc, "log")
         .value_name("LOG")

@@ -1,7 +1,6 @@
 ghost use Rattle.std.specs.Prelude.{◌≡◌, ℕ, codes, IfSome, MatchOption};
 ghost use Rattle.clap.specs.Words.{found_of};
-ghost use Rattle.audit_words.specs.Words.{AsksFlag, AsksLastEntry, IsDecimal};
-ghost use Rattle.audit_words.specs.private.Banks.{AsksBank};
+ghost use Rattle.audit_words.specs.Words.{Asks, AsksBank, AsksFormat, AsksLastEntry, AsksReading, IsDecimal};
 
 use audit_lines::bank_named;
 use clap::ArgMatches;
@@ -10,10 +9,21 @@ use registers::Bank;
 /// What the words ask for.
 #[derive(Clone, Copy)]
 pub enum Request<'m, 'a> {
-    /// `replay LOG.. [--bank B]`: the registers that each log leads to.
-    Replay(&'m [&'a str], Option<Bank>),
+    /// `events LOG..`: the events of each log.
+    Events(&'m [&'a str]),
+    /// `replay LOG.. [--bank B] [--json]`: the registers that each log leads to.
+    Replay(&'m [&'a str], Option<Bank>, Format),
     /// `verify LOG --registers FILE [--locality N]`: whether they are those of a TPM.
     Verify(&'a str, &'a str, Option<u8>),
+}
+
+/// How registers are printed.
+#[derive(Clone, Copy)]
+pub enum Format {
+    /// As `tpm2_pcrread` prints them.
+    Text,
+    /// As a JSON object a log (`--json`).
+    Json,
 }
 
 /// How logs are read.
@@ -37,8 +47,12 @@ pub enum LastEntry {
 }
 
 impl LastEntry {
+    ghost use Rattle.audit_words.specs.Words.{last_entry_of};
+
     /// Returns the last entry of a log of this length.
-    pub fn of_length(self, length: usize) -> Option<usize> {
+    pub fn of_length(self, length: usize) -> Option<usize>
+        ensures { result ≡ last_entry_of self length }
+    {
         match self {
             LastEntry::Length => Some(length),
             LastEntry::At(offset) => Some(offset),
@@ -47,32 +61,64 @@ impl LastEntry {
     }
 }
 
-/// Returns what the matches ask for, and the matches of their command; `None` if they ask for
+/// Returns what the matches of a command ask for, by the command's name; `None` if they ask for
 /// nothing that the program knows.
-pub fn request_of<'m, 'a>(matches: &'m ArgMatches<'a>) -> Option<(Request<'m, 'a>, Reading)> {
-    let (name, of) = matches.subcommand()?;
-    let reading = reading_of(of)?;
-    let request = match name {
-        "replay" => Request::Replay(of.get_strs("logs")?, bank_of(of)?),
-        "verify" => {
-            let (log, registers) = (of.get_str("log")?, of.get_str("registers")?);
-            Request::Verify(log, registers, of.get_one::<u8>("locality"))
-        }
-        _ => return None,
-    };
-    Some((request, reading))
+///
+/// Which words lead to which matches is what `clap` promises. It also sees to it that `--locality`
+/// is a number below 256.
+pub fn request_of<'m, 'a>(
+    name: &str,
+    matches: &'m ArgMatches<'a>,
+) -> Option<(Request<'m, 'a>, Reading)>
+    ensures request { IfSome result (λ asked. Asks name.now (found_of matches.now) asked.0) }
+    ensures reading { IfSome result (λ asked. AsksReading (found_of matches.now) asked.1) }
+{
+    let reading = reading_of(matches)?;
+    match name {
+        "events" => Some((events_of(matches)?, reading)),
+        "replay" => Some((replay_of(matches)?, reading)),
+        "verify" => Some((verify_of(matches)?, reading)),
+        _ => None,
+    }
+}
+
+/// Returns what the matches of `events` ask for.
+fn events_of<'m, 'a>(matches: &'m ArgMatches<'a>) -> Option<Request<'m, 'a>>
+    ensures { IfSome result (Asks (codes "events") (found_of matches.now)) }
+{
+    let logs = matches.get_strs("logs")?;
+    Some(Request::Events(logs))
+}
+
+/// Returns what the matches of `replay` ask for.
+fn replay_of<'m, 'a>(matches: &'m ArgMatches<'a>) -> Option<Request<'m, 'a>>
+    ensures { IfSome result (Asks (codes "replay") (found_of matches.now)) }
+{
+    let logs = matches.get_strs("logs")?;
+    let bank = bank_of(matches)?;
+    Some(Request::Replay(logs, bank, format_of(matches)))
+}
+
+/// Returns what the matches of `verify` ask for.
+fn verify_of<'m, 'a>(matches: &'m ArgMatches<'a>) -> Option<Request<'m, 'a>>
+    ensures { IfSome result (Asks (codes "verify") (found_of matches.now)) }
+{
+    let log = matches.get_str("log")?;
+    let registers = matches.get_str("registers")?;
+    let locality = matches.get_one::<u8>("locality");
+    Some(Request::Verify(log, registers, locality))
 }
 
 /// Returns how a command's matches ask for logs to be read; `None` if `--last-entry` has a word
-/// that
-/// is neither a number nor `none`.
+/// that is neither a number nor `none`.
 pub fn reading_of(matches: &ArgMatches<'_>) -> Option<Reading>
-    ensures last_entry { IfSome result
-        (λ reading. AsksLastEntry (found_of matches.now) reading.last_entry) }
-    ensures allow_left_over { IfSome result (λ reading.
-        AsksFlag (found_of matches.now) (codes "allow-left-over") reading.allow_left_over) }
+    ensures { MatchOption result
+        ((reading : Reading) → AsksReading (found_of matches.now) reading → ⊥)
+        (AsksReading (found_of matches.now)) }
 {
-    let last_entry = last_entry_of(matches)?;
+    let Some(last_entry) = last_entry_of(matches) else {
+        return None;
+    };
     let allow_left_over = matches.get_flag("allow-left-over");
     Some(Reading {
         last_entry,
@@ -81,10 +127,11 @@ pub fn reading_of(matches: &ArgMatches<'_>) -> Option<Reading>
 }
 
 /// Returns the last entry that a command's matches ask for; `None` if `--last-entry` has a word
-/// that is
-/// neither a number nor `none`.
+/// that is neither a number nor `none`.
 fn last_entry_of(matches: &ArgMatches<'_>) -> Option<LastEntry>
-    ensures { IfSome result (AsksLastEntry (found_of matches.now)) }
+    ensures { MatchOption result
+        ((last_entry : LastEntry) → AsksLastEntry (found_of matches.now) last_entry → ⊥)
+        (AsksLastEntry (found_of matches.now)) }
 {
     let Some(word) = matches.get_str("last-entry") else {
         return Some(LastEntry::Length);
@@ -92,18 +139,31 @@ fn last_entry_of(matches: &ArgMatches<'_>) -> Option<LastEntry>
     if word == "none" {
         return Some(LastEntry::Empty);
     }
-    Some(LastEntry::At(decimal(word)?))
+    match decimal(word) {
+        Some(offset) => Some(LastEntry::At(offset)),
+        None => None,
+    }
 }
 
 /// Returns the bank that a command's matches ask for, if they ask for one; `None` if it is none
-/// that
-/// can be replayed.
+/// that can be replayed.
 fn bank_of(matches: &ArgMatches<'_>) -> Option<Option<Bank>>
     ensures { IfSome result (AsksBank (found_of matches.now)) }
 {
     match matches.get_str("bank") {
         None => Some(None),
         Some(name) => Some(Some(bank_named(name)?)),
+    }
+}
+
+/// Returns the format that a command's matches ask for.
+fn format_of(matches: &ArgMatches<'_>) -> Format
+    ensures { AsksFormat (found_of matches.now) result }
+{
+    if matches.get_flag("json") {
+        Format::Json
+    } else {
+        Format::Text
     }
 }
 

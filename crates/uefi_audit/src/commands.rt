@@ -1,32 +1,50 @@
 use crate::failure::{Failure, Status};
 use crate::input::{file_bytes, held_registers};
+use audit_json::{push_events, push_replay_json};
 use audit_lines::{LogFile, push_left_over, push_replay};
 use audit_verify::push_verdict;
-use audit_words::{Reading, Request};
+use audit_words::{Format, Reading, Request};
 use registers::Bank;
 use std::io::{self, Write};
 use std::rt::Files;
 
+/// What is printed of a log.
+#[derive(Clone, Copy)]
+enum Shown {
+    /// Its events.
+    Events,
+    /// The registers that it leads to: of one bank, or of all that it has.
+    Registers(Option<Bank>),
+    /// The same, as a JSON object.
+    RegistersJson(Option<Bank>),
+}
+
 /// Does what the words ask for.
-pub(crate) fn answer<R: Files + Input + Print + Eprint + AllocGlobal>(
+pub(crate) fn perform<R: Files + Input + Print + Eprint + AllocGlobal>(
     rt: &R,
     request: &Request<'_, '_>,
     reading: Reading,
 ) -> Result<Status, Failure> {
     match *request {
-        Request::Replay(logs, bank) => replay_logs(rt, logs, reading, bank),
+        Request::Events(logs) => show_logs(rt, logs, reading, Shown::Events),
+        Request::Replay(logs, bank, Format::Text) => {
+            show_logs(rt, logs, reading, Shown::Registers(bank))
+        }
+        Request::Replay(logs, bank, Format::Json) => {
+            show_logs(rt, logs, reading, Shown::RegistersJson(bank))
+        }
         Request::Verify(log, registers, locality) => {
             verify_log(rt, log, registers, reading, locality)
         }
     }
 }
 
-/// Prints the registers that each log leads to, one log after another.
-fn replay_logs<R: Files + Input + Print + Eprint + AllocGlobal>(
+/// Prints what is to be shown of each log, one log after another.
+fn show_logs<R: Files + Input + Print + Eprint + AllocGlobal>(
     rt: &R,
     logs: &[&str],
     reading: Reading,
-    bank: Option<Bank>,
+    shown: Shown,
 ) -> Result<Status, Failure> {
     let mut status = Status::Well;
     for name in logs {
@@ -38,7 +56,7 @@ fn replay_logs<R: Files + Input + Print + Eprint + AllocGlobal>(
                     bytes: bytes.as_slice(),
                     last_entry,
                 };
-                replay_log(rt, &file, reading, bank, logs.len() > 1)?
+                show_log(rt, &file, reading, shown, logs.len() > 1)?
             }
             None => Status::Unread,
         };
@@ -47,8 +65,40 @@ fn replay_logs<R: Files + Input + Print + Eprint + AllocGlobal>(
     Ok(status)
 }
 
+/// Prints what is to be shown of a log, which may be one of several.
+fn show_log<R: Print + Eprint + AllocGlobal>(
+    rt: &R,
+    file: &LogFile<'_>,
+    reading: Reading,
+    shown: Shown,
+    is_one_of_many: bool,
+) -> Result<Status, Failure> {
+    match shown {
+        Shown::Events => print_events(rt, file, reading),
+        Shown::Registers(bank) => print_registers(rt, file, reading, bank, is_one_of_many),
+        Shown::RegistersJson(bank) => print_registers_json(rt, file, reading, bank),
+    }
+}
+
+/// Prints the events of a log. If it has bytes left over that aren't allowed, standard error says
+/// so, and nothing is printed: standard output has nothing but JSON.
+fn print_events<R: Print + Eprint + AllocGlobal>(
+    rt: &R,
+    file: &LogFile<'_>,
+    reading: Reading,
+) -> Result<Status, Failure> {
+    let mut text = String::new(rt.alloc());
+    if !reading.allow_left_over && !push_left_over(&mut text, file)? {
+        let _ = eprint!(rt; "uefi_audit: {text}");
+        return Ok(Status::Wrong);
+    }
+    push_events(&mut text, rt.alloc(), file)?;
+    print_text(rt, text.as_str())?;
+    Ok(Status::Well)
+}
+
 /// Prints the registers that a log leads to, below its name if it is one of several.
-fn replay_log<R: Print + AllocGlobal>(
+fn print_registers<R: Print + AllocGlobal>(
     rt: &R,
     file: &LogFile<'_>,
     reading: Reading,
@@ -61,6 +111,19 @@ fn replay_log<R: Print + AllocGlobal>(
         writeln!(text, "{name}:")?;
     }
     let well = push_replay(&mut text, rt.alloc(), file, bank, reading.allow_left_over)?;
+    print_text(rt, text.as_str())?;
+    Ok(Status::of(well))
+}
+
+/// Prints the registers that a log leads to as a JSON object.
+fn print_registers_json<R: Print + AllocGlobal>(
+    rt: &R,
+    file: &LogFile<'_>,
+    reading: Reading,
+    bank: Option<Bank>,
+) -> Result<Status, Failure> {
+    let mut text = String::new(rt.alloc());
+    let well = push_replay_json(&mut text, rt.alloc(), file, bank, reading.allow_left_over)?;
     print_text(rt, text.as_str())?;
     Ok(Status::of(well))
 }

@@ -7,9 +7,8 @@ use std::rt::Files;
 
 /// Returns the bytes of a file; `None` if it wasn't read, which is told on standard error.
 ///
-/// `/dev/stdin` is read by the handle of standard input, since a pipe that another user made
-/// can't be
-/// opened again by its name.
+/// `/dev/stdin` is read by the handle of standard input, since a pipe that another user made can't
+/// be opened again by its name.
 pub(crate) fn file_bytes<R: Files + Input + Eprint + AllocGlobal>(
     rt: &R,
     path: &str,
@@ -40,8 +39,7 @@ fn tell<R: Eprint>(rt: &R, path: &str, error: &io::Error) {
 }
 
 /// Returns the registers of a TPM in a file that `tpm2_pcrread` printed, or in a folder as Linux
-/// has
-/// it; `None` if there are none to be read, which is told on standard error.
+/// has it; `None` if there are none to be read, which is told on standard error.
 pub(crate) fn held_registers<R: Files + Input + Eprint + AllocGlobal>(
     rt: &R,
     path: &str,
@@ -91,7 +89,10 @@ fn held_in_folder<R: Files + Input + Eprint + AllocGlobal>(
     for bank in Bank::ALL {
         for register in 0..REGISTER_COUNT as u32 {
             if let Some(found) = held_in_bank(rt, path, bank, register)? {
-                held.push(found).ok()?;
+                if held.push(found).is_err() {
+                    tell_held(rt, path, HeldError::Memory);
+                    return None;
+                }
             }
         }
     }
@@ -106,7 +107,10 @@ fn held_in_bank<R: Files + Input + Eprint + AllocGlobal>(
     register: u32,
 ) -> Option<Option<HeldRegister>> {
     let name = bank_name(bank);
-    let path = format!(in rt.alloc(); "{folder}/pcr-{name}/{register}").ok()?;
+    let Ok(path) = format!(in rt.alloc(); "{folder}/pcr-{name}/{register}") else {
+        tell_held(rt, folder, HeldError::Memory);
+        return None;
+    };
     match fs::metadata(rt, path.as_str()) {
         Err(error) if error.kind() == ErrorKind::NotFound => return Some(None),
         _ => {}

@@ -1,4 +1,4 @@
-use crate::commands::answer;
+use crate::commands::perform;
 use crate::failure::{Failure, Status};
 use audit_words::{matches_of, request_of};
 use clap::error::ErrorKind;
@@ -28,11 +28,14 @@ fn audit<R: Files + Env + Input + Print + Eprint + AllocGlobal>(rt: &R) -> Resul
         Ok(matches) => matches,
         Err(error) => return Err(told(rt, &error)),
     };
-    let Some((request, reading)) = request_of(&matches) else {
+    let Some((name, of)) = matches.subcommand() else {
+        return Err(Failure::Words);
+    };
+    let Some((request, reading)) = request_of(name, of) else {
         let _ = eprintln!(rt; "uefi_audit: --last-entry takes a number or none");
         return Err(Failure::Words);
     };
-    answer(rt, &request, reading)
+    perform(rt, &request, reading)
 }
 
 /// Prints what `clap` says of the words, and returns why the program ends.

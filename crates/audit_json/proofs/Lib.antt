@@ -1,0 +1,4 @@
+pub mod EventLines
+pub mod NoFloats
+pub mod Banks
+pub mod ReplayLines
