@@ -2,8 +2,4 @@
 #![tactic(auto)]
 
 #[cfg(test)]
-mod file;
-#[cfg(test)]
-mod flags;
-#[cfg(test)]
-mod time;
+mod tests;

@@ -1,14 +1,19 @@
-use crate::file::names::{AB, TEST_NAME, TEST_NAME2, UNITS_OF_AB, units};
-use crate::time::making::PARAMS;
+use crate::tests::file::names::{AB, TEST_NAME, TEST_NAME2, UNITS_OF_AB, units};
+use crate::tests::time::making::PARAMS;
 use std::alloc::Global;
 use std::test::Fail;
 use test_support::samples::ZERO_FILE;
-use test_support::{bytes, same, same_bytes, same_text};
+use test_support::{bytes, joined_bytes, same, same_bytes, same_text};
 use uefi_base::CStr16;
 use uefi_records::{
     FileAttribute, FileInfo, FileInfoCreationError, FileSystemInfo, FileSystemVolumeLabel, Time,
     TimeError, TimeParams, write_file_info, write_file_system_info, write_file_system_volume_label,
 };
+
+/// The file information record of 86 bytes named `ab`, of which all else is zero but its size.
+const NAMED_AB: &str = "5800000000000000 0000000000000000 0000000000000000 \
+    00000000000000000000000000000000 00000000000000000000000000000000 \
+    00000000000000000000000000000000 0000000000000000  6100 6200 0000";
 
 /// Returns a file information record of that name, of which all else is zero, over that storage.
 fn zero_file<'a>(
@@ -29,34 +34,23 @@ fn zero_file<'a>(
 }
 
 /// Writes a file information record named `ab`, and checks what stands in its storage then.
-fn check_file(alloc: Global, storage: &mut [u8], after: &str) -> Result<(), Fail> {
+fn check_file(alloc: Global, storage: &mut [u8], after: &[&str]) -> Result<(), Fail> {
     let name = CStr16::from_u16_with_nul(&AB)?;
     let info = zero_file(storage, &name)?;
-    same(
-        after,
-        &(info.size(), units(info.file_name())),
-        &(88, UNITS_OF_AB),
-    )?;
-    same_bytes(after, storage, bytes(alloc, after)?.as_slice())
+    let found = (info.size(), units(info.file_name()));
+    same("size, name", &found, &(88, UNITS_OF_AB))?;
+    same_bytes(
+        "the storage",
+        storage,
+        joined_bytes(alloc, after)?.as_slice(),
+    )
 }
 
 #[test]
 fn a_written_file_leaves_the_bytes_that_round_it_up(rt: HostRuntime) -> Result<(), Fail> {
-    check_file(rt.alloc(), &mut [0; 88], ZERO_FILE)?;
-    check_file(
-        rt.alloc(),
-        &mut [0xee; 88],
-        "5800000000000000 0000000000000000 0000000000000000 \
-            00000000000000000000000000000000 00000000000000000000000000000000 \
-            00000000000000000000000000000000 0000000000000000  6100 6200 0000  eeee",
-    )?;
-    check_file(
-        rt.alloc(),
-        &mut [0xee; 90],
-        "5800000000000000 0000000000000000 0000000000000000 \
-            00000000000000000000000000000000 00000000000000000000000000000000 \
-            00000000000000000000000000000000 0000000000000000  6100 6200 0000  eeeeeeee",
-    )
+    check_file(rt.alloc(), &mut [0; 88], &[ZERO_FILE])?;
+    check_file(rt.alloc(), &mut [0xee; 88], &[NAMED_AB, "eeee"])?;
+    check_file(rt.alloc(), &mut [0xee; 90], &[NAMED_AB, "eeeeeeee"])
 }
 
 /// Returns the time of [`PARAMS`], but in that year.

@@ -1,4 +1,4 @@
-use crate::file::names::{UNITS_OF_AB, Units, units};
+use crate::tests::file::names::{UNITS_OF_AB, Units, units};
 use std::alloc::Global;
 use std::test::Fail;
 use test_support::samples::{FILE, FILE_SYSTEM, ZERO_FILE};
@@ -203,19 +203,27 @@ fn with_byte(alloc: Global, row: &str, offset: usize, byte: u8) -> Option<Vec<u8
     Some(changed)
 }
 
+/// Returns the bytes of a row, and the same with another byte at the offset.
+fn both_with_byte(
+    alloc: Global,
+    row: &str,
+    (offset, byte): &(usize, u8),
+) -> Option<(Vec<u8>, Vec<u8>)> {
+    let changed = with_byte(alloc, row, *offset, *byte)?;
+    Some((bytes(alloc, row).ok()?, changed))
+}
+
 /// Returns whether [`FILE`] is equal to itself with another byte at an offset.
-fn is_equal_file(alloc: Global, (offset, byte): &(usize, u8)) -> Option<bool> {
-    let one = bytes(alloc, FILE).ok()?;
-    let other = with_byte(alloc, FILE, *offset, *byte)?;
+fn is_equal_file(alloc: Global, change: &(usize, u8)) -> Option<bool> {
+    let (one, other) = both_with_byte(alloc, FILE, change)?;
     let one = FileInfo::from_uefi(one.as_slice(), 86).ok()?;
     let other = FileInfo::from_uefi(other.as_slice(), 86).ok()?;
     Some(one == other)
 }
 
 /// Returns whether [`FILE_SYSTEM`] is equal to itself with another byte at an offset.
-fn is_equal_file_system(alloc: Global, (offset, byte): &(usize, u8)) -> Option<bool> {
-    let one = bytes(alloc, FILE_SYSTEM).ok()?;
-    let other = with_byte(alloc, FILE_SYSTEM, *offset, *byte)?;
+fn is_equal_file_system(alloc: Global, change: &(usize, u8)) -> Option<bool> {
+    let (one, other) = both_with_byte(alloc, FILE_SYSTEM, change)?;
     let one = FileSystemInfo::from_uefi(one.as_slice(), 42).ok()?;
     let other = FileSystemInfo::from_uefi(other.as_slice(), 42).ok()?;
     Some(one == other)
@@ -249,7 +257,11 @@ fn records_are_equal_by_their_fields_and_names(rt: HostRuntime) -> Result<(), Fa
         ((35, 1), Some(false)),
         ((36, 0x62), Some(false)),
     ];
-    each_gives_in(rt.alloc(), &file_systems, is_equal_file_system)?;
+    each_gives_in(rt.alloc(), &file_systems, is_equal_file_system)
+}
+
+#[test]
+fn labels_are_equal_by_their_units(rt: HostRuntime) -> Result<(), Fail> {
     let labels = [
         (("6100 6200 0000", "6100 6200 0000"), Some(true)),
         (("6100 6200 0000", "6100 6200 0000  eeee"), Some(true)),

@@ -11,19 +11,7 @@ fn attributes(bits: &u64) -> (Option<FileAttribute>, u64) {
     )
 }
 
-#[test]
-fn a_set_of_attributes_is_made_of_named_bits() -> Result<(), Fail> {
-    let directory = FileAttribute::DIRECTORY.union(FileAttribute::READ_ONLY);
-    let rows = [
-        (0x11, (Some(directory), 0x11)),
-        (0x37, (Some(FileAttribute::VALID_ATTR), 0x37)),
-        (0x08, (None, 0x08)),
-        (0x40, (None, 0x40)),
-        (0x8000_0000_0000_0000, (None, 0x8000_0000_0000_0000)),
-    ];
-    each_gives(&rows, attributes)
-}
-
+/// Returns the same of a set of daylight.
 fn daylights(bits: &u8) -> (Option<Daylight>, u8) {
     (
         Daylight::from_bits(*bits),
@@ -32,14 +20,23 @@ fn daylights(bits: &u8) -> (Option<Daylight>, u8) {
 }
 
 #[test]
-fn a_set_of_daylight_is_made_of_named_bits() -> Result<(), Fail> {
+fn a_set_is_made_of_named_bits() -> Result<(), Fail> {
+    let directory = FileAttribute::DIRECTORY.union(FileAttribute::READ_ONLY);
+    let attribute_rows = [
+        (0x11, (Some(directory), 0x11)),
+        (0x37, (Some(FileAttribute::VALID_ATTR), 0x37)),
+        (0x08, (None, 0x08)),
+        (0x40, (None, 0x40)),
+        (0x8000_0000_0000_0000, (None, 0x8000_0000_0000_0000)),
+    ];
+    each_gives(&attribute_rows, attributes)?;
     let both = Daylight::ADJUST_DAYLIGHT.union(Daylight::IN_DAYLIGHT);
-    let rows = [
+    let daylight_rows = [
         (3, (Some(both), 3)),
         (0x04, (None, 0x04)),
         (0x81, (None, 0x81)),
     ];
-    each_gives(&rows, daylights)
+    each_gives(&daylight_rows, daylights)
 }
 
 #[test]
@@ -61,32 +58,25 @@ fn a_set_contains_the_flags_that_are_in_it() -> Result<(), Fail> {
     )
 }
 
-fn attribute_bits(flag: &FileAttribute) -> u64 {
-    flag.bits()
-}
-
-fn daylight_bits(flag: &Daylight) -> u8 {
-    flag.bits()
-}
-
 #[test]
 fn the_named_bits_have_their_numbers() -> Result<(), Fail> {
     let attributes = [
-        (FileAttribute::READ_ONLY, 0x01),
-        (FileAttribute::HIDDEN, 0x02),
-        (FileAttribute::SYSTEM, 0x04),
-        (FileAttribute::DIRECTORY, 0x10),
-        (FileAttribute::ARCHIVE, 0x20),
-        (FileAttribute::VALID_ATTR, 0x37),
-        (FileAttribute::empty(), 0),
+        FileAttribute::READ_ONLY,
+        FileAttribute::HIDDEN,
+        FileAttribute::SYSTEM,
+        FileAttribute::DIRECTORY,
+        FileAttribute::ARCHIVE,
+        FileAttribute::VALID_ATTR,
+        FileAttribute::empty(),
     ];
-    each_gives(&attributes, attribute_bits)?;
+    let numbers = [0x01, 0x02, 0x04, 0x10, 0x20, 0x37, 0];
+    same("attributes", &attributes.map(|set| set.bits()), &numbers)?;
     let daylights = [
-        (Daylight::ADJUST_DAYLIGHT, 1),
-        (Daylight::IN_DAYLIGHT, 2),
-        (Daylight::empty(), 0),
+        Daylight::ADJUST_DAYLIGHT,
+        Daylight::IN_DAYLIGHT,
+        Daylight::empty(),
     ];
-    each_gives(&daylights, daylight_bits)
+    same("daylight", &daylights.map(|set| set.bits()), &[1, 2, 0])
 }
 
 #[test]
