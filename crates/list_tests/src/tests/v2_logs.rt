@@ -1,8 +1,7 @@
-use crate::rows::{Row, each_lists, lists};
-use std::alloc::{AllocError, Global};
+use crate::tests::rows::{Row, each_lists, lists};
 use std::test::Fail;
-use test_support::bytes;
 use test_support::samples::{FOUR_EVENTS, FOUR_HEADER, LOG1, SHA1_HEADER};
+use test_support::{joined, joined_bytes};
 use uefi_listing::command::Command;
 use uefi_listing::listing::Outcome;
 
@@ -28,21 +27,9 @@ const SECOND_LINES: &str = "event 0 0x80000008 000082000000000000000e0000000000\
 /// The listing of a log without a header.
 pub const NO_HEADER: &str = "header none\nevents 0\n";
 
-/// Returns the texts, one after another.
-fn joined(alloc: Global, parts: &[&str]) -> Result<String, AllocError> {
-    let mut text = String::new(alloc);
-    for part in parts {
-        text.push_str(part)?;
-    }
-    Ok(text)
-}
-
 #[test]
 fn a_log_is_listed_by_its_header_and_events(rt: HostRuntime) -> Result<(), Fail> {
-    let input = bytes(
-        rt.alloc(),
-        joined(rt.alloc(), &[FOUR_HEADER, FOUR_EVENTS])?.as_str(),
-    )?;
+    let input = joined_bytes(rt.alloc(), &[FOUR_HEADER, FOUR_EVENTS])?;
     let none: &[&str] = &[HEADER_LINES, "events 0\n"];
     let one: &[&str] = &[HEADER_LINES, FIRST_LINES, "events 1\n"];
     let both: &[&str] = &[HEADER_LINES, FIRST_LINES, SECOND_LINES, "events 2\n"];
@@ -72,10 +59,7 @@ fn a_log_is_listed_by_its_header_and_events(rt: HostRuntime) -> Result<(), Fail>
 
 #[test]
 fn an_event_that_is_cut_off_is_not_listed(rt: HostRuntime) -> Result<(), Fail> {
-    let input = bytes(
-        rt.alloc(),
-        joined(rt.alloc(), &[FOUR_HEADER, FOUR_EVENTS])?.as_str(),
-    )?;
+    let input = joined_bytes(rt.alloc(), &[FOUR_HEADER, FOUR_EVENTS])?;
     let cut = &input.as_slice()[..input.len().saturating_sub(1)];
     let expected = joined(rt.alloc(), &[HEADER_LINES, FIRST_LINES, "events 1\n"])?;
     let row = (Command::Log2(Some(267)), "470 bytes", expected.as_str());

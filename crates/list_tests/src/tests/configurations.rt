@@ -1,5 +1,5 @@
-use crate::rows::{each_lists, lists};
-use crate::runs::{TWO_ELEMENTS, TWO_ELEMENTS_LISTING};
+use crate::tests::rows::{each_lists, lists};
+use crate::tests::runs::{TWO_ELEMENTS, TWO_ELEMENTS_LISTING};
 use std::test::Fail;
 use uefi_listing::command::Command;
 use uefi_listing::listing::Outcome;

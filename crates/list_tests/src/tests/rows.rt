@@ -26,6 +26,20 @@ pub fn lists(
     same_text(row, str::from_utf8(out.as_slice())?, expected)
 }
 
+/// Checks the listing by a command of each input, which is bytes as hex.
+pub fn each_lists_by(
+    alloc: Global,
+    command: Command,
+    rows: &[(&str, &str)],
+    outcome: Outcome,
+) -> Result<(), Fail> {
+    for (row, listing) in rows {
+        let input = bytes(alloc, row)?;
+        lists(alloc, &(command, *row, *listing), input.as_slice(), outcome)?;
+    }
+    Ok(())
+}
+
 /// Checks the listing of each row.
 pub fn each_lists(alloc: Global, rows: &[Row<'_>], outcome: Outcome) -> Result<(), Fail> {
     for row in rows {

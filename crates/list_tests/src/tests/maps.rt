@@ -1,4 +1,4 @@
-use crate::rows::{Row, each_lists};
+use crate::tests::rows::{Row, each_lists, each_lists_by};
 use std::test::Fail;
 use test_support::samples::FIRMWARE_MAP;
 use uefi_listing::command::Command;
@@ -34,13 +34,14 @@ pub const NO_MAP: &str = "refused InvalidSize\n";
 
 #[test]
 fn sizes_that_make_no_map_are_refused(rt: HostRuntime) -> Result<(), Fail> {
-    let rows: [Row<'_>; 6] = [
-        (Command::Map(0), FIRMWARE_MAP, NO_MAP),
-        (Command::Map(32), FIRMWARE_MAP, NO_MAP),
-        (Command::Map(44), FIRMWARE_MAP, NO_MAP),
-        (Command::Map(56), FIRMWARE_MAP, NO_MAP),
-        (Command::Map(usize::MAX), FIRMWARE_MAP, NO_MAP),
-        (Command::Map(39), "", NO_MAP),
-    ];
-    each_lists(rt.alloc(), &rows, Outcome::Refused)
+    for stride in [0, 32, 44, 56, usize::MAX] {
+        let rows = [(FIRMWARE_MAP, NO_MAP)];
+        each_lists_by(rt.alloc(), Command::Map(stride), &rows, Outcome::Refused)?;
+    }
+    each_lists_by(
+        rt.alloc(),
+        Command::Map(39),
+        &[("", NO_MAP)],
+        Outcome::Refused,
+    )
 }

@@ -1,4 +1,4 @@
-use crate::rows::each_lists;
+use crate::tests::rows::each_lists;
 use std::test::Fail;
 use test_support::samples::{CRTM_VERSION, FIRMWARE_BLOB, LOG1};
 use uefi_listing::command::Command;

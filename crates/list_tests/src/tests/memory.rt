@@ -1,4 +1,4 @@
-use crate::runs::{RUNS, Run, input_of};
+use crate::tests::runs::{RUNS, Run, input_of};
 use std::alloc::{Allocator, Global};
 use std::test::Fail;
 use test_support::{holds, in_turn};
@@ -18,7 +18,7 @@ fn listed<A: Allocator + Copy>(
 
 /// Checks that the listing of a run is made, or a request for memory was refused.
 fn lists_or_runs_out(alloc: Global, run: &Run) -> Result<(), Fail> {
-    let (_, command, row, expected, outcome) = run;
+    let (command, row, expected, outcome) = run;
     let input = input_of(alloc, run)?;
     let asked = (command, input.as_slice());
     let requests = in_turn(

@@ -1,4 +1,4 @@
-use crate::runs::{RUNS, Run, input_of};
+use crate::tests::runs::{RUNS, Run, input_of};
 use std::alloc::{Allocator, Global};
 use std::io::{self, ErrorKind, Write};
 use std::test::Fail;
@@ -170,7 +170,7 @@ fn check_stops(
 
 /// Checks a run over writers that take few bytes a call, and over those that take all at once.
 fn check_run(alloc: Global, run: &Run) -> Result<(), Fail> {
-    let (_, command, _, listing, outcome) = run;
+    let (command, _, listing, outcome) = run;
     let input = input_of(alloc, run)?;
     let asked = (command, input.as_slice(), listing.as_bytes());
     for most in 1..=20 {

@@ -1,0 +1,14 @@
+mod configurations;
+mod files;
+mod hex_text;
+mod logs;
+mod maps;
+mod memory;
+mod paths;
+mod resources;
+mod rows;
+mod runs;
+mod times;
+mod v2_logs;
+mod words;
+mod writers;
