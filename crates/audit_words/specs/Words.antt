@@ -13,7 +13,7 @@ use Rattle.audit_words.specs.declared.request.LastEntry.{LastEntry}
 use Rattle.audit_words.specs.declared.request.LastEntry.TheVariants.{Length, At, Empty}
 use Rattle.audit_words.specs.declared.request.Reading.{Reading}
 use Rattle.audit_words.specs.declared.request.Request.{Request}
-use Rattle.audit_words.specs.declared.request.Request.TheVariants.{Events, Replay, Verify}
+use Rattle.audit_words.specs.declared.request.Request.TheVariants.{Events, Replay, Verify, Diff}
 
 -- The word is the number in decimal: one or more digits 0 to 9, and at most 2^64 - 1.
 abbrev pub IsDecimal : List ℕ → ℕ → Type 0
@@ -70,3 +70,6 @@ Asks name found (Replay logs bank format) =
 Asks name found (Verify log registers locality) =
     (name ≡ codes "verify") × (first_value found (codes "log") ≡ Some log.now)
     × (first_value found (codes "registers") ≡ Some registers.now)
+Asks name found (Diff old new) =
+    (name ≡ codes "diff") × (first_value found (codes "old") ≡ Some old.now)
+    × (first_value found (codes "new") ≡ Some new.now)

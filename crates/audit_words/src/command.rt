@@ -20,7 +20,8 @@ pub fn matches_of<'a>(alloc: Global, words: &'a [String]) -> Result<ArgMatches<'
         .arg_required_else_help(true)
         .subcommand(events(alloc)?)?
         .subcommand(replay(alloc)?)?
-        .subcommand(verify(alloc)?)?;
+        .subcommand(verify(alloc)?)?
+        .subcommand(diff(alloc)?)?;
     command.try_get_matches_from(words)
 }
 
@@ -72,6 +73,23 @@ fn verify<'a>(alloc: Global) -> Result<Command<'a>, Error> {
         .arg(log)?
         .arg(registers)?
         .arg(locality)?;
+    reading(alloc, command)
+}
+
+/// Returns the command `diff`.
+fn diff<'a>(alloc: Global) -> Result<Command<'a>, Error> {
+    let old = Arg::new(alloc, "old")
+        .value_name("OLD")
+        .required(true)
+        .help("A file with an event log");
+    let new = Arg::new(alloc, "new")
+        .value_name("NEW")
+        .required(true)
+        .help("A file with the log to compare it with");
+    let command = Command::new(alloc, "diff")
+        .about("Prints how the events of two logs differ, register by register")
+        .arg(old)?
+        .arg(new)?;
     reading(alloc, command)
 }
 

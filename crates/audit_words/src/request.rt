@@ -15,6 +15,8 @@ pub enum Request<'m, 'a> {
     Replay(&'m [&'a str], Option<Bank>, Format),
     /// `verify LOG --registers FILE [--locality N]`: whether they are those of a TPM.
     Verify(&'a str, &'a str, Option<u8>),
+    /// `diff OLD NEW`: how the events of the two logs differ.
+    Diff(&'a str, &'a str),
 }
 
 /// How registers are printed.
@@ -78,6 +80,7 @@ pub fn request_of<'m, 'a>(
         "events" => Some((events_of(matches)?, reading)),
         "replay" => Some((replay_of(matches)?, reading)),
         "verify" => Some((verify_of(matches)?, reading)),
+        "diff" => Some((diff_of(matches)?, reading)),
         _ => None,
     }
 }
@@ -107,6 +110,15 @@ fn verify_of<'m, 'a>(matches: &'m ArgMatches<'a>) -> Option<Request<'m, 'a>>
     let registers = matches.get_str("registers")?;
     let locality = matches.get_one::<u8>("locality");
     Some(Request::Verify(log, registers, locality))
+}
+
+/// Returns what the matches of `diff` ask for.
+fn diff_of<'m, 'a>(matches: &'m ArgMatches<'a>) -> Option<Request<'m, 'a>>
+    ensures { IfSome result (Asks (codes "diff") (found_of matches.now)) }
+{
+    let old = matches.get_str("old")?;
+    let new = matches.get_str("new")?;
+    Some(Request::Diff(old, new))
 }
 
 /// Returns how a command's matches ask for logs to be read; `None` if `--last-entry` has a word

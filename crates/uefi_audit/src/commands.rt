@@ -1,5 +1,6 @@
 use crate::failure::{Failure, Status};
 use crate::input::{file_bytes, held_registers};
+use audit_diff::push_differences;
 use audit_json::{push_events, push_replay_json};
 use audit_lines::{LogFile, push_left_over, push_replay};
 use audit_verify::push_verdict;
@@ -36,6 +37,7 @@ pub(crate) fn perform<R: Files + Input + Print + Eprint + AllocGlobal>(
         Request::Verify(log, registers, locality) => {
             verify_log(rt, log, registers, reading, locality)
         }
+        Request::Diff(old, new) => diff_logs(rt, old, new, reading),
     }
 }
 
@@ -50,12 +52,7 @@ fn show_logs<R: Files + Input + Print + Eprint + AllocGlobal>(
     for name in logs {
         let of_log = match file_bytes(rt, name) {
             Some(bytes) => {
-                let last_entry = reading.last_entry.of_length(bytes.len());
-                let file = LogFile {
-                    name: *name,
-                    bytes: bytes.as_slice(),
-                    last_entry,
-                };
+                let file = log_file(*name, bytes.as_slice(), reading);
                 show_log(rt, &file, reading, shown, logs.len() > 1)?
             }
             None => Status::Unread,
@@ -142,17 +139,51 @@ fn verify_log<R: Files + Input + Print + Eprint + AllocGlobal>(
     let Some(bytes) = file_bytes(rt, log) else {
         return Ok(Status::Unread);
     };
-    let last_entry = reading.last_entry.of_length(bytes.len());
-    let file = LogFile {
-        name: log,
-        bytes: bytes.as_slice(),
-        last_entry,
-    };
+    let file = log_file(log, bytes.as_slice(), reading);
     let mut text = String::new(rt.alloc());
     let whole = reading.allow_left_over || push_left_over(&mut text, &file)?;
     let well = whole && push_verdict(&mut text, rt.alloc(), &file, held.as_slice(), locality)?;
     print_text(rt, text.as_str())?;
     Ok(Status::of(well))
+}
+
+/// Prints how the events of two logs differ.
+fn diff_logs<R: Files + Input + Print + Eprint + AllocGlobal>(
+    rt: &R,
+    old: &str,
+    new: &str,
+    reading: Reading,
+) -> Result<Status, Failure> {
+    let Some(old_bytes) = file_bytes(rt, old) else {
+        return Ok(Status::Unread);
+    };
+    let Some(new_bytes) = file_bytes(rt, new) else {
+        return Ok(Status::Unread);
+    };
+    let old = log_file(old, old_bytes.as_slice(), reading);
+    let new = log_file(new, new_bytes.as_slice(), reading);
+    let mut text = String::new(rt.alloc());
+    let are_whole = reading.allow_left_over || are_whole(&mut text, &old, &new)?;
+    let same = are_whole && push_differences(&mut text, rt.alloc(), &old, &new)?;
+    print_text(rt, text.as_str())?;
+    Ok(Status::of(same))
+}
+
+/// Returns whether neither log has bytes left over; of each that has, the line is appended.
+fn are_whole(text: &mut String, old: &LogFile<'_>, new: &LogFile<'_>) -> Result<bool, Failure> {
+    let old = push_left_over(text, old)?;
+    let new = push_left_over(text, new)?;
+    Ok(old && new)
+}
+
+/// Returns the log in a file of this name, with its last entry.
+fn log_file<'a>(name: &'a str, bytes: &'a [u8], reading: Reading) -> LogFile<'a> {
+    let last_entry = reading.last_entry.of_length(bytes.len());
+    LogFile {
+        name,
+        bytes,
+        last_entry,
+    }
 }
 
 /// Writes a text to standard output.

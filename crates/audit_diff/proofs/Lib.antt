@@ -1,0 +1,6 @@
+pub mod SameEvents
+pub mod Registers
+pub mod OnlyLines
+pub mod LineTexts
+pub mod Below
+pub mod Shown
