@@ -39,7 +39,8 @@ static DONE: AtomicU64 = AtomicU64::new(0);
 
 /// Which batch it is; its inputs follow from the seed and the index alone.
 pub struct Batch<'a> {
-    pub program: &'a str,
+    /// The folder of the programs' crates.
+    pub crates: &'a str,
     pub samples: &'a str,
     pub room: &'a str,
     pub seed: u64,
@@ -179,11 +180,12 @@ impl Batch<'_> {
         if self.is_traced {
             fs::write(self.trace(), format!("command: {}\n{input}", pool.command.name))?;
         }
-        let expected = expected::ending(pool.command, &input)?;
-        let mut ending = program::run(pool.command.name, file, &input, part);
+        let mut expected = expected::ending(pool.command, &input, file)?;
+        let mut ending = program::run(pool.command, file, &input, part);
         if ending == expected && random.below(PROCESS_SHARE) == 0 {
-            let file = Path::new(self.room).join(format!("input-{}", self.index));
-            ending = program::run_process(Path::new(self.program), pool.command.name, &file, &input)?;
+            let file = format!("{}/input-{}", self.room, self.index);
+            expected = expected::ending(pool.command, &input, &file)?;
+            ending = program::run_process(self.crates, pool.command, &file, &input)?;
             pool.counts.processes += 1;
         }
         if ending == expected {

@@ -1,6 +1,7 @@
-//! What plain Rust expects a run of the program to end with.
+//! What plain Rust expects a run of a program to end with.
 
-use crate::commands::Command;
+use crate::audit;
+use crate::commands::{Command, Program};
 use crate::input::Input;
 use crate::listings::{self, Outcome, ThirdWord};
 use crate::program::Ending;
@@ -26,10 +27,21 @@ fn argument(kind: ThirdWord, word: Option<&[u8]>) -> Option<Option<usize>> {
     }
 }
 
-pub fn ending(command: &Command, input: &Input) -> io::Result<Ending> {
-    let Some(argument) = argument(command.third_word, input.third_word.as_deref()) else {
-        return Ok(Ending { status: OTHER_WORDS, output: Vec::new(), message: USAGE.to_vec() });
+/// What a run ends with, whose file has this name.
+pub fn ending(command: &Command, input: &Input, file: &str) -> io::Result<Ending> {
+    let word = input.third_word.as_deref();
+    // Without a word the last entry is the file's length.
+    if command.program == Program::Audit && word.is_none() {
+        let length = Some(input.bytes.len());
+        return Ok(audit::ending(command.name, &input.bytes, length, file));
+    }
+    let Some(argument) = argument(command.third_word, word) else {
+        let message = if command.program == Program::Audit { Vec::new() } else { USAGE.to_vec() };
+        return Ok(Ending { status: OTHER_WORDS, output: Vec::new(), message });
     };
+    if command.program == Program::Audit {
+        return Ok(audit::ending(command.name, &input.bytes, argument, file));
+    }
     let mut output = Vec::new();
     let status = match listings::list(&mut output, command.name, &input.bytes, argument)? {
         Outcome::Listed => 0,

@@ -1,10 +1,12 @@
-//! Mutates rows and samples, lists each by the proved program and by plain Rust, and compares the
-//! listings, the messages and the exit statuses.
+//! Mutates rows and samples, gives each to a proved program and to plain Rust, and compares what is
+//! printed, the messages and the exit statuses.
 //!
-//! `fuzz run PROGRAM SAMPLES ROOM SECONDS SEED THREADS` runs for that time, with its files in the
-//! folder ROOM. It starts processes `fuzz batch ..`, one after another for each thread, each of which
-//! runs many inputs; so a crash or a hang ends a batch alone.
+//! `fuzz run CRATES SAMPLES ROOM SECONDS SEED THREADS` runs for that time, with its files in the
+//! folder ROOM; CRATES is the folder of the programs' crates. It starts processes `fuzz batch ..`, one
+//! after another for each thread, each of which runs many inputs; so a crash or a hang ends a batch
+//! alone.
 
+mod audit;
 mod batch;
 mod commands;
 mod counts;
@@ -36,15 +38,15 @@ fn main() -> io::Result<ExitCode> {
     let words: Vec<String> = std::env::args().skip(1).collect();
     let words: Vec<&str> = words.iter().map(String::as_str).collect();
     match words.as_slice() {
-        ["run", program, samples, room, seconds, seed, threads] => {
+        ["run", crates, samples, room, seconds, seed, threads] => {
             let (seconds, seed, threads) = (number(seconds)?, number(seed)?, number(threads)?);
-            Run { program, samples, room, seconds, seed, threads }.start()
+            Run { crates, samples, room, seconds, seed, threads }.start()
         }
-        ["batch", program, samples, room, seed, index, milliseconds, trace @ ..] => {
+        ["batch", crates, samples, room, seed, index, milliseconds, trace @ ..] => {
             let (seed, index, milliseconds) = (number(seed)?, number(index)?, number(milliseconds)?);
             let is_traced = !trace.is_empty();
-            Batch { program, samples, room, seed, index, milliseconds, is_traced }.start()
+            Batch { crates, samples, room, seed, index, milliseconds, is_traced }.start()
         }
-        _ => Err(io::Error::other("usage: fuzz run PROGRAM SAMPLES ROOM SECONDS SEED THREADS")),
+        _ => Err(io::Error::other("usage: fuzz run CRATES SAMPLES ROOM SECONDS SEED THREADS")),
     }
 }

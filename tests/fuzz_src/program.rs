@@ -1,16 +1,17 @@
-//! The proved program: linked into this process, and as a process of its own.
+//! The proved programs: linked into this process, and as processes of their own.
 //!
-//! The object file that the program is linked from is linked here too, with `main` and the functions
-//! of the C library for files renamed (`tests/fuzz`). So its `main` is called many times in one
-//! process, and reads and writes what stands in [`Streams`].
+//! The object files that the programs are linked from are linked here too, with `main` and the
+//! functions of the C library for files renamed (`tests/fuzz`). So their `main` is called many times
+//! in one process, and reads and writes what stands in [`Streams`].
 
+use crate::audit;
+use crate::commands::{self, Program};
 use crate::input::Input;
 use std::cell::RefCell;
 use std::ffi::{CStr, OsStr, c_char, c_int};
 use std::fs;
 use std::io;
 use std::os::unix::ffi::OsStrExt;
-use std::path::Path;
 use std::process::{Command, Stdio};
 
 /// What a run of the program ends with.
@@ -23,6 +24,7 @@ pub struct Ending {
 
 unsafe extern "C" {
     fn uefi_list_main(count: c_int, words: *const *const c_char) -> c_int;
+    fn uefi_audit_main(count: c_int, words: *const *const c_char) -> c_int;
     fn rattle_set_errno(error: c_int);
 }
 
@@ -119,23 +121,50 @@ extern "C" fn fuzz_write(handle: c_int, bytes: *const u8, length: usize) -> isiz
     })
 }
 
+/// The name of the program that has a command, and the words of a run after it.
+fn words(command: &commands::Command, file: &str, input: &Input) -> (&'static str, Vec<Vec<u8>>) {
+    let third_word = input.third_word.as_deref();
+    if command.program == Program::Audit {
+        return ("uefi_audit", audit::words(command.name, third_word, file.as_bytes()));
+    }
+    let words = [command.name.as_bytes(), file.as_bytes()].into_iter().chain(third_word);
+    ("uefi_list", words.map(Vec::from).collect())
+}
+
+/// What a run is compared by: the message of other words is partly that of `clap`.
+fn compared(command: &commands::Command, mut ending: Ending) -> Ending {
+    if command.program == Program::Audit && ending.status == 2 {
+        ending.message.clear();
+    }
+    ending
+}
+
 /// Runs the program in this process. Reads and writes take at most this many bytes.
-pub fn run(command: &str, file: &str, input: &Input, part: usize) -> Ending {
-    let words = ["uefi_list", command, file].map(Vec::from).into_iter();
-    let words = words.chain(input.third_word.clone()).collect();
+pub fn run(command: &commands::Command, file: &str, input: &Input, part: usize) -> Ending {
+    let (name, mut words) = words(command, file, input);
+    words.insert(0, Vec::from(name));
     STREAMS.set(Streams { words, input: input.bytes.clone(), part, ..Streams::default() });
-    let status = unsafe { uefi_list_main(0, std::ptr::null()) };
+    let status = match command.program {
+        Program::List => unsafe { uefi_list_main(0, std::ptr::null()) },
+        Program::Audit => unsafe { uefi_audit_main(0, std::ptr::null()) },
+    };
     let streams = STREAMS.take();
-    Ending { status, output: streams.output, message: streams.message }
+    compared(command, Ending { status, output: streams.output, message: streams.message })
 }
 
 /// Runs the program in a process of its own, with the input in this file.
-pub fn run_process(program: &Path, command: &str, file: &Path, input: &Input) -> io::Result<Ending> {
+pub fn run_process(
+    crates: &str,
+    command: &commands::Command,
+    file: &str,
+    input: &Input,
+) -> io::Result<Ending> {
     fs::write(file, &input.bytes)?;
-    let third_word = input.third_word.as_deref().map(OsStr::from_bytes);
-    let ran =
-        Command::new(program).arg(command).arg(file).args(third_word).stdin(Stdio::null()).output()?;
+    let (name, words) = words(command, file, input);
+    let words = words.iter().map(|word| OsStr::from_bytes(word));
+    let program = format!("{crates}/{name}/out/{name}");
+    let ran = Command::new(program).args(words).stdin(Stdio::null()).output()?;
     // A signal isn't a status of the program.
     let status = ran.status.code().unwrap_or(-1);
-    Ok(Ending { status, output: ran.stdout, message: ran.stderr })
+    Ok(compared(command, Ending { status, output: ran.stdout, message: ran.stderr }))
 }

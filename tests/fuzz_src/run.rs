@@ -3,7 +3,6 @@
 use crate::batch::{Batch, HANGS};
 use crate::commands::COMMANDS;
 use crate::counts::Counts;
-use crate::listings;
 use std::fs;
 use std::io;
 use std::path::Path;
@@ -14,7 +13,8 @@ use std::thread;
 use std::time::{Duration, Instant};
 
 pub struct Run<'a> {
-    pub program: &'a str,
+    /// The folder of the programs' crates.
+    pub crates: &'a str,
     pub samples: &'a str,
     pub room: &'a str,
     pub seconds: u64,
@@ -27,7 +27,7 @@ struct Shared {
     end: Instant,
     next_batch: AtomicU64,
     has_ended: AtomicBool,
-    counts: Mutex<[Counts; listings::COMMANDS.len()]>,
+    counts: Mutex<Vec<Counts>>,
     reports: Mutex<Vec<String>>,
 }
 
@@ -54,15 +54,15 @@ impl Shared {
 
 impl Run<'_> {
     fn batch(&self, index: u64, left: Duration, is_traced: bool) -> Batch<'_> {
-        let Run { program, samples, room, seed, .. } = *self;
-        Batch { program, samples, room, seed, index, milliseconds: left.as_millis() as u64, is_traced }
+        let Run { crates, samples, room, seed, .. } = *self;
+        Batch { crates, samples, room, seed, index, milliseconds: left.as_millis() as u64, is_traced }
     }
 
     /// Runs a batch in a process of its own.
     fn process(&self, batch: &Batch<'_>) -> io::Result<Output> {
         let numbers = [batch.seed, batch.index, batch.milliseconds].map(|number| number.to_string());
         Command::new(std::env::current_exe()?)
-            .args(["batch", batch.program, batch.samples, batch.room])
+            .args(["batch", batch.crates, batch.samples, batch.room])
             .args(numbers)
             .args(batch.is_traced.then_some("trace"))
             .output()
@@ -116,7 +116,7 @@ impl Run<'_> {
         }
         let (inputs, seconds) = (all.inputs(), took.as_secs());
         println!(
-            "fuzz: {} of the inputs went to the program in a process of its own too",
+            "fuzz: {} of the inputs went to their program in a process of its own too",
             all.processes
         );
         println!(
@@ -133,7 +133,7 @@ impl Run<'_> {
             end: start + Duration::from_secs(self.seconds),
             next_batch: AtomicU64::new(0),
             has_ended: AtomicBool::new(false),
-            counts: Mutex::default(),
+            counts: Mutex::new(vec![Counts::default(); COMMANDS.len()]),
             reports: Mutex::default(),
         };
         thread::scope(|scope| {

@@ -1,4 +1,4 @@
-//! `log2 FILE LAST` and `log2after FILE LAST`.
+//! `log2 FILE LAST` and `log2after FILE LAST`; the commands of `uefi_audit`.
 
 use super::More;
 use crate::input::{Input, hex};
@@ -15,6 +15,23 @@ pub const MORE: More = More {
     ],
     numbers: &[3, 4, 16, 20, 33, 61, 65, 77],
     mutate: None,
+};
+
+/// The same with what an audit reads besides: samples, the locality, variables, images.
+pub const MORE_OF_AUDIT: More = More {
+    samples: Some(("log", None)),
+    parts: &[
+        b"\x04\0\x14\0",
+        b"\x0b\0\x20\0",
+        b"\0\0\0\0\x03\0\0\0\0\0\0\0\x11\0\0\0StartupLocality\0\x03",
+        b"\x01\0\0\0\x04\0\0\0\0\0\0\0\x04\0\0\0\0\0\0\0",
+        b"\x01\0\0\x80",
+        b"\x03\0\0\x80",
+        b"\x07\0\0\x80",
+        b"\x7f\xff\x04\0",
+    ],
+    numbers: &[3, 4, 5, 16, 20, 23, 24, 32, 48, 64, 0x8000_0001, 0x8000_0003, 0x8000_0007],
+    ..MORE
 };
 
 /// A header with SHA-1 alone, of 65 bytes.

@@ -1,7 +1,9 @@
-//! The commands of the program, as mutations need them. Their names and what they take after FILE
-//! come from the plain [`listings`](crate::listings), their first inputs from `tests/commands.txt`.
-//! A module adds what a command has beside that.
+//! The commands of the programs, as mutations need them. The names of those of `uefi_list` and what
+//! they take after FILE come from the plain [`listings`](crate::listings), their first inputs from
+//! `tests/commands.txt`. A module adds what a command has beside that. Those of `uefi_audit` begin
+//! with the inputs of logs.
 
+use crate::audit;
 use crate::input::Input;
 use crate::listings::{self, ThirdWord};
 use crate::random::Random;
@@ -18,12 +20,19 @@ mod table;
 mod time;
 
 pub static COMMANDS: LazyLock<Vec<Command>> = LazyLock::new(|| {
-    let command = |(name, third_word): &(&'static str, ThirdWord)| Command {
+    let list = |(name, third_word): &(&'static str, ThirdWord)| Command {
+        program: Program::List,
         name,
         third_word: *third_word,
         more: more(name),
     };
-    listings::COMMANDS.iter().map(command).collect()
+    let audit = |(name, _): &(&'static str, &[&str])| Command {
+        program: Program::Audit,
+        name,
+        third_word: ThirdWord::LastEntry,
+        more: log2::MORE_OF_AUDIT,
+    };
+    listings::COMMANDS.iter().map(list).chain(audit::COMMANDS.iter().map(audit)).collect()
 });
 
 /// What the modules add to a command.
@@ -41,7 +50,15 @@ fn more(name: &str) -> More {
     }
 }
 
+/// Which program has a command.
+#[derive(Clone, Copy, PartialEq, Eq)]
+pub enum Program {
+    List,
+    Audit,
+}
+
 pub struct Command {
+    pub program: Program,
     pub name: &'static str,
     pub third_word: ThirdWord,
     pub more: More,
@@ -50,7 +67,10 @@ pub struct Command {
 impl Command {
     /// What mutations begin with: the inputs of the table, and those that a module adds.
     pub fn seeds(&self) -> Vec<Input> {
-        let mut seeds = table::seeds(self.name);
+        let mut seeds = match self.program {
+            Program::List => table::seeds(self.name),
+            Program::Audit => [table::seeds("log1"), table::seeds("log2after")].concat(),
+        };
         seeds.extend((self.more.seeds)());
         seeds
     }

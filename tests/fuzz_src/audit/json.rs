@@ -1,0 +1,22 @@
+//! Texts of JSON.
+
+pub fn hex(bytes: &[u8]) -> String {
+    bytes.iter().map(|byte| format!("{byte:02x}")).collect()
+}
+
+/// A text between quotation marks.
+pub fn text(text: &str) -> String {
+    let escaped = |c: char| match c {
+        '"' => "\\\"".to_owned(),
+        '\\' => "\\\\".to_owned(),
+        '\u{8}' => "\\b".to_owned(),
+        '\t' => "\\t".to_owned(),
+        '\n' => "\\n".to_owned(),
+        '\u{c}' => "\\f".to_owned(),
+        '\r' => "\\r".to_owned(),
+        '\0'..' ' => format!("\\u{:04x}", u32::from(c)),
+        _ => c.to_string(),
+    };
+    let inner: String = text.chars().map(escaped).collect();
+    format!("\"{inner}\"")
+}
