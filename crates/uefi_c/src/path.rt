@@ -72,7 +72,10 @@ pub extern "C" fn uefi_path_next_node<'a>(
 fn ends_walk(node: &DevicePathNode<'_>, is_at_end: bool) -> bool
     ensures { IsTrue result ↔ EndsWalk (node_of node.now) (IsTrue is_at_end) }
 {
-    node.is_end_entire() || is_at_end && is_end(node)
+    if !is_end(node) {
+        return false;
+    }
+    is_at_end || node.is_end_entire()
 }
 
 /// Returns whether the node has the type END.
