@@ -25,20 +25,6 @@ pub fn all_entries(
     map.entries().collect(alloc)
 }
 
-/// Returns the pages of all entries of any map, by `for`, where their sum fits.
-pub fn page_sum<M: MemoryMap>(map: &M) -> Option<u64>
-    ensures sum { let entries = entries_of (M.bytes map.now) (M.meta map.now) in
-        IfSome result (λ pages. pages ≡ sum_by (λ d. d.page_count) entries) }
-    ensures too_many { let entries = entries_of (M.bytes map.now) (M.meta map.now) in
-        IsNone result → 2 ^ 64 ≤ sum_by (λ d. d.page_count) entries }
-{
-    let mut pages = 0u64;
-    for entry in map.entries() {
-        pages = pages.checked_add(entry.page_count)?;
-    }
-    Some(pages)
-}
-
 /// Returns the entries of bytes that are a map, and none of others.
 pub fn entries_in(
     alloc: Global,
@@ -54,6 +40,20 @@ pub fn entries_in(
     }
 }
 
+/// Returns the pages of all entries of any map, by `for`, where their sum fits.
+pub fn page_sum<M: MemoryMap>(map: &M) -> Option<u64>
+    ensures sum { let entries = entries_of (M.bytes map.now) (M.meta map.now) in
+        IfSome result (λ pages. pages ≡ sum_by (λ d. d.page_count) entries) }
+    ensures too_many { let entries = entries_of (M.bytes map.now) (M.meta map.now) in
+        IsNone result → 2 ^ 64 ≤ sum_by (λ d. d.page_count) entries }
+{
+    let mut pages = 0u64;
+    for entry in map.entries() {
+        pages = pages.checked_add(entry.page_count)?;
+    }
+    Some(pages)
+}
+
 /// Returns the count of pages in a buffer of firmware's, or `None` if it holds no map or the sum
 /// doesn't fit.
 pub fn pages_in(buffer: &[u8], meta: MemoryMapMeta) -> Option<u64>
@@ -67,11 +67,7 @@ pub fn pages_in(buffer: &[u8], meta: MemoryMapMeta) -> Option<u64>
     let Ok(map) = MemoryMapRef::new(buffer, meta) else {
         return None;
     };
-    let mut pages = 0u64;
-    for entry in map.entries() {
-        pages = pages.checked_add(entry.page_count)?;
-    }
-    Some(pages)
+    page_sum(&map)
 }
 
 /// Returns all entries of a map: those of every map with the same forty bytes of each descriptor,
