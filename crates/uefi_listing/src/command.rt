@@ -83,11 +83,11 @@ fn command_with(name: &str, word: &str) -> Option<Command>
         → AskOver command file (name.now ∷ file ∷ word.now ∷ []) → ⊥) }
 {
     match name {
-        "log1" => Some(Command::Log1(last_entry(word)?)),
-        "log2" => Some(Command::Log2(last_entry(word)?)),
-        "log2after" => Some(Command::Log2After(last_entry(word)?)),
-        "map" => Some(Command::Map(decimal(word)?)),
-        "info" => Some(Command::Info(decimal(word)?)),
+        "log1" => last_entry(word).map(Command::Log1),
+        "log2" => last_entry(word).map(Command::Log2),
+        "log2after" => last_entry(word).map(Command::Log2After),
+        "map" => decimal(word).map(Command::Map),
+        "info" => decimal(word).map(Command::Info),
         _ => None,
     }
 }
