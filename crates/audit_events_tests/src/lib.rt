@@ -4,8 +4,4 @@
 #![tactic(auto)]
 
 #[cfg(test)]
-mod events;
-#[cfg(test)]
-mod machine_log;
-#[cfg(test)]
-mod names;
+mod tests;

@@ -2,7 +2,7 @@ use audit_events::event_line;
 use registers::Log;
 use std::alloc::Global;
 use std::test::Fail;
-use test_support::{bytes, each_shows, holds};
+use test_support::{bytes, holds, same_text};
 
 /// Version 1 events, and what their lines end with.
 const TYPES: [(&str, &str); 47] = [
@@ -196,93 +196,32 @@ const TYPES: [(&str, &str); 47] = [
     ),
 ];
 
-/// Logs of version 2 with one event, which has one digest, and its line.
+/// Algorithms as their two bytes in hex, and as a line names them.
 const ALGORITHMS: [(&str, &str); 12] = [
-    (
-        "000000000300000000000000000000000000000000000000000000002100000053706563204944204576\
-         656e7430330000000000000200020100000004000100000000000000000000010000000400cc00000000",
-        "{\"content\":null,\"data\":\"\",\"digests\":[{\"algorithm\":\"sha1\",\"digest\":\"cc\
-         \"}],\"hashes_to\":[],\"index\":0,\"log\":\"a log\",\"offset\":65,\"register\":0,\"t\
-         ype\":{\"name\":\"EV_PREBOOT_CERT\",\"number\":0}}",
-    ),
-    (
-        "000000000300000000000000000000000000000000000000000000002100000053706563204944204576\
-         656e743033000000000000020002010000000b000100000000000000000000010000000b00cc00000000",
-        "{\"content\":null,\"data\":\"\",\"digests\":[{\"algorithm\":\"sha256\",\"digest\":\"\
-         cc\"}],\"hashes_to\":[],\"index\":0,\"log\":\"a log\",\"offset\":65,\"register\":0,\
-         \"type\":{\"name\":\"EV_PREBOOT_CERT\",\"number\":0}}",
-    ),
-    (
-        "000000000300000000000000000000000000000000000000000000002100000053706563204944204576\
-         656e743033000000000000020002010000000c000100000000000000000000010000000c00cc00000000",
-        "{\"content\":null,\"data\":\"\",\"digests\":[{\"algorithm\":\"sha384\",\"digest\":\"\
-         cc\"}],\"hashes_to\":[],\"index\":0,\"log\":\"a log\",\"offset\":65,\"register\":0,\
-         \"type\":{\"name\":\"EV_PREBOOT_CERT\",\"number\":0}}",
-    ),
-    (
-        "000000000300000000000000000000000000000000000000000000002100000053706563204944204576\
-         656e743033000000000000020002010000000d000100000000000000000000010000000d00cc00000000",
-        "{\"content\":null,\"data\":\"\",\"digests\":[{\"algorithm\":\"sha512\",\"digest\":\"\
-         cc\"}],\"hashes_to\":[],\"index\":0,\"log\":\"a log\",\"offset\":65,\"register\":0,\
-         \"type\":{\"name\":\"EV_PREBOOT_CERT\",\"number\":0}}",
-    ),
-    (
-        "000000000300000000000000000000000000000000000000000000002100000053706563204944204576\
-         656e7430330000000000000200020100000012000100000000000000000000010000001200cc00000000",
-        "{\"content\":null,\"data\":\"\",\"digests\":[{\"algorithm\":\"sm3_256\",\"digest\":\
-         \"cc\"}],\"hashes_to\":[],\"index\":0,\"log\":\"a log\",\"offset\":65,\"register\":0\
-         ,\"type\":{\"name\":\"EV_PREBOOT_CERT\",\"number\":0}}",
-    ),
-    (
-        "000000000300000000000000000000000000000000000000000000002100000053706563204944204576\
-         656e7430330000000000000200020100000027000100000000000000000000010000002700cc00000000",
-        "{\"content\":null,\"data\":\"\",\"digests\":[{\"algorithm\":\"sha3_256\",\"digest\":\
-         \"cc\"}],\"hashes_to\":[],\"index\":0,\"log\":\"a log\",\"offset\":65,\"register\":0\
-         ,\"type\":{\"name\":\"EV_PREBOOT_CERT\",\"number\":0}}",
-    ),
-    (
-        "000000000300000000000000000000000000000000000000000000002100000053706563204944204576\
-         656e7430330000000000000200020100000028000100000000000000000000010000002800cc00000000",
-        "{\"content\":null,\"data\":\"\",\"digests\":[{\"algorithm\":\"sha3_384\",\"digest\":\
-         \"cc\"}],\"hashes_to\":[],\"index\":0,\"log\":\"a log\",\"offset\":65,\"register\":0\
-         ,\"type\":{\"name\":\"EV_PREBOOT_CERT\",\"number\":0}}",
-    ),
-    (
-        "000000000300000000000000000000000000000000000000000000002100000053706563204944204576\
-         656e7430330000000000000200020100000029000100000000000000000000010000002900cc00000000",
-        "{\"content\":null,\"data\":\"\",\"digests\":[{\"algorithm\":\"sha3_512\",\"digest\":\
-         \"cc\"}],\"hashes_to\":[],\"index\":0,\"log\":\"a log\",\"offset\":65,\"register\":0\
-         ,\"type\":{\"name\":\"EV_PREBOOT_CERT\",\"number\":0}}",
-    ),
-    (
-        "000000000300000000000000000000000000000000000000000000002100000053706563204944204576\
-         656e7430330000000000000200020100000000000100000000000000000000010000000000cc00000000",
-        "{\"content\":null,\"data\":\"\",\"digests\":[{\"algorithm\":0,\"digest\":\"cc\"}],\"\
-         hashes_to\":[],\"index\":0,\"log\":\"a log\",\"offset\":65,\"register\":0,\"type\":{\
-         \"name\":\"EV_PREBOOT_CERT\",\"number\":0}}",
-    ),
-    (
-        "000000000300000000000000000000000000000000000000000000002100000053706563204944204576\
-         656e7430330000000000000200020100000013000100000000000000000000010000001300cc00000000",
-        "{\"content\":null,\"data\":\"\",\"digests\":[{\"algorithm\":19,\"digest\":\"cc\"}],\
-         \"hashes_to\":[],\"index\":0,\"log\":\"a log\",\"offset\":65,\"register\":0,\"type\"\
-         :{\"name\":\"EV_PREBOOT_CERT\",\"number\":0}}",
-    ),
-    (
-        "000000000300000000000000000000000000000000000000000000002100000053706563204944204576\
-         656e7430330000000000000200020100000026000100000000000000000000010000002600cc00000000",
-        "{\"content\":null,\"data\":\"\",\"digests\":[{\"algorithm\":38,\"digest\":\"cc\"}],\
-         \"hashes_to\":[],\"index\":0,\"log\":\"a log\",\"offset\":65,\"register\":0,\"type\"\
-         :{\"name\":\"EV_PREBOOT_CERT\",\"number\":0}}",
-    ),
-    (
-        "000000000300000000000000000000000000000000000000000000002100000053706563204944204576\
-         656e743033000000000000020002010000002a000100000000000000000000010000002a00cc00000000",
-        "{\"content\":null,\"data\":\"\",\"digests\":[{\"algorithm\":42,\"digest\":\"cc\"}],\
-         \"hashes_to\":[],\"index\":0,\"log\":\"a log\",\"offset\":65,\"register\":0,\"type\"\
-         :{\"name\":\"EV_PREBOOT_CERT\",\"number\":0}}",
-    ),
+    ("0400", "\"sha1\""),
+    ("0b00", "\"sha256\""),
+    ("0c00", "\"sha384\""),
+    ("0d00", "\"sha512\""),
+    ("1200", "\"sm3_256\""),
+    ("2700", "\"sha3_256\""),
+    ("2800", "\"sha3_384\""),
+    ("2900", "\"sha3_512\""),
+    ("0000", "0"),
+    ("1300", "19"),
+    ("2600", "38"),
+    ("2a00", "42"),
 ];
+
+/// A log of version 2 with one event, which has one digest. `@` stands for the algorithm.
+const ONE_DIGEST: &str = "00000000 03000000 0000000000000000000000000000000000000000 21000000 \
+    53706563204944204576656e74303300 00000000 00020002 01000000 @ 0100 00 \
+    00000000 00000000 01000000 @ cc 00000000";
+
+/// The line of the event of [`ONE_DIGEST`].
+const ONE_DIGEST_LINE: &str = "{\"content\":null,\"data\":\"\",\
+    \"digests\":[{\"algorithm\":@,\"digest\":\"cc\"}],\"hashes_to\":[],\"index\":0,\
+    \"log\":\"a log\",\"offset\":65,\"register\":0,\
+    \"type\":{\"name\":\"EV_PREBOOT_CERT\",\"number\":0}}";
 
 /// Returns the line of the first event.
 fn first_line(alloc: Global, bytes: &[u8]) -> Result<String, Fail> {
@@ -305,5 +244,12 @@ fn a_type_has_its_name_if_there_is_one(rt: HostRuntime) -> Result<(), Fail> {
 
 #[test]
 fn an_algorithm_has_its_name_or_its_number(rt: HostRuntime) -> Result<(), Fail> {
-    each_shows(rt.alloc(), &ALGORITHMS, first_line)
+    for (algorithm, name) in ALGORITHMS {
+        let row = ONE_DIGEST.replace(rt.alloc(), '@', algorithm)?;
+        let input = bytes(rt.alloc(), row.as_str())?;
+        let line = first_line(rt.alloc(), input.as_slice())?;
+        let expected = ONE_DIGEST_LINE.replace(rt.alloc(), '@', name)?;
+        same_text(name, line.as_str(), expected.as_str())?;
+    }
+    Ok(())
 }

@@ -1,0 +1,3 @@
+mod events;
+mod machine_log;
+mod names;
