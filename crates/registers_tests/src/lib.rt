@@ -3,6 +3,4 @@
 #![tactic(auto)]
 
 #[cfg(test)]
-mod logs;
-#[cfg(test)]
-mod machine_log;
+mod tests;

@@ -184,21 +184,9 @@ fn check_register(
 }
 
 #[test]
-fn a_machines_log_leads_to_the_registers_of_sha_1(rt: HostRuntime) -> Result<(), Fail> {
-    check(rt.alloc(), Bank::Sha1, &MACHINE_SHA1)
-}
-
-#[test]
-fn a_machines_log_leads_to_the_registers_of_sha_256(rt: HostRuntime) -> Result<(), Fail> {
-    check(rt.alloc(), Bank::Sha256, &MACHINE_SHA256)
-}
-
-#[test]
-fn a_machines_log_leads_to_the_registers_of_sha_384(rt: HostRuntime) -> Result<(), Fail> {
-    check(rt.alloc(), Bank::Sha384, &MACHINE_SHA384)
-}
-
-#[test]
-fn a_machines_log_leads_to_the_registers_of_sha_512(rt: HostRuntime) -> Result<(), Fail> {
+fn a_machines_log_leads_to_the_registers_of_each_bank(rt: HostRuntime) -> Result<(), Fail> {
+    check(rt.alloc(), Bank::Sha1, &MACHINE_SHA1)?;
+    check(rt.alloc(), Bank::Sha256, &MACHINE_SHA256)?;
+    check(rt.alloc(), Bank::Sha384, &MACHINE_SHA384)?;
     check(rt.alloc(), Bank::Sha512, &MACHINE_SHA512)
 }
