@@ -1,6 +1,7 @@
 use std::alloc::{AllocError, Global};
 use uefi_hii::{
-    ConfigurationString, ConfigurationStringIter, MultiConfigurationStringIter, fill_from_hex,
+    ConfigurationString, ConfigurationStringElement, ConfigurationStringIter,
+    MultiConfigurationStringIter, fill_from_hex,
 };
 
 /// Returns the bytes as a text, or the empty text if they aren't UTF-8.
@@ -24,45 +25,45 @@ pub extern "C" fn port_config_pairs(bytes: &[u8]) -> u64 {
 /// element.
 #[unsafe(no_mangle)]
 pub extern "C" fn port_config(alloc: Global, bytes: &[u8]) -> u64 {
-    let mut sum = 0u64;
-    for item in MultiConfigurationStringIter::new(alloc, text_of(bytes)) {
-        if let Ok(configuration) = item {
-            sum = sum.wrapping_add(element_sum(&configuration));
-        }
-    }
-    sum
-}
-
-/// Returns the sum over offset, width and first byte of each element.
-fn element_sum(configuration: &ConfigurationString) -> u64 {
-    let mut sum = 0u64;
-    for element in configuration.elements.as_slice() {
-        sum = sum
-            .wrapping_add(element.offset)
-            .wrapping_add(element.width)
-            .wrapping_add(first_of(element.value.as_slice()));
-    }
-    sum
+    text_sum(
+        alloc,
+        bytes,
+        |element| element.offset.wrapping_add(element.width),
+    )
 }
 
 /// Reads all configurations of the text. The sum is over length and first byte of each value.
 #[unsafe(no_mangle)]
 pub extern "C" fn port_config_value(alloc: Global, bytes: &[u8]) -> u64 {
+    text_sum(alloc, bytes, |element| element.value.len() as u64)
+}
+
+/// Returns the sum over all configurations of the text: over the number and the first byte of each
+/// element.
+fn text_sum<F>(alloc: Global, bytes: &[u8], number: F) -> u64
+where
+    F: Fn(&ConfigurationStringElement) -> u64,
+    requires { F.IsAlwaysCallable number }
+{
     let mut sum = 0u64;
     for item in MultiConfigurationStringIter::new(alloc, text_of(bytes)) {
         if let Ok(configuration) = item {
-            sum = sum.wrapping_add(value_sum(&configuration));
+            sum = sum.wrapping_add(element_sum(&configuration, &number));
         }
     }
     sum
 }
 
-/// Returns the sum over length and first byte of each value.
-fn value_sum(configuration: &ConfigurationString) -> u64 {
+/// Returns the sum over the number and the first byte of each element.
+fn element_sum<F>(configuration: &ConfigurationString, number: &F) -> u64
+where
+    F: Fn(&ConfigurationStringElement) -> u64,
+    requires { F.IsAlwaysCallable number.now }
+{
     let mut sum = 0u64;
     for element in configuration.elements.as_slice() {
         sum = sum
-            .wrapping_add(element.value.len() as u64)
+            .wrapping_add(number(element))
             .wrapping_add(first_of(element.value.as_slice()));
     }
     sum
