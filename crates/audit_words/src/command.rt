@@ -54,10 +54,7 @@ fn replay<'a>(alloc: Global) -> Result<Command<'a>, Error> {
 
 /// Returns the command `verify`.
 fn verify<'a>(alloc: Global) -> Result<Command<'a>, Error> {
-    let log = Arg::new(alloc, "log")
-        .value_name("LOG")
-        .required(true)
-        .help("A file with an event log");
+    let log = file(alloc, "log", "LOG", "A file with an event log");
     let registers = Arg::new(alloc, "registers")
         .long("registers")
         .value_name("FILE")
@@ -78,19 +75,26 @@ fn verify<'a>(alloc: Global) -> Result<Command<'a>, Error> {
 
 /// Returns the command `diff`.
 fn diff<'a>(alloc: Global) -> Result<Command<'a>, Error> {
-    let old = Arg::new(alloc, "old")
-        .value_name("OLD")
-        .required(true)
-        .help("A file with an event log");
-    let new = Arg::new(alloc, "new")
-        .value_name("NEW")
-        .required(true)
-        .help("A file with the log to compare it with");
+    let old = file(alloc, "old", "OLD", "A file with an event log");
+    let new = file(
+        alloc,
+        "new",
+        "NEW",
+        "A file with the log to compare it with",
+    );
     let command = Command::new(alloc, "diff")
         .about("Prints how the events of two logs differ, register by register")
         .arg(old)?
         .arg(new)?;
     reading(alloc, command)
+}
+
+/// Returns the argument for a file that has to be named, and how the help shows it.
+fn file<'a>(alloc: Global, id: &'a str, value_name: &'a str, help: &'a str) -> Arg<'a> {
+    Arg::new(alloc, id)
+        .value_name(value_name)
+        .required(true)
+        .help(help)
 }
 
 /// Returns the argument for logs, of which there may be many.

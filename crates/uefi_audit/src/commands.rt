@@ -62,7 +62,7 @@ fn show_logs<R: Files + Input + Print + Eprint + AllocGlobal>(
     Ok(status)
 }
 
-/// Prints what is to be shown of a log, which may be one of several.
+/// Prints what is to be shown of a log. Its registers stand below its name if it is one of several.
 fn show_log<R: Print + Eprint + AllocGlobal>(
     rt: &R,
     file: &LogFile<'_>,
@@ -70,59 +70,46 @@ fn show_log<R: Print + Eprint + AllocGlobal>(
     shown: Shown,
     is_one_of_many: bool,
 ) -> Result<Status, Failure> {
-    match shown {
-        Shown::Events => print_events(rt, file, reading),
-        Shown::Registers(bank) => print_registers(rt, file, reading, bank, is_one_of_many),
-        Shown::RegistersJson(bank) => print_registers_json(rt, file, reading, bank),
-    }
-}
-
-/// Prints the events of a log. If it has bytes left over that aren't allowed, standard error says
-/// so, and nothing is printed: standard output has nothing but JSON.
-fn print_events<R: Print + Eprint + AllocGlobal>(
-    rt: &R,
-    file: &LogFile<'_>,
-    reading: Reading,
-) -> Result<Status, Failure> {
     let mut text = String::new(rt.alloc());
-    if !reading.allow_left_over && !push_left_over(&mut text, file)? {
-        let _ = eprint!(rt; "uefi_audit: {text}");
-        return Ok(Status::Wrong);
-    }
-    push_events(&mut text, rt.alloc(), file)?;
+    let allow_left_over = reading.allow_left_over;
+    let well = match shown {
+        Shown::Events => push_whole_events(rt, &mut text, file, allow_left_over)?,
+        Shown::Registers(bank) => {
+            push_name(&mut text, file.name, is_one_of_many)?;
+            push_replay(&mut text, rt.alloc(), file, bank, allow_left_over)?
+        }
+        Shown::RegistersJson(bank) => {
+            push_replay_json(&mut text, rt.alloc(), file, bank, allow_left_over)?
+        }
+    };
     print_text(rt, text.as_str())?;
-    Ok(Status::Well)
+    Ok(Status::of(well))
 }
 
-/// Prints the registers that a log leads to, below its name if it is one of several.
-fn print_registers<R: Print + AllocGlobal>(
+/// Appends the events of a log, and returns whether it did. If the log has bytes left over that
+/// aren't allowed, standard error says so, and nothing is appended: standard output has nothing but
+/// JSON.
+fn push_whole_events<R: Eprint + AllocGlobal>(
     rt: &R,
+    text: &mut String,
     file: &LogFile<'_>,
-    reading: Reading,
-    bank: Option<Bank>,
-    is_named: bool,
-) -> Result<Status, Failure> {
-    let mut text = String::new(rt.alloc());
-    if is_named {
-        let name = file.name;
+    allow_left_over: bool,
+) -> Result<bool, Failure> {
+    let mut left_over = String::new(rt.alloc());
+    if !allow_left_over && !push_left_over(&mut left_over, file)? {
+        let _ = eprint!(rt; "uefi_audit: {left_over}");
+        return Ok(false);
+    }
+    push_events(text, rt.alloc(), file)?;
+    Ok(true)
+}
+
+/// Appends the line with a log's name, if it is one of several.
+fn push_name(text: &mut String, name: &str, is_one_of_many: bool) -> Result<(), Failure> {
+    if is_one_of_many {
         writeln!(text, "{name}:")?;
     }
-    let well = push_replay(&mut text, rt.alloc(), file, bank, reading.allow_left_over)?;
-    print_text(rt, text.as_str())?;
-    Ok(Status::of(well))
-}
-
-/// Prints the registers that a log leads to as a JSON object.
-fn print_registers_json<R: Print + AllocGlobal>(
-    rt: &R,
-    file: &LogFile<'_>,
-    reading: Reading,
-    bank: Option<Bank>,
-) -> Result<Status, Failure> {
-    let mut text = String::new(rt.alloc());
-    let well = push_replay_json(&mut text, rt.alloc(), file, bank, reading.allow_left_over)?;
-    print_text(rt, text.as_str())?;
-    Ok(Status::of(well))
+    Ok(())
 }
 
 /// Prints whether a log leads to the registers of a TPM.
@@ -154,10 +141,7 @@ fn diff_logs<R: Files + Input + Print + Eprint + AllocGlobal>(
     new: &str,
     reading: Reading,
 ) -> Result<Status, Failure> {
-    let Some(old_bytes) = file_bytes(rt, old) else {
-        return Ok(Status::Unread);
-    };
-    let Some(new_bytes) = file_bytes(rt, new) else {
+    let (Some(old_bytes), Some(new_bytes)) = (file_bytes(rt, old), file_bytes(rt, new)) else {
         return Ok(Status::Unread);
     };
     let old = log_file(old, old_bytes.as_slice(), reading);
