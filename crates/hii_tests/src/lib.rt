@@ -2,12 +2,4 @@
 #![tactic(auto)]
 
 #[cfg(test)]
-mod configurations;
-#[cfg(test)]
-mod filling;
-#[cfg(test)]
-mod memory;
-#[cfg(test)]
-mod samples;
-#[cfg(test)]
-mod values;
+mod tests;

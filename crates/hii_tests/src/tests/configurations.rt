@@ -1,4 +1,4 @@
-use crate::samples::{
+use crate::tests::samples::{
     GUID, ISCSI_ALTERNATIVES, ISCSI_ALTERNATIVES_ITEMS, ISCSI_TWICE, ISCSI_TWICE_ITEMS, KEPT_PAIRS,
     KEPT_PAIRS_ITEMS, line_of, push_item, text_of,
 };

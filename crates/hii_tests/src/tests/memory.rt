@@ -1,10 +1,10 @@
-use crate::samples::{
+use crate::tests::samples::{
     ISCSI_ALTERNATIVES, ISCSI_ALTERNATIVES_ITEMS, ISCSI_NAME, ISCSI_TWICE, ISCSI_TWICE_ITEMS,
     KEPT_PAIRS, KEPT_PAIRS_ITEMS, line_of, push_item, text_of,
 };
 use std::alloc::{AllocError, Allocator, Global};
 use std::test::Fail;
-use test_support::{Refusing, holds, in_turn, same_text, without_request};
+use test_support::{Refusing, holds, same_text, takes_memory, without_request};
 use uefi_hii::{ConfigurationString, MultiConfigurationStringIter, ParseError, parse_all};
 
 /// Returns whether the name in hex is the driver's, or `None` if memory ran out.
@@ -17,8 +17,7 @@ fn is_driver<A: Allocator + Copy>(alloc: A, text: &str) -> Option<bool> {
 
 #[test]
 fn a_name_is_read_or_memory_was_refused(rt: HostRuntime) -> Result<(), Fail> {
-    let requests = in_turn(rt.alloc(), &true, |heap| is_driver(heap, ISCSI_NAME))?;
-    holds("a name takes memory", requests > 0)
+    takes_memory(rt.alloc(), &true, |heap| is_driver(heap, ISCSI_NAME))
 }
 
 /// Returns the line of the item that `from_str` gives, or `None` if memory ran out.
@@ -42,8 +41,7 @@ fn check_first(alloc: Global, row: &str) -> Result<(), Fail> {
     let text = text_of(alloc, row)?;
     let text = text.as_str();
     let line = first_line(alloc, alloc, text).ok_or("memory")?;
-    let requests = in_turn(alloc, &line, |heap| first_line(heap, alloc, text))?;
-    holds("a configuration takes memory", requests > 0)
+    takes_memory(alloc, &line, |heap| first_line(heap, alloc, text))
 }
 
 #[test]
@@ -67,8 +65,7 @@ fn check_all(alloc: Global, row: &str, items: &str) -> Result<(), Fail> {
     let text = text_of(alloc, row)?;
     let text = text.as_str();
     let lines = String::from_str(alloc, items)?;
-    let requests = in_turn(alloc, &lines, |heap| all_lines(heap, alloc, text))?;
-    holds("configurations take memory", requests > 0)
+    takes_memory(alloc, &lines, |heap| all_lines(heap, alloc, text))
 }
 
 #[test]

@@ -1,0 +1,5 @@
+mod configurations;
+mod filling;
+mod memory;
+mod samples;
+mod values;
