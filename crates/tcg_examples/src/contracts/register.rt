@@ -31,3 +31,25 @@ pub fn events_of_register<'a>(
     }
     Ok(events)
 }
+
+/// Returns the types of these events, in order.
+pub fn types_of_register(
+    alloc: Global,
+    bytes: &[u8],
+    last_entry: usize,
+    register: PcrIndex,
+) -> Result<Vec<u32>, AllocError>
+    ensures { IfOk result (λ types. (log : List Event)
+        × IsLogOf after_header (Some bytes.now) (Some last_entry) log
+        × (types.items ≡ map (λ event. event.event_type)
+        (filter (λ event. event.pcr_index == register.0) log))) }
+{
+    let log = EventLog::new(Some(bytes), Some(last_entry), false);
+    let mut types = Vec::new(alloc);
+    for event in log.iter() {
+        if event.pcr_index() == register {
+            types.push(event.event_type().0)?;
+        }
+    }
+    Ok(types)
+}
