@@ -1,4 +1,5 @@
-ghost use Rattle.std.specs.Prelude.{◌≡◌, ◌==◌, ◌+◌, ◌-◌, ◌/◌, ◌<◌, ◌≤◌, ℕ, List, [], ◌∷◌, Option, Some, count_by, length, map, option_map, slice_get, take, IfOk, IfSome, MatchOption};
+ghost use Rattle.std.specs.Prelude.{◌≡◌, ◌==◌, ◌+◌, ◌-◌, ◌/◌, ◌<◌, ◌≤◌, ℕ, List, [], ◌∷◌, Option, Some, count_by, length, map, option_map, slice_get, take, IfOk, IfSome, MatchOption, drop};
+ghost use Rattle.std.specs.List.{concat};
 ghost use Rattle.uefi_base.specs.Prefix.{IsPrefix};
 ghost use Rattle.uefi_tcg.specs.v1.Laws.{SameUpTo};
 ghost use Rattle.uefi_tcg.specs.v2.Event.{Event, event_bytes};
@@ -254,6 +255,34 @@ pub fn two_steps(bytes: &[u8], last_entry: usize) -> Option<(PcrEvent<'_>, PcrEv
         return None;
     };
     Some((first, second))
+}
+
+/// Returns the bytes of the events of a log of version 2, one after another: the bytes of the log
+/// from its first event to the end of its list.
+pub fn all_bytes(alloc: Global, bytes: &[u8], last_entry: usize) -> Result<Vec<u8>, AllocError>
+    ensures encodings { IfOk result (λ joined. (events : List Event)
+        × IsLogOf after_header (Some bytes.now) (Some last_entry) events
+        × (joined.items ≡ concat (map event_bytes events))) }
+    ensures in_log { IfOk result (λ joined. (header : Header)
+        → HasHeader bytes.now last_entry header
+        → IsPrefix joined.items (drop (events_start header) bytes.now)) }
+{
+    one_log_v2();
+    joined_bytes(alloc, bytes, last_entry)
+}
+
+/// Returns the bytes of the events of a log of version 2, one after another.
+fn joined_bytes(alloc: Global, bytes: &[u8], last_entry: usize) -> Result<Vec<u8>, AllocError>
+    ensures { IfOk result (λ joined. (events : List Event)
+        × IsLogOf after_header (Some bytes.now) (Some last_entry) events
+        × (joined.items ≡ concat (map event_bytes events))) }
+{
+    let log = EventLog::new(Some(bytes), Some(last_entry), false);
+    let mut joined = Vec::new(alloc);
+    for event in log.iter() {
+        joined.extend_from_slice(event.as_bytes())?;
+    }
+    Ok(joined)
 }
 
 /// A digest with its algorithm.

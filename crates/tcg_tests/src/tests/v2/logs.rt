@@ -1,6 +1,7 @@
 use crate::tests::texts::{push_hex, push_kind};
 use std::alloc::{AllocError, Global};
 use std::test::Fail;
+use tcg_examples::digest_logs::all_bytes;
 use test_support::samples::{FOUR_EVENTS, FOUR_HEADER, SHA1_HEADER};
 use test_support::{bytes, holds, joined, joined_bytes, same, same_text};
 use uefi_tcg::AlgorithmId;
@@ -299,6 +300,50 @@ fn an_event_has_the_first_digest_of_an_algorithm(rt: HostRuntime) -> Result<(), 
         let expected = digest.map(|_| expected.as_slice());
         let found = first_digest(input.as_slice(), last_entry, algorithm);
         holds(row.as_str(), found == expected)?;
+    }
+    Ok(())
+}
+
+/// The parts of a log, its last entry, where its first event starts, and where each event ends.
+const ENDS: [(&[&str], usize, usize, &[usize]); 6] = [
+    (&[SHA1_HEADER], 0, 65, &[]),
+    (&[FOUR_HEADER, FOUR_EVENTS], 267, 77, &[267, 471]),
+    (&[FOUR_HEADER, FOUR_EVENTS], 77, 77, &[267]),
+    (&[SHA1_TWICE, TWO_DIGESTS], 69, 69, &[129]),
+    (&[LONG_EVENT, ZERO_EVENT], 81, 65, &[81, 97]),
+    (&[TEN_ROWS, NINTH], 101, 101, &[128]),
+];
+
+/// Checks that the bytes of each event are those of the log up to its end, and returns where the
+/// last one ends.
+fn check_bytes(
+    row: &str,
+    input: &[u8],
+    last_entry: usize,
+    start: usize,
+    ends: &[usize],
+) -> Result<usize, Fail> {
+    let log = EventLog::new(Some(input), Some(last_entry), false);
+    let mut events = log.iter();
+    let mut start = start;
+    for end in ends {
+        let event = events.next().ok_or("an event")?;
+        holds(row, Some(event.as_bytes()) == input.get(start..*end))?;
+        start = *end;
+    }
+    holds(row, events.next().is_none())?;
+    Ok(start)
+}
+
+#[test]
+fn the_bytes_of_an_event_are_those_of_the_log_up_to_its_end(rt: HostRuntime) -> Result<(), Fail> {
+    for (parts, last_entry, start, ends) in ENDS {
+        let row = joined(rt.alloc(), parts)?;
+        let input = bytes(rt.alloc(), row.as_str())?;
+        let input = input.as_slice();
+        let end = check_bytes(row.as_str(), input, last_entry, start, ends)?;
+        let all = all_bytes(rt.alloc(), input, last_entry)?;
+        holds(row.as_str(), Some(all.as_slice()) == input.get(start..end))?;
     }
     Ok(())
 }
