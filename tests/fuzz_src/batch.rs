@@ -71,7 +71,7 @@ fn samples(command: &Command, folder: &str) -> io::Result<Vec<Input>> {
     paths.retain(|path| path.extension().is_some_and(|it| it == extension));
     paths.sort();
     let third_word = || third_word.map(|word| word.as_bytes().to_vec());
-    let input = |path| Ok(Input { bytes: fs::read(path)?, third_word: third_word() });
+    let input = |path| Ok(Input { third_word: third_word(), ..Input::new(fs::read(path)?) });
     paths.into_iter().map(input).collect()
 }
 
@@ -79,6 +79,10 @@ impl Pool {
     fn new(command: &'static Command, folder: &str) -> io::Result<Pool> {
         let mut inputs = command.seeds();
         inputs.extend(samples(command, folder)?);
+        if command.takes_two {
+            let alone = inputs.iter_mut().filter(|input| input.other.is_empty());
+            alone.for_each(|input| input.other = input.bytes.clone());
+        }
         Ok(Pool { command, inputs, shapes: HashSet::new(), counts: Counts::default() })
     }
 
@@ -91,10 +95,12 @@ impl Pool {
         self.counts.lines += lines(&ending.output).count() as u64;
     }
 
-    /// Takes up an input if its listing has another shape than those before.
+    /// Takes up an input if its listing has another shape than those before. A command that takes two
+    /// files lists where they differ, with status 1.
     fn keep(&mut self, input: Input, ending: &Ending) {
-        let is_wanted =
-            ending.status == 0 && input.bytes.len() <= MAX_LENGTH && self.inputs.len() < POOL;
+        let is_listed = ending.status == 0 || self.command.takes_two && ending.status == 1;
+        let length = input.bytes.len().max(input.other.len());
+        let is_wanted = is_listed && length <= MAX_LENGTH && self.inputs.len() < POOL;
         if is_wanted && self.shapes.insert(shape(&ending.output)) {
             self.inputs.push(input);
         }

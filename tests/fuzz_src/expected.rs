@@ -30,17 +30,15 @@ fn argument(kind: ThirdWord, word: Option<&[u8]>) -> Option<Option<usize>> {
 /// What a run ends with, whose file has this name.
 pub fn ending(command: &Command, input: &Input, file: &str) -> io::Result<Ending> {
     let word = input.third_word.as_deref();
-    // Without a word the last entry is the file's length.
     if command.program == Program::Audit && word.is_none() {
-        let length = Some(input.bytes.len());
-        return Ok(audit::ending(command.name, &input.bytes, length, file));
+        return Ok(audit::ending(command.name, input, None, file));
     }
     let Some(argument) = argument(command.third_word, word) else {
         let message = if command.program == Program::Audit { Vec::new() } else { USAGE.to_vec() };
         return Ok(Ending { status: OTHER_WORDS, output: Vec::new(), message });
     };
     if command.program == Program::Audit {
-        return Ok(audit::ending(command.name, &input.bytes, argument, file));
+        return Ok(audit::ending(command.name, input, Some(argument), file));
     }
     let mut output = Vec::new();
     let status = match listings::list(&mut output, command.name, &input.bytes, argument)? {

@@ -65,6 +65,9 @@ impl Mutator<'_> {
     /// A member of the pool with a few mutations.
     pub fn input(&mut self) -> Input {
         let mut input = self.pool[self.below(self.pool.len())].clone();
+        if self.command.takes_two {
+            self.change_other(&mut input);
+        }
         let mut more = self.below(32) > 0;
         while more {
             self.mutate(&mut input);
@@ -76,6 +79,17 @@ impl Mutator<'_> {
         }
         third_word::mutate(&mut input, self.command, self.random);
         input
+    }
+
+    /// Makes the other file the first, so that it is the one to be mutated, or the file of another
+    /// input, or the same.
+    fn change_other(&mut self, input: &mut Input) {
+        match self.below(8) {
+            0..=3 => std::mem::swap(&mut input.bytes, &mut input.other),
+            4 => input.other = self.pool[self.below(self.pool.len())].bytes.clone(),
+            5 => input.other = input.bytes.clone(),
+            _ => (),
+        }
     }
 
     fn mutate(&mut self, input: &mut Input) {

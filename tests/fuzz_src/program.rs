@@ -32,23 +32,43 @@ unsafe extern "C" {
 /// input, the second is opened.
 pub const FILES: [&str; 2] = ["/dev/stdin", "input"];
 const OPENED: &CStr = c"input";
+const OTHER: &str = "-other";
 
 const STANDARD_INPUT: c_int = 0;
 const STANDARD_OUTPUT: c_int = 1;
 const STANDARD_ERROR: c_int = 2;
 const OPENED_FILE: c_int = 3;
+const OTHER_FILE: c_int = 4;
 
 const NO_SUCH_FILE: c_int = 2;
 const BAD_HANDLE: c_int = 9;
 const NOT_SEEKABLE: c_int = 29;
 
+/// The name of the other file of a command that takes two.
+pub fn other_name(file: &str) -> String {
+    format!("{file}{OTHER}")
+}
+
+#[derive(Default)]
+struct File {
+    bytes: Vec<u8>,
+    /// How many of them were read.
+    taken: usize,
+}
+
+impl File {
+    fn new(bytes: &[u8]) -> File {
+        File { bytes: bytes.to_vec(), taken: 0 }
+    }
+}
+
 /// What the program is given, and what it wrote.
 #[derive(Default)]
 struct Streams {
     words: Vec<Vec<u8>>,
-    input: Vec<u8>,
-    /// How many bytes of the input were read.
-    taken: usize,
+    input: File,
+    /// The other file, where the command takes two.
+    other: File,
     /// How many bytes a read or a write takes at most.
     part: usize,
     output: Vec<u8>,
@@ -79,7 +99,14 @@ extern "C" fn rattle_arg(index: usize, room: *mut u8, length: usize) -> isize {
 
 #[unsafe(no_mangle)]
 extern "C" fn fuzz_open(path: *const c_char, _flags: c_int) -> c_int {
-    if unsafe { CStr::from_ptr(path) } == OPENED { OPENED_FILE } else { fail(NO_SUCH_FILE) as c_int }
+    let path = unsafe { CStr::from_ptr(path) };
+    if path == OPENED {
+        OPENED_FILE
+    } else if path.to_bytes().ends_with(OTHER.as_bytes()) {
+        OTHER_FILE
+    } else {
+        fail(NO_SUCH_FILE) as c_int
+    }
 }
 
 #[unsafe(no_mangle)]
@@ -95,14 +122,16 @@ extern "C" fn fuzz_lseek(_handle: c_int, _offset: i64, _whence: c_int) -> i64 {
 
 #[unsafe(no_mangle)]
 extern "C" fn fuzz_read(handle: c_int, room: *mut u8, length: usize) -> isize {
-    if !matches!(handle, STANDARD_INPUT | OPENED_FILE) {
-        return fail(BAD_HANDLE);
-    }
     STREAMS.with_borrow_mut(|streams| {
-        let rest = &streams.input[streams.taken..];
+        let file = match handle {
+            STANDARD_INPUT | OPENED_FILE => &mut streams.input,
+            OTHER_FILE => &mut streams.other,
+            _ => return fail(BAD_HANDLE),
+        };
+        let rest = &file.bytes[file.taken..];
         let count = rest.len().min(length).min(streams.part);
         unsafe { room.copy_from_nonoverlapping(rest.as_ptr(), count) };
-        streams.taken += count;
+        file.taken += count;
         count as isize
     })
 }
@@ -125,7 +154,7 @@ extern "C" fn fuzz_write(handle: c_int, bytes: *const u8, length: usize) -> isiz
 fn words(command: &commands::Command, file: &str, input: &Input) -> (&'static str, Vec<Vec<u8>>) {
     let third_word = input.third_word.as_deref();
     if command.program == Program::Audit {
-        return ("uefi_audit", audit::words(command.name, third_word, file.as_bytes()));
+        return ("uefi_audit", audit::words(command.name, third_word, file));
     }
     let words = [command.name.as_bytes(), file.as_bytes()].into_iter().chain(third_word);
     ("uefi_list", words.map(Vec::from).collect())
@@ -143,7 +172,8 @@ fn compared(command: &commands::Command, mut ending: Ending) -> Ending {
 pub fn run(command: &commands::Command, file: &str, input: &Input, part: usize) -> Ending {
     let (name, mut words) = words(command, file, input);
     words.insert(0, Vec::from(name));
-    STREAMS.set(Streams { words, input: input.bytes.clone(), part, ..Streams::default() });
+    let (other, input) = (File::new(&input.other), File::new(&input.bytes));
+    STREAMS.set(Streams { words, input, other, part, ..Streams::default() });
     let status = match command.program {
         Program::List => unsafe { uefi_list_main(0, std::ptr::null()) },
         Program::Audit => unsafe { uefi_audit_main(0, std::ptr::null()) },
@@ -160,6 +190,9 @@ pub fn run_process(
     input: &Input,
 ) -> io::Result<Ending> {
     fs::write(file, &input.bytes)?;
+    if command.takes_two {
+        fs::write(other_name(file), &input.other)?;
+    }
     let (name, words) = words(command, file, input);
     let words = words.iter().map(|word| OsStr::from_bytes(word));
     let program = format!("{crates}/{name}/out/{name}");

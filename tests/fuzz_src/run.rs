@@ -106,7 +106,7 @@ impl Run<'_> {
         let reports = shared.reports.lock().unwrap();
         let mut all = Counts::default();
         for (command, counts) in COMMANDS.iter().zip(counts.iter()) {
-            println!("fuzz: {:<7} {}", command.name, table_line(counts));
+            println!("fuzz: {:<10} {}", command.name, table_line(counts));
             all += *counts;
         }
         for (i, report) in reports.iter().enumerate() {

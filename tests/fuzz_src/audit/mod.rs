@@ -1,12 +1,16 @@
-//! What plain Rust expects a run of the program `uefi_audit` to end with: its registers, its events
-//! and its JSON, over the plain [`readers`](crate::readers) of logs and hash functions of its own.
+//! What plain Rust expects a run of the program `uefi_audit` to end with: its registers, its events,
+//! its JSON and how two logs differ, over the plain [`readers`](crate::readers) of logs and hash
+//! functions of its own.
 
 mod content;
+mod diff;
 mod hashes;
 mod json;
 mod log;
 
-use crate::program::Ending;
+use crate::input::Input;
+use crate::program::{Ending, other_name};
+use diff::Named;
 use hashes::Sha2;
 use json::{hex, text};
 use log::{BANKS, Event, Log, hash, replay};
@@ -16,38 +20,77 @@ static SHA2: LazyLock<Sha2> = LazyLock::new(Sha2::new);
 
 /// The commands, each with its words. Without the second word of the first, most mutations would be
 /// refused for the bytes that they leave over.
-pub const COMMANDS: [(&str, &[&str]); 4] = [
+pub const COMMANDS: [(&str, &[&str]); 6] = [
     ("replay", &["replay", "--allow-left-over"]),
     ("whole", &["replay"]),
     ("json", &["replay", "--json", "--allow-left-over"]),
     ("events", &["events", "--allow-left-over"]),
+    ("diff", &["diff", "--allow-left-over"]),
+    ("whole_diff", &["diff"]),
 ];
 
+/// Whether a command takes two files.
+pub fn takes_two(command: &str) -> bool {
+    matches!(command, "diff" | "whole_diff")
+}
+
 /// The words of a run, after the program's name; the third word of the input is the last entry.
-pub fn words(command: &str, third_word: Option<&[u8]>, file: &[u8]) -> Vec<Vec<u8>> {
+pub fn words(command: &str, third_word: Option<&[u8]>, file: &str) -> Vec<Vec<u8>> {
     let (_, first) = COMMANDS.iter().find(|it| it.0 == command).expect("a command of the program");
     let mut words: Vec<Vec<u8>> = first.iter().map(|word| word.as_bytes().to_vec()).collect();
     if let Some(word) = third_word {
         let word = if word == b"-" { b"none" } else { word };
         words.push([b"--last-entry=", word].concat());
     }
-    words.push(file.to_vec());
+    words.push(file.as_bytes().to_vec());
+    if takes_two(command) {
+        words.push(other_name(file).into_bytes());
+    }
     words
 }
 
-/// What a run ends with, whose file has this name.
-pub fn ending(command: &str, bytes: &[u8], last_entry: Option<usize>, file: &str) -> Ending {
-    let log = log::read(bytes, last_entry);
+/// What a run ends with, whose file has this name. The last entry of a log is the length of its file
+/// if none is given.
+pub fn ending(command: &str, input: &Input, given: Option<Option<usize>>, file: &str) -> Ending {
+    let bytes = input.bytes.as_slice();
+    let log = log::read(bytes, given.unwrap_or(Some(bytes.len())));
     let (output, is_well) = match command {
         "events" => (events(&log, file), true),
         "json" => json_line(&log, bytes, file),
-        _ if command == "whole" && log.end < bytes.len() => {
-            let count = bytes.len() - log.end;
-            (format!("{file}: {count} bytes are left over at offset {}\n", log.end), false)
+        "whole" if log.end < bytes.len() => (left_over(&log, bytes, file), false),
+        "diff" | "whole_diff" => {
+            let other = log::read(&input.other, given.unwrap_or(Some(input.other.len())));
+            let lines = differences((&log, bytes), (&other, &input.other), file, command == "diff");
+            let is_same = lines.is_empty();
+            (lines, is_same)
         }
         _ => registers(&log, file),
     };
     Ending { status: i32::from(!is_well), output: output.into_bytes(), message: Vec::new() }
+}
+
+/// The line of the bytes that a log leaves over, if it does.
+fn left_over(log: &Log<'_>, bytes: &[u8], file: &str) -> String {
+    match bytes.len().checked_sub(log.end) {
+        None | Some(0) => String::new(),
+        Some(count) => format!("{file}: {count} bytes are left over at offset {}\n", log.end),
+    }
+}
+
+/// How two logs differ, or what they leave over where that isn't allowed.
+fn differences<'a>(
+    (old, old_bytes): (&'a Log<'a>, &[u8]),
+    (new, new_bytes): (&'a Log<'a>, &[u8]),
+    file: &str,
+    allows_left_over: bool,
+) -> String {
+    let other = other_name(file);
+    let refusals = left_over(old, old_bytes, file) + &left_over(new, new_bytes, &other);
+    if allows_left_over || refusals.is_empty() {
+        diff::lines(Named { name: file, log: old }, Named { name: &other, log: new })
+    } else {
+        refusals
+    }
 }
 
 /// The registers of each bank as `tpm2_pcrread` prints them.

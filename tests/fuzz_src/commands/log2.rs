@@ -17,8 +17,10 @@ pub const MORE: More = More {
     mutate: None,
 };
 
-/// The same with what an audit reads besides: samples, the locality, variables, images.
+/// The same with what an audit reads besides: samples, the locality, variables, images, registers
+/// that a PC hasn't.
 pub const MORE_OF_AUDIT: More = More {
+    seeds: seeds_of_audit,
     samples: Some(("log", None)),
     parts: &[
         b"\x04\0\x14\0",
@@ -99,4 +101,12 @@ fn seeds() -> Vec<Input> {
         Input::with_word(no_size, "65"),
         Input::with_word(changed(62, "0000", "00000000 08000000 ffffffff 0400 00000000"), "65"),
     ]
+}
+
+/// The same, and two logs whose events are the same register by register, but not one after another.
+fn seeds_of_audit() -> Vec<Input> {
+    let event = |register: &u8| format!("{register:02x}000000{}", &EVENT[8..]);
+    let log = |registers: &[u8]| changed(0, "", &registers.iter().map(event).collect::<String>());
+    let same = Input { other: log(&[0, 24, 23, 25]), ..Input::with_length(log(&[23, 24, 0, 25])) };
+    [seeds(), vec![same]].concat()
 }

@@ -24,12 +24,14 @@ pub static COMMANDS: LazyLock<Vec<Command>> = LazyLock::new(|| {
         program: Program::List,
         name,
         third_word: *third_word,
+        takes_two: false,
         more: more(name),
     };
     let audit = |(name, _): &(&'static str, &[&str])| Command {
         program: Program::Audit,
         name,
         third_word: ThirdWord::LastEntry,
+        takes_two: audit::takes_two(name),
         more: log2::MORE_OF_AUDIT,
     };
     listings::COMMANDS.iter().map(list).chain(audit::COMMANDS.iter().map(audit)).collect()
@@ -61,6 +63,8 @@ pub struct Command {
     pub program: Program,
     pub name: &'static str,
     pub third_word: ThirdWord,
+    /// Whether the command takes two files.
+    pub takes_two: bool,
     pub more: More,
 }
 
