@@ -2,7 +2,7 @@
 use Rattle.std.specs.Prelude.{ℕ, ◌≡◌, ◌<◌, ◌^◌, List, map, codes, Bool, true, false, Option, None, Some}
 use Rattle.std.specs.Option.{option_map}
 use Rattle.std.specs.Borrow.{Bor}
-use Rattle.std.specs.Str.Parse.{IsNumeral, digits_value}
+use Rattle.std.specs.Str.Parse.{IsNumeral, digits_value, without_leading_plus}
 use Rattle.clap.specs.Words.{first_value, matched_of, one_text, raw_values}
 use Rattle.clap.specs.declared.parser.matches.Found.{Found}
 use Rattle.registers.specs.declared.bank.Bank.{Bank}
@@ -58,6 +58,19 @@ is_json Text = false
 abbrev pub AsksFormat : Found → Format → Type 0
 AsksFormat found format = AsksFlag found (codes "json") (is_json format)
 
+-- The locality by the text of `--locality`: none without one, else the number that it is, below 256 and in decimal. It may
+-- begin with a plus sign.
+abbrev pub IsLocality : List ℕ → ℕ → Type 0
+IsLocality text n = let digits = without_leading_plus text in IsNumeral 10 digits × (digits_value 10 digits ≡ n) × (n < 2 ^ 8)
+
+abbrev pub NamesLocality : Option (List ℕ) → Option ℕ → Type 0
+NamesLocality None locality = locality ≡ None
+NamesLocality (Some text) (Some n) = IsLocality text n
+NamesLocality (Some text) None = (n : ℕ) → IsLocality text n → ⊥
+
+abbrev pub AsksLocality : Found → Option ℕ → Type 0
+AsksLocality found locality = NamesLocality (one_text found (codes "locality")) locality
+
 -- The values of LOG.., in order.
 abbrev pub AsksLogs : Found → List (Bor (List ℕ)) → Type 0
 AsksLogs found logs = option_map raw_values (matched_of found (codes "logs")) ≡ Some (map (λ log. log.now) logs)
@@ -69,7 +82,15 @@ Asks name found (Replay logs bank format) =
     (name ≡ codes "replay") × AsksLogs found logs.now × AsksBank found bank × AsksFormat found format
 Asks name found (Verify log registers locality) =
     (name ≡ codes "verify") × (first_value found (codes "log") ≡ Some log.now)
-    × (first_value found (codes "registers") ≡ Some registers.now)
+    × (first_value found (codes "registers") ≡ Some registers.now) × AsksLocality found locality
 Asks name found (Diff old new) =
     (name ≡ codes "diff") × (first_value found (codes "old") ≡ Some old.now)
     × (first_value found (codes "new") ≡ Some new.now)
+
+-- They ask for no request.
+abbrev pub AskForNoRequest : List ℕ → Found → Type 0
+AskForNoRequest name found = (request : Request) → Asks name found request → ⊥
+
+-- They ask for nothing: for no way to read logs, or for no request.
+abbrev pub AskForNothing : List ℕ → Found → Type 0
+AskForNothing name found = (reading : Reading) → AsksReading found reading → AskForNoRequest name found

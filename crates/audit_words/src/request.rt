@@ -1,6 +1,7 @@
-ghost use Rattle.std.specs.Prelude.{◌≡◌, ℕ, codes, IfSome, MatchOption};
+ghost use Rattle.std.specs.Prelude.{◌≡◌, ℕ, codes, IfSome, IfNone, MatchOption, Option};
 ghost use Rattle.clap.specs.Words.{found_of};
-ghost use Rattle.audit_words.specs.Words.{Asks, AsksBank, AsksFormat, AsksLastEntry, AsksReading, IsDecimal};
+ghost use Rattle.registers.specs.declared.bank.Bank.{Bank};
+ghost use Rattle.audit_words.specs.Words.{Asks, AsksBank, AsksFormat, AsksLastEntry, AsksLocality, AsksReading, AskForNoRequest, AskForNothing, IsDecimal};
 
 use audit_lines::bank_named;
 use clap::ArgMatches;
@@ -74,51 +75,90 @@ pub fn request_of<'m, 'a>(
 ) -> Option<(Request<'m, 'a>, Reading)>
     ensures request { IfSome result (λ asked. Asks name.now (found_of matches.now) asked.0) }
     ensures reading { IfSome result (λ asked. AsksReading (found_of matches.now) asked.1) }
+    ensures nothing { IfNone result (AskForNothing name.now (found_of matches.now)) }
 {
-    let reading = reading_of(matches)?;
+    let Some(reading) = reading_of(matches) else {
+        return None;
+    };
+    let Some(request) = request_named(name, matches) else {
+        return None;
+    };
+    Some((request, reading))
+}
+
+/// Returns the request of the matches of the command of this name, if they ask for one.
+fn request_named<'m, 'a>(name: &str, matches: &'m ArgMatches<'a>) -> Option<Request<'m, 'a>>
+    ensures request { IfSome result (Asks name.now (found_of matches.now)) }
+    ensures nothing { IfNone result (AskForNoRequest name.now (found_of matches.now)) }
+{
     match name {
-        "events" => Some((events_of(matches)?, reading)),
-        "replay" => Some((replay_of(matches)?, reading)),
-        "verify" => Some((verify_of(matches)?, reading)),
-        "diff" => Some((diff_of(matches)?, reading)),
+        "events" => events_of(matches),
+        "replay" => replay_of(matches),
+        "verify" => verify_of(matches),
+        "diff" => diff_of(matches),
         _ => None,
     }
 }
 
 /// Returns what the matches of `events` ask for.
 fn events_of<'m, 'a>(matches: &'m ArgMatches<'a>) -> Option<Request<'m, 'a>>
-    ensures { IfSome result (Asks (codes "events") (found_of matches.now)) }
+    ensures request { IfSome result (Asks (codes "events") (found_of matches.now)) }
+    ensures nothing { IfNone result (AskForNoRequest (codes "events") (found_of matches.now)) }
 {
-    let logs = matches.get_strs("logs")?;
+    let Some(logs) = matches.get_strs("logs") else {
+        return None;
+    };
     Some(Request::Events(logs))
 }
 
 /// Returns what the matches of `replay` ask for.
 fn replay_of<'m, 'a>(matches: &'m ArgMatches<'a>) -> Option<Request<'m, 'a>>
-    ensures { IfSome result (Asks (codes "replay") (found_of matches.now)) }
+    ensures request { IfSome result (Asks (codes "replay") (found_of matches.now)) }
+    ensures nothing { IfNone result (AskForNoRequest (codes "replay") (found_of matches.now)) }
 {
-    let logs = matches.get_strs("logs")?;
-    let bank = bank_of(matches)?;
+    let Some(logs) = matches.get_strs("logs") else {
+        return None;
+    };
+    let Some(bank) = bank_of(matches) else {
+        return None;
+    };
     Some(Request::Replay(logs, bank, format_of(matches)))
 }
 
 /// Returns what the matches of `verify` ask for.
 fn verify_of<'m, 'a>(matches: &'m ArgMatches<'a>) -> Option<Request<'m, 'a>>
-    ensures { IfSome result (Asks (codes "verify") (found_of matches.now)) }
+    ensures request { IfSome result (Asks (codes "verify") (found_of matches.now)) }
+    ensures nothing { IfNone result (AskForNoRequest (codes "verify") (found_of matches.now)) }
 {
-    let log = matches.get_str("log")?;
-    let registers = matches.get_str("registers")?;
-    let locality = matches.get_one::<u8>("locality");
+    let Some(log) = matches.get_str("log") else {
+        return None;
+    };
+    let Some(registers) = matches.get_str("registers") else {
+        return None;
+    };
+    let locality = locality_of(matches);
     Some(Request::Verify(log, registers, locality))
 }
 
 /// Returns what the matches of `diff` ask for.
 fn diff_of<'m, 'a>(matches: &'m ArgMatches<'a>) -> Option<Request<'m, 'a>>
-    ensures { IfSome result (Asks (codes "diff") (found_of matches.now)) }
+    ensures request { IfSome result (Asks (codes "diff") (found_of matches.now)) }
+    ensures nothing { IfNone result (AskForNoRequest (codes "diff") (found_of matches.now)) }
 {
-    let old = matches.get_str("old")?;
-    let new = matches.get_str("new")?;
+    let Some(old) = matches.get_str("old") else {
+        return None;
+    };
+    let Some(new) = matches.get_str("new") else {
+        return None;
+    };
     Some(Request::Diff(old, new))
+}
+
+/// Returns the locality that the matches of `verify` ask for, if they ask for one.
+fn locality_of(matches: &ArgMatches<'_>) -> Option<u8>
+    ensures { AsksLocality (found_of matches.now) result }
+{
+    matches.get_one::<u8>("locality")
 }
 
 /// Returns how a command's matches ask for logs to be read; `None` if `--last-entry` has a word
@@ -160,12 +200,17 @@ fn last_entry_of(matches: &ArgMatches<'_>) -> Option<LastEntry>
 /// Returns the bank that a command's matches ask for, if they ask for one; `None` if it is none
 /// that can be replayed.
 fn bank_of(matches: &ArgMatches<'_>) -> Option<Option<Bank>>
-    ensures { IfSome result (AsksBank (found_of matches.now)) }
+    ensures { MatchOption result
+        ((bank : Option Bank) → AsksBank (found_of matches.now) bank → ⊥)
+        (AsksBank (found_of matches.now)) }
 {
-    match matches.get_str("bank") {
-        None => Some(None),
-        Some(name) => Some(Some(bank_named(name)?)),
-    }
+    let Some(name) = matches.get_str("bank") else {
+        return Some(None);
+    };
+    let Some(bank) = bank_named(name) else {
+        return None;
+    };
+    Some(Some(bank))
 }
 
 /// Returns the format that a command's matches ask for.
