@@ -1,0 +1,5 @@
+pub mod Ends
+pub mod Accepted
+pub mod Shown
+pub mod Compared
+pub mod Held

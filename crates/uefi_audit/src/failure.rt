@@ -1,3 +1,9 @@
+ghost use Rattle.std.specs.Prelude.{◌≡◌, option_map};
+ghost use Rattle.clap.specs.Words.{kind_of};
+ghost use Rattle.uefi_audit.specs.declared.failure.Failure.TheVariants.{Memory};
+ghost use Rattle.uefi_audit.specs.Ends.{code_of, exit_code, failure_code, failure_message, failure_of, status_of, worse};
+
+use clap::error::ErrorKind;
 use std::alloc::AllocError;
 
 /// Why the program stops before its end.
@@ -14,8 +20,45 @@ pub(crate) enum Failure {
 }
 
 impl From<AllocError> for Failure {
+    ghost from_gives = { λ _ failure. failure ≡ Memory };
+
     fn from(_error: AllocError) -> Failure {
         Failure::Memory
+    }
+}
+
+impl Failure {
+    /// Returns the failure that an error of `clap` is, once its text is printed.
+    pub(crate) fn of(error: &clap::Error) -> Failure
+        ensures { result ≡ failure_of (kind_of error.now) }
+    {
+        match error.kind() {
+            ErrorKind::OutOfMemory => Failure::Memory,
+            ErrorKind::DisplayHelp | ErrorKind::DisplayVersion => Failure::Shown,
+            _ => Failure::Words,
+        }
+    }
+
+    /// Returns the line for standard error; `None` if all was said where it came.
+    pub(crate) fn message(self) -> Option<&'static str>
+        ensures { option_map (λ message. message.now) result ≡ failure_message self }
+    {
+        match self {
+            Failure::Words | Failure::Shown => None,
+            Failure::Output => Some("uefi_audit: output"),
+            Failure::Memory => Some("uefi_audit: memory"),
+        }
+    }
+
+    /// Returns the exit status.
+    fn code(self) -> u8
+        ensures { result ≡ failure_code self }
+    {
+        match self {
+            Failure::Shown => 0,
+            Failure::Words => 2,
+            Failure::Output | Failure::Memory => 3,
+        }
     }
 }
 
@@ -32,12 +75,16 @@ pub(crate) enum Status {
 
 impl Status {
     /// Returns the status of what was well, or wasn't.
-    pub(crate) fn of(well: bool) -> Status {
+    pub(crate) fn of(well: bool) -> Status
+        ensures { result ≡ status_of well }
+    {
         if well { Status::Well } else { Status::Wrong }
     }
 
     /// Returns the worse one of two.
-    pub(crate) fn and(self, other: Status) -> Status {
+    pub(crate) fn and(self, other: Status) -> Status
+        ensures { result ≡ worse self other }
+    {
         match (self, other) {
             (Status::Unread, _) | (_, Status::Unread) => Status::Unread,
             (Status::Wrong, _) | (_, Status::Wrong) => Status::Wrong,
@@ -46,11 +93,23 @@ impl Status {
     }
 
     /// Returns the exit status.
-    pub(crate) fn code(self) -> u8 {
+    fn code(self) -> u8
+        ensures { result ≡ code_of self }
+    {
         match self {
             Status::Well => 0,
             Status::Wrong => 1,
             Status::Unread => 3,
         }
+    }
+}
+
+/// Returns the exit status of a run that ended so.
+pub(crate) fn exit_code(end: Result<Status, Failure>) -> u8
+    ensures { result ≡ exit_code end }
+{
+    match end {
+        Ok(status) => status.code(),
+        Err(failure) => failure.code(),
     }
 }

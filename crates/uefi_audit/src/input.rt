@@ -1,9 +1,13 @@
+ghost use Rattle.std.specs.Prelude.{◌≡◌, ◌≢◌, [], IfOk, IfSome, Some, string_bytes};
+ghost use Rattle.uefi_audit.specs.Held.{fault_text, register_path};
+
 use audit_lines::bank_name;
 use audit_verify::{HeldError, HeldRegister, held_in_file, held_in_text};
 use registers::{Bank, REGISTER_COUNT};
-use std::fs;
+use std::alloc::{AllocError, Global};
 use std::io::{self, ErrorKind, Read};
 use std::rt::Files;
+use std::{fmt, fs};
 
 /// Returns the bytes of a file; `None` if it wasn't read, which is told on standard error.
 ///
@@ -43,7 +47,9 @@ fn tell<R: Eprint>(rt: &R, path: &str, error: &io::Error) {
 pub(crate) fn held_registers<R: Files + Input + Eprint + AllocGlobal>(
     rt: &R,
     path: &str,
-) -> Option<Vec<HeldRegister>> {
+) -> Option<Vec<HeldRegister>>
+    ensures { IfSome result (λ held. held.items ≢ []) }
+{
     let held = match fs::metadata(rt, path) {
         Ok(found) if found.is_dir() => held_in_folder(rt, path)?,
         _ => held_in_listing(rt, path)?,
@@ -72,12 +78,26 @@ fn held_in_listing<R: Files + Input + Eprint + AllocGlobal>(
 
 /// Tells on standard error why a file has no registers that can be compared.
 fn tell_held<R: Eprint>(rt: &R, path: &str, error: HeldError) {
-    let _ = match error {
-        HeldError::Memory => eprintln!(rt; "uefi_audit: {path}: out of memory"),
-        HeldError::Line(offset) => eprintln!(rt;
-            "uefi_audit: {path}: the line at offset {offset} states no register of a bank that can be replayed"
-        ),
-    };
+    let fault = HeldFault(error);
+    let _ = eprintln!(rt; "uefi_audit: {path}: {fault}");
+}
+
+/// Why a file has no registers that can be compared, displayed as standard error is told it.
+#[derive(Clone, Copy, Drop)]
+struct HeldFault(HeldError);
+
+impl fmt::Display for HeldFault {
+    ghost output = { λ fault. Some (fault_text fault.0) };
+
+    fn fmt<W: fmt::Write>(&self, f: &mut fmt::Formatter<W>) -> fmt::Result {
+        match self.0 {
+            HeldError::Memory => write!(f, "out of memory"),
+            HeldError::Line(offset) => write!(
+                f,
+                "the line at offset {offset} states no register of a bank that can be replayed"
+            ),
+        }
+    }
 }
 
 /// Returns the registers of which the folder has a file, as `pcr-sha256/0`.
@@ -105,9 +125,11 @@ fn held_in_bank<R: Files + Input + Eprint + AllocGlobal>(
     folder: &str,
     bank: Bank,
     register: u32,
-) -> Option<Option<HeldRegister>> {
-    let name = bank_name(bank);
-    let Ok(path) = format!(in rt.alloc(); "{folder}/pcr-{name}/{register}") else {
+) -> Option<Option<HeldRegister>>
+    ensures { IfSome result (λ found. IfSome found
+        (λ held. (held.bank ≡ bank) × (held.register ≡ register))) }
+{
+    let Ok(path) = register_path(rt.alloc(), folder, bank, register) else {
         tell_held(rt, folder, HeldError::Memory);
         return None;
     };
@@ -127,4 +149,18 @@ fn held_in_bank<R: Files + Input + Eprint + AllocGlobal>(
             None
         }
     }
+}
+
+/// Returns the path of a register's file in the folder, as `pcr-sha256/0`.
+fn register_path(
+    alloc: Global,
+    folder: &str,
+    bank: Bank,
+    register: u32,
+) -> Result<String, AllocError>
+    ensures { IfOk result
+        (λ path. string_bytes path ≡ register_path folder.now bank register) }
+{
+    let name = bank_name(bank);
+    format!(in alloc; "{folder}/pcr-{name}/{register}")
 }

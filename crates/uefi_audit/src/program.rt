@@ -1,7 +1,11 @@
+ghost use Rattle.std.specs.Prelude.{◌≡◌, ◌⊎◌};
+ghost use Rattle.clap.specs.Words.{kind_of};
+ghost use Rattle.uefi_audit.specs.Ends.{failure_of};
+ghost use Rattle.uefi_audit.specs.declared.failure.Failure.TheVariants.{Output};
+
 use crate::commands::perform;
-use crate::failure::{Failure, Status};
+use crate::failure::{Failure, Status, exit_code};
 use audit_words::{matches_of, request_of};
-use clap::error::ErrorKind;
 use std::process::ExitCode;
 use std::rt::{Env, Files};
 use std::{env, io};
@@ -39,33 +43,27 @@ fn audit<R: Files + Env + Input + Print + Eprint + AllocGlobal>(rt: &R) -> Resul
 }
 
 /// Prints what `clap` says of the words, and returns why the program ends.
-fn told<R: Print + Eprint>(rt: &R, error: &clap::Error) -> Failure {
-    if error.kind() == ErrorKind::OutOfMemory {
-        return Failure::Memory;
+fn told<R: Print + Eprint>(rt: &R, error: &clap::Error) -> Failure
+    ensures { (result ≡ failure_of (kind_of error.now)) ⊎ (result ≡ Output) }
+{
+    let failure = Failure::of(error);
+    if matches!(failure, Failure::Memory) {
+        return failure;
     }
-    if error.print(rt).is_err() {
-        return Failure::Output;
-    }
-    if error.use_stderr() {
-        Failure::Words
-    } else {
-        Failure::Shown
+    match error.print(rt) {
+        Ok(()) => failure,
+        Err(_) => Failure::Output,
     }
 }
 
 /// Runs the program, says on standard error why it failed, and returns its exit status.
 pub(crate) fn start<R: Files + Env + Input + Print + Eprint + AllocGlobal>(rt: &R) -> ExitCode {
-    match audit(rt) {
-        Ok(status) => ExitCode::from(status.code()),
-        Err(Failure::Shown) => ExitCode::SUCCESS,
-        Err(Failure::Words) => ExitCode::from(2),
-        Err(Failure::Output) => {
-            let _ = eprintln!(rt; "uefi_audit: output");
-            ExitCode::from(3)
-        }
-        Err(Failure::Memory) => {
-            let _ = eprintln!(rt; "uefi_audit: memory");
-            ExitCode::from(3)
+    let end = audit(rt);
+    if let Err(failure) = &end {
+        if let Some(message) = failure.message() {
+            // If standard error is closed too, the exit status still tells.
+            let _ = eprintln!(rt; "{message}");
         }
     }
+    ExitCode::from(exit_code(end))
 }

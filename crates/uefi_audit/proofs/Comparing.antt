@@ -1,0 +1,35 @@
+-- How two logs are compared.
+use Rattle.std.proofs.Common.{◌≡◌, ◌∙◌, ℕ, List, [], ◌++◌, ap, sym, append-nil}
+use Rattle.std.specs.Prelude.{Bool, true, false, string_bytes}
+use Rattle.std.specs.declared.alloc.Global.{Global}
+use Rattle.std.specs.declared.string.String.{String}
+use Rattle.audit_lines.specs.declared.file.LogFile.{LogFile}
+use Rattle.audit_diff.specs.Differences.{AppendsDifferences}
+use Rattle.uefi_audit.specs.Compared.{Compares}
+use Rattle.uefi_audit.proofs.Judging.{Judges, true_is_not}
+
+-- An empty line leaves the bytes of a text.
+same_bytes : (old new line : List ℕ) → line ≡ [] → new ≡ old ++ line → new ≡ old
+same_bytes old new line none grown = grown ∙ ap (λ l. old ++ l) none ∙ append-nil old
+
+-- Both are accepted: the text has how their events differ.
+pub compared : (first second : LogFile) (allowed : Bool) (old between start new : String Global) (is_first is_second same : Bool)
+    → is_first ≡ true → is_second ≡ true
+    → Judges first allowed (string_bytes old) (string_bytes between) is_first
+    → Judges second allowed (string_bytes between) (string_bytes start) is_second
+    → AppendsDifferences first second start new same → Compares first second allowed old new same
+compared first second allowed old between start new true true same is_one is_other one other differences =
+    let start_is : string_bytes start ≡ string_bytes old =
+    same_bytes _ _ _ other.1.no_line other.2 ∙ same_bytes _ _ _ one.1.no_line one.2 in (
+      one.0,
+      other.0,
+      true,
+      true,
+      one.1,
+      other.1,
+      (λ olds news of_old of_new.
+          let found = differences olds news of_old of_new in
+          (found.0, found.1, found.2 ∙ ap (λ text. text ++ found.0) start_is)),
+    )
+compared first second allowed old between start new true false same is_one is_other one other differences = absurd (true_is_not (sym is_other))
+compared first second allowed old between start new false is_second same is_one is_other one other differences = absurd (true_is_not (sym is_one))
