@@ -17,12 +17,20 @@ pub fn matches_of<'a>(alloc: Global, words: &'a [String]) -> Result<ArgMatches<'
             "Audits event logs of measured boot: what a TPM's registers must be, from the log's bytes",
         )
         .subcommand_required(true)
-        .arg_required_else_help(true)
-        .subcommand(events(alloc)?)?
-        .subcommand(replay(alloc)?)?
-        .subcommand(verify(alloc)?)?
-        .subcommand(diff(alloc)?)?;
+        .arg_required_else_help(true);
+    let command = with_subcommand(command, events(alloc))?;
+    let command = with_subcommand(command, replay(alloc))?;
+    let command = with_subcommand(command, verify(alloc))?;
+    let command = with_subcommand(command, diff(alloc))?;
     command.try_get_matches_from(words)
+}
+
+/// Adds a subcommand, if it was made.
+fn with_subcommand<'a>(
+    command: Command<'a>,
+    added: Result<Command<'a>, Error>,
+) -> Result<Command<'a>, Error> {
+    Ok(command.subcommand(added?)?)
 }
 
 /// Returns the command `events`.
@@ -35,58 +43,60 @@ fn events<'a>(alloc: Global) -> Result<Command<'a>, Error> {
 
 /// Returns the command `replay`.
 fn replay<'a>(alloc: Global) -> Result<Command<'a>, Error> {
-    let bank = Arg::new(alloc, "bank")
-        .long("bank")
-        .value_name("BANK")
-        .value_parser(BANKS.as_slice())
-        .help("Replays this bank alone");
-    let json = Arg::new(alloc, "json")
-        .long("json")
-        .action(ArgAction::SetTrue)
-        .help("Prints a JSON object a log, on a line");
     let command = Command::new(alloc, "replay")
         .about("Prints the registers that the logs lead to, as tpm2_pcrread prints them")
         .arg(logs(alloc))?
-        .arg(bank)?
-        .arg(json)?;
+        .arg(option(alloc, "bank", "BANK", "Replays this bank alone").value_parser(
+            BANKS.as_slice(),
+        ))?
+        .arg(flag(alloc, "json", "Prints a JSON object a log, on a line"))?;
     reading(alloc, command)
 }
 
 /// Returns the command `verify`.
 fn verify<'a>(alloc: Global) -> Result<Command<'a>, Error> {
-    let log = file(alloc, "log", "LOG", "A file with an event log");
-    let registers = Arg::new(alloc, "registers")
-        .long("registers")
-        .value_name("FILE")
-        .required(true)
-        .help("What tpm2_pcrread printed, or a folder with files such as pcr-sha256/0");
-    let locality = Arg::new(alloc, "locality")
-        .long("locality")
-        .value_name("N")
-        .value_parser(value_parser!(u8))
-        .help("Begins register 0 at this locality, whatever the log states");
     let command = Command::new(alloc, "verify")
         .about("Compares the registers that a log leads to with those of a TPM")
-        .arg(log)?
-        .arg(registers)?
-        .arg(locality)?;
+        .arg(file(alloc, "log", "LOG", "A file with an event log"))?
+        .arg(registers(alloc))?
+        .arg(locality(alloc))?;
     reading(alloc, command)
 }
 
 /// Returns the command `diff`.
 fn diff<'a>(alloc: Global) -> Result<Command<'a>, Error> {
-    let old = file(alloc, "old", "OLD", "A file with an event log");
-    let new = file(
-        alloc,
-        "new",
-        "NEW",
-        "A file with the log to compare it with",
-    );
     let command = Command::new(alloc, "diff")
         .about("Prints how the events of two logs differ, register by register")
-        .arg(old)?
-        .arg(new)?;
+        .arg(file(alloc, "old", "OLD", "A file with an event log"))?
+        .arg(file(
+            alloc,
+            "new",
+            "NEW",
+            "A file with the log to compare it with",
+        ))?;
     reading(alloc, command)
+}
+
+/// Returns the argument for the file or folder with a TPM's registers.
+fn registers<'a>(alloc: Global) -> Arg<'a> {
+    option(
+        alloc,
+        "registers",
+        "FILE",
+        "What tpm2_pcrread printed, or a folder with files such as pcr-sha256/0",
+    )
+    .required(true)
+}
+
+/// Returns the argument for the locality of register 0.
+fn locality<'a>(alloc: Global) -> Arg<'a> {
+    option(
+        alloc,
+        "locality",
+        "N",
+        "Begins register 0 at this locality, whatever the log states",
+    )
+    .value_parser(value_parser!(u8))
 }
 
 /// Returns the argument for a file that has to be named, and how the help shows it.
@@ -94,6 +104,22 @@ fn file<'a>(alloc: Global, id: &'a str, value_name: &'a str, help: &'a str) -> A
     Arg::new(alloc, id)
         .value_name(value_name)
         .required(true)
+        .help(help)
+}
+
+/// Returns the argument `--NAME VALUE`, and how the help shows it.
+fn option<'a>(alloc: Global, name: &'a str, value_name: &'a str, help: &'a str) -> Arg<'a> {
+    Arg::new(alloc, name)
+        .long(name)
+        .value_name(value_name)
+        .help(help)
+}
+
+/// Returns the flag `--NAME`, and how the help shows it.
+fn flag<'a>(alloc: Global, name: &'a str, help: &'a str) -> Arg<'a> {
+    Arg::new(alloc, name)
+        .long(name)
+        .action(ArgAction::SetTrue)
         .help(help)
 }
 
@@ -109,15 +135,16 @@ fn logs<'a>(alloc: Global) -> Arg<'a> {
 
 /// Adds the arguments that say how logs are read.
 fn reading<'a>(alloc: Global, command: Command<'a>) -> Result<Command<'a>, Error> {
-    let last_entry = Arg::new(alloc, "last-entry")
-        .long("last-entry")
-        .value_name("N|none")
-        .help(
-            "The offset at which the last event starts, none if the log is empty [default: the file's length]",
-        );
-    let allow_left_over = Arg::new(alloc, "allow-left-over")
-        .long("allow-left-over")
-        .action(ArgAction::SetTrue)
-        .help("Accepts logs with bytes after their last event");
-    Ok(command.arg(last_entry)?.arg(allow_left_over)?)
+    let command = command.arg(option(
+        alloc,
+        "last-entry",
+        "N|none",
+        "The offset at which the last event starts, none if the log is empty [default: the file's length]",
+    ))?;
+    let command = command.arg(flag(
+        alloc,
+        "allow-left-over",
+        "Accepts logs with bytes after their last event",
+    ))?;
+    Ok(command)
 }

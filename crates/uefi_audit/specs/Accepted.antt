@@ -5,7 +5,7 @@ use Rattle.registers.specs.Logs.{AreContents, left_over}
 use Rattle.audit_lines.specs.Replay.{RefusesLeftOver}
 use Rattle.audit_lines.specs.declared.file.LogFile.{LogFile}
 
--- What the one log that a file is has these contents.
+-- The one log that a file is has these contents.
 abbrev pub HasContents : LogFile → Contents → Type 0
 HasContents file contents = AreContents file.bytes.now file.last_entry contents
 

@@ -21,7 +21,7 @@ pub(crate) enum Shown {
 }
 
 /// Appends what is to be shown of a log, and returns whether all is well. Its registers stand below
-/// its name if it is one of several. To `told` comes what standard error is told.
+/// its name if it is one of several. What standard error is to be told is appended to `told`.
 ///
 /// # Errors
 ///
@@ -48,7 +48,7 @@ pub(crate) fn push_shown(
 }
 
 /// Appends the events of a log, and returns whether it did. If the log has bytes left over that
-/// aren't allowed, their line comes to `told`, and nothing else is appended: standard output has
+/// aren't allowed, their line is appended to `told`, and nothing else: standard output has
 /// nothing but JSON.
 fn push_whole_events(
     text: &mut String,
