@@ -1,2 +1,5 @@
-pub mod Verdicts
 pub mod Texts
+pub mod BankNames
+pub mod Localities
+pub mod Differences
+pub mod Verdicts

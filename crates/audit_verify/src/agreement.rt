@@ -1,23 +1,21 @@
-ghost use Rattle.std.specs.Prelude.{◌≡◌, ◌↔◌, ◌<◌, ◌^◌, ℕ, List, Some, length, IfSome, IfNone, IsTrue};
-ghost use Rattle.std.specs.List.{All};
+ghost use Rattle.std.specs.Prelude.{◌≡◌, ◌↔◌, ℕ, IfNone, IfSome, IsTrue};
 ghost use Rattle.registers.specs.Entries.{Contents};
 ghost use Rattle.registers.specs.Logs.{AreContents};
-ghost use Rattle.registers.specs.Views.{outcome_of};
-ghost use Rattle.audit_verify.specs.Agreement.{led_to, Agrees, AgreeAt, IsPossible, HasValue};
-ghost use Rattle.registers.specs.Views.{value_of};
+ghost use Rattle.registers.specs.Views.{outcome_of, value_of};
+ghost use Rattle.audit_verify.specs.Agreement.{agrees, differing, has_value, led_to};
+ghost use Rattle.audit_verify.specs.Agreement.{AgreeAt, AreBegunAt, IsNearest, IsPossible};
 
 use crate::held::HeldRegister;
 use registers::laws::one_contents;
 use registers::{Bank, Log, Registers, Unreplayable, replay_begun_at};
 use uefi_tcg::PcrIndex;
 
-/// Returns a locality at which all these registers hold what the log leads to: the one that is
-/// `stated`, or else 0, 3 or 4. `None` if at none of them they do.
+/// Returns the locality at which all these registers hold what the log leads to: the one that is
+/// `stated`, or else the first of 0, 3 and 4. `None` if at none of them they do.
 pub fn agreeing_locality(log: &Log<'_>, held: &[HeldRegister], stated: Option<u8>) -> Option<u8>
     ensures agree { (contents : Contents)
         → AreContents log.now.bytes.now log.now.last_entry contents
-        → IfSome result (λ locality. IsPossible stated locality
-        × AgreeAt contents.entries locality held.now) }
+        → IfSome result (AreBegunAt contents.entries stated held.now) }
     ensures none { (contents : Contents)
         → AreContents log.now.bytes.now log.now.last_entry contents
         → IfNone result ((locality : ℕ) → IsPossible stated locality
@@ -58,7 +56,7 @@ pub fn agrees_at(log: &Log<'_>, held: &[HeldRegister], locality: u8) -> bool
 /// Returns whether the register holds what the log leads to.
 pub fn agrees(log: &Log<'_>, held: &HeldRegister, locality: u8) -> bool
     ensures { (contents : Contents) → AreContents log.now.bytes.now log.now.last_entry contents
-        → (IsTrue result ↔ Agrees contents.entries locality held.now) }
+        → result ≡ agrees contents.entries locality held.now }
 {
     has_value(&led_to(log, held.bank, locality), held)
 }
@@ -73,15 +71,46 @@ pub(crate) fn led_to(log: &Log<'_>, bank: Bank, locality: u8) -> Result<Register
 }
 
 /// Returns whether a register has its value among those that a log leads to.
-pub(crate) fn has_value(outcome: &Result<Registers, Unreplayable>, held: &HeldRegister) -> bool
-    ensures { IsTrue result
-        ↔ HasValue (outcome_of outcome.now) held.now.register (value_of held.now.value) }
+fn has_value(outcome: &Result<Registers, Unreplayable>, held: &HeldRegister) -> bool
+    ensures { result
+        ≡ has_value (outcome_of outcome.now) held.now.register (value_of held.now.value) }
 {
     match outcome {
         Ok(registers) => match registers.value(PcrIndex(held.register)) {
-            Some(value) => *value == held.value,
+            Some(value) => value.as_bytes() == held.value.as_bytes(),
             None => false,
         },
         Err(_) => false,
     }
+}
+
+/// Returns the locality at which the fewest registers differ: the one that is `stated`, or else
+/// one of 0, 3 and 4, of several the first.
+pub(crate) fn nearest_locality(log: &Log<'_>, held: &[HeldRegister], stated: Option<u8>) -> u8
+    ensures { (contents : Contents) → AreContents log.now.bytes.now log.now.last_entry contents
+        → IsNearest contents.entries stated held.now result }
+{
+    if let Some(stated) = stated {
+        return stated;
+    }
+    let (zero, three) = (differing(log, held, 0), differing(log, held, 3));
+    let four = differing(log, held, 4);
+    if zero <= three.min(four) {
+        return 0;
+    }
+    if three <= four { 3 } else { 4 }
+}
+
+/// Returns how many registers differ from those that the log leads to.
+fn differing(log: &Log<'_>, held: &[HeldRegister], locality: u8) -> usize
+    ensures { (contents : Contents) → AreContents log.now.bytes.now log.now.last_entry contents
+        → result ≡ differing contents.entries locality held.now }
+{
+    let mut count = 0usize;
+    for register in held {
+        if !agrees(log, register, locality) {
+            count += 1;
+        }
+    }
+    count
 }

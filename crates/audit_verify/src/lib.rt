@@ -4,17 +4,21 @@
 //! from its file in Linux's sysfs. [`agreeing_locality`] compares them with those that a log leads
 //! to, and [`push_verdict`] appends the lines that say what differs.
 //!
-//! The contracts say what text is read as which registers (`specs/Reading.antt`), and that they
-//! agree with those of the log exactly if they are equal (`specs/Agreement.antt`).
+//! The contracts say what text is read as which registers, and where another text is wrong
+//! (`specs/Reading.antt`); that registers agree with those of the log exactly if they are equal
+//! (`specs/Agreement.antt`); and which lines are appended (`specs/Verdict.antt`).
 #![tactic(auto)]
 
 pub use self::agreement::{agreeing_locality, agrees, agrees_at};
+pub use self::error::HeldError;
 pub use self::held::HeldRegister;
 pub use self::line::{bank_in_line, register_in_line};
-pub use self::reading::{HeldError, held_in_file, held_in_text};
+pub use self::reading::{held_in_file, held_in_text};
 pub use self::verdict::push_verdict;
 
 mod agreement;
+mod difference;
+mod error;
 mod held;
 mod line;
 mod reading;

@@ -1,5 +1,5 @@
-ghost use Rattle.std.specs.Prelude.{◌≡◌, ◌++◌, [], ◌∷◌, codes, IfOk, IfSome};
-ghost use Rattle.audit_verify.specs.Reading.{number_in, IsValueIn, IsRegisterLine, IsBankLine};
+ghost use Rattle.std.specs.Prelude.{◌≡◌, List, ℕ, IfOk, MatchOption};
+ghost use Rattle.audit_verify.specs.Reading.{number_in, IsBankLine, IsRegisterLine, IsValueIn};
 ghost use Rattle.registers.specs.Views.{value_of};
 
 use hex::FromHexError;
@@ -7,9 +7,10 @@ use registers::{Bank, RegisterValue};
 use std::alloc::{AllocError, Allocator};
 
 /// Returns the name in the line that a bank begins with, as `tpm2_pcrread` prints it: two spaces,
-/// the name and a colon.
+/// the name and a colon. `None` for another line.
 pub fn bank_in_line(line: &[u8]) -> Option<&[u8]>
-    ensures { IfSome result (λ name. line.now ≡ codes "  " ++ name.now ++ codes ":") }
+    ensures { MatchOption result ((name : List ℕ) → IsBankLine line.now name → ⊥)
+        (λ name. IsBankLine line.now name.now) }
 {
     match line {
         [b' ', b' ', name @ .., b':'] => Some(name),
@@ -18,9 +19,11 @@ pub fn bank_in_line(line: &[u8]) -> Option<&[u8]>
 }
 
 /// Returns the number and the digits in the line of a register, as `tpm2_pcrread` prints it: four
-/// spaces, the number as wide as two digits, `: 0x` and hex digits.
+/// spaces, the number as wide as two digits, `: 0x` and hex digits. `None` for another line.
 pub fn register_in_line(line: &[u8]) -> Option<(u32, &[u8])>
-    ensures { IfSome result (λ found. IsRegisterLine line.now found.0 found.1.now) }
+    ensures { MatchOption result
+        ((number : ℕ) (digits : List ℕ) → IsRegisterLine line.now number digits → ⊥)
+        (λ found. IsRegisterLine line.now found.0 found.1.now) }
 {
     match line {
         [
@@ -65,7 +68,9 @@ pub(crate) fn value_in<A: Allocator>(
     bank: Bank,
     digits: &[u8],
 ) -> Result<Option<RegisterValue>, AllocError>
-    ensures { IfOk result (λ found. IfSome found (λ value. IsValueIn digits.now (value_of value))) }
+    ensures { IfOk result (λ found. MatchOption found
+        ((value : List ℕ) → IsValueIn bank digits.now value → ⊥)
+        (λ value. IsValueIn bank digits.now (value_of value))) }
 {
     let bytes = match hex::decode(alloc, digits) {
         Ok(bytes) => bytes,

@@ -1,33 +1,16 @@
-ghost use Rattle.std.specs.Prelude.{◌≡◌, ◌++◌, [], ◌∷◌, codes, IfOk, IfSome, Some};
-ghost use Rattle.audit_lines.specs.Banks.{bank_name};
+ghost use Rattle.std.specs.Prelude.{◌≡◌, ◌++◌, ◌∷◌, List, ℕ, IfErr, IfOk, MatchOption, Some};
 ghost use Rattle.registers.specs.Views.{value_of};
-ghost use Rattle.audit_verify.specs.declared.reading.HeldError.TheVariants.{Memory};
-ghost use Rattle.audit_verify.specs.Reading.{IsFileOf, IsTextOf, StatesRegister};
+ghost use Rattle.audit_verify.specs.declared.held.HeldRegister.{HeldRegister};
+ghost use Rattle.audit_verify.specs.Reading.{HasNoBreak, IsBankNamed, IsFileError, IsFileOf, IsTextError, IsTextOf};
+ghost use Rattle.audit_verify.specs.Reading.{StatesNothing, StatesRegister};
 ghost use Rattle.audit_verify.specs.private.Lines.{ReadsLine};
 
+use crate::error::HeldError;
 use crate::held::HeldRegister;
 use crate::line::{bank_in_line, register_in_line, value_in};
 use audit_lines::bank_named;
 use registers::{Bank, RegisterValue};
 use std::alloc::{AllocError, Allocator};
-
-/// Why no registers were read from a text.
-#[derive(Clone, Copy, PartialEq, Eq, Debug, Drop)]
-pub enum HeldError {
-    /// An allocation failed.
-    Memory,
-    /// The line that begins at this offset neither begins a bank nor states a register of a bank
-    /// that can be replayed, or it doesn't end.
-    Line(usize),
-}
-
-impl From<AllocError> for HeldError {
-    ghost from_gives = { λ _ error. error ≡ Memory };
-
-    fn from(_error: AllocError) -> HeldError {
-        HeldError::Memory
-    }
-}
 
 /// Returns the registers that `tpm2_pcrread` of tpm2-tools printed. Hex digits may be of either
 /// case.
@@ -42,7 +25,8 @@ pub fn held_in_text<A: Allocator + Copy>(
     alloc: A,
     text: &[u8],
 ) -> Result<Vec<HeldRegister, A>, HeldError>
-    ensures { IfOk result (λ held. IsTextOf text.now held.items) }
+    ensures held { IfOk result (λ held. IsTextOf text.now held.items) }
+    ensures error { IfErr result (λ error. IsTextError text.now error) }
 {
     let mut held = Vec::new(alloc);
     let mut bank = None;
@@ -69,8 +53,8 @@ fn read_line<A: Allocator + Copy>(
     bank: Option<Bank>,
     line: &[u8],
 ) -> Result<Option<Option<Bank>>, AllocError>
-    ensures { IfOk result (λ read. IfSome read (λ next.
-        ReadsLine bank line.now held.old.items next held.new.items)) }
+    ensures { IfOk result (λ read. MatchOption read (StatesNothing bank line.now)
+        (λ next. ReadsLine bank line.now held.old.items next held.new.items)) }
 {
     if let Some(name) = bank_in_line(line) {
         return Ok(Some(bank_of_name(name)));
@@ -95,7 +79,8 @@ pub fn held_in_file<A: Allocator + Copy>(
     bank: Bank,
     text: &[u8],
 ) -> Result<RegisterValue, HeldError>
-    ensures { IfOk result (λ value. IsFileOf text.now (value_of value)) }
+    ensures value { IfOk result (λ value. IsFileOf bank text.now (value_of value)) }
+    ensures error { IfErr result (λ error. IsFileError bank text.now error) }
 {
     match text {
         [digits @ .., b'\n'] => match value_in(alloc, bank, digits)? {
@@ -106,9 +91,10 @@ pub fn held_in_file<A: Allocator + Copy>(
     }
 }
 
-/// Returns the bytes before the first line break and those after it.
+/// Returns the bytes before the first line break and those after it; `None` if there is none.
 fn split_line(text: &[u8]) -> Option<(&[u8], &[u8])>
-    ensures { IfSome result (λ split. text.now ≡ split.0.now ++ 10 ∷ split.1.now) }
+    ensures { MatchOption result (HasNoBreak text.now) (λ split. HasNoBreak split.0.now
+        × (text.now ≡ split.0.now ++ 10 ∷ split.1.now)) }
 {
     for at in 0..text.len() {
         if text[at] == b'\n' {
@@ -118,9 +104,9 @@ fn split_line(text: &[u8]) -> Option<(&[u8], &[u8])>
     None
 }
 
-/// Returns the bank of this name.
+/// Returns the bank of this name; `None` if none that can be replayed has it.
 fn bank_of_name(name: &[u8]) -> Option<Bank>
-    ensures { IfSome result (λ bank. name.now ≡ bank_name bank) }
+    ensures { IsBankNamed name.now result }
 {
     match str::from_utf8(name) {
         Ok(name) => bank_named(name),
@@ -128,14 +114,15 @@ fn bank_of_name(name: &[u8]) -> Option<Bank>
     }
 }
 
-/// Returns the register of the bank that the line states.
+/// Returns the register of the bank that the line states; `None` if it states none.
 fn held_in_line<A: Allocator>(
     alloc: A,
     bank: Option<Bank>,
     line: &[u8],
 ) -> Result<Option<HeldRegister>, AllocError>
-    ensures { IfOk result (λ found. IfSome found (λ held.
-        (bank ≡ Some held.bank) × StatesRegister line.now held)) }
+    ensures { IfOk result (λ found. MatchOption found
+        ((held : HeldRegister) → bank ≡ Some held.bank → StatesRegister line.now held → ⊥)
+        (λ held. (bank ≡ Some held.bank) × StatesRegister line.now held)) }
 {
     let Some(bank) = bank else {
         return Ok(None);

@@ -3,8 +3,8 @@ use Rattle.std.specs.Prelude.{ℕ, List, ◌++◌, codes}
 use Rattle.std.specs.Fmt.{decimal}
 use Rattle.registers.specs.declared.bank.Bank.{Bank}
 use Rattle.audit_lines.specs.Banks.{bank_name}
-use Rattle.audit_verify.specs.declared.reading.HeldError.{HeldError}
-use Rattle.audit_verify.specs.declared.reading.HeldError.TheVariants.{Memory, Line}
+use Rattle.audit_verify.specs.declared.error.HeldError.{HeldError}
+use Rattle.audit_verify.specs.declared.error.HeldError.TheVariants.{Memory, Line}
 
 -- What standard error is told of a file that has no registers which can be compared.
 abbrev pub fault_text : HeldError → List ℕ

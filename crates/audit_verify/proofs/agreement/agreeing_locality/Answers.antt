@@ -1,10 +1,16 @@
-use Rattle.std.proofs.Common.{◌≡◌, ℕ, inl, inr, refl, subst, true, false}
-use Rattle.audit_verify.specs.Agreement.{AgreeAt}
+use Rattle.std.proofs.Common.{◌≡◌, ℕ, false, refl, subst, sym, true}
+use Rattle.std.specs.Prelude.{Option}
+use Rattle.audit_verify.specs.Agreement.{AgreeAt, AreBegunAt}
+use Rattle.audit_verify.proofs.Localities.{begun_at_0, begun_at_3, begun_at_4, begun_at_stated, of_three}
 use Rattle.audit_verify.proofs.agreement.agreeing_locality.Goals as goal
 
 pub returns-then-agrees_at-clause-agree : goal.returns-then-agrees_at-clause-agree
 returns-then-agrees_at-clause-agree c = λ contents is.
-    (rw c.in-Some.is refl, (c.if-agrees_at.ensures contents is).0 refl)
+    let entries = contents.entries in
+    let held = c.args.held.now in
+    let stated = c.in-Some.stated in
+    subst (λ (s : Option ℕ). AreBegunAt entries s held stated) (sym c.in-Some.is)
+    (begun_at_stated entries held stated ((c.if-agrees_at.ensures contents is).0 refl))
 
 pub returns-in-Some-clause-none : goal.returns-in-Some-clause-none
 returns-in-Some-clause-none c = λ contents is locality possible so.
@@ -14,25 +20,36 @@ returns-in-Some-clause-none c = λ contents is locality possible so.
 
 pub returns-then-agrees_at-2-clause-agree : goal.returns-then-agrees_at-2-clause-agree
 returns-then-agrees_at-2-clause-agree c = λ contents is.
-    (rw c.in_default.is (inl refl), (c.if-agrees_at-2.ensures contents is).0 refl)
+    let entries = contents.entries in
+    let held = c.args.held.now in
+    subst (λ (s : Option ℕ). AreBegunAt entries s held 0) (sym c.in_default.is)
+    (begun_at_0 entries held ((c.if-agrees_at-2.ensures contents is).0 refl))
 
 pub returns-then-agrees_at-3-clause-agree : goal.returns-then-agrees_at-3-clause-agree
 returns-then-agrees_at-3-clause-agree c = λ contents is.
-    (rw c.in_default.is (inr (inl refl)), (c.if-agrees_at-3.ensures contents is).0 refl)
+    let entries = contents.entries in
+    let held = c.args.held.now in
+    subst (λ (s : Option ℕ). AreBegunAt entries s held 3) (sym c.in_default.is)
+    (begun_at_3 entries held
+    (λ so. let h : false ≡ true = (c.if-agrees_at-2.ensures contents is).1 so in cc)
+    ((c.if-agrees_at-3.ensures contents is).0 refl))
 
 pub returns-then-agrees_at-4-clause-agree : goal.returns-then-agrees_at-4-clause-agree
 returns-then-agrees_at-4-clause-agree c = λ contents is.
-    (rw c.in_default.is (inr (inr refl)), (c.if-agrees_at-4.ensures contents is).0 refl)
+    let entries = contents.entries in
+    let held = c.args.held.now in
+    subst (λ (s : Option ℕ). AreBegunAt entries s held 4) (sym c.in_default.is)
+    (begun_at_4 entries held
+    (λ so. let h : false ≡ true = (c.if-agrees_at-2.ensures contents is).1 so in cc)
+    (λ so. let h : false ≡ true = (c.if-agrees_at-3.ensures contents is).1 so in cc)
+    ((c.if-agrees_at-4.ensures contents is).0 refl))
 
 pub returns-clause-none : goal.returns-clause-none
-returns-clause-none c = λ contents is locality possible so.
-    let cases = rw c.in_default.is at possible in
-    let at : (l : ℕ) → locality ≡ l → AgreeAt contents.entries l c.args.held.now =
-    λ l same. subst (λ k. AgreeAt contents.entries k c.args.held.now) same so in
-    elim cases [
-      | inl zero ↦ let h : false ≡ true = (c.if-agrees_at-2.ensures contents is).1 (at 0 zero) in cc
-      | inr more ↦ elim more [
-        | inl three ↦ let h : false ≡ true = (c.if-agrees_at-3.ensures contents is).1 (at 3 three) in cc
-        | inr four ↦ let h : false ≡ true = (c.if-agrees_at-4.ensures contents is).1 (at 4 four) in cc
-      ]
-    ]
+returns-clause-none c = λ contents is locality possible.
+    let entries = contents.entries in
+    let held = c.args.held.now in
+    of_three (λ l. AgreeAt entries l held → ⊥)
+    (λ so. let h : false ≡ true = (c.if-agrees_at-2.ensures contents is).1 so in cc)
+    (λ so. let h : false ≡ true = (c.if-agrees_at-3.ensures contents is).1 so in cc)
+    (λ so. let h : false ≡ true = (c.if-agrees_at-4.ensures contents is).1 so in cc)
+    locality (rw c.in_default.is at possible)
