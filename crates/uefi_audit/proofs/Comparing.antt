@@ -1,16 +1,29 @@
--- How two logs are compared.
+-- A log beside registers, and two logs.
 use Rattle.std.proofs.Common.{◌≡◌, ◌∙◌, ℕ, List, [], ◌++◌, ap, sym, append-nil}
-use Rattle.std.specs.Prelude.{Bool, true, false, string_bytes}
+use Rattle.std.specs.Prelude.{◌↔◌, Bool, true, false, Option, IsTrue, string_bytes}
 use Rattle.std.specs.declared.alloc.Global.{Global}
 use Rattle.std.specs.declared.string.String.{String}
 use Rattle.audit_lines.specs.declared.file.LogFile.{LogFile}
 use Rattle.audit_diff.specs.Differences.{AppendsDifferences}
-use Rattle.uefi_audit.specs.Compared.{Compares}
+use Rattle.audit_verify.specs.Agreement.{Agree}
+use Rattle.audit_verify.specs.Verdict.{AppendsVerdict}
+use Rattle.audit_verify.specs.declared.held.HeldRegister.{HeldRegister}
+use Rattle.uefi_audit.specs.Compared.{Compares, Verifies}
 use Rattle.uefi_audit.proofs.Judging.{Judges, true_is_not}
 
 -- An empty line leaves the bytes of a text.
 same_bytes : (old new line : List ℕ) → line ≡ [] → new ≡ old ++ line → new ≡ old
 same_bytes old new line none grown = grown ∙ ap (λ l. old ++ l) none ∙ append-nil old
+
+-- The log is accepted: the text has the verdict.
+pub verified : (file : LogFile) (allowed : Bool) (held : List HeldRegister) (locality : Option ℕ) (old start new : String Global) (accepted well : Bool)
+    → accepted ≡ true → Judges file allowed (string_bytes old) (string_bytes start) accepted
+    → (IsTrue well ↔ Agree file.bytes.now file.last_entry locality held)
+    → AppendsVerdict file locality held start new well → Verifies file allowed held locality old new well
+verified file allowed held locality old start new true well is judged agree verdict =
+    let start_is = same_bytes _ _ _ judged.1.no_line judged.2 in
+    (judged.0, true, judged.1, (agree, (verdict.0, verdict.1, verdict.2, verdict.3, verdict.4 ∙ ap (λ text. text ++ verdict.2) start_is)))
+verified file allowed held locality old start new false well is judged agree verdict = absurd (true_is_not (sym is))
 
 -- Both are accepted: the text has how their events differ.
 pub compared : (first second : LogFile) (allowed : Bool) (old between start new : String Global) (is_first is_second same : Bool)

@@ -6,6 +6,7 @@ use Rattle.hex_display.specs.Text.{AppendsText}
 use Rattle.audit_lines.specs.declared.file.LogFile.{LogFile}
 use Rattle.audit_diff.specs.Differences.{AppendsDifferences}
 use Rattle.audit_verify.specs.Agreement.{Agree}
+use Rattle.audit_verify.specs.Verdict.{AppendsVerdict}
 use Rattle.audit_verify.specs.declared.held.HeldRegister.{HeldRegister}
 use Rattle.uefi_audit.specs.Accepted.{IsJudged}
 
@@ -13,10 +14,10 @@ use Rattle.uefi_audit.specs.Accepted.{IsJudged}
 abbrev pub Refuses : List ℕ → String Global → String Global → Bool → Type 0
 Refuses lines old new well = AppendsText old new lines × (well ≡ false)
 
--- `verify`: all is well exactly if the log is accepted and leads to the registers.
+-- `verify`: all is well exactly if the log is accepted and leads to the registers, and the text has the verdict.
 abbrev pub VerifiesIf : Bool → List ℕ → LogFile → List HeldRegister → Option ℕ → String Global → String Global → Bool → Type 0
 VerifiesIf true line file held locality old new well =
-    IsTrue well ↔ Agree file.bytes.now file.last_entry locality held
+    (IsTrue well ↔ Agree file.bytes.now file.last_entry locality held) × AppendsVerdict file locality held old new well
 VerifiesIf false line file held locality old new well = Refuses line old new well
 
 abbrev pub Verifies : LogFile → Bool → List HeldRegister → Option ℕ → String Global → String Global → Bool → Type 0

@@ -24,11 +24,11 @@ pub(crate) fn push_verification(
     ensures { IfOk result
         (Verifies file.now allow_left_over held.now locality text.old text.new) }
 {
-    if push_refusal(text, file, allow_left_over)? {
-        push_verdict(text, alloc, file, held, locality)
-    } else {
-        Ok(false)
+    let accepted = push_refusal(text, file, allow_left_over)?;
+    if accepted {
+        return push_verdict(text, alloc, file, held, locality);
     }
+    Ok(false)
 }
 
 /// Appends how the events of two logs differ, and returns whether they don't; or the line of each
