@@ -8,7 +8,7 @@ use Rattle.std.proofs.lemmas.Bool.{cases_lt, ltb-false, ltb-true}
 use Rattle.std.proofs.lemmas.Option.{slice_get-map, slice_get_past, slice_get_read}
 use Rattle.registers.specs.Entries.{Entry}
 use Rattle.registers.specs.Views.{event_of}
-use Rattle.uefi_tcg.specs.v2.Event.{Event}
+use Rattle.tcg_logs.specs.v2.Event.{Event}
 use Rattle.audit_diff.specs.Differences.{IsAmong, Numbered, event_at, event_in, events_in, is_of, numbered}
 use Rattle.audit_diff.specs.private.Views.{numbered_of}
 use Rattle.audit_diff.specs.declared.register.NumberedEntry.{NumberedEntry}

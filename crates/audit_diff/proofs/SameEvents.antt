@@ -1,7 +1,7 @@
 -- When events are the same, and digests.
 use Rattle.std.proofs.Common.{◌≡◌, ◌∙◌, ℕ, List, [], ◌∷◌, ap, ap₂, sym, refl}
 use Rattle.std.specs.Prelude.{◌↔◌, Bool, true, false}
-use Rattle.uefi_tcg.specs.v2.Event.{Digest, Event}
+use Rattle.tcg_logs.specs.v2.Event.{Digest, Event}
 use Rattle.registers.specs.Entries.{with_sha1}
 
 pub not_same : {X : Type 0} (x y : X) → (x ≡ y → ⊥) → (false ≡ true) ↔ (x ≡ y)

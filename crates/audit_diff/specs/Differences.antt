@@ -7,7 +7,7 @@ use Rattle.std.specs.Fmt.{decimal}
 use Rattle.std.specs.declared.alloc.Global.{Global}
 use Rattle.std.specs.declared.string.String.{String}
 use Rattle.hex_display.specs.Text.{AppendsText}
-use Rattle.uefi_tcg.specs.v2.Event.{Event}
+use Rattle.tcg_logs.specs.v2.Event.{Event}
 use Rattle.registers.specs.Entries.{Contents, Entry}
 use Rattle.registers.specs.Logs.{AreContents}
 use Rattle.audit_lines.specs.declared.file.LogFile.{LogFile}

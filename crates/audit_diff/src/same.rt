@@ -1,11 +1,11 @@
 ghost use Rattle.std.specs.Prelude.{◌≡◌, ◌↔◌, IsTrue};
-ghost use Rattle.uefi_tcg.specs.v2.Views.{digests_of};
+ghost use Rattle.tcg_logs.specs.v2.Views.{digests_of};
 ghost use Rattle.registers.specs.Entries.{with_sha1};
 ghost use Rattle.registers.specs.Views.{event_of};
 
 use registers::LogEvent;
-use uefi_tcg::AlgorithmId;
-use uefi_tcg::v2::PcrEventDigests;
+use tcg_logs::AlgorithmId;
+use tcg_logs::v2::PcrEventDigests;
 
 /// Returns whether two events are the same: of one register and one type, with the same digests in
 /// the same order, and with the same data.

@@ -4,7 +4,7 @@ use Rattle.std.proofs.Common.{append-nil, length-append, length-drop, refl, Some
 use Rattle.std.proofs.lemmas.List.{nil_from_length}
 use Rattle.uefi_base.specs.LittleEndian.{AreBytes, u64_at, u64_bytes}
 use Rattle.uefi_base.specs.Prefix.{IsPrefix}
-use Rattle.uefi_base.proofs.NumbersBack.{numbers_read_back}
+use Rattle.uefi_core.proofs.NumbersBack.{numbers_read_back}
 use Rattle.uefi_path.specs.Node.{Node, joined}
 use Rattle.uefi_path.specs.Path.{HasPath, IsPath}
 use Rattle.audit_events.specs.Image.{Image, IsImage, ReadsImage, ReadsNodes, image_bytes}

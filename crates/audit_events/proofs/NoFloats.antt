@@ -3,7 +3,7 @@ use Rattle.std.proofs.Common.{◌≡◌, ℕ, List, [], ◌∷◌, ◌++◌, map
 use Rattle.serde_json.specs.Data.{Data, string}
 use Rattle.serde_json.specs.View.{items_of}
 use Rattle.serde_json.specs.Written.{has_float, items_have_float}
-use Rattle.uefi_tcg.specs.v2.Event.{Digest, Event}
+use Rattle.tcg_logs.specs.v2.Event.{Digest, Event}
 use Rattle.uefi_path.specs.Node.{Node}
 use Rattle.uefi_path.specs.Path.{all_but_last}
 use Rattle.registers.specs.Entries.{Entry}

@@ -4,7 +4,7 @@ use Rattle.std.proofs.Common.{append_assoc, length-append, Option, Some, None, r
 use Rattle.std.proofs.lemmas.List.{drop_at, take_at}
 use Rattle.uefi_base.specs.LittleEndian.{u64_at, u64_bytes}
 use Rattle.uefi_base.specs.Unaligned.{units_of, unit_bytes}
-use Rattle.uefi_base.proofs.NumbersBack.{numbers_read_back}
+use Rattle.uefi_core.proofs.NumbersBack.{numbers_read_back}
 use Rattle.uefi_base.proofs.UnitsBack.{units_read_back}
 use Rattle.uefi_path.specs.Laws.{OneFront}
 use Rattle.uefi_path.specs.Node.{Node}

@@ -7,7 +7,7 @@ use Rattle.std.proofs.lemmas.Grind.{common_steps}
 use Rattle.std.proofs.lemmas.List.{drop-drop, length-take-le}
 use Rattle.uefi_base.specs.LittleEndian.{AreBytes, u64_at, u64_bytes}
 use Rattle.uefi_base.specs.Unaligned.{AreUnits, units_of, unit_bytes}
-use Rattle.uefi_base.proofs.NumbersBack.{numbers_read_back}
+use Rattle.uefi_core.proofs.NumbersBack.{numbers_read_back}
 use Rattle.uefi_base.proofs.UnitsBack.{units_read_back}
 use Rattle.uefi_base.proofs.UnitsOfBytes.{half_as_many_units}
 use Rattle.audit_events.specs.Variable.{Variable, IsVariable, ReadsVariable, variable_bytes}

@@ -4,7 +4,7 @@ use Rattle.hex.specs.Hex.{encode_lower}
 use Rattle.serde_json.specs.Data.{Data, number, unsigned, string, array, object, member, no_members}
 use Rattle.serde_json.specs.View.{items_of}
 use Rattle.serde_json.specs.Written.{compact_text}
-use Rattle.uefi_tcg.specs.v2.Event.{Digest, Event}
+use Rattle.tcg_logs.specs.v2.Event.{Digest, Event}
 use Rattle.registers.specs.declared.bank.Bank.{Bank}
 use Rattle.registers.specs.declared.bank.Bank.TheVariants.{Sha1, Sha256, Sha384, Sha512}
 use Rattle.registers.specs.Entries.{Entry}

@@ -1,6 +1,6 @@
 ghost use Rattle.std.specs.Prelude.{◌≡◌, ◌++◌, map, IfOk, OnOk};
 ghost use Rattle.serde_json.specs.View.{view};
-ghost use Rattle.uefi_tcg.specs.v2.Views.{digests_of};
+ghost use Rattle.tcg_logs.specs.v2.Views.{digests_of};
 ghost use Rattle.registers.specs.Entries.{with_sha1};
 ghost use Rattle.registers.specs.Views.{event_of};
 ghost use Rattle.audit_events.specs.Json.{algorithm_json, digest_json, hashed_bank, hashed_banks};
@@ -9,8 +9,8 @@ use crate::names::{algorithm_name, bank_name};
 use registers::{Bank, LogEvent, is_hash_of_data};
 use serde_json::{Value, json};
 use std::alloc::{AllocError, Global};
-use uefi_tcg::AlgorithmId;
-use uefi_tcg::v2::PcrEventDigests;
+use tcg_logs::AlgorithmId;
+use tcg_logs::v2::PcrEventDigests;
 
 /// Returns the digests of an event as JSON, in order.
 pub(crate) fn digests_json(alloc: Global, event: &LogEvent<'_>) -> Result<Vec<Value>, AllocError>

@@ -13,7 +13,7 @@ use crate::names::type_name;
 use registers::LogEntry;
 use serde_json::{Map, Value, json, put};
 use std::alloc::{AllocError, Global};
-use uefi_tcg::EventType;
+use tcg_logs::EventType;
 
 /// Returns an event as one line of JSON, without a line's end: an object with the name of its log,
 /// the event's index in it, and what the event holds.

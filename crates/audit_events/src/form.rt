@@ -1,7 +1,7 @@
 ghost use Rattle.std.specs.Prelude.{◌≡◌};
 ghost use Rattle.audit_events.specs.Content.{form_of};
 
-use uefi_tcg::EventType;
+use tcg_logs::EventType;
 
 /// The forms of data that are read.
 #[derive(Clone, Copy)]

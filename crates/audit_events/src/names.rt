@@ -3,7 +3,7 @@ ghost use Rattle.std.specs.Option.{option_map};
 ghost use Rattle.audit_events.specs.Names.{algorithm_name, bank_name, type_name};
 
 use registers::Bank;
-use uefi_tcg::{AlgorithmId, EventType};
+use tcg_logs::{AlgorithmId, EventType};
 
 /// The types of events from 0 on (TCG PC Client Platform Firmware Profile 1.06, 10.4.1).
 const TYPES: [&str; 20] = [

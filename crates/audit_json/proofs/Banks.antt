@@ -8,7 +8,7 @@ use Rattle.std.proofs.lemmas.List.Folds.{list_all-append}
 use Rattle.serde_json.specs.Data.{Data}
 use Rattle.serde_json.specs.View.{view}
 use Rattle.serde_json.specs.declared.value.Value.{Value}
-use Rattle.uefi_tcg.specs.declared.algorithm_id.AlgorithmId.{AlgorithmId}
+use Rattle.tcg_logs.specs.declared.algorithm_id.AlgorithmId.{AlgorithmId}
 use Rattle.registers.specs.Entries.{Entry}
 use Rattle.audit_lines.specs.declared.file.LogFile.{LogFile}
 use Rattle.audit_json.specs.Replay.{Outcome, bank_json, banks_json, is_known, led_to}

@@ -12,7 +12,7 @@ use audit_lines::{LogFile, bank_of, fault_text};
 use registers::{RegisterValue, Registers, Unreplayable, replay};
 use serde_json::{Map, Value, json, put};
 use std::alloc::{AllocError, Global};
-use uefi_tcg::AlgorithmId;
+use tcg_logs::AlgorithmId;
 
 /// Returns what a log leads to in the bank of an algorithm; `None` if that bank can't be replayed.
 pub(crate) fn led_to(

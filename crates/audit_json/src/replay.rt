@@ -12,7 +12,7 @@ use audit_lines::{LogFile, asked_algorithms};
 use registers::Bank;
 use serde_json::{Map, Value, json, put};
 use std::alloc::{AllocError, Global};
-use uefi_tcg::AlgorithmId;
+use tcg_logs::AlgorithmId;
 
 /// Appends what a log leads to as one line of JSON: an object, and a line break.
 ///

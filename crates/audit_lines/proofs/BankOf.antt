@@ -1,5 +1,5 @@
 -- The bank of an algorithm, from what `Bank::of` returned.
-use Rattle.std.proofs.Common.{◌≡◌, ℕ, refl, sym, ◌∙◌}
+use Rattle.std.proofs.Common.{◌≡◌, ℕ, refl, sym}
 use Rattle.std.specs.Prelude.{Option, Some, None, IfSome, IfNone}
 use Rattle.std.proofs.lemmas.Bool.{ne_eqb}
 use Rattle.registers.specs.declared.bank.Bank.{Bank}

@@ -1,5 +1,5 @@
 -- What is left over of a log after its last event.
-use Rattle.std.proofs.Common.{◌≡◌, ◌∙◌, ℕ, ◌-◌, ◌<◌, ◌≤◌, ◌==◌, List, [], ◌∷◌, ◌++◌, length, ap, ap₂, sym, refl}
+use Rattle.std.proofs.Common.{◌≡◌, ◌∙◌, ℕ, ◌-◌, ◌<◌, ◌≤◌, ◌==◌, List, [], ◌∷◌, ◌++◌, length, ap, sym, refl}
 use Rattle.std.proofs.Common.{subst, append-nil, arith, length-drop}
 use Rattle.std.specs.Prelude.{◌↔◌, true, false, Option}
 use Rattle.std.proofs.lemmas.Bool.{eqb-true}

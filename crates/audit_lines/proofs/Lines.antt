@@ -1,6 +1,6 @@
 -- The lines of registers, one after another.
 use Rattle.std.proofs.Common.{◌≡◌, ◌∙◌, ℕ, suc, ◌+◌, ◌<◌, ◌≤◌, List, [], ◌∷◌, ◌++◌, length, drop, drop-cons, get_or}
-use Rattle.std.proofs.Common.{ap, sym, refl, append_assoc, append-nil, arith}
+use Rattle.std.proofs.Common.{ap, sym, append_assoc, append-nil, arith}
 use Rattle.std.proofs.Math.ListN.{drop_of_length-le}
 use Rattle.audit_lines.specs.Registers.{register_line, register_lines}
 

@@ -1,21 +1,19 @@
 -- The banks of a log, one after another.
-use Rattle.std.proofs.Common.{◌≡◌, ◌∙◌, ℕ, ◌+◌, ◌-◌, ◌<◌, ◌≤◌, List, [], ◌∷◌, ◌++◌, length, drop, get_or, map, subst}
-use Rattle.std.proofs.Common.{take, ap, ap₂, sym, refl, append_assoc, append-nil, arith, string_bytes, length-drop}
+use Rattle.std.proofs.Common.{◌≡◌, ◌∙◌, ℕ, ◌+◌, ◌-◌, ◌<◌, List, [], ◌∷◌, ◌++◌, length, get_or, map, subst}
+use Rattle.std.proofs.Common.{take, ap, ap₂, sym, refl, append_assoc, append-nil, string_bytes}
 use Rattle.std.proofs.Common.{inl, inr}
-use Rattle.std.specs.Prelude.{Bool, true, false, ◌&&◌, flat_map, IfSome, Option, Some, None, Result, Ok, Err}
+use Rattle.std.specs.Prelude.{Bool, true, false, ◌&&◌, IfSome, Option, Some, None, Ok, Err}
 use Rattle.std.specs.Option.{option_map}
-use Rattle.std.specs.List.{list_all}
 use Rattle.std.proofs.lemmas.Grind.{flat_map-append}
 use Rattle.std.proofs.lemmas.List.{map_more}
 use Rattle.std.proofs.lemmas.List.Folds.{list_all-append}
-use Rattle.uefi_tcg.specs.declared.algorithm_id.AlgorithmId.{AlgorithmId}
+use Rattle.tcg_logs.specs.declared.algorithm_id.AlgorithmId.{AlgorithmId}
 use Rattle.std.specs.declared.string.String.{String}
-use Rattle.uefi_tcg.specs.declared.v2.header.EventLogHeader.{EventLogHeader}
-use Rattle.uefi_tcg.specs.v2.Header.{Header}
-use Rattle.uefi_tcg.specs.v2.Log.{HasHeaderOf}
-use Rattle.uefi_tcg.specs.v2.Views.{header_of}
-use Rattle.registers.specs.Entries.{Contents, Entry}
-use Rattle.registers.specs.Logs.{AreContents}
+use Rattle.tcg_logs.specs.declared.v2.header.EventLogHeader.{EventLogHeader}
+use Rattle.tcg_logs.specs.v2.Header.{Header}
+use Rattle.tcg_logs.specs.v2.Log.{HasHeaderOf}
+use Rattle.tcg_logs.specs.v2.Views.{header_of}
+use Rattle.registers.specs.Entries.{Entry}
 use Rattle.audit_lines.specs.declared.file.LogFile.{LogFile}
 use Rattle.registers.specs.declared.bank.Bank.{Bank}
 use Rattle.registers.specs.declared.fault.Unreplayable.{Unreplayable}
@@ -27,7 +25,7 @@ use Rattle.audit_lines.specs.Replay.{IsHeaderOf, ShowsBanks}
 use Rattle.hex_display.specs.Text.{AppendsText}
 use Rattle.audit_lines.specs.Replay.{left_over_line, AppendsReplay, IsReplay}
 use Rattle.audit_lines.specs.private.Appending.{AppendsAsked, AppendsBanks}
-use Rattle.audit_lines.proofs.LeftOver.{few_left, ended_at, Leaves}
+use Rattle.audit_lines.proofs.LeftOver.{ended_at, Leaves}
 
 -- Of no algorithm nothing is appended.
 pub no_banks : {A : Type 0} (file : LogFile) (text : String A) → AppendsBanks file [] text text true

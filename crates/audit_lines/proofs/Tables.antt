@@ -3,7 +3,7 @@ use Rattle.std.proofs.Common.{◌≡◌, ◌∙◌, ℕ, ◌+◌, List, [], ◌�
 use Rattle.std.specs.Prelude.{slice_get, Some}
 use Rattle.std.proofs.lemmas.List.{map-append, map_more}
 use Rattle.std.proofs.lemmas.Option.{get_or_from_slice_get, slice_get_within}
-use Rattle.uefi_tcg.specs.declared.algorithm_id.AlgorithmId.{AlgorithmId}
+use Rattle.tcg_logs.specs.declared.algorithm_id.AlgorithmId.{AlgorithmId}
 
 pub row_pushed : (table : List (ℕ × ℕ)) (index : ℕ) (row : ℕ × ℕ) (old new : List AlgorithmId) (algorithm : AlgorithmId)
     → slice_get table index ≡ Some row → algorithm.0 ≡ row.0 → new ≡ old ++ algorithm ∷ []

@@ -1,11 +1,11 @@
 -- What `uefi_audit replay` prints of a log: the registers that it leads to, by banks, or why they can't be known.
-use Rattle.std.specs.Prelude.{ℕ, ◌≡◌, ◌≢◌, ◌⊎◌, Bool, true, false, List, [], ◌∷◌, ◌++◌, length, map, flat_map, codes, Option, None, Some, Result, Ok, Err, is_ok}
+use Rattle.std.specs.Prelude.{ℕ, ◌≡◌, ◌≢◌, ◌⊎◌, Bool, false, List, [], ◌∷◌, ◌++◌, length, map, flat_map, codes, Option, None, Some, Result, Ok, Err, is_ok}
 use Rattle.std.specs.List.{list_all}
 use Rattle.std.specs.Fmt.{decimal}
 use Rattle.std.specs.declared.string.String.{String}
 use Rattle.hex_display.specs.Text.{AppendsText}
-use Rattle.uefi_tcg.specs.v2.Header.{Header}
-use Rattle.uefi_tcg.specs.v2.Log.{HasHeaderOf}
+use Rattle.tcg_logs.specs.v2.Header.{Header}
+use Rattle.tcg_logs.specs.v2.Log.{HasHeaderOf}
 use Rattle.registers.specs.declared.bank.Bank.{Bank}
 use Rattle.registers.specs.declared.fault.Fault.{Fault}
 use Rattle.registers.specs.declared.fault.Fault.TheVariants.{NoRegister, NoDigest, TwoDigests, OtherLength}

@@ -1,12 +1,12 @@
 ghost use Rattle.std.specs.Prelude.{◌≡◌, map, IfOk};
-ghost use Rattle.uefi_tcg.specs.v2.Views.{table_of};
+ghost use Rattle.tcg_logs.specs.v2.Views.{table_of};
 ghost use Rattle.audit_lines.specs.Replay.{AreAsked};
 
 use crate::file::LogFile;
 use registers::Bank;
 use std::alloc::{AllocError, Allocator};
-use uefi_tcg::AlgorithmId;
-use uefi_tcg::v2::AlgorithmDigestSizes;
+use tcg_logs::AlgorithmId;
+use tcg_logs::v2::AlgorithmDigestSizes;
 
 /// Returns the algorithms whose banks are asked for: that of one bank, or without one each of the
 /// table in the log's header, SHA-1 in a log of version 1.

@@ -3,7 +3,7 @@ ghost use Rattle.registers.specs.declared.bank.Bank.{Bank};
 ghost use Rattle.audit_lines.specs.Banks.{bank_name, bank_of};
 
 use registers::Bank;
-use uefi_tcg::AlgorithmId;
+use tcg_logs::AlgorithmId;
 
 /// Returns the name of a bank, as tpm2-tools has it.
 pub fn bank_name(bank: Bank) -> &'static str

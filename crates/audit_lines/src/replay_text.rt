@@ -11,7 +11,7 @@ use crate::naming::{bank_name, bank_of};
 use crate::registers_text::push_bank;
 use registers::{Bank, Fault, Unreplayable, replay};
 use std::alloc::{AllocError, Allocator};
-use uefi_tcg::AlgorithmId;
+use tcg_logs::AlgorithmId;
 
 /// Appends the registers that a log leads to, a bank after another: of one bank, or without one of
 /// each algorithm in the table of the log's header, SHA-1 in a log of version 1.

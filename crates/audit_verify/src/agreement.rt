@@ -8,7 +8,7 @@ ghost use Rattle.audit_verify.specs.Agreement.{AgreeAt, AreBegunAt, IsNearest, I
 use crate::held::HeldRegister;
 use registers::laws::one_contents;
 use registers::{Bank, Log, Registers, Unreplayable, replay_begun_at};
-use uefi_tcg::PcrIndex;
+use tcg_logs::PcrIndex;
 
 /// Returns the locality at which all these registers hold what the log leads to: the one that is
 /// `stated`, or else the first of 0, 3 and 4. `None` if at none of them they do.

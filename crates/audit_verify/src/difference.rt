@@ -10,7 +10,7 @@ use crate::held::HeldRegister;
 use audit_lines::{bank_name, fault_text};
 use registers::{Log, Registers, Unreplayable};
 use std::alloc::{AllocError, Allocator};
-use uefi_tcg::PcrIndex;
+use tcg_logs::PcrIndex;
 
 /// Appends a line for each register that doesn't hold what the log leads to.
 pub(crate) fn push_differences<A: Allocator + Copy>(

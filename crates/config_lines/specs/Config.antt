@@ -2,7 +2,7 @@
 use Rattle.std.specs.Prelude.{◌≡◌, ℕ, List, ◌++◌, length, codes, flat_map, Option, Some, None, Result, Ok, Err}
 use Rattle.std.specs.Fmt.{decimal}
 use Rattle.std.specs.declared.string.String.{String}
-use Rattle.uefi_base.specs.GuidText.{guid_text}
+use Rattle.uefi_core.specs.GuidText.{guid_text}
 use Rattle.uefi_path.specs.Node.{Node, joined}
 use Rattle.uefi_hii.specs.declared.error.ConfigHdrSection.{ConfigHdrSection}
 use Rattle.uefi_hii.specs.declared.error.ConfigHdrSection.TheVariants as section

@@ -11,7 +11,7 @@ use Rattle.std.specs.Fmt.{digit_glyph, HasWritten, IsPlainFormatter}
 use Rattle.std.specs.Str.{IsAscii}
 use Rattle.std.specs.declared.fmt.Formatter.{Formatter}
 use Rattle.hex.specs.Hex.{encode_with, encode_lower, lower_digits}
-use Rattle.uefi_base.specs.GuidText.{hex_byte}
+use Rattle.uefi_core.specs.GuidText.{hex_byte}
 use Rattle.hex_display.specs.Text.{hex_of}
 
 -- The digits of two lists of bytes are joined.

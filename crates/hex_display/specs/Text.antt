@@ -2,7 +2,7 @@
 use Rattle.std.specs.Prelude.{◌≡◌, ℕ, List, [], ◌∷◌, ◌++◌, flat_map, false, string_bytes, codes}
 use Rattle.std.specs.declared.string.String.{String}
 use Rattle.std.specs.Fmt.{digits}
-use Rattle.uefi_base.specs.GuidText.{hex_byte}
+use Rattle.uefi_core.specs.GuidText.{hex_byte}
 
 -- Two lower case hex digits for each byte, joined.
 unfoldable pub hex_of : List ℕ → List ℕ

@@ -1,6 +1,6 @@
 ghost use Rattle.std.specs.Prelude.{◌≡◌, ◌≤◌, ◌<◌, length, false, IsAscii, Some};
 ghost use Rattle.std.specs.Fmt.{DisplaysOnOk, digit_glyph};
-ghost use Rattle.uefi_base.specs.GuidText.{hex_byte};
+ghost use Rattle.uefi_core.specs.GuidText.{hex_byte};
 ghost use Rattle.hex_display.specs.Text.{gap_before, hex_of, hex_number};
 
 use std::fmt;

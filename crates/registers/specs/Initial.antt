@@ -1,8 +1,8 @@
 -- What the registers hold before any event (TCG PC Client Platform TPM Profile, "PCR Initial and Reset Values"; TCG PC Client Platform Firmware Profile 1.06, 3.3 and 10, "Startup Locality Event").
 use Rattle.std.specs.Prelude.{ℕ, ◌-◌, ◌==◌, ◌&&◌, ◌++◌, List, [], ◌∷◌, length, take, slice_index, replicate, Option, None, Some, unwrap_or, if◌then◌else◌}
 use Rattle.std.specs.Str.{bytes_eq}
-use Rattle.uefi_tcg.specs.v2.Event.{Event}
-use Rattle.uefi_tcg.specs.v2.Header.{no_action}
+use Rattle.tcg_logs.specs.v2.Event.{Event}
+use Rattle.tcg_logs.specs.v2.Header.{no_action}
 use Rattle.registers.specs.Entries.{Entry}
 
 -- `StartupLocality`, and a zero byte.

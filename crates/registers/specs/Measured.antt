@@ -1,7 +1,7 @@
 -- Events whose digest is the hash of their data. Which events these are, their type says (TCG PC Client Platform Firmware Profile 1.06, 10.4.1); of others the data only tell about what was measured.
 use Rattle.std.specs.Prelude.{ℕ, List, Bool, false, Result, Ok, Err}
 use Rattle.std.specs.Str.{bytes_eq}
-use Rattle.uefi_tcg.specs.v2.Event.{Event}
+use Rattle.tcg_logs.specs.v2.Event.{Event}
 use Rattle.registers.specs.declared.bank.Bank.{Bank}
 use Rattle.registers.specs.declared.fault.Fault.{Fault}
 use Rattle.registers.specs.Banks.{hash_of}

@@ -1,7 +1,7 @@
 ghost use Rattle.std.specs.Prelude.{◌≡◌, ◌≤◌, ◌<◌, ℕ, IfSome, IfNone};
 ghost use Rattle.registers.specs.Banks.{algorithm_of, size_of};
 
-use uefi_tcg::AlgorithmId;
+use tcg_logs::AlgorithmId;
 
 /// A bank of registers: those whose values are digests of one algorithm.
 #[derive(Clone, Copy, PartialEq, Eq, Debug)]

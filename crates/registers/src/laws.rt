@@ -2,7 +2,7 @@
 
 ghost use Rattle.registers.specs.Laws.{OneContents};
 
-use uefi_tcg::laws::{one_log_v1, one_log_v2};
+use tcg_logs::laws::{one_log_v1, one_log_v2};
 
 /// States that bytes and a last entry are one log: it has one list of entries, with one end.
 pub fn one_contents()

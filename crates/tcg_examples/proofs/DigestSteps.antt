@@ -3,7 +3,7 @@ use Rattle.std.proofs.Common.{◌≡◌, ◌∙◌, ℕ, ◌+◌, ◌≤◌, Lis
 use Rattle.std.specs.Prelude.{MatchOption, Result, IfOk}
 use Rattle.std.proofs.lemmas.Result.{IfOk-weaker}
 use Rattle.uefi_base.specs.Prefix.{IsPrefix}
-use Rattle.uefi_tcg.specs.declared.v2.event.PcrEvent.{PcrEvent}
+use Rattle.tcg_logs.specs.declared.v2.event.PcrEvent.{PcrEvent}
 use Rattle.uefi_tcg.specs.v1.Laws.{SameUpTo}
 use Rattle.uefi_tcg.specs.v2.Event.{Event, Table}
 use Rattle.uefi_tcg.specs.v2.Header.{HeaderEvent, Start}

@@ -1,7 +1,7 @@
 -- Logs of version 1 in a caller: a log with what it is of, and one step of an iterator over it.
 use Rattle.std.proofs.Common.{◌≡◌, ◌∙◌, ℕ, ◌+◌, List, [], ◌∷◌, Option, None, Some, sym, ap, subst}
 use Rattle.std.specs.Prelude.{MatchOption}
-use Rattle.uefi_tcg.specs.declared.v1.event.PcrEvent.{PcrEvent}
+use Rattle.tcg_logs.specs.declared.v1.event.PcrEvent.{PcrEvent}
 use Rattle.uefi_tcg.specs.v1.Event.{Event}
 use Rattle.uefi_tcg.specs.v1.Iteration.{Iteration, KeepsNext}
 use Rattle.uefi_tcg.specs.v1.Laws.{IsLocal, LastEndsAt, Logged, OneLog, SameUpTo}

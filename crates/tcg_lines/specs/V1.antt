@@ -3,9 +3,9 @@ use Rattle.std.specs.Prelude.{ℕ, List, ◌++◌, length, codes, flat_map}
 use Rattle.std.specs.Fmt.{decimal}
 use Rattle.std.specs.Int.{w32, to_be_bytes}
 use Rattle.std.specs.declared.string.String.{String}
-use Rattle.uefi_tcg.specs.LogInput.{LogInput}
-use Rattle.uefi_tcg.specs.v1.Event.{Event}
-use Rattle.uefi_tcg.specs.v1.Log.{IsLogOf}
+use Rattle.tcg_logs.specs.LogInput.{LogInput}
+use Rattle.tcg_logs.specs.v1.Event.{Event}
+use Rattle.tcg_logs.specs.v1.Log.{IsLogOf}
 use Rattle.hex_display.specs.Text.{gap_before, hex_of, AppendsText}
 
 -- The register in decimal, the type as `0x` and eight hex digits, the digest in hex, and the data in hex if there is any.

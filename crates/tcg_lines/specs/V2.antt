@@ -3,12 +3,12 @@ use Rattle.std.specs.Prelude.{ℕ, List, ◌++◌, length, codes, flat_map, Opti
 use Rattle.std.specs.Fmt.{decimal}
 use Rattle.std.specs.Int.{w16, w32, to_be_bytes}
 use Rattle.std.specs.declared.string.String.{String}
-use Rattle.uefi_tcg.specs.LogInput.{LogInput}
-use Rattle.uefi_tcg.specs.v2.Event.{Digest, Event}
-use Rattle.uefi_tcg.specs.declared.v2.start.Start.{Start as StartNamed}
-use Rattle.uefi_tcg.specs.v2.Header.{Header, Start}
-use Rattle.uefi_tcg.specs.v2.Log.{HasHeaderOf, IsLogOf}
-use Rattle.uefi_tcg.specs.v2.Views.{start_named}
+use Rattle.tcg_logs.specs.LogInput.{LogInput}
+use Rattle.tcg_logs.specs.v2.Event.{Digest, Event}
+use Rattle.tcg_logs.specs.declared.v2.start.Start.{Start as StartNamed}
+use Rattle.tcg_logs.specs.v2.Header.{Header, Start}
+use Rattle.tcg_logs.specs.v2.Log.{HasHeaderOf, IsLogOf}
+use Rattle.tcg_logs.specs.v2.Views.{start_named}
 use Rattle.hex_display.specs.Text.{gap_before, hex_of, AppendsText}
 
 -- The platform class, the version of the specification and the size of a `UINTN`, in decimal.

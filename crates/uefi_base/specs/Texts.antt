@@ -1,26 +1,12 @@
--- What statuses and errors display as.
+-- What statuses and errors display as: those of the crate below, and those of texts.
 use Rattle.std.specs.Prelude.{ℕ, List, ◌++◌, codes, decimal}
-use Rattle.uefi_base.specs.declared.status.Status.{Status}
-use Rattle.uefi_base.specs.declared.status.Status.TheVariants.{INVALID_PARAMETER, BAD_BUFFER_SIZE, BUFFER_TOO_SMALL, OUT_OF_RESOURCES}
-use Rattle.uefi_base.specs.declared.status.Error.{Error}
 use Rattle.uefi_base.specs.declared.text_error.FromSliceWithNulError.{FromSliceWithNulError}
 use Rattle.uefi_base.specs.declared.text_error.FromSliceWithNulError.TheVariants.{TooLong, InvalidChar, InteriorNul, NotNulTerminated}
 use Rattle.uefi_base.specs.declared.text_error.FromStrError.{FromStrError}
 use Rattle.uefi_base.specs.declared.text_error.FromStrError.TheVariants.{TooLong as StrTooLong, InvalidChar as StrInvalidChar, InteriorNul as StrInteriorNul, Memory as StrMemory}
 use Rattle.uefi_base.specs.declared.text_error.UnalignedCStr16Error.{UnalignedCStr16Error}
 use Rattle.uefi_base.specs.declared.text_error.UnalignedCStr16Error.TheVariants.{TooLong as UnalignedTooLong, InvalidChar as UnalignedInvalidChar, InteriorNul as UnalignedInteriorNul, NotNulTerminated as UnalignedNotNulTerminated, Memory as UnalignedMemory}
-use Rattle.uefi_base.specs.Views.{error_status}
-
--- A status: its name in the standard.
-abbrev pub status_name : Status → List ℕ
-status_name INVALID_PARAMETER = codes "INVALID_PARAMETER"
-status_name BAD_BUFFER_SIZE = codes "BAD_BUFFER_SIZE"
-status_name BUFFER_TOO_SMALL = codes "BUFFER_TOO_SMALL"
-status_name OUT_OF_RESOURCES = codes "OUT_OF_RESOURCES"
-
--- An error: its status, whatever its data is.
-abbrev pub error_text : {D : Type 0} → Error D → List ℕ
-error_text error = codes "UEFI error " ++ status_name (error_status error)
+pub use Rattle.uefi_core.specs.Texts.{status_name, error_text}
 
 -- The errors of units and of characters.
 abbrev pub slice_error_text : FromSliceWithNulError → List ℕ

@@ -4,9 +4,8 @@ use Rattle.uefi_base.specs.declared.cstr16.CStr16.{CStr16}
 use Rattle.uefi_base.specs.declared.cstring16.CString16.{CString16}
 use Rattle.uefi_base.specs.declared.unaligned.UnalignedSlice.{UnalignedSlice}
 use Rattle.uefi_base.specs.declared.unaligned.UnalignedSliceIter.{UnalignedSliceIter}
-use Rattle.uefi_base.specs.declared.status.Status.{Status}
-use Rattle.uefi_base.specs.declared.status.Error.{Error}
 use Rattle.uefi_base.specs.Unaligned.{units_of}
+pub use Rattle.uefi_core.specs.Views.{error_status, error_data}
 
 -- The units of the text, including the NUL.
 abbrev pub text_units : CStr16 → List ℕ
@@ -23,10 +22,3 @@ slice_units slice = units_of slice.bytes.now
 -- The units that the iterator hasn't returned yet.
 abbrev pub units_left : UnalignedSliceIter → List ℕ
 units_left iter = units_of iter.rest.now
-
--- The status and the data of an error.
-abbrev pub error_status : {D : Type 0} → Error D → Status
-error_status error = error.status
-
-abbrev pub error_data : {D : Type 0} → Error D → D
-error_data error = error.«data»

@@ -5,20 +5,13 @@
 //! parts.
 
 ghost use Rattle.std.specs.Prelude.{◌≡◌, ◌+◌, ◌*◌, ◌≤◌, length};
-ghost use Rattle.uefi_base.specs.Buffer.{put_at};
+ghost use Rattle.uefi_core.specs.Buffer.{put_at};
 ghost use Rattle.uefi_base.specs.Unaligned.{unit_bytes};
 
-/// Copies `part` into `buffer` at `offset`.
-pub fn put(buffer: &mut [u8], offset: usize, part: &[u8])
-    requires { offset + length part.now ≤ length buffer.old }
-    ensures { buffer.new ≡ put_at offset part.now buffer.old }
-{
-    let end = offset + part.len();
-    buffer[offset..end].copy_from_slice(part);
-}
+pub use uefi_core::buffer::put;
 
 /// Copies `units` into `buffer` at `offset`, two bytes each, little-endian.
-#[tactic(auto, using(crate::proofs::Parts::units_put))]
+#[tactic(auto, using(crate::proofs::UnitsPut::units_put))]
 pub fn put_units(buffer: &mut [u8], offset: usize, units: &[u16])
     requires { offset + 2 * length units.now ≤ length buffer.old }
     ensures { buffer.new ≡ put_at offset (unit_bytes units.now) buffer.old }

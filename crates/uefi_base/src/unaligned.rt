@@ -9,11 +9,11 @@ ghost use Rattle.uefi_base.specs.private.Search.{IsFirstNonCharacter};
 ghost use Rattle.uefi_base.specs.declared.text_error.FromSliceWithNulError.{FromSliceWithNulError};
 
 use crate::cstring16::CString16;
-use crate::little_endian::u16_at;
 use crate::text_error::{FromSliceWithNulError, UnalignedCStr16Error};
 use crate::ucs2::{fault_of, is_character};
 use std::alloc::Allocator;
 use std::iter::{ExactSizeIterator, FusedIterator};
+use uefi_core::little_endian::u16_at;
 
 /// A slice of 16-bit units (UEFI 2.10, 2.3.1, `CHAR16`) in bytes, which may start at any address.
 ///

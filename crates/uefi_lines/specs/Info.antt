@@ -3,8 +3,8 @@ use Rattle.std.specs.Prelude.{ℕ, List, [], ◌∷◌, ◌++◌, codes, flat_ma
 use Rattle.std.specs.Fmt.{decimal}
 use Rattle.std.specs.Int.{w16, to_be_bytes}
 use Rattle.uefi_base.specs.Ucs2.{characters_of}
-use Rattle.uefi_records.specs.time.Fields.{TimeFields, time_bytes}
-use Rattle.uefi_records.specs.file.FileInfo.{FileFields}
+use Rattle.file_records.specs.time.Fields.{TimeFields, time_bytes}
+use Rattle.file_records.specs.file.FileInfo.{FileFields}
 use Rattle.hex_display.specs.Text.{hex_of, hex_number}
 
 -- Four hex digits for each unit, joined.

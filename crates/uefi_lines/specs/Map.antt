@@ -3,10 +3,10 @@ use Rattle.std.specs.Prelude.{◌↔◌, ℕ, Bool, List, ◌++◌, length, code
 use Rattle.std.specs.Fmt.{decimal}
 use Rattle.std.specs.declared.string.String.{String}
 use Rattle.hex_display.specs.Text.{hex_number, AppendsText}
-use Rattle.uefi_map.specs.declared.memory.descriptor.MemoryDescriptor.{MemoryDescriptor}
-use Rattle.uefi_map.specs.declared.memory.meta.MemoryMapMeta.{MemoryMapMeta}
-use Rattle.uefi_map.specs.memory.Map.{AreSorted, entries_of}
-use Rattle.uefi_map.specs.memory.Views.{attribute_bits}
+use Rattle.memory_maps.specs.declared.memory.descriptor.MemoryDescriptor.{MemoryDescriptor}
+use Rattle.memory_maps.specs.declared.memory.meta.MemoryMapMeta.{MemoryMapMeta}
+use Rattle.memory_maps.specs.memory.Map.{AreSorted, entries_of}
+use Rattle.memory_maps.specs.memory.Views.{attribute_bits}
 
 -- The type and the page count in decimal, the addresses and the attributes in hex.
 unfoldable pub entry_line : MemoryDescriptor → List ℕ

@@ -1,9 +1,9 @@
 -- The lines of a list of PCI resources.
 use Rattle.std.specs.Prelude.{ℕ, List, ◌++◌, length, codes, flat_map}
 use Rattle.std.specs.Fmt.{decimal}
-use Rattle.uefi_map.specs.declared.pci.resource.QwordAddressSpaceDescriptor.{QwordAddressSpaceDescriptor}
-use Rattle.uefi_map.specs.declared.pci.resource.ResourceRangeType.{ResourceRangeType}
-use Rattle.uefi_map.specs.declared.pci.resource.ResourceRangeType.TheVariants as kind
+use Rattle.memory_maps.specs.declared.pci.resource.QwordAddressSpaceDescriptor.{QwordAddressSpaceDescriptor}
+use Rattle.memory_maps.specs.declared.pci.resource.ResourceRangeType.{ResourceRangeType}
+use Rattle.memory_maps.specs.declared.pci.resource.ResourceRangeType.TheVariants as kind
 use Rattle.hex_display.specs.Text.{hex_number}
 
 -- The name of a range's type, with its number if it has no name.

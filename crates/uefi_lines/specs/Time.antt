@@ -2,7 +2,7 @@
 use Rattle.std.specs.Prelude.{ℕ, ◌-◌, List, ◌++◌, length, codes, replicate, if◌then◌else◌}
 use Rattle.std.specs.Fmt.{decimal, signed_decimal}
 use Rattle.std.specs.Ordering.{int_eq}
-use Rattle.uefi_records.specs.time.Fields.{TimeFields, unspecified_zone}
+use Rattle.file_records.specs.time.Fields.{TimeFields, unspecified_zone}
 
 -- The number in decimal, with zeros before it up to this many digits.
 abbrev pub with_zeros : ℕ → ℕ → List ℕ

@@ -4,15 +4,15 @@ ghost use Rattle.std.specs.Int.{w16, to_be_bytes};
 ghost use Rattle.hex_display.specs.Text.{AppendsText};
 ghost use Rattle.uefi_base.specs.Ucs2.{characters_of};
 ghost use Rattle.uefi_base.specs.Views.{slice_units};
-ghost use Rattle.uefi_records.specs.file.Views.{stated_size, file_fields_of, file_name_of};
-ghost use Rattle.uefi_records.specs.time.Views.{time_of};
+ghost use Rattle.file_records.specs.file.Views.{stated_size, file_fields_of, file_name_of};
+ghost use Rattle.file_records.specs.time.Views.{time_of};
 ghost use Rattle.uefi_lines.specs.Info.{info_lines, stamp_text, name_field, units_hex};
 
+use file_records::{FileInfo, Time};
 use hex_display::{Hex, HexNumber, write_hex};
 use std::alloc::{AllocError, Allocator};
 use std::fmt;
 use uefi_base::UnalignedSlice;
-use uefi_records::{FileInfo, Time};
 
 /// How many units of a name are written at a time.
 const BLOCK_UNITS: usize = 32;

@@ -1,12 +1,12 @@
 ghost use Rattle.std.specs.Prelude.{◌≡◌, flat_map, OnOk};
 ghost use Rattle.hex_display.specs.Text.{AppendsText};
-ghost use Rattle.uefi_map.specs.memory.Map.{entries_of};
-ghost use Rattle.uefi_map.specs.memory.Views.{ref_bytes, ref_meta};
+ghost use Rattle.memory_maps.specs.memory.Map.{entries_of};
+ghost use Rattle.memory_maps.specs.memory.Views.{ref_bytes, ref_meta};
 ghost use Rattle.uefi_lines.specs.Map.{entry_line, yes_or_no, AppendsMapLines};
 
 use hex_display::HexNumber;
+use memory_maps::{MemoryDescriptor, MemoryMap, MemoryMapRef};
 use std::alloc::{AllocError, Allocator};
-use uefi_map::{MemoryDescriptor, MemoryMap, MemoryMapRef};
 
 /// Appends the lines of a memory map: for each descriptor `entry TYPE PHYS VIRT PAGES ATTRIBUTES`,
 /// type and page count in decimal, the others as `0x` and hex; `sorted yes` or `sorted no`, as the

@@ -1,12 +1,12 @@
 ghost use Rattle.std.specs.Prelude.{OnOk, Some};
 ghost use Rattle.hex_display.specs.Text.{AppendsText};
-ghost use Rattle.uefi_map.specs.pci.Views.{resources_of};
+ghost use Rattle.memory_maps.specs.pci.Views.{resources_of};
 ghost use Rattle.uefi_lines.specs.Pci.{kind_text, resource_line, resource_lines};
 
 use hex_display::HexNumber;
+use memory_maps::{QwordAddressSpaceDescriptor, ResourceList, ResourceRangeType};
 use std::alloc::{AllocError, Allocator};
 use std::fmt;
-use uefi_map::{QwordAddressSpaceDescriptor, ResourceList, ResourceRangeType};
 
 /// Appends the lines of a list of PCI resources: for each range `resource KIND GENERAL SPECIFIC
 /// GRANULARITY MIN MAX OFFSET LENGTH`, both flags in decimal, the numbers after them as `0x` and

@@ -1,11 +1,11 @@
 ghost use Rattle.std.specs.Prelude.{OnOk, Some};
 ghost use Rattle.hex_display.specs.Text.{AppendsText};
-ghost use Rattle.uefi_records.specs.time.Views.{time_of};
+ghost use Rattle.file_records.specs.time.Views.{time_of};
 ghost use Rattle.uefi_lines.specs.Time.{date_text, clock_text, zone_text, time_line};
 
+use file_records::Time;
 use std::alloc::{AllocError, Allocator};
 use std::fmt;
-use uefi_records::Time;
 
 /// Appends the line of a time, `time YYYY-MM-DD HH:MM:SS.NNNNNNNNN ZONE DAYLIGHT`.
 ///

@@ -1,8 +1,8 @@
 -- A refused record, from the error that its reader returned.
 use Rattle.std.proofs.Common.{◌≡◌, ◌∙◌, ℕ, Option, List, ap}
-use Rattle.uefi_base.specs.declared.status.Error.{Error}
-use Rattle.uefi_base.specs.Views.{error_data}
-use Rattle.uefi_records.specs.file.Verdict.{Verdict, without_name, too_small, accepted, Refuses}
+use Rattle.uefi_core.specs.declared.status.Error.{Error}
+use Rattle.uefi_core.specs.Views.{error_data}
+use Rattle.file_records.specs.file.Verdict.{Verdict, without_name, too_small, accepted, Refuses}
 use Rattle.uefi_listing.specs.Listing.Info.{refused_info_line, RefusesInfo}
 
 -- The line of an error is that of the verdict that it stands for.

@@ -8,7 +8,7 @@ pub mod Pci
 pub mod Time
 pub mod Info
 use Rattle.std.specs.Prelude.{ℕ, List}
-use Rattle.uefi_tcg.specs.v2.Header.{after_header, after_event}
+use Rattle.tcg_logs.specs.v2.Header.{after_header, after_event}
 use Rattle.uefi_listing.specs.declared.command.Command.{Command}
 use Rattle.uefi_listing.specs.declared.command.Command.TheVariants as command
 use Rattle.uefi_listing.specs.declared.listing.Outcome.{Outcome}

@@ -4,7 +4,7 @@ ghost use Rattle.uefi_listing.specs.Listing.{Listing};
 
 use crate::command::Command;
 use std::alloc::{AllocError, Allocator};
-use uefi_tcg::v2::Start;
+use tcg_logs::v2::Start;
 
 mod commands;
 

@@ -1,3 +1,3 @@
 -- Worked rows: examples of the definitions.
 pub mod Maps
-pub mod Lists
+pub use Rattle.memory_maps.specs.rows.Lists

@@ -1,9 +1,8 @@
 -- The worked rows hold.
-use Rattle.uefi_records.specs.time.Fields.{time_bytes}
-use Rattle.uefi_records.specs.file.FileInfo.{file_header}
+use Rattle.file_records.proofs.Rows.{rows_hold as file_rows_hold}
 use Rattle.uefi_records.specs.file.FileSystemInfo.{file_system_header}
 use Rattle.uefi_records.specs.rows.Records.{RowsHold}
 
 pub rows_hold : RowsHold
-unfolding time_bytes file_header file_system_header
-rows_hold = assumption
+unfolding file_system_header
+rows_hold = (file_rows_hold, assumption, assumption, assumption, assumption)

@@ -1,6 +1,5 @@
-pub mod time
-pub mod flags
+pub use Rattle.file_records.specs.time
+pub use Rattle.file_records.specs.flags
 pub mod file
 pub mod Laws
 pub mod rows
-pub mod private

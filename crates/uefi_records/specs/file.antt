@@ -1,8 +1,8 @@
 -- The records that describe files and file systems.
-pub mod Name
-pub mod Verdict
-pub mod FileInfo
+pub use Rattle.file_records.specs.file.Name
+pub use Rattle.file_records.specs.file.Verdict
+pub use Rattle.file_records.specs.file.FileInfo
 pub mod FileSystemInfo
 pub mod Identity
-pub mod Texts
+pub use Rattle.file_records.specs.file.Texts
 pub mod Views

@@ -1,8 +1,8 @@
 -- What `info` lists: the file information record in the bytes that were written.
 use Rattle.std.specs.Prelude.{◌≡◌, ℕ, Option, None, Some, List, ◌++◌, length, take, codes}
 use Rattle.std.specs.Fmt.{decimal}
-use Rattle.uefi_records.specs.file.FileInfo.{file_fields, file_info_verdict, size_in}
-use Rattle.uefi_records.specs.file.Verdict.{Verdict, without_name, too_small, accepted}
+use Rattle.file_records.specs.file.FileInfo.{file_fields, file_info_verdict, size_in}
+use Rattle.file_records.specs.file.Verdict.{Verdict, without_name, too_small, accepted}
 use Rattle.uefi_lines.specs.Info.{info_lines}
 use Rattle.uefi_listing.specs.declared.listing.Outcome.{Outcome}
 use Rattle.uefi_listing.specs.declared.listing.Outcome.TheVariants.{Listed, Refused}

@@ -1,7 +1,7 @@
 -- What `log1` lists: the bytes as a version 1 event log.
 use Rattle.std.specs.Prelude.{◌≡◌, ℕ, List, Option, Some}
-use Rattle.uefi_tcg.specs.v1.Event.{Event}
-use Rattle.uefi_tcg.specs.v1.Log.{IsLogOf}
+use Rattle.tcg_logs.specs.v1.Event.{Event}
+use Rattle.tcg_logs.specs.v1.Log.{IsLogOf}
 use Rattle.tcg_lines.specs.V1.{log_lines}
 use Rattle.uefi_listing.specs.declared.listing.Outcome.{Outcome}
 use Rattle.uefi_listing.specs.declared.listing.Outcome.TheVariants.{Listed, Refused}

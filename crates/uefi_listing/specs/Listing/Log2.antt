@@ -1,8 +1,8 @@
 -- What `log2` and `log2after` list: the bytes as a version 2 event log, from one of its two starts, and its header.
 use Rattle.std.specs.Prelude.{◌≡◌, ℕ, List, ◌++◌, Option, Some}
-use Rattle.uefi_tcg.specs.v2.Event.{Event}
-use Rattle.uefi_tcg.specs.v2.Header.{Header, Start}
-use Rattle.uefi_tcg.specs.v2.Log.{IsLogOf}
+use Rattle.tcg_logs.specs.v2.Event.{Event}
+use Rattle.tcg_logs.specs.v2.Header.{Header, Start}
+use Rattle.tcg_logs.specs.v2.Log.{IsLogOf}
 use Rattle.tcg_lines.specs.V2.{IsHeaderOf, log_header_lines, log_lines}
 use Rattle.uefi_listing.specs.declared.listing.Outcome.{Outcome}
 use Rattle.uefi_listing.specs.declared.listing.Outcome.TheVariants.{Listed, Refused}

@@ -1,7 +1,7 @@
 -- What `map` lists: the memory map that all the bytes are at a stride.
 use Rattle.std.specs.Prelude.{◌≡◌, ◌↔◌, ℕ, Bool, List, length, codes, IsTrue}
-use Rattle.uefi_map.specs.declared.memory.meta.MemoryMapMeta.{MemoryMapMeta}
-use Rattle.uefi_map.specs.memory.Map.{IsMap, AreSorted, entries_of}
+use Rattle.memory_maps.specs.declared.memory.meta.MemoryMapMeta.{MemoryMapMeta}
+use Rattle.memory_maps.specs.memory.Map.{IsMap, AreSorted, entries_of}
 use Rattle.uefi_lines.specs.Map.{map_lines}
 use Rattle.uefi_listing.specs.declared.listing.Outcome.{Outcome}
 use Rattle.uefi_listing.specs.declared.listing.Outcome.TheVariants.{Listed, Refused}

@@ -1,6 +1,6 @@
 -- What `path` lists: the device path that is a prefix of the bytes.
 use Rattle.std.specs.Prelude.{◌≡◌, ℕ, List, codes}
-use Rattle.uefi_base.specs.Prefix.{IsPrefix}
+use Rattle.uefi_core.specs.Prefix.{IsPrefix}
 use Rattle.uefi_path.specs.Node.{Node, joined}
 use Rattle.uefi_path.specs.Path.{IsPath, HasPath, AreInstances}
 use Rattle.uefi_lines.specs.Path.{path_lines}

@@ -1,10 +1,10 @@
 -- What `pci` lists: the PCI resources that the bytes begin with.
 use Rattle.std.specs.Prelude.{◌≡◌, ℕ, List, [], ◌++◌, codes}
 use Rattle.std.specs.Fmt.{decimal}
-use Rattle.uefi_map.specs.declared.pci.resource.QwordAddressSpaceDescriptor.{QwordAddressSpaceDescriptor}
-use Rattle.uefi_map.specs.declared.pci.resource_error.ResourceError.{ResourceError}
-use Rattle.uefi_map.specs.declared.pci.resource_error.ResourceError.TheVariants.{NoEndTag, CutRecord, UnknownTag, Memory}
-use Rattle.uefi_map.specs.pci.ResourceList.{HaveList, HaveFault}
+use Rattle.memory_maps.specs.declared.pci.resource.QwordAddressSpaceDescriptor.{QwordAddressSpaceDescriptor}
+use Rattle.memory_maps.specs.declared.pci.resource_error.ResourceError.{ResourceError}
+use Rattle.memory_maps.specs.declared.pci.resource_error.ResourceError.TheVariants.{NoEndTag, CutRecord, UnknownTag, Memory}
+use Rattle.memory_maps.specs.pci.ResourceList.{HaveList, HaveFault}
 use Rattle.uefi_lines.specs.Pci.{resource_lines}
 use Rattle.uefi_listing.specs.declared.listing.Outcome.{Outcome}
 use Rattle.uefi_listing.specs.declared.listing.Outcome.TheVariants.{Listed, Refused}

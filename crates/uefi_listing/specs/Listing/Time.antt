@@ -1,10 +1,10 @@
 -- What `time` lists: the time in the first sixteen bytes.
 use Rattle.std.specs.Prelude.{◌≡◌, ℕ, List, codes}
-use Rattle.uefi_records.specs.declared.time.error.TimeByteConversionError.{TimeByteConversionError}
-use Rattle.uefi_records.specs.declared.time.error.TimeByteConversionError.TheVariants.{InvalidFields, InvalidSize}
-use Rattle.uefi_records.specs.time.Fields.{TimeFields, StandsIn}
-use Rattle.uefi_records.specs.time.Faults.{reading_faults, no_fault}
-use Rattle.uefi_records.specs.time.Reading.{RefusesTime}
+use Rattle.file_records.specs.declared.time.error.TimeByteConversionError.{TimeByteConversionError}
+use Rattle.file_records.specs.declared.time.error.TimeByteConversionError.TheVariants.{InvalidFields, InvalidSize}
+use Rattle.file_records.specs.time.Fields.{TimeFields, StandsIn}
+use Rattle.file_records.specs.time.Faults.{reading_faults, no_fault}
+use Rattle.file_records.specs.time.Reading.{RefusesTime}
 use Rattle.uefi_lines.specs.Time.{time_line}
 use Rattle.uefi_listing.specs.declared.listing.Outcome.{Outcome}
 use Rattle.uefi_listing.specs.declared.listing.Outcome.TheVariants.{Listed, Refused}

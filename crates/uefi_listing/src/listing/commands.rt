@@ -3,8 +3,8 @@
 
 ghost use Rattle.std.specs.Prelude.{◌≡◌, IfOk, OnOk};
 ghost use Rattle.hex_display.specs.Text.{AppendsText};
-ghost use Rattle.uefi_base.specs.Views.{error_data};
-ghost use Rattle.uefi_tcg.specs.v2.Views.{start_named};
+ghost use Rattle.uefi_core.specs.Views.{error_data};
+ghost use Rattle.tcg_logs.specs.v2.Views.{start_named};
 ghost use Rattle.uefi_listing.specs.private.Appending.{AppendsListing};
 ghost use Rattle.uefi_listing.specs.Listing.Path.{PathListing};
 ghost use Rattle.uefi_listing.specs.Listing.Log1.{Log1Listing};
@@ -17,14 +17,14 @@ ghost use Rattle.uefi_listing.specs.Listing.Info.{refused_info_line, InfoListing
 
 use super::Outcome;
 use config_lines::push_configurations;
+use file_records::{FileInfo, Time, TimeByteConversionError};
+use memory_maps::{MemoryDescriptor, MemoryMapMeta, MemoryMapRef, ResourceError, ResourceList};
 use std::alloc::{AllocError, Allocator};
-use uefi_base::Error;
+use tcg_logs::{v1, v2};
+use uefi_core::Error;
 use uefi_hii::MultiConfigurationStringIter;
 use uefi_lines::{push_info, push_map, push_path, push_resources, push_time};
-use uefi_map::{MemoryDescriptor, MemoryMapMeta, MemoryMapRef, ResourceError, ResourceList};
 use uefi_path::{ByteConversionError, DevicePath};
-use uefi_records::{FileInfo, Time, TimeByteConversionError};
-use uefi_tcg::{v1, v2};
 
 /// Appends the listing of the device path that is a prefix of the bytes.
 pub(super) fn push_path_listing<A: Allocator>(

@@ -1,123 +1,28 @@
-ghost use Rattle.std.specs.Prelude.{◌≡◌, ◌≤◌, length};
-ghost use Rattle.uefi_map.specs.memory.Descriptor.{Fits, descriptor_in, encoding};
+ghost use Rattle.std.specs.Prelude.{◌≡◌, length};
+ghost use Rattle.uefi_map.specs.memory.Descriptor.{Fits, encoding};
 
-use super::memory_attribute::MemoryAttribute;
-use super::memory_type::MemoryType;
-use uefi_base::Align;
-use uefi_base::little_endian::{u32_at, u64_at};
+use memory_maps::MemoryDescriptor;
+use memory_maps::layout::{
+    ATTRIBUTE_OFFSET, DESCRIPTOR_LENGTH, PADDING_OFFSET, PAGE_COUNT_OFFSET, PHYS_START_OFFSET,
+    VIRT_START_OFFSET,
+};
 
-/// The length of a descriptor.
-pub(crate) const DESCRIPTOR_LENGTH: usize = 40;
-
-/// What the offset of each descriptor in memory is a multiple of.
-pub(crate) const DESCRIPTOR_ALIGNMENT: usize = 8;
-
-// The offsets of the fields.
-const TYPE_OFFSET: usize = 0;
-
-const PADDING_OFFSET: usize = 4;
-
-const PHYS_START_OFFSET: usize = 8;
-
-const VIRT_START_OFFSET: usize = 16;
-
-const PAGE_COUNT_OFFSET: usize = 24;
-
-const ATTRIBUTE_OFFSET: usize = 32;
-
-/// A range of memory (UEFI 2.10, 7.2 `EFI_BOOT_SERVICES.GetMemoryMap()`, `EFI_MEMORY_DESCRIPTOR`).
-///
-/// | offset | bytes | field |
-/// |---|---|---|
-/// | 0 | 4 | type |
-/// | 4 | 4 | padding |
-/// | 8 | 8 | first physical address |
-/// | 16 | 8 | first virtual address |
-/// | 24 | 8 | count of pages, of 4096 bytes each |
-/// | 32 | 8 | attributes |
-///
-/// All numbers are little-endian. Every number is kept as it was read, and so is the padding.
-#[derive(Clone, Copy, PartialEq, Eq, Debug)]
-pub struct MemoryDescriptor {
-    /// What the memory is for.
-    pub ty: MemoryType,
-    /// Four bytes without a meaning.
-    pub padding: u32,
-    /// The first physical address.
-    pub phys_start: u64,
-    /// The first virtual address, if the memory is mapped.
-    pub virt_start: u64,
-    /// The count of pages, of 4096 bytes each.
-    pub page_count: u64,
-    /// What the memory is capable of.
-    pub att: MemoryAttribute,
-}
-
-impl MemoryDescriptor {
-    /// The version of the descriptors that this type reads and writes.
-    pub const VERSION: u32 = 1;
-
-    /// Returns the descriptor in the first forty bytes.
-    #[tactic(auto, unfolding(crate::specs::memory::Descriptor::descriptor_in))]
-    pub(crate) fn read(bytes: &[u8]) -> MemoryDescriptor
-        requires { DESCRIPTOR_LENGTH ≤ length bytes.now }
-        ensures { result ≡ descriptor_in bytes.now }
-    {
-        MemoryDescriptor {
-            ty: MemoryType(u32_at(bytes, TYPE_OFFSET)),
-            padding: u32_at(bytes, PADDING_OFFSET),
-            phys_start: u64_at(bytes, PHYS_START_OFFSET),
-            virt_start: u64_at(bytes, VIRT_START_OFFSET),
-            page_count: u64_at(bytes, PAGE_COUNT_OFFSET),
-            att: MemoryAttribute::from_bits_retain(u64_at(bytes, ATTRIBUTE_OFFSET)),
-        }
-    }
-
-    /// Writes the descriptor to forty bytes.
-    #[tactic(auto, unfolding(crate::specs::memory::Descriptor::encoding))]
-    pub(crate) fn write(&self, bytes: &mut [u8])
-        requires { length bytes.old ≡ DESCRIPTOR_LENGTH }
-        ensures bytes { bytes.new ≡ encoding self.now }
-        ensures fits { Fits self.now }
-    {
-        let (ty, rest) = bytes.split_at_mut(PADDING_OFFSET);
-        ty.copy_from_slice(&self.ty.0.to_le_bytes());
-        let (padding, rest) = rest.split_at_mut(PHYS_START_OFFSET - PADDING_OFFSET);
-        padding.copy_from_slice(&self.padding.to_le_bytes());
-        let (phys_start, rest) = rest.split_at_mut(VIRT_START_OFFSET - PHYS_START_OFFSET);
-        phys_start.copy_from_slice(&self.phys_start.to_le_bytes());
-        let (virt_start, rest) = rest.split_at_mut(PAGE_COUNT_OFFSET - VIRT_START_OFFSET);
-        virt_start.copy_from_slice(&self.virt_start.to_le_bytes());
-        let (page_count, att) = rest.split_at_mut(ATTRIBUTE_OFFSET - PAGE_COUNT_OFFSET);
-        page_count.copy_from_slice(&self.page_count.to_le_bytes());
-        att.copy_from_slice(&self.att.bits().to_le_bytes());
-    }
-}
-
-/// Every field is zero: reserved memory of no pages at address 0, without attributes.
-impl Default for MemoryDescriptor {
-    ghost use Rattle.uefi_map.specs.memory.Descriptor.{zero_descriptor};
-
-    ghost is_default = { λ d. d ≡ zero_descriptor };
-
-    fn default() -> MemoryDescriptor {
-        MemoryDescriptor {
-            ty: MemoryType::RESERVED,
-            padding: 0,
-            phys_start: 0,
-            virt_start: 0,
-            page_count: 0,
-            att: MemoryAttribute::empty(),
-        }
-    }
-}
-
-impl Align for MemoryDescriptor {
-    ghost use Rattle.uefi_map.specs.memory.Descriptor.{descriptor_alignment};
-
-    ghost alignment = { descriptor_alignment };
-
-    fn alignment() -> usize {
-        DESCRIPTOR_ALIGNMENT
-    }
+/// Writes the descriptor to forty bytes.
+#[tactic(auto, unfolding(crate::specs::memory::Descriptor::encoding))]
+pub(crate) fn write(entry: &MemoryDescriptor, bytes: &mut [u8])
+    requires { length bytes.old ≡ DESCRIPTOR_LENGTH }
+    ensures bytes { bytes.new ≡ encoding entry.now }
+    ensures fits { Fits entry.now }
+{
+    let (ty, rest) = bytes.split_at_mut(PADDING_OFFSET);
+    ty.copy_from_slice(&entry.ty.0.to_le_bytes());
+    let (padding, rest) = rest.split_at_mut(PHYS_START_OFFSET - PADDING_OFFSET);
+    padding.copy_from_slice(&entry.padding.to_le_bytes());
+    let (phys_start, rest) = rest.split_at_mut(VIRT_START_OFFSET - PHYS_START_OFFSET);
+    phys_start.copy_from_slice(&entry.phys_start.to_le_bytes());
+    let (virt_start, rest) = rest.split_at_mut(PAGE_COUNT_OFFSET - VIRT_START_OFFSET);
+    virt_start.copy_from_slice(&entry.virt_start.to_le_bytes());
+    let (page_count, att) = rest.split_at_mut(ATTRIBUTE_OFFSET - PAGE_COUNT_OFFSET);
+    page_count.copy_from_slice(&entry.page_count.to_le_bytes());
+    att.copy_from_slice(&entry.att.bits().to_le_bytes());
 }

@@ -1,27 +1,25 @@
 -- The laws of records.
 use Rattle.std.proofs.Common.{◌≡◌, ℕ, ◌+◌, ◌-◌, ◌/◌, ◌<◌, ◌≤◌, min, Option, None, Some, List, [], ◌++◌, length, get_or}
 use Rattle.std.proofs.Common.{take, drop, refl, sym, ◌∙◌, ap, subst, arith, append_assoc}
-use Rattle.std.proofs.lemmas.List.{take_at, drop_at, length-append, length-take, length-drop, get_or-take}
+use Rattle.std.proofs.lemmas.List.{take_at, length-append, length-take, length-drop, get_or-take}
 use Rattle.uefi_base.specs.Unaligned.{unit_bytes}
 use Rattle.uefi_base.proofs.UnitsOfBytes.{units_by_place}
-use Rattle.uefi_records.specs.declared.file.file_info.FileInfo.{FileInfo}
-use Rattle.uefi_records.specs.file.Name.{IsName, FitName, first_zero, record_end, record_size, units_from}
-use Rattle.uefi_records.specs.file.Verdict.{accepted, judged, verdict}
-use Rattle.uefi_records.specs.file.FileInfo.{file_fields, file_header, file_info_alignment, file_info_size}
-use Rattle.uefi_records.specs.file.FileInfo.{file_name_offset, size_in}
+use Rattle.file_records.specs.file.Name.{IsName, FitName, first_zero, record_end, record_size, units_from}
+use Rattle.file_records.specs.file.Verdict.{accepted, judged, verdict}
+use Rattle.file_records.specs.file.FileInfo.{file_fields, file_header, file_info_alignment, file_info_size}
+use Rattle.file_records.specs.file.FileInfo.{file_name_offset, size_in}
 use Rattle.uefi_records.specs.file.FileSystemInfo.{file_system_fields, file_system_header, file_system_info_alignment}
 use Rattle.uefi_records.specs.file.FileSystemInfo.{file_system_info_size, label_offset, lone_label_offset}
 use Rattle.uefi_records.specs.file.FileSystemInfo.{volume_label_alignment}
-use Rattle.uefi_records.specs.file.Views.{stated_size, file_fields_of, file_info_view, file_info_key, file_header_of}
-use Rattle.uefi_records.specs.file.Views.{file_name_of}
-use Rattle.uefi_records.specs.Laws.{EqualFiles, FileInfoReadsBack, FileSystemInfoReadsBack, VolumeLabelReadsBack}
+use Rattle.uefi_records.specs.Laws.{FileInfoReadsBack, FileSystemInfoReadsBack, VolumeLabelReadsBack}
 use Rattle.uefi_records.specs.Laws.{ReadsBack, WrittenAlone}
-use Rattle.uefi_records.proofs.file.FieldsBack.{file_info_back, length-file_header, header_back}
+use Rattle.file_records.proofs.FieldsBack.{file_info_back, length-file_header}
+use Rattle.file_records.proofs.FirstZero.{IsFirstAt, one_first, first_zero_is}
+use Rattle.file_records.proofs.Judging.{units_of_prefix, accepted_at}
+use Rattle.file_records.proofs.Names.{length-named, units_back}
+use Rattle.file_records.proofs.Prefixes.{same_size, same_file_fields}
 use Rattle.uefi_records.proofs.file.FieldsBack.{length-file_system_header, file_system_info_back}
-use Rattle.uefi_records.proofs.file.FirstZero.{IsFirstAt, one_first, first_zero_is}
-use Rattle.uefi_records.proofs.file.Judging.{units_of_prefix, accepted_at}
-use Rattle.uefi_records.proofs.file.Names.{length-named, units_back}
-use Rattle.uefi_records.proofs.file.Prefixes.{size_of_prefix, file_fields_of_prefix, file_system_fields_of_prefix}
+use Rattle.uefi_records.proofs.file.Prefixes.{same_system_fields}
 
 -- Units that start with a name have their first zero at the name's end.
 first_zero_of_name : (units name : List ℕ) → IsName name → take (length name) units ≡ name
@@ -124,20 +122,6 @@ covers_of offset alignment written buffer name is =
       length-take written buffer,
     )
 
--- Bytes that agree on the header have one stated size and the same fields.
-same_size : (n : ℕ) (one other : List ℕ) → 8 ≤ n → take n one ≡ take n other → size_in one ≡ size_in other
-same_size n one other enough same = sym (size_of_prefix n one enough) ∙ ap size_in same ∙ size_of_prefix n other enough
-
-same_file_fields : (n : ℕ) (one other : List ℕ) → file_name_offset ≤ n → take n one ≡ take n other
-    → file_fields one ≡ file_fields other
-same_file_fields n one other enough same = sym (file_fields_of_prefix n one enough) ∙ ap file_fields same
-    ∙ file_fields_of_prefix n other enough
-
-same_system_fields : (n : ℕ) (one other : List ℕ) → label_offset ≤ n → take n one ≡ take n other
-    → file_system_fields one ≡ file_system_fields other
-same_system_fields n one other enough same = sym (file_system_fields_of_prefix n one enough)
-    ∙ ap file_system_fields same ∙ file_system_fields_of_prefix n other enough
-
 pub written_alone : WrittenAlone
 written_alone = record {
   verdicts = λ offset alignment written one other long same. λ i. verdict offset alignment (same i) (long i);
@@ -147,32 +131,4 @@ written_alone = record {
   file_system_info = λ written one other label same is.
       let enough : label_offset ≤ written = covers_of label_offset file_system_info_alignment written one label is in
       (same_size written one other (omega (arith, enough)) same, same_system_fields written one other enough same);
-}
-
--- What file information records are compared by starts with the bytes before the name, and ends with the name.
-header_in_key : (info : FileInfo) → take file_name_offset (file_info_key info)
-    ≡ take file_name_offset (file_info_view info)
-unfolding file_info_key
-header_in_key info =
-    take_at (file_header_of info) (file_name_of info) file_name_offset
-    (length-file_header (stated_size info) (file_fields_of info))
-    ∙ sym (header_back (file_info_view info) info.are_bytes info.named.before)
-
-name_in_key : (info : FileInfo) → drop file_name_offset (file_info_key info) ≡ file_name_of info
-unfolding file_info_key
-name_in_key info = drop_at (file_header_of info) (file_name_of info) file_name_offset
-    (length-file_header (stated_size info) (file_fields_of info))
-
-pub equal_files : EqualFiles
-unfolding file_info_key
-equal_files = record {
-  keys = λ one other. (
-    λ same.
-        let bytes = sym (header_in_key one) ∙ ap (take file_name_offset) same ∙ header_in_key other in (
-          same_size file_name_offset (file_info_view one) (file_info_view other) (omega arith) bytes,
-          same_file_fields file_name_offset (file_info_view one) (file_info_view other) (omega arith) bytes,
-          sym (name_in_key one) ∙ ap (drop file_name_offset) same ∙ name_in_key other,
-        ),
-    λ same i. file_header (same.0 i) (same.1 i) ++ same.2 i,
-  );
 }

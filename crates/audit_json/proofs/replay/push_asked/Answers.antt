@@ -1,6 +1,6 @@
 use Rattle.std.proofs.Common.{map, subst, List}
 use Rattle.std.proofs.lemmas.Result.{IfOk-weaker}
-use Rattle.uefi_tcg.specs.declared.algorithm_id.AlgorithmId.{AlgorithmId}
+use Rattle.tcg_logs.specs.declared.algorithm_id.AlgorithmId.{AlgorithmId}
 use Rattle.audit_json.specs.private.Banks.{PushesBanks}
 use Rattle.audit_json.proofs.replay.push_asked.Goals as goal
 

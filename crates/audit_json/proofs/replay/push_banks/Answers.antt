@@ -1,6 +1,6 @@
 use Rattle.std.proofs.Common.{◌+◌, Bool, List, map, subst, sym, take}
 use Rattle.std.proofs.lemmas.List.{take_all}
-use Rattle.uefi_tcg.specs.declared.algorithm_id.AlgorithmId.{AlgorithmId}
+use Rattle.tcg_logs.specs.declared.algorithm_id.AlgorithmId.{AlgorithmId}
 use Rattle.audit_json.specs.private.Banks.{PushesBanks}
 use Rattle.audit_json.proofs.Banks.{banks_upto, no_banks}
 use Rattle.audit_json.proofs.replay.push_banks.Goals as goal

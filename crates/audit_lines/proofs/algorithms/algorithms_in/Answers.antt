@@ -1,5 +1,5 @@
 use Rattle.std.proofs.Common.{sym, refl}
-use Rattle.uefi_tcg.specs.v2.Views.{table_of}
+use Rattle.tcg_logs.specs.v2.Views.{table_of}
 use Rattle.audit_lines.proofs.Tables.{row_pushed}
 use Rattle.audit_lines.proofs.algorithms.algorithms_in.Goals as goal
 

@@ -1,5 +1,5 @@
 use Rattle.std.proofs.Common.{◌≡◌, map, take}
-use Rattle.uefi_tcg.specs.v2.Views.{table_of}
+use Rattle.tcg_logs.specs.v2.Views.{table_of}
 use Rattle.audit_lines.proofs.algorithms.algorithms_in.Given as goal
 
 -- The algorithms of the rows before the index were pushed.

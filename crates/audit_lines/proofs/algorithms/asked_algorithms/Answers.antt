@@ -1,8 +1,8 @@
 use Rattle.std.proofs.Common.{◌∙◌, ap, map, subst, ℕ, List}
 use Rattle.std.specs.Prelude.{Option, Some}
 use Rattle.std.proofs.lemmas.Result.{IfOk-weaker}
-use Rattle.uefi_tcg.specs.v2.Log.{HasHeaderOf}
-use Rattle.uefi_tcg.specs.v2.Views.{header_of}
+use Rattle.tcg_logs.specs.v2.Log.{HasHeaderOf}
+use Rattle.tcg_logs.specs.v2.Views.{header_of}
 use Rattle.audit_lines.proofs.algorithms.asked_algorithms.Goals as goal
 
 pub returns-in-Some-header : goal.returns-in-Some-header

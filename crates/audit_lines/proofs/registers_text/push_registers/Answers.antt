@@ -1,4 +1,4 @@
-use Rattle.std.proofs.Common.{◌≡◌, ◌∙◌, ◌<◌, ◌≤◌, [], length, get_or, ap, sym, arith, string_bytes}
+use Rattle.std.proofs.Common.{◌≡◌, ◌∙◌, [], length, get_or, ap, sym, arith, string_bytes}
 use Rattle.std.proofs.lemmas.List.{get_or-map, length-map}
 use Rattle.registers.specs.Views.{value_of, values_of}
 use Rattle.audit_lines.proofs.Lines.{all_appended, line_appended}

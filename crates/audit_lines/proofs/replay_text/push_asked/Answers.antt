@@ -1,6 +1,6 @@
-use Rattle.std.proofs.Common.{map, sym, subst, List, ℕ, ap}
+use Rattle.std.proofs.Common.{map, subst, List}
 use Rattle.std.proofs.lemmas.Result.{IfOk-weaker}
-use Rattle.uefi_tcg.specs.declared.algorithm_id.AlgorithmId.{AlgorithmId}
+use Rattle.tcg_logs.specs.declared.algorithm_id.AlgorithmId.{AlgorithmId}
 use Rattle.audit_lines.specs.private.Appending.{AppendsBanks}
 use Rattle.audit_lines.proofs.replay_text.push_asked.Goals as goal
 

@@ -1,6 +1,6 @@
 use Rattle.std.proofs.Common.{◌+◌, List, Bool, map, sym, subst, take}
 use Rattle.std.proofs.lemmas.List.{take_all}
-use Rattle.uefi_tcg.specs.declared.algorithm_id.AlgorithmId.{AlgorithmId}
+use Rattle.tcg_logs.specs.declared.algorithm_id.AlgorithmId.{AlgorithmId}
 use Rattle.audit_lines.specs.private.Appending.{AppendsBanks}
 use Rattle.audit_lines.proofs.Replaying.{banks_upto}
 use Rattle.audit_lines.proofs.replay_text.push_banks.Goals as goal

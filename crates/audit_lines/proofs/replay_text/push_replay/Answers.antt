@@ -1,4 +1,3 @@
-use Rattle.std.proofs.Common.{sym}
 use Rattle.std.proofs.lemmas.Result.{IfOk-weaker}
 use Rattle.audit_lines.proofs.LeftOver.{empty_if, few_left, filled_if, of_file}
 use Rattle.audit_lines.proofs.Replaying.{refused_log, shown_log}

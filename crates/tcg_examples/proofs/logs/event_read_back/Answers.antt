@@ -3,7 +3,7 @@ use Rattle.std.specs.Prelude.{Option, Some, None, IfSome, IsSome}
 use Rattle.std.specs.Iterator.{YieldsFirstBy}
 use Rattle.std.proofs.lemmas.List.{length-append, take_at}
 use Rattle.uefi_base.specs.Buffer.{put_prefix}
-use Rattle.uefi_tcg.specs.declared.event_type.TheConstants.EventType.{IPL}
+use Rattle.tcg_logs.specs.declared.event_type.TheConstants.EventType.{IPL}
 use Rattle.uefi_tcg.specs.LogInput.{LogInput}
 use Rattle.uefi_tcg.specs.v1.Event.{Event, IsEvent, event_bytes, header_length}
 use Rattle.uefi_tcg.specs.v1.Laws.{OneLog, WrittenIsLog}

@@ -1,4 +1,4 @@
-use Rattle.uefi_map.specs.memory.Views.{entries_left}
+use Rattle.memory_maps.specs.memory.Views.{entries_left}
 use Rattle.uefi_lines.specs.Map.{entry_line}
 use Rattle.hex_display.proofs.Appending.{appended_last, appended_next}
 use Rattle.uefi_lines.proofs.map.push_entries.Goals as goal

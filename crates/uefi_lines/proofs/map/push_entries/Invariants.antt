@@ -1,6 +1,6 @@
 use Rattle.std.proofs.Common.{◌≡◌, ◌++◌, string_bytes, flat_map}
-use Rattle.uefi_map.specs.memory.Map.{entries_of}
-use Rattle.uefi_map.specs.memory.Views.{ref_bytes, ref_meta, entries_left}
+use Rattle.memory_maps.specs.memory.Map.{entries_of}
+use Rattle.memory_maps.specs.memory.Views.{ref_bytes, ref_meta, entries_left}
 use Rattle.uefi_lines.specs.Map.{entry_line}
 use Rattle.uefi_lines.proofs.map.push_entries.Given as goal
 

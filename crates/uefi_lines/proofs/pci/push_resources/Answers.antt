@@ -1,5 +1,5 @@
 use Rattle.hex_display.proofs.Appending.{appended_next}
-use Rattle.uefi_map.specs.pci.Views.{resources_left}
+use Rattle.memory_maps.specs.pci.Views.{resources_left}
 use Rattle.uefi_lines.specs.Pci.{resource_line}
 use Rattle.uefi_lines.proofs.pci.push_resources.Goals as goal
 

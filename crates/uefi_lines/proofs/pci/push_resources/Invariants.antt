@@ -1,5 +1,5 @@
 use Rattle.std.proofs.Common.{◌≡◌, ◌++◌, string_bytes, flat_map}
-use Rattle.uefi_map.specs.pci.Views.{resources_of, resources_left}
+use Rattle.memory_maps.specs.pci.Views.{resources_of, resources_left}
 use Rattle.uefi_lines.specs.Pci.{resource_line}
 use Rattle.uefi_lines.proofs.pci.push_resources.Given as goal
 

@@ -1,7 +1,7 @@
 use Rattle.std.proofs.Common.{take, length, refl}
-use Rattle.uefi_base.specs.Views.{error_data}
-use Rattle.uefi_records.specs.file.FileInfo.{file_fields, file_info_verdict, size_in}
-use Rattle.uefi_records.specs.file.Views.{file_name_of}
+use Rattle.uefi_core.specs.Views.{error_data}
+use Rattle.file_records.specs.file.FileInfo.{file_fields, file_info_verdict, size_in}
+use Rattle.file_records.specs.file.Views.{file_name_of}
 use Rattle.uefi_lines.specs.Info.{info_lines}
 use Rattle.uefi_listing.specs.Listing.Info.{refused_info_line}
 use Rattle.uefi_listing.proofs.InfoLines.{refuses_info}

@@ -1,5 +1,5 @@
 use Rattle.std.proofs.Common.{◌≡◌, refl}
-use Rattle.uefi_records.specs.time.Fields.{TimeFields, without_pads}
+use Rattle.file_records.specs.time.Fields.{TimeFields, without_pads}
 use Rattle.uefi_lines.specs.Time.{date_text, clock_text, zone_text, time_line}
 use Rattle.uefi_listing.proofs.listing.commands.push_time_listing.Goals as goal
 

@@ -1,0 +1,2 @@
+-- Worked rows: examples of the definitions.
+pub mod Records

@@ -1,0 +1,3 @@
+pub mod Strides
+pub mod MapRows
+pub mod ListRows

@@ -1,0 +1,4 @@
+pub mod memory
+pub mod pci
+pub mod rows
+pub mod private

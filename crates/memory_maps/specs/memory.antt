@@ -1,0 +1,5 @@
+pub mod Descriptor
+pub mod Map
+pub mod Flags
+pub mod Texts
+pub mod Views

@@ -1,0 +1,2 @@
+-- Words of ghost fields alone.
+pub mod memory

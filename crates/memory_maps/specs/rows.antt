@@ -1,0 +1,3 @@
+-- Worked rows: examples of the definitions.
+pub mod Maps
+pub mod Lists
