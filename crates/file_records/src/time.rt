@@ -357,14 +357,14 @@ impl TryFrom<&[u8]> for Time {
             return Err(TimeByteConversionError::InvalidSize);
         }
         let time = Time::read(bytes);
+        if time.are_numbers_within() && are_bytes_within(bytes) {
+            return Ok(time.without_pads());
+        }
         if Daylight::from_bits(time.daylight.bits()).is_none() {
             return Err(TimeByteConversionError::InvalidFields(TimeError {
                 daylight: true,
                 ..TimeError::default()
             }));
-        }
-        if time.are_numbers_within() && are_bytes_within(bytes) {
-            return Ok(time.without_pads());
         }
         let faults = time.range_faults();
         Err(TimeByteConversionError::InvalidFields(faults))

@@ -1,9 +1,12 @@
 -- The lanes of a time's bytes, and the fields that they are.
 use Rattle.std.proofs.Common.{◌≡◌, ℕ, ◌+◌, ◌*◌, ◌%◌, ◌^◌, ◌<◌, ◌≤◌, eqb, ltb, Bool, true, false, not, ◌&&◌, ◌||◌, cond}
-use Rattle.std.proofs.Common.{List, [], ◌∷◌, map, length, take, drop, bit_or, refl, ap, sym, ◌∙◌, arith, get_or}
+use Rattle.std.proofs.Common.{List, [], ◌∷◌, map, length, take, drop, bit_or, refl, ap, sym, ◌∙◌, arith, get_or, zero, suc, lit<}
 use Rattle.std.proofs.lemmas.Bool.Decides.{nat_tests}
 use Rattle.std.proofs.lemmas.List.{take_at}
+use Rattle.std.proofs.lemmas.Nat.{and_comm, and_mask}
 use Rattle.std.proofs.lemmas.Simd.{length-chunk, mask_l-mod}
+use Rattle.std.specs.Int.RustNames.{bit_and}
+use Rattle.uefi_base.specs.Flags.{has_bits}
 use Rattle.uefi_base.specs.LittleEndian.{AreBytes}
 use Rattle.uefi_core.proofs.Ranges.{items_from, drop-items_from}
 use Rattle.file_records.specs.time.Fields.{time_in}
@@ -70,6 +73,17 @@ and_right false b h = absurd cc
 and_both : (a b : Bool) → a ≡ true → b ≡ true → a && b ≡ true
 and_both a b p q = cc
 
+-- Where all numbers are within their bounds, each one is.
+within_at : (k : ℕ) (xs lowest highest : List ℕ) → k < length xs → length lowest ≡ length xs
+    → length highest ≡ length xs → are_within xs lowest highest ≡ true
+    → not (is_outside (get_or lowest k 0) (get_or highest k 0) (get_or xs k 0)) ≡ true
+within_at k [] lowest highest k_lt low high is = absurd (omega (arith, k_lt))
+within_at k (x ∷ xs) [] highest k_lt low high is = absurd (omega (arith, low))
+within_at k (x ∷ xs) (l ∷ lowest) [] k_lt low high is = absurd (omega (arith, high))
+within_at zero (x ∷ xs) (l ∷ lowest) (h ∷ highest) k_lt low high is = and_left _ _ is
+within_at (suc k) (x ∷ xs) (l ∷ lowest) (h ∷ highest) k_lt low high is =
+    within_at k xs lowest highest (omega (arith, k_lt)) (omega (arith, low)) (omega (arith, high)) (and_right _ _ is)
+
 not_true : (b : Bool) → not b ≡ true → b ≡ false
 not_true true h = absurd cc
 not_true false h = refl
@@ -80,6 +94,12 @@ not_false b h = ap not h
 in_byte : (x : ℕ) → x < 256 → not (is_outside 0 255 x) ≡ true
 in_byte x small = grind (arith, nat_tests)
 
+-- Each bit of a number is one of the lowest two exactly if the number is at most 3.
+two_bits : (n : ℕ) → has_bits 3 n ≡ not (is_outside 0 3 n)
+two_bits n =
+    let rest : bit_and 3 n ≡ n % 4 = and_comm 3 n ∙ and_mask n 2 in
+    grind (arith, nat_tests, rest)
+
 module _ (bytes : List ℕ) where
   abbrev within : Bool
   within = are_within (items_from 0 16 bytes) lowest_bytes highest_bytes
@@ -88,25 +108,23 @@ module _ (bytes : List ℕ) where
   bytes_within : within ≡ true → AreBytesWithin (time_in bytes)
   unfolding items_from
   bytes_within h =
-      let from_month = and_right _ _ (and_right _ _ h) in
-      let from_day = and_right _ _ from_month in
-      let from_hour = and_right _ _ from_day in
-      let from_minute = and_right _ _ from_hour in
-      let from_second = and_right _ _ from_minute in
+      let at = λ (k : ℕ) (k_lt : k < 16). within_at k (items_from 0 16 bytes) lowest_bytes highest_bytes k_lt refl refl h in
       record {
-        month = not_true _ (and_left _ _ from_month);
-        day = not_true _ (and_left _ _ from_day);
-        hour = not_true _ (and_left _ _ from_hour);
-        minute = not_true _ (and_left _ _ from_minute);
-        second = not_true _ (and_left _ _ from_second);
+        month = not_true _ (at 2 (lit< tt));
+        day = not_true _ (at 3 (lit< tt));
+        hour = not_true _ (at 4 (lit< tt));
+        minute = not_true _ (at 5 (lit< tt));
+        second = not_true _ (at 6 (lit< tt));
+        daylight = two_bits (get_or bytes 14 0) ∙ at 14 (lit< tt);
       }
 
   within_bytes : AreBytes bytes → AreBytesWithin (time_in bytes) → within ≡ true
   unfolding items_from
   within_bytes small fields =
       let free = λ (k : ℕ). in_byte (get_or bytes k 0) (small k) in
+      let named = sym (two_bits (get_or bytes 14 0)) ∙ fields.daylight in
       let rest = and_both _ _ (free 7) (and_both _ _ (free 8) (and_both _ _ (free 9) (and_both _ _ (free 10)
-      (and_both _ _ (free 11) (and_both _ _ (free 12) (and_both _ _ (free 13) (and_both _ _ (free 14)
+      (and_both _ _ (free 11) (and_both _ _ (free 12) (and_both _ _ (free 13) (and_both _ _ named
       (and_both _ _ (free 15) refl)))))))) in
       and_both _ _ (free 0) (and_both _ _ (free 1) (and_both _ _ (not_false _ fields.month)
       (and_both _ _ (not_false _ fields.day) (and_both _ _ (not_false _ fields.hour)

@@ -7,7 +7,7 @@ ghost use Rattle.file_records.specs.private.time.Within.{AreBytesWithin};
 use std::simd::prelude::*;
 
 /// Returns whether month, day, hour, minute and second of the time in the first sixteen bytes are
-/// within their ranges.
+/// within their ranges, and each bit of its daylight has a name.
 #[inline(always)]
 pub(super) fn are_bytes_within(bytes: &[u8]) -> bool
     requires { time_length ≤ length bytes.now }
@@ -15,7 +15,7 @@ pub(super) fn are_bytes_within(bytes: &[u8]) -> bool
 {
     let lowest = u8x16::from_array([0, 0, 1, 1, 0, 0, 0, 0, 0, 0, 0, 0, 0, 0, 0, 0]);
     let highest = u8x16::from_array([
-        255, 255, 12, 31, 23, 59, 59, 255, 255, 255, 255, 255, 255, 255, 255, 255,
+        255, 255, 12, 31, 23, 59, 59, 255, 255, 255, 255, 255, 255, 255, 3, 255,
     ]);
     let fields = u8x16::from_slice(bytes);
     let outside = fields.simd_lt(lowest) | fields.simd_gt(highest);
