@@ -79,6 +79,26 @@ first_bytes bytes stride =
 pub one_stride : (stride size : ℕ) → 0 < size → size % stride ≡ 0 → stride ≤ size
 one_stride stride size some whole = grind (arith, rows, common_steps)
 
+-- Strides that are not none have room for a descriptor.
+pub first_room : (stride : ℕ) (bytes : List ℕ) → AreStrides stride bytes → 0 < length bytes
+    → descriptor_length ≤ length bytes
+first_room stride bytes strides some =
+    omega (arith, strides.room, one_stride stride (length bytes) some strides.whole)
+
+-- Without one stride, whole strides stay whole.
+whole_after : (stride size : ℕ) → 0 < stride → stride ≤ size → size % stride ≡ 0 → (size - stride) % stride ≡ 0
+whole_after stride size positive reaches whole =
+    grind (arith, rows, common_steps, div-eq-sub-div positive reaches)
+
+-- After the first stride, there are whole strides too.
+pub strides_after : (stride : ℕ) (bytes : List ℕ) → AreStrides stride bytes → 0 < length bytes
+    → AreStrides stride (drop stride bytes)
+strides_after stride bytes strides some =
+    let reaches = one_stride stride (length bytes) some strides.whole in
+    let positive : 0 < stride = omega (arith, strides.room) in
+    let whole = whole_after stride (length bytes) positive reaches strides.whole in
+    record { room = strides.room; whole = ap (λ n. n % stride) (length-drop stride bytes) ∙ whole }
+
 -- The first of the descriptors that are left, and the others.
 pub next_left : (bytes : List ℕ) (stride : ℕ) → AreStrides stride bytes → 0 < length bytes
     → descriptors_from bytes stride 0 (length bytes / stride)
