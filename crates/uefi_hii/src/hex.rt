@@ -81,7 +81,9 @@ impl<'a> DoubleEndedIterator for HexBytes<'a> {
     ghost next_back_gives = { YieldsLast bytes_left };
 
     fn next_back(&mut self) -> Option<u8> {
-        let (before, byte) = split_last_byte(self.rest)?;
+        let Some((before, byte)) = split_last_byte(self.rest) else {
+            return None;
+        };
         self.rest = before;
         Some(byte)
     }
@@ -101,11 +103,15 @@ fn split_last_byte(text: &[u8]) -> Option<(&[u8], u8)>
     ensures { MatchOption result (hex text.now ≡ [])
         (λ r. hex text.now ≡ hex r.0.now ++ r.1 ∷ []) }
 {
-    let (last, before) = text.split_last()?;
+    let Some((last, before)) = text.split_last() else {
+        return None;
+    };
     if text.len() % 2 != 0 {
         return Some((before, byte_of_one(*last)));
     }
-    let (first, before) = before.split_last()?;
+    let Some((first, before)) = before.split_last() else {
+        return None;
+    };
     Some((before, byte_of_two(*first, *last)))
 }
 

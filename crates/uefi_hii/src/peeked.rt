@@ -56,7 +56,9 @@ impl<'a> PeekedPairs<'a> {
             ((peeked_pairs self.old ≡ []) × (peeked_pairs self.new ≡ []))
             (λ taken. peeked_pairs self.old ≡ pair_view taken ∷ peeked_pairs self.new) }
     {
-        let pair = self.next?;
+        let Some(pair) = self.next else {
+            return None;
+        };
         self.next = self.after.next();
         Some(pair)
     }
