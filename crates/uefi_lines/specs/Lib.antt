@@ -1,5 +1,5 @@
-pub mod Path
-pub mod Map
-pub mod Pci
 pub mod Time
 pub mod Info
+pub use Rattle.machine_lines.specs.Path
+pub use Rattle.machine_lines.specs.Map
+pub use Rattle.machine_lines.specs.Pci

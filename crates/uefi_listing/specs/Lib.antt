@@ -1,4 +1,4 @@
-pub mod Words
 pub mod Listing
 pub mod Running
 pub mod private
+pub use Rattle.listing_words.specs.Words

@@ -9,8 +9,8 @@ pub mod Time
 pub mod Info
 use Rattle.std.specs.Prelude.{ℕ, List}
 use Rattle.tcg_logs.specs.v2.Header.{after_header, after_event}
-use Rattle.uefi_listing.specs.declared.command.Command.{Command}
-use Rattle.uefi_listing.specs.declared.command.Command.TheVariants as command
+use Rattle.listing_words.specs.declared.command.Command.{Command}
+use Rattle.listing_words.specs.declared.command.Command.TheVariants as command
 use Rattle.uefi_listing.specs.declared.listing.Outcome.{Outcome}
 use Rattle.uefi_listing.specs.Listing.Path.{PathListing}
 use Rattle.uefi_listing.specs.Listing.Log1.{Log1Listing}

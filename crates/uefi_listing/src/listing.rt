@@ -2,7 +2,7 @@ ghost use Rattle.std.specs.Prelude.{IfOk};
 ghost use Rattle.uefi_listing.specs.private.Appending.{AppendsListing};
 ghost use Rattle.uefi_listing.specs.Listing.{Listing};
 
-use crate::command::Command;
+use listing_words::command::Command;
 use std::alloc::{AllocError, Allocator};
 use tcg_logs::v2::Start;
 

@@ -2,7 +2,7 @@
 use Rattle.std.specs.Prelude.{◌≡◌, ◌↔◌, ℕ, Bool, List, length, codes, IsTrue}
 use Rattle.memory_maps.specs.declared.memory.meta.MemoryMapMeta.{MemoryMapMeta}
 use Rattle.memory_maps.specs.memory.Map.{IsMap, AreSorted, entries_of}
-use Rattle.uefi_lines.specs.Map.{map_lines}
+use Rattle.machine_lines.specs.Map.{map_lines}
 use Rattle.uefi_listing.specs.declared.listing.Outcome.{Outcome}
 use Rattle.uefi_listing.specs.declared.listing.Outcome.TheVariants.{Listed, Refused}
 

@@ -5,7 +5,7 @@ use Rattle.memory_maps.specs.declared.pci.resource.QwordAddressSpaceDescriptor.{
 use Rattle.memory_maps.specs.declared.pci.resource_error.ResourceError.{ResourceError}
 use Rattle.memory_maps.specs.declared.pci.resource_error.ResourceError.TheVariants.{NoEndTag, CutRecord, UnknownTag, Memory}
 use Rattle.memory_maps.specs.pci.ResourceList.{HaveList, HaveFault}
-use Rattle.uefi_lines.specs.Pci.{resource_lines}
+use Rattle.machine_lines.specs.Pci.{resource_lines}
 use Rattle.uefi_listing.specs.declared.listing.Outcome.{Outcome}
 use Rattle.uefi_listing.specs.declared.listing.Outcome.TheVariants.{Listed, Refused}
 

@@ -18,12 +18,13 @@ ghost use Rattle.uefi_listing.specs.Listing.Info.{refused_info_line, InfoListing
 use super::Outcome;
 use config_lines::push_configurations;
 use file_records::{FileInfo, Time, TimeByteConversionError};
+use machine_lines::{push_map, push_path, push_resources};
 use memory_maps::{MemoryDescriptor, MemoryMapMeta, MemoryMapRef, ResourceError, ResourceList};
 use std::alloc::{AllocError, Allocator};
 use tcg_logs::{v1, v2};
 use uefi_core::Error;
 use uefi_hii::MultiConfigurationStringIter;
-use uefi_lines::{push_info, push_map, push_path, push_resources, push_time};
+use uefi_lines::{push_info, push_time};
 use uefi_path::{ByteConversionError, DevicePath};
 
 /// Appends the listing of the device path that is a prefix of the bytes.

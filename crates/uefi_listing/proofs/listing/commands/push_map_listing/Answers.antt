@@ -1,7 +1,7 @@
 use Rattle.std.proofs.Common.{◌∙◌, length, refl, rules}
 use Rattle.std.specs.Prelude.{codes}
 use Rattle.memory_maps.specs.memory.Map.{entries_of}
-use Rattle.uefi_lines.specs.Map.{map_lines}
+use Rattle.machine_lines.specs.Map.{map_lines}
 use Rattle.uefi_listing.specs.Listing.Map.{file_meta}
 use Rattle.uefi_listing.proofs.listing.commands.push_map_listing.Goals as goal
 

@@ -1,7 +1,0 @@
-use Rattle.std.proofs.Common.{append_assoc}
-use Rattle.uefi_lines.specs.Pci.{resource_line}
-use Rattle.uefi_lines.proofs.pci.push_resource.Goals as goal
-
-pub returns : goal.returns
-unfolding resource_line
-returns g c = simp append_assoc (simp append_assoc at c.writeln.ensures.bytes)
