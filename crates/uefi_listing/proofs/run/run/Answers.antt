@@ -1,6 +1,7 @@
 use Rattle.std.proofs.Common.{◌-◌, ◌≤◌, length, drop, arith, length-take, length-drop, subst, List, ℕ}
 use Rattle.std.specs.Io.KnownBytes.{Appends}
 use Rattle.std.proofs.lemmas.List.{take_all}
+use Rattle.std.proofs.lemmas.Grind.{common_steps}
 use Rattle.uefi_listing.proofs.Sending.{Appends-take_more}
 use Rattle.uefi_listing.proofs.run.run.Goals as goal
 
@@ -27,3 +28,12 @@ returns-clause-whole g c =
       subst (λ (sent : List ℕ). Appends (g.W.Write.contents c.args.out.now)
           (g.W.Write.contents c.loop-sent.out) sent) all c.loop-sent.invariant.taken,
     )
+
+pub loop-sent-smaller : goal.loop-sent-smaller
+loop-sent-smaller g c = grind (arith, common_steps)
+
+pub overflow_add-sent : goal.overflow_add-sent
+overflow_add-sent g c = grind (arith, common_steps)
+
+pub returns-in-Ok-eq0-clause-part : goal.returns-in-Ok-eq0-clause-part
+returns-in-Ok-eq0-clause-part g c = grind (arith, common_steps)
