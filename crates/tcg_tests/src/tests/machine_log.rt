@@ -25,7 +25,7 @@ const LAST_ENTRY: usize = 5294;
 #[test]
 fn each_register_of_a_machines_log_has_its_events(rt: HostRuntime) -> Result<(), Fail> {
     let log = bytes(rt.alloc(), MACHINE_LOG)?;
-    for (register, count) in COUNTS {
+    for &(register, count) in &COUNTS {
         let found = count_of_register(log.as_slice(), LAST_ENTRY, PcrIndex(register));
         same("a register", &(register, found), &(register, count))?;
     }

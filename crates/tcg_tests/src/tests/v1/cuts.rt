@@ -37,7 +37,7 @@ fn check_cuts(input: &[u8], last_entry: usize, counts: (usize, usize, usize)) ->
 #[test]
 fn a_cut_log_has_its_whole_events(rt: HostRuntime) -> Result<(), Fail> {
     let input = bytes(rt.alloc(), LOG1)?;
-    for (first, last, counts) in COUNTS {
+    for &(first, last, counts) in &COUNTS {
         for last_entry in first..=last {
             check_cuts(input.as_slice(), last_entry, counts)?;
         }

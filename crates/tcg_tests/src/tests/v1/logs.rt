@@ -3,7 +3,7 @@ use std::alloc::{AllocError, Global};
 use std::test::Fail;
 use test_support::samples::{CRTM_VERSION, LOG1};
 use test_support::{bytes, holds, same, same_text};
-use uefi_tcg::v1::{EventLog, EventLogIter};
+use uefi_tcg::v1::{EventLog, EventLogIter, PcrEvent};
 
 /// The lines of both events of `LOG1`.
 const FIRST: &str = "0 0x00000008 1489f923c4dca729178b3e3233458550d8dddf29 0000\n";
@@ -54,12 +54,18 @@ fn lines_of(alloc: Global, events: EventLogIter<'_>) -> Result<String, AllocErro
     Ok(lines)
 }
 
+/// Checks the events of the log that a row is.
+fn check_log(alloc: Global, row: &str, last_entry: Option<usize>, lines: &str) -> Result<(), Fail> {
+    let input = bytes(alloc, row)?;
+    let log = EventLog::new(Some(input.as_slice()), last_entry, false);
+    let found = lines_of(alloc, log.iter())?;
+    same_text(row, found.as_str(), lines)
+}
+
 #[test]
 fn a_log_has_the_events_that_keep_to_the_last_entry(rt: HostRuntime) -> Result<(), Fail> {
-    for (row, last_entry, lines) in LOGS {
-        let input = bytes(rt.alloc(), row)?;
-        let log = EventLog::new(Some(input.as_slice()), last_entry, false);
-        same_text(row, lines_of(rt.alloc(), log.iter())?.as_str(), lines)?;
+    for &(row, last_entry, lines) in &LOGS {
+        check_log(rt.alloc(), row, last_entry, lines)?;
     }
     Ok(())
 }
@@ -76,21 +82,27 @@ fn an_iterator_stays_ended(rt: HostRuntime) -> Result<(), Fail> {
     Ok(())
 }
 
+/// Returns the first two events of the log that the bytes are.
+fn two_events(input: &[u8]) -> Option<(PcrEvent<'_>, PcrEvent<'_>)> {
+    let mut events = EventLog::new(Some(input), Some(34), false).iter();
+    let event = events.next()?;
+    Some((event, events.next()?))
+}
+
+/// Checks the bytes of two events, and that an event is equal to itself alone.
+fn check_events(event: &PcrEvent<'_>, next: &PcrEvent<'_>, first: &[u8]) -> Result<(), Fail> {
+    holds("the first event's bytes", event.as_bytes() == first)?;
+    holds("an event is itself", *event == *event)?;
+    holds("it isn't the next", *event != *next)?;
+    same("the next one's length", &next.as_bytes().len(), &48)
+}
+
 #[test]
 fn the_parts_of_an_event_are_parts_of_its_bytes(rt: HostRuntime) -> Result<(), Fail> {
     let input = bytes(rt.alloc(), LOG1)?;
     let first = bytes(rt.alloc(), CRTM_VERSION)?;
-    let log = EventLog::new(Some(input.as_slice()), Some(34), false);
-    let mut events = log.iter();
-    let event = events.next().ok_or("the first event")?;
-    let next = events.next().ok_or("the second event")?;
-    holds(
-        "the first event's bytes",
-        event.as_bytes() == first.as_slice(),
-    )?;
-    holds("an event is itself", event == event)?;
-    holds("it isn't the next", event != next)?;
-    same("the next one's length", &next.as_bytes().len(), &48)
+    let (event, next) = two_events(input.as_slice()).ok_or("two events")?;
+    check_events(&event, &next, first.as_slice())
 }
 
 #[test]

@@ -60,7 +60,7 @@ fn step(input: &[u8], offset: usize, last_entry: usize) -> Option<(u32, u32, usi
 #[test]
 fn an_offset_may_be_any_number(rt: HostRuntime) -> Result<(), Fail> {
     let input = bytes(rt.alloc(), LOG1)?;
-    for (offset, last_entry, expected) in STEPS {
+    for &(offset, last_entry, expected) in &STEPS {
         let found = step(input.as_slice(), offset, last_entry);
         let row = (offset, last_entry, expected);
         same("a step", &(offset, last_entry, found), &row)?;

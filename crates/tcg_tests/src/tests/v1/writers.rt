@@ -16,6 +16,15 @@ const EVENT_DATA: [u8; 4] = [0x14, 0x15, 0x16, 0x17];
 /// The event of these fields, with the type IPL.
 const EVENT: &str = "04000000 0d000000 000102030405060708090a0b0c0d0e0f10111213 04000000 14151617";
 
+/// Checks the bytes and the fields of the event that was written.
+fn check_fields(event: &PcrEvent<'_>, row: &[u8]) -> Result<(), Fail> {
+    same_bytes("the event", event.as_bytes(), row)?;
+    same("its register", &event.pcr_index(), &PCR)?;
+    same("its type", &event.event_type(), &EventType::IPL)?;
+    same_bytes("its digest", event.digest().as_slice(), DIGEST.as_slice())?;
+    same_bytes("its data", event.event_data(), EVENT_DATA.as_slice())
+}
+
 #[test]
 fn an_event_is_written_to_the_beginning_of_a_buffer(rt: HostRuntime) -> Result<(), Fail> {
     let row = bytes(rt.alloc(), EVENT)?;
@@ -24,11 +33,7 @@ fn an_event_is_written_to_the_beginning_of_a_buffer(rt: HostRuntime) -> Result<(
     else {
         return Err(Fail::from("the event fits"));
     };
-    same_bytes("the event", event.as_bytes(), row.as_slice())?;
-    same("its register", &event.pcr_index(), &PCR)?;
-    same("its type", &event.event_type(), &EventType::IPL)?;
-    same_bytes("its digest", event.digest().as_slice(), DIGEST.as_slice())?;
-    same_bytes("its data", event.event_data(), EVENT_DATA.as_slice())?;
+    check_fields(&event, row.as_slice())?;
     holds("the buffer's beginning", buffer.starts_with(row.as_slice()))?;
     holds("the bytes that follow", buffer.ends_with(&[0xff; 4]))
 }
@@ -72,14 +77,21 @@ fn an_event_in_a_box_is_the_one_in_a_buffer(rt: HostRuntime) -> Result<(), Fail>
     takes_memory(rt.alloc(), &true, |heap| box_event(heap, &written))
 }
 
+/// Returns the event of a log that has no other.
+fn only_event(input: &[u8]) -> Option<PcrEvent<'_>> {
+    let mut events = EventLog::new(Some(input), Some(0), false).iter();
+    let event = events.next()?;
+    match events.next() {
+        Some(_) => None,
+        None => Some(event),
+    }
+}
+
 #[test]
 fn a_written_event_is_a_log(rt: HostRuntime) -> Result<(), Fail> {
     let row = bytes(rt.alloc(), EVENT)?;
-    let log = EventLog::new(Some(row.as_slice()), Some(0), false);
-    let mut events = log.iter();
-    let event = events.next().ok_or("the event")?;
-    same_bytes("the event", event.as_bytes(), row.as_slice())?;
-    holds("there is no other", events.next().is_none())
+    let event = only_event(row.as_slice()).ok_or("one event")?;
+    same_bytes("the event", event.as_bytes(), row.as_slice())
 }
 
 #[test]

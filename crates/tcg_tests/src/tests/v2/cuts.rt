@@ -55,7 +55,7 @@ fn check_cuts(
 #[test]
 fn a_cut_log_has_its_whole_events(rt: HostRuntime) -> Result<(), Fail> {
     let input = log_bytes(rt.alloc())?;
-    for (first, last, counts) in COUNTS {
+    for &(first, last, counts) in &COUNTS {
         for last_entry in first..=last {
             check_cuts(input.as_slice(), last_entry, counts)?;
         }
@@ -112,7 +112,7 @@ fn length_of(event: &PcrEvent<'_>) -> usize {
 }
 
 /// Returns the events of the log from that start on.
-fn events_from<'a>(log: &EventLog<'a>, start: Start) -> EventLogIter<'a> {
+pub(crate) fn events_from<'a>(log: &EventLog<'a>, start: Start) -> EventLogIter<'a> {
     match start {
         Start::AfterHeader => log.iter(),
         Start::AfterEvent => log.iter_after_header_event(),

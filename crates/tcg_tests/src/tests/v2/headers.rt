@@ -1,7 +1,7 @@
 use std::test::Fail;
 use test_support::{bytes, holds, same, same_bytes};
 use uefi_tcg::AlgorithmId;
-use uefi_tcg::v2::{AlgorithmDigestSizes, EventLog};
+use uefi_tcg::v2::{AlgorithmDigestSizes, EventLog, EventLogHeader};
 
 /// A header event of 76 bytes, in which each field has a value of its own. SHA-1 has two rows.
 const HEADER: &str = "00000000 03000000 0000000000000000000000000000000000000000 2c000000 \
@@ -12,11 +12,8 @@ const HEADER: &str = "00000000 03000000 0000000000000000000000000000000000000000
 /// digest that isn't zero, another signature, and data that end before the vendor's last byte.
 const OTHERS: [(usize, u8); 5] = [(0, 1), (4, 4), (27, 1), (46, 0x32), (28, 0x2b)];
 
-#[test]
-fn a_header_has_its_fields(rt: HostRuntime) -> Result<(), Fail> {
-    let input = bytes(rt.alloc(), HEADER)?;
-    let log = EventLog::new(Some(input.as_slice()), Some(0), false);
-    let header = log.header().ok_or("the header")?;
+/// Checks the fields of the header that `HEADER` is.
+fn check_fields(header: &EventLogHeader<'_>) -> Result<(), Fail> {
     same("the class", &header.platform_class(), &1)?;
     same("the version", &header.spec_version(), &(2, 3, 0x69))?;
     same("the size of a UINTN", &header.uintn_size(), &4)?;
@@ -27,6 +24,13 @@ fn a_header_has_its_fields(rt: HostRuntime) -> Result<(), Fail> {
         [0xaa, 0xbb, 0xcc].as_slice(),
     )?;
     same("where the events start", &header.size_in_bytes(), &76)
+}
+
+#[test]
+fn a_header_has_its_fields(rt: HostRuntime) -> Result<(), Fail> {
+    let input = bytes(rt.alloc(), HEADER)?;
+    let log = EventLog::new(Some(input.as_slice()), Some(0), false);
+    check_fields(&log.header().ok_or("the header")?)
 }
 
 /// Returns the table of the header that the bytes begin with.
@@ -78,7 +82,7 @@ fn has_no_header(input: &[u8]) -> bool {
 
 #[test]
 fn another_event_has_no_header(rt: HostRuntime) -> Result<(), Fail> {
-    for (offset, byte) in OTHERS {
+    for &(offset, byte) in &OTHERS {
         let mut input = bytes(rt.alloc(), HEADER)?;
         *input.get_mut(offset).ok_or("the byte")? = byte;
         same(

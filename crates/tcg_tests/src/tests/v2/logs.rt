@@ -8,7 +8,7 @@ use uefi_tcg::AlgorithmId;
 use uefi_tcg::v2::{EventLog, EventLogIter, PcrEventDigests};
 
 /// The lines of both events of `FOUR_EVENTS`.
-pub const FIRST: &str = "0 0x00000008 0000 \
+const FIRST: &str = "0 0x00000008 0000 \
     0004:1489f923c4dca729178b3e3233458550d8dddf29 \
     000b:96a296d224f285c67bee93c30f8a309157f0daa35dc5b87e410b78630a09cfc7 \
     000c:1dd6f7b457ad880d840d41c961283bab688e94e4b59359ea\
@@ -16,7 +16,7 @@ pub const FIRST: &str = "0 0x00000008 0000 \
     000d:5ea71dc6d0b4f57bf39aadd07c208c35f06cd2bac5fde210397f70de11d439c6\
     2ec1cdf3183758865fd387fcea0bada2f6c37a4a17851dd1d78fefe6f204ee54\n";
 
-pub const SECOND: &str = "0 0x80000008 000082000000000000000e0000000000 \
+const SECOND: &str = "0 0x80000008 000082000000000000000e0000000000 \
     0004:c706e7dd36392984eb06aaa08ff336844077b3ed \
     000b:3a308e958784bfd0f6e3f1bd4d4214d30a4c5500a45b06da96fc90338f69b361 \
     000c:c0d07596c59a907b79716fc9f36aad8f0f26f202675b425a\
@@ -46,10 +46,18 @@ pub const LONG_EVENT: &str = "00000000 03000000 00000000000000000000000000000000
     53706563204944204576656e74303300 00000000 00020002 01000000 04001400 00 \
     00000000000000000000000000000000";
 
+/// The header of `LONG_EVENT`, which 16 bytes ff follow in its event.
+const FOLLOWED: &str = "00000000 03000000 0000000000000000000000000000000000000000 31000000 \
+    53706563204944204576656e74303300 00000000 00020002 01000000 04001400 00 \
+    ffffffffffffffffffffffffffffffff";
+
 /// An event of two SHA-1 digests.
 const TWO_DIGESTS: &str = "00000000 08000000 02000000 \
     0400 1111111111111111111111111111111111111111 \
     0400 2222222222222222222222222222222222222222 00000000";
+
+const TWO_DIGESTS_LINE: &str = "0 0x00000008  0004:1111111111111111111111111111111111111111 \
+    0004:2222222222222222222222222222222222222222\n";
 
 /// An event whose data has a length of 256, and is shorter.
 const CUT_DATA: &str = "00000000 08000000 01000000 \
@@ -73,67 +81,101 @@ const NINTH_LINE: &str = "0 0x00000008  0009:aaaaaaaaaaaaaaaaaa\n";
 
 pub const ZERO_EVENT: &str = "00000000 00000000 00000000 00000000";
 
-/// The parts of a log, a last entry, where the header ends if there is one, and the lines of the
-/// events from there on.
-pub const LOGS: [(&[&str], Option<usize>, Option<usize>, &[&str]); 19] = [
-    (&[SHA1_HEADER], Some(0), Some(65), &[]),
-    (&[SHA1_HEADER], None, None, &[]),
-    (&[MOST_ROWS], Some(0), None, &[]),
-    (&[MOST_VENDOR_BYTES], Some(0), None, &[]),
-    (
-        &[FOUR_HEADER, FOUR_EVENTS],
-        Some(267),
-        Some(77),
-        &[FIRST, SECOND],
-    ),
-    (
-        &[FOUR_HEADER, FOUR_EVENTS],
-        Some(471),
-        Some(77),
-        &[FIRST, SECOND],
-    ),
-    (&[FOUR_HEADER, FOUR_EVENTS], Some(77), Some(77), &[FIRST]),
-    (&[FOUR_HEADER, FOUR_EVENTS], Some(0), Some(77), &[]),
-    (&[SHA1_HEADER, TWO_DIGESTS], Some(65), Some(65), &[]),
-    (
-        &[SHA1_TWICE, TWO_DIGESTS],
-        Some(69),
-        Some(69),
-        &[
-            "0 0x00000008  0004:1111111111111111111111111111111111111111 \
-            0004:2222222222222222222222222222222222222222\n",
-        ],
-    ),
-    (&[SHA1_HEADER, CUT_DATA], Some(105), Some(65), &[]),
+const ZERO_LINE: &str = "0 0x00000000 \n";
+
+/// The logs of the tables, each named for its parts.
+#[derive(Clone, Copy)]
+pub enum Log {
+    Empty,
+    Sha1,
+    MostRows,
+    MostVendorBytes,
+    Four,
+    Sha1WithTwoDigests,
+    Sha1Twice,
+    CutData,
+    Long,
+    Followed,
+    NoDigestBytes,
+    MostDigests,
+    MostData,
+    TenRows,
+    NineRows,
+}
+
+/// Returns the parts of a log.
+pub fn parts_of(log: Log) -> &'static [&'static str] {
+    match log {
+        Log::Empty => &[""],
+        Log::Sha1 => &[SHA1_HEADER],
+        Log::MostRows => &[MOST_ROWS],
+        Log::MostVendorBytes => &[MOST_VENDOR_BYTES],
+        Log::Four => &[FOUR_HEADER, FOUR_EVENTS],
+        Log::Sha1WithTwoDigests => &[SHA1_HEADER, TWO_DIGESTS],
+        Log::Sha1Twice => &[SHA1_TWICE, TWO_DIGESTS],
+        Log::CutData => &[SHA1_HEADER, CUT_DATA],
+        Log::Long => &[LONG_EVENT, ZERO_EVENT],
+        Log::Followed => &[FOLLOWED, ZERO_EVENT],
+        Log::NoDigestBytes => &[NO_DIGEST_BYTES, "00000000 08000000 01000000 0400 00000000"],
+        Log::MostDigests => &[NO_DIGEST_BYTES, "00000000 08000000 ffffffff 0400 00000000"],
+        Log::MostData => &[NO_DIGEST_BYTES, "00000000 08000000 01000000 0400 ffffffff"],
+        Log::TenRows => &[TEN_ROWS, NINTH],
+        Log::NineRows => &[NINE_ROWS, NINTH],
+    }
+}
+
+/// The lines of the events in the tables.
+#[derive(Clone, Copy)]
+pub enum Lines {
+    None,
+    First,
+    Both,
+    TwoDigests,
+    Zero,
+    TwoZeros,
+    NoDigestBytes,
+    Ninth,
+}
+
+/// Returns the lines of the events.
+pub fn lines_in(lines: Lines) -> &'static [&'static str] {
+    match lines {
+        Lines::None => &[],
+        Lines::First => &[FIRST],
+        Lines::Both => &[FIRST, SECOND],
+        Lines::TwoDigests => &[TWO_DIGESTS_LINE],
+        Lines::Zero => &[ZERO_LINE],
+        Lines::TwoZeros => &[ZERO_LINE, ZERO_LINE],
+        Lines::NoDigestBytes => &["0 0x00000008  0004:\n"],
+        Lines::Ninth => &[NINTH_LINE],
+    }
+}
+
+/// A log, a last entry, where the header ends if there is one, and the lines of the events from
+/// there on.
+pub type Row = (Log, Option<usize>, Option<usize>, Lines);
+
+pub const LOGS: [Row; 19] = [
+    (Log::Sha1, Some(0), Some(65), Lines::None),
+    (Log::Sha1, None, None, Lines::None),
+    (Log::MostRows, Some(0), None, Lines::None),
+    (Log::MostVendorBytes, Some(0), None, Lines::None),
+    (Log::Four, Some(267), Some(77), Lines::Both),
+    (Log::Four, Some(471), Some(77), Lines::Both),
+    (Log::Four, Some(77), Some(77), Lines::First),
+    (Log::Four, Some(0), Some(77), Lines::None),
+    (Log::Sha1WithTwoDigests, Some(65), Some(65), Lines::None),
+    (Log::Sha1Twice, Some(69), Some(69), Lines::TwoDigests),
+    (Log::CutData, Some(105), Some(65), Lines::None),
     // The first event is inside the header's own.
-    (
-        &[LONG_EVENT, ZERO_EVENT],
-        Some(81),
-        Some(65),
-        &["0 0x00000000 \n", "0 0x00000000 \n"],
-    ),
-    (&[LONG_EVENT, ZERO_EVENT], Some(65), None, &[]),
-    (
-        &[NO_DIGEST_BYTES, "00000000 08000000 01000000 0400 00000000"],
-        Some(65),
-        Some(65),
-        &["0 0x00000008  0004:\n"],
-    ),
-    (
-        &[NO_DIGEST_BYTES, "00000000 08000000 ffffffff 0400 00000000"],
-        Some(65),
-        Some(65),
-        &[],
-    ),
-    (
-        &[NO_DIGEST_BYTES, "00000000 08000000 01000000 0400 ffffffff"],
-        Some(65),
-        Some(65),
-        &[],
-    ),
-    (&[TEN_ROWS, NINTH], Some(101), Some(101), &[NINTH_LINE]),
-    (&[NINE_ROWS, NINTH], Some(97), Some(97), &[NINTH_LINE]),
-    (&[""], Some(0), None, &[]),
+    (Log::Long, Some(81), Some(65), Lines::TwoZeros),
+    (Log::Long, Some(65), None, Lines::None),
+    (Log::NoDigestBytes, Some(65), Some(65), Lines::NoDigestBytes),
+    (Log::MostDigests, Some(65), Some(65), Lines::None),
+    (Log::MostData, Some(65), Some(65), Lines::None),
+    (Log::TenRows, Some(101), Some(101), Lines::Ninth),
+    (Log::NineRows, Some(97), Some(97), Lines::Ninth),
+    (Log::Empty, Some(0), None, Lines::None),
 ];
 
 /// Returns the events that an iterator gives, one a line: register, type, data, and each digest
@@ -176,26 +218,20 @@ fn check_log(
     same_text(row, lines_of(alloc, log.iter())?.as_str(), lines.as_str())
 }
 
-/// Checks the same of the log that the parts are.
-fn check_parts(
-    alloc: Global,
-    parts: &[&str],
-    last_entry: Option<usize>,
-    start: Option<usize>,
-    lines: &[&str],
-) -> Result<(), Fail> {
-    let row = joined(alloc, parts)?;
+/// Checks the same of a row's log.
+fn check_row(alloc: Global, (log, last_entry, start, lines): Row) -> Result<(), Fail> {
+    let row = joined(alloc, parts_of(log))?;
     let input = bytes(alloc, row.as_str())?;
     let log = EventLog::new(Some(input.as_slice()), last_entry, false);
-    check_log(alloc, row.as_str(), &log, start, lines)
+    check_log(alloc, row.as_str(), &log, start, lines_in(lines))
 }
 
 #[test]
 fn a_log_has_its_header_and_the_events_that_keep_to_the_last_entry(
     rt: HostRuntime,
 ) -> Result<(), Fail> {
-    for (parts, last_entry, start, lines) in LOGS {
-        check_parts(rt.alloc(), parts, last_entry, start, lines)?;
+    for &row in &LOGS {
+        check_row(rt.alloc(), row)?;
     }
     Ok(())
 }
@@ -264,24 +300,24 @@ fn an_iterator_over_digests_stays_ended(rt: HostRuntime) -> Result<(), Fail> {
     holds("the events", events.next().is_none())
 }
 
-/// The parts of a log, its last entry, an algorithm, and the first digest of that algorithm in the
-/// log's first event.
-const FIRST_DIGESTS: [(&[&str], usize, AlgorithmId, Option<&str>); 5] = [
+/// A log, its last entry, an algorithm, and the first digest of that algorithm in the log's first
+/// event.
+const FIRST_DIGESTS: [(Log, usize, AlgorithmId, Option<&str>); 5] = [
     (
-        &[SHA1_TWICE, TWO_DIGESTS],
+        Log::Sha1Twice,
         69,
         AlgorithmId::SHA1,
         Some("1111111111111111111111111111111111111111"),
     ),
-    (&[SHA1_TWICE, TWO_DIGESTS], 69, AlgorithmId::SHA256, None),
+    (Log::Sha1Twice, 69, AlgorithmId::SHA256, None),
     (
-        &[FOUR_HEADER, FOUR_EVENTS],
+        Log::Four,
         77,
         AlgorithmId::SHA256,
         Some("96a296d224f285c67bee93c30f8a309157f0daa35dc5b87e410b78630a09cfc7"),
     ),
-    (&[FOUR_HEADER, FOUR_EVENTS], 77, AlgorithmId::SM3_256, None),
-    (&[LONG_EVENT, ZERO_EVENT], 81, AlgorithmId::SHA1, None),
+    (Log::Four, 77, AlgorithmId::SM3_256, None),
+    (Log::Long, 81, AlgorithmId::SHA1, None),
 ];
 
 /// Returns the first digest of an algorithm in a log's first event.
@@ -291,59 +327,83 @@ fn first_digest(input: &[u8], last_entry: usize, algorithm: AlgorithmId) -> Opti
     event.digest(algorithm)
 }
 
+/// Checks the first digest of an algorithm in the first event of a row's log.
+fn check_first_digest(
+    alloc: Global,
+    row: &str,
+    last_entry: usize,
+    algorithm: AlgorithmId,
+    digest: Option<&str>,
+) -> Result<(), Fail> {
+    let input = bytes(alloc, row)?;
+    let expected = bytes(alloc, digest.unwrap_or(""))?;
+    let expected = digest.map(|_| expected.as_slice());
+    let found = first_digest(input.as_slice(), last_entry, algorithm);
+    holds(row, found == expected)
+}
+
 #[test]
 fn an_event_has_the_first_digest_of_an_algorithm(rt: HostRuntime) -> Result<(), Fail> {
-    for (parts, last_entry, algorithm, digest) in FIRST_DIGESTS {
-        let row = joined(rt.alloc(), parts)?;
-        let input = bytes(rt.alloc(), row.as_str())?;
-        let expected = bytes(rt.alloc(), digest.unwrap_or(""))?;
-        let expected = digest.map(|_| expected.as_slice());
-        let found = first_digest(input.as_slice(), last_entry, algorithm);
-        holds(row.as_str(), found == expected)?;
+    for &(log, last_entry, algorithm, digest) in &FIRST_DIGESTS {
+        let row = joined(rt.alloc(), parts_of(log))?;
+        check_first_digest(rt.alloc(), row.as_str(), last_entry, algorithm, digest)?;
     }
     Ok(())
 }
 
-/// The parts of a log, its last entry, where its first event starts, and where each event ends.
-const ENDS: [(&[&str], usize, usize, &[usize]); 6] = [
-    (&[SHA1_HEADER], 0, 65, &[]),
-    (&[FOUR_HEADER, FOUR_EVENTS], 267, 77, &[267, 471]),
-    (&[FOUR_HEADER, FOUR_EVENTS], 77, 77, &[267]),
-    (&[SHA1_TWICE, TWO_DIGESTS], 69, 69, &[129]),
-    (&[LONG_EVENT, ZERO_EVENT], 81, 65, &[81, 97]),
-    (&[TEN_ROWS, NINTH], 101, 101, &[128]),
+/// A log, its last entry, where its first event starts, and where each event ends.
+const ENDS: [(Log, usize, usize, &[usize]); 6] = [
+    (Log::Sha1, 0, 65, &[]),
+    (Log::Four, 267, 77, &[267, 471]),
+    (Log::Four, 77, 77, &[267]),
+    (Log::Sha1Twice, 69, 69, &[129]),
+    (Log::Long, 81, 65, &[81, 97]),
+    (Log::TenRows, 101, 101, &[128]),
 ];
 
-/// Checks that the bytes of each event are those of the log up to its end, and returns where the
-/// last one ends.
+/// Returns where the last of these events ends, or `None` if the bytes of one aren't those of the
+/// log up to its end, or if the events have other ends.
+fn end_of(events: EventLogIter<'_>, input: &[u8], start: usize, ends: &[usize]) -> Option<usize> {
+    let mut events = events;
+    let mut start = start;
+    for end in ends {
+        let Some(event) = events.next() else {
+            return None;
+        };
+        if Some(event.as_bytes()) != input.get(start..*end) {
+            return None;
+        }
+        start = *end;
+    }
+    match events.next() {
+        Some(_) => None,
+        None => Some(start),
+    }
+}
+
+/// Checks that the bytes of each event are those of the log up to its end, and so are those of all.
 fn check_bytes(
+    alloc: Global,
     row: &str,
-    input: &[u8],
     last_entry: usize,
     start: usize,
     ends: &[usize],
-) -> Result<usize, Fail> {
+) -> Result<(), Fail> {
+    let input = bytes(alloc, row)?;
+    let input = input.as_slice();
     let log = EventLog::new(Some(input), Some(last_entry), false);
-    let mut events = log.iter();
-    let mut start = start;
-    for end in ends {
-        let event = events.next().ok_or("an event")?;
-        holds(row, Some(event.as_bytes()) == input.get(start..*end))?;
-        start = *end;
-    }
-    holds(row, events.next().is_none())?;
-    Ok(start)
+    let Some(end) = end_of(log.iter(), input, start, ends) else {
+        return Err(Fail::new(format_args!("{row}: the bytes or the ends of the events")));
+    };
+    let all = all_bytes(alloc, input, last_entry)?;
+    holds(row, Some(all.as_slice()) == input.get(start..end))
 }
 
 #[test]
 fn the_bytes_of_an_event_are_those_of_the_log_up_to_its_end(rt: HostRuntime) -> Result<(), Fail> {
-    for (parts, last_entry, start, ends) in ENDS {
-        let row = joined(rt.alloc(), parts)?;
-        let input = bytes(rt.alloc(), row.as_str())?;
-        let input = input.as_slice();
-        let end = check_bytes(row.as_str(), input, last_entry, start, ends)?;
-        let all = all_bytes(rt.alloc(), input, last_entry)?;
-        holds(row.as_str(), Some(all.as_slice()) == input.get(start..end))?;
+    for &(log, last_entry, start, ends) in &ENDS {
+        let row = joined(rt.alloc(), parts_of(log))?;
+        check_bytes(rt.alloc(), row.as_str(), last_entry, start, ends)?;
     }
     Ok(())
 }

@@ -1,86 +1,73 @@
-use crate::tests::v2::logs::{FIRST, LOGS, LONG_EVENT, SECOND, ZERO_EVENT, lines_of};
+use crate::tests::v2::cuts::events_from;
+use crate::tests::v2::logs::{LOGS, LONG_EVENT, Lines, Log, lines_in, lines_of, parts_of};
 use std::alloc::Global;
 use std::test::Fail;
-use test_support::samples::{FOUR_EVENTS, FOUR_HEADER, SHA1_HEADER};
 use test_support::{bytes, joined, same, same_text};
 use uefi_tcg::v2::{EventLog, EventLogHeader, EventLogIter, Start};
 
-/// The header of `LONG_EVENT`, which 16 bytes ff follow in its event.
-const FOLLOWED: &str = "00000000 03000000 0000000000000000000000000000000000000000 31000000 \
-    53706563204944204576656e74303300 00000000 00020002 01000000 04001400 00 \
-    ffffffffffffffffffffffffffffffff";
-
-const ZERO_LINE: &str = "0 0x00000000 \n";
-
-/// The parts of a log, a last entry, where the header and its event end if there is a header, the
-/// lines of the events from the header's end on, and the lines of those from the event's end on.
-type Row = (
-    &'static [&'static str],
-    Option<usize>,
-    Option<(usize, usize)>,
-    &'static [&'static str],
-    &'static [&'static str],
-);
+/// A log, a last entry, where the header and its event end if there is a header, the lines of the
+/// events from the header's end on, and the lines of those from the event's end on.
+type Row = (Log, Option<usize>, Option<(usize, usize)>, Lines, Lines);
 
 const STARTS: [Row; 14] = [
     (
-        &[LONG_EVENT, ZERO_EVENT],
+        Log::Long,
         Some(81),
         Some((65, 81)),
-        &[ZERO_LINE, ZERO_LINE],
-        &[ZERO_LINE],
+        Lines::TwoZeros,
+        Lines::Zero,
     ),
     (
-        &[LONG_EVENT, ZERO_EVENT],
+        Log::Long,
         Some(97),
         Some((65, 81)),
-        &[ZERO_LINE, ZERO_LINE],
-        &[ZERO_LINE],
+        Lines::TwoZeros,
+        Lines::Zero,
     ),
     // The second event starts before the last entry, and ends after it.
     (
-        &[LONG_EVENT, ZERO_EVENT],
+        Log::Long,
         Some(96),
         Some((65, 81)),
-        &[ZERO_LINE],
-        &[],
+        Lines::Zero,
+        Lines::None,
     ),
-    (&[LONG_EVENT, ZERO_EVENT], Some(80), None, &[], &[]),
-    (&[LONG_EVENT, ZERO_EVENT], Some(65), None, &[], &[]),
-    (&[LONG_EVENT, ZERO_EVENT], Some(0), Some((65, 81)), &[], &[]),
-    (&[LONG_EVENT, ZERO_EVENT], None, None, &[], &[]),
+    (Log::Long, Some(80), None, Lines::None, Lines::None),
+    (Log::Long, Some(65), None, Lines::None, Lines::None),
+    (Log::Long, Some(0), Some((65, 81)), Lines::None, Lines::None),
+    (Log::Long, None, None, Lines::None, Lines::None),
     // What follows the header in its event is no event.
     (
-        &[FOLLOWED, ZERO_EVENT],
+        Log::Followed,
         Some(81),
         Some((65, 81)),
-        &[],
-        &[ZERO_LINE],
+        Lines::None,
+        Lines::Zero,
     ),
-    (&[SHA1_HEADER], Some(0), Some((65, 65)), &[], &[]),
+    (Log::Sha1, Some(0), Some((65, 65)), Lines::None, Lines::None),
     (
-        &[FOUR_HEADER, FOUR_EVENTS],
+        Log::Four,
         Some(267),
         Some((77, 77)),
-        &[FIRST, SECOND],
-        &[FIRST, SECOND],
+        Lines::Both,
+        Lines::Both,
     ),
     (
-        &[FOUR_HEADER, FOUR_EVENTS],
+        Log::Four,
         Some(77),
         Some((77, 77)),
-        &[FIRST],
-        &[FIRST],
+        Lines::First,
+        Lines::First,
     ),
     (
-        &[FOUR_HEADER, FOUR_EVENTS],
+        Log::Four,
         Some(usize::MAX),
         Some((77, 77)),
-        &[FIRST, SECOND],
-        &[FIRST, SECOND],
+        Lines::Both,
+        Lines::Both,
     ),
-    (&[FOUR_HEADER, FOUR_EVENTS], Some(76), None, &[], &[]),
-    (&[""], Some(0), None, &[], &[]),
+    (Log::Four, Some(76), None, Lines::None, Lines::None),
+    (Log::Empty, Some(0), None, Lines::None, Lines::None),
 ];
 
 /// Checks where the header of a log and its event end, and the events from a start on, as they are
@@ -97,33 +84,41 @@ fn check_start(
     same_text(row, lines_of(alloc, events)?.as_str(), lines)
 }
 
-/// Checks where the header of a log and its event end, and the events from both ends on.
-fn check_starts(
+/// Checks where the header of a log and its event end, and the events from one of both ends on, as
+/// the log returns them apart and together.
+fn check_both(
     alloc: Global,
     row: &str,
-    log: &EventLog<'_>,
+    (log, start): (&EventLog<'_>, Start),
     ends: Option<(usize, usize)>,
-    (after_header, after_event): (&[&str], &[&str]),
+    lines: Lines,
 ) -> Result<(), Fail> {
-    let lines = joined(alloc, after_header)?;
-    check_start(alloc, row, (log.header(), log.iter()), ends, lines.as_str())?;
-    let found = log.header_and_events(Start::AfterHeader);
-    check_start(alloc, row, found, ends, lines.as_str())?;
-    let lines = joined(alloc, after_event)?;
-    let found = (log.header(), log.iter_after_header_event());
-    check_start(alloc, row, found, ends, lines.as_str())?;
-    let found = log.header_and_events(Start::AfterEvent);
-    check_start(alloc, row, found, ends, lines.as_str())
+    let lines = joined(alloc, lines_in(lines))?;
+    let apart = (log.header(), events_from(log, start));
+    check_start(alloc, row, apart, ends, lines.as_str())?;
+    let together = log.header_and_events(start);
+    check_start(alloc, row, together, ends, lines.as_str())
+}
+
+/// Checks a row.
+fn check_row(alloc: Global, (log, last_entry, ends, header, event): Row) -> Result<(), Fail> {
+    let row = joined(alloc, parts_of(log))?;
+    let input = bytes(alloc, row.as_str())?;
+    let log = EventLog::new(Some(input.as_slice()), last_entry, false);
+    check_both(
+        alloc,
+        row.as_str(),
+        (&log, Start::AfterHeader),
+        ends,
+        header,
+    )?;
+    check_both(alloc, row.as_str(), (&log, Start::AfterEvent), ends, event)
 }
 
 #[test]
 fn events_start_after_the_header_or_after_its_event(rt: HostRuntime) -> Result<(), Fail> {
-    for (parts, last_entry, ends, after_header, after_event) in STARTS {
-        let row = joined(rt.alloc(), parts)?;
-        let input = bytes(rt.alloc(), row.as_str())?;
-        let log = EventLog::new(Some(input.as_slice()), last_entry, false);
-        let lines = (after_header, after_event);
-        check_starts(rt.alloc(), row.as_str(), &log, ends, lines)?;
+    for &row in &STARTS {
+        check_row(rt.alloc(), row)?;
     }
     Ok(())
 }
@@ -141,15 +136,20 @@ fn check_equal_starts(alloc: Global, row: &str, log: &EventLog<'_>) -> Result<()
     same_text(row, others.as_str(), events.as_str())
 }
 
+/// Checks the same of the log of a row of `LOGS`.
+fn check_equal_starts_of(alloc: Global, log: Log, last_entry: Option<usize>) -> Result<(), Fail> {
+    let row = joined(alloc, parts_of(log))?;
+    let input = bytes(alloc, row.as_str())?;
+    let log = EventLog::new(Some(input.as_slice()), last_entry, false);
+    check_equal_starts(alloc, row.as_str(), &log)
+}
+
 #[test]
 fn both_starts_have_the_same_events_where_nothing_follows_the_header(
     rt: HostRuntime,
 ) -> Result<(), Fail> {
-    for (parts, last_entry, _, _) in LOGS {
-        let row = joined(rt.alloc(), parts)?;
-        let input = bytes(rt.alloc(), row.as_str())?;
-        let log = EventLog::new(Some(input.as_slice()), last_entry, false);
-        check_equal_starts(rt.alloc(), row.as_str(), &log)?;
+    for &(log, last_entry, _, _) in &LOGS {
+        check_equal_starts_of(rt.alloc(), log, last_entry)?;
     }
     Ok(())
 }

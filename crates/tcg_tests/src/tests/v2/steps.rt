@@ -140,7 +140,7 @@ fn shape(input: &[u8], offset: usize, last_entry: usize) -> Option<(u32, u32, us
 fn an_offset_may_be_any_number(rt: HostRuntime) -> Result<(), Fail> {
     let text = joined(rt.alloc(), &[FOUR_HEADER, FOUR_EVENTS])?;
     let input = bytes(rt.alloc(), text.as_str())?;
-    for (offset, last_entry, expected) in STEPS {
+    for &(offset, last_entry, expected) in &STEPS {
         let found = shape(input.as_slice(), offset, last_entry);
         let row = (offset, last_entry, expected);
         same("a step", &(offset, last_entry, found), &row)?;

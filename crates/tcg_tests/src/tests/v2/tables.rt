@@ -87,7 +87,7 @@ fn sizes_in(table: &DigestTable<'_>) -> [Option<u16>; 5] {
 #[test]
 fn a_table_is_what_its_fields_spell(rt: HostRuntime) -> Result<(), Fail> {
     let others = bytes(rt.alloc(), OTHERS)?;
-    for (count, length, sizes) in SIZES {
+    for &(count, length, sizes) in &SIZES {
         let table = table_of(count, others.as_slice());
         same(
             "a table",
