@@ -116,7 +116,7 @@ fn check_items(alloc: Global, row: &str, lines: &str) -> Result<(), Fail> {
 
 #[test]
 fn a_text_is_cut_into_configurations_and_errors(rt: HostRuntime) -> Result<(), Fail> {
-    for (row, lines) in TEXTS {
+    for &(row, lines) in &TEXTS {
         check_items(rt.alloc(), row, lines)?;
     }
     Ok(())
@@ -158,7 +158,7 @@ fn first_item(alloc: Global, row: &str) -> Result<String, Fail> {
 
 #[test]
 fn the_first_item_is_read(rt: HostRuntime) -> Result<(), Fail> {
-    for (row, line) in FIRST_ITEMS {
+    for &(row, line) in &FIRST_ITEMS {
         same_text(row, first_item(rt.alloc(), row)?.as_str(), line)?;
     }
     Ok(())
@@ -182,7 +182,7 @@ const CUTS: [(&str, &str); 6] = [
 
 #[test]
 fn a_configuration_that_is_cut_is_read_up_to_there(rt: HostRuntime) -> Result<(), Fail> {
-    for (row, line) in CUTS {
+    for &(row, line) in &CUTS {
         same_text(row, first_item(rt.alloc(), row)?.as_str(), line)?;
         check_items(rt.alloc(), row, line)?;
     }

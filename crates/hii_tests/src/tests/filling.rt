@@ -30,7 +30,7 @@ fn filled(alloc: Global, text: &str) -> Result<Vec<u8>, AllocError> {
 
 #[test]
 fn a_buffer_is_filled_with_the_bytes_of_a_text(rt: HostRuntime) -> Result<(), Fail> {
-    for (text, expected, count) in TEXTS {
+    for &(text, expected, count) in &TEXTS {
         let bytes = filled(rt.alloc(), text)?;
         same(text, &bytes.len(), &count)?;
         same(text, &expected.starts_with(bytes.as_slice()), &true)?;

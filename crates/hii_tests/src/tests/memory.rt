@@ -70,7 +70,7 @@ fn check_all(alloc: Global, row: &str, items: &str) -> Result<(), Fail> {
 
 #[test]
 fn all_items_are_read_or_memory_was_refused(rt: HostRuntime) -> Result<(), Fail> {
-    for (row, items) in TEXTS {
+    for &(row, items) in &TEXTS {
         check_all(rt.alloc(), row, items)?;
     }
     Ok(())
@@ -127,7 +127,7 @@ fn check_items_before(alloc: Global, row: &str, items: &str) -> Result<(), Fail>
 
 #[test]
 fn the_iterator_gives_the_items_before_memory_is_refused(rt: HostRuntime) -> Result<(), Fail> {
-    for (row, items) in TEXTS {
+    for &(row, items) in &TEXTS {
         check_items_before(rt.alloc(), row, items)?;
     }
     Ok(())
@@ -162,7 +162,7 @@ fn check_made(alloc: Global, text: &str) -> Result<(), Fail> {
 fn an_iterator_is_made_without_memory(rt: HostRuntime) -> Result<(), Fail> {
     let alloc = rt.alloc();
     check_made(alloc, "")?;
-    for (row, _) in TEXTS {
+    for &(row, _) in &TEXTS {
         check_made(alloc, text_of(alloc, row)?.as_str())?;
     }
     without_request(

@@ -41,7 +41,7 @@ const NAMES: [(&str, Option<&str>); 11] = [
 
 #[test]
 fn hex_is_a_name(rt: HostRuntime) -> Result<(), Fail> {
-    for (row, expected) in NAMES {
+    for &(row, expected) in &NAMES {
         let found = ConfigurationString::parse_string_from_hex(rt.alloc(), row)?;
         let found = found.as_ref().map(|name| name.as_str());
         same(row, &found, &expected)?;
@@ -116,7 +116,7 @@ fn pairs_of(alloc: Global, text: &str) -> Result<String, Fail> {
 
 #[test]
 fn a_text_has_pairs(rt: HostRuntime) -> Result<(), Fail> {
-    for (row, expected) in PAIRS {
+    for &(row, expected) in &PAIRS {
         let found = pairs_of(rt.alloc(), row)?;
         same(row, &found.as_str(), &expected)?;
     }

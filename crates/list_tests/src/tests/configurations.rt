@@ -58,7 +58,7 @@ const TEXTS: [(&str, &str); 10] = [
 
 #[test]
 fn a_text_is_listed_by_its_configurations_and_faults(rt: HostRuntime) -> Result<(), Fail> {
-    for (text, expected) in TEXTS {
+    for &(text, expected) in &TEXTS {
         let input = text.replace(rt.alloc(), '@', HEADER)?;
         let input = input.as_str().replace(rt.alloc(), '#', ISCSI_HEADER)?;
         let row = (Command::Config, text, expected);

@@ -31,7 +31,7 @@ where
 
 #[test]
 fn each_command_is_asked_for_by_its_words(rt: HostRuntime) -> Result<(), Fail> {
-    for (words, command) in WORDS {
+    for &(words, command) in &WORDS {
         asks(rt.alloc(), words, Some(command))?;
     }
     Ok(())
