@@ -35,10 +35,7 @@ pub(crate) fn take_value<'a>(pairs: &mut PeekedPairs<'a>, key: &str) -> Option<&
 pub(crate) fn take_number(pairs: &mut PeekedPairs<'_>, key: &str) -> Option<u64>
     ensures { Takes (number_in key.now) (peeked_pairs pairs.old) result (peeked_pairs pairs.new) }
 {
-    let Some(value) = take_value(pairs, key) else {
-        return None;
-    };
-    ConfigurationString::parse_number_from_hex(value)
+    ConfigurationString::parse_number_from_hex(take_value(pairs, key)?)
 }
 
 /// Returns the GUID of the next pair, if it is one.
@@ -46,10 +43,7 @@ pub(crate) fn take_guid(pairs: &mut PeekedPairs<'_>) -> Option<Guid>
     ensures { Takes guid_in (peeked_pairs pairs.old)
         (option_map (λ guid. guid.0) result) (peeked_pairs pairs.new) }
 {
-    let Some(value) = take_value(pairs, keys::GUID) else {
-        return None;
-    };
-    ConfigurationString::parse_guid_from_hex(value)
+    ConfigurationString::parse_guid_from_hex(take_value(pairs, keys::GUID)?)
 }
 
 /// Returns the name of the next pair, if it is one.
