@@ -82,12 +82,12 @@ fn command_with(name: &str, word: &str) -> Option<Command>
     ensures other_words { IfNone result ((command : Command) → (file : List ℕ)
         → AskOver command file (name.now ∷ file ∷ word.now ∷ []) → ⊥) }
 {
-    match name {
-        "log1" => last_entry(word).map(Command::Log1),
-        "log2" => last_entry(word).map(Command::Log2),
-        "log2after" => last_entry(word).map(Command::Log2After),
-        "map" => decimal(word).map(Command::Map),
-        "info" => decimal(word).map(Command::Info),
+    match (name, last_entry(word), decimal(word)) {
+        ("log1", Some(last), _) => Some(Command::Log1(last)),
+        ("log2", Some(last), _) => Some(Command::Log2(last)),
+        ("log2after", Some(last), _) => Some(Command::Log2After(last)),
+        ("map", _, Some(stride)) => Some(Command::Map(stride)),
+        ("info", _, Some(written)) => Some(Command::Info(written)),
         _ => None,
     }
 }

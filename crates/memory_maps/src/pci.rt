@@ -3,7 +3,7 @@
 pub use self::resource::{QwordAddressSpaceDescriptor, ResourceRangeType};
 pub use self::resource_error::ResourceError;
 pub use self::resource_iter::ResourceIter;
-pub use self::resource_list::{ResourceList, parse};
+pub use self::resource_list::ResourceList;
 
 // A record.
 mod resource;

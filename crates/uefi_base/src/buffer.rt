@@ -11,7 +11,6 @@ ghost use Rattle.uefi_base.specs.Unaligned.{unit_bytes};
 pub use uefi_core::buffer::put;
 
 /// Copies `units` into `buffer` at `offset`, two bytes each, little-endian.
-#[tactic(auto, using(crate::proofs::UnitsPut::units_put))]
 pub fn put_units(buffer: &mut [u8], offset: usize, units: &[u16])
     requires { offset + 2 * length units.now ≤ length buffer.old }
     ensures { buffer.new ≡ put_at offset (unit_bytes units.now) buffer.old }

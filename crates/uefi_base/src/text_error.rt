@@ -30,14 +30,14 @@ impl fmt::Display for FromSliceWithNulError {
 
     fn fmt<W: fmt::Write>(&self, f: &mut fmt::Formatter<W>) -> fmt::Result {
         match self {
-            FromSliceWithNulError::TooLong => write!(f, "more than 2^31 units"),
+            FromSliceWithNulError::TooLong => f.write_str("more than 2^31 units"),
             FromSliceWithNulError::InvalidChar(index) => {
                 write!(f, "a surrogate at index {index}")
             }
             FromSliceWithNulError::InteriorNul(index) => {
                 write!(f, "a NUL at index {index}, before the end")
             }
-            FromSliceWithNulError::NotNulTerminated => write!(f, "no NUL at the end"),
+            FromSliceWithNulError::NotNulTerminated => f.write_str("no NUL at the end"),
         }
     }
 }
@@ -67,12 +67,12 @@ impl fmt::Display for FromStrError {
     ghost output = { λ error. Some (str_error_text error) };
 
     fn fmt<W: fmt::Write>(&self, f: &mut fmt::Formatter<W>) -> fmt::Result {
-        match self {
-            FromStrError::TooLong => write!(f, "more than 2^31 - 1 characters"),
-            FromStrError::InvalidChar => write!(f, "a character above U+FFFF"),
-            FromStrError::InteriorNul => write!(f, "the character U+0000"),
-            FromStrError::Memory => write!(f, "out of memory"),
-        }
+        f.write_str(match self {
+            FromStrError::TooLong => "more than 2^31 - 1 characters",
+            FromStrError::InvalidChar => "a character above U+FFFF",
+            FromStrError::InteriorNul => "the character U+0000",
+            FromStrError::Memory => "out of memory",
+        })
     }
 }
 
@@ -131,7 +131,7 @@ impl fmt::Display for UnalignedCStr16Error {
     fn fmt<W: fmt::Write>(&self, f: &mut fmt::Formatter<W>) -> fmt::Result {
         match self.of_units() {
             Some(fault) => write!(f, "{fault}"),
-            None => write!(f, "out of memory"),
+            None => f.write_str("out of memory"),
         }
     }
 }

@@ -43,12 +43,12 @@ impl fmt::Display for Status {
     ghost output = { λ status. Some (status_name status) };
 
     fn fmt<W: fmt::Write>(&self, f: &mut fmt::Formatter<W>) -> fmt::Result {
-        match self {
-            Status::INVALID_PARAMETER => write!(f, "INVALID_PARAMETER"),
-            Status::BAD_BUFFER_SIZE => write!(f, "BAD_BUFFER_SIZE"),
-            Status::BUFFER_TOO_SMALL => write!(f, "BUFFER_TOO_SMALL"),
-            Status::OUT_OF_RESOURCES => write!(f, "OUT_OF_RESOURCES"),
-        }
+        f.write_str(match self {
+            Status::INVALID_PARAMETER => "INVALID_PARAMETER",
+            Status::BAD_BUFFER_SIZE => "BAD_BUFFER_SIZE",
+            Status::BUFFER_TOO_SMALL => "BUFFER_TOO_SMALL",
+            Status::OUT_OF_RESOURCES => "OUT_OF_RESOURCES",
+        })
     }
 }
 

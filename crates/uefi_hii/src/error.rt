@@ -44,12 +44,13 @@ impl fmt::Display for ConfigHdrSection {
     ghost output = { λ section. Some (section_text section) };
 
     fn fmt<W: fmt::Write>(&self, f: &mut fmt::Formatter<W>) -> fmt::Result {
-        match self {
-            ConfigHdrSection::Guid => write!(f, "GUID"),
-            ConfigHdrSection::Name => write!(f, "name"),
-            ConfigHdrSection::Path => write!(f, "path"),
-            ConfigHdrSection::DescHdr => write!(f, "identifier"),
-        }
+        let name = match self {
+            ConfigHdrSection::Guid => "GUID",
+            ConfigHdrSection::Name => "name",
+            ConfigHdrSection::Path => "path",
+            ConfigHdrSection::DescHdr => "identifier",
+        };
+        f.write_str(name)
     }
 }
 
@@ -62,16 +63,15 @@ impl fmt::Display for ParseError {
     ghost output = { λ error. Some (error_text error) };
 
     fn fmt<W: fmt::Write>(&self, f: &mut fmt::Formatter<W>) -> fmt::Result {
-        match self {
+        let text = match self {
             ParseError::ConfigHdr(section) => {
-                write!(f, "the header's {section} is missing or wrong")
+                return write!(f, "the header's {section} is missing or wrong");
             }
-            ParseError::BlockName => {
-                write!(f, "an element's offset or width is missing or wrong")
-            }
-            ParseError::BlockConfig => write!(f, "an element's value is missing"),
-            ParseError::Memory => write!(f, "out of memory"),
-        }
+            ParseError::BlockName => "an element's offset or width is missing or wrong",
+            ParseError::BlockConfig => "an element's value is missing",
+            ParseError::Memory => "out of memory",
+        };
+        f.write_str(text)
     }
 }
 

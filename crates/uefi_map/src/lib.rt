@@ -6,22 +6,24 @@
 //! [`MemoryMapRefMut`] and [`MemoryMapOwned`] can be written too, by [`MemoryMapMut`]: a write
 //! changes the forty bytes of one descriptor. For a list of resources begin with
 //! [`ResourceList::try_from`], which returns the list that the bytes begin with, or the one error
-//! that they have. Only [`parse`] allocates.
+//! that they have, or with [`parse`], which collects it: of all calls this one allocates.
 //!
 //! The contracts state what each call returns and writes, for all inputs, and when each error
 //! comes, over the definitions in `specs/memory` and `specs/pci`; [`laws`] states what holds of all
 //! maps and lists.
 //!
-//! Maps that can be written are defined here. All else is defined in the crate `memory_maps`, and
-//! passed on.
+//! Maps that can be written, and [`parse`], are defined here. All else is defined in the crate
+//! `memory_maps`, and passed on.
 #![tactic(auto)]
 
 pub use self::memory::{MemoryMapMut, MemoryMapOwned, MemoryMapRefMut};
+pub use self::pci::parse;
 pub use memory_maps::{
     MemoryAttribute, MemoryDescriptor, MemoryMap, MemoryMapError, MemoryMapIter, MemoryMapKey,
     MemoryMapMeta, MemoryMapRef, MemoryType, QwordAddressSpaceDescriptor, ResourceError,
-    ResourceIter, ResourceList, ResourceRangeType, parse,
+    ResourceIter, ResourceList, ResourceRangeType,
 };
 
 pub mod laws;
 mod memory;
+mod pci;

@@ -37,7 +37,6 @@ impl<A: Allocator> BoxedDevicePath<A> {
     }
 
     /// Returns a view of the path that this box owns.
-    #[tactic(auto, using(crate::specs::private::OnePath::same_nodes))]
     pub fn as_path(&self) -> DevicePath<'_>
         ensures { path_nodes result ≡ boxed_nodes self.now }
     {
@@ -60,7 +59,6 @@ impl<A: Allocator> TryFrom<Vec<u8, A>> for BoxedDevicePath<A> {
 
     ghost try_from_gives = { λ bytes read. ReadsPath boxed_nodes bytes.items read };
 
-    #[tactic(auto, using(crate::specs::private::OnePath::one_path))]
     fn try_from(bytes: Vec<u8, A>) -> Result<BoxedDevicePath<A>, ByteConversionError> {
         let mut bytes = bytes;
         let (path, _) = split_nodes(bytes.as_slice(), StopCondition::EndEntireNode)?;
@@ -82,7 +80,6 @@ impl<A: Allocator> BoxedDevicePathInstance<A> {
     }
 
     /// Returns a view of the instance that this box owns.
-    #[tactic(auto, using(crate::specs::private::OnePath::same_nodes))]
     pub fn as_instance(&self) -> DevicePathInstance<'_>
         ensures { instance_nodes result ≡ boxed_instance_nodes self.now }
     {

@@ -78,7 +78,6 @@ impl<'a> TryFrom<&'a [u8]> for DevicePathHeader {
 
     ghost try_from_gives = { λ bytes read. ReadsHeader header_of bytes.now read };
 
-    #[tactic(auto, using(crate::proofs::Nodes::header_prefix))]
     fn try_from(bytes: &'a [u8]) -> Result<DevicePathHeader, ByteConversionError> {
         let [device_type, sub_type, low, high, ..] = bytes else {
             return Err(ByteConversionError::InvalidLength);

@@ -110,7 +110,6 @@ impl<'a> TryFrom<&'a [u8]> for DevicePathNode<'a> {
 
     ghost try_from_gives = { λ bytes read. ReadsNode node_of bytes.now read };
 
-    #[tactic(auto, using(crate::specs::private::OneNode::one_encoding))]
     fn try_from(bytes: &'a [u8]) -> Result<DevicePathNode<'a>, ByteConversionError> {
         let header = DevicePathHeader::try_from(bytes)?;
         let length = usize::from(header.length());

@@ -177,7 +177,7 @@ fn lines(alloc: Global, bytes: &[u8]) -> Result<String, Fail> {
 
 #[test]
 fn each_event_has_its_line(rt: HostRuntime) -> Result<(), Fail> {
-    for (row, expected) in LOGS {
+    for &(row, expected) in &LOGS {
         let log = row.replace(rt.alloc(), '@', DIGEST)?;
         let input = bytes(rt.alloc(), log.as_str())?;
         let expected = expected.replace(rt.alloc(), '#', DIGEST_FIELDS)?;

@@ -85,7 +85,7 @@ fn events_of_a_machines_log_have_their_lines(rt: HostRuntime) -> Result<(), Fail
     let log = Log::new(input.as_slice(), Some(input.len()));
     for (index, entry) in log.entries().enumerate() {
         let line = event_line(rt.alloc(), "ovmf", index, &entry)?;
-        for (of, expected) in MACHINE_LINES {
+        for &(of, expected) in &MACHINE_LINES {
             if of == index {
                 same_text("an event", line.as_str(), expected)?;
             }

@@ -234,7 +234,7 @@ fn first_line(alloc: Global, bytes: &[u8]) -> Result<String, Fail> {
 
 #[test]
 fn a_type_has_its_name_if_there_is_one(rt: HostRuntime) -> Result<(), Fail> {
-    for (row, end) in TYPES {
+    for &(row, end) in &TYPES {
         let input = bytes(rt.alloc(), row)?;
         let line = first_line(rt.alloc(), input.as_slice())?;
         holds(end, line.as_str().ends_with(end))?;
@@ -244,7 +244,7 @@ fn a_type_has_its_name_if_there_is_one(rt: HostRuntime) -> Result<(), Fail> {
 
 #[test]
 fn an_algorithm_has_its_name_or_its_number(rt: HostRuntime) -> Result<(), Fail> {
-    for (algorithm, name) in ALGORITHMS {
+    for &(algorithm, name) in &ALGORITHMS {
         let row = ONE_DIGEST.replace(rt.alloc(), '@', algorithm)?;
         let input = bytes(rt.alloc(), row.as_str())?;
         let line = first_line(rt.alloc(), input.as_slice())?;

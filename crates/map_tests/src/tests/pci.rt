@@ -121,11 +121,11 @@ fn what_is_left_is_counted(rt: HostRuntime) -> Result<(), Fail> {
 /// Returns whether the resources are those of [`ROOT_BRIDGE`].
 fn are_ranges(resources: &[QwordAddressSpaceDescriptor]) -> bool {
     let mut left = resources.iter();
-    for range in RANGES {
+    for range in &RANGES {
         let Some(resource) = left.next() else {
             return false;
         };
-        if range_of(resource) != range {
+        if range_of(resource) != *range {
             return false;
         }
     }

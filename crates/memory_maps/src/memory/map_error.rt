@@ -19,10 +19,10 @@ impl fmt::Display for MemoryMapError {
     ghost output = { λ error. Some (map_error_text error) };
 
     fn fmt<W: fmt::Write>(&self, f: &mut fmt::Formatter<W>) -> fmt::Result {
-        match self {
-            MemoryMapError::Misaligned => write!(f, "Misaligned"),
-            MemoryMapError::InvalidSize => write!(f, "InvalidSize"),
-        }
+        f.write_str(match self {
+            MemoryMapError::Misaligned => "Misaligned",
+            MemoryMapError::InvalidSize => "InvalidSize",
+        })
     }
 }
 

@@ -27,10 +27,10 @@ impl fmt::Display for ResourceError {
 
     fn fmt<W: fmt::Write>(&self, f: &mut fmt::Formatter<W>) -> fmt::Result {
         match self {
-            ResourceError::NoEndTag => write!(f, "no end tag"),
-            ResourceError::CutRecord => write!(f, "a record is cut off"),
+            ResourceError::NoEndTag => f.write_str("no end tag"),
+            ResourceError::CutRecord => f.write_str("a record is cut off"),
             ResourceError::UnknownTag(tag) => write!(f, "unknown tag {tag}"),
-            ResourceError::Memory => write!(f, "out of memory"),
+            ResourceError::Memory => f.write_str("out of memory"),
         }
     }
 }

@@ -1,11 +1,9 @@
-ghost use Rattle.std.specs.Prelude.{◌≢◌, ◌≡◌, ◌^◌, ◌<◌, [], ◌∷◌, length, IfOk, IfErr, IfSome, IsNone};
-ghost use Rattle.std.specs.Result.{IsErrOf};
-ghost use Rattle.memory_maps.specs.pci.ResourceList.{BeginWithRecords, BeginWith, end_tag, IsFaultOf, HaveSomeFault, HaveOneList, HaveOneFault, ReadsList};
+ghost use Rattle.std.specs.Prelude.{◌≡◌, ◌^◌, ◌<◌, [], ◌∷◌, length, IfOk, IfErr, IfSome, IsNone};
+ghost use Rattle.memory_maps.specs.pci.ResourceList.{BeginWithRecords, BeginWith, end_tag, IsFaultOf, ReadsList};
 
 use super::resource::{QwordAddressSpaceDescriptor, RECORD_LENGTH};
 use super::resource_error::ResourceError;
 use super::resource_iter::ResourceIter;
-use std::alloc::Allocator;
 
 /// The first byte of a record.
 const RECORD_TAG: u8 = 0x8a;
@@ -106,25 +104,4 @@ fn skip_record(bytes: &[u8]) -> Result<Option<&[u8]>, ResourceError>
         }
         Some(tag) => Err(ResourceError::UnknownTag(*tag)),
     }
-}
-
-/// Returns the resources of the list that the bytes begin with, in order: those of
-/// [`ResourceList::try_from`], in a vector.
-///
-/// # Errors
-///
-/// - The error of [`ResourceList::try_from`] if the bytes begin with no list.
-/// - [`Memory`](ResourceError::Memory) if they begin with one, and an allocation fails.
-pub fn parse<A: Allocator>(
-    alloc: A,
-    bytes: &[u8],
-) -> Result<Vec<QwordAddressSpaceDescriptor, A>, ResourceError>
-    ensures list { IfOk result (λ list. HaveOneList bytes.now list.items) }
-    ensures fault { IfErr result
-        (λ fault. fault ≢ ResourceError.Memory → HaveOneFault bytes.now fault) }
-    ensures memory { IsErrOf result ResourceError.Memory → ¬ HaveSomeFault bytes.now }
-{
-    let list = ResourceList::try_from(bytes)?;
-    let resources = list.iter().collect(alloc)?;
-    Ok(resources)
 }

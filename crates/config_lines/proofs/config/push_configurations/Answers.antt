@@ -19,3 +19,6 @@ loop-item-preserved g c =
 pub returns : goal.returns
 returns g c = listed_all c.loop-item.invariant c.in_default.ensures.steps.0
     (simp append_assoc c.in_ok-writeln.ensures.bytes)
+
+pub loop-item-smaller : goal.loop-item-smaller
+loop-item-smaller g c = (c.in-Some.ensures.goes.on tt).2

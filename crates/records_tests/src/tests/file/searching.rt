@@ -84,7 +84,7 @@ const ABOUT_PAGES: [usize; 13] = [
 
 #[test]
 fn a_zero_unit_about_the_end_of_a_page_is_found_as_one_by_one(rt: HostRuntime) -> Result<(), Fail> {
-    for index in ABOUT_PAGES {
+    for &index in &ABOUT_PAGES {
         is_found(rt.alloc(), MANY_PAGES, index)?;
     }
     Ok(())

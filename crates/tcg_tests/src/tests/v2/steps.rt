@@ -75,7 +75,7 @@ fn steps_are_events(input: &[u8], last_entry: usize) -> bool {
     let Some(header) = log.header() else {
         return log.iter().next().is_none();
     };
-    let table = header.algorithm_digest_sizes().table();
+    let table = DigestTable::from(header.algorithm_digest_sizes());
     let (start, after) = (header.size_in_bytes(), header.event_size());
     are_steps(log.iter(), &table, input, start, last_entry)
         && are_steps(
@@ -126,7 +126,7 @@ const STEPS: [(usize, usize, Option<(u32, u32, usize, usize)>); 11] = [
 /// What `STEPS` says of the event that starts there, under the table of the log's header.
 fn shape(input: &[u8], offset: usize, last_entry: usize) -> Option<(u32, u32, usize, usize)> {
     let header = EventLog::new(Some(input), Some(usize::MAX), false).header()?;
-    let table = header.algorithm_digest_sizes().table();
+    let table = DigestTable::from(header.algorithm_digest_sizes());
     let (parts, end) = step(&table, input, offset, last_entry)?;
     Some((
         parts.event_type.0,

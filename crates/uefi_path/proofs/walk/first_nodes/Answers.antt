@@ -1,4 +1,5 @@
 use Rattle.std.proofs.Common.{◌≡◌, drop, true, false, arith}
+use Rattle.std.proofs.lemmas.Grind.{common_steps}
 use Rattle.uefi_path.specs.private.Stop.{Stops}
 use Rattle.uefi_path.proofs.Nodes.{states_length}
 use Rattle.uefi_path.proofs.Passing.{HasNodes-over, passed_over, passed_up_to, passed_within}
@@ -10,6 +11,9 @@ known_length_at-length-requires-clause-node c = HasNodes-node (Stops c.args.stop
 
 pub stops_at-requires : goal.stops_at-requires
 stops_at-requires c = HasNodes-node (Stops c.args.stop) c.loop-stop.rest.now c.loop-stop.invariant.left
+
+pub overflow_sub-bytes : goal.overflow_sub-bytes
+overflow_sub-bytes c = grind (arith, common_steps)
 
 pub overflow_add-bytes : goal.overflow_add-bytes
 overflow_add-bytes c =

@@ -1,3 +1,4 @@
+use Rattle.std.proofs.lemmas.Grind.{common_steps}
 use Rattle.std.proofs.Common.{◌≡◌, ℕ, zero, suc, ◌+◌, ◌<◌, ◌≤◌, refl, ap, arith, true, false}
 use Rattle.memory_maps.specs.memory.Descriptor.{descriptor}
 use Rattle.memory_maps.specs.memory.Map.{count_of}
@@ -22,3 +23,6 @@ returns-then-start-last c =
     let no_order = falls (λ i. (descriptor c.args.bytes.now meta.desc_size i).phys_start)
     (count_of meta) c.loop-i.i c.loop-i.last within below c.loop-i.invariant.before_first c.loop-i.invariant.before in
     ((λ so. let no : false ≡ true = so in cc), λ sorted. absurd (no_order sorted))
+
+pub loop-i-preserved : goal.loop-i-preserved
+loop-i-preserved c = grind (arith, common_steps)

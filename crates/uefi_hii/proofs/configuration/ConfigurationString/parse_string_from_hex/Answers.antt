@@ -1,5 +1,5 @@
 use Rattle.std.proofs.lemmas.Grind.{common_steps}
-use Rattle.std.proofs.Common.{◌∷◌, sym, ◌∙◌, ap, subst, arith}
+use Rattle.std.proofs.Common.{◌≡◌, ◌<◌, List, ◌∷◌, length, sym, ◌∙◌, ap, subst, arith}
 use Rattle.std.specs.Prelude.{string_bytes, Some, None, option_map, if◌then◌else◌}
 use Rattle.std.proofs.lemmas.List.{nil_from_length}
 use Rattle.uefi_hii.specs.Hex.{hex}
@@ -39,6 +39,14 @@ returns g c =
     let so_far = string_bytes c.loop-high.name in
     sym (named_all v so_far (equals _ 0 c.if-text-ne0.false)
     (subst (λ s. HasNamed (hex v) s so_far) (nil_from_length _ c.in_default.ensures.steps.0) c.loop-high.invariant))
+
+-- Both bytes of a unit are no longer left.
+two_fewer : {A : Type 0} (before between after : List A) (x y : A) → before ≡ x ∷ between → between ≡ y ∷ after
+    → length after < length before
+two_fewer before between after x y d e = omega (arith, ap length d, ap length e)
+
+pub loop-high-smaller : goal.loop-high-smaller
+loop-high-smaller g c = two_fewer _ _ _ _ _ c.in-Some.ensures.steps c.in-Some-next.ensures.steps
 
 pub loop-high-preserved : goal.loop-high-preserved
 loop-high-preserved g c = grind (arith, common_steps)

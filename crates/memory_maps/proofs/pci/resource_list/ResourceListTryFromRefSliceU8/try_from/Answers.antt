@@ -1,9 +1,10 @@
-use Rattle.std.proofs.Common.{rules, [], ◌∷◌, ◌++◌, sym, subst, Err, ap, ◌∙◌}
+use Rattle.std.proofs.Common.{rules, [], ◌∷◌, ◌++◌, sym, subst, Err, ap, ◌∙◌, arith}
+use Rattle.std.proofs.lemmas.Grind.{common_steps}
 use Rattle.std.proofs.lemmas.Result.{err_from_is_err_and}
 use Rattle.memory_maps.specs.pci.ResourceList.{BeginWith, end_tag, HaveOneList, ReadsList}
 use Rattle.memory_maps.specs.pci.Views.{resources_of, resources_in}
 use Rattle.memory_maps.proofs.pci.OneList.{have_one_fault, have_one_list}
-use Rattle.memory_maps.proofs.pci.Records.{more_records, are_read}
+use Rattle.memory_maps.proofs.pci.Records.{more_records, are_read, rest_within}
 use Rattle.memory_maps.proofs.pci.resource_list.ResourceListTryFromRefSliceU8.try_from.Goals as goal
 
 pub returns-in_err-after : goal.returns-in_err-after
@@ -34,3 +35,11 @@ returns c =
     let list = subst (HaveOneList c.args.bytes.now) (sym read)
     (have_one_list c.args.bytes.now passed.0 (c.loop-after.rest.now, passed.1, end)) in
     record { list = list; fault = tt }
+
+pub overflow_sub-bytes : goal.overflow_sub-bytes
+overflow_sub-bytes c =
+    let passed = c.loop-after.invariant in
+    rest_within c.args.bytes.now c.loop-after.rest.now passed.0 passed.1
+
+pub loop-after-smaller : goal.loop-after-smaller
+loop-after-smaller c = grind (arith, common_steps)
