@@ -19,27 +19,27 @@ static uint32_t big_u32(const uint8_t *at) {
     return (uint32_t)big_u16(at) << 16 | big_u16(at + 2);
 }
 
-/* How often a register changed since the TPM started, as each answer says: it must stay the same. */
+/* How often a register changed since the TPM started, as each response says: it must stay the same. */
 static uint32_t changes;
 static bool knows_changes;
 
 /* Asks for a bank's registers from a first one on. The TPM returns as many as it likes. */
-static bool ask(EfiTcg2 *tcg2, uint16_t algorithm, unsigned first, uint8_t *answer, uint32_t size) {
+static bool ask(EfiTcg2 *tcg2, uint16_t algorithm, unsigned first, uint8_t *response, uint32_t size) {
     uint32_t wanted = 0xffffffu << first & 0xffffffu;
     uint8_t command[20] = {0x80, 0x01, 0, 0, 0, 20, 0, 0, 0x01, 0x7e, 0, 0, 0, 1, (uint8_t)(algorithm >> 8), (uint8_t)algorithm,
                            3, (uint8_t)wanted, (uint8_t)(wanted >> 8), (uint8_t)(wanted >> 16)};
-    if (tcg2->submit_command(tcg2, sizeof command, command, size, answer) != EFI_SUCCESS || big_u32(answer + 6) != 0)
+    if (tcg2->submit_command(tcg2, sizeof command, command, size, response) != EFI_SUCCESS || big_u32(response + 6) != 0)
         return false;
-    expect(!knows_changes || changes == big_u32(answer + 10), "no register changed since");
-    changes = big_u32(answer + 10);
+    expect(!knows_changes || changes == big_u32(response + 10), "no register changed since");
+    changes = big_u32(response + 10);
     knows_changes = true;
     return true;
 }
 
-/* Keeps the registers of an answer, and returns how many there are: each is a length and its bytes. */
-static unsigned keep_answer(const char *bank, unsigned first, const uint8_t *answer) {
-    uint32_t count = big_u32(answer + 24);
-    const uint8_t *at = answer + 28;
+/* Keeps the registers of a response, and returns how many there are: each is a length and its bytes. */
+static unsigned keep_response(const char *bank, unsigned first, const uint8_t *response) {
+    uint32_t count = big_u32(response + 24);
+    const uint8_t *at = response + 28;
     for (uint32_t k = 0; k < count; k++, at += 2 + big_u16(at)) {
         char name[16] = {0};
         size_t n = 0;
@@ -54,9 +54,9 @@ static unsigned keep_answer(const char *bank, unsigned first, const uint8_t *ans
 }
 
 static void keep_bank(EfiTcg2 *tcg2, uint16_t algorithm, const char *name) {
-    static uint8_t answer[4096];
+    static uint8_t response[4096];
     for (unsigned first = 0; first < REGISTERS;) {
-        unsigned count = ask(tcg2, algorithm, first, answer, sizeof answer) ? keep_answer(name, first, answer) : 0;
+        unsigned count = ask(tcg2, algorithm, first, response, sizeof response) ? keep_response(name, first, response) : 0;
         expect(count != 0, "the TPM tells its registers");
         first += count ? count : REGISTERS;
     }
