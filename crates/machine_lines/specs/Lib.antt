@@ -1,3 +1,4 @@
 pub mod Path
 pub mod Map
 pub mod Pci
+pub mod listing

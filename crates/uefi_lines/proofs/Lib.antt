@@ -1,2 +1,3 @@
 pub mod Digits
 pub mod InfoLines
+pub mod Refusals

@@ -6,6 +6,9 @@
 //! first three are those of the crate `machine_lines`, which stands below. Event logs and HII
 //! configuration texts have crates of their own, `tcg_lines` and `config_lines`.
 //!
+//! [`listing`] reads bytes as a time or a file information record, and appends its lines, or the
+//! line of the refusal.
+//!
 //! The contracts say which lines these are (`specs/`, a file for each kind of record). A failed
 //! allocation is the only error.
 #![tactic(auto)]
@@ -15,4 +18,5 @@ pub use self::time::push_time;
 pub use machine_lines::{push_map, push_path, push_resources};
 
 mod info;
+pub mod listing;
 mod time;

@@ -1,10 +1,9 @@
 //! The listings of the program `uefi_list`, over bytes in memory and any writer.
 //!
 //! [`command`] judges the words of the command line; it is that of the crate `listing_words`, which
-//! stands below. [`listing`](mod@listing) makes the listing of bytes in memory: there each command
-//! has its function, which reads the bytes by the library for them, and appends the lines of what
-//! was read, which come from the libraries `machine_lines`, `uefi_lines`, `tcg_lines` and
-//! `config_lines`, or the line of a refusal. [`run`](mod@run) writes a listing.
+//! stands below. [`listing`](mod@listing) makes the listing of bytes in memory, by the function for
+//! the command, which stands in the library of its lines: `machine_lines`, `uefi_lines`, `tcg_lines`
+//! or `config_lines`. [`run`](mod@run) writes a listing.
 //!
 //! The contracts say which words ask for what, what is listed and refused, in which lines, and what
 //! a writer was given in each outcome (`specs/`).

@@ -1,21 +1,16 @@
 ghost use Rattle.std.specs.Prelude.{IfOk};
-ghost use Rattle.uefi_listing.specs.private.Appending.{AppendsListing};
+ghost use Rattle.listing_words.specs.Appending.{AppendsListing};
 ghost use Rattle.uefi_listing.specs.Listing.{Listing};
 
+pub use listing_words::outcome::Outcome;
+
+use config_lines::listing::push_config_listing;
 use listing_words::command::Command;
+use machine_lines::listing::{push_map_listing, push_path_listing, push_pci_listing};
 use std::alloc::{AllocError, Allocator};
+use tcg_lines::listing::{push_log1_listing, push_log2_listing};
 use tcg_logs::v2::Start;
-
-mod commands;
-
-/// Whether the bytes were what the command lists.
-#[derive(Clone, Copy, PartialEq, Eq, Debug)]
-pub enum Outcome {
-    /// The listing has what the bytes hold.
-    Listed,
-    /// The listing is one line, which names the error that the bytes were refused with.
-    Refused,
-}
+use uefi_lines::listing::{push_info_listing, push_time_listing};
 
 /// Makes the listing of the bytes in memory, and returns it with whether they were refused.
 ///
@@ -45,19 +40,14 @@ fn push_listing<A: Allocator + Copy>(
     ensures { IfOk result (AppendsListing (Listing command.now bytes.now) text.old text.new) }
 {
     match command {
-        Command::Path => commands::push_path_listing(text, bytes),
-        Command::Log1(last) => commands::push_log1_listing(text, bytes, *last),
-        Command::Log2(last) => commands::push_log2_listing(text, bytes, *last, Start::AfterHeader),
-        Command::Log2After(last) => commands::push_log2_listing(
-            text,
-            bytes,
-            *last,
-            Start::AfterEvent,
-        ),
-        Command::Config => commands::push_config_listing(text, alloc, bytes),
-        Command::Map(stride) => commands::push_map_listing(text, bytes, *stride),
-        Command::Pci => commands::push_pci_listing(text, bytes),
-        Command::Time => commands::push_time_listing(text, bytes),
-        Command::Info(written) => commands::push_info_listing(text, bytes, *written),
+        Command::Path => push_path_listing(text, bytes),
+        Command::Log1(last) => push_log1_listing(text, bytes, *last),
+        Command::Log2(last) => push_log2_listing(text, bytes, *last, Start::AfterHeader),
+        Command::Log2After(last) => push_log2_listing(text, bytes, *last, Start::AfterEvent),
+        Command::Config => push_config_listing(text, alloc, bytes),
+        Command::Map(stride) => push_map_listing(text, bytes, *stride),
+        Command::Pci => push_pci_listing(text, bytes),
+        Command::Time => push_time_listing(text, bytes),
+        Command::Info(written) => push_info_listing(text, bytes, *written),
     }
 }

@@ -1,0 +1,2 @@
+pub mod Log1
+pub mod Log2
