@@ -1,24 +1,31 @@
 //! Which requests the allocator of `test_support` refuses.
 
-use std::alloc::Allocator;
+use std::alloc::{Allocator, Global};
 use std::test::Fail;
-use test_support::{Refusing, in_turn, without_request};
+use test_support::{Refusing, holds, in_turn, same, without_request};
+
+/// Makes a request. Returns whether it was granted, and whether none was refused so far.
+fn request(heap: &Refusing<Global>) -> (bool, bool) {
+    (Box::new(heap, 1u8).is_ok(), heap.is_waiting())
+}
+
+/// Checks that the allocator grants this many requests, and none after them.
+fn grants(alloc: Global, granted: u64) -> Result<(), Fail> {
+    let heap = Refusing::after(alloc, granted);
+    for _ in 0..granted {
+        same("a request that is granted", &request(&heap), &(true, true))?;
+    }
+    holds("no request was refused", heap.is_waiting())?;
+    same("the first one after them", &request(&heap), &(false, false))?;
+    same("the second one", &request(&heap), &(false, false))
+}
 
 #[test]
-fn this_many_requests_are_granted_and_none_after_them(rt: HostRuntime) {
-    for granted in 0..4u64 {
-        let heap = Refusing::after(rt.alloc(), granted);
-        for request in 0..granted {
-            let one = Box::new(&heap, 1u8);
-            assert!(rt; one.is_ok(), "request {request} of {granted}");
-            assert!(rt; heap.is_waiting(), "request {request} of {granted}");
-        }
-        assert!(rt; heap.is_waiting(), "after {granted} requests");
-        assert!(rt; Box::new(&heap, 1u8).is_err(), "the first after {granted}");
-        assert!(rt; !heap.is_waiting(), "the first after {granted}");
-        assert!(rt; Box::new(&heap, 1u8).is_err(), "the second after {granted}");
-        assert!(rt; !heap.is_waiting(), "the second after {granted}");
+fn this_many_requests_are_granted_and_none_after_them(rt: HostRuntime) -> Result<(), Fail> {
+    for granted in 0..4 {
+        grants(rt.alloc(), granted)?;
     }
+    Ok(())
 }
 
 /// Returns how many boxes were made, or `None` if memory ran out.
@@ -33,7 +40,7 @@ fn boxes<A: Allocator>(heap: &A, count: u64) -> Option<u64> {
 fn each_request_is_refused_in_turn(rt: HostRuntime) -> Result<(), Fail> {
     for count in 0..4u64 {
         let requests = in_turn(rt.alloc(), &count, |heap| boxes(heap, count))?;
-        assert!(rt; requests == count, "{count} boxes");
+        same("requests", &requests, &count)?;
     }
     without_request(rt.alloc(), &Some(0), |heap| boxes(heap, 0))
 }

@@ -50,8 +50,8 @@ fn unaligned_fault(alloc: Global, bytes: &[u8]) -> Option<UnalignedCStr16Error> 
 #[test]
 fn the_first_offending_unit_decides(rt: HostRuntime) -> Result<(), Fail> {
     use FromSliceWithNulError::{InteriorNul, InvalidChar, NotNulTerminated};
-    for (row, units, fault) in [
-        ("no unit", [].as_slice(), NotNulTerminated),
+    const ROWS: [(&str, &[u16], FromSliceWithNulError); 7] = [
+        ("no unit", &[], NotNulTerminated),
         ("no NUL", &[0x61], NotNulTerminated),
         ("a NUL inside", &[0x61, 0, 0x62, 0], InteriorNul(1)),
         ("a NUL before a surrogate", &[0, 0xd800, 0], InteriorNul(0)),
@@ -62,7 +62,8 @@ fn the_first_offending_unit_decides(rt: HostRuntime) -> Result<(), Fail> {
             InvalidChar(0),
         ),
         ("a surrogate and no NUL", &[0x61, 0xd800], InvalidChar(1)),
-    ] {
+    ];
+    for &(row, units, fault) in &ROWS {
         let found = CStr16::from_u16_with_nul(units).err();
         same(row, &found, &Some(fault))?;
         let bytes = bytes_of(rt.alloc(), units)?;
@@ -94,12 +95,13 @@ fn characters_make_a_text(rt: HostRuntime) -> Result<(), Fail> {
 
 #[test]
 fn the_first_character_without_a_unit_decides(rt: HostRuntime) -> Result<(), Fail> {
-    for (characters, fault) in [
+    const ROWS: [(&str, FromStrError); 4] = [
         ("\u{1f600}", FromStrError::InvalidChar),
         ("a\0", FromStrError::InteriorNul),
         ("\0\u{1f600}", FromStrError::InteriorNul),
         ("\u{10000}\0", FromStrError::InvalidChar),
-    ] {
+    ];
+    for &(characters, fault) in &ROWS {
         let found = CString16::from_str(rt.alloc(), characters).err();
         same(characters, &found, &Some(fault))?;
     }
@@ -108,7 +110,7 @@ fn the_first_character_without_a_unit_decides(rt: HostRuntime) -> Result<(), Fai
 
 #[test]
 fn errors_say_what_offends(rt: HostRuntime) -> Result<(), Fail> {
-    for (error, expected) in [
+    const ROWS: [(FromSliceWithNulError, &str); 4] = [
         (FromSliceWithNulError::TooLong, "more than 2^31 units"),
         (
             FromSliceWithNulError::InvalidChar(3),
@@ -119,7 +121,8 @@ fn errors_say_what_offends(rt: HostRuntime) -> Result<(), Fail> {
             "a NUL at index 0, before the end",
         ),
         (FromSliceWithNulError::NotNulTerminated, "no NUL at the end"),
-    ] {
+    ];
+    for &(error, expected) in &ROWS {
         same_text(expected, error.to_string(rt.alloc())?.as_str(), expected)?;
         let unaligned = UnalignedCStr16Error::from(error);
         same_text(

@@ -6,7 +6,7 @@ use uefi_hii::{ConfigurationString, ConfigurationStringIter, keys};
 
 #[test]
 fn hex_is_a_number(_rt: HostRuntime) -> Result<(), Fail> {
-    let rows = [
+    const ROWS: [(&str, Option<u64>); 10] = [
         ("123", Some(0x1203)),
         ("+a", Some(10)),
         ("112233", None),
@@ -19,7 +19,7 @@ fn hex_is_a_number(_rt: HostRuntime) -> Result<(), Fail> {
         ("1+", Some(0)),
     ];
     each_gives(
-        &rows,
+        &ROWS,
         |text| ConfigurationString::parse_number_from_hex(text),
     )
 }
@@ -51,18 +51,18 @@ fn hex_is_a_name(rt: HostRuntime) -> Result<(), Fail> {
 
 #[test]
 fn hex_of_sixteen_bytes_is_a_guid(_rt: HostRuntime) -> Result<(), Fail> {
-    let bytes = [
+    const BYTES: [u8; 16] = [
         0x16, 0xd6, 0x47, 0x4b, 0xd6, 0xa8, 0x52, 0x45, 0x9d, 0x44, 0xcc, 0xad, 0x2e, 0x0f, 0x4c,
         0xf9,
     ];
-    let rows = [
-        ("16d6474bd6a852459d44ccad2e0f4cf9", Some(Guid(bytes))),
-        ("16D6474BD6A852459D44CCAD2E0F4CF9", Some(Guid(bytes))),
+    const ROWS: [(&str, Option<Guid>); 5] = [
+        ("16d6474bd6a852459d44ccad2e0f4cf9", Some(Guid(BYTES))),
+        ("16D6474BD6A852459D44CCAD2E0F4CF9", Some(Guid(BYTES))),
         ("16d6474bd6a852459d44ccad2e0f4c", None),
         ("16d6474bd6a852459d44ccad2e0f4cf900", None),
         ("", None),
     ];
-    each_gives(&rows, |text| ConfigurationString::parse_guid_from_hex(text))
+    each_gives(&ROWS, |text| ConfigurationString::parse_guid_from_hex(text))
 }
 
 #[test]
@@ -125,7 +125,7 @@ fn a_text_has_pairs(rt: HostRuntime) -> Result<(), Fail> {
 
 #[test]
 fn a_key_is_the_text_of_its_name(_rt: HostRuntime) -> Result<(), Fail> {
-    let rows = [
+    const ROWS: [(&str, &str); 6] = [
         (keys::ALTCFG, "ALTCFG"),
         (keys::GUID, "GUID"),
         (keys::NAME, "NAME"),
@@ -133,5 +133,5 @@ fn a_key_is_the_text_of_its_name(_rt: HostRuntime) -> Result<(), Fail> {
         (keys::VALUE, "VALUE"),
         (keys::WIDTH, "WIDTH"),
     ];
-    each_gives(&rows, |key| *key)
+    each_gives(&ROWS, |key| *key)
 }

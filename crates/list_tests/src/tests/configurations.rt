@@ -1,6 +1,7 @@
 use crate::tests::rows::{each_lists, lists};
 use crate::tests::runs::{TWO_ELEMENTS, TWO_ELEMENTS_LISTING};
 use std::test::Fail;
+use test_support::joined;
 use uefi_listing::command::Command;
 use uefi_listing::listing::Outcome;
 
@@ -69,8 +70,7 @@ fn a_text_is_listed_by_its_configurations_and_faults(rt: HostRuntime) -> Result<
 
 #[test]
 fn each_part_of_a_header_has_its_fault(rt: HostRuntime) -> Result<(), Fail> {
-    let guid = "GUID=16d6474bd6a852459d44ccad2e0f4cf9";
-    for (rest, expected) in [
+    const ROWS: [(&str, &str); 4] = [
         ("", "fault ConfigHdr(Name)\nitems 1\n"),
         ("&NAME=0041", "fault ConfigHdr(Path)\nitems 1\n"),
         (
@@ -81,9 +81,9 @@ fn each_part_of_a_header_has_its_fault(rt: HostRuntime) -> Result<(), Fail> {
             "&NAME=&PATH=7fff0400",
             "config 4b47d616-a8d6-4552-9d44-ccad2e0f4cf9\n  name \n  path 4\nitems 1\n",
         ),
-    ] {
-        let mut input = String::from_str(rt.alloc(), guid)?;
-        input.push_str(rest)?;
+    ];
+    for &(rest, expected) in &ROWS {
+        let input = joined(rt.alloc(), &["GUID=16d6474bd6a852459d44ccad2e0f4cf9", rest])?;
         let row = (Command::Config, rest, expected);
         lists(rt.alloc(), &row, input.as_str().as_bytes(), Outcome::Listed)?;
     }

@@ -37,17 +37,17 @@ const NAMELESS_FILE_CUT: &str = "ff000000 00000000 00000100 00000000 00000200 00
 
 #[test]
 fn a_file_is_listed_by_its_fields(rt: HostRuntime) -> Result<(), Fail> {
-    let rows: [Row<'_>; 3] = [
+    const ROWS: [Row<'_>; 3] = [
         (Command::Info(86), AB_FILE, AB_FILE_LISTING),
         (Command::Info(1000), AB_FILE, AB_FILE_LISTING),
         (Command::Info(82), NAMELESS_FILE, NAMELESS_FILE_LISTING),
     ];
-    each_lists(rt.alloc(), &rows, Outcome::Listed)
+    each_lists(rt.alloc(), &ROWS, Outcome::Listed)
 }
 
 #[test]
 fn bytes_without_a_file_are_refused(rt: HostRuntime) -> Result<(), Fail> {
-    let rows: [Row<'_>; 5] = [
+    const ROWS: [Row<'_>; 5] = [
         (
             Command::Info(86),
             AB_FILE_CUT,
@@ -62,5 +62,5 @@ fn bytes_without_a_file_are_refused(rt: HostRuntime) -> Result<(), Fail> {
             "refused BUFFER_TOO_SMALL(88)\n",
         ),
     ];
-    each_lists(rt.alloc(), &rows, Outcome::Refused)
+    each_lists(rt.alloc(), &ROWS, Outcome::Refused)
 }

@@ -1,4 +1,4 @@
-use crate::tests::rows::each_lists;
+use crate::tests::rows::{Row, each_lists};
 use std::test::Fail;
 use test_support::samples::{CRTM_VERSION, FIRMWARE_BLOB, LOG1};
 use uefi_listing::command::Command;
@@ -23,7 +23,7 @@ const SEPARATOR: &str = "17000000 04000000 000102030405060708090a0b0c0d0e0f10111
 
 #[test]
 fn a_log_is_listed_by_its_events(rt: HostRuntime) -> Result<(), Fail> {
-    let rows = [
+    const ROWS: [Row<'_>; 9] = [
         (Command::Log1(Some(34)), LOG1, LOG1_LISTING),
         (Command::Log1(Some(82)), LOG1, LOG1_LISTING),
         (Command::Log1(Some(40)), LOG1, FIRST_LISTING),
@@ -42,5 +42,5 @@ fn a_log_is_listed_by_its_events(rt: HostRuntime) -> Result<(), Fail> {
             "event 23 0x00000004 000102030405060708090a0b0c0d0e0f10111213\nevents 1\n",
         ),
     ];
-    each_lists(rt.alloc(), &rows, Outcome::Listed)
+    each_lists(rt.alloc(), &ROWS, Outcome::Listed)
 }

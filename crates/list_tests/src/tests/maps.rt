@@ -21,12 +21,12 @@ pub const FALLING_LISTING: &str =
 
 #[test]
 fn a_map_is_listed_by_its_entries(rt: HostRuntime) -> Result<(), Fail> {
-    let rows: [Row<'_>; 3] = [
+    const ROWS: [Row<'_>; 3] = [
         (Command::Map(48), FIRMWARE_MAP, FIRMWARE_LISTING),
         (Command::Map(40), FALLING_MAP, FALLING_LISTING),
         (Command::Map(48), "", "sorted yes\nentries 0\n"),
     ];
-    each_lists(rt.alloc(), &rows, Outcome::Listed)
+    each_lists(rt.alloc(), &ROWS, Outcome::Listed)
 }
 
 /// The line for sizes that make no map.

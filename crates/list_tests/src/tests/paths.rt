@@ -10,7 +10,7 @@ pub const TWO_INSTANCES_LISTING: &str = "instance 18\n  a0 b0 0a0b\n  a1 b1 1415
 
 #[test]
 fn a_path_is_listed_by_its_instances(rt: HostRuntime) -> Result<(), Fail> {
-    let rows: [Row<'_>; 5] = [
+    const ROWS: [Row<'_>; 5] = [
         (Command::Path, TWO_INSTANCES, TWO_INSTANCES_LISTING),
         (
             Command::Path,
@@ -33,7 +33,7 @@ fn a_path_is_listed_by_its_instances(rt: HostRuntime) -> Result<(), Fail> {
             "instance 8\n  01 02\npath 8\n",
         ),
     ];
-    each_lists(rt.alloc(), &rows, Outcome::Listed)
+    each_lists(rt.alloc(), &ROWS, Outcome::Listed)
 }
 
 /// The line for bytes with no prefix that is a path.
@@ -41,11 +41,11 @@ const NO_PATH: &str = "refused InvalidLength\n";
 
 #[test]
 fn bytes_without_a_path_are_refused(rt: HostRuntime) -> Result<(), Fail> {
-    let rows: [Row<'_>; 4] = [
+    const ROWS: [Row<'_>; 4] = [
         (Command::Path, "", NO_PATH),
         (Command::Path, "a0b0 0300", NO_PATH),
         (Command::Path, "a0b0 ffff", NO_PATH),
         (Command::Path, "a0b0 0600 0a0b", NO_PATH),
     ];
-    each_lists(rt.alloc(), &rows, Outcome::Refused)
+    each_lists(rt.alloc(), &ROWS, Outcome::Refused)
 }

@@ -8,9 +8,8 @@ use uefi_listing::run::run;
 /// A command, the bytes of its file as hex, and their listing.
 pub type Row<'a> = (Command, &'a str, &'a str);
 
-/// Checks that [`listing`] and [`run`] over memory both give the listing of the bytes of a row,
-/// with this outcome.
-pub fn lists(
+/// Checks that [`listing`] gives the listing of the bytes of a row, with this outcome.
+fn is_made(
     alloc: Global,
     (command, row, expected): &Row<'_>,
     input: &[u8],
@@ -18,12 +17,27 @@ pub fn lists(
 ) -> Result<(), Fail> {
     let (text, listed) = listing(alloc, command, input)?;
     same_text(row, str::from_utf8(text.as_slice())?, expected)?;
-    same(row, &listed, &outcome)?;
+    same(row, &listed, &outcome)
+}
 
+/// Checks that [`run`] over memory writes the listing of the bytes of a row, with this outcome.
+fn is_written(
+    alloc: Global,
+    (command, row, expected): &Row<'_>,
+    input: &[u8],
+    outcome: Outcome,
+) -> Result<(), Fail> {
     let mut out = Vec::new(alloc);
     let ran = run(alloc, command, input, &mut out);
     same(row, &ran, &Ok(outcome))?;
     same_text(row, str::from_utf8(out.as_slice())?, expected)
+}
+
+/// Checks that [`listing`] and [`run`] over memory both give the listing of the bytes of a row,
+/// with this outcome.
+pub fn lists(alloc: Global, row: &Row<'_>, input: &[u8], outcome: Outcome) -> Result<(), Fail> {
+    is_made(alloc, row, input, outcome)?;
+    is_written(alloc, row, input, outcome)
 }
 
 /// Checks the listing by a command of each input, which is bytes as hex.

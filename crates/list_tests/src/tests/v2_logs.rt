@@ -1,4 +1,5 @@
 use crate::tests::rows::{Row, each_lists, lists};
+use std::alloc::Global;
 use std::test::Fail;
 use test_support::samples::{FOUR_EVENTS, FOUR_HEADER, LOG1, SHA1_HEADER};
 use test_support::{joined, joined_bytes};
@@ -27,32 +28,47 @@ const SECOND_LINES: &str = "event 0 0x80000008 000082000000000000000e0000000000\
 /// The listing of a log without a header.
 pub const NO_HEADER: &str = "header none\nevents 0\n";
 
+const NO_EVENT: &[&str] = &[HEADER_LINES, "events 0\n"];
+
+const FIRST_EVENT: &[&str] = &[HEADER_LINES, FIRST_LINES, "events 1\n"];
+
+const BOTH_EVENTS: &[&str] = &[HEADER_LINES, FIRST_LINES, SECOND_LINES, "events 2\n"];
+
+/// Last entries of the log of two events, and the parts of its listing.
+const LAST_ENTRIES: [(&str, Option<usize>, &[&str]); 11] = [
+    ("267", Some(267), BOTH_EVENTS),
+    ("471", Some(471), BOTH_EVENTS),
+    ("the highest last entry", Some(usize::MAX), BOTH_EVENTS),
+    ("77", Some(77), FIRST_EVENT),
+    ("268", Some(268), FIRST_EVENT),
+    ("470", Some(470), FIRST_EVENT),
+    ("0", Some(0), NO_EVENT),
+    ("78", Some(78), NO_EVENT),
+    ("266", Some(266), NO_EVENT),
+    ("76", Some(76), &[NO_HEADER]),
+    ("no last entry", None, &[NO_HEADER]),
+];
+
+/// Checks the listing of a log with a last entry by both commands. Nothing follows the header in
+/// its event, so the events after that are the same.
+fn lists_from_both_starts(
+    alloc: Global,
+    (row, last_entry, parts): &(&str, Option<usize>, &[&str]),
+    input: &[u8],
+) -> Result<(), Fail> {
+    let expected = joined(alloc, parts)?;
+    for command in [Command::Log2(*last_entry), Command::Log2After(*last_entry)] {
+        let row = (command, *row, expected.as_str());
+        lists(alloc, &row, input, Outcome::Listed)?;
+    }
+    Ok(())
+}
+
 #[test]
 fn a_log_is_listed_by_its_header_and_events(rt: HostRuntime) -> Result<(), Fail> {
     let input = joined_bytes(rt.alloc(), &[FOUR_HEADER, FOUR_EVENTS])?;
-    let none: &[&str] = &[HEADER_LINES, "events 0\n"];
-    let one: &[&str] = &[HEADER_LINES, FIRST_LINES, "events 1\n"];
-    let both: &[&str] = &[HEADER_LINES, FIRST_LINES, SECOND_LINES, "events 2\n"];
-    let rows = [
-        ("267", Some(267), both),
-        ("471", Some(471), both),
-        ("the highest last entry", Some(usize::MAX), both),
-        ("77", Some(77), one),
-        ("268", Some(268), one),
-        ("470", Some(470), one),
-        ("0", Some(0), none),
-        ("78", Some(78), none),
-        ("266", Some(266), none),
-        ("76", Some(76), &[NO_HEADER]),
-        ("no last entry", None, &[NO_HEADER]),
-    ];
-    for (row, last_entry, parts) in rows {
-        let expected = joined(rt.alloc(), parts)?;
-        // Nothing follows the header in its event, so the events after that are the same.
-        for command in [Command::Log2(last_entry), Command::Log2After(last_entry)] {
-            let row = (command, row, expected.as_str());
-            lists(rt.alloc(), &row, input.as_slice(), Outcome::Listed)?;
-        }
+    for row in &LAST_ENTRIES {
+        lists_from_both_starts(rt.alloc(), row, input.as_slice())?;
     }
     Ok(())
 }
@@ -70,7 +86,7 @@ const SHA1_LISTING: &str = "header 0 2.0.0 2\n  algorithm 0x0004 20\nvendor\neve
 
 #[test]
 fn a_log_without_a_header_has_no_events(rt: HostRuntime) -> Result<(), Fail> {
-    let rows: [Row<'_>; 7] = [
+    const ROWS: [Row<'_>; 7] = [
         // More rows than bytes.
         (
             Command::Log2(Some(0)),
@@ -92,12 +108,12 @@ fn a_log_without_a_header_has_no_events(rt: HostRuntime) -> Result<(), Fail> {
         (Command::Log2(Some(0)), "", NO_HEADER),
         (Command::Log2(None), "", NO_HEADER),
     ];
-    each_lists(rt.alloc(), &rows, Outcome::Listed)
+    each_lists(rt.alloc(), &ROWS, Outcome::Listed)
 }
 
 #[test]
 fn a_header_is_listed_by_its_fields(rt: HostRuntime) -> Result<(), Fail> {
-    let rows: [Row<'_>; 3] = [
+    const ROWS: [Row<'_>; 3] = [
         (Command::Log2(Some(0)), SHA1_HEADER, SHA1_LISTING),
         (
             Command::Log2(Some(0)),
@@ -115,7 +131,7 @@ fn a_header_is_listed_by_its_fields(rt: HostRuntime) -> Result<(), Fail> {
             "header 0 2.0.0 2\nvendor\nevent 23 0x00000004 ff\nevents 1\n",
         ),
     ];
-    each_lists(rt.alloc(), &rows, Outcome::Listed)
+    each_lists(rt.alloc(), &ROWS, Outcome::Listed)
 }
 
 /// A header of 69 bytes with two rows for SHA-1, and an event of two digests.
@@ -208,7 +224,7 @@ const ONE_EVENT: &str =
 
 #[test]
 fn events_begin_where_the_header_ends(rt: HostRuntime) -> Result<(), Fail> {
-    let rows: [Row<'_>; 4] = [
+    const ROWS: [Row<'_>; 4] = [
         // The first event stands in the one that has the header.
         (Command::Log2(Some(81)), LONG_HEADER_EVENT, TWO_EVENTS),
         (Command::Log2(Some(97)), LONG_HEADER_EVENT, TWO_EVENTS),
@@ -216,12 +232,12 @@ fn events_begin_where_the_header_ends(rt: HostRuntime) -> Result<(), Fail> {
         // The event that has the header doesn't keep to the last entry.
         (Command::Log2(Some(65)), LONG_HEADER_EVENT, NO_HEADER),
     ];
-    each_lists(rt.alloc(), &rows, Outcome::Listed)
+    each_lists(rt.alloc(), &ROWS, Outcome::Listed)
 }
 
 #[test]
 fn events_may_begin_where_the_header_event_ends(rt: HostRuntime) -> Result<(), Fail> {
-    let rows: [Row<'_>; 8] = [
+    const ROWS: [Row<'_>; 8] = [
         (Command::Log2After(Some(81)), LONG_HEADER_EVENT, ONE_EVENT),
         (Command::Log2After(Some(97)), LONG_HEADER_EVENT, ONE_EVENT),
         // The only event after the header event doesn't keep to the last entry.
@@ -236,5 +252,5 @@ fn events_may_begin_where_the_header_event_ends(rt: HostRuntime) -> Result<(), F
         (Command::Log2After(Some(0)), SHA1_HEADER, SHA1_LISTING),
         (Command::Log2After(Some(34)), LOG1, NO_HEADER),
     ];
-    each_lists(rt.alloc(), &rows, Outcome::Listed)
+    each_lists(rt.alloc(), &ROWS, Outcome::Listed)
 }

@@ -106,7 +106,7 @@ fn a_number_and_a_last_entry_may_be_asked_for(rt: HostRuntime) -> Result<(), Fai
 
 #[test]
 fn all_other_words_ask_for_none(rt: HostRuntime) -> Result<(), Fail> {
-    let others: [&[&str]; 20] = [
+    const OTHERS: [&[&str]; 20] = [
         &[],
         &["path"],
         &["boot.dp", "path"],
@@ -128,7 +128,7 @@ fn all_other_words_ask_for_none(rt: HostRuntime) -> Result<(), Fail> {
         &["pci"],
         &["pci", "bridge.res", "186"],
     ];
-    for words in others {
+    for words in &OTHERS {
         asks(rt.alloc(), words, None)?;
     }
     Ok(())

@@ -77,22 +77,33 @@ fn check_row(
     same_bytes(row, out.taken.as_slice(), taken.as_bytes())
 }
 
+const FAILS: Then = Then::Fails(ErrorKind::Other);
+
+const INTERRUPTED: Then = Then::Fails(ErrorKind::Interrupted);
+
+/// What a run returns, and what its writer accepted.
+type Ended = (Result<Outcome, RunError>, &'static str);
+
+const LISTED: Ended = (Ok(Outcome::Listed), "instance 6\npath 6\n");
+
+const STOPPED: Ended = (Err(RunError::Output(6)), "instan");
+
+const NOTHING: Ended = (Err(RunError::Output(0)), "");
+
+/// How writers behave, and how a run over each ends.
+const MANNERS: [(Manner, Ended); 7] = [
+    ((1, 18, FAILS), LISTED),
+    ((3, 2, FAILS), STOPPED),
+    ((3, 2, INTERRUPTED), STOPPED),
+    ((3, 2, Then::TakesNothing), STOPPED),
+    ((3, 0, FAILS), NOTHING),
+    ((3, 0, INTERRUPTED), NOTHING),
+    ((3, 0, Then::TakesNothing), NOTHING),
+];
+
 #[test]
 fn a_writer_gets_what_it_takes_of_the_listing(rt: HostRuntime) -> Result<(), Fail> {
-    let fails = Then::Fails(ErrorKind::Other);
-    let interrupted = Then::Fails(ErrorKind::Interrupted);
-    let listed = (Ok(Outcome::Listed), "instance 6\npath 6\n");
-    let stopped = (Err(RunError::Output(6)), "instan");
-    let nothing = (Err(RunError::Output(0)), "");
-    for (manner, expected) in [
-        ((1, 18, fails), listed),
-        ((3, 2, fails), stopped),
-        ((3, 2, interrupted), stopped),
-        ((3, 2, Then::TakesNothing), stopped),
-        ((3, 0, fails), nothing),
-        ((3, 0, interrupted), nothing),
-        ((3, 0, Then::TakesNothing), nothing),
-    ] {
+    for &(manner, expected) in &MANNERS {
         check_row(rt.alloc(), manner, expected)?;
     }
     Ok(())
@@ -161,11 +172,9 @@ fn check_stops(
     outcome: Outcome,
     most: usize,
 ) -> Result<(), Fail> {
-    let other = Then::Fails(ErrorKind::Other);
-    let interrupted = Then::Fails(ErrorKind::Interrupted);
     check_calls(alloc, asked, outcome, (most, Then::TakesNothing))?;
-    check_calls(alloc, asked, outcome, (most, other))?;
-    check_calls(alloc, asked, outcome, (most, interrupted))
+    check_calls(alloc, asked, outcome, (most, FAILS))?;
+    check_calls(alloc, asked, outcome, (most, INTERRUPTED))
 }
 
 /// Checks a run over writers that take few bytes a call, and over those that take all at once.

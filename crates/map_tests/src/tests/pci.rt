@@ -182,14 +182,14 @@ fn a_list_cut_anywhere_is_refused(rt: HostRuntime) -> Result<(), Fail> {
 #[test]
 fn a_tag_of_neither_kind_is_named(rt: HostRuntime) -> Result<(), Fail> {
     let list = bytes(rt.alloc(), ROOT_BRIDGE)?;
-    let rows = [
+    const ROWS: [((usize, u8), Option<[ResourceError; 2]>); 4] = [
         ((0, 0x12), Some([ResourceError::UnknownTag(0x12); 2])),
         ((46, 0), Some([ResourceError::UnknownTag(0); 2])),
         ((138, 0x47), Some([ResourceError::UnknownTag(0x47); 2])),
         ((184, 0xff), Some([ResourceError::UnknownTag(0xff); 2])),
     ];
     each_gives(
-        &rows,
+        &ROWS,
         |row: &(usize, u8)| tag_errors(rt.alloc(), list.as_slice(), row.0, row.1),
     )?;
     let alone = tag_errors(rt.alloc(), &[0], 0, 0x12);
@@ -202,14 +202,14 @@ fn a_tag_of_neither_kind_is_named(rt: HostRuntime) -> Result<(), Fail> {
 
 #[test]
 fn a_number_names_a_range_type() -> Result<(), Fail> {
-    let rows = [
+    const ROWS: [(u8, ResourceRangeType); 5] = [
         (0, ResourceRangeType::Memory),
         (1, ResourceRangeType::Io),
         (2, ResourceRangeType::Bus),
         (3, ResourceRangeType::Unknown(3)),
         (255, ResourceRangeType::Unknown(255)),
     ];
-    each_gives(&rows, |number| ResourceRangeType::from(*number))
+    each_gives(&ROWS, |number| ResourceRangeType::from(*number))
 }
 
 #[test]
@@ -242,12 +242,13 @@ fn an_error_of_the_bytes_asks_for_no_memory(rt: HostRuntime) -> Result<(), Fail>
 
 #[test]
 fn errors_are_displayed(rt: HostRuntime) -> Result<(), Fail> {
-    for (error, expected) in [
+    const ROWS: [(ResourceError, &str); 4] = [
         (ResourceError::NoEndTag, "no end tag"),
         (ResourceError::CutRecord, "a record is cut off"),
         (ResourceError::UnknownTag(18), "unknown tag 18"),
         (ResourceError::Memory, "out of memory"),
-    ] {
+    ];
+    for &(error, expected) in &ROWS {
         same_text(expected, error.to_string(rt.alloc())?.as_str(), expected)?;
     }
     Ok(())

@@ -1,7 +1,7 @@
 use std::alloc::Allocator;
 use std::test::Fail;
 use test_support::samples::TWO_INSTANCES;
-use test_support::{bytes, same, same_bytes, takes_memory};
+use test_support::{bytes, joined_bytes, same, same_bytes, takes_memory};
 use uefi_path::{BoxedDevicePath, ByteConversionError, DevicePath, DevicePathInstance};
 
 /// Returns whether the path in a box is the path, and its length; or `None` if memory ran out.
@@ -14,24 +14,33 @@ fn box_path<A: Allocator>(alloc: A, path: &DevicePath<'_>) -> Option<(bool, usiz
 fn a_box_has_the_path_or_memory_was_refused(rt: HostRuntime) -> Result<(), Fail> {
     let input = bytes(rt.alloc(), TWO_INSTANCES)?;
     let path = DevicePath::try_from(input.as_slice())?;
-    same(
-        "ample memory",
-        &box_path(rt.alloc(), &path),
-        &Some((true, 36)),
-    )?;
-    takes_memory(rt.alloc(), &(true, 36), |heap| box_path(heap, &path))?;
-    same_bytes("the path stays", path.as_bytes(), input.as_slice())?;
-    same("its nodes stay", &path.node_iter().count(), &5)
+    takes_memory(rt.alloc(), &(true, 36), |heap| box_path(heap, &path))
+}
+
+#[test]
+fn a_path_stays_as_it_is_boxed(rt: HostRuntime) -> Result<(), Fail> {
+    let input = bytes(rt.alloc(), TWO_INSTANCES)?;
+    let path = DevicePath::try_from(input.as_slice())?;
+    let boxed = box_path(rt.alloc(), &path);
+    same("the box", &boxed, &Some((true, 36)))?;
+    let stays = (
+        path.as_bytes() == input.as_slice(),
+        path.node_iter().count(),
+    );
+    same("the path", &stays, &(true, 5))
 }
 
 #[test]
 fn a_box_keeps_the_path_that_bytes_begin_with(rt: HostRuntime) -> Result<(), Fail> {
     let alone = bytes(rt.alloc(), TWO_INSTANCES)?;
-    let mut input = bytes(rt.alloc(), TWO_INSTANCES)?;
-    input.extend_from_slice(&[0x7f, 0xff, 4, 0])?;
+    let input = joined_bytes(rt.alloc(), &[TWO_INSTANCES, "7fff 0400"])?;
     let boxed = BoxedDevicePath::try_from(input)?;
-    same_bytes("the path", boxed.as_path().as_bytes(), alone.as_slice())?;
-    let cut = bytes(rt.alloc(), "7fff0500")?;
+    same_bytes("the path", boxed.as_path().as_bytes(), alone.as_slice())
+}
+
+#[test]
+fn bytes_without_a_path_are_not_boxed(rt: HostRuntime) -> Result<(), Fail> {
+    let cut = bytes(rt.alloc(), "7fff 0500")?;
     let refused = BoxedDevicePath::try_from(cut).err();
     same(
         "no path",
@@ -53,21 +62,28 @@ fn box_instance<A: Allocator>(
     ))
 }
 
+/// Returns the first instance of the path that the bytes begin with.
+fn first_instance<'a>(input: &'a [u8]) -> Option<DevicePathInstance<'a>> {
+    DevicePath::try_from(input).ok()?.instance_iter().next()
+}
+
 #[test]
 fn a_box_has_the_instance_or_memory_was_refused(rt: HostRuntime) -> Result<(), Fail> {
     let input = bytes(rt.alloc(), TWO_INSTANCES)?;
-    let path = DevicePath::try_from(input.as_slice())?;
-    let instance = path.instance_iter().next().ok_or("an instance")?;
-    same(
-        "ample memory",
-        &box_instance(rt.alloc(), &instance),
-        &Some((true, 18)),
-    )?;
+    let instance = first_instance(input.as_slice()).ok_or("an instance")?;
     takes_memory(
         rt.alloc(),
         &(true, 18),
         |heap| box_instance(heap, &instance),
-    )?;
-    same("its length stays", &instance.as_bytes().len(), &18)?;
-    same("its nodes stay", &instance.node_iter().count(), &2)
+    )
+}
+
+#[test]
+fn an_instance_stays_as_it_is_boxed(rt: HostRuntime) -> Result<(), Fail> {
+    let input = bytes(rt.alloc(), TWO_INSTANCES)?;
+    let instance = first_instance(input.as_slice()).ok_or("an instance")?;
+    let boxed = box_instance(rt.alloc(), &instance);
+    same("the box", &boxed, &Some((true, 18)))?;
+    let stays = (instance.as_bytes().len(), instance.node_iter().count());
+    same("the instance", &stays, &(18, 2))
 }

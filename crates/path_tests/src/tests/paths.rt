@@ -101,13 +101,13 @@ fn counts(input: &[u8]) -> Option<(usize, usize, usize)> {
 
 #[test]
 fn a_path_has_a_length_and_counts(rt: HostRuntime) -> Result<(), Fail> {
-    let rows = [
+    const ROWS: [(&str, Option<(usize, usize, usize)>); 4] = [
         (TWO_INSTANCES, Some((36, 5, 2))),
         (CON_OUT, Some((103, 9, 2))),
         ("7f02 0400  7fff 0400", Some((8, 1, 2))),
         ("7fff 0600 aabb  cc", Some((6, 0, 1))),
     ];
-    each_reads(rt.alloc(), &rows, counts)
+    each_reads(rt.alloc(), &ROWS, counts)
 }
 
 /// Returns whether the bytes begin with those of the path, and these are those of its instances,
@@ -128,13 +128,13 @@ fn is_joined(input: &[u8]) -> bool {
 
 #[test]
 fn a_path_is_its_instances_joined(rt: HostRuntime) -> Result<(), Fail> {
-    let rows = [
+    const ROWS: [&str; 4] = [
         TWO_INSTANCES,
         CON_OUT,
         "7f02 0400  7fff 0400",
         "7fff 0600 aabb  cc",
     ];
-    each_holds(rt.alloc(), &rows, is_joined)
+    each_holds(rt.alloc(), &ROWS, is_joined)
 }
 
 /// Returns whether no prefix of the bytes is a path.
@@ -144,8 +144,8 @@ fn is_no_path(input: &[u8]) -> bool {
 
 #[test]
 fn bytes_without_a_path_are_refused(rt: HostRuntime) -> Result<(), Fail> {
-    let rows = ["", "a0b0 0300", "a0b0 ffff", "a0b0 0600 0a0b"];
-    each_holds(rt.alloc(), &rows, is_no_path)
+    const ROWS: [&str; 4] = ["", "a0b0 0300", "a0b0 ffff", "a0b0 0600 0a0b"];
+    each_holds(rt.alloc(), &ROWS, is_no_path)
 }
 
 /// Returns whether the bytes are a path, and fewer of them are not.

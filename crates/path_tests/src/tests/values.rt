@@ -48,12 +48,12 @@ fn data_and_bytes(alloc: Global, input: &[u8]) -> Result<Vec<u8>, Fail> {
 
 #[test]
 fn a_node_has_its_data_and_its_bytes(rt: HostRuntime) -> Result<(), Fail> {
-    let rows = [
+    const ROWS: [(&str, &str); 3] = [
         ("a0b0 0600 0a0b", "0a0b  a0b0 0600 0a0b"),
         ("a0b0 0600 0a0b  cc", "0a0b  a0b0 0600 0a0b"),
         ("a0b0 0400", "a0b0 0400"),
     ];
-    each_makes(rt.alloc(), &rows, data_and_bytes)
+    each_makes(rt.alloc(), &ROWS, data_and_bytes)
 }
 
 /// Returns whether the node that the bytes begin with ends a path; or `None` if they begin with no
@@ -64,14 +64,14 @@ fn is_end_entire(input: &[u8]) -> Option<bool> {
 
 #[test]
 fn the_type_and_the_subtype_of_a_node_end_a_path(rt: HostRuntime) -> Result<(), Fail> {
-    let rows = [
+    const ROWS: [(&str, Option<bool>); 5] = [
         ("7fff 0400", Some(true)),
         ("7fff 0600 aabb", Some(true)),
         ("7f01 0400", Some(false)),
         ("7f02 0400", Some(false)),
         ("a0ff 0400", Some(false)),
     ];
-    each_reads(rt.alloc(), &rows, is_end_entire)
+    each_reads(rt.alloc(), &ROWS, is_end_entire)
 }
 
 fn node_text(alloc: Global, input: &[u8]) -> Result<String, Fail> {

@@ -266,7 +266,7 @@ fn is_sorted(alloc: Global, starts: &[u64; 3]) -> Option<bool> {
 fn a_map_is_sorted_where_no_descriptor_begins_below_the_one_before(
     rt: HostRuntime,
 ) -> Result<(), Fail> {
-    let rows = [
+    const ROWS: [([u64; 3], Option<bool>); 7] = [
         ([0x3000, 0x2000, 0x1000], Some(false)),
         ([0x1000, 0x3000, 0x2000], Some(false)),
         ([0x2000, 0x1000, 0x3000], Some(false)),
@@ -275,5 +275,5 @@ fn a_map_is_sorted_where_no_descriptor_begins_below_the_one_before(
         ([0, 0, 0], Some(true)),
         ([0, u64::MAX, u64::MAX], Some(true)),
     ];
-    each_gives(&rows, |starts| is_sorted(rt.alloc(), starts))
+    each_gives(&ROWS, |starts| is_sorted(rt.alloc(), starts))
 }

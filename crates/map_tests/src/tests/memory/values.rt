@@ -16,7 +16,7 @@ fn made(bits: &u64) -> (Option<u64>, u64) {
 
 #[test]
 fn a_set_is_made_of_named_bits_alone() -> Result<(), Fail> {
-    let rows = [
+    const ROWS: [(u64, (Option<u64>, u64)); 5] = [
         (
             0x8000_0000_0000_0009,
             (Some(0x8000_0000_0000_0009), 0x8000_0000_0000_0009),
@@ -26,7 +26,7 @@ fn a_set_is_made_of_named_bits_alone() -> Result<(), Fail> {
         (0x4000_0000_0000_0000, (None, 0x4000_0000_0000_0000)),
         (u64::MAX, (None, u64::MAX)),
     ];
-    each_gives(&rows, made)
+    each_gives(&ROWS, made)
 }
 
 #[test]
@@ -184,7 +184,7 @@ fn is_sane(sizes: &(usize, usize)) -> bool {
 
 #[test]
 fn sane_sizes_are_those_that_firmware_gives() -> Result<(), Fail> {
-    let rows = [
+    const ROWS: [((usize, usize), bool); 7] = [
         ((480, 48), true),
         ((1, 40), true),
         ((1 << 30, 40), true),
@@ -193,7 +193,7 @@ fn sane_sizes_are_those_that_firmware_gives() -> Result<(), Fail> {
         ((480, 39), false),
         ((480, 0), false),
     ];
-    each_gives(&rows, is_sane)
+    each_gives(&ROWS, is_sane)
 }
 
 #[test]

@@ -127,13 +127,13 @@ fn stated_size(alloc: Global, (row, first): &(&str, u8)) -> Option<u64> {
 
 #[test]
 fn the_stated_size_is_not_trusted(rt: HostRuntime) -> Result<(), Fail> {
-    let rows = [
+    const ROWS: [((&str, u8), Option<u64>); 4] = [
         ((FILE, 0), Some(0)),
         ((FILE, 255), Some(255)),
         ((ZERO_FILE, 0), Some(0)),
         ((ZERO_FILE, 255), Some(255)),
     ];
-    each_gives_in(rt.alloc(), &rows, stated_size)
+    each_gives_in(rt.alloc(), &ROWS, stated_size)
 }
 
 /// Returns what is read of the first bytes of a record of 88 bytes, of which 86 end with the name,
@@ -240,14 +240,14 @@ fn are_equal_labels(alloc: Global, (one, other): &(&str, &str)) -> Option<bool> 
 
 #[test]
 fn records_are_equal_by_their_fields_and_names(rt: HostRuntime) -> Result<(), Fail> {
-    let files = [
+    const FILES: [((usize, u8), Option<bool>); 4] = [
         ((87, 0), Some(true)),
         ((0, 0), Some(false)),
         ((30, 0), Some(false)),
         ((82, 1), Some(false)),
     ];
-    each_gives_in(rt.alloc(), &files, is_equal_file)?;
-    let file_systems = [
+    each_gives_in(rt.alloc(), &FILES, is_equal_file)?;
+    const FILE_SYSTEMS: [((usize, u8), Option<bool>); 8] = [
         ((8, 1), Some(true)),
         ((9, 0), Some(true)),
         ((47, 0), Some(true)),
@@ -257,19 +257,19 @@ fn records_are_equal_by_their_fields_and_names(rt: HostRuntime) -> Result<(), Fa
         ((35, 1), Some(false)),
         ((36, 0x62), Some(false)),
     ];
-    each_gives_in(rt.alloc(), &file_systems, is_equal_file_system)
+    each_gives_in(rt.alloc(), &FILE_SYSTEMS, is_equal_file_system)
 }
 
 #[test]
 fn labels_are_equal_by_their_units(rt: HostRuntime) -> Result<(), Fail> {
-    let labels = [
+    const LABELS: [((&str, &str), Option<bool>); 5] = [
         (("6100 6200 0000", "6100 6200 0000"), Some(true)),
         (("6100 6200 0000", "6100 6200 0000  eeee"), Some(true)),
         (("6100 6200 0000", "6100 6300 0000"), Some(false)),
         (("6100 6200 0000", "6100 0000"), Some(false)),
         (("6100 0000", "0000 6100"), Some(false)),
     ];
-    each_gives_in(rt.alloc(), &labels, are_equal_labels)
+    each_gives_in(rt.alloc(), &LABELS, are_equal_labels)
 }
 
 fn shows(alloc: Global, guid: Guid, text: &str) -> Result<(), Fail> {
