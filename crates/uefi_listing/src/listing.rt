@@ -2,10 +2,9 @@ ghost use Rattle.std.specs.Prelude.{IfOk};
 ghost use Rattle.listing_words.specs.Appending.{AppendsListing};
 ghost use Rattle.uefi_listing.specs.Listing.{Listing};
 
-pub use listing_words::outcome::Outcome;
-
 use config_lines::listing::push_config_listing;
 use listing_words::command::Command;
+pub use listing_words::outcome::Outcome;
 use machine_lines::listing::{push_map_listing, push_path_listing, push_pci_listing};
 use std::alloc::{AllocError, Allocator};
 use tcg_lines::listing::{push_log1_listing, push_log2_listing};
