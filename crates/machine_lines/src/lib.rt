@@ -2,7 +2,7 @@
 //!
 //! [`listing`] reads bytes as one of the three, and appends its lines, or the line of the refusal.
 //!
-//! The crate `uefi_lines` passes all of it on under its own name, beside times and file information
+//! The crate `uefi_lines` passes the lines on under its own name, beside times and file information
 //! records. A crate that needs neither stands on this one alone, so that it is proved without them.
 #![tactic(auto)]
 
