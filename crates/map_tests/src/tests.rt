@@ -1,3 +1,2 @@
-mod changed;
 mod memory;
 mod pci;

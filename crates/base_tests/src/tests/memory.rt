@@ -43,10 +43,11 @@ fn a_text_is_made_or_memory_was_refused(rt: HostRuntime) -> Result<(), Fail> {
 
 #[test]
 fn a_named_fault_of_characters_asks_for_no_memory(rt: HostRuntime) -> Result<(), Fail> {
-    for (characters, fault) in [
+    const ROWS: [(&str, FromStrError); 2] = [
         ("ab\u{1f600}", FromStrError::InvalidChar),
         ("ab\0", FromStrError::InteriorNul),
-    ] {
+    ];
+    for &(characters, fault) in &ROWS {
         without_request(rt.alloc(), &Some(fault), |heap| {
             CString16::from_str(heap, characters).err()
         })?;

@@ -2,7 +2,7 @@
 
 use std::alloc::{Allocator, Global};
 use std::test::Fail;
-use test_support::{Refusing, holds, in_turn, same, without_request};
+use test_support::{Refusing, in_turn, same, without_request};
 
 /// Makes a request. Returns whether it was granted, and whether none was refused so far.
 fn request(heap: &Refusing<Global>) -> (bool, bool) {
@@ -15,9 +15,12 @@ fn grants(alloc: Global, granted: u64) -> Result<(), Fail> {
     for _ in 0..granted {
         same("a request that is granted", &request(&heap), &(true, true))?;
     }
-    holds("no request was refused", heap.is_waiting())?;
-    same("the first one after them", &request(&heap), &(false, false))?;
-    same("the second one", &request(&heap), &(false, false))
+    let after = (heap.is_waiting(), request(&heap), request(&heap));
+    same(
+        "that none was refused, the first one after them, and the second",
+        &after,
+        &(true, (false, false), (false, false)),
+    )
 }
 
 #[test]

@@ -1,37 +1,37 @@
-use std::alloc::Global;
+use std::alloc::{AllocError, Global};
 use std::test::Fail;
-use test_support::{same, same_text};
+use test_support::{each_gives_in, same, same_text};
 use uefi_base::{
     CStr16, CString16, FromSliceWithNulError, FromStrError, UnalignedCStr16Error, UnalignedSlice,
 };
 
-/// Returns the count of characters of a text of units, its units, and its characters.
-fn text_of(alloc: Global, units: &[u16]) -> Result<(usize, bool, String), Fail> {
+/// Checks how many characters a text of units has, and which ones, and that it has these units.
+fn check_text(alloc: Global, units: &[u16], count: usize, expected: &str) -> Result<(), Fail> {
     let text = CStr16::from_u16_with_nul(units)?;
     let characters = text.to_string(alloc)?;
-    Ok((
+    let found = (
         text.num_chars(),
-        text.as_u16_with_nul() == units,
-        characters,
-    ))
+        text.as_u16_with_nul(),
+        characters.as_str(),
+    );
+    same(expected, &found, &(count, units, expected))
 }
 
 #[test]
 fn a_text_has_its_characters(rt: HostRuntime) -> Result<(), Fail> {
-    for (units, count, expected) in [
-        ([0x61u16, 0x62, 0].as_slice(), 2, "ab"),
+    const ROWS: [(&[u16], usize, &str); 2] = [
+        (&[0x61, 0x62, 0], 2, "ab"),
         // The units on both sides of the surrogates.
         (&[0xd7ff, 0xe000, 0xffff, 0], 3, "\u{d7ff}\u{e000}\u{ffff}"),
-    ] {
-        let (characters, has_its_units, text) = text_of(rt.alloc(), units)?;
-        same(expected, &(characters, has_its_units), &(count, true))?;
-        same_text(expected, text.as_str(), expected)?;
+    ];
+    for &(units, count, expected) in &ROWS {
+        check_text(rt.alloc(), units, count, expected)?;
     }
     Ok(())
 }
 
 /// Returns the bytes of units, the low byte of each first.
-fn bytes_of(alloc: Global, units: &[u16]) -> Result<Vec<u8>, Fail> {
+fn bytes_of(alloc: Global, units: &[u16]) -> Result<Vec<u8>, AllocError> {
     let mut bytes = Vec::new(alloc);
     for unit in units {
         bytes.extend_from_slice(&unit.to_le_bytes())?;
@@ -39,12 +39,15 @@ fn bytes_of(alloc: Global, units: &[u16]) -> Result<Vec<u8>, Fail> {
     Ok(bytes)
 }
 
-/// Returns the fault of the units in these bytes, if they are an even number of bytes and no text.
-fn unaligned_fault(alloc: Global, bytes: &[u8]) -> Option<UnalignedCStr16Error> {
+/// Returns the fault of the units over bytes, if they are no text.
+fn unaligned_fault(alloc: Global, units: &[u16]) -> Option<UnalignedCStr16Error> {
+    let bytes = bytes_of(alloc, units).ok()?;
     if bytes.len() % 2 != 0 {
         return None;
     }
-    UnalignedSlice::new(bytes).to_cstring16(alloc).err()
+    UnalignedSlice::new(bytes.as_slice())
+        .to_cstring16(alloc)
+        .err()
 }
 
 #[test]
@@ -64,48 +67,60 @@ fn the_first_offending_unit_decides(rt: HostRuntime) -> Result<(), Fail> {
         ("a surrogate and no NUL", &[0x61, 0xd800], InvalidChar(1)),
     ];
     for &(row, units, fault) in &ROWS {
-        let found = CStr16::from_u16_with_nul(units).err();
-        same(row, &found, &Some(fault))?;
-        let bytes = bytes_of(rt.alloc(), units)?;
-        let found = unaligned_fault(rt.alloc(), bytes.as_slice());
-        same(row, &found, &Some(UnalignedCStr16Error::from(fault)))?;
+        let found = (
+            CStr16::from_u16_with_nul(units).err(),
+            unaligned_fault(rt.alloc(), units),
+        );
+        let unaligned = UnalignedCStr16Error::from(fault);
+        same(row, &found, &(Some(fault), Some(unaligned)))?;
     }
     Ok(())
 }
 
-/// Returns whether the text made of the characters has these units, and gives the characters back.
-fn is_made_of(alloc: Global, characters: &str, units: &[u16]) -> Result<bool, Fail> {
+/// Checks that the text made of the characters has these units, and gives the characters back.
+fn check_made(alloc: Global, characters: &str, units: &[u16]) -> Result<(), Fail> {
     let text = CString16::from_str(alloc, characters)?;
-    let back = text.as_cstr16().to_string(alloc)?;
-    Ok(text.as_cstr16().as_u16_with_nul() == units && back.as_str() == characters)
+    let view = text.as_cstr16();
+    let back = view.to_string(alloc)?;
+    let found = (view.as_u16_with_nul(), back.as_str());
+    same(characters, &found, &(units, characters))
 }
 
 #[test]
 fn characters_make_a_text(rt: HostRuntime) -> Result<(), Fail> {
-    for (characters, units) in [
-        ("", [0u16].as_slice()),
+    const ROWS: [(&str, &[u16]); 3] = [
+        ("", &[0]),
         ("ab", &[0x61, 0x62, 0]),
         ("\u{e9}\u{20ac}\u{ffff}", &[0xe9, 0x20ac, 0xffff, 0]),
-    ] {
-        let is_made = is_made_of(rt.alloc(), characters, units)?;
-        same(characters, &is_made, &true)?;
+    ];
+    for &(characters, units) in &ROWS {
+        check_made(rt.alloc(), characters, units)?;
     }
     Ok(())
 }
 
 #[test]
 fn the_first_character_without_a_unit_decides(rt: HostRuntime) -> Result<(), Fail> {
-    const ROWS: [(&str, FromStrError); 4] = [
-        ("\u{1f600}", FromStrError::InvalidChar),
-        ("a\0", FromStrError::InteriorNul),
-        ("\0\u{1f600}", FromStrError::InteriorNul),
-        ("\u{10000}\0", FromStrError::InvalidChar),
+    const ROWS: [(&str, Option<FromStrError>); 4] = [
+        ("\u{1f600}", Some(FromStrError::InvalidChar)),
+        ("a\0", Some(FromStrError::InteriorNul)),
+        ("\0\u{1f600}", Some(FromStrError::InteriorNul)),
+        ("\u{10000}\0", Some(FromStrError::InvalidChar)),
     ];
-    for &(characters, fault) in &ROWS {
-        let found = CString16::from_str(rt.alloc(), characters).err();
-        same(characters, &found, &Some(fault))?;
-    }
-    Ok(())
+    each_gives_in(rt.alloc(), &ROWS, |alloc, characters| {
+        CString16::from_str(alloc, characters).err()
+    })
+}
+
+/// Checks what an error of units says, which it says of units over bytes too.
+fn check_said(alloc: Global, error: FromSliceWithNulError, expected: &str) -> Result<(), Fail> {
+    let aligned = error.to_string(alloc)?;
+    let unaligned = UnalignedCStr16Error::from(error).to_string(alloc)?;
+    same(
+        expected,
+        &[aligned.as_str(), unaligned.as_str()],
+        &[expected; 2],
+    )
 }
 
 #[test]
@@ -123,24 +138,25 @@ fn errors_say_what_offends(rt: HostRuntime) -> Result<(), Fail> {
         (FromSliceWithNulError::NotNulTerminated, "no NUL at the end"),
     ];
     for &(error, expected) in &ROWS {
-        same_text(expected, error.to_string(rt.alloc())?.as_str(), expected)?;
-        let unaligned = UnalignedCStr16Error::from(error);
-        same_text(
-            expected,
-            unaligned.to_string(rt.alloc())?.as_str(),
-            expected,
-        )?;
+        check_said(rt.alloc(), error, expected)?;
     }
     let characters = FromStrError::InvalidChar.to_string(rt.alloc())?;
     same_text("U+10000", characters.as_str(), "a character above U+FFFF")
 }
 
+/// Returns what the text made of the characters displays, then what a view of it does.
+fn displayed(alloc: Global, characters: &str) -> Result<String, Fail> {
+    let text = CString16::from_str(alloc, characters)?;
+    let view = text.as_cstr16();
+    Ok(format!(in alloc; "<{text}> <{view}>")?)
+}
+
 #[test]
 fn texts_display_their_characters(rt: HostRuntime) -> Result<(), Fail> {
-    let text = CString16::from_str(rt.alloc(), "a\u{e000}")?;
-    let shown = format!(in rt.alloc(); "<{text}>")?;
-    same_text("owned", shown.as_str(), "<a\u{e000}>")?;
-    let view = text.as_cstr16();
-    let shown = format!(in rt.alloc(); "<{view}>")?;
-    same_text("a view", shown.as_str(), "<a\u{e000}>")
+    let shown = displayed(rt.alloc(), "a\u{e000}")?;
+    same_text(
+        "owned, and a view",
+        shown.as_str(),
+        "<a\u{e000}> <a\u{e000}>",
+    )
 }

@@ -22,9 +22,9 @@ const ENDED: Step = (0, (0, Some(0)), None);
 #[test]
 fn bytes_have_their_units() -> Result<(), Fail> {
     let slice = UnalignedSlice::new(b"\x61\0\0\xd8\0\0");
-    same("length", &(slice.len(), slice.is_empty()), &(3, false))?;
     let got = [slice.get(0), slice.get(1), slice.get(2), slice.get(3)];
-    same("get", &got, &[Some(0x61), Some(0xd800), Some(0), None])?;
+    let found = (slice.len(), slice.is_empty(), got, steps(slice));
+    let units = [Some(0x61), Some(0xd800), Some(0), None];
     let expected = [
         (3, (3, Some(3)), Some(0x61)),
         (2, (2, Some(2)), Some(0xd800)),
@@ -32,15 +32,22 @@ fn bytes_have_their_units() -> Result<(), Fail> {
         ENDED,
         ENDED,
     ];
-    same("steps", &steps(slice), &expected)
+    same(
+        "length, emptiness, get and steps",
+        &found,
+        &(3, false, units, expected),
+    )
 }
 
 #[test]
 fn no_bytes_have_no_unit() -> Result<(), Fail> {
     let slice = UnalignedSlice::new(&[]);
-    same("length", &(slice.len(), slice.is_empty()), &(0, true))?;
-    same("get", &slice.get(0), &None)?;
-    same("steps", &steps(slice), &[ENDED; 5])
+    let found = (slice.len(), slice.is_empty(), slice.get(0), steps(slice));
+    same(
+        "length, emptiness, get and steps",
+        &found,
+        &(0, true, None, [ENDED; 5]),
+    )
 }
 
 #[test]

@@ -9,12 +9,11 @@ const FILE_INFO: [u8; 16] = *b"\x92\x6e\x57\x09\x3f\x6d\xd2\x11\x8e\x39\x00\xa0\
 #[test]
 fn a_guid_has_its_bytes_and_its_text(rt: HostRuntime) -> Result<(), Fail> {
     let guid = Guid::from_bytes(FILE_INFO);
-    same("bytes", &guid.to_bytes(), &FILE_INFO)?;
     let text = guid.to_string(rt.alloc())?;
-    same_text(
-        "text",
-        text.as_str(),
-        "09576e92-6d3f-11d2-8e39-00a0c969723b",
+    same(
+        "bytes and text",
+        &(guid.to_bytes(), text.as_str()),
+        &(FILE_INFO, "09576e92-6d3f-11d2-8e39-00a0c969723b"),
     )
 }
 
@@ -48,31 +47,40 @@ fn statuses_have_their_codes() -> Result<(), Fail> {
 
 #[test]
 fn statuses_and_errors_display_their_names(rt: HostRuntime) -> Result<(), Fail> {
-    let status = Status::BAD_BUFFER_SIZE.to_string(rt.alloc())?;
-    same_text("a status", status.as_str(), "BAD_BUFFER_SIZE")?;
-    let error = Error::new(Status::BUFFER_TOO_SMALL, Some(88usize)).to_string(rt.alloc())?;
-    same_text("an error", error.as_str(), "UEFI error BUFFER_TOO_SMALL")
+    let status = Status::BAD_BUFFER_SIZE;
+    let error = Error::new(Status::BUFFER_TOO_SMALL, Some(88usize));
+    let text = format!(in rt.alloc(); "{status}, {error}")?;
+    same_text(
+        "a status, and an error",
+        text.as_str(),
+        "BAD_BUFFER_SIZE, UEFI error BUFFER_TOO_SMALL",
+    )
 }
 
 #[test]
 fn an_error_gives_back_its_status_and_data() -> Result<(), Fail> {
     let error = Error::new(Status::BUFFER_TOO_SMALL, Some(88usize));
-    same("status", &error.status(), &Status::BUFFER_TOO_SMALL)?;
-    same("data", error.data(), &Some(88))?;
-    let found = [
+    let equalities = [
         error == Error::new(Status::BUFFER_TOO_SMALL, Some(88)),
         error == Error::new(Status::BUFFER_TOO_SMALL, None),
         error == Error::new(Status::BAD_BUFFER_SIZE, Some(88)),
     ];
-    same("equality", &found, &[true, false, false])
+    same(
+        "status, data and equalities",
+        &(error.status(), *error.data(), equalities),
+        &(Status::BUFFER_TOO_SMALL, Some(88), [true, false, false]),
+    )
 }
 
 #[test]
 fn numbers_stand_low_byte_first() -> Result<(), Fail> {
     let bytes = [0xff, 1, 2, 3, 4, 5, 6, 7, 8];
-    same("u16", &u16_at(&bytes, 1), &0x0201)?;
-    same("u32", &u32_at(&bytes, 1), &0x0403_0201)?;
-    same("u64", &u64_at(&bytes, 1), &0x0807_0605_0403_0201)
+    let found = (u16_at(&bytes, 1), u32_at(&bytes, 1), u64_at(&bytes, 1));
+    same(
+        "u16, u32 and u64",
+        &found,
+        &(0x0201, 0x0403_0201, 0x0807_0605_0403_0201),
+    )
 }
 
 /// A type with a GUID and an alignment.
@@ -96,9 +104,16 @@ impl Identify for Label {
 
 #[test]
 fn a_type_has_its_guid_and_its_alignment() -> Result<(), Fail> {
-    same("alignment", &Label::alignment(), &2)?;
-    same("GUID", &Label::GUID.to_bytes(), &[7; 16])?;
-    same("identity", &Label::identity(), &Label::GUID)
+    let found = (
+        Label::alignment(),
+        Label::GUID.to_bytes(),
+        Label::identity(),
+    );
+    same(
+        "alignment, GUID and identity",
+        &found,
+        &(2, [7; 16], Label::GUID),
+    )
 }
 
 #[test]

@@ -10,7 +10,7 @@ mod values;
 mod writing;
 
 use std::alloc::{AllocError, Global};
-use uefi_map::{MemoryDescriptor, MemoryMapKey, MemoryMapMeta};
+use uefi_map::{MemoryDescriptor, MemoryMapKey, MemoryMapMeta, MemoryMapMut, MemoryType};
 
 /// Returns a map of this many bytes at this stride, with the key 7.
 fn meta_of(map_size: usize, desc_size: usize) -> MemoryMapMeta
@@ -36,6 +36,12 @@ fn fields(descriptor: &MemoryDescriptor) -> [u64; 6] {
         descriptor.page_count,
         descriptor.att.bits(),
     ]
+}
+
+/// Writes a byte of the second descriptor's type into the buffer of a map, and returns the type.
+fn write_type<M: MemoryMapMut>(map: &mut M, offset: usize, byte: u8) -> Option<MemoryType> {
+    *map.buffer_mut().get_mut(offset)? = byte;
+    Some(map.get(1)?.ty)
 }
 
 /// Returns the bytes of descriptors of free memory that begin at these addresses, forty bytes each.

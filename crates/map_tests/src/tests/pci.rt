@@ -3,7 +3,9 @@
 use std::alloc::{Allocator, Global};
 use std::test::Fail;
 use test_support::samples::ROOT_BRIDGE;
-use test_support::{bytes, each_gives, each_reads, same, same_text, takes_memory, without_request};
+use test_support::{
+    bytes, each_gives, each_gives_in, each_reads, same, same_text, takes_memory, without_request,
+};
 use uefi_map::{
     QwordAddressSpaceDescriptor, ResourceError, ResourceList, ResourceRangeType, parse,
 };
@@ -11,24 +13,55 @@ use uefi_map::{
 /// A resource as the rows have it: its type, both flags, and its five numbers.
 type Range = (ResourceRangeType, [u8; 2], [u64; 5]);
 
+/// The resources of a list at its first five indices. No list of the rows has that many.
+type Ranges = [Option<Range>; 5];
+
 /// The resources of [`ROOT_BRIDGE`].
-const RANGES: [Range; 4] = [
-    (
+const RANGES: Ranges = [
+    Some((
         ResourceRangeType::Io,
         [0, 0],
         [0, 0x6000, 0x6fff, 0, 0x1000],
-    ),
-    (
+    )),
+    Some((
         ResourceRangeType::Memory,
         [0, 0],
         [0x20, 0x8000_0000, 0x810f_ffff, 0, 0x110_0000],
-    ),
-    (
+    )),
+    Some((
         ResourceRangeType::Memory,
         [0, 0],
         [0x40, 0xc0_0000_0000, 0xc0_000f_ffff, 0, 0x10_0000],
+    )),
+    Some((ResourceRangeType::Bus, [0, 0], [0, 0, 0, 0, 1])),
+    None,
+];
+
+/// The one resource of a list, each of whose bytes is another.
+const FIELD: Range = (
+    ResourceRangeType::Unknown(3),
+    [4, 5],
+    [
+        0x0d0c_0b0a_0908_0706,
+        0x1514_1312_1110_0f0e,
+        0x1d1c_1b1a_1918_1716,
+        0x2524_2322_2120_1f1e,
+        0x2d2c_2b2a_2928_2726,
+    ],
+);
+
+/// Lists, and their resources.
+const LISTS: [(&str, Option<Ranges>); 6] = [
+    (ROOT_BRIDGE, Some(RANGES)),
+    (
+        "8a ffff 03 04 05  060708090a0b0c0d 0e0f101112131415 161718191a1b1c1d \
+            1e1f202122232425 262728292a2b2c2d  79",
+        Some([Some(FIELD), None, None, None, None]),
     ),
-    (ResourceRangeType::Bus, [0, 0], [0, 0, 0, 0, 1]),
+    ("79", Some([None; 5])),
+    ("79 00", Some([None; 5])),
+    ("79 8a", Some([None; 5])),
+    ("79 12 34", Some([None; 5])),
 ];
 
 fn range_of(resource: &QwordAddressSpaceDescriptor) -> Range {
@@ -45,91 +78,64 @@ fn range_of(resource: &QwordAddressSpaceDescriptor) -> Range {
     )
 }
 
-/// Returns the resources of the list that the bytes begin with, in a vector.
-fn parsed(alloc: Global, input: &[u8]) -> Result<Vec<Range>, Fail> {
-    Ok(parse(alloc, input)?.iter().map(range_of).collect(alloc)?)
+fn ranges(resources: &[QwordAddressSpaceDescriptor]) -> Ranges {
+    [0, 1, 2, 3, 4].map(|index| resources.get(index).map(range_of))
+}
+
+/// Returns the resources of the list that the bytes begin with, read with memory.
+fn parsed(alloc: Global, input: &[u8]) -> Option<Ranges> {
+    Some(ranges(parse(alloc, input).ok()?.as_slice()))
 }
 
 /// Returns the resources of the list that the bytes begin with, read without memory.
-fn viewed(alloc: Global, input: &[u8]) -> Result<Vec<Range>, Fail> {
-    let list = ResourceList::try_from(input)?;
-    Ok(
-        list.iter()
-            .map(|resource| range_of(&resource))
-            .collect(alloc)?,
-    )
+fn viewed(input: &[u8]) -> Option<Ranges> {
+    let mut left = ResourceList::try_from(input).ok()?.iter();
+    Some([(); 5].map(|_| left.next().map(|resource| range_of(&resource))))
+}
+
+/// Checks a reader of lists. The two readers share one copy of the table, which is dear to prove.
+fn check_lists<F>(alloc: Global, read: F) -> Result<(), Fail>
+where
+    F: Fn(&[u8]) -> Option<Ranges>,
+    requires { F.IsAlwaysCallable read }
+{
+    each_reads(alloc, &LISTS, read)
 }
 
 #[test]
 fn lists_have_their_resources(rt: HostRuntime) -> Result<(), Fail> {
-    let field = (
-        ResourceRangeType::Unknown(3),
-        [4, 5],
-        [
-            0x0d0c_0b0a_0908_0706,
-            0x1514_1312_1110_0f0e,
-            0x1d1c_1b1a_1918_1716,
-            0x2524_2322_2120_1f1e,
-            0x2d2c_2b2a_2928_2726,
-        ],
-    );
-    let rows: [(&str, &[Range]); 6] = [
-        (ROOT_BRIDGE, &RANGES),
-        (
-            "8a ffff 03 04 05  060708090a0b0c0d 0e0f101112131415 161718191a1b1c1d \
-                1e1f202122232425 262728292a2b2c2d  79",
-            &[field],
-        ),
-        ("79", &[]),
-        ("79 00", &[]),
-        ("79 8a", &[]),
-        ("79 12 34", &[]),
-    ];
-    for (row, expected) in rows {
-        let input = bytes(rt.alloc(), row)?;
-        let parsed = parsed(rt.alloc(), input.as_slice())?;
-        same("parsed", &parsed.as_slice(), &expected)?;
-        let viewed = viewed(rt.alloc(), input.as_slice())?;
-        same("viewed", &viewed.as_slice(), &expected)?;
-    }
-    Ok(())
+    check_lists(rt.alloc(), |input| parsed(rt.alloc(), input))?;
+    check_lists(rt.alloc(), viewed)
 }
 
-/// Returns the count of resources, what is left at first and at last, and whether the iterator
-/// stays ended.
-fn steps(input: &[u8]) -> Option<(usize, (usize, Option<usize>), usize, [bool; 2])> {
-    let list = ResourceList::try_from(input).ok()?;
+/// Returns what is left once the iterator gave each resource, and whether it stays ended.
+fn after_all(list: &ResourceList<'_>) -> (usize, [bool; 2]) {
     let mut left = list.iter();
-    let at_first = left.size_hint();
     for _ in list.iter() {
         left.next();
     }
     let at_last = left.len();
-    let ended = [left.next().is_none(), left.next().is_none()];
-    Some((list.iter().count(), at_first, at_last, ended))
+    (at_last, [left.next().is_none(), left.next().is_none()])
+}
+
+/// Returns the count of resources, what is left at first and at last, and whether the iterator
+/// stays ended.
+fn steps(input: &[u8]) -> Option<(usize, (usize, Option<usize>), (usize, [bool; 2]))> {
+    let list = ResourceList::try_from(input).ok()?;
+    Some((
+        list.iter().count(),
+        list.iter().size_hint(),
+        after_all(&list),
+    ))
 }
 
 #[test]
 fn what_is_left_is_counted(rt: HostRuntime) -> Result<(), Fail> {
     let rows = [
-        (ROOT_BRIDGE, Some((4, (4, Some(4)), 0, [true; 2]))),
-        ("79", Some((0, (0, Some(0)), 0, [true; 2]))),
+        (ROOT_BRIDGE, Some((4, (4, Some(4)), (0, [true; 2])))),
+        ("79", Some((0, (0, Some(0)), (0, [true; 2])))),
     ];
     each_reads(rt.alloc(), &rows, steps)
-}
-
-/// Returns whether the resources are those of [`ROOT_BRIDGE`].
-fn are_ranges(resources: &[QwordAddressSpaceDescriptor]) -> bool {
-    let mut left = resources.iter();
-    for range in &RANGES {
-        let Some(resource) = left.next() else {
-            return false;
-        };
-        if range_of(resource) != *range {
-            return false;
-        }
-    }
-    left.next().is_none()
 }
 
 /// Returns whether the resources of the list are those of [`ROOT_BRIDGE`], or its error; or `None`
@@ -138,16 +144,8 @@ fn parse_ranges<A: Allocator>(alloc: A, input: &[u8]) -> Option<Result<bool, Res
     match parse(alloc, input) {
         Err(ResourceError::Memory) => None,
         Err(error) => Some(Err(error)),
-        Ok(list) => Some(Ok(are_ranges(list.as_slice()))),
+        Ok(list) => Some(Ok(ranges(list.as_slice()) == RANGES)),
     }
-}
-
-/// Returns the errors of the bytes with a tag at an offset, from both readers.
-fn tag_errors(alloc: Global, input: &[u8], offset: usize, tag: u8) -> Option<[ResourceError; 2]> {
-    let mut list = Vec::from_slice(alloc, input).ok()?;
-    *list.get_mut(offset)? = tag;
-    let parsed = parse(alloc, list.as_slice()).err()?;
-    Some([parsed, ResourceList::try_from(list.as_slice()).err()?])
 }
 
 /// Returns what the first bytes of [`ROOT_BRIDGE`] are read as, with `true` for its resources.
@@ -159,45 +157,69 @@ fn cut_list(length: usize) -> Result<bool, ResourceError> {
     }
 }
 
+/// Checks that both readers read the first bytes of [`ROOT_BRIDGE`] as [`cut_list`] says.
+fn check_cut(alloc: Global, cut: &[u8]) -> Result<(), Fail> {
+    let length = cut.len();
+    let found = (parse_ranges(alloc, cut), ResourceList::try_from(cut).err());
+    let read = cut_list(length);
+    let expected = (Some(read), read.err());
+    same("the first bytes", &(length, found), &(length, expected))
+}
+
+/// Checks the first bytes of [`ROOT_BRIDGE`], however many they are.
+fn check_cuts(alloc: Global, input: &[u8]) -> Result<(), Fail> {
+    for length in 0..=input.len() {
+        check_cut(alloc, &input[..length])?;
+    }
+    same("the length", &input.len(), &186)
+}
+
 #[test]
 fn a_list_cut_anywhere_is_refused(rt: HostRuntime) -> Result<(), Fail> {
     let input = bytes(rt.alloc(), ROOT_BRIDGE)?;
-    same("the length", &input.len(), &186)?;
-    for length in 0..=input.len() {
-        let cut = &input[..length];
-        let read = cut_list(length);
-        let seen = (
-            parse_ranges(rt.alloc(), cut),
-            ResourceList::try_from(cut).err(),
-        );
-        same(
-            "the first bytes",
-            &(length, seen),
-            &(length, (Some(read), read.err())),
-        )?;
-    }
-    Ok(())
+    check_cuts(rt.alloc(), input.as_slice())
+}
+
+/// Returns the bytes of [`ROOT_BRIDGE`] with a tag at an offset.
+fn with_tag(alloc: Global, offset: usize, tag: u8) -> Option<Vec<u8>> {
+    let Ok(mut list) = bytes(alloc, ROOT_BRIDGE) else {
+        return None;
+    };
+    *list.get_mut(offset)? = tag;
+    Some(list)
+}
+
+/// Returns the errors of the bytes, from both readers.
+fn errors(alloc: Global, input: &[u8]) -> [Option<ResourceError>; 2] {
+    [
+        parse(alloc, input).err(),
+        ResourceList::try_from(input).err(),
+    ]
+}
+
+/// Returns the errors of [`ROOT_BRIDGE`] with a tag at an offset.
+fn tag_errors(alloc: Global, (offset, tag): &(usize, u8)) -> Option<[Option<ResourceError>; 2]> {
+    let list = with_tag(alloc, *offset, *tag)?;
+    Some(errors(alloc, list.as_slice()))
 }
 
 #[test]
 fn a_tag_of_neither_kind_is_named(rt: HostRuntime) -> Result<(), Fail> {
-    let list = bytes(rt.alloc(), ROOT_BRIDGE)?;
-    const ROWS: [((usize, u8), Option<[ResourceError; 2]>); 4] = [
-        ((0, 0x12), Some([ResourceError::UnknownTag(0x12); 2])),
-        ((46, 0), Some([ResourceError::UnknownTag(0); 2])),
-        ((138, 0x47), Some([ResourceError::UnknownTag(0x47); 2])),
-        ((184, 0xff), Some([ResourceError::UnknownTag(0xff); 2])),
+    const ROWS: [((usize, u8), Option<[Option<ResourceError>; 2]>); 4] = [
+        ((0, 0x12), Some([Some(ResourceError::UnknownTag(0x12)); 2])),
+        ((46, 0), Some([Some(ResourceError::UnknownTag(0)); 2])),
+        (
+            (138, 0x47),
+            Some([Some(ResourceError::UnknownTag(0x47)); 2]),
+        ),
+        (
+            (184, 0xff),
+            Some([Some(ResourceError::UnknownTag(0xff)); 2]),
+        ),
     ];
-    each_gives(
-        &ROWS,
-        |row: &(usize, u8)| tag_errors(rt.alloc(), list.as_slice(), row.0, row.1),
-    )?;
-    let alone = tag_errors(rt.alloc(), &[0], 0, 0x12);
-    same(
-        "one byte",
-        &alone,
-        &Some([ResourceError::UnknownTag(18); 2]),
-    )
+    each_gives_in(rt.alloc(), &ROWS, tag_errors)?;
+    let alone = [Some(ResourceError::UnknownTag(0x12)); 2];
+    same("one byte", &errors(rt.alloc(), &[0x12]), &alone)
 }
 
 #[test]
@@ -224,20 +246,24 @@ fn check_error(alloc: Global, input: &[u8], error: ResourceError) -> Result<(), 
     without_request(alloc, &Some(Err(error)), |heap| parse_ranges(heap, input))
 }
 
-#[test]
-fn an_error_of_the_bytes_asks_for_no_memory(rt: HostRuntime) -> Result<(), Fail> {
-    let mut input = bytes(rt.alloc(), ROOT_BRIDGE)?;
+/// Checks that of each number of the first bytes of [`ROOT_BRIDGE`].
+fn check_cut_errors(alloc: Global, input: &[u8]) -> Result<(), Fail> {
     for length in 0..=input.len() {
         if let Err(error) = cut_list(length) {
-            check_error(rt.alloc(), &input[..length], error)?;
+            check_error(alloc, &input[..length], error)?;
         }
     }
-    *input.get_mut(184).ok_or("the end tag")? = 0x78;
-    check_error(
-        rt.alloc(),
-        input.as_slice(),
-        ResourceError::UnknownTag(0x78),
-    )
+    Ok(())
+}
+
+#[test]
+fn an_error_of_the_bytes_asks_for_no_memory(rt: HostRuntime) -> Result<(), Fail> {
+    let input = bytes(rt.alloc(), ROOT_BRIDGE)?;
+    check_cut_errors(rt.alloc(), input.as_slice())?;
+    let Some(list) = with_tag(rt.alloc(), 184, 0x78) else {
+        return Err(Fail::from("the end tag"));
+    };
+    check_error(rt.alloc(), list.as_slice(), ResourceError::UnknownTag(0x78))
 }
 
 #[test]

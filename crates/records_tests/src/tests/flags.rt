@@ -48,13 +48,13 @@ fn a_set_contains_the_flags_that_are_in_it() -> Result<(), Fail> {
         set.contains(FileAttribute::READ_ONLY),
         set.contains(hidden_directory),
     ];
-    same("of the attributes 0x11", &contained, &[true, true, false])?;
     let both = Daylight::from_bits_retain(3);
     let one = Daylight::ADJUST_DAYLIGHT;
+    let of_daylight = [both.contains(one), one.contains(both)];
     same(
-        "of daylight",
-        &[both.contains(one), one.contains(both)],
-        &[true, false],
+        "of the attributes 0x11, of daylight",
+        &(contained, of_daylight),
+        &([true, true, false], [true, false]),
     )
 }
 
@@ -70,23 +70,23 @@ fn the_named_bits_have_their_numbers() -> Result<(), Fail> {
         FileAttribute::empty(),
     ];
     let numbers = [0x01, 0x02, 0x04, 0x10, 0x20, 0x37, 0];
-    same("attributes", &attributes.map(|set| set.bits()), &numbers)?;
     let daylights = [
         Daylight::ADJUST_DAYLIGHT,
         Daylight::IN_DAYLIGHT,
         Daylight::empty(),
     ];
-    same("daylight", &daylights.map(|set| set.bits()), &[1, 2, 0])
+    let found = (
+        attributes.map(|set| set.bits()),
+        daylights.map(|set| set.bits()),
+    );
+    same("attributes, daylight", &found, &(numbers, [1, 2, 0]))
 }
 
 #[test]
 fn the_default_is_the_empty_set_and_comes_first() -> Result<(), Fail> {
-    same(
-        "attributes",
-        &FileAttribute::default(),
-        &FileAttribute::empty(),
-    )?;
-    same("daylight", &Daylight::default(), &Daylight::empty())?;
+    let defaults = (FileAttribute::default(), Daylight::default());
+    let empty = (FileAttribute::empty(), Daylight::empty());
+    same("attributes, daylight", &defaults, &empty)?;
     let ordered = FileAttribute::empty() < FileAttribute::READ_ONLY
         && FileAttribute::READ_ONLY < FileAttribute::HIDDEN
         && Daylight::ADJUST_DAYLIGHT < Daylight::IN_DAYLIGHT;

@@ -14,19 +14,14 @@ const VERSION: v1::Version = v1::Version {
 fn a_capability_of_version_1_has_its_fields() -> Result<(), Fail> {
     let zero = v1::Version::default();
     let capability = v1::BootServiceCapability::new(VERSION, zero, 0x83, 0, 7);
-    same(
-        "the record's version",
-        &capability.structure_version(),
-        &VERSION,
-    )?;
-    same(
-        "the protocol's version",
-        &capability.protocol_spec_version(),
-        &zero,
-    )?;
-    same("all bits", &capability.hash_algorithm().bits(), &0x83)?;
-    holds("no TPM", !capability.tpm_present())?;
-    holds("deactivated", capability.tpm_deactivated())?;
+    let versions = (
+        capability.structure_version(),
+        capability.protocol_spec_version(),
+    );
+    let bits = capability.hash_algorithm().bits();
+    let flags = (capability.tpm_present(), capability.tpm_deactivated());
+    let expected = ((VERSION, zero), 0x83, (false, true));
+    same("the fields", &(versions, bits, flags), &expected)?;
     holds(
         "the default is less",
         v1::BootServiceCapability::default() < capability,
@@ -86,16 +81,15 @@ const ORDERED_V1: [([u8; 5], [u8; 5]); 5] = [
 
 #[test]
 fn the_default_capabilities_are_zero() -> Result<(), Fail> {
-    let zero = v1::BootServiceCapability::default();
-    same("version 1", &zero, &capability1(&[0; 5]))?;
-    holds("no TPM", !zero.tpm_present())?;
-    let version = v1::Version::default();
-    same("the versions", &zero.structure_version(), &version)?;
-    let zero = v2::BootServiceCapability::default();
-    same("version 2", &zero, &capability2(&[0; 10]))?;
-    holds("no TPM either", !zero.tpm_present())?;
-    let version = v2::Version::default();
-    same("the versions still", &zero.structure_version, &version)
+    let one = v1::BootServiceCapability::default();
+    let two = v2::BootServiceCapability::default();
+    let zero = (capability1(&[0; 5]), capability2(&[0; 10]));
+    same("versions 1 and 2", &(one, two), &zero)?;
+    let present = (one.tpm_present(), two.tpm_present());
+    same("no TPM", &present, &(false, false))?;
+    let versions = (one.structure_version(), two.structure_version);
+    let zero = (v1::Version::default(), v2::Version::default());
+    same("the versions", &versions, &zero)
 }
 
 #[test]
@@ -112,20 +106,21 @@ fn versions_are_ordered_field_by_field() -> Result<(), Fail> {
 #[test]
 fn a_set_of_algorithms_is_made_of_named_bits_alone() -> Result<(), Fail> {
     let both = HashAlgorithm::SHA1.union(HashAlgorithm::SM3_256);
-    same("named bits", &HashAlgorithm::from_bits(0x11), &Some(both))?;
+    let made = [0x11, 0x20].map(HashAlgorithm::from_bits);
     same(
-        "a bit without a name",
-        &HashAlgorithm::from_bits(0x20),
-        &None,
+        "named bits, and one without a name",
+        &made,
+        &[Some(both), None],
     )?;
-    same(
-        "it is kept",
-        &HashAlgorithm::from_bits_retain(0x20).bits(),
-        &0x20,
-    )?;
-    holds("one in both", both.contains(HashAlgorithm::SHA1))?;
-    holds("another isn't", !both.contains(HashAlgorithm::SHA256))?;
-    same("none", &HashAlgorithm::empty(), &HashAlgorithm::default())
+    let sets = [
+        HashAlgorithm::from_bits_retain(0x20),
+        HashAlgorithm::empty(),
+        HashAlgorithm::default(),
+    ];
+    let bits = sets.map(|it| it.bits());
+    same("it is kept, and none is made up", &bits, &[0x20, 0, 0])?;
+    let found = [HashAlgorithm::SHA1, HashAlgorithm::SHA256].map(|it| both.contains(it));
+    same("one in both, another isn't", &found, &[true, false])
 }
 
 #[test]
@@ -177,28 +172,26 @@ fn capability2(fields: &[u8; 10]) -> v2::BootServiceCapability {
 #[test]
 fn a_capability_of_version_2_has_its_fields() -> Result<(), Fail> {
     let capability = capability2(&[1, 2, 3, 4, 5, 6, 7, 8, 9, 10]);
+    let versions = [capability.structure_version, capability.protocol_version].map(|it| it.major);
+    same("the versions", &versions, &[1, 2])?;
+    let bits = (
+        capability.hash_algorithm_bitmap.bits(),
+        capability.supported_event_logs.bits(),
+        capability.active_pcr_banks.bits(),
+    );
     same(
-        "the record's version",
-        &capability.structure_version.major,
-        &1,
+        "the algorithms, formats and active banks",
+        &bits,
+        &(3, 4, 10),
     )?;
-    same(
-        "the protocol's version",
-        &capability.protocol_version.major,
-        &2,
-    )?;
-    same(
-        "the algorithms",
-        &capability.hash_algorithm_bitmap.bits(),
-        &3,
-    )?;
-    same("the formats", &capability.supported_event_logs.bits(), &4)?;
-    holds("a TPM", capability.tpm_present())?;
-    same("the longest command", &capability.max_command_size, &6)?;
-    same("the longest response", &capability.max_response_size, &7)?;
-    same("the manufacturer", &capability.manufacturer_id, &8)?;
-    same("the banks", &capability.number_of_pcr_banks, &9)?;
-    same("the active banks", &capability.active_pcr_banks.bits(), &10)
+    let numbers = (
+        capability.tpm_present(),
+        capability.max_command_size,
+        capability.max_response_size,
+        capability.manufacturer_id,
+        capability.number_of_pcr_banks,
+    );
+    same("the other fields", &numbers, &(true, 6, 7, 8, 9))
 }
 
 /// Two capabilities each, of which the first differing field decides.
@@ -268,25 +261,20 @@ fn versions_of_version_2_are_ordered_field_by_field() -> Result<(), Fail> {
 #[test]
 fn a_set_of_formats_is_made_of_named_bits_alone() -> Result<(), Fail> {
     let both = v2::EventLogFormat::TCG_1_2.union(v2::EventLogFormat::TCG_2);
-    same("named bits", &v2::EventLogFormat::from_bits(3), &Some(both))?;
+    let made = [3, 4].map(v2::EventLogFormat::from_bits);
     same(
-        "a bit without a name",
-        &v2::EventLogFormat::from_bits(4),
-        &None,
+        "named bits, and one without a name",
+        &made,
+        &[Some(both), None],
     )?;
-    same(
-        "it is kept",
-        &v2::EventLogFormat::from_bits_retain(4).bits(),
-        &4,
-    )?;
-    holds("one in both", both.contains(v2::EventLogFormat::TCG_2))?;
-    holds(
-        "both aren't in one",
-        !v2::EventLogFormat::TCG_1_2.contains(both),
-    )?;
-    same(
-        "none",
-        &v2::EventLogFormat::empty(),
-        &v2::EventLogFormat::default(),
-    )
+    let sets = [
+        v2::EventLogFormat::from_bits_retain(4),
+        v2::EventLogFormat::empty(),
+        v2::EventLogFormat::default(),
+    ];
+    let bits = sets.map(|it| it.bits());
+    same("it is kept, and none is made up", &bits, &[4, 0, 0])?;
+    let one = v2::EventLogFormat::TCG_1_2;
+    let found = (both.contains(v2::EventLogFormat::TCG_2), one.contains(both));
+    same("one in both, both aren't in one", &found, &(true, false))
 }

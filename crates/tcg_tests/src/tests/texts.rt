@@ -10,10 +10,10 @@ pub(crate) fn push_kind(
     write!(text, "{} 0x{:08x} ", pcr_index.0, event_type.0)
 }
 
-/// Appends two hex digits for each byte.
-pub(crate) fn push_hex(text: &mut String, bytes: &[u8]) -> Result<(), AllocError> {
+/// Appends two hex digits for each byte, and an end.
+pub(crate) fn push_hex(text: &mut String, bytes: &[u8], end: &str) -> Result<(), AllocError> {
     for byte in bytes {
         write!(text, "{byte:02x}")?;
     }
-    Ok(())
+    text.push_str(end)
 }

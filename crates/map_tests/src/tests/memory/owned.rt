@@ -1,5 +1,5 @@
-use super::meta_of;
-use std::alloc::Allocator;
+use super::{meta_of, write_type};
+use std::alloc::{Allocator, Global};
 use std::test::Fail;
 use test_support::{in_turn, same};
 use uefi_map::{MemoryDescriptor, MemoryMap, MemoryMapMut, MemoryMapOwned, MemoryType};
@@ -11,19 +11,21 @@ fn owned<A: Allocator>(alloc: A, byte: u8) -> Option<MemoryMapOwned<A>> {
     MemoryMapOwned::from_initialized_mem(input, meta_of(120, 40)).ok()
 }
 
-/// Writes a byte of the second descriptor's type into the buffer of a map, and returns the type.
-fn write_type<M: MemoryMapMut>(map: &mut M) -> Option<MemoryType> {
-    *map.buffer_mut().get_mut(40)? = 2;
-    Some(map.get(1)?.ty)
+/// The length of an owned map and those of its buffer, the type of its second descriptor once a
+/// byte of it is written, and whether the map is sorted then.
+type Seen = ((usize, usize, usize), Option<MemoryType>, bool);
+
+/// Returns that of a map of bytes 1; or `None` if memory ran out.
+fn seen(alloc: Global) -> Option<Seen> {
+    let mut map = owned(alloc, 1)?;
+    let lengths = (map.len(), map.buffer().len(), map.buffer_mut().len());
+    Some((lengths, write_type(&mut map, 40, 2), map.is_sorted()))
 }
 
 #[test]
 fn an_owned_map_has_its_own_bytes_alone(rt: HostRuntime) -> Result<(), Fail> {
-    let mut map = owned(rt.alloc(), 1).ok_or("memory")?;
-    let lengths = (map.len(), map.buffer().len(), map.buffer_mut().len());
-    same("lengths", &lengths, &(3, 120, 120))?;
-    let seen = (write_type(&mut map), map.is_sorted());
-    same("the map", &seen, &(Some(MemoryType(0x0101_0102)), true))
+    let expected = Some(((3, 120, 120), Some(MemoryType(0x0101_0102)), true));
+    same("lengths, type, is sorted", &seen(rt.alloc()), &expected)
 }
 
 /// Sets the last descriptor of a map over zeros: what was there, how many descriptors there are,

@@ -2,7 +2,7 @@ use super::{fields, map_at, meta_of};
 use std::alloc::Global;
 use std::test::Fail;
 use test_support::samples::FIRMWARE_MAP;
-use test_support::{bytes, each_gives, each_reads, holds, same, same_bytes};
+use test_support::{bytes, each_gives, each_reads, same};
 use uefi_map::{
     MemoryMap, MemoryMapKey, MemoryMapMeta, MemoryMapOwned, MemoryMapRef, MemoryMapRefMut,
 };
@@ -192,47 +192,58 @@ fn has_entries<M: MemoryMap>(map: &M, entries: &[[u64; 6]]) -> bool {
     map.get(entries.len()).is_none()
 }
 
-/// Checks a map that the bytes of the row are.
-fn check_map<M: MemoryMap>(alloc: Global, map: &M, row: &MapRow) -> Result<(), Fail> {
-    same(row.name, &facts(map), &row.facts())?;
-    holds(row.name, has_entries(map, row.entries))?;
-    let entries = map
-        .entries()
+/// Returns whether the iterator gives these descriptors, and no other.
+fn gives_entries<M: MemoryMap>(map: &M, entries: &[[u64; 6]]) -> bool {
+    map.entries()
         .map(|d| fields(&d))
-        .collect::<Vec<[u64; 6]>>(alloc)?;
-    same(row.name, &entries.as_slice(), &row.entries)
+        .eq(entries.iter().copied())
 }
 
-fn check_read(alloc: Global, input: &[u8], row: &MapRow) -> Result<(), Fail> {
+/// Checks a map that the bytes of the row are, with this buffer.
+fn check_map<M: MemoryMap>(map: &M, buffer: &[u8], row: &MapRow) -> Result<(), Fail> {
+    let entries = [
+        has_entries(map, row.entries),
+        gives_entries(map, row.entries),
+    ];
+    let found = (facts(map), entries, map.buffer());
+    same(row.name, &found, &(row.facts(), [true; 2], buffer))
+}
+
+fn check_read(input: &[u8], row: &MapRow) -> Result<(), Fail> {
     let map = MemoryMapRef::new(input, row.meta())?;
-    check_map(alloc, &map, row)?;
-    same_bytes(row.name, map.buffer(), input)
+    check_map(&map, input, row)
 }
 
-fn check_written(alloc: Global, buffer: &mut [u8], row: &MapRow) -> Result<(), Fail> {
-    let map = MemoryMapRefMut::new(buffer, row.meta())?;
-    check_map(alloc, &map, row)?;
-    let input = bytes(alloc, row.input)?;
-    same_bytes(row.name, map.buffer(), input.as_slice())
+fn check_written(alloc: Global, input: &[u8], row: &MapRow) -> Result<(), Fail> {
+    let mut buffer = Vec::from_slice(alloc, input)?;
+    let Ok(map) = MemoryMapRefMut::new(buffer.as_mut_slice(), row.meta()) else {
+        return Err(Fail::new(row.name));
+    };
+    check_map(&map, input, row)
 }
 
-fn check_owned(alloc: Global, buffer: Vec<u8>, row: &MapRow) -> Result<(), Fail> {
+fn check_owned(alloc: Global, input: &[u8], row: &MapRow) -> Result<(), Fail> {
+    let buffer = Vec::from_slice(alloc, input)?;
     let Ok(map) = MemoryMapOwned::from_initialized_mem(buffer, row.meta()) else {
         return Err(Fail::new(row.name));
     };
-    check_map(alloc, &map, row)?;
+    let Some(own) = input.get(..row.sizes.0) else {
+        return Err(Fail::new(row.name));
+    };
+    check_map(&map, own, row)
+}
+
+fn check_row(alloc: Global, row: &MapRow) -> Result<(), Fail> {
     let input = bytes(alloc, row.input)?;
-    let (map_size, _) = row.sizes;
-    same(row.name, &Some(map.buffer()), &input.get(..map_size))
+    check_read(input.as_slice(), row)?;
+    check_written(alloc, input.as_slice(), row)?;
+    check_owned(alloc, input.as_slice(), row)
 }
 
 #[test]
 fn each_map_has_its_entries(rt: HostRuntime) -> Result<(), Fail> {
     for row in MAPS.iter() {
-        let mut input = bytes(rt.alloc(), row.input)?;
-        check_read(rt.alloc(), input.as_slice(), row)?;
-        check_written(rt.alloc(), input.as_mut_slice(), row)?;
-        check_owned(rt.alloc(), input, row)?;
+        check_row(rt.alloc(), row)?;
     }
     Ok(())
 }
@@ -257,8 +268,12 @@ fn a_descriptor_stands_at_its_index(rt: HostRuntime) -> Result<(), Fail> {
 
 /// Returns whether a map of three descriptors that begin at these addresses is sorted.
 fn is_sorted(alloc: Global, starts: &[u64; 3]) -> Option<bool> {
-    let input = map_at(alloc, starts).ok()?;
-    let map = MemoryMapRef::new(input.as_slice(), meta_of(120, 40)).ok()?;
+    let Ok(input) = map_at(alloc, starts) else {
+        return None;
+    };
+    let Ok(map) = MemoryMapRef::new(input.as_slice(), meta_of(120, 40)) else {
+        return None;
+    };
     Some(map.is_sorted())
 }
 

@@ -2,7 +2,7 @@ use super::meta_of;
 use std::alloc::Global;
 use std::test::Fail;
 use test_support::each_gives;
-use uefi_map::{MemoryMapError, MemoryMapOwned, MemoryMapRef, MemoryMapRefMut};
+use uefi_map::{MemoryMapError, MemoryMapMeta, MemoryMapOwned, MemoryMapRef, MemoryMapRefMut};
 
 /// A byte, how often it stands in the buffer, the bytes of the map, and those of its stride.
 type Row = (u8, usize, usize, usize);
@@ -27,28 +27,43 @@ const REFUSED: [(Row, Option<[bool; 5]>); 11] = [
 const AS_INVALID_SIZE: Option<[bool; 5]> = Some([true; 5]);
 
 /// Returns whether this is the error of sizes that make no map.
-fn is_invalid_size(error: MemoryMapError) -> bool {
-    matches!(error, MemoryMapError::InvalidSize)
+fn is_invalid_size(error: Option<MemoryMapError>) -> bool {
+    matches!(error, Some(MemoryMapError::InvalidSize))
+}
+
+/// Returns whether a map that is read and one that is written are refused as `InvalidSize`.
+fn borrowed_refusals(input: &[u8], buffer: &mut [u8], meta: MemoryMapMeta) -> [bool; 2] {
+    [
+        is_invalid_size(MemoryMapRef::new(input, meta).err()),
+        is_invalid_size(MemoryMapRefMut::new(buffer, meta).err()),
+    ]
+}
+
+/// Returns whether an owned map over the buffer is refused as `InvalidSize`, and whether the buffer
+/// that is given back is the same, with the bytes of the input.
+fn owned_refusal(input: &Vec<u8>, buffer: Vec<u8>, meta: MemoryMapMeta) -> [bool; 2] {
+    let capacity = buffer.capacity();
+    let Err((error, given_back)) = MemoryMapOwned::from_initialized_mem(buffer, meta) else {
+        return [false; 2];
+    };
+    let is_same = given_back.capacity() == capacity && given_back == *input;
+    [is_invalid_size(Some(error)), is_same]
 }
 
 /// Returns whether the sizes don't pass the test, whether each of the three maps is refused as
-/// `InvalidSize`, and whether the buffer is then the same; `None` where a map is made.
+/// `InvalidSize`, and whether the buffer is then the same; `None` if memory ran out.
 fn refusals(alloc: Global, row: &Row) -> Option<[bool; 5]> {
     let (byte, length, map_size, desc_size) = *row;
     let meta = meta_of(map_size, desc_size);
-    let input = [byte].repeat(alloc, length).ok()?;
-    let mut buffer = input.clone().ok()?;
-    let capacity = buffer.capacity();
-    let read = MemoryMapRef::new(input.as_slice(), meta).err()?;
-    let written = MemoryMapRefMut::new(buffer.as_mut_slice(), meta).err()?;
-    let (owned, buffer) = MemoryMapOwned::from_initialized_mem(buffer, meta).err()?;
-    Some([
-        !meta.is_map_within(length),
-        is_invalid_size(read),
-        is_invalid_size(written),
-        is_invalid_size(owned),
-        buffer.capacity() == capacity && buffer == input,
-    ])
+    let Ok(input) = [byte].repeat(alloc, length) else {
+        return None;
+    };
+    let Ok(mut buffer) = input.clone() else {
+        return None;
+    };
+    let [read, written] = borrowed_refusals(input.as_slice(), buffer.as_mut_slice(), meta);
+    let [owned, is_same] = owned_refusal(&input, buffer, meta);
+    Some([!meta.is_map_within(length), read, written, owned, is_same])
 }
 
 #[test]

@@ -103,9 +103,12 @@ fn a_default_descriptor_is_zeros() -> Result<(), Fail> {
         page_count: 0,
         att: MemoryAttribute::empty(),
     };
-    same("the default", &MemoryDescriptor::default(), &zeros)?;
-    let seen = (MemoryDescriptor::VERSION, MemoryDescriptor::alignment());
-    same("the version and the alignment", &seen, &(1, 8))
+    let seen = (
+        MemoryDescriptor::default(),
+        MemoryDescriptor::VERSION,
+        MemoryDescriptor::alignment(),
+    );
+    same("the default, version and alignment", &seen, &(zeros, 1, 8))
 }
 
 /// Returns whether the descriptor is itself, and whether it is the default.
@@ -223,7 +226,12 @@ fn the_laws_take_nothing_to_run() {
 #[test]
 fn sizes_without_key_and_version_have_zeros() -> Result<(), Fail> {
     let meta = MemoryMapMeta::of(480, 48);
-    same("sizes", &(meta.map_size, meta.desc_size), &(480, 48))?;
-    let none = (MemoryMapKey::default(), 0);
-    same("key, version", &(meta.map_key, meta.desc_version), &none)
+    let seen = (
+        meta.map_size,
+        meta.desc_size,
+        meta.map_key,
+        meta.desc_version,
+    );
+    let expected = (480, 48, MemoryMapKey::default(), 0);
+    same("sizes, key, version", &seen, &expected)
 }

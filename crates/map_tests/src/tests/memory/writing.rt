@@ -1,5 +1,4 @@
-use super::{fields, map_at, meta_of};
-use crate::tests::changed::put;
+use super::{fields, map_at, meta_of, write_type};
 use std::alloc::Global;
 use std::test::Fail;
 use test_support::samples::FIRMWARE_MAP;
@@ -10,8 +9,13 @@ use uefi_map::{
 };
 
 /// The bytes of [`device_registers`].
-const DEVICE_REGISTERS: &str =
-    "0b000000 01000000 0000c0ff00000000 0200000000000000 0004000000000000 0100000000000080";
+const DEVICE_REGISTERS: [u8; 40] = [
+    0x0b, 0, 0, 0, 1, 0, 0, 0, // its type and padding
+    0, 0, 0xc0, 0xff, 0, 0, 0, 0, // its first physical address
+    2, 0, 0, 0, 0, 0, 0, 0, // its first virtual address
+    0, 4, 0, 0, 0, 0, 0, 0, // its count of pages
+    1, 0, 0, 0, 0, 0, 0, 0x80, // its attributes
+];
 
 fn device_registers() -> MemoryDescriptor {
     MemoryDescriptor {
@@ -44,43 +48,69 @@ const SET: Set = [
     None,
 ];
 
-/// Returns a firmware's map in which the second stride ends with `ee`, and its bytes with
-/// descriptor 1 set.
-fn before_and_after(alloc: Global) -> Result<(Vec<u8>, Vec<u8>), Fail> {
-    let mut before = bytes(alloc, FIRMWARE_MAP)?;
-    put(before.as_mut_slice(), 88, &[0xee; 8]).ok_or("room")?;
-    let mut after = before.clone()?;
-    let written = bytes(alloc, DEVICE_REGISTERS)?;
-    put(after.as_mut_slice(), 48, written.as_slice()).ok_or("room")?;
-    Ok((before, after))
+/// Returns the bytes of a firmware's map, in which the second stride ends with `ee`; or `None` if
+/// memory ran out.
+fn before(alloc: Global) -> Option<Vec<u8>> {
+    let Ok(mut map) = bytes(alloc, FIRMWARE_MAP) else {
+        return None;
+    };
+    map.as_mut_slice()
+        .get_mut(88..96)?
+        .copy_from_slice(&[0xee; 8]);
+    Some(map)
+}
+
+/// Returns the bytes of that map with descriptor 1 set; or `None` if memory ran out.
+fn after(alloc: Global) -> Option<Vec<u8>> {
+    let mut map = before(alloc)?;
+    map.as_mut_slice()
+        .get_mut(48..88)?
+        .copy_from_slice(&DEVICE_REGISTERS);
+    Some(map)
+}
+
+/// Sets descriptor 1 of the map of [`before`], and checks what it shows then, with these bytes.
+fn check_set<M: MemoryMapMut>(map: &mut M, after: &[u8]) -> Result<(), Fail> {
+    let set = set_second(map);
+    let seen = (map.len(), map.key(), map.is_sorted());
+    let expected = (10, MemoryMapKey::from_raw(7), false);
+    same(
+        "descriptors, map, its bytes",
+        &(set, seen, map.buffer()),
+        &(SET, expected, after),
+    )
+}
+
+fn check_set_in(buffer: &mut [u8], after: &[u8]) -> Result<(), Fail> {
+    let mut map = MemoryMapRefMut::new(buffer, meta_of(480, 48))?;
+    check_set(&mut map, after)
 }
 
 #[test]
 fn a_write_changes_forty_bytes_alone(rt: HostRuntime) -> Result<(), Fail> {
-    let (mut buffer, expected) = before_and_after(rt.alloc())?;
-    let mut map = MemoryMapRefMut::new(buffer.as_mut_slice(), meta_of(480, 48))?;
-    same("descriptors", &set_second(&mut map), &SET)?;
-    let seen = (map.len(), map.key(), map.is_sorted());
-    same("the map", &seen, &(10, MemoryMapKey::from_raw(7), false))?;
-    same_bytes("its bytes", map.buffer(), expected.as_slice())?;
-    same_bytes("the buffer", buffer.as_slice(), expected.as_slice())
+    let (Some(mut buffer), Some(after)) = (before(rt.alloc()), after(rt.alloc())) else {
+        return Err(Fail::from("memory"));
+    };
+    check_set_in(buffer.as_mut_slice(), after.as_slice())?;
+    same_bytes("the buffer", buffer.as_slice(), after.as_slice())
 }
 
 #[test]
 fn a_write_changes_forty_owned_bytes_alone(rt: HostRuntime) -> Result<(), Fail> {
-    let (buffer, expected) = before_and_after(rt.alloc())?;
-    let Ok(mut map) = MemoryMapOwned::from_initialized_mem(buffer, meta_of(480, 48)) else {
-        return Err(Fail::new("480 bytes are ten descriptors"));
+    let (Some(buffer), Some(after)) = (before(rt.alloc()), after(rt.alloc())) else {
+        return Err(Fail::from("memory"));
     };
-    same("descriptors", &set_second(&mut map), &SET)?;
-    let seen = (map.len(), map.key(), map.is_sorted());
-    same("the map", &seen, &(10, MemoryMapKey::from_raw(7), false))?;
-    same_bytes("its bytes", map.buffer(), expected.as_slice())
+    let Ok(mut map) = MemoryMapOwned::from_initialized_mem(buffer, meta_of(480, 48)) else {
+        return Err(Fail::from("480 bytes are ten descriptors"));
+    };
+    check_set(&mut map, after.as_slice())
 }
 
 /// Sets the start of the third descriptor: the descriptor that was there, and where all begin then.
 fn set_start(buffer: &mut [u8], start: u64) -> Option<([u64; 6], [Option<u64>; 4])> {
-    let mut map = MemoryMapRefMut::new(buffer, meta_of(160, 40)).ok()?;
+    let Ok(mut map) = MemoryMapRefMut::new(buffer, meta_of(160, 40)) else {
+        return None;
+    };
     let mut written = map.get(2)?;
     written.phys_start = start;
     let before = map.set(2, written)?;
@@ -123,22 +153,28 @@ fn set_last(buffer: &mut [u8; 96]) -> Option<(usize, [u64; 6], [u64; 6])> {
 #[test]
 fn a_descriptor_is_set_at_its_index() -> Result<(), Fail> {
     let mut buffer = [0u8; 96];
+    let set = set_last(&mut buffer);
     let expected = Some((2, [0; 6], [14, 0, 1, 0, 2, 3]));
-    same("the descriptors", &set_last(&mut buffer), &expected)?;
-    same("the type", &buffer[48], &14)
+    same(
+        "the descriptors, the type",
+        &(set, buffer[48]),
+        &(expected, 14),
+    )
 }
 
-/// Writes a byte of the second descriptor's type into the buffer of a map, and returns the type.
-fn write_type(buffer: &mut [u8]) -> Option<MemoryType> {
-    let mut map = MemoryMapRefMut::new(buffer, meta_of(480, 48)).ok()?;
-    *map.buffer_mut().get_mut(49)? = 1;
-    Some(map.get(1)?.ty)
+/// Writes a byte of the second descriptor's type into the bytes of a firmware's map, and returns the
+/// type.
+fn type_written(buffer: &mut [u8]) -> Option<MemoryType> {
+    let Ok(mut map) = MemoryMapRefMut::new(buffer, meta_of(480, 48)) else {
+        return None;
+    };
+    write_type(&mut map, 49, 1)
 }
 
 #[test]
 fn what_is_written_into_the_buffer_is_the_map(rt: HostRuntime) -> Result<(), Fail> {
     let mut input = bytes(rt.alloc(), FIRMWARE_MAP)?;
-    let ty = write_type(input.as_mut_slice());
-    same("the type", &ty, &Some(MemoryType(0x107)))?;
-    same("the byte", &input.get(49), &Some(&1))
+    let ty = type_written(input.as_mut_slice());
+    let expected = (Some(MemoryType(0x107)), Some(&1));
+    same("the type, the byte", &(ty, input.get(49)), &expected)
 }

@@ -11,7 +11,9 @@ use uefi_records::{FileInfo, FileSystemInfo, FileSystemVolumeLabel};
 type File = ((u64, u64, u64), u64, [bool; 2], Units);
 
 fn file(input: &[u8]) -> Option<File> {
-    let info = FileInfo::from_uefi(input, 86).ok()?;
+    let Ok(info) = FileInfo::from_uefi(input, 86) else {
+        return None;
+    };
     Some((
         (info.size(), info.file_size(), info.physical_size()),
         info.attribute().bits(),
@@ -73,50 +75,68 @@ fn each_field_of_a_file_system_stands_at_its_offset(rt: HostRuntime) -> Result<(
     each_reads(rt.alloc(), &rows, file_system)
 }
 
-fn bad_size() -> Error<Option<usize>> {
-    Error::new(Status::BAD_BUFFER_SIZE, None)
-}
+/// The status and the data of an error.
+type Refusal = (Status, Option<usize>);
 
-fn too_small(size: usize) -> Error<Option<usize>> {
-    Error::new(Status::BUFFER_TOO_SMALL, Some(size))
+const BAD_SIZE: Refusal = (Status::BAD_BUFFER_SIZE, None);
+
+/// The refusal of a buffer that is shorter than a record of 88 bytes.
+const TOO_SMALL: Refusal = (Status::BUFFER_TOO_SMALL, Some(88));
+
+fn refusal(error: Error<Option<usize>>) -> Refusal {
+    (error.status(), *error.data())
 }
 
 /// A buffer that is cut to its first bytes: its bytes, to how many, and how many were written.
 type Cut = (&'static str, usize, usize);
 
 /// The units of a name, or the error of bytes that are no record.
-type Read = Result<Units, Error<Option<usize>>>;
+type Read = Result<Units, Refusal>;
 
 /// Returns the name of the file information record in a cut buffer.
 fn name_in(alloc: Global, (row, length, written): &Cut) -> Option<Read> {
-    let input = bytes(alloc, row).ok()?;
+    let Ok(input) = bytes(alloc, row) else {
+        return None;
+    };
     match FileInfo::from_uefi(input.get(..*length)?, *written) {
         Ok(info) => Some(Ok(units(info.file_name()))),
-        Err(error) => Some(Err(error)),
+        Err(error) => Some(Err(refusal(error))),
     }
+}
+
+/// Checks that the file information records in these cut buffers are read alike.
+fn check_names(alloc: Global, cuts: &[Cut], expected: Read) -> Result<(), Fail> {
+    for cut in cuts {
+        let found = (cut, name_in(alloc, cut));
+        same("a cut buffer", &found, &(cut, Some(expected)))?;
+    }
+    Ok(())
 }
 
 #[test]
 fn a_name_is_sought_in_what_was_written(rt: HostRuntime) -> Result<(), Fail> {
-    let rows = [
-        ((FILE, 88, 86), Some(Ok(UNITS_OF_AB))),
-        ((FILE, 88, 87), Some(Ok(UNITS_OF_AB))),
-        ((FILE, 88, 1000), Some(Ok(UNITS_OF_AB))),
-        ((FILE, 88, usize::MAX), Some(Ok(UNITS_OF_AB))),
-        ((FILE, 88, 0), Some(Err(bad_size()))),
-        ((FILE, 88, 1), Some(Err(bad_size()))),
-        ((FILE, 88, 79), Some(Err(bad_size()))),
-        ((FILE, 88, 80), Some(Err(bad_size()))),
-        ((FILE, 88, 84), Some(Err(bad_size()))),
-        ((FILE, 88, 85), Some(Err(bad_size()))),
-        ((FILE, 86, 86), Some(Err(too_small(88)))),
-        ((ZERO_FILE, 88, 86), Some(Ok(UNITS_OF_AB))),
-        ((ZERO_FILE, 88, 1000), Some(Ok(UNITS_OF_AB))),
-        ((ZERO_FILE, 86, 86), Some(Err(too_small(88)))),
-        ((ZERO_FILE, 88, 85), Some(Err(bad_size()))),
-        ((ZERO_FILE, 88, 0), Some(Err(bad_size()))),
+    const NAMED: [Cut; 6] = [
+        (FILE, 88, 86),
+        (FILE, 88, 87),
+        (FILE, 88, 1000),
+        (FILE, 88, usize::MAX),
+        (ZERO_FILE, 88, 86),
+        (ZERO_FILE, 88, 1000),
     ];
-    each_gives_in(rt.alloc(), &rows, name_in)
+    check_names(rt.alloc(), &NAMED, Ok(UNITS_OF_AB))?;
+    const BADLY_SIZED: [Cut; 8] = [
+        (FILE, 88, 0),
+        (FILE, 88, 1),
+        (FILE, 88, 79),
+        (FILE, 88, 80),
+        (FILE, 88, 84),
+        (FILE, 88, 85),
+        (ZERO_FILE, 88, 85),
+        (ZERO_FILE, 88, 0),
+    ];
+    check_names(rt.alloc(), &BADLY_SIZED, Err(BAD_SIZE))?;
+    const SHORT: [Cut; 2] = [(FILE, 86, 86), (ZERO_FILE, 86, 86)];
+    check_names(rt.alloc(), &SHORT, Err(TOO_SMALL))
 }
 
 /// Returns the size that a record states whose first byte is another.
@@ -138,11 +158,11 @@ fn the_stated_size_is_not_trusted(rt: HostRuntime) -> Result<(), Fail> {
 
 /// Returns what is read of the first bytes of a record of 88 bytes, of which 86 end with the name,
 /// where that many were written.
-fn expected(length: usize, written: usize) -> Option<Error<Option<usize>>> {
+fn expected(length: usize, written: usize) -> Option<Refusal> {
     if length.min(written) < 86 {
-        Some(bad_size())
+        Some(BAD_SIZE)
     } else if length < 88 {
-        Some(too_small(88))
+        Some(TOO_SMALL)
     } else {
         None
     }
@@ -153,7 +173,7 @@ fn expected(length: usize, written: usize) -> Option<Error<Option<usize>>> {
 fn is_judged_where_written(input: &[u8], written: usize) -> bool {
     for length in 0..=input.len() {
         let read = FileInfo::from_uefi(&input[..length], written);
-        if read.err() != expected(length, written) {
+        if read.err().map(refusal) != expected(length, written) {
             return false;
         }
     }
@@ -177,23 +197,25 @@ fn a_cut_buffer_is_refused_by_what_is_left(rt: HostRuntime) -> Result<(), Fail> 
 
 /// Returns the units of the label in the bytes of which this many were written.
 fn label_in(alloc: Global, (row, written): &(&str, usize)) -> Option<Read> {
-    let input = bytes(alloc, row).ok()?;
+    let Ok(input) = bytes(alloc, row) else {
+        return None;
+    };
     match FileSystemVolumeLabel::from_uefi(input.as_slice(), *written) {
         Ok(label) => Some(Ok(units(label.volume_label()))),
-        Err(error) => Some(Err(error)),
+        Err(error) => Some(Err(refusal(error))),
     }
 }
 
 #[test]
 fn a_label_is_its_units(rt: HostRuntime) -> Result<(), Fail> {
-    let rows = [
+    const ROWS: [((&str, usize), Option<Read>); 2] = [
         (
             ("6100 0000", 4),
             Some(Ok((2, [Some(0x61), Some(0), None, None]))),
         ),
-        (("6100 0000", 3), Some(Err(bad_size()))),
+        (("6100 0000", 3), Some(Err(BAD_SIZE))),
     ];
-    each_gives_in(rt.alloc(), &rows, label_in)
+    each_gives_in(rt.alloc(), &ROWS, label_in)
 }
 
 /// Returns the bytes of a row with another byte at the offset.
@@ -216,26 +238,47 @@ fn both_with_byte(
 /// Returns whether [`FILE`] is equal to itself with another byte at an offset.
 fn is_equal_file(alloc: Global, change: &(usize, u8)) -> Option<bool> {
     let (one, other) = both_with_byte(alloc, FILE, change)?;
-    let one = FileInfo::from_uefi(one.as_slice(), 86).ok()?;
-    let other = FileInfo::from_uefi(other.as_slice(), 86).ok()?;
+    let Ok(one) = FileInfo::from_uefi(one.as_slice(), 86) else {
+        return None;
+    };
+    let Ok(other) = FileInfo::from_uefi(other.as_slice(), 86) else {
+        return None;
+    };
     Some(one == other)
 }
 
 /// Returns whether [`FILE_SYSTEM`] is equal to itself with another byte at an offset.
 fn is_equal_file_system(alloc: Global, change: &(usize, u8)) -> Option<bool> {
     let (one, other) = both_with_byte(alloc, FILE_SYSTEM, change)?;
-    let one = FileSystemInfo::from_uefi(one.as_slice(), 42).ok()?;
-    let other = FileSystemInfo::from_uefi(other.as_slice(), 42).ok()?;
+    let Ok(one) = FileSystemInfo::from_uefi(one.as_slice(), 42) else {
+        return None;
+    };
+    let Ok(other) = FileSystemInfo::from_uefi(other.as_slice(), 42) else {
+        return None;
+    };
+    Some(one == other)
+}
+
+/// Returns whether the labels in the bytes are equal.
+fn are_equal(one: &[u8], other: &[u8]) -> Option<bool> {
+    let Ok(one) = FileSystemVolumeLabel::from_uefi(one, 8) else {
+        return None;
+    };
+    let Ok(other) = FileSystemVolumeLabel::from_uefi(other, 8) else {
+        return None;
+    };
     Some(one == other)
 }
 
 /// Returns whether the labels in both rows are equal.
 fn are_equal_labels(alloc: Global, (one, other): &(&str, &str)) -> Option<bool> {
-    let one = bytes(alloc, one).ok()?;
-    let other = bytes(alloc, other).ok()?;
-    let one = FileSystemVolumeLabel::from_uefi(one.as_slice(), 8).ok()?;
-    let other = FileSystemVolumeLabel::from_uefi(other.as_slice(), 8).ok()?;
-    Some(one == other)
+    let Ok(one) = bytes(alloc, one) else {
+        return None;
+    };
+    let Ok(other) = bytes(alloc, other) else {
+        return None;
+    };
+    are_equal(one.as_slice(), other.as_slice())
 }
 
 #[test]
@@ -302,7 +345,6 @@ fn each_record_has_its_alignment_and_its_identity() -> Result<(), Fail> {
         FileSystemInfo::alignment(),
         FileSystemVolumeLabel::alignment(),
     );
-    same("alignments", &alignments, &(8, 8, 2))?;
     let identities = (
         FileInfo::identity(),
         FileSystemInfo::identity(),
@@ -313,5 +355,9 @@ fn each_record_has_its_alignment_and_its_identity() -> Result<(), Fail> {
         FileSystemInfo::GUID,
         FileSystemVolumeLabel::GUID,
     );
-    same("identities", &identities, &guids)
+    same(
+        "alignments, identities",
+        &(alignments, identities),
+        &((8, 8, 2), guids),
+    )
 }

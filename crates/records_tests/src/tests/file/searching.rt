@@ -1,6 +1,6 @@
 use std::alloc::{AllocError, Global};
 use std::test::Fail;
-use test_support::same;
+use test_support::{each_gives_in, same};
 use uefi_records::first_zero_unit;
 
 /// Returns the bytes of this many units `a`, and of the NUL.
@@ -13,19 +13,27 @@ fn label(alloc: Global, units: usize) -> Result<Vec<u8>, AllocError> {
     Ok(bytes)
 }
 
+/// Returns where the NUL of a label of this many units is found, and where it is once its last byte
+/// is cut.
+fn nul_of_label(alloc: Global, units: &usize) -> Option<[Option<usize>; 2]> {
+    let mut bytes = label(alloc, *units).ok()?;
+    let whole = first_zero_unit(bytes.as_slice());
+    let _last = bytes.pop();
+    Some([whole, first_zero_unit(bytes.as_slice())])
+}
+
 #[test]
 fn the_nul_of_a_label_is_found_once_it_is_whole(rt: HostRuntime) -> Result<(), Fail> {
-    for units in [0usize, 15, 16, 17, 31, 32, 33] {
-        let mut bytes = label(rt.alloc(), units)?;
-        same("whole", &first_zero_unit(bytes.as_slice()), &Some(units))?;
-        let _last = bytes.pop();
-        same(
-            "cut",
-            &(units, first_zero_unit(bytes.as_slice())),
-            &(units, None),
-        )?;
-    }
-    Ok(())
+    const ROWS: [(usize, Option<[Option<usize>; 2]>); 7] = [
+        (0, Some([Some(0), None])),
+        (15, Some([Some(15), None])),
+        (16, Some([Some(16), None])),
+        (17, Some([Some(17), None])),
+        (31, Some([Some(31), None])),
+        (32, Some([Some(32), None])),
+        (33, Some([Some(33), None])),
+    ];
+    each_gives_in(rt.alloc(), &ROWS, nul_of_label)
 }
 
 /// How many bytes the longest input has.

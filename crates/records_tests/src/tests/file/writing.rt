@@ -1,9 +1,9 @@
-use crate::tests::file::names::{AB, TEST_NAME, TEST_NAME2, UNITS_OF_AB, units};
+use crate::tests::file::names::{AB, TEST_NAME, TEST_NAME2, UNITS_OF_AB, Units, units};
 use crate::tests::time::making::PARAMS;
 use std::alloc::Global;
 use std::test::Fail;
 use test_support::samples::ZERO_FILE;
-use test_support::{bytes, joined_bytes, same, same_bytes, same_text};
+use test_support::{bytes, joined_bytes, same, same_text};
 use uefi_base::CStr16;
 use uefi_records::{
     FileAttribute, FileInfo, FileInfoCreationError, FileSystemInfo, FileSystemVolumeLabel, Time,
@@ -33,17 +33,21 @@ fn zero_file<'a>(
     )
 }
 
-/// Writes a file information record named `ab`, and checks what stands in its storage then.
+/// Writes a file information record named `ab`, and returns its size and its name.
+fn write_file(storage: &mut [u8]) -> Option<(u64, Units)> {
+    let Ok(name) = CStr16::from_u16_with_nul(&AB) else {
+        return None;
+    };
+    let info = zero_file(storage, &name).ok()?;
+    Some((info.size(), units(info.file_name())))
+}
+
+/// Checks such a record, and what stands in its storage then.
 fn check_file(alloc: Global, storage: &mut [u8], after: &[&str]) -> Result<(), Fail> {
-    let name = CStr16::from_u16_with_nul(&AB)?;
-    let info = zero_file(storage, &name)?;
-    let found = (info.size(), units(info.file_name()));
-    same("size, name", &found, &(88, UNITS_OF_AB))?;
-    same_bytes(
-        "the storage",
-        storage,
-        joined_bytes(alloc, after)?.as_slice(),
-    )
+    let written = write_file(storage);
+    let after = joined_bytes(alloc, after)?;
+    let expected = (Some((88, UNITS_OF_AB)), after.as_slice());
+    same("size, name, storage", &(written, &*storage), &expected)
 }
 
 #[test]
@@ -58,55 +62,102 @@ fn time_in(year: u16) -> Result<Time, TimeError> {
     Time::new(TimeParams { year, ..PARAMS })
 }
 
-#[test]
-fn a_written_file_gives_back_what_was_passed() -> Result<(), Fail> {
-    let name = CStr16::from_u16_with_nul(&AB)?;
-    let times = (time_in(2001)?, time_in(2002)?, time_in(2003)?);
-    let attribute = FileAttribute::READ_ONLY.union(FileAttribute::DIRECTORY);
+/// The sizes of a file information record, its times, its attribute and its name.
+type File = ((u64, u64, u64), [Time; 3], FileAttribute, Units);
+
+fn file(info: &FileInfo<'_>) -> File {
+    let times = [
+        info.create_time(),
+        info.last_access_time(),
+        info.modification_time(),
+    ];
+    (
+        (info.size(), info.file_size(), info.physical_size()),
+        times,
+        info.attribute(),
+        units(info.file_name()),
+    )
+}
+
+/// Writes a file information record named `ab` of these times and this attribute, and returns what
+/// it gives back.
+fn given_back(times: [Time; 3], attribute: FileAttribute) -> Option<File> {
+    let Ok(name) = CStr16::from_u16_with_nul(&AB) else {
+        return None;
+    };
+    let [created, accessed, modified] = times;
     let mut storage = [0; 88];
     let info = FileInfo::new(
         &mut storage,
         123,
         456,
-        times.0,
-        times.1,
-        times.2,
+        created,
+        accessed,
+        modified,
         attribute,
         &name,
-    )?;
-    let sizes = (info.size(), info.file_size(), info.physical_size());
-    same("sizes", &sizes, &(88, 123, 456))?;
-    let stored = (
-        info.create_time(),
-        info.last_access_time(),
-        info.modification_time(),
-    );
-    same("times", &stored, &times)?;
-    same("attribute", &info.attribute(), &attribute)?;
-    same("name", &units(info.file_name()), &UNITS_OF_AB)
+    )
+    .ok()?;
+    Some(file(&info))
+}
+
+#[test]
+fn a_written_file_gives_back_what_was_passed() -> Result<(), Fail> {
+    let [Ok(created), Ok(accessed), Ok(modified)] = [2001, 2002, 2003].map(time_in) else {
+        return Err(Fail::from("the times are valid"));
+    };
+    let times = [created, accessed, modified];
+    let attribute = FileAttribute::READ_ONLY.union(FileAttribute::DIRECTORY);
+    let expected = Some(((88, 123, 456), times, attribute, UNITS_OF_AB));
+    same(
+        "sizes, times, attribute, name",
+        &given_back(times, attribute),
+        &expected,
+    )
+}
+
+/// Writes a file system information record labelled `ab`, and returns its size and whether it is
+/// read-only.
+fn write_file_system(storage: &mut [u8]) -> Option<(u64, bool)> {
+    let Ok(label) = CStr16::from_u16_with_nul(&AB) else {
+        return None;
+    };
+    let info = FileSystemInfo::new(storage, true, 1, 2, 3, &label).ok()?;
+    Some((info.size(), info.read_only()))
 }
 
 #[test]
 fn a_written_file_system_leaves_the_unused_bytes(rt: HostRuntime) -> Result<(), Fail> {
-    let label = CStr16::from_u16_with_nul(&AB)?;
     let mut storage = [0xee; 48];
-    let info = FileSystemInfo::new(&mut storage, true, 1, 2, 3, &label)?;
-    same(
-        "size, read-only",
-        &(info.size(), info.read_only()),
-        &(48, true),
+    let written = write_file_system(&mut storage);
+    let after = bytes(
+        rt.alloc(),
+        "3000000000000000 01 eeeeeeeeeeeeee 0100000000000000 0200000000000000 \
+            03000000  6100 6200 0000  eeeeeeeeeeee",
     )?;
-    let after = "3000000000000000 01 eeeeeeeeeeeeee 0100000000000000 0200000000000000 \
-        03000000  6100 6200 0000  eeeeeeeeeeee";
-    same_bytes(after, &storage, bytes(rt.alloc(), after)?.as_slice())
+    let expected = (Some((48, true)), after.as_slice());
+    same(
+        "size, read-only, storage",
+        &(written, storage.as_slice()),
+        &expected,
+    )
 }
 
-/// Writes the label `ab`, and checks what stands in its storage then.
+/// Writes the label `ab`, and returns its units.
+fn write_label(storage: &mut [u8]) -> Option<Units> {
+    let Ok(name) = CStr16::from_u16_with_nul(&AB) else {
+        return None;
+    };
+    let label = FileSystemVolumeLabel::new(storage, &name).ok()?;
+    Some(units(label.volume_label()))
+}
+
+/// Checks that label, and what stands in its storage then.
 fn check_label(alloc: Global, storage: &mut [u8], after: &str) -> Result<(), Fail> {
-    let name = CStr16::from_u16_with_nul(&AB)?;
-    let label = FileSystemVolumeLabel::new(storage, &name)?;
-    same(after, &units(label.volume_label()), &UNITS_OF_AB)?;
-    same_bytes(after, storage, bytes(alloc, after)?.as_slice())
+    let written = write_label(storage);
+    let after = bytes(alloc, after)?;
+    let expected = (Some(UNITS_OF_AB), after.as_slice());
+    same("units, storage", &(written, &*storage), &expected)
 }
 
 #[test]
@@ -115,55 +166,70 @@ fn a_written_label_leaves_what_follows(rt: HostRuntime) -> Result<(), Fail> {
     check_label(rt.alloc(), &mut [0xee; 8], "6100 6200 0000 eeee")
 }
 
-/// Returns the sizes of the records of both kinds over 128 bytes that are named `test_name` and
-/// labelled `test_name2`.
-fn sizes() -> Option<(u64, u64)> {
-    let name = CStr16::from_u16_with_nul(&TEST_NAME).ok()?;
-    let label = CStr16::from_u16_with_nul(&TEST_NAME2).ok()?;
-    let mut storage = [0; 128];
-    let file = zero_file(&mut storage, &name).ok()?.size();
-    let mut storage = [0; 128];
-    let system = FileSystemInfo::new(&mut storage, false, 0, 0, 0, &label).ok()?;
-    Some((file, system.size()))
+/// The size of a record, or the error of its storage; or `None` if its name is no text.
+type Size = Option<Result<u64, FileInfoCreationError>>;
+
+/// Returns the size of a file information record that is named `test_name`.
+fn file_size(storage: &mut [u8]) -> Size {
+    let Ok(name) = CStr16::from_u16_with_nul(&TEST_NAME) else {
+        return None;
+    };
+    match zero_file(storage, &name) {
+        Ok(info) => Some(Ok(info.size())),
+        Err(error) => Some(Err(error)),
+    }
+}
+
+/// Returns the size of a file system information record that is labelled `test_name2`.
+fn file_system_size(storage: &mut [u8]) -> Size {
+    let Ok(label) = CStr16::from_u16_with_nul(&TEST_NAME2) else {
+        return None;
+    };
+    match FileSystemInfo::new(storage, false, 0, 0, 0, &label) {
+        Ok(info) => Some(Ok(info.size())),
+        Err(error) => Some(Err(error)),
+    }
 }
 
 #[test]
 fn a_record_has_a_size_by_its_name() -> Result<(), Fail> {
-    same("over 128 bytes", &sizes(), &Some((104, 64)))?;
-    let name = CStr16::from_u16_with_nul(&TEST_NAME)?;
-    let mut short = [0; 103];
-    let refused = zero_file(&mut short, &name).err();
+    let sizes = [
+        file_size(&mut [0; 128]),
+        file_system_size(&mut [0; 128]),
+        file_size(&mut [0; 103]),
+    ];
     let error = FileInfoCreationError::InsufficientStorage(104);
-    same("over 103 bytes", &refused, &Some(error))
+    let expected = [Some(Ok(104)), Some(Ok(64)), Some(Err(error))];
+    same("both over 128 bytes, over 103 bytes", &sizes, &expected)
 }
 
 /// What the writing of a record named `ab` into this many bytes leaves of its storage, and its
 /// error.
 type Refused = ([u8; 88], Option<FileInfoCreationError>);
 
-fn refused_file(name: &CStr16<'_>, length: usize) -> Refused {
+fn refused_file(length: usize) -> Refused {
     let mut storage = [0xee; 88];
-    let error = match storage.get_mut(..length) {
-        Some(short) => zero_file(short, name).err(),
-        None => None,
+    let error = match (storage.get_mut(..length), CStr16::from_u16_with_nul(&AB)) {
+        (Some(short), Ok(name)) => zero_file(short, &name).err(),
+        _ => None,
     };
     (storage, error)
 }
 
-fn refused_file_system(name: &CStr16<'_>, length: usize) -> Refused {
+fn refused_file_system(length: usize) -> Refused {
     let mut storage = [0xee; 88];
-    let error = match storage.get_mut(..length) {
-        Some(short) => FileSystemInfo::new(short, true, 1, 2, 3, name).err(),
-        None => None,
+    let error = match (storage.get_mut(..length), CStr16::from_u16_with_nul(&AB)) {
+        (Some(short), Ok(name)) => FileSystemInfo::new(short, true, 1, 2, 3, &name).err(),
+        _ => None,
     };
     (storage, error)
 }
 
-fn refused_label(name: &CStr16<'_>, length: usize) -> Refused {
+fn refused_label(length: usize) -> Refused {
     let mut storage = [0xee; 88];
-    let error = match storage.get_mut(..length) {
-        Some(short) => FileSystemVolumeLabel::new(short, name).err(),
-        None => None,
+    let error = match (storage.get_mut(..length), CStr16::from_u16_with_nul(&AB)) {
+        (Some(short), Ok(name)) => FileSystemVolumeLabel::new(short, &name).err(),
+        _ => None,
     };
     (storage, error)
 }
@@ -174,23 +240,23 @@ fn untouched(size: usize) -> Refused {
     ([0xee; 88], Some(error))
 }
 
-#[test]
-fn storage_that_is_too_short_stays_as_it_was() -> Result<(), Fail> {
-    let name = CStr16::from_u16_with_nul(&AB)?;
-    for length in 0..88 {
-        same("a file", &refused_file(&name, length), &untouched(88))?;
-    }
-    for length in 0..48 {
-        same(
-            "a file system",
-            &refused_file_system(&name, length),
-            &untouched(48),
-        )?;
-    }
-    for length in 0..6 {
-        same("a label", &refused_label(&name, length), &untouched(6))?;
+/// Checks that each storage shorter than a record of this size stays as it was.
+fn check_refused<F>(record: &str, size: usize, write: F) -> Result<(), Fail>
+where
+    F: Fn(usize) -> Refused,
+    requires { F.IsAlwaysCallable write }
+{
+    for length in 0..size {
+        same(record, &write(length), &untouched(size))?;
     }
     Ok(())
+}
+
+#[test]
+fn storage_that_is_too_short_stays_as_it_was() -> Result<(), Fail> {
+    check_refused("a file", 88, refused_file)?;
+    check_refused("a file system", 48, refused_file_system)?;
+    check_refused("a label", 6, refused_label)
 }
 
 /// How far a writer wrote, and whether what it wrote is read.
@@ -219,13 +285,13 @@ fn written_label(label: &CStr16<'_>) -> Written {
 #[test]
 fn the_writers_return_how_far_they_wrote() -> Result<(), Fail> {
     let name = CStr16::from_u16_with_nul(&AB)?;
-    same("a file", &written_file(&name), &(Ok(86), true))?;
-    same(
-        "a file system",
-        &written_file_system(&name),
-        &(Ok(42), true),
-    )?;
-    same("a label", &written_label(&name), &(Ok(6), true))
+    let found = [
+        written_file(&name),
+        written_file_system(&name),
+        written_label(&name),
+    ];
+    let expected = [(Ok(86), true), (Ok(42), true), (Ok(6), true)];
+    same("a file, a file system, a label", &found, &expected)
 }
 
 #[test]

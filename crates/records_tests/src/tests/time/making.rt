@@ -82,31 +82,32 @@ fn a_time_that_was_made_reads_back() -> Result<(), Fail> {
 fn bits_of_daylight_without_a_name_are_kept_and_not_read() -> Result<(), Fail> {
     let daylight = Daylight::from_bits_retain(0x84);
     let time = Time::new(TimeParams { daylight, ..PARAMS })?;
-    same("its bits", &time.daylight().bits(), &0x84)?;
-    same("it is valid", &time.is_valid(), &Ok(()))?;
+    let read = Time::try_from(time.to_bytes().as_slice());
+    let found = (time.daylight().bits(), time.is_valid(), read);
     let daylight = TimeError {
         daylight: true,
         ..TimeError::default()
     };
     let refused = Err(TimeByteConversionError::InvalidFields(daylight));
+    let expected = (0x84, Ok(()), refused);
     same(
-        "its bytes",
-        &Time::try_from(time.to_bytes().as_slice()),
-        &refused,
+        "its bits, whether it is valid, its bytes",
+        &found,
+        &expected,
     )
 }
 
 #[test]
 fn the_time_of_zeros_has_no_valid_date() -> Result<(), Fail> {
     let time = Time::invalid();
-    same("its bytes", &time.to_bytes(), &[0; 16])?;
     let date = TimeError {
         year: true,
         month: true,
         day: true,
         ..TimeError::default()
     };
-    same("its faults", &time.is_valid(), &Err(date))
+    let found = (time.to_bytes(), time.is_valid());
+    same("its bytes, its faults", &found, &([0; 16], Err(date)))
 }
 
 /// Returns whether the time of these fields is that of [`PARAMS`].

@@ -46,10 +46,8 @@ fn lines_of(alloc: Global, events: EventLogIter<'_>) -> Result<String, AllocErro
     let mut lines = String::new(alloc);
     for event in events {
         push_kind(&mut lines, event.pcr_index(), event.event_type())?;
-        push_hex(&mut lines, event.digest().as_slice())?;
-        lines.push(' ')?;
-        push_hex(&mut lines, event.event_data())?;
-        lines.push('\n')?;
+        push_hex(&mut lines, event.digest().as_slice(), " ")?;
+        push_hex(&mut lines, event.event_data(), "\n")?;
     }
     Ok(lines)
 }
@@ -75,9 +73,9 @@ fn an_iterator_stays_ended(rt: HostRuntime) -> Result<(), Fail> {
     for (row, last_entry, count) in [(LOG1, 34usize, 2usize), (LOG1, 1, 0), (LONG_DATA, 34, 0)] {
         let input = bytes(rt.alloc(), row)?;
         let log = EventLog::new(Some(input.as_slice()), Some(last_entry), false);
-        same(row, &log.iter().count(), &count)?;
         let mut events = log.iter();
-        holds(row, events.nth(count).is_none() && events.next().is_none())?;
+        let has_ended = events.nth(count).is_none() && events.next().is_none();
+        same(row, &(log.iter().count(), has_ended), &(count, true))?;
     }
     Ok(())
 }
@@ -92,8 +90,8 @@ fn two_events(input: &[u8]) -> Option<(PcrEvent<'_>, PcrEvent<'_>)> {
 /// Checks the bytes of two events, and that an event is equal to itself alone.
 fn check_events(event: &PcrEvent<'_>, next: &PcrEvent<'_>, first: &[u8]) -> Result<(), Fail> {
     holds("the first event's bytes", event.as_bytes() == first)?;
-    holds("an event is itself", *event == *event)?;
-    holds("it isn't the next", *event != *next)?;
+    let equal = [*event == *event, *event == *next];
+    same("an event is itself, not the next", &equal, &[true, false])?;
     same("the next one's length", &next.as_bytes().len(), &48)
 }
 
@@ -108,10 +106,8 @@ fn the_parts_of_an_event_are_parts_of_its_bytes(rt: HostRuntime) -> Result<(), F
 #[test]
 fn a_log_without_bytes_has_no_event(rt: HostRuntime) -> Result<(), Fail> {
     let log = EventLog::new(None, Some(0), true);
+    let other = EventLog::new(None, None, false);
+    let truncated = [log.is_truncated(), other.is_truncated()];
     same("events", &log.iter().count(), &0)?;
-    holds("it is truncated", log.is_truncated())?;
-    holds(
-        "it isn't truncated",
-        !EventLog::new(None, None, false).is_truncated(),
-    )
+    same("the one is truncated", &truncated, &[true, false])
 }

@@ -19,9 +19,9 @@ const EVENT: &str = "04000000 0d000000 000102030405060708090a0b0c0d0e0f10111213 
 /// Checks the bytes and the fields of the event that was written.
 fn check_fields(event: &PcrEvent<'_>, row: &[u8]) -> Result<(), Fail> {
     same_bytes("the event", event.as_bytes(), row)?;
-    same("its register", &event.pcr_index(), &PCR)?;
-    same("its type", &event.event_type(), &EventType::IPL)?;
-    same_bytes("its digest", event.digest().as_slice(), DIGEST.as_slice())?;
+    let fields = (event.pcr_index(), event.event_type(), event.digest());
+    let expected = (PCR, EventType::IPL, DIGEST);
+    same("its register, type and digest", &fields, &expected)?;
     same_bytes("its data", event.event_data(), EVENT_DATA.as_slice())
 }
 

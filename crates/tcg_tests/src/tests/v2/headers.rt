@@ -1,5 +1,5 @@
 use std::test::Fail;
-use test_support::{bytes, holds, same, same_bytes};
+use test_support::{bytes, each_holds, same, same_bytes};
 use uefi_tcg::AlgorithmId;
 use uefi_tcg::v2::{AlgorithmDigestSizes, EventLog, EventLogHeader};
 
@@ -8,22 +8,54 @@ const HEADER: &str = "00000000 03000000 0000000000000000000000000000000000000000
     53706563204944204576656e74303300 01000000 03 02 69 04 \
     03000000 04001400 0b002000 04000400 03 aabbcc";
 
-/// The offset of a byte of `HEADER`, and another byte there: another register, another type, a
-/// digest that isn't zero, another signature, and data that end before the vendor's last byte.
-const OTHERS: [(usize, u8); 5] = [(0, 1), (4, 4), (27, 1), (46, 0x32), (28, 0x2b)];
+/// Bytes like those of `HEADER`, but that aren't a header.
+const OTHERS: [&str; 6] = [
+    // Another register.
+    "01000000 03000000 0000000000000000000000000000000000000000 2c000000 \
+     53706563204944204576656e74303300 01000000 03 02 69 04 \
+     03000000 04001400 0b002000 04000400 03 aabbcc",
+    // Another type.
+    "00000000 04000000 0000000000000000000000000000000000000000 2c000000 \
+     53706563204944204576656e74303300 01000000 03 02 69 04 \
+     03000000 04001400 0b002000 04000400 03 aabbcc",
+    // A digest that isn't zero.
+    "00000000 03000000 0000000000000000000000000000000000000001 2c000000 \
+     53706563204944204576656e74303300 01000000 03 02 69 04 \
+     03000000 04001400 0b002000 04000400 03 aabbcc",
+    // Another signature.
+    "00000000 03000000 0000000000000000000000000000000000000000 2c000000 \
+     53706563204944204576656e74303200 01000000 03 02 69 04 \
+     03000000 04001400 0b002000 04000400 03 aabbcc",
+    // Data that end before the vendor's last byte.
+    "00000000 03000000 0000000000000000000000000000000000000000 2b000000 \
+     53706563204944204576656e74303300 01000000 03 02 69 04 \
+     03000000 04001400 0b002000 04000400 03 aabbcc",
+    // No last byte.
+    "00000000 03000000 0000000000000000000000000000000000000000 2c000000 \
+     53706563204944204576656e74303300 01000000 03 02 69 04 \
+     03000000 04001400 0b002000 04000400 03 aabb",
+];
 
 /// Checks the fields of the header that `HEADER` is.
 fn check_fields(header: &EventLogHeader<'_>) -> Result<(), Fail> {
-    same("the class", &header.platform_class(), &1)?;
-    same("the version", &header.spec_version(), &(2, 3, 0x69))?;
-    same("the size of a UINTN", &header.uintn_size(), &4)?;
-    same("the rows", &header.algorithm_digest_sizes().len(), &3)?;
+    let fields = (
+        header.platform_class(),
+        header.spec_version(),
+        header.uintn_size(),
+        header.algorithm_digest_sizes().len(),
+        header.size_in_bytes(),
+    );
+    let expected = (1, (2, 3, 0x69), 4, 3, 76);
+    same(
+        "class, version, size of a UINTN, rows, where the events start",
+        &fields,
+        &expected,
+    )?;
     same_bytes(
         "the vendor's bytes",
         header.vendor_info(),
         [0xaa, 0xbb, 0xcc].as_slice(),
-    )?;
-    same("where the events start", &header.size_in_bytes(), &76)
+    )
 }
 
 #[test]
@@ -43,34 +75,29 @@ fn sizes_in(input: &[u8]) -> Option<AlgorithmDigestSizes<'_>> {
 fn a_table_has_its_rows(rt: HostRuntime) -> Result<(), Fail> {
     let input = bytes(rt.alloc(), HEADER)?;
     let sizes = sizes_in(input.as_slice()).ok_or("the header")?;
-    for (index, row) in [
-        (0usize, Some((AlgorithmId::SHA1, 20u16))),
-        (1, Some((AlgorithmId::SHA256, 32))),
-        (2, Some((AlgorithmId::SHA1, 4))),
-        (3, None),
-        (usize::MAX, None),
-    ] {
-        same("a row", &(index, sizes.get(index)), &(index, row))?;
-    }
-    Ok(())
+    let found = [0, 1, 2, 3, usize::MAX].map(|index| sizes.get(index));
+    let expected = [
+        Some((AlgorithmId::SHA1, 20)),
+        Some((AlgorithmId::SHA256, 32)),
+        Some((AlgorithmId::SHA1, 4)),
+        None,
+        None,
+    ];
+    same(
+        "the rows at 0 to 3 and at the last index",
+        &found,
+        &expected,
+    )
 }
 
 #[test]
 fn the_first_row_of_an_algorithm_decides_its_size(rt: HostRuntime) -> Result<(), Fail> {
     let input = bytes(rt.alloc(), HEADER)?;
     let sizes = sizes_in(input.as_slice()).ok_or("the header")?;
-    for (algorithm, size) in [
-        (AlgorithmId::SHA1, Some(20u16)),
-        (AlgorithmId::SHA256, Some(32)),
-        (AlgorithmId::SHA512, None),
-    ] {
-        same(
-            "a size",
-            &(algorithm, sizes.get_size(algorithm)),
-            &(algorithm, size),
-        )?;
-    }
-    Ok(())
+    let algorithms = [AlgorithmId::SHA1, AlgorithmId::SHA256, AlgorithmId::SHA512];
+    let found = algorithms.map(|algorithm| sizes.get_size(algorithm));
+    let expected = [Some(20), Some(32), None];
+    same("SHA-1, SHA-256, SHA-512", &found, &expected)
 }
 
 /// Returns whether the bytes have no header with the last entry 0, nor with one past them.
@@ -82,18 +109,7 @@ fn has_no_header(input: &[u8]) -> bool {
 
 #[test]
 fn another_event_has_no_header(rt: HostRuntime) -> Result<(), Fail> {
-    for &(offset, byte) in &OTHERS {
-        let mut input = bytes(rt.alloc(), HEADER)?;
-        *input.get_mut(offset).ok_or("the byte")? = byte;
-        same(
-            "a byte",
-            &(offset, has_no_header(input.as_slice())),
-            &(offset, true),
-        )?;
-    }
-    let input = bytes(rt.alloc(), HEADER)?;
-    let (_, cut) = input.as_slice().split_last().ok_or("the last byte")?;
-    holds("without its last byte", has_no_header(cut))
+    each_holds(rt.alloc(), &OTHERS, has_no_header)
 }
 
 /// A header with eleven rows: SHA-1 and the algorithms 1 to 9 have a row each, SHA-1 one more at
@@ -107,14 +123,27 @@ const ELEVEN_ROWS: &str = "00000000 03000000 00000000000000000000000000000000000
 fn a_row_after_the_first_eight_algorithms_is_found(rt: HostRuntime) -> Result<(), Fail> {
     let input = bytes(rt.alloc(), ELEVEN_ROWS)?;
     let sizes = sizes_in(input.as_slice()).ok_or("the header")?;
-    for algorithm in 0..=12u16 {
-        let size = match algorithm {
-            4 => Some(20),
-            0 | 11 | 12 => None,
-            other => Some(other),
-        };
-        let found = (algorithm, sizes.get_size(AlgorithmId(algorithm)));
-        same("a size", &found, &(algorithm, size))?;
-    }
-    same("the rows", &sizes.len(), &11)
+    let algorithms = [0, 1, 2, 3, 4, 5, 6, 7, 8, 9, 10, 11, 12];
+    let found = algorithms.map(|algorithm| sizes.get_size(AlgorithmId(algorithm)));
+    let expected = [
+        None,
+        Some(1),
+        Some(2),
+        Some(3),
+        Some(20),
+        Some(5),
+        Some(6),
+        Some(7),
+        Some(8),
+        Some(9),
+        Some(10),
+        None,
+        None,
+    ];
+    let expected = (11, expected);
+    same(
+        "how many, algorithms 0 to 12",
+        &(sizes.len(), found),
+        &expected,
+    )
 }

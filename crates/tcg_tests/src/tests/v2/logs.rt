@@ -184,9 +184,8 @@ pub(crate) fn lines_of(alloc: Global, events: EventLogIter<'_>) -> Result<String
     let mut lines = String::new(alloc);
     for event in events {
         push_kind(&mut lines, event.pcr_index(), event.event_type())?;
-        push_hex(&mut lines, event.event_data())?;
+        push_hex(&mut lines, event.event_data(), "")?;
         push_digests(&mut lines, event.digests())?;
-        lines.push('\n')?;
     }
     Ok(lines)
 }
@@ -194,14 +193,15 @@ pub(crate) fn lines_of(alloc: Global, events: EventLogIter<'_>) -> Result<String
 /// Appends a digest after its algorithm.
 fn push_digest(text: &mut String, algorithm: AlgorithmId, digest: &[u8]) -> Result<(), AllocError> {
     write!(text, " {:04x}:", algorithm.0)?;
-    push_hex(text, digest)
+    push_hex(text, digest, "")
 }
 
+/// Appends the digests of an event, and the end of its line.
 fn push_digests(text: &mut String, digests: PcrEventDigests<'_>) -> Result<(), AllocError> {
     for (algorithm, digest) in digests {
         push_digest(text, algorithm, digest)?;
     }
-    Ok(())
+    text.push('\n')
 }
 
 /// Checks where the header of a log ends, and what the events from there on are.
@@ -241,7 +241,6 @@ fn an_event_without_its_last_byte_is_none(rt: HostRuntime) -> Result<(), Fail> {
     let input = joined_bytes(rt.alloc(), &[FOUR_HEADER, FOUR_EVENTS])?;
     let (_, cut) = input.as_slice().split_last().ok_or("the last byte")?;
     let log = EventLog::new(Some(cut), Some(267), false);
-    same("the length", &cut.len(), &470)?;
     check_log(
         rt.alloc(),
         "all but the last byte",
@@ -254,13 +253,11 @@ fn an_event_without_its_last_byte_is_none(rt: HostRuntime) -> Result<(), Fail> {
 #[test]
 fn a_log_without_bytes_has_neither_header_nor_events() -> Result<(), Fail> {
     let log = EventLog::new(None, Some(0), true);
-    holds("the header", log.header().is_none())?;
-    same("events", &log.iter().count(), &0)?;
-    holds("it is truncated", log.is_truncated())?;
-    holds(
-        "it isn't truncated",
-        !EventLog::new(None, None, false).is_truncated(),
-    )
+    let other = EventLog::new(None, None, false);
+    let truncated = [log.is_truncated(), other.is_truncated()];
+    let found = (log.header().is_none(), log.iter().count());
+    same("no header, events", &found, &(true, 0))?;
+    same("the one is truncated", &truncated, &[true, false])
 }
 
 #[test]

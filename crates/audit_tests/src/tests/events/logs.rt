@@ -2,14 +2,7 @@ use audit_events::event_line;
 use registers::Log;
 use std::alloc::Global;
 use std::test::Fail;
-use test_support::{bytes, same_text};
-
-/// A digest that is the hash of no event's data. `@` stands for it in a log.
-const DIGEST: &str = "aaaaaaaaaaaaaaaaaaaaaaaaaaaaaaaaaaaaaaaa";
-
-/// What the line of an event with this digest says of it. `#` stands for that in a line.
-const DIGEST_FIELDS: &str = "\"digests\":[{\"algorithm\":\"sha1\",\
-    \"digest\":\"aaaaaaaaaaaaaaaaaaaaaaaaaaaaaaaaaaaaaaaa\"}],\"hashes_to\":[]";
+use test_support::each_shows;
 
 /// Logs with the last entry at their end, and the lines of their events.
 const LOGS: [(&str, &str); 11] = [
@@ -63,108 +56,149 @@ const LOGS: [(&str, &str); 11] = [
     ),
     // Separators of four bytes and of three.
     (
-        "00000000 04000000 @ 04000000 ffffffff \
-         00000000 04000000 @ 03000000 010000",
-        "{\"content\":{\"separator\":4294967295},\"data\":\"ffffffff\",#,\"index\":0,\
+        "00000000 04000000 aaaaaaaaaaaaaaaaaaaaaaaaaaaaaaaaaaaaaaaa 04000000 ffffffff \
+         00000000 04000000 aaaaaaaaaaaaaaaaaaaaaaaaaaaaaaaaaaaaaaaa 03000000 010000",
+        "{\"content\":{\"separator\":4294967295},\"data\":\"ffffffff\",\
+         \"digests\":[{\"algorithm\":\"sha1\",\
+         \"digest\":\"aaaaaaaaaaaaaaaaaaaaaaaaaaaaaaaaaaaaaaaa\"}],\"hashes_to\":[],\
+         \"index\":0,\
          \"log\":\"a log\",\"offset\":0,\"register\":0,\
          \"type\":{\"name\":\"EV_SEPARATOR\",\"number\":4}}\n\
-         {\"content\":null,\"data\":\"010000\",#,\"index\":1,\"log\":\"a log\",\"offset\":36,\
+         {\"content\":null,\"data\":\"010000\",\
+         \"digests\":[{\"algorithm\":\"sha1\",\
+         \"digest\":\"aaaaaaaaaaaaaaaaaaaaaaaaaaaaaaaaaaaaaaaa\"}],\"hashes_to\":[],\
+         \"index\":1,\"log\":\"a log\",\"offset\":36,\
          \"register\":0,\"type\":{\"name\":\"EV_SEPARATOR\",\"number\":4}}\n",
     ),
     // Texts; the last one has a character that doesn't print.
     (
-        "04000000 05000000 @ 04000000 20225c7e \
-         04000000 12000000 @ 00000000 \
-         00000000 10000080 @ 05000000 484352544d \
-         04000000 07000080 @ 02000000 617f",
-        "{\"content\":{\"text\":\" \\\"\\\\~\"},\"data\":\"20225c7e\",#,\"index\":0,\
+        "04000000 05000000 aaaaaaaaaaaaaaaaaaaaaaaaaaaaaaaaaaaaaaaa 04000000 20225c7e \
+         04000000 12000000 aaaaaaaaaaaaaaaaaaaaaaaaaaaaaaaaaaaaaaaa 00000000 \
+         00000000 10000080 aaaaaaaaaaaaaaaaaaaaaaaaaaaaaaaaaaaaaaaa 05000000 484352544d \
+         04000000 07000080 aaaaaaaaaaaaaaaaaaaaaaaaaaaaaaaaaaaaaaaa 02000000 617f",
+        "{\"content\":{\"text\":\" \\\"\\\\~\"},\"data\":\"20225c7e\",\
+         \"digests\":[{\"algorithm\":\"sha1\",\
+         \"digest\":\"aaaaaaaaaaaaaaaaaaaaaaaaaaaaaaaaaaaaaaaa\"}],\"hashes_to\":[],\
+         \"index\":0,\
          \"log\":\"a log\",\"offset\":0,\"register\":4,\
          \"type\":{\"name\":\"EV_ACTION\",\"number\":5}}\n\
-         {\"content\":{\"text\":\"\"},\"data\":\"\",#,\"index\":1,\"log\":\"a log\",\"offset\":36,\
+         {\"content\":{\"text\":\"\"},\"data\":\"\",\
+         \"digests\":[{\"algorithm\":\"sha1\",\
+         \"digest\":\"aaaaaaaaaaaaaaaaaaaaaaaaaaaaaaaaaaaaaaaa\"}],\"hashes_to\":[],\
+         \"index\":1,\"log\":\"a log\",\"offset\":36,\
          \"register\":4,\"type\":{\"name\":\"EV_OMIT_BOOT_DEVICE_EVENTS\",\"number\":18}}\n\
-         {\"content\":{\"text\":\"HCRTM\"},\"data\":\"484352544d\",#,\"index\":2,\"log\":\"a log\",\
+         {\"content\":{\"text\":\"HCRTM\"},\"data\":\"484352544d\",\
+         \"digests\":[{\"algorithm\":\"sha1\",\
+         \"digest\":\"aaaaaaaaaaaaaaaaaaaaaaaaaaaaaaaaaaaaaaaa\"}],\"hashes_to\":[],\
+         \"index\":2,\"log\":\"a log\",\
          \"offset\":68,\"register\":0,\
          \"type\":{\"name\":\"EV_EFI_HCRTM_EVENT\",\"number\":2147483664}}\n\
-         {\"content\":null,\"data\":\"617f\",#,\"index\":3,\"log\":\"a log\",\"offset\":105,\
+         {\"content\":null,\"data\":\"617f\",\
+         \"digests\":[{\"algorithm\":\"sha1\",\
+         \"digest\":\"aaaaaaaaaaaaaaaaaaaaaaaaaaaaaaaaaaaaaaaa\"}],\"hashes_to\":[],\
+         \"index\":3,\"log\":\"a log\",\"offset\":105,\
          \"register\":4,\"type\":{\"name\":\"EV_EFI_ACTION\",\"number\":2147483655}}\n",
     ),
     // Variables: two characters and a surrogate; no name and no data.
     (
-        "07000000 01000080 @ 28000000 \
+        "07000000 01000080 aaaaaaaaaaaaaaaaaaaaaaaaaaaaaaaaaaaaaaaa 28000000 \
          000102030405060708090a0b0c0d0e0f03000000000000000200000000000000410000d8ac200102 \
-         07000000 e0000080 @ 20000000 \
+         07000000 e0000080 aaaaaaaaaaaaaaaaaaaaaaaaaaaaaaaaaaaaaaaa 20000000 \
          000102030405060708090a0b0c0d0e0f00000000000000000000000000000000",
         "{\"content\":{\"variable\":{\"data\":\"0102\",\"guid\":\"03020100-0504-0706-0809-0a0b0c0d0\
          e0f\",\"name\":\"A�€\"}},\
          \"data\":\"000102030405060708090a0b0c0d0e0f03000000000000000200000000000000410000d8ac20010\
-         2\",#,\"index\":0,\"log\":\"a log\",\"offset\":0,\"register\":7,\
+         2\",\
+         \"digests\":[{\"algorithm\":\"sha1\",\
+         \"digest\":\"aaaaaaaaaaaaaaaaaaaaaaaaaaaaaaaaaaaaaaaa\"}],\"hashes_to\":[],\
+         \"index\":0,\"log\":\"a log\",\"offset\":0,\"register\":7,\
          \"type\":{\"name\":\"EV_EFI_VARIABLE_DRIVER_CONFIG\",\"number\":2147483649}}\n\
          {\"content\":{\"variable\":{\"data\":\"\",\"guid\":\"03020100-0504-0706-0809-0a0b0c0d0e0f\
          \",\"name\":\"\"}},\
-         \"data\":\"000102030405060708090a0b0c0d0e0f00000000000000000000000000000000\",#,\
+         \"data\":\"000102030405060708090a0b0c0d0e0f00000000000000000000000000000000\",\
+         \"digests\":[{\"algorithm\":\"sha1\",\
+         \"digest\":\"aaaaaaaaaaaaaaaaaaaaaaaaaaaaaaaaaaaaaaaa\"}],\"hashes_to\":[],\
          \"index\":1,\"log\":\"a log\",\"offset\":72,\"register\":7,\
          \"type\":{\"name\":\"EV_EFI_VARIABLE_AUTHORITY\",\"number\":2147483872}}\n",
     ),
     // A variable with a byte too many, one that states too long a name, and too few bytes for one.
     (
-        "01000000 02000080 @ 24000000 \
+        "01000000 02000080 aaaaaaaaaaaaaaaaaaaaaaaaaaaaaaaaaaaaaaaa 24000000 \
          000102030405060708090a0b0c0d0e0f0100000000000000010000000000000041000100 \
-         01000000 0c000080 @ 23000000 \
+         01000000 0c000080 aaaaaaaaaaaaaaaaaaaaaaaaaaaaaaaaaaaaaaaa 23000000 \
          000102030405060708090a0b0c0d0e0f00000000000000800100000000000000410001 \
-         01000000 02000080 @ 1f000000 \
+         01000000 02000080 aaaaaaaaaaaaaaaaaaaaaaaaaaaaaaaaaaaaaaaa 1f000000 \
          000102030405060708090a0b0c0d0e0f000000000000000000000000000000",
         "{\"content\":null,\
-         \"data\":\"000102030405060708090a0b0c0d0e0f0100000000000000010000000000000041000100\",#,\
+         \"data\":\"000102030405060708090a0b0c0d0e0f0100000000000000010000000000000041000100\",\
+         \"digests\":[{\"algorithm\":\"sha1\",\
+         \"digest\":\"aaaaaaaaaaaaaaaaaaaaaaaaaaaaaaaaaaaaaaaa\"}],\"hashes_to\":[],\
          \"index\":0,\"log\":\"a log\",\"offset\":0,\"register\":1,\
          \"type\":{\"name\":\"EV_EFI_VARIABLE_BOOT\",\"number\":2147483650}}\n\
          {\"content\":null,\
-         \"data\":\"000102030405060708090a0b0c0d0e0f00000000000000800100000000000000410001\",#,\
+         \"data\":\"000102030405060708090a0b0c0d0e0f00000000000000800100000000000000410001\",\
+         \"digests\":[{\"algorithm\":\"sha1\",\
+         \"digest\":\"aaaaaaaaaaaaaaaaaaaaaaaaaaaaaaaaaaaaaaaa\"}],\"hashes_to\":[],\
          \"index\":1,\"log\":\"a log\",\"offset\":68,\"register\":1,\
          \"type\":{\"name\":\"EV_EFI_VARIABLE_BOOT2\",\"number\":2147483660}}\n\
          {\"content\":null,\
-         \"data\":\"000102030405060708090a0b0c0d0e0f000000000000000000000000000000\",#,\"index\":2,\
+         \"data\":\"000102030405060708090a0b0c0d0e0f000000000000000000000000000000\",\
+         \"digests\":[{\"algorithm\":\"sha1\",\
+         \"digest\":\"aaaaaaaaaaaaaaaaaaaaaaaaaaaaaaaaaaaaaaaa\"}],\"hashes_to\":[],\
+         \"index\":2,\
          \"log\":\"a log\",\"offset\":135,\"register\":1,\
          \"type\":{\"name\":\"EV_EFI_VARIABLE_BOOT\",\"number\":2147483650}}\n",
     ),
     // An image with a path, one without, and one whose path isn't whole.
     (
-        "04000000 03000080 @ 2f000000 \
+        "04000000 03000080 aaaaaaaaaaaaaaaaaaaaaaaaaaaaaaaaaaaaaaaa 2f000000 \
          ffffffffffffffff020000000000000003000000000000000f00000000000000010206000a0b040504007fff05\
          00ee \
-         02000000 04000080 @ 20000000 \
+         02000000 04000080 aaaaaaaaaaaaaaaaaaaaaaaaaaaaaaaaaaaaaaaa 20000000 \
          0100000000000000020000000000000003000000000000000000000000000000 \
-         02000000 05000080 @ 30000000 \
+         02000000 05000080 aaaaaaaaaaaaaaaaaaaaaaaaaaaaaaaaaaaaaaaa 30000000 \
          0100000000000000020000000000000003000000000000001000000000000000010206000a0b040504007fff05\
          00ee00",
         "{\"content\":{\"image\":{\"address\":18446744073709551615,\"length\":2,\"link_address\":3,\
          \"path\":[{\"data\":\"0a0b\",\"subtype\":2,\"type\":1},{\"data\":\"\",\"subtype\":5,\"type\
          \":4}]}},\
          \"data\":\"ffffffffffffffff020000000000000003000000000000000f00000000000000010206000a0b040\
-         504007fff0500ee\",#,\"index\":0,\"log\":\"a log\",\"offset\":0,\"register\":4,\
+         504007fff0500ee\",\
+         \"digests\":[{\"algorithm\":\"sha1\",\
+         \"digest\":\"aaaaaaaaaaaaaaaaaaaaaaaaaaaaaaaaaaaaaaaa\"}],\"hashes_to\":[],\
+         \"index\":0,\"log\":\"a log\",\"offset\":0,\"register\":4,\
          \"type\":{\"name\":\"EV_EFI_BOOT_SERVICES_APPLICATION\",\"number\":2147483651}}\n\
          {\"content\":{\"image\":{\"address\":1,\"length\":2,\"link_address\":3,\"path\":null}},\
-         \"data\":\"0100000000000000020000000000000003000000000000000000000000000000\",#,\
+         \"data\":\"0100000000000000020000000000000003000000000000000000000000000000\",\
+         \"digests\":[{\"algorithm\":\"sha1\",\
+         \"digest\":\"aaaaaaaaaaaaaaaaaaaaaaaaaaaaaaaaaaaaaaaa\"}],\"hashes_to\":[],\
          \"index\":1,\"log\":\"a log\",\"offset\":79,\"register\":2,\
          \"type\":{\"name\":\"EV_EFI_BOOT_SERVICES_DRIVER\",\"number\":2147483652}}\n\
          {\"content\":{\"image\":{\"address\":1,\"length\":2,\"link_address\":3,\"path\":null}},\
          \"data\":\"0100000000000000020000000000000003000000000000001000000000000000010206000a0b040\
-         504007fff0500ee00\",#,\"index\":2,\"log\":\"a log\",\"offset\":143,\"register\":2,\
+         504007fff0500ee00\",\
+         \"digests\":[{\"algorithm\":\"sha1\",\
+         \"digest\":\"aaaaaaaaaaaaaaaaaaaaaaaaaaaaaaaaaaaaaaaa\"}],\"hashes_to\":[],\
+         \"index\":2,\"log\":\"a log\",\"offset\":143,\"register\":2,\
          \"type\":{\"name\":\"EV_EFI_RUNTIME_SERVICES_DRIVER\",\"number\":2147483653}}\n",
     ),
     // An image that states another length of its path.
     (
-        "04000000 03000080 @ 2f000000 \
+        "04000000 03000080 aaaaaaaaaaaaaaaaaaaaaaaaaaaaaaaaaaaaaaaa 2f000000 \
          0100000000000000020000000000000003000000000000000500000000000000010206000a0b040504007fff05\
          00ee",
         "{\"content\":null,\
          \"data\":\"0100000000000000020000000000000003000000000000000500000000000000010206000a0b040\
-         504007fff0500ee\",#,\"index\":0,\"log\":\"a log\",\"offset\":0,\"register\":4,\
+         504007fff0500ee\",\
+         \"digests\":[{\"algorithm\":\"sha1\",\
+         \"digest\":\"aaaaaaaaaaaaaaaaaaaaaaaaaaaaaaaaaaaaaaaa\"}],\"hashes_to\":[],\
+         \"index\":0,\"log\":\"a log\",\"offset\":0,\"register\":4,\
          \"type\":{\"name\":\"EV_EFI_BOOT_SERVICES_APPLICATION\",\"number\":2147483651}}\n",
     ),
 ];
 
 /// Returns the lines of a log's events.
-fn lines(alloc: Global, bytes: &[u8]) -> Result<String, Fail> {
+pub(super) fn lines(alloc: Global, bytes: &[u8]) -> Result<String, Fail> {
     let log = Log::new(bytes, Some(bytes.len()));
     let mut text = String::new(alloc);
     for (index, entry) in log.entries().enumerate() {
@@ -177,12 +211,5 @@ fn lines(alloc: Global, bytes: &[u8]) -> Result<String, Fail> {
 
 #[test]
 fn each_event_has_its_line(rt: HostRuntime) -> Result<(), Fail> {
-    for &(row, expected) in &LOGS {
-        let log = row.replace(rt.alloc(), '@', DIGEST)?;
-        let input = bytes(rt.alloc(), log.as_str())?;
-        let expected = expected.replace(rt.alloc(), '#', DIGEST_FIELDS)?;
-        let found = lines(rt.alloc(), input.as_slice())?;
-        same_text(row, found.as_str(), expected.as_str())?;
-    }
-    Ok(())
+    each_shows(rt.alloc(), &LOGS, lines)
 }

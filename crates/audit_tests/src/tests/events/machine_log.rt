@@ -1,5 +1,6 @@
 use audit_events::event_line;
 use registers::Log;
+use std::alloc::Global;
 use std::test::Fail;
 use test_support::samples::MACHINE_LOG;
 use test_support::{bytes, same_text};
@@ -79,17 +80,21 @@ const MACHINE_LINES: [(usize, &str); 5] = [
     ),
 ];
 
+/// Checks the line of an event of the log.
+fn check_line(alloc: Global, log: &Log<'_>, index: usize, expected: &str) -> Result<(), Fail> {
+    let Some(entry) = log.entries().nth(index) else {
+        return Err(Fail::new(format_args!("there is no event {index}")));
+    };
+    let line = event_line(alloc, "ovmf", index, &entry)?;
+    same_text("an event", line.as_str(), expected)
+}
+
 #[test]
 fn events_of_a_machines_log_have_their_lines(rt: HostRuntime) -> Result<(), Fail> {
     let input = bytes(rt.alloc(), MACHINE_LOG)?;
     let log = Log::new(input.as_slice(), Some(input.len()));
-    for (index, entry) in log.entries().enumerate() {
-        let line = event_line(rt.alloc(), "ovmf", index, &entry)?;
-        for &(of, expected) in &MACHINE_LINES {
-            if of == index {
-                same_text("an event", line.as_str(), expected)?;
-            }
-        }
+    for &(index, expected) in &MACHINE_LINES {
+        check_line(rt.alloc(), &log, index, expected)?;
     }
     Ok(())
 }

@@ -1,5 +1,5 @@
-use registers::{Bank, Log, replay};
-use std::alloc::Global;
+use registers::{Bank, Log, Registers, replay};
+use std::alloc::{AllocError, Global};
 use std::test::Fail;
 use test_support::{each_reads, each_shows};
 use uefi_tcg::PcrIndex;
@@ -200,28 +200,27 @@ const LEFT_OVER: [(&str, usize); 8] = [
     ("", 0),
 ];
 
-/// Returns the text of a log's outcome with SHA-1: registers 0, 1 and 17 as hex, or the event's
-/// index, its offset and its fault.
-fn outcome(alloc: Global, bytes: &[u8]) -> Result<String, Fail> {
-    let log = Log::new(bytes, Some(bytes.len()));
-    let registers = match replay(&log, Bank::Sha1) {
-        Ok(registers) => registers,
-        Err(at) => {
-            let (index, offset, fault) = (at.index, at.offset, at.fault);
-            return Ok(format!(in alloc; "{index} {offset} {fault:?}")?);
-        }
-    };
+/// Returns registers 0, 1 and 17 as hex, those that there are.
+fn text_of(alloc: Global, registers: &Registers) -> Result<String, AllocError> {
     let mut text = String::new(alloc);
     for register in [0, 1, 17] {
         if let Some(value) = registers.value(PcrIndex(register)) {
+            let space = if text.is_empty() { "" } else { " " };
             let value = hex::encode(alloc, value.as_bytes())?;
-            if !text.is_empty() {
-                text.push_str(" ")?;
-            }
-            text.push_str(value.as_str())?;
+            write!(text, "{space}{value}")?;
         }
     }
     Ok(text)
+}
+
+/// Returns the text of a log's outcome with SHA-1: its registers, or the event's index, its offset
+/// and its fault.
+fn outcome(alloc: Global, bytes: &[u8]) -> Result<String, Fail> {
+    let text = match replay(&Log::new(bytes, Some(bytes.len())), Bank::Sha1) {
+        Ok(registers) => text_of(alloc, &registers),
+        Err(at) => format!(in alloc; "{} {} {:?}", at.index, at.offset, at.fault),
+    };
+    Ok(text?)
 }
 
 #[test]

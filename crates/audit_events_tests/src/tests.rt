@@ -1,3 +1,0 @@
-mod events;
-mod machine_log;
-mod names;

@@ -1,0 +1,5 @@
+//! The lines of events.
+
+mod logs;
+mod machine_log;
+mod names;

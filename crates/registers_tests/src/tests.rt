@@ -1,2 +1,0 @@
-mod logs;
-mod machine_log;
