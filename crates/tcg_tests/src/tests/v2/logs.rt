@@ -241,6 +241,7 @@ fn an_event_without_its_last_byte_is_none(rt: HostRuntime) -> Result<(), Fail> {
     let input = joined_bytes(rt.alloc(), &[FOUR_HEADER, FOUR_EVENTS])?;
     let (_, cut) = input.as_slice().split_last().ok_or("the last byte")?;
     let log = EventLog::new(Some(cut), Some(267), false);
+    same("the length", &cut.len(), &470)?;
     check_log(
         rt.alloc(),
         "all but the last byte",
