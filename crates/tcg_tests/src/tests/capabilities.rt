@@ -118,7 +118,11 @@ fn a_set_of_algorithms_is_made_of_named_bits_alone() -> Result<(), Fail> {
         HashAlgorithm::default(),
     ];
     let bits = sets.map(|it| it.bits());
-    same("it is kept, and none is made up", &bits, &[0x20, 0, 0])?;
+    same(
+        "the bit that is kept, no bits, the default",
+        &bits,
+        &[0x20, 0, 0],
+    )?;
     let found = [HashAlgorithm::SHA1, HashAlgorithm::SHA256].map(|it| both.contains(it));
     same("one in both, another isn't", &found, &[true, false])
 }
@@ -273,7 +277,11 @@ fn a_set_of_formats_is_made_of_named_bits_alone() -> Result<(), Fail> {
         v2::EventLogFormat::default(),
     ];
     let bits = sets.map(|it| it.bits());
-    same("it is kept, and none is made up", &bits, &[4, 0, 0])?;
+    same(
+        "the bit that is kept, no bits, the default",
+        &bits,
+        &[4, 0, 0],
+    )?;
     let one = v2::EventLogFormat::TCG_1_2;
     let found = (both.contains(v2::EventLogFormat::TCG_2), one.contains(both));
     same("one in both, both aren't in one", &found, &(true, false))
