@@ -1,8 +1,28 @@
 use clap::{Arg, ArgAction, ArgMatches, Command, Error, value_parser};
-use std::alloc::Global;
+use std::alloc::{AllocError, Global};
 
 /// The banks that `--bank` takes.
 const BANKS: [&str; 4] = ["sha1", "sha256", "sha384", "sha512"];
+
+/// The commands in the order of the help, each with what the help says of it.
+const COMMANDS: [[&str; 2]; 4] = [
+    [
+        "events",
+        "Prints the events of the logs, a JSON object a line",
+    ],
+    [
+        "replay",
+        "Prints the registers that the logs lead to, as tpm2_pcrread prints them",
+    ],
+    [
+        "verify",
+        "Compares the registers that a log leads to with those of a TPM",
+    ],
+    [
+        "diff",
+        "Prints how the events of two logs differ, register by register",
+    ],
+];
 
 /// Returns what `clap` makes of the words, of which the first is the program's name.
 ///
@@ -11,70 +31,86 @@ const BANKS: [&str; 4] = ["sha1", "sha256", "sha384", "sha512"];
 /// What `clap` says of other words, the help or the version that they ask for, or
 /// [`OutOfMemory`](clap::error::ErrorKind::OutOfMemory) if an allocation fails.
 pub fn matches_of<'a>(alloc: Global, words: &'a [String]) -> Result<ArgMatches<'a>, Error> {
-    let command = Command::new(alloc, "uefi_audit")
+    let mut command = Command::new(alloc, "uefi_audit")
         .version("0.1.0")
         .about(
             "Audits event logs of measured boot: what a TPM's registers must be, from the log's bytes",
         )
         .subcommand_required(true)
         .arg_required_else_help(true);
-    let command = with_subcommand(command, events(alloc))?;
-    let command = with_subcommand(command, replay(alloc))?;
-    let command = with_subcommand(command, verify(alloc))?;
-    let command = with_subcommand(command, diff(alloc))?;
+    for [name, about] in COMMANDS {
+        command = with_subcommand(alloc, command, name, about)?;
+    }
     command.try_get_matches_from(words)
 }
 
-/// Adds a subcommand, if it was made.
+/// Adds the command of this name.
 fn with_subcommand<'a>(
+    alloc: Global,
     command: Command<'a>,
-    added: Result<Command<'a>, Error>,
-) -> Result<Command<'a>, Error> {
-    Ok(command.subcommand(added?)?)
+    name: &'a str,
+    about: &'a str,
+) -> Result<Command<'a>, AllocError> {
+    let args = args_of(alloc, name)?;
+    let added = Command::new(alloc, name).about(about).args(args)?;
+    command.subcommand(added)
 }
 
-/// Returns the command `events`.
-fn events<'a>(alloc: Global) -> Result<Command<'a>, Error> {
-    let command = Command::new(alloc, "events")
-        .about("Prints the events of the logs, a JSON object a line")
-        .arg(logs(alloc))?;
-    reading(alloc, command)
+/// Returns the arguments of the command of this name.
+fn args_of<'a>(alloc: Global, name: &str) -> Result<Vec<Arg<'a>>, AllocError> {
+    match name {
+        "events" => args_of_events(alloc),
+        "replay" => args_of_replay(alloc),
+        "verify" => args_of_verify(alloc),
+        _ => args_of_diff(alloc),
+    }
 }
 
-/// Returns the command `replay`.
-fn replay<'a>(alloc: Global) -> Result<Command<'a>, Error> {
-    let command = Command::new(alloc, "replay")
-        .about("Prints the registers that the logs lead to, as tpm2_pcrread prints them")
-        .arg(logs(alloc))?
-        .arg(option(alloc, "bank", "BANK", "Replays this bank alone").value_parser(
-            BANKS.as_slice(),
-        ))?
-        .arg(flag(alloc, "json", "Prints a JSON object a log, on a line"))?;
-    reading(alloc, command)
+fn args_of_events<'a>(alloc: Global) -> Result<Vec<Arg<'a>>, AllocError> {
+    let args = vec![in alloc; logs(alloc), last_entry(alloc), allow_left_over(alloc)]?;
+    Ok(args)
 }
 
-/// Returns the command `verify`.
-fn verify<'a>(alloc: Global) -> Result<Command<'a>, Error> {
-    let command = Command::new(alloc, "verify")
-        .about("Compares the registers that a log leads to with those of a TPM")
-        .arg(file(alloc, "log", "LOG", "A file with an event log"))?
-        .arg(registers(alloc))?
-        .arg(locality(alloc))?;
-    reading(alloc, command)
+fn args_of_replay<'a>(alloc: Global) -> Result<Vec<Arg<'a>>, AllocError> {
+    let args = vec![in alloc;
+        logs(alloc),
+        bank(alloc),
+        flag(alloc, "json", "Prints a JSON object a log, on a line"),
+        last_entry(alloc),
+        allow_left_over(alloc),
+    ]?;
+    Ok(args)
 }
 
-/// Returns the command `diff`.
-fn diff<'a>(alloc: Global) -> Result<Command<'a>, Error> {
-    let command = Command::new(alloc, "diff")
-        .about("Prints how the events of two logs differ, register by register")
-        .arg(file(alloc, "old", "OLD", "A file with an event log"))?
-        .arg(file(
+fn args_of_verify<'a>(alloc: Global) -> Result<Vec<Arg<'a>>, AllocError> {
+    let args = vec![in alloc;
+        file(alloc, "log", "LOG", "A file with an event log"),
+        registers(alloc),
+        locality(alloc),
+        last_entry(alloc),
+        allow_left_over(alloc),
+    ]?;
+    Ok(args)
+}
+
+fn args_of_diff<'a>(alloc: Global) -> Result<Vec<Arg<'a>>, AllocError> {
+    let args = vec![in alloc;
+        file(alloc, "old", "OLD", "A file with an event log"),
+        file(
             alloc,
             "new",
             "NEW",
-            "A file with the log to compare it with",
-        ))?;
-    reading(alloc, command)
+            "A file with the log to compare it with"
+        ),
+        last_entry(alloc),
+        allow_left_over(alloc),
+    ]?;
+    Ok(args)
+}
+
+/// Returns the argument for the bank to replay.
+fn bank<'a>(alloc: Global) -> Arg<'a> {
+    option(alloc, "bank", "BANK", "Replays this bank alone").value_parser(BANKS.as_slice())
 }
 
 /// Returns the argument for the file or folder with a TPM's registers.
@@ -133,18 +169,21 @@ fn logs<'a>(alloc: Global) -> Arg<'a> {
         .help("Files with event logs")
 }
 
-/// Adds the arguments that say how logs are read.
-fn reading<'a>(alloc: Global, command: Command<'a>) -> Result<Command<'a>, Error> {
-    let command = command.arg(option(
+/// Returns the argument for the offset at which the last event starts.
+fn last_entry<'a>(alloc: Global) -> Arg<'a> {
+    option(
         alloc,
         "last-entry",
         "N|none",
         "The offset at which the last event starts, none if the log is empty [default: the file's length]",
-    ))?;
-    let command = command.arg(flag(
+    )
+}
+
+/// Returns the flag for logs with bytes after their last event.
+fn allow_left_over<'a>(alloc: Global) -> Arg<'a> {
+    flag(
         alloc,
         "allow-left-over",
         "Accepts logs with bytes after their last event",
-    ))?;
-    Ok(command)
+    )
 }

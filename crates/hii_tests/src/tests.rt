@@ -1,5 +1,6 @@
 mod configurations;
 mod filling;
 mod memory;
+mod path;
 mod samples;
 mod values;

@@ -1,4 +1,5 @@
-//! Tests of the library `uefi_records` over its public names.
+//! Tests of the libraries `uefi_base` and `uefi_records` over their public names: worked rows, and
+//! calls that run out of memory. The requests that `test_support` refuses are tested here too.
 #![tactic(auto)]
 
 #[cfg(test)]

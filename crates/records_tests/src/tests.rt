@@ -1,3 +1,4 @@
+mod base;
 mod file;
 mod flags;
 mod time;

@@ -3,7 +3,7 @@ use std::alloc::Global;
 use std::test::Fail;
 use test_support::samples::{FOUR_EVENTS, FOUR_HEADER};
 use test_support::{holds, joined_bytes, same};
-use uefi_tcg::v2::{EventLog, EventLogHeader, EventLogIter, PcrEvent, PcrEventDigests, Start};
+use uefi_tcg::v2::{EventLog, EventLogHeader, EventLogIter, Start};
 
 /// For the last entries from the first to the second number, whether the log has a header, and how
 /// many events it has from either start, whole and cut to its first 267 to 470 bytes.
@@ -84,33 +84,6 @@ fn is_bounded(input: &[u8], last_entry: usize) -> bool {
         && log.iter_after_header_event().count() <= after_event
 }
 
-fn are_same_digests(digests: PcrEventDigests<'_>, others: PcrEventDigests<'_>) -> bool {
-    let mut others = others.into_iter();
-    for digest in digests {
-        if others.next() != Some(digest) {
-            return false;
-        }
-    }
-    others.next().is_none()
-}
-
-fn is_same_event(event: &PcrEvent<'_>, other: &PcrEvent<'_>) -> bool {
-    event.pcr_index() == other.pcr_index()
-        && event.event_type() == other.event_type()
-        && event.event_data() == other.event_data()
-        && are_same_digests(event.digests(), other.digests())
-}
-
-/// Returns the length of an event: 16 bytes, and two for each digest's algorithm, and the digests
-/// and data.
-fn length_of(event: &PcrEvent<'_>) -> usize {
-    let mut length = event.event_data().len().saturating_add(16);
-    for (_, digest) in event.digests() {
-        length = length.saturating_add(2).saturating_add(digest.len());
-    }
-    length
-}
-
 /// Returns the events of the log from that start on.
 pub(crate) fn events_from<'a>(log: &EventLog<'a>, start: Start) -> EventLogIter<'a> {
     match start {
@@ -137,12 +110,10 @@ fn begins_with_ended(input: &[u8], last_entry: usize, later: usize, start: Start
     let mut grown = events_from(&later, start);
     let mut end = offset_of(&header, start);
     for event in events_from(&earlier, start) {
-        end = end.saturating_add(length_of(&event));
-        let same = match grown.next() {
-            Some(other) => is_same_event(&event, &other),
-            None => false,
-        };
-        if end <= last_entry && !same {
+        let bytes = event.as_bytes();
+        end = end.saturating_add(bytes.len());
+        let other = grown.next().map(|other| other.as_bytes());
+        if end <= last_entry && other != Some(bytes) {
             return false;
         }
     }

@@ -153,9 +153,9 @@ pub fn lines_in(lines: Lines) -> &'static [&'static str] {
 
 /// A log, a last entry, where the header ends if there is one, and the lines of the events from
 /// there on.
-pub type Row = (Log, Option<usize>, Option<usize>, Lines);
+type Row = (Log, Option<usize>, Option<usize>, Lines);
 
-pub const LOGS: [Row; 19] = [
+const LOGS: [Row; 19] = [
     (Log::Sha1, Some(0), Some(65), Lines::None),
     (Log::Sha1, None, None, Lines::None),
     (Log::MostRows, Some(0), None, Lines::None),
@@ -218,12 +218,26 @@ fn check_log(
     same_text(row, lines_of(alloc, log.iter())?.as_str(), lines.as_str())
 }
 
-/// Checks the same of a row's log.
+/// Checks that both starts have the same events, if the header's end is that of its event.
+fn check_equal_starts(alloc: Global, row: &str, log: &EventLog<'_>) -> Result<(), Fail> {
+    let Some(header) = log.header() else {
+        return Ok(());
+    };
+    if header.size_in_bytes() != header.event_size() {
+        return Ok(());
+    }
+    let events = lines_of(alloc, log.iter())?;
+    let others = lines_of(alloc, log.iter_after_header_event())?;
+    same_text(row, others.as_str(), events.as_str())
+}
+
+/// Checks both of a row's log.
 fn check_row(alloc: Global, (log, last_entry, start, lines): Row) -> Result<(), Fail> {
     let row = joined(alloc, parts_of(log))?;
     let input = bytes(alloc, row.as_str())?;
     let log = EventLog::new(Some(input.as_slice()), last_entry, false);
-    check_log(alloc, row.as_str(), &log, start, lines_in(lines))
+    check_log(alloc, row.as_str(), &log, start, lines_in(lines))?;
+    check_equal_starts(alloc, row.as_str(), &log)
 }
 
 #[test]

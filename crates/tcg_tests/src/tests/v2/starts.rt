@@ -1,5 +1,5 @@
 use crate::tests::v2::cuts::events_from;
-use crate::tests::v2::logs::{LOGS, LONG_EVENT, Lines, Log, lines_in, lines_of, parts_of};
+use crate::tests::v2::logs::{LONG_EVENT, Lines, Log, lines_in, lines_of, parts_of};
 use std::alloc::Global;
 use std::test::Fail;
 use test_support::{bytes, joined, same, same_text};
@@ -119,37 +119,6 @@ fn check_row(alloc: Global, (log, last_entry, ends, header, event): Row) -> Resu
 fn events_start_after_the_header_or_after_its_event(rt: HostRuntime) -> Result<(), Fail> {
     for &row in &STARTS {
         check_row(rt.alloc(), row)?;
-    }
-    Ok(())
-}
-
-/// Checks that both starts have the same events, if the header's end is that of its event.
-fn check_equal_starts(alloc: Global, row: &str, log: &EventLog<'_>) -> Result<(), Fail> {
-    let Some(header) = log.header() else {
-        return Ok(());
-    };
-    if header.size_in_bytes() != header.event_size() {
-        return Ok(());
-    }
-    let events = lines_of(alloc, log.iter())?;
-    let others = lines_of(alloc, log.iter_after_header_event())?;
-    same_text(row, others.as_str(), events.as_str())
-}
-
-/// Checks the same of the log of a row of `LOGS`.
-fn check_equal_starts_of(alloc: Global, log: Log, last_entry: Option<usize>) -> Result<(), Fail> {
-    let row = joined(alloc, parts_of(log))?;
-    let input = bytes(alloc, row.as_str())?;
-    let log = EventLog::new(Some(input.as_slice()), last_entry, false);
-    check_equal_starts(alloc, row.as_str(), &log)
-}
-
-#[test]
-fn both_starts_have_the_same_events_where_nothing_follows_the_header(
-    rt: HostRuntime,
-) -> Result<(), Fail> {
-    for &(log, last_entry, _, _) in &LOGS {
-        check_equal_starts_of(rt.alloc(), log, last_entry)?;
     }
     Ok(())
 }

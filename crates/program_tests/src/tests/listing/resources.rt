@@ -1,4 +1,4 @@
-use crate::tests::rows::{each_lists_by, lists};
+use crate::tests::listing::rows::{each_lists_by, lists};
 use std::test::Fail;
 use test_support::bytes;
 use test_support::samples::ROOT_BRIDGE;

@@ -1,4 +1,4 @@
-use crate::tests::runs::WORDS;
+use crate::tests::listing::runs::WORDS;
 use std::alloc::{AllocError, Global};
 use std::test::Fail;
 use uefi_listing::command::Command;

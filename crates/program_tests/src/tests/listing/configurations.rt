@@ -1,5 +1,5 @@
-use crate::tests::rows::{each_lists, lists};
-use crate::tests::runs::{TWO_ELEMENTS, TWO_ELEMENTS_LISTING};
+use crate::tests::listing::rows::{each_lists, lists};
+use crate::tests::listing::runs::{TWO_ELEMENTS, TWO_ELEMENTS_LISTING};
 use std::test::Fail;
 use test_support::joined;
 use uefi_listing::command::Command;

@@ -1,10 +1,10 @@
-use crate::tests::files::{AB_FILE, AB_FILE_LISTING};
-use crate::tests::logs::LOG1_LISTING;
-use crate::tests::maps::{FALLING_LISTING, FALLING_MAP, NO_MAP};
-use crate::tests::paths::TWO_INSTANCES_LISTING;
-use crate::tests::resources::{CUT_AFTER_A_RECORD, ROOT_BRIDGE_LISTING};
-use crate::tests::times::LAST_OF_FEBRUARY_LISTING;
-use crate::tests::v2_logs::{NO_HEADER, TWO_DIGESTS, TWO_DIGESTS_LISTING};
+use crate::tests::listing::files::{AB_FILE, AB_FILE_LISTING};
+use crate::tests::listing::logs::LOG1_LISTING;
+use crate::tests::listing::maps::{FALLING_LISTING, FALLING_MAP, NO_MAP};
+use crate::tests::listing::paths::TWO_INSTANCES_LISTING;
+use crate::tests::listing::resources::{CUT_AFTER_A_RECORD, ROOT_BRIDGE_LISTING};
+use crate::tests::listing::times::LAST_OF_FEBRUARY_LISTING;
+use crate::tests::listing::v2_logs::{NO_HEADER, TWO_DIGESTS, TWO_DIGESTS_LISTING};
 use std::alloc::Global;
 use std::test::Fail;
 use test_support::bytes;

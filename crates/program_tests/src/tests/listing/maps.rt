@@ -1,4 +1,4 @@
-use crate::tests::rows::{Row, each_lists, each_lists_by};
+use crate::tests::listing::rows::{Row, each_lists, each_lists_by};
 use std::test::Fail;
 use test_support::samples::FIRMWARE_MAP;
 use uefi_listing::command::Command;

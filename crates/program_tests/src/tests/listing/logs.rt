@@ -1,4 +1,4 @@
-use crate::tests::rows::{Row, each_lists};
+use crate::tests::listing::rows::{Row, each_lists};
 use std::test::Fail;
 use test_support::samples::{CRTM_VERSION, FIRMWARE_BLOB, LOG1};
 use uefi_listing::command::Command;

@@ -1,4 +1,4 @@
-use crate::tests::rows::{Row, each_lists, lists};
+use crate::tests::listing::rows::{Row, each_lists, lists};
 use std::alloc::Global;
 use std::test::Fail;
 use test_support::samples::{FOUR_EVENTS, FOUR_HEADER, LOG1, SHA1_HEADER};

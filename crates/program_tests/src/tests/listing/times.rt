@@ -1,4 +1,4 @@
-use crate::tests::rows::each_lists_by;
+use crate::tests::listing::rows::each_lists_by;
 use std::test::Fail;
 use test_support::samples::LAST_OF_FEBRUARY;
 use uefi_listing::command::Command;

@@ -1,4 +1,4 @@
-use crate::tests::runs::{RUNS, Run, input_of};
+use crate::tests::listing::runs::{RUNS, Run, input_of};
 use std::alloc::{Allocator, Global};
 use std::io::{self, ErrorKind, Write};
 use std::test::Fail;

@@ -1,4 +1,4 @@
-use crate::tests::rows::{Row, each_lists};
+use crate::tests::listing::rows::{Row, each_lists};
 use std::test::Fail;
 use uefi_listing::command::Command;
 use uefi_listing::listing::Outcome;

@@ -1,7 +1,0 @@
-//! Tests of the libraries `registers` and `audit_events` over their public names: the log of a real
-//! firmware, with the values and the lines that another program prints for it, worked logs of both
-//! versions, and the names of types and algorithms.
-#![tactic(auto)]
-
-#[cfg(test)]
-mod tests;
