@@ -93,12 +93,12 @@ where
 ///
 /// A failure that names the row and shows both values, at the first row where they differ; the
 /// failure of `make`; also if a row isn't hex or an allocation fails.
-pub fn each_makes<F>(alloc: Global, rows: &[(&str, &str)], make: F) -> Result<(), Fail>
+pub fn each_makes<F>(alloc: Global, rows: &[[&str; 2]], make: F) -> Result<(), Fail>
 where
     F: Fn(Global, &[u8]) -> Result<Vec<u8>, Fail>,
     requires { F.IsAlwaysCallable make }
 {
-    for (row, expected) in rows {
+    for [row, expected] in rows {
         let input = bytes(alloc, row)?;
         let expected = bytes(alloc, expected)?;
         let made = make(alloc, input.as_slice())?;
@@ -113,12 +113,12 @@ where
 ///
 /// A failure that names the row and shows both texts, at the first row where they differ; the
 /// failure of `show`; also if a row isn't hex or an allocation fails.
-pub fn each_shows<F>(alloc: Global, rows: &[(&str, &str)], show: F) -> Result<(), Fail>
+pub fn each_shows<F>(alloc: Global, rows: &[[&str; 2]], show: F) -> Result<(), Fail>
 where
     F: Fn(Global, &[u8]) -> Result<String, Fail>,
     requires { F.IsAlwaysCallable show }
 {
-    for (row, expected) in rows {
+    for [row, expected] in rows {
         let input = bytes(alloc, row)?;
         let text = show(alloc, input.as_slice())?;
         same_text(row, text.as_str(), expected)?;

@@ -106,24 +106,29 @@ fn versions_are_ordered_field_by_field() -> Result<(), Fail> {
 #[test]
 fn a_set_of_algorithms_is_made_of_named_bits_alone() -> Result<(), Fail> {
     let both = HashAlgorithm::SHA1.union(HashAlgorithm::SM3_256);
-    let made = [0x11, 0x20].map(HashAlgorithm::from_bits);
+    let made = [
+        HashAlgorithm::from_bits(0x11),
+        HashAlgorithm::from_bits(0x20),
+    ];
     same(
         "named bits, and one without a name",
         &made,
         &[Some(both), None],
     )?;
-    let sets = [
-        HashAlgorithm::from_bits_retain(0x20),
-        HashAlgorithm::empty(),
-        HashAlgorithm::default(),
+    let bits = [
+        HashAlgorithm::from_bits_retain(0x20).bits(),
+        HashAlgorithm::empty().bits(),
+        HashAlgorithm::default().bits(),
     ];
-    let bits = sets.map(|it| it.bits());
     same(
         "the bit that is kept, no bits, the default",
         &bits,
         &[0x20, 0, 0],
     )?;
-    let found = [HashAlgorithm::SHA1, HashAlgorithm::SHA256].map(|it| both.contains(it));
+    let found = [
+        both.contains(HashAlgorithm::SHA1),
+        both.contains(HashAlgorithm::SHA256),
+    ];
     same("one in both, another isn't", &found, &[true, false])
 }
 
@@ -176,7 +181,10 @@ fn capability2(fields: &[u8; 10]) -> v2::BootServiceCapability {
 #[test]
 fn a_capability_of_version_2_has_its_fields() -> Result<(), Fail> {
     let capability = capability2(&[1, 2, 3, 4, 5, 6, 7, 8, 9, 10]);
-    let versions = [capability.structure_version, capability.protocol_version].map(|it| it.major);
+    let versions = [
+        capability.structure_version.major,
+        capability.protocol_version.major,
+    ];
     same("the versions", &versions, &[1, 2])?;
     let bits = (
         capability.hash_algorithm_bitmap.bits(),
@@ -265,18 +273,20 @@ fn versions_of_version_2_are_ordered_field_by_field() -> Result<(), Fail> {
 #[test]
 fn a_set_of_formats_is_made_of_named_bits_alone() -> Result<(), Fail> {
     let both = v2::EventLogFormat::TCG_1_2.union(v2::EventLogFormat::TCG_2);
-    let made = [3, 4].map(v2::EventLogFormat::from_bits);
+    let made = [
+        v2::EventLogFormat::from_bits(3),
+        v2::EventLogFormat::from_bits(4),
+    ];
     same(
         "named bits, and one without a name",
         &made,
         &[Some(both), None],
     )?;
-    let sets = [
-        v2::EventLogFormat::from_bits_retain(4),
-        v2::EventLogFormat::empty(),
-        v2::EventLogFormat::default(),
+    let bits = [
+        v2::EventLogFormat::from_bits_retain(4).bits(),
+        v2::EventLogFormat::empty().bits(),
+        v2::EventLogFormat::default().bits(),
     ];
-    let bits = sets.map(|it| it.bits());
     same(
         "the bit that is kept, no bits, the default",
         &bits,

@@ -9,14 +9,14 @@ use uefi_path::{
 /// Bytes that begin with a path, and what its iterators give: all nodes of the path, then each
 /// instance, as its length and all its nodes. A node is its type, its subtype, its length and its
 /// data, and `00` stands where an iterator gives nothing, for which each is asked twice.
-const PATHS: [(&str, &str); 4] = [
-    (
+const PATHS: [[&str; 2]; 4] = [
+    [
         TWO_INSTANCES,
         "a0b0 0600 0a0b  a1b1 0800 14151617  7f01 0400  a2b2 0600 1e1f  a3b3 0800 28292a2b  00 00 \
             12  a0b0 0600 0a0b  a1b1 0800 14151617  00 00 \
             12  a2b2 0600 1e1f  a3b3 0800 28292a2b  00 00  00 00",
-    ),
-    (
+    ],
+    [
         CON_OUT,
         "0201 0c00 d041030a00000000  0101 0600 0001  0203 0800 00010180  7f01 0400 \
             0201 0c00 d041030a00000000  0101 0600 001f  0201 0c00 d041010500000000 \
@@ -26,14 +26,14 @@ const PATHS: [(&str, &str); 4] = [
             49  0201 0c00 d041030a00000000  0101 0600 001f  0201 0c00 d041010500000000 \
             030e 1300 0000000000c2010000000000080101 \
             030a 1400 5347c1e0bef9d2119a0c0090273fc14d  00 00  00 00",
-    ),
+    ],
     // Any node of the type END ends an instance.
-    (
+    [
         "7f02 0400  7fff 0400",
         "7f02 0400  00 00  04  00 00  04  00 00  00 00",
-    ),
+    ],
     // The end node may have data, and bytes after the path are not read.
-    ("7fff 0600 aabb  cc", "00 00  06  00 00  00 00"),
+    ["7fff 0600 aabb  cc", "00 00  06  00 00  00 00"],
 ];
 
 /// Appends what a step of an iterator of nodes gives.

@@ -48,10 +48,10 @@ fn data_and_bytes(alloc: Global, input: &[u8]) -> Result<Vec<u8>, Fail> {
 
 #[test]
 fn a_node_has_its_data_and_its_bytes(rt: HostRuntime) -> Result<(), Fail> {
-    const ROWS: [(&str, &str); 3] = [
-        ("a0b0 0600 0a0b", "0a0b  a0b0 0600 0a0b"),
-        ("a0b0 0600 0a0b  cc", "0a0b  a0b0 0600 0a0b"),
-        ("a0b0 0400", "a0b0 0400"),
+    const ROWS: [[&str; 2]; 3] = [
+        ["a0b0 0600 0a0b", "0a0b  a0b0 0600 0a0b"],
+        ["a0b0 0600 0a0b  cc", "0a0b  a0b0 0600 0a0b"],
+        ["a0b0 0400", "a0b0 0400"],
     ];
     each_makes(rt.alloc(), &ROWS, data_and_bytes)
 }
@@ -84,9 +84,9 @@ fn path_text(alloc: Global, input: &[u8]) -> Result<String, Fail> {
 
 #[test]
 fn nodes_and_paths_are_displayed_by_their_lengths(rt: HostRuntime) -> Result<(), Fail> {
-    let nodes = [("a0b0 0600 0a0b", "<device path node: 2 bytes>")];
+    let nodes = [["a0b0 0600 0a0b", "<device path node: 2 bytes>"]];
     each_shows(rt.alloc(), &nodes, node_text)?;
-    let paths = [(TWO_INSTANCES, "<device path: 36 bytes>")];
+    let paths = [[TWO_INSTANCES, "<device path: 36 bytes>"]];
     each_shows(rt.alloc(), &paths, path_text)
 }
 

@@ -3,9 +3,9 @@ use std::test::Fail;
 use test_support::each_shows;
 
 /// Logs of version 2 with the last entry at their end, and the lines of their events.
-const NAMES: [(&str, &str); 2] = [
+const NAMES: [[&str; 2]; 2] = [
     // Each type that has a name, and the numbers around them; no digests and no data.
-    (
+    [
         "00000000 03000000 0000000000000000000000000000000000000000 21000000 \
          53706563204944204576656e74303300 00000000 00020002 01000000 0400 1400 00 \
          00000000 00000000 00000000 00000000 00000000 01000000 00000000 00000000 \
@@ -165,9 +165,9 @@ const NAMES: [(&str, &str); 2] = [
          \"log\":\"a log\",\"offset\":785,\"register\":0,\"type\":{\"number\":2147483877}}\n\
          {\"content\":null,\"data\":\"\",\"digests\":[],\"hashes_to\":[],\"index\":46,\
          \"log\":\"a log\",\"offset\":801,\"register\":0,\"type\":{\"number\":4294967295}}\n",
-    ),
+    ],
     // A digest of each algorithm that has a name, and of the numbers around them.
-    (
+    [
         "00000000 03000000 0000000000000000000000000000000000000000 4d000000 \
          53706563204944204576656e74303300 00000000 00020002 0c000000 \
          0400 0100 0b00 0100 0c00 0100 0d00 0100 1200 0100 2700 0100 \
@@ -186,7 +186,7 @@ const NAMES: [(&str, &str); 2] = [
          \"hashes_to\":[],\"index\":0,\"log\":\"a log\",\
          \"offset\":109,\"register\":0,\
          \"type\":{\"name\":\"EV_PREBOOT_CERT\",\"number\":0}}\n",
-    ),
+    ],
 ];
 
 #[test]

@@ -46,11 +46,11 @@ fn times(alloc: Global, input: &[u8]) -> Result<Vec<u8>, Fail> {
 
 #[test]
 fn a_file_has_three_times(rt: HostRuntime) -> Result<(), Fail> {
-    let rows = [(
+    let rows = [[
         FILE,
         "e807021f0102030405060708090a0b0c e707021e1112131415161718191a1b1c \
             e607021d2122232425262728292a2b2c",
-    )];
+    ]];
     each_makes(rt.alloc(), &rows, times)
 }
 

@@ -49,13 +49,13 @@ fn a_time_gives_its_bytes_back(rt: HostRuntime) -> Result<(), Fail> {
     let last = "0f27 0c 1f 17 3b 3b 00  ffc99a3b  a005 03 00";
     let rows = [
         // Each range reaches to both its ends.
-        (first, first),
-        (last, last),
+        [first, first],
+        [last, last],
         // Neither padding nor what follows is read.
-        (
+        [
             "e807 02 1f 00 00 00 aa  00000000  ff07 00 bb  cc",
             LAST_OF_FEBRUARY,
-        ),
+        ],
     ];
     each_makes(rt.alloc(), &rows, valid_bytes)
 }
@@ -75,36 +75,36 @@ const DAYLIGHT: &str = "unknown bits set for daylight\n";
 const SHORT: &str = "the byte slice is not large enough to hold a Time struct";
 
 /// Bytes that are no time, and what their error is displayed as.
-const REFUSALS: [(&str, &str); 18] = [
-    ("6b07 01 01 00 00 00 00  00000000  0000 00 00", YEAR),
-    ("1027 01 01 00 00 00 00  00000000  0000 00 00", YEAR),
-    ("e807 00 01 00 00 00 00  00000000  0000 00 00", MONTH),
-    ("e807 0d 01 00 00 00 00  00000000  0000 00 00", MONTH),
-    ("e807 01 00 00 00 00 00  00000000  0000 00 00", DAY),
-    ("e807 01 20 00 00 00 00  00000000  0000 00 00", DAY),
-    (
+const REFUSALS: [[&str; 2]; 18] = [
+    ["6b07 01 01 00 00 00 00  00000000  0000 00 00", YEAR],
+    ["1027 01 01 00 00 00 00  00000000  0000 00 00", YEAR],
+    ["e807 00 01 00 00 00 00  00000000  0000 00 00", MONTH],
+    ["e807 0d 01 00 00 00 00  00000000  0000 00 00", MONTH],
+    ["e807 01 00 00 00 00 00  00000000  0000 00 00", DAY],
+    ["e807 01 20 00 00 00 00  00000000  0000 00 00", DAY],
+    [
         "e807 01 01 18 00 00 00  00000000  0000 00 00",
         "hour not within `0..=23`\n",
-    ),
-    (
+    ],
+    [
         "e807 01 01 00 3c 00 00  00000000  0000 00 00",
         "minute not within `0..=59`\n",
-    ),
-    (
+    ],
+    [
         "e807 01 01 00 00 3c 00  00000000  0000 00 00",
         "second not within `0..=59`\n",
-    ),
-    ("e807 01 01 00 00 00 00  00ca9a3b  0000 00 00", NANOSECOND),
-    ("e807 01 01 00 00 00 00  00000000  a105 00 00", ZONE),
-    ("e807 01 01 00 00 00 00  00000000  5ffa 00 00", ZONE),
+    ],
+    ["e807 01 01 00 00 00 00  00ca9a3b  0000 00 00", NANOSECOND],
+    ["e807 01 01 00 00 00 00  00000000  a105 00 00", ZONE],
+    ["e807 01 01 00 00 00 00  00000000  5ffa 00 00", ZONE],
     // All fields outside their ranges are reported at once.
-    (
+    [
         "0000 00 00 00 00 00 00  00000000  0000 00 00",
         "year not within `1900..=9999`\n\
          month not within `1..=12\n\
          day not within `1..=31`\n",
-    ),
-    (
+    ],
+    [
         "ffff ff ff ff ff ff 00  ffffffff  ffff 00 00",
         "year not within `1900..=9999`\n\
          month not within `1..=12\n\
@@ -113,13 +113,13 @@ const REFUSALS: [(&str, &str); 18] = [
          minute not within `0..=59`\n\
          second not within `0..=59`\n\
          nanosecond not within `0..=999_999_999`\n",
-    ),
+    ],
     // A bit of daylight without a name is reported alone.
-    ("0000 00 00 00 00 00 00  00000000  0000 04 00", DAYLIGHT),
-    ("e807 01 01 00 00 00 00  00000000  0000 07 00", DAYLIGHT),
+    ["0000 00 00 00 00 00 00  00000000  0000 04 00", DAYLIGHT],
+    ["e807 01 01 00 00 00 00  00000000  0000 07 00", DAYLIGHT],
     // Fewer than sixteen bytes are none.
-    ("", SHORT),
-    ("e807 02 1f 00 00 00 00  00000000  ff07 00", SHORT),
+    ["", SHORT],
+    ["e807 02 1f 00 00 00 00  00000000  ff07 00", SHORT],
 ];
 
 /// Returns what the error of bytes that are no time is displayed as.

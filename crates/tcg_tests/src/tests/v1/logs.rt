@@ -68,14 +68,24 @@ fn a_log_has_the_events_that_keep_to_the_last_entry(rt: HostRuntime) -> Result<(
     Ok(())
 }
 
+/// Bytes, a last entry, and how many events that log has.
+const COUNTS: [(&str, usize, usize); 3] = [(LOG1, 34, 2), (LOG1, 1, 0), (LONG_DATA, 34, 0)];
+
+/// Returns how many events a log has, and whether an iterator gives none after them, however often
+/// it is asked.
+fn count_and_end(input: &[u8], last_entry: usize, count: usize) -> (usize, bool) {
+    let log = EventLog::new(Some(input), Some(last_entry), false);
+    let mut events = log.iter();
+    let has_ended = events.nth(count).is_none() && events.next().is_none();
+    (log.iter().count(), has_ended)
+}
+
 #[test]
 fn an_iterator_stays_ended(rt: HostRuntime) -> Result<(), Fail> {
-    for (row, last_entry, count) in [(LOG1, 34usize, 2usize), (LOG1, 1, 0), (LONG_DATA, 34, 0)] {
+    for &(row, last_entry, count) in &COUNTS {
         let input = bytes(rt.alloc(), row)?;
-        let log = EventLog::new(Some(input.as_slice()), Some(last_entry), false);
-        let mut events = log.iter();
-        let has_ended = events.nth(count).is_none() && events.next().is_none();
-        same(row, &(log.iter().count(), has_ended), &(count, true))?;
+        let found = count_and_end(input.as_slice(), last_entry, count);
+        same(row, &found, &(count, true))?;
     }
     Ok(())
 }

@@ -112,8 +112,11 @@ fn begins_with_ended(input: &[u8], last_entry: usize, later: usize, start: Start
     for event in events_from(&earlier, start) {
         let bytes = event.as_bytes();
         end = end.saturating_add(bytes.len());
-        let other = grown.next().map(|other| other.as_bytes());
-        if end <= last_entry && other != Some(bytes) {
+        let same = match grown.next() {
+            Some(other) => other.as_bytes() == bytes,
+            None => false,
+        };
+        if end <= last_entry && !same {
             return false;
         }
     }

@@ -75,7 +75,13 @@ fn sizes_in(input: &[u8]) -> Option<AlgorithmDigestSizes<'_>> {
 fn a_table_has_its_rows(rt: HostRuntime) -> Result<(), Fail> {
     let input = bytes(rt.alloc(), HEADER)?;
     let sizes = sizes_in(input.as_slice()).ok_or("the header")?;
-    let found = [0, 1, 2, 3, usize::MAX].map(|index| sizes.get(index));
+    let found = [
+        sizes.get(0),
+        sizes.get(1),
+        sizes.get(2),
+        sizes.get(3),
+        sizes.get(usize::MAX),
+    ];
     let expected = [
         Some((AlgorithmId::SHA1, 20)),
         Some((AlgorithmId::SHA256, 32)),
@@ -94,8 +100,11 @@ fn a_table_has_its_rows(rt: HostRuntime) -> Result<(), Fail> {
 fn the_first_row_of_an_algorithm_decides_its_size(rt: HostRuntime) -> Result<(), Fail> {
     let input = bytes(rt.alloc(), HEADER)?;
     let sizes = sizes_in(input.as_slice()).ok_or("the header")?;
-    let algorithms = [AlgorithmId::SHA1, AlgorithmId::SHA256, AlgorithmId::SHA512];
-    let found = algorithms.map(|algorithm| sizes.get_size(algorithm));
+    let found = [
+        sizes.get_size(AlgorithmId::SHA1),
+        sizes.get_size(AlgorithmId::SHA256),
+        sizes.get_size(AlgorithmId::SHA512),
+    ];
     let expected = [Some(20), Some(32), None];
     same("SHA-1, SHA-256, SHA-512", &found, &expected)
 }
@@ -119,31 +128,34 @@ const ELEVEN_ROWS: &str = "00000000 03000000 00000000000000000000000000000000000
     04001400 01000100 02000200 03000300 05000500 06000600 07000700 08000800 09000900 0a000a00 \
     04000400 00";
 
+/// The sizes of algorithms under `ELEVEN_ROWS`.
+const ELEVEN_SIZES: [(u16, Option<u16>); 13] = [
+    (0, None),
+    (1, Some(1)),
+    (2, Some(2)),
+    (3, Some(3)),
+    (4, Some(20)),
+    (5, Some(5)),
+    (6, Some(6)),
+    (7, Some(7)),
+    (8, Some(8)),
+    (9, Some(9)),
+    (10, Some(10)),
+    (11, None),
+    (12, None),
+];
+
 #[test]
 fn a_row_after_the_first_eight_algorithms_is_found(rt: HostRuntime) -> Result<(), Fail> {
     let input = bytes(rt.alloc(), ELEVEN_ROWS)?;
     let sizes = sizes_in(input.as_slice()).ok_or("the header")?;
-    let algorithms = [0, 1, 2, 3, 4, 5, 6, 7, 8, 9, 10, 11, 12];
-    let found = algorithms.map(|algorithm| sizes.get_size(AlgorithmId(algorithm)));
-    let expected = [
-        None,
-        Some(1),
-        Some(2),
-        Some(3),
-        Some(20),
-        Some(5),
-        Some(6),
-        Some(7),
-        Some(8),
-        Some(9),
-        Some(10),
-        None,
-        None,
-    ];
-    let expected = (11, expected);
-    same(
-        "how many, algorithms 0 to 12",
-        &(sizes.len(), found),
-        &expected,
-    )
+    for &(algorithm, size) in &ELEVEN_SIZES {
+        let found = (
+            sizes.len(),
+            algorithm,
+            sizes.get_size(AlgorithmId(algorithm)),
+        );
+        same("an algorithm", &found, &(11, algorithm, size))?;
+    }
+    Ok(())
 }

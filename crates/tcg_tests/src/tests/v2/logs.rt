@@ -275,15 +275,27 @@ fn a_log_without_bytes_has_neither_header_nor_events() -> Result<(), Fail> {
     same("the one is truncated", &truncated, &[true, false])
 }
 
+/// A last entry, and how many events `FOUR_EVENTS` has under it.
+const COUNTS: [(usize, usize); 4] = [(267, 2), (268, 1), (0, 0), (1, 0)];
+
+/// Returns how many events a log has, and whether an iterator gives none after them, however often
+/// it is asked.
+fn count_and_end(input: &[u8], last_entry: usize, count: usize) -> (usize, bool) {
+    let log = EventLog::new(Some(input), Some(last_entry), false);
+    let mut events = log.iter();
+    let has_ended = events.nth(count).is_none() && events.next().is_none();
+    (log.iter().count(), has_ended)
+}
+
 #[test]
 fn an_iterator_stays_ended(rt: HostRuntime) -> Result<(), Fail> {
     let input = joined_bytes(rt.alloc(), &[FOUR_HEADER, FOUR_EVENTS])?;
-    for (last_entry, count) in [(267usize, 2usize), (268, 1), (0, 0), (1, 0)] {
-        let log = EventLog::new(Some(input.as_slice()), Some(last_entry), false);
-        let mut events = log.iter();
-        let has_ended = events.nth(count).is_none() && events.next().is_none();
-        let found = (last_entry, log.iter().count(), has_ended);
-        same("the last entry", &found, &(last_entry, count, true))?;
+    for &(last_entry, count) in &COUNTS {
+        let found = (
+            last_entry,
+            count_and_end(input.as_slice(), last_entry, count),
+        );
+        same("the last entry", &found, &(last_entry, (count, true)))?;
     }
     Ok(())
 }
@@ -305,9 +317,9 @@ fn an_iterator_over_digests_stays_ended(rt: HostRuntime) -> Result<(), Fail> {
     let input = joined_bytes(rt.alloc(), &[FOUR_HEADER, FOUR_EVENTS, ZERO_EVENT])?;
     let log = EventLog::new(Some(input.as_slice()), Some(471), false);
     let mut events = log.iter();
-    for count in [4usize, 4, 0] {
+    for count in &[4, 4, 0] {
         let event = events.next().ok_or("an event")?;
-        holds("the digests", digests_end_after(event.digests(), count))?;
+        holds("the digests", digests_end_after(event.digests(), *count))?;
     }
     holds("the events", events.next().is_none())
 }
