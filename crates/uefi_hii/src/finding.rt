@@ -11,12 +11,32 @@ use std::simd::prelude::*;
 const LANES: usize = 16;
 
 /// Returns the index of the first `byte` before `end`, if there is one.
+///
+/// The first sixteen bytes are compared apart from those after them: two bytes that are sought in
+/// the same text then share a load, and most of what is sought stands there.
 #[inline(always)]
 pub(crate) fn index_before(bytes: &[u8], byte: u8, end: usize) -> Option<usize>
     requires { end ≤ length bytes.now }
     ensures { FindsFirst byte (take end bytes.now) result }
 {
-    let mut index = 0;
+    if bytes.len() < LANES {
+        return index_from(bytes, byte, 0, end);
+    }
+    if let Some(found) = run_before(bytes, byte, 0) {
+        return if found < end { Some(found) } else { None };
+    }
+    index_after(bytes, byte, LANES, end)
+}
+
+/// Returns the index of the first `byte` before `end`, sixteen bytes at a time from `start` on.
+#[inline(always)]
+fn index_after(bytes: &[u8], byte: u8, start: usize, end: usize) -> Option<usize>
+    requires within { end ≤ length bytes.now }
+    requires start { start ≤ length bytes.now }
+    requires none_before { IsNotBefore byte start bytes.now }
+    ensures { FindsFirst byte (take end bytes.now) result }
+{
+    let mut index = start;
     while index < end && LANES <= bytes.len() - index {
         if let Some(passed) = run_before(bytes, byte, index) {
             let found = index + passed;
