@@ -1,6 +1,5 @@
 mod configurations;
 mod filling;
 mod memory;
-mod path;
 mod samples;
 mod values;

@@ -1,5 +1,5 @@
-//! Tests of the libraries `uefi_base` and `uefi_records` over their public names: worked rows, and
-//! calls that run out of memory. The requests that `test_support` refuses are tested here too.
+//! Tests of the library `uefi_records` over its public names: worked rows of times, flag sets and
+//! the three information records.
 #![tactic(auto)]
 
 #[cfg(test)]

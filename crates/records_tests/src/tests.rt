@@ -1,4 +1,3 @@
-mod base;
 mod file;
 mod flags;
 mod time;

@@ -3,11 +3,11 @@ use Rattle.std.proofs.Common.{◌≡◌, ◌∙◌, ℕ, List, [], ◌++◌, ap,
 use Rattle.std.specs.Prelude.{◌↔◌, Bool, true, false, Option, IsTrue, string_bytes}
 use Rattle.std.specs.declared.alloc.Global.{Global}
 use Rattle.std.specs.declared.string.String.{String}
-use Rattle.audit_lines.specs.declared.file.LogFile.{LogFile}
-use Rattle.audit_diff.specs.Differences.{AppendsDifferences}
-use Rattle.audit_verify.specs.Agreement.{Agree}
-use Rattle.audit_verify.specs.Verdict.{AppendsVerdict}
-use Rattle.audit_verify.specs.declared.held.HeldRegister.{HeldRegister}
+use Rattle.uefi_auditing.specs.declared.text.LogFile.{LogFile}
+use Rattle.uefi_auditing.specs.diff.Differences.{AppendsDifferences}
+use Rattle.uefi_auditing.specs.verify.Agreement.{Agree}
+use Rattle.uefi_auditing.specs.verify.Verdict.{AppendsVerdict}
+use Rattle.uefi_auditing.specs.declared.verify.reading.HeldRegister.{HeldRegister}
 use Rattle.uefi_audit.specs.Compared.{Compares, Verifies}
 use Rattle.uefi_audit.proofs.Judging.{Judges, true_is_not}
 

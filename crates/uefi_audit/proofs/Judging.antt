@@ -1,10 +1,10 @@
 -- Logs that are accepted or refused.
 use Rattle.std.proofs.Common.{◌≡◌, ◌∙◌, ℕ, List, [], ◌∷◌, ◌++◌, length, ap, sym, refl, append-nil}
 use Rattle.std.specs.Prelude.{◌↔◌, Bool, true, false}
-use Rattle.registers.specs.Entries.{Contents}
-use Rattle.registers.specs.Logs.{left_over}
-use Rattle.audit_lines.specs.Replay.{left_over_line, left_over_lines, rest_lines}
-use Rattle.audit_lines.specs.declared.file.LogFile.{LogFile}
+use Rattle.pcr_replay.specs.Entries.{Contents}
+use Rattle.pcr_replay.specs.Logs.{left_over}
+use Rattle.uefi_auditing.specs.text.Replay.{left_over_line, left_over_lines, rest_lines}
+use Rattle.uefi_auditing.specs.declared.text.LogFile.{LogFile}
 use Rattle.uefi_audit.specs.Accepted.{HasContents, IsJudged}
 
 pub true_is_not : true ≡ false → ⊥

@@ -1,9 +1,9 @@
 -- Logs with bytes left over after their last event, which are refused unless that is allowed.
 use Rattle.std.specs.Prelude.{◌≡◌, ℕ, Bool, true, false, List, []}
-use Rattle.registers.specs.Entries.{Contents}
-use Rattle.registers.specs.Logs.{AreContents, left_over}
-use Rattle.audit_lines.specs.Replay.{RefusesLeftOver}
-use Rattle.audit_lines.specs.declared.file.LogFile.{LogFile}
+use Rattle.pcr_replay.specs.Entries.{Contents}
+use Rattle.pcr_replay.specs.Logs.{AreContents, left_over}
+use Rattle.uefi_auditing.specs.text.Replay.{RefusesLeftOver}
+use Rattle.uefi_auditing.specs.declared.text.LogFile.{LogFile}
 
 -- The one log that a file is has these contents.
 abbrev pub HasContents : LogFile → Contents → Type 0

@@ -2,12 +2,12 @@
 use Rattle.std.specs.Prelude.{◌≡◌, ◌↔◌, ℕ, ◌&&◌, Bool, true, false, List, ◌++◌, Option, IsTrue}
 use Rattle.std.specs.declared.alloc.Global.{Global}
 use Rattle.std.specs.declared.string.String.{String}
-use Rattle.hex_display.specs.Text.{AppendsText}
-use Rattle.audit_lines.specs.declared.file.LogFile.{LogFile}
-use Rattle.audit_diff.specs.Differences.{AppendsDifferences}
-use Rattle.audit_verify.specs.Agreement.{Agree}
-use Rattle.audit_verify.specs.Verdict.{AppendsVerdict}
-use Rattle.audit_verify.specs.declared.held.HeldRegister.{HeldRegister}
+use Rattle.uefi_base.specs.Appending.{AppendsText}
+use Rattle.uefi_auditing.specs.declared.text.LogFile.{LogFile}
+use Rattle.uefi_auditing.specs.diff.Differences.{AppendsDifferences}
+use Rattle.uefi_auditing.specs.verify.Agreement.{Agree}
+use Rattle.uefi_auditing.specs.verify.Verdict.{AppendsVerdict}
+use Rattle.uefi_auditing.specs.declared.verify.reading.HeldRegister.{HeldRegister}
 use Rattle.uefi_audit.specs.Accepted.{IsJudged}
 
 -- A text grew by the lines that refuse logs, and nothing is well.

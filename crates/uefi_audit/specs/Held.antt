@@ -1,10 +1,10 @@
 -- The registers that a TPM held, in files.
 use Rattle.std.specs.Prelude.{ℕ, List, ◌++◌, codes}
 use Rattle.std.specs.Fmt.{decimal}
-use Rattle.registers.specs.declared.bank.Bank.{Bank}
-use Rattle.audit_lines.specs.Banks.{bank_name}
-use Rattle.audit_verify.specs.declared.error.HeldError.{HeldError}
-use Rattle.audit_verify.specs.declared.error.HeldError.TheVariants.{Memory, Line}
+use Rattle.pcr_replay.specs.declared.bank.Bank.{Bank}
+use Rattle.uefi_auditing.specs.text.Banks.{bank_name}
+use Rattle.uefi_auditing.specs.declared.verify.reading.HeldError.{HeldError}
+use Rattle.uefi_auditing.specs.declared.verify.reading.HeldError.TheVariants.{Memory, Line}
 
 -- What standard error is told of a file that has no registers which can be compared.
 abbrev pub fault_text : HeldError → List ℕ

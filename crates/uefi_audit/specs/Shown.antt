@@ -2,12 +2,12 @@
 use Rattle.std.specs.Prelude.{◌≡◌, ℕ, Bool, true, false, List, [], ◌++◌, codes, Option, string_bytes}
 use Rattle.std.specs.declared.alloc.Global.{Global}
 use Rattle.std.specs.declared.string.String.{String}
-use Rattle.hex_display.specs.Text.{AppendsText}
-use Rattle.registers.specs.declared.bank.Bank.{Bank}
-use Rattle.audit_lines.specs.Replay.{AppendsReplay, IsReplay}
-use Rattle.audit_lines.specs.declared.file.LogFile.{LogFile}
-use Rattle.audit_json.specs.Events.{AppendsEvents}
-use Rattle.audit_json.specs.Replay.{IsReplayJson}
+use Rattle.uefi_base.specs.Appending.{AppendsText}
+use Rattle.pcr_replay.specs.declared.bank.Bank.{Bank}
+use Rattle.uefi_auditing.specs.text.Replay.{AppendsReplay, IsReplay}
+use Rattle.uefi_auditing.specs.declared.text.LogFile.{LogFile}
+use Rattle.uefi_auditing.specs.json.Events.{AppendsEvents}
+use Rattle.uefi_auditing.specs.json.Replay.{IsReplayJson}
 use Rattle.uefi_audit.specs.Accepted.{IsJudged}
 use Rattle.uefi_audit.specs.declared.shown.Shown.{Shown}
 use Rattle.uefi_audit.specs.declared.shown.Shown.TheVariants.{Events, Registers, RegistersJson}

@@ -1,14 +1,14 @@
 ghost use Rattle.std.specs.Prelude.{◌≡◌, length, OnOk, IfErr};
 ghost use Rattle.std.specs.Io.KnownBytes.{Appends};
-ghost use Rattle.audit_words.specs.Words.{last_entry_of};
+ghost use Rattle.uefi_audit.specs.CommandLine.{last_entry_of};
 ghost use Rattle.uefi_audit.specs.declared.failure.Failure.TheVariants.{Output};
 
 use crate::compared::{push_comparison, push_verification};
 use crate::failure::{Failure, Status};
 use crate::input::{file_bytes, held_registers};
 use crate::shown::{Shown, push_shown};
-use audit_lines::LogFile;
-use audit_words::{Format, Reading, Request};
+use uefi_auditing::text::LogFile;
+use crate::{Format, Reading, Request};
 use std::io::{self, Write};
 use std::rt::Files;
 

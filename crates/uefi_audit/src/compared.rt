@@ -2,9 +2,9 @@ ghost use Rattle.std.specs.Prelude.{IfOk};
 ghost use Rattle.uefi_audit.specs.Compared.{Compares, Verifies};
 
 use crate::shown::push_refusal;
-use audit_diff::push_differences;
-use audit_lines::LogFile;
-use audit_verify::{HeldRegister, push_verdict};
+use uefi_auditing::diff::push_differences;
+use uefi_auditing::text::LogFile;
+use uefi_auditing::verify::{HeldRegister, push_verdict};
 use std::alloc::{AllocError, Global};
 
 /// Appends whether a log leads to the registers that a TPM held, and returns it; or the line that

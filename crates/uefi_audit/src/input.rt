@@ -1,9 +1,9 @@
 ghost use Rattle.std.specs.Prelude.{◌≡◌, ◌≢◌, [], IfOk, IfSome, Some, string_bytes};
 ghost use Rattle.uefi_audit.specs.Held.{fault_text, register_path};
 
-use audit_lines::bank_name;
-use audit_verify::{HeldError, HeldRegister, held_in_file, held_in_text};
-use registers::{Bank, REGISTER_COUNT};
+use uefi_auditing::text::bank_name;
+use uefi_auditing::verify::{HeldError, HeldRegister, held_in_file, held_in_text};
+use pcr_replay::{Bank, REGISTER_COUNT};
 use std::alloc::{AllocError, Global};
 use std::io::{self, ErrorKind, Read};
 use std::rt::Files;

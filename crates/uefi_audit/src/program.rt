@@ -5,7 +5,7 @@ ghost use Rattle.uefi_audit.specs.declared.failure.Failure.TheVariants.{Output};
 
 use crate::commands::perform;
 use crate::failure::{Failure, Status, exit_code};
-use audit_words::{matches_of, request_of};
+use crate::{matches_of, request_of};
 use std::process::ExitCode;
 use std::rt::{Env, Files};
 use std::{env, io};

@@ -1,12 +1,12 @@
 ghost use Rattle.std.specs.Prelude.{ℕ, List, IfOk, OnOk};
-ghost use Rattle.hex_display.specs.Text.{AppendsText};
-ghost use Rattle.audit_lines.specs.Replay.{AppendsReplay};
+ghost use Rattle.uefi_base.specs.Appending.{AppendsText};
+ghost use Rattle.uefi_auditing.specs.text.Replay.{AppendsReplay};
 ghost use Rattle.uefi_audit.specs.Accepted.{IsJudged};
 ghost use Rattle.uefi_audit.specs.Shown.{name_line, IsNamedReplay, Shows, ShowsEvents};
 
-use audit_json::{push_events, push_replay_json};
-use audit_lines::{LogFile, push_left_over, push_replay};
-use registers::Bank;
+use uefi_auditing::json::{push_events, push_replay_json};
+use uefi_auditing::text::{LogFile, push_left_over, push_replay};
+use pcr_replay::Bank;
 use std::alloc::{AllocError, Global};
 
 /// What is printed of a log.

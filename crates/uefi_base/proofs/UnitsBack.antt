@@ -2,10 +2,10 @@
 use Rattle.std.proofs.Common.{◌≡◌, ℕ, suc, ◌+◌, ◌*◌, ◌%◌, List, [], ◌∷◌, ◌++◌, length, get_or, refl, ◌∙◌, ap, arith}
 use Rattle.std.specs.Int.{w16, from_le_bytes}
 use Rattle.std.proofs.lemmas.Nat.{from_le_bytes-to_le_bytes_2}
-use Rattle.uefi_core.specs.LittleEndian.{AreBytes, u16_bytes}
+use Rattle.uefi_base.specs.LittleEndian.{AreBytes, u16_bytes}
 use Rattle.uefi_base.specs.Unaligned.{AreUnits, units_of, unit_bytes}
 use Rattle.uefi_base.specs.Laws.{UnitsReadBack}
-use Rattle.uefi_core.proofs.NumbersBack.{two_bytes}
+use Rattle.uefi_base.proofs.NumbersBack.{two_bytes}
 
 -- Units read back, as the law states it.
 pub units_read_back : UnitsReadBack

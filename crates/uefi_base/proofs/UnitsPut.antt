@@ -3,9 +3,9 @@ use Rattle.std.proofs.Common.{◌≡◌, ℕ, ◌+◌, ◌*◌, ◌<◌, ◌≤�
 use Rattle.std.proofs.Common.{sym, ◌∙◌, ap, arith}
 use Rattle.std.proofs.lemmas.Grind.{flat_map-append}
 use Rattle.std.proofs.lemmas.List.{take_more, length-take-le, append-nil}
-use Rattle.uefi_core.specs.Buffer.{put_at}
-use Rattle.uefi_core.specs.LittleEndian.{u16_bytes}
-use Rattle.uefi_core.proofs.Parts.{put_next}
+use Rattle.uefi_base.specs.Buffer.{put_at}
+use Rattle.uefi_base.specs.LittleEndian.{u16_bytes}
+use Rattle.uefi_base.proofs.Parts.{put_next}
 use Rattle.uefi_base.specs.Unaligned.{unit_bytes}
 use Rattle.uefi_base.proofs.UnitsBack.{units_read_back}
 

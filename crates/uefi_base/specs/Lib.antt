@@ -1,3 +1,10 @@
+pub mod Prefix
+pub mod Flags
+pub mod LittleEndian
+pub mod Buffer
+pub mod Appending
+pub mod GuidText
+pub mod StatusCode
 pub mod Ucs2
 pub mod Faults
 pub mod Unaligned
@@ -6,9 +13,3 @@ pub mod Texts
 pub mod Laws
 pub mod rows
 pub mod private
-pub use Rattle.uefi_core.specs.Prefix
-pub use Rattle.uefi_core.specs.Flags
-pub use Rattle.uefi_core.specs.LittleEndian
-pub use Rattle.uefi_core.specs.Buffer
-pub use Rattle.uefi_core.specs.GuidText
-pub use Rattle.uefi_core.specs.StatusCode

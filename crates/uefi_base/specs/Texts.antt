@@ -1,12 +1,35 @@
--- What statuses and errors display as: those of the crate below, and those of texts.
+-- What statuses and errors display as.
 use Rattle.std.specs.Prelude.{ℕ, List, ◌++◌, codes, decimal}
+use Rattle.uefi_base.specs.declared.status.Status.{Status}
+use Rattle.uefi_base.specs.declared.status.Status.TheVariants.{INVALID_PARAMETER, BAD_BUFFER_SIZE, BUFFER_TOO_SMALL}
+use Rattle.uefi_base.specs.declared.status.Status.TheVariants.{OUT_OF_RESOURCES}
+use Rattle.uefi_base.specs.declared.status.Error.{Error}
+use Rattle.uefi_base.specs.Views.{error_status}
 use Rattle.uefi_base.specs.declared.text_error.FromSliceWithNulError.{FromSliceWithNulError}
-use Rattle.uefi_base.specs.declared.text_error.FromSliceWithNulError.TheVariants.{TooLong, InvalidChar, InteriorNul, NotNulTerminated}
+use Rattle.uefi_base.specs.declared.text_error.FromSliceWithNulError.TheVariants.{TooLong, InvalidChar, InteriorNul}
+use Rattle.uefi_base.specs.declared.text_error.FromSliceWithNulError.TheVariants.{NotNulTerminated}
 use Rattle.uefi_base.specs.declared.text_error.FromStrError.{FromStrError}
-use Rattle.uefi_base.specs.declared.text_error.FromStrError.TheVariants.{TooLong as StrTooLong, InvalidChar as StrInvalidChar, InteriorNul as StrInteriorNul, Memory as StrMemory}
+use Rattle.uefi_base.specs.declared.text_error.FromStrError.TheVariants.{TooLong as StrTooLong}
+use Rattle.uefi_base.specs.declared.text_error.FromStrError.TheVariants.{InvalidChar as StrInvalidChar}
+use Rattle.uefi_base.specs.declared.text_error.FromStrError.TheVariants.{InteriorNul as StrInteriorNul}
+use Rattle.uefi_base.specs.declared.text_error.FromStrError.TheVariants.{Memory as StrMemory}
 use Rattle.uefi_base.specs.declared.text_error.UnalignedCStr16Error.{UnalignedCStr16Error}
-use Rattle.uefi_base.specs.declared.text_error.UnalignedCStr16Error.TheVariants.{TooLong as UnalignedTooLong, InvalidChar as UnalignedInvalidChar, InteriorNul as UnalignedInteriorNul, NotNulTerminated as UnalignedNotNulTerminated, Memory as UnalignedMemory}
-pub use Rattle.uefi_core.specs.Texts.{status_name, error_text}
+use Rattle.uefi_base.specs.declared.text_error.UnalignedCStr16Error.TheVariants.{TooLong as UnalignedTooLong}
+use Rattle.uefi_base.specs.declared.text_error.UnalignedCStr16Error.TheVariants.{InvalidChar as UnalignedInvalidChar}
+use Rattle.uefi_base.specs.declared.text_error.UnalignedCStr16Error.TheVariants.{InteriorNul as UnalignedInteriorNul}
+use Rattle.uefi_base.specs.declared.text_error.UnalignedCStr16Error.TheVariants.{NotNulTerminated as UnalignedNotNulTerminated}
+use Rattle.uefi_base.specs.declared.text_error.UnalignedCStr16Error.TheVariants.{Memory as UnalignedMemory}
+
+-- A status: its name in the standard.
+abbrev pub status_name : Status → List ℕ
+status_name INVALID_PARAMETER = codes "INVALID_PARAMETER"
+status_name BAD_BUFFER_SIZE = codes "BAD_BUFFER_SIZE"
+status_name BUFFER_TOO_SMALL = codes "BUFFER_TOO_SMALL"
+status_name OUT_OF_RESOURCES = codes "OUT_OF_RESOURCES"
+
+-- An error: its status, whatever its data is.
+abbrev pub error_text : {D : Type 0} → Error D → List ℕ
+error_text error = codes "UEFI error " ++ status_name (error_status error)
 
 -- The errors of units and of characters.
 abbrev pub slice_error_text : FromSliceWithNulError → List ℕ

@@ -1,7 +1,7 @@
 -- Units of 16 bits in bytes, little-endian (UEFI 2.10, 2.3.1 "Data Types", CHAR16).
 use Rattle.std.specs.Prelude.{ℕ, ◌+◌, ◌*◌, ◌^◌, ◌<◌, List, [], ◌∷◌, slice_index}
 use Rattle.std.specs.List.{flat_map}
-use Rattle.uefi_core.specs.LittleEndian.{u16_bytes}
+use Rattle.uefi_base.specs.LittleEndian.{u16_bytes}
 
 -- The units in bytes; a last byte that is left over belongs to none.
 abbrev pub units_of : List ℕ → List ℕ

@@ -1,11 +1,19 @@
 -- What contracts see of texts, slices of units, their iterator and errors.
+use Rattle.uefi_base.specs.declared.status.Status.{Status}
+use Rattle.uefi_base.specs.declared.status.Error.{Error}
 use Rattle.std.specs.Prelude.{ℕ, List}
 use Rattle.uefi_base.specs.declared.cstr16.CStr16.{CStr16}
 use Rattle.uefi_base.specs.declared.cstring16.CString16.{CString16}
 use Rattle.uefi_base.specs.declared.unaligned.UnalignedSlice.{UnalignedSlice}
 use Rattle.uefi_base.specs.declared.unaligned.UnalignedSliceIter.{UnalignedSliceIter}
 use Rattle.uefi_base.specs.Unaligned.{units_of}
-pub use Rattle.uefi_core.specs.Views.{error_status, error_data}
+
+-- The status and the data of an error.
+abbrev pub error_status : {D : Type 0} → Error D → Status
+error_status error = error.status
+
+abbrev pub error_data : {D : Type 0} → Error D → D
+error_data error = error.«data»
 
 -- The units of the text, including the NUL.
 abbrev pub text_units : CStr16 → List ℕ

@@ -1,7 +1,7 @@
 ghost use Rattle.std.specs.Prelude.{◌≡◌};
-ghost use Rattle.uefi_core.specs.declared.guid.Guid.{Guid};
+ghost use Rattle.uefi_base.specs.declared.guid.Guid.{Guid};
 
-use uefi_core::Guid;
+use crate::Guid;
 
 /// A type that a GUID identifies, such as a file information record.
 ///

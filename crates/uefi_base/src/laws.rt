@@ -1,10 +1,14 @@
 //! Laws of the definitions. Each function states a law that holds for all values, and does nothing
 //! when it runs.
 
-ghost use Rattle.uefi_base.specs.Laws.{UnitsReadBack, UnitsByPlace};
+ghost use Rattle.uefi_base.specs.Laws.{NumbersReadBack, UnitsReadBack, UnitsByPlace};
 ghost use Rattle.uefi_base.specs.rows.Values.{RowsHold};
 
-pub use uefi_core::laws::numbers_read_back;
+/// States that a number reads back from the offset at which its bytes were written, whatever comes
+/// before and after them; and the bytes of a number that was read are the bytes at its offset.
+pub fn numbers_read_back()
+    ensures { NumbersReadBack }
+{}
 
 /// Units and their bytes determine each other: the units of the bytes of some units are those
 /// units, and the bytes of the units of an even number of bytes are those bytes. A unit has two

@@ -10,18 +10,24 @@
 //! `specs/Faults.antt` says which error is returned when.
 #![tactic(auto)]
 
+pub use self::align::Align;
 pub use self::cstr16::CStr16;
 pub use self::cstring16::CString16;
+pub use self::guid::Guid;
 pub use self::identify::{IdentifiedBy, Identify};
+pub use self::status::{Error, Status};
 pub use self::text_error::{FromSliceWithNulError, FromStrError, UnalignedCStr16Error};
 pub use self::unaligned::{UnalignedSlice, UnalignedSliceIter};
-pub use uefi_core::{Align, Error, Guid, Status, little_endian};
 
+mod align;
 pub mod buffer;
 mod cstr16;
 mod cstring16;
+mod guid;
 mod identify;
 pub mod laws;
+pub mod little_endian;
+mod status;
 mod text_error;
 mod ucs2;
 mod unaligned;

@@ -13,7 +13,7 @@ use crate::text_error::{FromSliceWithNulError, UnalignedCStr16Error};
 use crate::ucs2::{fault_of, is_character};
 use std::alloc::Allocator;
 use std::iter::{ExactSizeIterator, FusedIterator};
-use uefi_core::little_endian::u16_at;
+use crate::little_endian::u16_at;
 
 /// A slice of 16-bit units (UEFI 2.10, 2.3.1, `CHAR16`) in bytes, which may start at any address.
 ///

@@ -3,8 +3,8 @@ use Rattle.std.proofs.Common.{◌≡◌, ℕ, suc, ◌+◌, ◌-◌, ◌<◌, �
 use Rattle.std.proofs.Common.{sym, ap, ◌∙◌, append_assoc, arith}
 use Rattle.std.specs.Prelude.{nat_lt, if◌then◌else◌}
 use Rattle.std.proofs.lemmas.List.{append-nil, map-append}
-use Rattle.memory_maps.specs.declared.memory.descriptor.MemoryDescriptor.{MemoryDescriptor}
-use Rattle.memory_maps.specs.declared.memory.meta.MemoryMapMeta.{MemoryMapMeta}
+use Rattle.uefi_map.specs.declared.memory.descriptor.MemoryDescriptor.{MemoryDescriptor}
+use Rattle.uefi_map.specs.declared.memory.meta.MemoryMapMeta.{MemoryMapMeta}
 use Rattle.uefi_map.specs.memory.Descriptor.{descriptor}
 use Rattle.uefi_map.specs.memory.Map.{descriptors_from, entries_of, entry_of, count_of}
 use Rattle.uefi_c.specs.declared.map.UefiDescriptor.{UefiDescriptor}

@@ -4,7 +4,7 @@ use Rattle.std.proofs.Common.{drop, Option, Some, None, refl, sym, ap, subst, �
 use Rattle.std.specs.List.{position_from}
 use Rattle.std.specs.Prelude.{nat_le, unwrap_or, if◌then◌else◌, ◌==◌}
 use Rattle.std.proofs.lemmas.List.{take-take, drop-take, length-take, length-take-le, length-drop}
-use Rattle.uefi_core.specs.declared.status.Error.{Error}
+use Rattle.uefi_base.specs.declared.status.Error.{Error}
 use Rattle.uefi_base.specs.Unaligned.{units_of}
 use Rattle.uefi_base.specs.Views.{error_data}
 use Rattle.uefi_base.proofs.UnitsOfBytes.{half_as_many_units, units_by_place}

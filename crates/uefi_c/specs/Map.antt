@@ -1,7 +1,7 @@
 -- Memory maps (UEFI 2.10, 7.2) that are all the bytes, and descriptors of plain numbers.
 use Rattle.std.specs.Prelude.{ℕ}
-use Rattle.memory_maps.specs.declared.memory.descriptor.MemoryDescriptor.{MemoryDescriptor}
-use Rattle.memory_maps.specs.declared.memory.meta.MemoryMapMeta.{MemoryMapMeta}
+use Rattle.uefi_map.specs.declared.memory.descriptor.MemoryDescriptor.{MemoryDescriptor}
+use Rattle.uefi_map.specs.declared.memory.meta.MemoryMapMeta.{MemoryMapMeta}
 use Rattle.uefi_c.specs.declared.map.UefiDescriptor.{UefiDescriptor}
 
 -- The sizes of a map with this length and stride. Its key has no meaning here.

@@ -1,7 +1,7 @@
 -- Resources of PCI root bridges (ACPI 6.5, 6.4.3.5.1), as a cursor over a list gives them.
 use Rattle.std.specs.Prelude.{ℕ, ◌≡◌, ◌≤◌, List, length}
-use Rattle.memory_maps.specs.declared.pci.resource.QwordAddressSpaceDescriptor.{QwordAddressSpaceDescriptor}
-use Rattle.memory_maps.specs.declared.pci.resource_error.ResourceError.TheVariants.{NoEndTag, CutRecord, UnknownTag}
+use Rattle.uefi_map.specs.declared.pci.resource.QwordAddressSpaceDescriptor.{QwordAddressSpaceDescriptor}
+use Rattle.uefi_map.specs.declared.pci.resource_error.ResourceError.TheVariants.{NoEndTag, CutRecord, UnknownTag}
 use Rattle.uefi_map.specs.pci.Resource.{range_type, resource_given, record_tag, record_length}
 use Rattle.uefi_map.specs.pci.ResourceList.{BeginWith, IsFaultOf, end_tag}
 use Rattle.uefi_c.specs.declared.pci.UefiResource.{UefiResource}

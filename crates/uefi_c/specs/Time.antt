@@ -1,6 +1,6 @@
 -- Times (UEFI 2.10, 8.3 "GetTime()", EFI_TIME) of plain numbers.
 use Rattle.std.specs.Prelude.{ℕ, ◌≡◌, ◌≢◌, List}
-use Rattle.file_records.specs.declared.time.error.TimeError.{TimeError}
+use Rattle.uefi_records.specs.declared.time.error.TimeError.{TimeError}
 use Rattle.uefi_records.specs.time.Faults.{reading_faults, no_fault}
 use Rattle.uefi_records.specs.time.Fields.{TimeFields, StandsIn, time_given, without_pads}
 use Rattle.uefi_c.specs.declared.time.UefiTime.{UefiTime}

@@ -93,7 +93,7 @@ fn step_at(rest: &[u8]) -> u32
 }
 
 /// Returns the resource in the bytes of a record.
-#[tactic(auto, unfolding(memory_maps::specs::pci::Resource::resource_in))]
+#[tactic(auto, unfolding(uefi_map::specs::pci::Resource::resource_in))]
 fn resource_in(bytes: &[u8]) -> UefiResource
     requires { record_length ≤ length bytes.now }
     ensures { resource_seen result ≡ resource_in bytes.now }

@@ -2,8 +2,8 @@
 use Rattle.std.proofs.Common.{◌≡◌, ◌∙◌, ℕ, List, length, take, refl, sym, subst}
 use Rattle.std.specs.Prelude.{Option, None, Some, Result, Ok, Err, IfOk, IfSome, IsSome}
 use Rattle.std.specs.Result.{result_ok}
-use Rattle.uefi_core.specs.declared.status.Error.{Error}
-use Rattle.uefi_core.specs.declared.status.Status.{Status}
+use Rattle.uefi_base.specs.declared.status.Error.{Error}
+use Rattle.uefi_base.specs.declared.status.Status.{Status}
 use Rattle.uefi_base.specs.Views.{error_status, error_data}
 use Rattle.uefi_records.specs.Laws.{WrittenAlone}
 use Rattle.uefi_records.specs.file.Verdict.{Verdict, FollowsVerdict, Refuses, accepted}

@@ -4,8 +4,8 @@ use Rattle.std.specs.Vec.{with_items}
 use Rattle.std.proofs.Common.{sym, ◌∙◌, ap}
 use Rattle.std.proofs.lemmas.List.{with_items_is}
 use Rattle.uefi_examples.specs.declared.full_map.FullMap.{FullMap}
-use Rattle.memory_maps.specs.declared.memory.meta.MemoryMapKey.{MemoryMapKey}
-use Rattle.memory_maps.specs.declared.memory.meta.MemoryMapMeta.{MemoryMapMeta}
+use Rattle.uefi_map.specs.declared.memory.meta.MemoryMapKey.{MemoryMapKey}
+use Rattle.uefi_map.specs.declared.memory.meta.MemoryMapMeta.{MemoryMapMeta}
 
 abbrev pub full_bytes : FullMap → List ℕ
 full_bytes map = map.buffer.items

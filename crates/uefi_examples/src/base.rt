@@ -1,6 +1,6 @@
 ghost use Rattle.std.specs.Prelude.{◌≡◌, ◌↔◌, ◌==◌, ◌+◌, ◌*◌, ◌%◌, ◌<◌, ◌≤◌, length, encode_utf8_all, string_bytes, filter, not, IsTrue, IsNone, IsSome, IfOk, IfSome, SomeIff};
 ghost use Rattle.std.specs.Str.{chars};
-ghost use Rattle.uefi_core.specs.declared.status.Status.TheVariants.{BUFFER_TOO_SMALL};
+ghost use Rattle.uefi_base.specs.declared.status.Status.TheVariants.{BUFFER_TOO_SMALL};
 ghost use Rattle.uefi_base.specs.declared.text_error.FromSliceWithNulError.{FromSliceWithNulError};
 ghost use Rattle.uefi_base.specs.Ucs2.{IsUcs2Text, MakeUcs2Text, characters_of};
 ghost use Rattle.uefi_base.specs.Faults.{HasFault};

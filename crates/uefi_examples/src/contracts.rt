@@ -3,6 +3,9 @@
 //! a program calls them over a file.
 
 pub mod calls;
+pub mod register;
+
+pub mod calls;
 pub mod configuration;
 pub mod file;
 pub mod map;

@@ -1,5 +1,5 @@
 ghost use Rattle.std.specs.Prelude.{◌≡◌, ◌≢◌, ◌↔◌, ◌^◌, ◌<◌, List, length, sum_by, IsTrue, IsNone, IsSome, IfOk, IfErr, IfSome};
-ghost use Rattle.memory_maps.specs.declared.pci.resource.QwordAddressSpaceDescriptor.{QwordAddressSpaceDescriptor};
+ghost use Rattle.uefi_map.specs.declared.pci.resource.QwordAddressSpaceDescriptor.{QwordAddressSpaceDescriptor};
 ghost use Rattle.uefi_map.specs.pci.ResourceList.{HaveList, HaveFault, HaveSomeList};
 ghost use Rattle.uefi_map.specs.pci.Views.{resources_left};
 

@@ -13,7 +13,7 @@ use uefi_records::laws::{one_time, times_read_back};
 use uefi_records::{Daylight, FileAttribute, Time, TimeByteConversionError, TimeError, TimeParams};
 
 /// Writes a time and reads it again: the same time, with zeros in its padding.
-#[tactic(auto, unfolding(file_records::specs::time::Fields::time_bytes))]
+#[tactic(auto, unfolding(uefi_records::specs::time::Fields::time_bytes))]
 pub fn read_back(time: &Time) -> Result<Time, TimeByteConversionError>
     ensures same { IfOk result (λ again. time_of again ≡ without_pads (time_of time.now)) }
     ensures refused { IfErr result (RefusesTime (time_bytes (time_of time.now))) }

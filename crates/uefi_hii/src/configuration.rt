@@ -5,7 +5,7 @@ use crate::error::{ConfigHdrSection, ParseError};
 use crate::peeked::PeekedPairs;
 use crate::reading::read_group;
 use std::alloc::{Allocator, Global};
-use uefi_core::Guid;
+use uefi_base::Guid;
 use uefi_path::BoxedDevicePath;
 
 /// An element of a configuration: a part of its block of bytes (UEFI 2.10, 35.2.1 "String Syntax").

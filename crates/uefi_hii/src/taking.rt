@@ -11,7 +11,7 @@ use crate::filling::hex_bytes;
 use crate::keys;
 use crate::peeked::PeekedPairs;
 use std::alloc::{AllocError, Allocator};
-use uefi_core::Guid;
+use uefi_base::Guid;
 use uefi_path::BoxedDevicePath;
 
 /// An identifier is below it: the low 16 bits of a number are kept.

@@ -8,7 +8,7 @@ use crate::configuration::ConfigurationString;
 use crate::filling::hex_bytes;
 use crate::hex::HexBytes;
 use std::alloc::{AllocError, Allocator};
-use uefi_core::Guid;
+use uefi_base::Guid;
 
 /// The bytes of a GUID.
 const GUID_LENGTH: usize = 16;

@@ -1,1 +1,9 @@
+pub mod Appending
+pub mod ConfigLines
+pub mod Digits
+pub mod Headers
+pub mod HexBlocks
+pub mod HexNumbers
+pub mod InfoLines
+pub mod Refusals
 pub mod Sending

@@ -1,3 +1,13 @@
+pub mod Arguments
+pub mod Appending
+pub mod HexText
+pub mod Path
+pub mod Map
+pub mod Pci
+pub mod Time
+pub mod Info
+pub mod Log1
+pub mod Log2
+pub mod Config
 pub mod Listing
 pub mod Running
-pub use Rattle.listing_words.specs.Words

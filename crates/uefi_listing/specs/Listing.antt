@@ -1,25 +1,17 @@
--- The listing that a command makes of bytes. What each command lists and refuses stands in a file of its own, in the crate of its lines.
-pub use Rattle.machine_lines.specs.listing.Path
-pub use Rattle.tcg_lines.specs.listing.Log1
-pub use Rattle.tcg_lines.specs.listing.Log2
-pub use Rattle.config_lines.specs.listing.Config
-pub use Rattle.machine_lines.specs.listing.Map
-pub use Rattle.machine_lines.specs.listing.Pci
-pub use Rattle.uefi_lines.specs.listing.Time
-pub use Rattle.uefi_lines.specs.listing.Info
+-- The listing that a command makes of bytes. What each command lists and refuses stands in a file of its own.
 use Rattle.std.specs.Prelude.{ℕ, List}
-use Rattle.tcg_logs.specs.v2.Header.{after_header, after_event}
-use Rattle.listing_words.specs.declared.command.Command.{Command}
-use Rattle.listing_words.specs.declared.command.Command.TheVariants as command
-use Rattle.listing_words.specs.declared.outcome.Outcome.{Outcome}
-use Rattle.machine_lines.specs.listing.Path.{PathListing}
-use Rattle.tcg_lines.specs.listing.Log1.{Log1Listing}
-use Rattle.tcg_lines.specs.listing.Log2.{Log2Listing}
-use Rattle.config_lines.specs.listing.Config.{ConfigListing}
-use Rattle.machine_lines.specs.listing.Map.{MapListing}
-use Rattle.machine_lines.specs.listing.Pci.{PciListing}
-use Rattle.uefi_lines.specs.listing.Time.{TimeListing}
-use Rattle.uefi_lines.specs.listing.Info.{InfoListing}
+use Rattle.uefi_tcg.specs.v2.Header.{after_header, after_event}
+use Rattle.uefi_listing.specs.declared.command.Command.{Command}
+use Rattle.uefi_listing.specs.declared.command.Command.TheVariants as command
+use Rattle.uefi_listing.specs.declared.listing.Outcome.{Outcome}
+use Rattle.uefi_listing.specs.Path.{PathListing}
+use Rattle.uefi_listing.specs.Log1.{Log1Listing}
+use Rattle.uefi_listing.specs.Log2.{Log2Listing}
+use Rattle.uefi_listing.specs.Config.{ConfigListing}
+use Rattle.uefi_listing.specs.Map.{MapListing}
+use Rattle.uefi_listing.specs.Pci.{PciListing}
+use Rattle.uefi_listing.specs.Time.{TimeListing}
+use Rattle.uefi_listing.specs.Info.{InfoListing}
 
 -- The text and the outcome are those of the command over the bytes.
 unfoldable pub Listing : Command → List ℕ → List ℕ → Outcome → Type 0

@@ -1,8 +1,8 @@
 -- What a run does to a writer whose bytes are known.
 use Rattle.std.specs.Prelude.{ℕ, ◌<◌, List, length, take, Option}
 use Rattle.std.specs.Io.KnownBytes.{Appends, Keeps}
-use Rattle.listing_words.specs.declared.command.Command.{Command}
-use Rattle.listing_words.specs.declared.outcome.Outcome.{Outcome}
+use Rattle.uefi_listing.specs.declared.command.Command.{Command}
+use Rattle.uefi_listing.specs.declared.listing.Outcome.{Outcome}
 use Rattle.uefi_listing.specs.declared.run.RunError.{RunError}
 use Rattle.uefi_listing.specs.declared.run.RunError.TheVariants.{Memory, Output}
 use Rattle.uefi_listing.specs.Listing.{Listing}

@@ -1,15 +1,26 @@
 //! The listings of the program `uefi_list`, over bytes in memory and any writer.
 //!
-//! [`command`] judges the words of the command line; it is that of the crate `listing_words`, which
-//! stands below. [`listing`](mod@listing) makes the listing of bytes in memory, by the function for
-//! the command, which stands in the library of its lines: `machine_lines`, `uefi_lines`, `tcg_lines`
-//! or `config_lines`. [`run`](mod@run) writes a listing.
+//! [`command`] judges the words of the command line. [`listing`](mod@listing) makes the listing of
+//! bytes in memory, and [`run`](mod@run) writes it.
+//!
+//! Each command has a module of its name: it appends the lines of what a reader returned to a text
+//! ([`path::push_path`], [`log1::push_log`]), and names the errors that bytes are refused with.
+//! `log2after` stands beside `log2`. A failed allocation is the only error of these calls.
+//! [`hex_text`] displays bytes and numbers for all of them.
 //!
 //! The contracts say which words ask for what, what is listed and refused, in which lines, and what
-//! a writer was given in each outcome (`specs/`).
+//! a writer was given in each outcome (`specs/`, a file for each command).
 #![tactic(auto)]
 
-pub use listing_words::command;
-
+pub mod command;
+pub mod config;
+pub mod hex_text;
+pub mod info;
 pub mod listing;
+pub mod log1;
+pub mod log2;
+pub mod map;
+pub mod path;
+pub mod pci;
 pub mod run;
+pub mod time;

@@ -1,15 +1,29 @@
+//! The listing of a command over bytes in memory.
+
 ghost use Rattle.std.specs.Prelude.{IfOk};
-ghost use Rattle.listing_words.specs.Appending.{AppendsListing};
+ghost use Rattle.uefi_listing.specs.Appending.{AppendsListing};
 ghost use Rattle.uefi_listing.specs.Listing.{Listing};
 
-use config_lines::listing::push_config_listing;
-use listing_words::command::Command;
-pub use listing_words::outcome::Outcome;
-use machine_lines::listing::{push_map_listing, push_path_listing, push_pci_listing};
+use crate::command::Command;
+use crate::config::push_config_listing;
+use crate::info::push_info_listing;
+use crate::log1::push_log1_listing;
+use crate::log2::push_log2_listing;
+use crate::map::push_map_listing;
+use crate::path::push_path_listing;
+use crate::pci::push_pci_listing;
+use crate::time::push_time_listing;
 use std::alloc::{AllocError, Allocator};
-use tcg_lines::listing::{push_log1_listing, push_log2_listing};
-use tcg_logs::v2::Start;
-use uefi_lines::listing::{push_info_listing, push_time_listing};
+use uefi_tcg::v2::Start;
+
+/// Whether the bytes were what the command lists.
+#[derive(Clone, Copy, PartialEq, Eq, Debug)]
+pub enum Outcome {
+    /// The listing has what the bytes hold.
+    Listed,
+    /// The listing is one line, which names the error that the bytes were refused with.
+    Refused,
+}
 
 /// Makes the listing of the bytes in memory, and returns it with whether they were refused.
 ///

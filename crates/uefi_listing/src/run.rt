@@ -3,7 +3,7 @@ ghost use Rattle.uefi_listing.specs.declared.run.RunError.TheVariants.{Memory};
 ghost use Rattle.uefi_listing.specs.Running.{WroteListing, StoppedAt};
 
 use crate::listing::{Outcome, listing};
-use listing_words::command::Command;
+use crate::command::Command;
 use std::alloc::{AllocError, Allocator};
 use std::io::Write;
 

@@ -1,5 +1,5 @@
+pub mod Strides
 pub mod Fields
 pub mod Parts
 pub mod StrideFree
 pub mod Refused
-pub mod WorkedRows

@@ -1,4 +1,4 @@
 pub mod memory
+pub mod pci
 pub mod rows
 pub mod private
-pub use Rattle.memory_maps.specs.pci

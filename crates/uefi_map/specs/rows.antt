@@ -1,3 +1,3 @@
 -- Worked rows: examples of the definitions.
 pub mod Maps
-pub use Rattle.memory_maps.specs.rows.Lists
+pub mod Lists

@@ -11,17 +11,15 @@
 //! The contracts state what each call returns and writes, for all inputs, and when each error
 //! comes, over the definitions in `specs/memory` and `specs/pci`; [`laws`] states what holds of all
 //! maps and lists.
-//!
-//! Maps that can be written, and [`parse`], are defined here. All else is defined in the crate
-//! `memory_maps`, and passed on.
 #![tactic(auto)]
 
-pub use self::memory::{MemoryMapMut, MemoryMapOwned, MemoryMapRefMut};
-pub use self::pci::parse;
-pub use memory_maps::{
+pub use self::memory::{
     MemoryAttribute, MemoryDescriptor, MemoryMap, MemoryMapError, MemoryMapIter, MemoryMapKey,
-    MemoryMapMeta, MemoryMapRef, MemoryType, QwordAddressSpaceDescriptor, ResourceError,
-    ResourceIter, ResourceList, ResourceRangeType,
+    MemoryMapMeta, MemoryMapMut, MemoryMapOwned, MemoryMapRef, MemoryMapRefMut, MemoryType,
+};
+pub use self::pci::{
+    QwordAddressSpaceDescriptor, ResourceError, ResourceIter, ResourceList, ResourceRangeType,
+    parse,
 };
 
 pub mod laws;

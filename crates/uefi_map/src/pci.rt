@@ -1,11 +1,23 @@
-//! Lists of PCI resources, collected.
+//! Lists of PCI resources (UEFI 2.10, 14.2): their records, the list that bytes begin with, and its
+//! resources in a vector.
 
 ghost use Rattle.std.specs.Prelude.{◌≢◌, IfOk, IfErr};
 ghost use Rattle.std.specs.Result.{IsErrOf};
-ghost use Rattle.memory_maps.specs.pci.ResourceList.{HaveSomeFault, HaveOneList, HaveOneFault};
+ghost use Rattle.uefi_map.specs.pci.ResourceList.{HaveSomeFault, HaveOneList, HaveOneFault};
 
-use memory_maps::{QwordAddressSpaceDescriptor, ResourceError, ResourceList};
+pub use self::resource::{QwordAddressSpaceDescriptor, ResourceRangeType};
+pub use self::resource_error::ResourceError;
+pub use self::resource_iter::ResourceIter;
+pub use self::resource_list::ResourceList;
 use std::alloc::Allocator;
+
+// A record.
+mod resource;
+
+// A list of records.
+mod resource_error;
+mod resource_iter;
+mod resource_list;
 
 /// Returns the resources of the list that the bytes begin with, in order: those of
 /// [`ResourceList::try_from`], in a vector.

@@ -6,10 +6,10 @@ use Rattle.std.proofs.lemmas.List.{drop-drop, length-append, length-take-le, tak
 use Rattle.std.specs.Int.{w16, from_le_bytes}
 use Rattle.std.proofs.Math.Seq.{drop-append_seam, take-append_seam, take-append-add}
 use Rattle.uefi_path.specs.Node.{encoding, HasNode}
-use Rattle.uefi_core.specs.LittleEndian.{u16_at, u16_bytes}
-use Rattle.uefi_core.specs.Prefix.{IsPrefix}
-use Rattle.uefi_core.proofs.NumbersBack.{two_bytes}
-use Rattle.uefi_core.proofs.Ranges.{items_from, drop-items_from}
+use Rattle.uefi_base.specs.LittleEndian.{u16_at, u16_bytes}
+use Rattle.uefi_base.specs.Prefix.{IsPrefix}
+use Rattle.uefi_base.proofs.NumbersBack.{two_bytes}
+use Rattle.uefi_base.proofs.Ranges.{items_from, drop-items_from}
 use Rattle.uefi_path.specs.declared.header.TheConstants.{LENGTH_OFFSET}
 use Rattle.uefi_path.specs.Header.{header, header_bytes, header_length}
 use Rattle.uefi_path.specs.private.OneNode.{stated_length}

@@ -1,7 +1,7 @@
 -- One step of the iterators.
 use Rattle.std.proofs.Common.{◌≡◌, ℕ, List, [], ◌∷◌, ◌++◌, length, refl, sym, ◌∙◌, ap, subst, append_assoc}
 use Rattle.std.proofs.lemmas.List.{append-nil, nil_from_length}
-use Rattle.uefi_core.specs.Prefix.{IsPrefix}
+use Rattle.uefi_base.specs.Prefix.{IsPrefix}
 use Rattle.uefi_path.specs.Node.{Node, Fits, encoding, joined, HasNode, IsEnd}
 use Rattle.uefi_path.specs.Path.{AreEndedBy, concat, all_but_last}
 use Rattle.uefi_path.specs.private.Encoding.{HasNodes}

@@ -1,7 +1,7 @@
 -- Headers of nodes (UEFI 2.10, 10.2 "EFI_DEVICE_PATH_PROTOCOL").
 use Rattle.std.specs.Prelude.{ℕ, ◌<◌, List, ◌∷◌, length, IfOk, OnErr, Result}
 use Rattle.std.specs.Int.{w16, to_le_bytes}
-use Rattle.uefi_core.specs.Prefix.{IsPrefix}
+use Rattle.uefi_base.specs.Prefix.{IsPrefix}
 
 -- The length of a header: a byte for the type, one for the subtype, and two for the length of the whole node.
 abbrev pub header_length : ℕ

@@ -1,7 +1,7 @@
 -- Laws of paths.
 use Rattle.std.specs.Prelude.{◌≡◌, ℕ, List, ◌++◌}
 use Rattle.uefi_path.specs.Node.{Node, joined}
-use Rattle.uefi_core.specs.Prefix.{IsPrefix}
+use Rattle.uefi_base.specs.Prefix.{IsPrefix}
 use Rattle.uefi_path.specs.Path.{IsPath}
 
 -- No path is a proper prefix of another: paths that start the same bytes are equal, and so are the bytes after them.

@@ -2,7 +2,7 @@
 use Rattle.std.specs.Prelude.{◌≡◌, ℕ, List, [], ◌∷◌}
 use Rattle.std.specs.List.{flat_map, AllByRecursion}
 use Rattle.uefi_path.specs.Node.{Node, Fits, joined, IsEnd, IsEndEntire}
-use Rattle.uefi_core.specs.Prefix.{IsPrefix}
+use Rattle.uefi_base.specs.Prefix.{IsPrefix}
 
 -- The last element of the list satisfies P, and no other does.
 abbrev pub LastAlone : {A : Type 0} → (A → Type 0) → List A → Type 0

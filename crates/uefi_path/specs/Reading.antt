@@ -1,7 +1,7 @@
 -- What the readers return.
 use Rattle.std.specs.Prelude.{◌≡◌, ℕ, List, IfOk, OnErr, Result}
 use Rattle.uefi_path.specs.Node.{Node, Fits, encoding, joined, HasNode}
-use Rattle.uefi_core.specs.Prefix.{IsPrefix}
+use Rattle.uefi_base.specs.Prefix.{IsPrefix}
 use Rattle.uefi_path.specs.Path.{IsPath, HasPath}
 
 -- At Ok, the only node that is a prefix of the bytes; at Err, no node is.

@@ -12,7 +12,7 @@ use crate::header::{
     DEVICE_TYPE_OFFSET, DevicePathHeader, HEADER_LENGTH, LENGTH_OFFSET, SUB_TYPE_OFFSET,
 };
 use std::fmt;
-use uefi_core::little_endian::u16_at;
+use uefi_base::little_endian::u16_at;
 
 /// One node of a device path (UEFI 2.10, 10.3.1): a type, a subtype and data.
 ///

@@ -1,5 +1,5 @@
 ghost use Rattle.std.specs.Prelude.{◌≡◌, ◌↔◌, ◌≤◌, ◌++◌, length, drop, IsTrue, IfOk, OnErr};
-ghost use Rattle.uefi_core.specs.Prefix.{IsPrefix};
+ghost use Rattle.uefi_base.specs.Prefix.{IsPrefix};
 ghost use Rattle.uefi_path.specs.Node.{Node, Fits, encoding, HasNode};
 ghost use Rattle.uefi_path.specs.private.Stop.{StatesLength};
 ghost use Rattle.uefi_path.specs.private.Encoding.{HasNodes};
@@ -11,7 +11,7 @@ use crate::device_type::DeviceType;
 use crate::error::ByteConversionError;
 use crate::header::{DEVICE_TYPE_OFFSET, HEADER_LENGTH, LENGTH_OFFSET};
 use crate::node::DevicePathNode;
-use uefi_core::little_endian::u16_at;
+use uefi_base::little_endian::u16_at;
 
 /// The type END and the subtype END_ENTIRE, as the number that stands in their two bytes.
 const END_ENTIRE_NUMBER: u16 = 0xff7f;

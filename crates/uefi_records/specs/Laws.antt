@@ -1,11 +1,34 @@
 -- Laws of times and of records.
-use Rattle.std.specs.Prelude.{◌≡◌, ℕ, ◌^◌, ◌<◌, ◌≤◌, List, ◌++◌, length, take}
-use Rattle.file_records.specs.file.Name.{FitName, record_end}
-use Rattle.file_records.specs.file.Verdict.{accepted, verdict}
-use Rattle.file_records.specs.file.FileInfo.{FileFields, FitFile, file_fields, file_info_bytes, file_info_size, file_info_verdict, file_name_offset, size_in}
-use Rattle.uefi_records.specs.file.FileSystemInfo.{FileSystemFields, FitFileSystem, file_system_fields, file_system_info_bytes, file_system_info_size, file_system_info_verdict, label_offset, lone_label_offset, volume_label_bytes, volume_label_size, volume_label_verdict}
--- Those of times, and of equal file information records.
-pub use Rattle.file_records.specs.Laws.{OneTime, TimesReadBack, EqualFiles}
+use Rattle.std.specs.Prelude.{◌≡◌, ◌↔◌, ℕ, ◌≤◌, List, ◌++◌, length, ◌^◌, ◌<◌, take}
+use Rattle.uefi_base.specs.LittleEndian.{AreBytes}
+use Rattle.uefi_records.specs.declared.file.file_info.FileInfo.{FileInfo}
+use Rattle.uefi_records.specs.time.Fields.{TimeFields, Fits, StandsIn, time_bytes, time_in, time_length}
+use Rattle.uefi_records.specs.file.Views.{stated_size, file_fields_of, file_name_of, file_info_key}
+use Rattle.uefi_records.specs.file.Name.{FitName, record_end}
+use Rattle.uefi_records.specs.file.Verdict.{accepted, verdict}
+use Rattle.uefi_records.specs.file.FileInfo.{FileFields, FitFile, file_fields, file_info_bytes, file_info_size}
+use Rattle.uefi_records.specs.file.FileInfo.{file_info_verdict, file_name_offset, size_in}
+use Rattle.uefi_records.specs.file.FileSystemInfo.{FileSystemFields, FitFileSystem, file_system_fields}
+use Rattle.uefi_records.specs.file.FileSystemInfo.{file_system_info_bytes, file_system_info_size}
+use Rattle.uefi_records.specs.file.FileSystemInfo.{file_system_info_verdict, label_offset, lone_label_offset}
+use Rattle.uefi_records.specs.file.FileSystemInfo.{volume_label_bytes, volume_label_size, volume_label_verdict}
+
+-- At most one time stands in bytes.
+abbrev pub OneTime : Type 0
+OneTime = (one other : TimeFields) (bytes : List ℕ) → StandsIn one bytes → StandsIn other bytes → one ≡ other
+
+-- Times and their bytes determine each other: a time reads back from its bytes, and sixteen bytes are those of the
+-- time that is read from them.
+pub record TimesReadBack : Type 0 where
+  pub written : (time : TimeFields) (rest : List ℕ) → Fits time → time_in (time_bytes time ++ rest) ≡ time
+  pub read : (bytes : List ℕ) → AreBytes bytes → time_length ≤ length bytes → StandsIn (time_in bytes) bytes
+
+-- File information records are equal exactly if their accessors return the same: the stated size, the fields and
+-- the name.
+pub record EqualFiles : Type 0 where
+  pub keys : (one other : FileInfo) → (file_info_key one ≡ file_info_key other)
+      ↔ ((stated_size one ≡ stated_size other) × (file_fields_of one ≡ file_fields_of other)
+      × (file_name_of one ≡ file_name_of other))
 
 -- A record that was written reads back: for every number of written bytes that covers its name, in every buffer
 -- that it fits, whatever the buffer holds after it.

@@ -1,5 +1,6 @@
-pub use Rattle.file_records.specs.time
-pub use Rattle.file_records.specs.flags
+pub mod time
+pub mod flags
 pub mod file
 pub mod Laws
 pub mod rows
+pub mod private

@@ -1,15 +1,27 @@
-//! The records that describe file systems: views that are read from bytes or written to them.
+//! The records that describe files and file systems: views that are read from bytes or written to
+//! them.
 
+pub use self::creation_error::FileInfoCreationError;
+pub use self::file_info::FileInfo;
 pub use self::file_system_info::FileSystemInfo;
 pub use self::file_system_volume_label::FileSystemVolumeLabel;
-pub use self::write::{write_file_system_info, write_file_system_volume_label};
+pub use self::first_zero::first_zero_unit;
+pub use self::protocol_info::FileProtocolInfo;
+pub use self::write::{write_file_info, write_file_system_info, write_file_system_volume_label};
 
-// Both records.
+// The three records.
+mod file_info;
 mod file_system_info;
 mod file_system_volume_label;
 
-// Their GUIDs.
+// What they share, and their GUIDs.
+mod first_zero;
 mod identity;
+mod name;
 
 // Their writers.
 mod write;
+
+// The error of a writer, and the trait of all records.
+mod creation_error;
+mod protocol_info;

@@ -1,9 +1,23 @@
 //! Laws of the definitions. Each holds for all their values, and costs nothing when it runs.
 
-ghost use Rattle.uefi_records.specs.Laws.{ReadsBack, WrittenAlone};
+ghost use Rattle.uefi_records.specs.Laws.{OneTime, TimesReadBack, EqualFiles, ReadsBack, WrittenAlone};
 ghost use Rattle.uefi_records.specs.rows.Records.{RowsHold};
 
-pub use file_records::laws::{equal_files, one_time, times_read_back};
+/// States that at most one time stands in bytes: sixteen bytes determine all its fields.
+pub fn one_time()
+    ensures { OneTime }
+{}
+
+/// Times and their bytes determine each other: a time reads back from its bytes, and sixteen bytes
+/// are those of the time that is read from them.
+pub fn times_read_back()
+    ensures { TimesReadBack }
+{}
+
+/// States that file information records are equal exactly if their accessors return the same.
+pub fn equal_files()
+    ensures { EqualFiles }
+{}
 
 /// States that a record that was written reads back, with the size, the fields and the name that
 /// were written: for every number of written bytes that covers its name, in every buffer that it

@@ -6,9 +6,6 @@
 //!   [`FileInfo::from_uefi`] to read one, and with [`FileInfo::new`] to write one.
 //! - [`Daylight`] and [`FileAttribute`]: sets of flags.
 //!
-//! Times, flags and [`FileInfo`] are those of the crate `file_records`, which stands below. The
-//! records of file systems are defined here.
-//!
 //! The contracts promise for all bytes: a reader returns the time or the record in them, or the
 //! error that they have; a writer changes the bytes of the record alone; what was written reads
 //! back ([`laws`]). Nothing here allocates memory. `specs/` has the definitions, in the order of
@@ -16,14 +13,19 @@
 #![tactic(auto)]
 
 pub use self::file::{
-    FileSystemInfo, FileSystemVolumeLabel, write_file_system_info, write_file_system_volume_label,
+    FileInfo, FileInfoCreationError, FileProtocolInfo, FileSystemInfo, FileSystemVolumeLabel,
+    first_zero_unit, write_file_info, write_file_system_info, write_file_system_volume_label,
 };
-pub use file_records::{
-    Daylight, FileAttribute, FileInfo, FileInfoCreationError, FileProtocolInfo, Time,
-    TimeByteConversionError, TimeError, TimeParams, first_zero_unit, write_file_info,
-};
+pub use self::flags::{Daylight, FileAttribute};
+pub use self::time::{Time, TimeByteConversionError, TimeError, TimeParams};
 
-// The records of file systems.
+// A time, its parts and its errors.
+mod time;
+
+// Sets of flags.
+mod flags;
+
+// The records.
 mod file;
 
 // What holds of times and of all records.

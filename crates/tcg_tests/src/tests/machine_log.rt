@@ -1,5 +1,5 @@
 use std::test::Fail;
-use tcg_examples::digest_logs::count_of_register;
+use uefi_examples::digest_logs::count_of_register;
 use test_support::samples::MACHINE_LOG;
 use test_support::{bytes, same};
 use uefi_tcg::PcrIndex;

@@ -1,13 +1,13 @@
 -- Worked rows: examples of the definitions.
 use Rattle.std.specs.Prelude.{ℕ, ◌≡◌, ◌+◌, ◌<◌, ◌^◌, [], ◌∷◌, ◌++◌, codes, replicate}
-use Rattle.uefi_core.specs.declared.status.Status.TheVariants.{BUFFER_TOO_SMALL}
+use Rattle.uefi_base.specs.declared.status.Status.TheVariants.{BUFFER_TOO_SMALL}
 use Rattle.uefi_base.specs.declared.text_error.FromSliceWithNulError.TheVariants.{TooLong, InvalidChar, InteriorNul, NotNulTerminated}
 use Rattle.uefi_base.specs.Ucs2.{IsUcs2Text, characters_of, MakeUcs2Text}
 use Rattle.uefi_base.specs.Unaligned.{units_of, unit_bytes}
 use Rattle.uefi_base.specs.Faults.{HasFault, AreTooMany, OffendsFirst}
-use Rattle.uefi_core.specs.LittleEndian.{u16_at, u32_at, u64_at}
-use Rattle.uefi_core.specs.GuidText.{guid_text}
-use Rattle.uefi_core.specs.StatusCode.{status_code}
+use Rattle.uefi_base.specs.LittleEndian.{u16_at, u32_at, u64_at}
+use Rattle.uefi_base.specs.GuidText.{guid_text}
+use Rattle.uefi_base.specs.StatusCode.{status_code}
 
 -- The text `ab`, and text without characters.
 pub record TextRows : Type 0 where

@@ -1,3 +1,7 @@
+use super::register::events_of_register;
+use std::rt::Files;
+use std::{fs, io};
+use uefi_tcg::PcrIndex;
 use super::configuration::first_value_at;
 use super::file::file_size_in;
 use super::map::region_at;
@@ -5,8 +9,23 @@ use super::path::goes_over_medium;
 use super::resources::is_decoded;
 use super::time::year_in;
 use std::fs;
-use std::rt::Files;
 use uefi_map::MemoryMapMeta;
+
+/// Prints the types of the events of a log that extended a register. The last event of the log may
+/// start anywhere, so every whole event counts.
+pub fn print_types<R: Files + Print + AllocGlobal>(
+    rt: &R,
+    file: &str,
+    register: u32,
+) -> io::Result<()> {
+    let bytes = fs::read(rt, file)?;
+    let register = PcrIndex(register);
+    let events = events_of_register(rt.alloc(), bytes.as_slice(), bytes.len(), register)?;
+    for event in events.iter() {
+        println!(rt; "{}", event.event_type().0)?;
+    }
+    Ok(())
+}
 
 /// Prints whether the device path in a file goes over a medium.
 pub fn print_medium<R: Files + Print + AllocGlobal>(rt: &R, file: &str) -> anyhow::Result<()> {

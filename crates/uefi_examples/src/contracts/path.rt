@@ -1,6 +1,6 @@
 ghost use Rattle.std.specs.Prelude.{◌≡◌, ◌↔◌, IfErr, IfOk, IsOk, IsTrue, List};
 ghost use Rattle.std.specs.List.{Any};
-ghost use Rattle.uefi_core.specs.Prefix.{IsPrefix};
+ghost use Rattle.uefi_base.specs.Prefix.{IsPrefix};
 ghost use Rattle.uefi_path.specs.Node.{Node, joined};
 ghost use Rattle.uefi_path.specs.Path.{HasPath, IsPath, all_but_last};
 

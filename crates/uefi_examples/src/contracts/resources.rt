@@ -1,6 +1,6 @@
 ghost use Rattle.std.specs.Prelude.{◌≢◌, ◌≤◌, ◌↔◌, IfErr, IfOk, IsErrOf, IsTrue, List};
 ghost use Rattle.std.specs.List.{Any};
-ghost use Rattle.memory_maps.specs.declared.pci.resource.QwordAddressSpaceDescriptor.{QwordAddressSpaceDescriptor};
+ghost use Rattle.uefi_map.specs.declared.pci.resource.QwordAddressSpaceDescriptor.{QwordAddressSpaceDescriptor};
 ghost use Rattle.uefi_map.specs.pci.ResourceList.{HaveFault, HaveList, HaveSomeFault};
 
 use std::alloc::Global;

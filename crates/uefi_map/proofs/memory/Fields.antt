@@ -1,7 +1,7 @@
 -- A descriptor and its forty bytes.
 use Rattle.std.proofs.Common.{◌≡◌, length, refl}
 use Rattle.std.proofs.lemmas.Nat.{from_le_bytes-to_le_bytes_4, from_le_bytes-to_le_bytes_8}
-use Rattle.memory_maps.specs.declared.memory.descriptor.MemoryDescriptor.{MemoryDescriptor}
+use Rattle.uefi_map.specs.declared.memory.descriptor.MemoryDescriptor.{MemoryDescriptor}
 use Rattle.uefi_map.specs.memory.Descriptor.{descriptor_length, descriptor_in, encoding, Fits}
 
 -- A descriptor is its fields.

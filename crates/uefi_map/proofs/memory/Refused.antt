@@ -13,12 +13,12 @@ use types.Kit.{‵, use0, ◌$◌, ◌∵◌, !, qed, fpack, fjoin, feq_i, each,
 use base.Stored.{coded_list}
 use denote.Builtin.{u8}
 use denote.Follow.{follows, follows_by, such_by}
-use Rattle.uefi_core.proofs.Sharing.{Ended}
+use Rattle.uefi_base.proofs.Sharing.{Ended}
 use Rattle.uefi_map.specs.memory.Map.{IsMap}
 use Rattle.uefi_map.specs.memory.Views.{mut_bytes, mut_meta, WritesTo}
-use Rattle.memory_maps.specs.declared.memory.meta.MemoryMapMeta.{MemoryMapMeta}
-use Rattle.memory_maps.specs.declared.memory.map_error.MemoryMapError.{MemoryMapError}
-use Rattle.memory_maps.specs.declared.memory.map_error.MemoryMapError.TheVariants.{InvalidSize}
+use Rattle.uefi_map.specs.declared.memory.meta.MemoryMapMeta.{MemoryMapMeta}
+use Rattle.uefi_map.specs.declared.memory.map_error.MemoryMapError.{MemoryMapError}
+use Rattle.uefi_map.specs.declared.memory.map_error.MemoryMapError.TheVariants.{InvalidSize}
 use Rattle.uefi_map.specs.declared.memory.map_ref_mut.MemoryMapRefMut.{MemoryMapRefMut}
 
 -- A test that holds is true.

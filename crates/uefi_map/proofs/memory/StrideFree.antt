@@ -8,9 +8,9 @@ use Rattle.uefi_map.specs.memory.Descriptor.{with_descriptor}
 use Rattle.uefi_map.specs.memory.Map.{count_of}
 use Rattle.uefi_map.specs.memory.Laws.{SameEntries, WritesOne}
 use Rattle.uefi_map.proofs.memory.Fields.{descriptor_in-encoding, length-encoding}
-use Rattle.uefi_core.proofs.Ranges.{range-same_prefix, range-same_rest}
+use Rattle.uefi_base.proofs.Ranges.{range-same_prefix, range-same_rest}
 use Rattle.uefi_map.proofs.memory.Parts.{before_part, behind_part, the_part, length-with_part}
-use Rattle.memory_maps.proofs.Strides.{ends_within, same_from}
+use Rattle.uefi_map.proofs.memory.Strides.{ends_within, same_from}
 
 pub same_entries : SameEntries
 same_entries one other meta same = same_from one other meta.desc_size 0 (count_of meta)

@@ -1,7 +1,7 @@
 -- Laws of memory maps.
 use Rattle.std.specs.Prelude.{ℕ, ◌≡◌, ◌<◌, List, length}
-use Rattle.memory_maps.specs.declared.memory.meta.MemoryMapMeta.{MemoryMapMeta}
-use Rattle.memory_maps.specs.declared.memory.descriptor.MemoryDescriptor.{MemoryDescriptor}
+use Rattle.uefi_map.specs.declared.memory.meta.MemoryMapMeta.{MemoryMapMeta}
+use Rattle.uefi_map.specs.declared.memory.descriptor.MemoryDescriptor.{MemoryDescriptor}
 use Rattle.uefi_map.specs.memory.Descriptor.{Fits, descriptor_bytes, with_descriptor}
 use Rattle.uefi_map.specs.memory.Map.{IsMap, SetsOnly, count_of, entries_of}
 

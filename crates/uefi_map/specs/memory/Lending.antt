@@ -1,7 +1,7 @@
 -- What a caller's buffer ends as, once it was lent to a map, and a map, once its buffer was lent.
 use Rattle.std.specs.Prelude.{ℕ, ◌≡◌, List, Result}
 use Rattle.std.specs.Borrow.{Lends, RestsIfErr, MutBor, Fml, Array, u8 as byte, RattleType}
-use Rattle.memory_maps.specs.declared.memory.map_error.MemoryMapError.{MemoryMapError}
+use Rattle.uefi_map.specs.declared.memory.map_error.MemoryMapError.{MemoryMapError}
 use Rattle.uefi_map.specs.declared.memory.map_ref_mut.MemoryMapRefMut.{MemoryMapRefMut}
 
 -- The map, of whatever type, ends with the last bytes that the reference lends in its buffer.

@@ -1,12 +1,35 @@
 -- What the values of maps stand for: words that contracts name them by.
-use Rattle.std.specs.Prelude.{ℕ, ◌≡◌, List, length}
+use Rattle.std.specs.Prelude.{ℕ, ◌/◌, List, length, ◌≡◌}
+use Rattle.uefi_map.specs.declared.memory.memory_attribute.MemoryAttribute.{MemoryAttribute}
+use Rattle.uefi_map.specs.declared.memory.meta.MemoryMapKey.{MemoryMapKey}
+use Rattle.uefi_map.specs.declared.memory.meta.MemoryMapMeta.{MemoryMapMeta}
+use Rattle.uefi_map.specs.declared.memory.descriptor.MemoryDescriptor.{MemoryDescriptor}
+use Rattle.uefi_map.specs.declared.memory.iter.MemoryMapIter.{MemoryMapIter}
+use Rattle.uefi_map.specs.declared.memory.map_ref.MemoryMapRef.{MemoryMapRef}
+use Rattle.uefi_map.specs.memory.Map.{descriptors_from, meta_within}
 use Rattle.std.specs.Borrow.{MutBor}
 use Rattle.std.specs.Vec.{with_items}
-use Rattle.memory_maps.specs.declared.memory.meta.MemoryMapMeta.{MemoryMapMeta}
 use Rattle.uefi_map.specs.declared.memory.map_ref_mut.MemoryMapRefMut.{MemoryMapRefMut}
 use Rattle.uefi_map.specs.declared.memory.map_owned.MemoryMapOwned.{MemoryMapOwned}
-use Rattle.uefi_map.specs.memory.Map.{meta_within}
-pub use Rattle.memory_maps.specs.memory.Views.{attribute_bits, key_number, entries_left, ref_bytes, ref_meta}
+
+-- The bits of a set, as a number.
+abbrev pub attribute_bits : MemoryAttribute → ℕ
+attribute_bits attribute = attribute.0
+
+-- The number of a key.
+abbrev pub key_number : MemoryMapKey → ℕ
+key_number key = key.0
+
+-- The descriptors that an iterator still has to give.
+abbrev pub entries_left : MemoryMapIter → List MemoryDescriptor
+entries_left iter = descriptors_from iter.rest.now iter.stride 0 (length iter.rest.now / iter.stride)
+
+-- The buffer and the sizes of a map over bytes that are read.
+abbrev pub ref_bytes : MemoryMapRef → List ℕ
+ref_bytes map = map.buffer.now
+
+abbrev pub ref_meta : MemoryMapRef → MemoryMapMeta
+ref_meta map = map.meta
 
 -- The buffer and the sizes of a map over bytes that can be written.
 abbrev pub mut_bytes : MemoryMapRefMut → List ℕ

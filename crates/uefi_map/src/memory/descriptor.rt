@@ -1,11 +1,91 @@
-ghost use Rattle.std.specs.Prelude.{◌≡◌, length};
-ghost use Rattle.uefi_map.specs.memory.Descriptor.{Fits, encoding};
+ghost use Rattle.std.specs.Prelude.{◌≡◌, ◌≤◌, length};
+ghost use Rattle.uefi_map.specs.memory.Descriptor.{descriptor_in, Fits, encoding};
 
-use memory_maps::MemoryDescriptor;
-use memory_maps::layout::{
-    ATTRIBUTE_OFFSET, DESCRIPTOR_LENGTH, PADDING_OFFSET, PAGE_COUNT_OFFSET, PHYS_START_OFFSET,
-    VIRT_START_OFFSET,
+use super::layout::{
+    ATTRIBUTE_OFFSET, DESCRIPTOR_ALIGNMENT, DESCRIPTOR_LENGTH, PADDING_OFFSET, PAGE_COUNT_OFFSET,
+    PHYS_START_OFFSET, TYPE_OFFSET, VIRT_START_OFFSET,
 };
+use super::memory_attribute::MemoryAttribute;
+use super::memory_type::MemoryType;
+use uefi_base::Align;
+use uefi_base::little_endian::{u32_at, u64_at};
+
+/// A range of memory (UEFI 2.10, 7.2 `EFI_BOOT_SERVICES.GetMemoryMap()`, `EFI_MEMORY_DESCRIPTOR`).
+///
+/// | offset | bytes | field |
+/// |---|---|---|
+/// | 0 | 4 | type |
+/// | 4 | 4 | padding |
+/// | 8 | 8 | first physical address |
+/// | 16 | 8 | first virtual address |
+/// | 24 | 8 | count of pages, of 4096 bytes each |
+/// | 32 | 8 | attributes |
+///
+/// All numbers are little-endian. Every number is kept as it was read, and so is the padding.
+#[derive(Clone, Copy, PartialEq, Eq, Debug)]
+pub struct MemoryDescriptor {
+    /// What the memory is for.
+    pub ty: MemoryType,
+    /// Four bytes without a meaning.
+    pub padding: u32,
+    /// The first physical address.
+    pub phys_start: u64,
+    /// The first virtual address, if the memory is mapped.
+    pub virt_start: u64,
+    /// The count of pages, of 4096 bytes each.
+    pub page_count: u64,
+    /// What the memory is capable of.
+    pub att: MemoryAttribute,
+}
+
+impl MemoryDescriptor {
+    /// The version of the descriptors that this type reads and writes.
+    pub const VERSION: u32 = 1;
+
+    /// Returns the descriptor in the first forty bytes.
+    #[tactic(auto, unfolding(crate::specs::memory::Descriptor::descriptor_in))]
+    pub(crate) fn read(bytes: &[u8]) -> MemoryDescriptor
+        requires { DESCRIPTOR_LENGTH ≤ length bytes.now }
+        ensures { result ≡ descriptor_in bytes.now }
+    {
+        MemoryDescriptor {
+            ty: MemoryType(u32_at(bytes, TYPE_OFFSET)),
+            padding: u32_at(bytes, PADDING_OFFSET),
+            phys_start: u64_at(bytes, PHYS_START_OFFSET),
+            virt_start: u64_at(bytes, VIRT_START_OFFSET),
+            page_count: u64_at(bytes, PAGE_COUNT_OFFSET),
+            att: MemoryAttribute::from_bits_retain(u64_at(bytes, ATTRIBUTE_OFFSET)),
+        }
+    }
+}
+
+/// Every field is zero: reserved memory of no pages at address 0, without attributes.
+impl Default for MemoryDescriptor {
+    ghost use Rattle.uefi_map.specs.memory.Descriptor.{zero_descriptor};
+
+    ghost is_default = { λ d. d ≡ zero_descriptor };
+
+    fn default() -> MemoryDescriptor {
+        MemoryDescriptor {
+            ty: MemoryType::RESERVED,
+            padding: 0,
+            phys_start: 0,
+            virt_start: 0,
+            page_count: 0,
+            att: MemoryAttribute::empty(),
+        }
+    }
+}
+
+impl Align for MemoryDescriptor {
+    ghost use Rattle.uefi_map.specs.memory.Descriptor.{descriptor_alignment};
+
+    ghost alignment = { descriptor_alignment };
+
+    fn alignment() -> usize {
+        DESCRIPTOR_ALIGNMENT
+    }
+}
 
 /// Writes the descriptor to forty bytes.
 #[tactic(auto, unfolding(crate::specs::memory::Descriptor::encoding))]

@@ -1,9 +1,10 @@
 ghost use Rattle.std.specs.Prelude.{◌≡◌, ◌↔◌, take, length, IsOk, IfOk, IfErr};
 ghost use Rattle.uefi_map.specs.memory.Map.{IsMap};
 
-use super::memory_map::MemoryMapMut;
+use super::map_error::MemoryMapError;
+use super::memory_map::{MemoryMap, MemoryMapMut};
+use super::meta::MemoryMapMeta;
 use super::sizes::Sizes;
-use memory_maps::{MemoryMap, MemoryMapError, MemoryMapMeta};
 use std::alloc::{Allocator, Global};
 
 /// A memory map that owns its buffer, which is as long as the map.

@@ -2,9 +2,10 @@ ghost use Rattle.std.specs.Prelude.{◌≡◌, ◌↔◌, length, Err, IsOk, IfO
 ghost use Rattle.std.specs.Borrow.{sem};
 ghost use Rattle.uefi_map.specs.memory.Map.{IsMap};
 
-use super::memory_map::MemoryMapMut;
+use super::map_error::MemoryMapError;
+use super::memory_map::{MemoryMap, MemoryMapMut};
+use super::meta::MemoryMapMeta;
 use super::sizes::Sizes;
-use memory_maps::{MemoryMap, MemoryMapError, MemoryMapMeta};
 
 /// A memory map over a buffer that can be written.
 ///

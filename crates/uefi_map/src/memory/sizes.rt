@@ -2,7 +2,7 @@ ghost use Rattle.std.specs.Prelude.{◌≡◌};
 ghost use Rattle.uefi_map.specs.memory.Map.{IsMap, meta_within};
 ghost use Rattle.uefi_map.specs.private.memory.Map.{HasWholeStrides};
 
-use memory_maps::MemoryMapMeta;
+use super::meta::MemoryMapMeta;
 use std::marker::Model;
 
 /// The sizes of a map that was accepted, without its buffer.
@@ -15,7 +15,7 @@ pub struct Sizes {
 }
 
 impl Model for Sizes {
-    ghost use Rattle.memory_maps.specs.declared.memory.meta.MemoryMapMeta.{MemoryMapMeta};
+    ghost use Rattle.uefi_map.specs.declared.memory.meta.MemoryMapMeta.{MemoryMapMeta};
     ghost use Rattle.uefi_map.specs.private.memory.Map.{HasWholeStrides};
 
     ghost Value = { MemoryMapMeta };

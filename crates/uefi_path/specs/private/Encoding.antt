@@ -1,7 +1,7 @@
 -- What a view keeps of its bytes: that they encode a node, nodes or instances.
 use Rattle.std.specs.Prelude.{◌≡◌, ℕ, List}
 use Rattle.std.specs.List.{AllByRecursion}
-use Rattle.uefi_core.specs.Prefix.{IsPrefix}
+use Rattle.uefi_base.specs.Prefix.{IsPrefix}
 use Rattle.uefi_path.specs.Node.{Node, Fits, encoding, joined, IsEnd, IsEndEntire}
 use Rattle.uefi_path.specs.Path.{AreEndedBy, IsInstance, concat}
 

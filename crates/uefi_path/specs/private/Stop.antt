@@ -1,6 +1,6 @@
 -- Where a walk over nodes stops, and the length that it goes by.
 use Rattle.std.specs.Prelude.{◌≡◌, ℕ, List}
-use Rattle.uefi_core.specs.LittleEndian.{u16_at}
+use Rattle.uefi_base.specs.LittleEndian.{u16_at}
 use Rattle.uefi_path.specs.declared.walk.StopCondition.{StopCondition}
 use Rattle.uefi_path.specs.declared.walk.StopCondition.TheVariants.{AnyEndNode, EndEntireNode}
 use Rattle.uefi_path.specs.Node.{Node, IsEnd, IsEndEntire}

@@ -4,7 +4,7 @@ use Rattle.std.specs.Prelude.{◌≡◌, ℕ, List, [], ◌∷◌, ◌++◌}
 use Rattle.uefi_path.specs.declared.device_type.TheConstants.DeviceType.{HARDWARE, ACPI, MESSAGING, MEDIA, BIOS_BOOT_SPEC, END}
 use Rattle.uefi_path.specs.declared.device_type.TheConstants.DeviceSubType.{END_INSTANCE, END_ENTIRE}
 use Rattle.uefi_path.specs.Node.{Node, Fits, encoding, joined, HasNode}
-use Rattle.uefi_core.specs.Prefix.{IsPrefix}
+use Rattle.uefi_base.specs.Prefix.{IsPrefix}
 use Rattle.uefi_path.specs.Path.{IsPath, HasPath, AreInstances, all_but_last}
 
 -- A node with these fields.

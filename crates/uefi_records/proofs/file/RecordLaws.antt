@@ -4,20 +4,20 @@ use Rattle.std.proofs.Common.{take, drop, refl, sym, ◌∙◌, ap, subst, arith
 use Rattle.std.proofs.lemmas.List.{take_at, length-append, length-take, length-drop, get_or-take}
 use Rattle.uefi_base.specs.Unaligned.{unit_bytes}
 use Rattle.uefi_base.proofs.UnitsOfBytes.{units_by_place}
-use Rattle.file_records.specs.file.Name.{IsName, FitName, first_zero, record_end, record_size, units_from}
-use Rattle.file_records.specs.file.Verdict.{accepted, judged, verdict}
-use Rattle.file_records.specs.file.FileInfo.{file_fields, file_header, file_info_alignment, file_info_size}
-use Rattle.file_records.specs.file.FileInfo.{file_name_offset, size_in}
+use Rattle.uefi_records.specs.file.Name.{IsName, FitName, first_zero, record_end, record_size, units_from}
+use Rattle.uefi_records.specs.file.Verdict.{accepted, judged, verdict}
+use Rattle.uefi_records.specs.file.FileInfo.{file_fields, file_header, file_info_alignment, file_info_size}
+use Rattle.uefi_records.specs.file.FileInfo.{file_name_offset, size_in}
 use Rattle.uefi_records.specs.file.FileSystemInfo.{file_system_fields, file_system_header, file_system_info_alignment}
 use Rattle.uefi_records.specs.file.FileSystemInfo.{file_system_info_size, label_offset, lone_label_offset}
 use Rattle.uefi_records.specs.file.FileSystemInfo.{volume_label_alignment}
 use Rattle.uefi_records.specs.Laws.{FileInfoReadsBack, FileSystemInfoReadsBack, VolumeLabelReadsBack}
 use Rattle.uefi_records.specs.Laws.{ReadsBack, WrittenAlone}
-use Rattle.file_records.proofs.FieldsBack.{file_info_back, length-file_header}
-use Rattle.file_records.proofs.FirstZero.{IsFirstAt, one_first, first_zero_is}
-use Rattle.file_records.proofs.Judging.{units_of_prefix, accepted_at}
-use Rattle.file_records.proofs.Names.{length-named, units_back}
-use Rattle.file_records.proofs.Prefixes.{same_size, same_file_fields}
+use Rattle.uefi_records.proofs.file.FieldsBack.{file_info_back, length-file_header}
+use Rattle.uefi_records.proofs.file.FirstZero.{IsFirstAt, one_first, first_zero_is}
+use Rattle.uefi_records.proofs.file.Judging.{units_of_prefix, accepted_at}
+use Rattle.uefi_records.proofs.file.Names.{length-named, units_back}
+use Rattle.uefi_records.proofs.file.Prefixes.{same_size, same_file_fields}
 use Rattle.uefi_records.proofs.file.FieldsBack.{length-file_system_header, file_system_info_back}
 use Rattle.uefi_records.proofs.file.Prefixes.{same_system_fields}
 

@@ -1,22 +1,82 @@
--- Records of file systems that were written, and the views of them.
-use Rattle.std.proofs.Common.{◌≡◌, ℕ, ◌^◌, ◌<◌, ◌≤◌, List, [], length, drop, refl, ◌∙◌, ap, arith}
-use Rattle.std.specs.Prelude.{Result, Ok, Err, IfOk, OnOk}
-use Rattle.std.proofs.lemmas.List.{length-drop, length-take-le}
+-- Records that were written, and the views of them.
+use Rattle.std.proofs.Common.{◌≡◌, ℕ, ◌^◌, ◌<◌, ◌≤◌, List, ◌++◌, length, take, ◌∙◌, ap, arith, [], drop, refl}
+use Rattle.std.specs.Prelude.{Result, Ok, Err, IfOk, OnOk, IsOk, MatchResult, ◌↔◌}
 use Rattle.uefi_base.specs.Unaligned.{unit_bytes}
-use Rattle.file_records.specs.declared.file.creation_error.FileInfoCreationError.{FileInfoCreationError}
-use Rattle.uefi_records.specs.declared.file.file_system_info.FileSystemInfo.{FileSystemInfo}
-use Rattle.uefi_records.specs.declared.file.file_system_volume_label.FileSystemVolumeLabel.{FileSystemVolumeLabel}
-use Rattle.file_records.specs.file.Name.{FitName, units_from}
-use Rattle.file_records.specs.file.FileInfo.{size_in}
-use Rattle.uefi_records.specs.file.FileSystemInfo.{FileSystemFields, FitFileSystem, file_system_fields}
-use Rattle.uefi_records.specs.file.FileSystemInfo.{file_system_header, file_system_info_alignment}
-use Rattle.uefi_records.specs.file.FileSystemInfo.{file_system_info_size, label_offset, lone_label_offset, unused_bytes}
-use Rattle.uefi_records.specs.file.FileSystemInfo.{volume_label_alignment}
+use Rattle.uefi_base.proofs.Written.{Wrote, Made, seen_in, made_of}
+use Rattle.uefi_records.specs.declared.file.creation_error.FileInfoCreationError.{FileInfoCreationError}
+use Rattle.uefi_records.specs.declared.file.creation_error.FileInfoCreationError.TheVariants.{InsufficientStorage}
+use Rattle.uefi_records.specs.declared.file.file_info.FileInfo.{FileInfo}
+use Rattle.uefi_records.specs.file.Name.{FitName, record_end, record_size, units_from}
+use Rattle.uefi_records.specs.file.Kept.{EndsWithName}
+use Rattle.uefi_records.specs.file.FileInfo.{FileFields, FitFile, file_fields, file_header, file_info_alignment}
+use Rattle.uefi_records.specs.file.FileInfo.{file_info_size, file_name_offset, size_in}
+use Rattle.uefi_records.specs.file.Views.{file_info_view, stated_size, file_fields_of, file_name_of}
 use Rattle.uefi_records.specs.file.Views.{file_system_info_view, system_stated_size, file_system_fields_of}
 use Rattle.uefi_records.specs.file.Views.{file_system_label_of, volume_label_view, volume_label_of}
-use Rattle.file_records.proofs.Names.{units_back}
-use Rattle.file_records.proofs.Written.{MadeRecord}
-use Rattle.uefi_records.proofs.file.FieldsBack.{file_system_info_back, length-file_system_header}
+use Rattle.uefi_records.proofs.file.FieldsBack.{file_info_back, length-file_header, file_system_info_back}
+use Rattle.uefi_records.proofs.file.FieldsBack.{length-file_system_header}
+use Rattle.uefi_records.proofs.file.Names.{ends_with, length-named, units_back}
+use Rattle.std.proofs.lemmas.List.{length-drop, length-take-le}
+use Rattle.uefi_records.specs.declared.file.file_system_info.FileSystemInfo.{FileSystemInfo}
+use Rattle.uefi_records.specs.declared.file.file_system_volume_label.FileSystemVolumeLabel.{FileSystemVolumeLabel}
+use Rattle.uefi_records.specs.file.FileSystemInfo.{FileSystemFields, FitFileSystem, file_system_fields}
+use Rattle.uefi_records.specs.file.FileSystemInfo.{file_system_header, file_system_info_alignment}
+use Rattle.uefi_records.specs.file.FileSystemInfo.{file_system_info_size, label_offset, lone_label_offset}
+use Rattle.uefi_records.specs.file.FileSystemInfo.{unused_bytes, volume_label_alignment}
+
+-- A header and a name, of which the fields fit: what the writer of such a record ensures, and what holds once a view
+-- of it was made.
+module _ (offset alignment : ℕ) (header name old : List ℕ) (FieldsFit : Type 0) where
+  abbrev Is : Type 0
+  Is = FieldsFit × FitName name
+
+  abbrev Room : Type 0
+  Room = record_size offset alignment (length name) ≤ length old
+
+  abbrev Short : FileInfoCreationError → Type 0
+  Short error = error ≡ InsufficientStorage (record_size offset alignment (length name))
+
+  abbrev pub WroteRecord : List ℕ → Result ℕ FileInfoCreationError → Type 0
+  WroteRecord new written = Wrote (header ++ unit_bytes name) old new
+      (record_end offset (length name)) Is Room Short written
+
+  abbrev pub MadeRecord : {V : Type 0} → (V → List ℕ) → List ℕ → Result V FileInfoCreationError → Type 0
+  MadeRecord view new made = Made view (header ++ unit_bytes name) old new Is Room Short made
+
+  module _ (sized : Room → length header ≡ offset) where
+    part_sized : Is → Room → length (header ++ unit_bytes name) ≡ record_end offset (length name)
+    part_sized is room = length-named offset header name (sized room)
+
+    pub record_seen_in : (new : List ℕ) (written : Result ℕ FileInfoCreationError) → WroteRecord new written
+        → IfOk written (λ end. (end ≤ length new) × EndsWithName offset (take end new))
+    record_seen_in new written wrote = seen_in part_sized (EndsWithName offset)
+        (λ is room. ends_with offset header name (sized room) is.1) written wrote
+
+    pub record_made_of : {V : Type 0} (view : V → List ℕ) (new : List ℕ) (written : Result ℕ FileInfoCreationError)
+        (made : Result V FileInfoCreationError) → WroteRecord new written
+        → MatchResult written (λ end. IfOk made (λ v. view v ≡ take end new)) (λ error. made ≡ Err error)
+        → IsOk made ↔ IsOk written → MadeRecord view new made
+    record_made_of view new written made wrote seen ok = made_of part_sized view written made wrote seen ok
+
+-- What the accessors of a view of a file information record return.
+pub file_info_made : (fields : FileFields) (name old new : List ℕ) → length old < 2 ^ 64
+    → (made : Result FileInfo FileInfoCreationError)
+    → MadeRecord file_name_offset file_info_alignment (file_header (file_info_size (length name)) fields) name old
+    (FitFile fields) file_info_view new made
+    → IfOk made (λ info. stated_size info ≡ file_info_size (length name))
+    × IfOk made (λ info. file_fields_of info ≡ fields) × IfOk made (λ info. file_name_of info ≡ name)
+    × OnOk made (FitFile fields) × OnOk made (FitName name)
+file_info_made fields name old new long (Ok info) made =
+    let size : ℕ = file_info_size (length name) in
+    let back = file_info_back size fields (unit_bytes name) made.seen.1.0 (omega (arith, long, made.seen.2)) in (
+      ap size_in made.seen.0 ∙ back.0,
+      ap file_fields made.seen.0 ∙ back.1,
+      ap (units_from file_name_offset) made.seen.0 ∙ units_back file_name_offset (file_header size fields) name
+          (length-file_header size fields) made.seen.1.1.are_units,
+      made.seen.1.0,
+      made.seen.1.1,
+    )
+file_info_made fields name old new long (Err error) made = (tt, tt, tt, tt, tt)
 
 -- A record without fields: they fit.
 pub fits_any : (written : Result ℕ FileInfoCreationError) → OnOk written (Unit {0})

@@ -3,8 +3,8 @@
 use Rattle.std.specs.Prelude.{ℕ, ◌^◌, ◌<◌, Bool, not, ◌==◌, List, [], ◌∷◌, ◌++◌, length, slice_index, slice_range, if◌then◌else◌}
 use Rattle.uefi_base.specs.LittleEndian.{u32_at, u32_bytes, u64_at, u64_bytes}
 use Rattle.uefi_base.specs.Unaligned.{unit_bytes}
-use Rattle.file_records.specs.file.Name.{record_size}
-use Rattle.file_records.specs.file.Verdict.{Verdict, verdict}
+use Rattle.uefi_records.specs.file.Name.{record_size}
+use Rattle.uefi_records.specs.file.Verdict.{Verdict, verdict}
 
 -- The fields of the record, but for its own size and its label.
 pub record FileSystemFields : Type 0 where

@@ -4,16 +4,17 @@ ghost use Rattle.std.specs.Cmp.Lexicographic.{pointwise, nat_list_eq_equiv};
 ghost use Rattle.std.specs.Borrow.{sem};
 ghost use Rattle.uefi_base.specs.Buffer.{put_prefix, EndsAs};
 ghost use Rattle.uefi_base.specs.Views.{slice_units, text_units};
-ghost use Rattle.file_records.specs.file.Name.{FitName};
-ghost use Rattle.file_records.specs.file.Kept.{EndsWithName};
-ghost use Rattle.file_records.specs.file.FileInfo.{size_in};
+ghost use Rattle.uefi_records.specs.file.Name.{FitName};
+ghost use Rattle.uefi_records.specs.file.Kept.{EndsWithName};
+ghost use Rattle.uefi_records.specs.file.FileInfo.{size_in};
 ghost use Rattle.uefi_records.specs.file.FileSystemInfo.{FitFileSystem, file_system_fields, file_system_info_alignment, file_system_info_bytes, file_system_info_size, file_system_info_verdict, label_offset, unused_bytes};
-ghost use Rattle.file_records.specs.file.Verdict.{FollowsVerdict};
+ghost use Rattle.uefi_records.specs.file.Verdict.{FollowsVerdict};
 
+use crate::file::creation_error::FileInfoCreationError;
 use crate::file::identity::FileSystemInfoIdentity;
+use crate::file::name::{name_at, name_end};
+use crate::file::protocol_info::FileProtocolInfo;
 use crate::file::write::write_file_system_info;
-use file_records::name::{name_at, name_end};
-use file_records::{FileInfoCreationError, FileProtocolInfo};
 use uefi_base::little_endian::{u32_at, u64_at};
 use uefi_base::{Align, CStr16, Error, IdentifiedBy, UnalignedSlice};
 

@@ -4,15 +4,16 @@ ghost use Rattle.std.specs.Cmp.Lexicographic.{pointwise, nat_list_eq_equiv};
 ghost use Rattle.std.specs.Borrow.{sem};
 ghost use Rattle.uefi_base.specs.Buffer.{put_prefix, EndsAs};
 ghost use Rattle.uefi_base.specs.Views.{slice_units, text_units};
-ghost use Rattle.file_records.specs.file.Name.{FitName};
-ghost use Rattle.file_records.specs.file.Kept.{EndsWithName};
+ghost use Rattle.uefi_records.specs.file.Name.{FitName};
+ghost use Rattle.uefi_records.specs.file.Kept.{EndsWithName};
 ghost use Rattle.uefi_records.specs.file.FileSystemInfo.{lone_label_offset, volume_label_alignment, volume_label_bytes, volume_label_size, volume_label_verdict};
-ghost use Rattle.file_records.specs.file.Verdict.{FollowsVerdict};
+ghost use Rattle.uefi_records.specs.file.Verdict.{FollowsVerdict};
 
+use crate::file::creation_error::FileInfoCreationError;
 use crate::file::identity::FileSystemVolumeLabelIdentity;
+use crate::file::name::{name_at, name_end};
+use crate::file::protocol_info::FileProtocolInfo;
 use crate::file::write::write_file_system_volume_label;
-use file_records::name::{name_at, name_end};
-use file_records::{FileInfoCreationError, FileProtocolInfo};
 use uefi_base::{Align, CStr16, Error, IdentifiedBy, UnalignedSlice};
 
 // The offset of the label, and what the record's size is a multiple of.

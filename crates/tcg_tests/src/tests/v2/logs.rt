@@ -1,7 +1,7 @@
 use crate::tests::texts::{push_hex, push_kind};
 use std::alloc::{AllocError, Global};
 use std::test::Fail;
-use tcg_examples::digest_logs::all_bytes;
+use uefi_examples::digest_logs::all_bytes;
 use test_support::samples::{FOUR_EVENTS, FOUR_HEADER, SHA1_HEADER};
 use test_support::{bytes, holds, joined, joined_bytes, same, same_text};
 use uefi_tcg::AlgorithmId;

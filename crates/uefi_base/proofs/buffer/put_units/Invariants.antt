@@ -1,5 +1,5 @@
 use Rattle.std.proofs.Common.{◌≡◌, take}
-use Rattle.uefi_core.specs.Buffer.{put_at}
+use Rattle.uefi_base.specs.Buffer.{put_at}
 use Rattle.uefi_base.specs.Unaligned.{unit_bytes}
 use Rattle.uefi_base.proofs.buffer.put_units.Given as goal
 

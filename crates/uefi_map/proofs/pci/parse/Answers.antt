@@ -2,8 +2,8 @@ use Rattle.std.proofs.Common.{Ok, sym, subst}
 use Rattle.std.proofs.lemmas.Iterator.{items_from_collect}
 use Rattle.std.proofs.lemmas.Iterator.Consumers.{YieldsList-from_first}
 use Rattle.std.specs.declared.alloc.AllocError.{AllocError}
-use Rattle.memory_maps.specs.pci.ResourceList.{HaveOneList}
-use Rattle.memory_maps.specs.pci.Views.{resources_left}
+use Rattle.uefi_map.specs.pci.ResourceList.{HaveOneList}
+use Rattle.uefi_map.specs.pci.Views.{resources_left}
 use Rattle.uefi_map.proofs.pci.parse.Goals as goal
 
 pub returns-clause-list : goal.returns-clause-list

@@ -3,7 +3,7 @@ use Rattle.std.specs.Prelude.{if◌then◌else◌}
 use mir.Val.{bool_byte}
 use Rattle.uefi_base.specs.LittleEndian.{u64_bytes}
 use Rattle.uefi_base.specs.Unaligned.{unit_bytes}
-use Rattle.uefi_core.proofs.Parts.{none_put, then_put, then_kept}
+use Rattle.uefi_base.proofs.Parts.{none_put, then_put, then_kept}
 use Rattle.uefi_records.specs.file.FileSystemInfo.{file_system_header, file_system_info_size, label_offset}
 use Rattle.uefi_records.proofs.file.write.write_file_system_info.Goals as goal
 

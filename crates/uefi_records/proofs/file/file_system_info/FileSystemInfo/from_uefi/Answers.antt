@@ -1,6 +1,6 @@
 use Rattle.std.proofs.Common.{arith}
 use Rattle.uefi_records.specs.file.FileSystemInfo.{label_offset}
-use Rattle.file_records.proofs.Prefixes.{size_of_named}
+use Rattle.uefi_records.proofs.file.Prefixes.{size_of_named}
 use Rattle.uefi_records.proofs.file.Prefixes.{file_system_fields_of_named}
 use Rattle.uefi_records.proofs.file.file_system_info.FileSystemInfo.from_uefi.Goals as goal
 

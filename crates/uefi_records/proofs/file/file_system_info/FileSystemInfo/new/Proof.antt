@@ -1,21 +1,21 @@
 -- The buffer is lent to the writer, comes back, and is then shared with the view until its loan ends.
-use Rattle.file_records.proofs.WriterNames.{◌≡◌, refl, ℕ, List, [], ◌∷◌, full_share, ftrue, flft, id⊢, named}
-use Rattle.file_records.proofs.WriterNames.{tables, ‵, ◌⊛◌, ◌$◌, ◌∵◌, !, qed, done, keep, fsplit, suffices, whole}
-use Rattle.file_records.proofs.WriterNames.{sub, agg, enter, addr, from, fld, hop, stop, and_then, no_more}
-use Rattle.file_records.proofs.WriterNames.{returns, alloc_all, pass_all, free_all, look_at, look_in_at, get}
-use Rattle.file_records.proofs.WriterNames.{get_in, sets, lands_as, length, u8, usize, no, owns, plain}
-use Rattle.file_records.proofs.WriterNames.{mut_slice_of, named_lft, mut_slice_vals, mut_slice_Tells, lasts}
-use Rattle.file_records.proofs.WriterNames.{triple_of, framed, Stays, walk_of, stay_dropped, Goes-spent_slice}
-use Rattle.file_records.proofs.WriterNames.{ends_at, MatchResult, Result_row, Result_laws, proved, Fml, types_at}
-use Rattle.file_records.proofs.WriterNames.{valss, all_Typed, mut_slice_Lawful, put_prefix}
-use Rattle.file_records.proofs.WriterNames.{lends_to, shares_with, typed, finishes, opens, Arg, slots, stays}
-use Rattle.file_records.proofs.WriterNames.{spelled, told, all_go, lawfuls, Nothings, nothings, Written_laws}
-use Rattle.file_records.proofs.WriterNames.{WroteRecord, MadeRecord, record_seen_in, record_made_of, number64}
-use Rattle.file_records.proofs.WriterNames.{number32, truth, text16, as_bor}
-use Rattle.uefi_core.proofs.Written.{and_also, wrote}
-use Rattle.file_records.specs.contracts.file.creation_error.FileInfoCreationError.{the_row as Error_row}
-use Rattle.file_records.proofs.file.creation_error.FileInfoCreationError.TheLaws.{the_row_laws as Error_laws}
-use Rattle.file_records.specs.file.Name.{FitName}
+use Rattle.uefi_records.proofs.file.WriterNames.{◌≡◌, refl, ℕ, List, [], ◌∷◌, full_share, ftrue, flft, id⊢, named}
+use Rattle.uefi_records.proofs.file.WriterNames.{tables, ‵, ◌⊛◌, ◌$◌, ◌∵◌, !, qed, done, keep, fsplit, suffices, whole}
+use Rattle.uefi_records.proofs.file.WriterNames.{sub, agg, enter, addr, from, fld, hop, stop, and_then, no_more}
+use Rattle.uefi_records.proofs.file.WriterNames.{returns, alloc_all, pass_all, free_all, look_at, look_in_at, get}
+use Rattle.uefi_records.proofs.file.WriterNames.{get_in, sets, lands_as, length, u8, usize, no, owns, plain}
+use Rattle.uefi_records.proofs.file.WriterNames.{mut_slice_of, named_lft, mut_slice_vals, mut_slice_Tells, lasts}
+use Rattle.uefi_records.proofs.file.WriterNames.{triple_of, framed, Stays, walk_of, stay_dropped, Goes-spent_slice}
+use Rattle.uefi_records.proofs.file.WriterNames.{ends_at, MatchResult, Result_row, Result_laws, proved, Fml, types_at}
+use Rattle.uefi_records.proofs.file.WriterNames.{valss, all_Typed, mut_slice_Lawful, put_prefix}
+use Rattle.uefi_records.proofs.file.WriterNames.{lends_to, shares_with, typed, finishes, opens, Arg, slots, stays}
+use Rattle.uefi_records.proofs.file.WriterNames.{spelled, told, all_go, lawfuls, Nothings, nothings, Written_laws}
+use Rattle.uefi_records.proofs.file.WriterNames.{WroteRecord, MadeRecord, record_seen_in, record_made_of, number64}
+use Rattle.uefi_records.proofs.file.WriterNames.{number32, truth, text16, as_bor}
+use Rattle.uefi_base.proofs.Written.{and_also, wrote}
+use Rattle.uefi_records.specs.contracts.file.creation_error.FileInfoCreationError.{the_row as Error_row}
+use Rattle.uefi_records.proofs.file.creation_error.FileInfoCreationError.TheLaws.{the_row_laws as Error_laws}
+use Rattle.uefi_records.specs.file.Name.{FitName}
 use Rattle.uefi_records.specs.file.FileSystemInfo.{FileSystemFields, FitFileSystem, file_system_header}
 use Rattle.uefi_records.specs.file.FileSystemInfo.{file_system_info_alignment, file_system_info_bytes}
 use Rattle.uefi_records.specs.file.FileSystemInfo.{file_system_info_size, label_offset, unused_bytes}

@@ -1,20 +1,20 @@
 -- The buffer is lent to the writer, comes back, and is then shared with the view until its loan ends.
-use Rattle.file_records.proofs.WriterNames.{◌≡◌, refl, ℕ, List, [], ◌∷◌, full_share, ftrue, flft, id⊢, named}
-use Rattle.file_records.proofs.WriterNames.{tables, ‵, ◌⊛◌, ◌$◌, ◌∵◌, !, qed, done, keep, fsplit, suffices, whole}
-use Rattle.file_records.proofs.WriterNames.{sub, agg, enter, addr, from, fld, hop, stop, and_then, no_more}
-use Rattle.file_records.proofs.WriterNames.{returns, alloc_all, pass_all, free_all, look_at, look_in_at, get}
-use Rattle.file_records.proofs.WriterNames.{get_in, sets, lands_as, u8, usize, no, owns, plain, mut_slice_of}
-use Rattle.file_records.proofs.WriterNames.{named_lft, mut_slice_vals, mut_slice_Tells, lasts, triple_of, framed}
-use Rattle.file_records.proofs.WriterNames.{Stays, walk_of, stay_dropped, Goes-spent_slice, ends_at, MatchResult}
-use Rattle.file_records.proofs.WriterNames.{Result_row, Result_laws, proved, Fml, types_at, valss, all_Typed}
-use Rattle.file_records.proofs.WriterNames.{mut_slice_Lawful, put_prefix, lends_to}
-use Rattle.file_records.proofs.WriterNames.{shares_with, typed, finishes, opens, Arg, slots, stays, spelled, told}
-use Rattle.file_records.proofs.WriterNames.{all_go, lawfuls, Nothings, nothings, Written_laws, WroteRecord}
-use Rattle.file_records.proofs.WriterNames.{MadeRecord, record_seen_in, record_made_of, text16, as_bor}
-use Rattle.uefi_core.proofs.Written.{and_also, wrote}
-use Rattle.file_records.specs.contracts.file.creation_error.FileInfoCreationError.{the_row as Error_row}
-use Rattle.file_records.proofs.file.creation_error.FileInfoCreationError.TheLaws.{the_row_laws as Error_laws}
-use Rattle.file_records.specs.file.Name.{FitName}
+use Rattle.uefi_records.proofs.file.WriterNames.{◌≡◌, refl, ℕ, List, [], ◌∷◌, full_share, ftrue, flft, id⊢, named}
+use Rattle.uefi_records.proofs.file.WriterNames.{tables, ‵, ◌⊛◌, ◌$◌, ◌∵◌, !, qed, done, keep, fsplit, suffices, whole}
+use Rattle.uefi_records.proofs.file.WriterNames.{sub, agg, enter, addr, from, fld, hop, stop, and_then, no_more}
+use Rattle.uefi_records.proofs.file.WriterNames.{returns, alloc_all, pass_all, free_all, look_at, look_in_at, get}
+use Rattle.uefi_records.proofs.file.WriterNames.{get_in, sets, lands_as, u8, usize, no, owns, plain, mut_slice_of}
+use Rattle.uefi_records.proofs.file.WriterNames.{named_lft, mut_slice_vals, mut_slice_Tells, lasts, triple_of, framed}
+use Rattle.uefi_records.proofs.file.WriterNames.{Stays, walk_of, stay_dropped, Goes-spent_slice, ends_at, MatchResult}
+use Rattle.uefi_records.proofs.file.WriterNames.{Result_row, Result_laws, proved, Fml, types_at, valss, all_Typed}
+use Rattle.uefi_records.proofs.file.WriterNames.{mut_slice_Lawful, put_prefix, lends_to}
+use Rattle.uefi_records.proofs.file.WriterNames.{shares_with, typed, finishes, opens, Arg, slots, stays, spelled, told}
+use Rattle.uefi_records.proofs.file.WriterNames.{all_go, lawfuls, Nothings, nothings, Written_laws, WroteRecord}
+use Rattle.uefi_records.proofs.file.WriterNames.{MadeRecord, record_seen_in, record_made_of, text16, as_bor}
+use Rattle.uefi_base.proofs.Written.{and_also, wrote}
+use Rattle.uefi_records.specs.contracts.file.creation_error.FileInfoCreationError.{the_row as Error_row}
+use Rattle.uefi_records.proofs.file.creation_error.FileInfoCreationError.TheLaws.{the_row_laws as Error_laws}
+use Rattle.uefi_records.specs.file.Name.{FitName}
 use Rattle.uefi_records.specs.file.FileSystemInfo.{lone_label_offset, volume_label_alignment, volume_label_bytes}
 use Rattle.uefi_records.specs.file.Views.{volume_label_view}
 use Rattle.uefi_records.proofs.file.Written.{volume_label_made, fits_any}

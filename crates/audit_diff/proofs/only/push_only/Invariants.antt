@@ -1,9 +1,0 @@
-use Rattle.std.proofs.Common.{map, take}
-use Rattle.audit_diff.specs.private.Views.{numbered_of}
-use Rattle.audit_diff.specs.private.Appending.{AppendsOnly}
-use Rattle.audit_diff.proofs.only.push_only.Given as goal
-
--- The lines of the entries before the index were appended.
-abbrev pub invariant-loop-entry : goal.invariant-loop-entry
-invariant-loop-entry l =
-    AppendsOnly l.name (map numbered_of l.others) (map numbered_of (take l.entry-index l.found)) l.initial.text l.text

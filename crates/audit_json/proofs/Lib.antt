@@ -1,4 +1,0 @@
-pub mod EventLines
-pub mod NoFloats
-pub mod Banks
-pub mod ReplayLines

@@ -1,4 +1,0 @@
-pub mod Banks
-pub mod Registers
-pub mod Replay
-pub mod private

@@ -1,0 +1,243 @@
+use pcr_replay::{Bank, Log, Registers, replay};
+use std::alloc::{AllocError, Global};
+use std::test::Fail;
+use test_support::{each_reads, each_shows};
+use uefi_tcg::PcrIndex;
+
+/// Logs with the last entry at their end, and their registers 0, 1 and 17 of SHA-1, or the event by
+/// which they can't be known. The hashes are those of another implementation.
+const LOGS: [[&str; 2]; 19] = [
+    // A header alone.
+    [
+        "00000000030000000000000000000000000000000000000000000000210000005370656320494420 \
+         4576656e743033000000000000020002010000000400140000",
+        "0000000000000000000000000000000000000000 0000000000000000000000000000000000000000 \
+         ffffffffffffffffffffffffffffffffffffffff",
+    ],
+    // Register 1 is extended twice.
+    [
+        "00000000030000000000000000000000000000000000000000000000210000005370656320494420 \
+         4576656e7430330000000000000200020100000004001400000100000008000000010000000400aa \
+         aaaaaaaaaaaaaaaaaaaaaaaaaaaaaaaaaaaaaa000000000100000008000000010000000400bbbbbb \
+         bbbbbbbbbbbbbbbbbbbbbbbbbbbbbbbbbb00000000",
+        "0000000000000000000000000000000000000000 e87208941fde536e6fa62a63d9e61903ade54dbb \
+         ffffffffffffffffffffffffffffffffffffffff",
+    ],
+    // Register 17 begins as ones.
+    [
+        "00000000030000000000000000000000000000000000000000000000210000005370656320494420 \
+         4576656e7430330000000000000200020100000004001400001100000008000000010000000400aa \
+         aaaaaaaaaaaaaaaaaaaaaaaaaaaaaaaaaaaaaa00000000",
+        "0000000000000000000000000000000000000000 0000000000000000000000000000000000000000 \
+         ae691780fdfcbff746ba7690f9e07ec79e395ba7",
+    ],
+    // Locality 3.
+    [
+        "00000000030000000000000000000000000000000000000000000000210000005370656320494420 \
+         4576656e743033000000000000020002010000000400140000000000000300000001000000040000 \
+         0000000000000000000000000000000000000011000000537461727475704c6f63616c6974790003 \
+         0000000008000000010000000400aaaaaaaaaaaaaaaaaaaaaaaaaaaaaaaaaaaaaaaa00000000",
+        "209023205dc83ff844673ef0e73adf49400ec0df 0000000000000000000000000000000000000000 \
+         ffffffffffffffffffffffffffffffffffffffff",
+    ],
+    // The first locality counts, after an event as well.
+    [
+        "00000000030000000000000000000000000000000000000000000000210000005370656320494420 \
+         4576656e7430330000000000000200020100000004001400000000000008000000010000000400aa \
+         aaaaaaaaaaaaaaaaaaaaaaaaaaaaaaaaaaaaaa000000000000000003000000010000000400000000 \
+         000000000000000000000000000000000011000000537461727475704c6f63616c69747900040000 \
+         00000300000001000000040000000000000000000000000000000000000000001100000053746172 \
+         7475704c6f63616c6974790003",
+        "dec09ba74376aa583c045541848be591f3452571 0000000000000000000000000000000000000000 \
+         ffffffffffffffffffffffffffffffffffffffff",
+    ],
+    // Data of another length state none.
+    [
+        "00000000030000000000000000000000000000000000000000000000210000005370656320494420 \
+         4576656e743033000000000000020002010000000400140000000000000300000001000000040000 \
+         0000000000000000000000000000000000000012000000537461727475704c6f63616c6974790003 \
+         000000000008000000010000000400aaaaaaaaaaaaaaaaaaaaaaaaaaaaaaaaaaaaaaaa00000000",
+        "d6ebc4e04e1612a1ae465c51c090608bc5e6e174 0000000000000000000000000000000000000000 \
+         ffffffffffffffffffffffffffffffffffffffff",
+    ],
+    // Another type states none.
+    [
+        "00000000030000000000000000000000000000000000000000000000210000005370656320494420 \
+         4576656e7430330000000000000200020100000004001400000100000004000000010000000400aa \
+         aaaaaaaaaaaaaaaaaaaaaaaaaaaaaaaaaaaaaa11000000537461727475704c6f63616c6974790003",
+        "0000000000000000000000000000000000000000 d6ebc4e04e1612a1ae465c51c090608bc5e6e174 \
+         ffffffffffffffffffffffffffffffffffffffff",
+    ],
+    // No action, of a register that there isn't.
+    [
+        "00000000030000000000000000000000000000000000000000000000210000005370656320494420 \
+         4576656e743033000000000000020002010000000400140000ffffffff03000000010000000400aa \
+         aaaaaaaaaaaaaaaaaaaaaaaaaaaaaaaaaaaaaa000000000100000008000000010000000400aaaaaa \
+         aaaaaaaaaaaaaaaaaaaaaaaaaaaaaaaaaa00000000",
+        "0000000000000000000000000000000000000000 d6ebc4e04e1612a1ae465c51c090608bc5e6e174 \
+         ffffffffffffffffffffffffffffffffffffffff",
+    ],
+    // No action without a digest.
+    [
+        "00000000030000000000000000000000000000000000000000000000210000005370656320494420 \
+         4576656e743033000000000000020002010000000400140000010000000300000000000000000000 \
+         000100000008000000010000000400aaaaaaaaaaaaaaaaaaaaaaaaaaaaaaaaaaaaaaaa00000000",
+        "0000000000000000000000000000000000000000 d6ebc4e04e1612a1ae465c51c090608bc5e6e174 \
+         ffffffffffffffffffffffffffffffffffffffff",
+    ],
+    // Register 24.
+    [
+        "00000000030000000000000000000000000000000000000000000000210000005370656320494420 \
+         4576656e7430330000000000000200020100000004001400000100000008000000010000000400aa \
+         aaaaaaaaaaaaaaaaaaaaaaaaaaaaaaaaaaaaaa000000001800000008000000010000000400aaaaaa \
+         aaaaaaaaaaaaaaaaaaaaaaaaaaaaaaaaaa00000000",
+        "1 103 NoRegister",
+    ],
+    // Register 23.
+    [
+        "00000000030000000000000000000000000000000000000000000000210000005370656320494420 \
+         4576656e7430330000000000000200020100000004001400001700000008000000010000000400aa \
+         aaaaaaaaaaaaaaaaaaaaaaaaaaaaaaaaaaaaaa00000000",
+        "0000000000000000000000000000000000000000 0000000000000000000000000000000000000000 \
+         ffffffffffffffffffffffffffffffffffffffff",
+    ],
+    // No digest.
+    [
+        "00000000030000000000000000000000000000000000000000000000210000005370656320494420 \
+         4576656e7430330000000000000200020100000004001400000100000008000000010000000400aa \
+         aaaaaaaaaaaaaaaaaaaaaaaaaaaaaaaaaaaaaa000000000100000008000000010000000400aaaaaa \
+         aaaaaaaaaaaaaaaaaaaaaaaaaaaaaaaaaa0000000001000000080000000000000000000000",
+        "2 141 NoDigest",
+    ],
+    // A digest of another algorithm alone.
+    [
+        "00000000030000000000000000000000000000000000000000000000290000005370656320494420 \
+         4576656e743033000000000000020002030000000400140004001400120002000001000000080000 \
+         00010000001200616200000000",
+        "0 73 NoDigest",
+    ],
+    // Beside one of another algorithm.
+    [
+        "00000000030000000000000000000000000000000000000000000000290000005370656320494420 \
+         4576656e743033000000000000020002030000000400140004001400120002000001000000080000 \
+         0002000000120061620400aaaaaaaaaaaaaaaaaaaaaaaaaaaaaaaaaaaaaaaa00000000",
+        "0000000000000000000000000000000000000000 d6ebc4e04e1612a1ae465c51c090608bc5e6e174 \
+         ffffffffffffffffffffffffffffffffffffffff",
+    ],
+    // Two digests.
+    [
+        "00000000030000000000000000000000000000000000000000000000290000005370656320494420 \
+         4576656e743033000000000000020002030000000400140004001400120002000001000000080000 \
+         00020000000400aaaaaaaaaaaaaaaaaaaaaaaaaaaaaaaaaaaaaaaa0400bbbbbbbbbbbbbbbbbbbbbb \
+         bbbbbbbbbbbbbbbbbb00000000",
+        "0 73 TwoDigests",
+    ],
+    // A digest of two bytes.
+    [
+        "00000000030000000000000000000000000000000000000000000000210000005370656320494420 \
+         4576656e743033000000000000020002010000000400020000010000000800000001000000040061 \
+         6200000000",
+        "0 65 OtherLength",
+    ],
+    // Version 1.
+    [
+        "0100000008000000aaaaaaaaaaaaaaaaaaaaaaaaaaaaaaaaaaaaaaaa000000000100000008000000 \
+         bbbbbbbbbbbbbbbbbbbbbbbbbbbbbbbbbbbbbbbb0000000000000000030000000000000000000000 \
+         00000000000000000000000011000000537461727475704c6f63616c697479000300000000040000 \
+         00aaaaaaaaaaaaaaaaaaaaaaaaaaaaaaaaaaaaaaaa00000000",
+        "209023205dc83ff844673ef0e73adf49400ec0df e87208941fde536e6fa62a63d9e61903ade54dbb \
+         ffffffffffffffffffffffffffffffffffffffff",
+    ],
+    // Version 1, register 24.
+    [
+        "0100000008000000aaaaaaaaaaaaaaaaaaaaaaaaaaaaaaaaaaaaaaaa000000001800000008000000 \
+         bbbbbbbbbbbbbbbbbbbbbbbbbbbbbbbbbbbbbbbb00000000",
+        "1 32 NoRegister",
+    ],
+    // No bytes.
+    [
+        "",
+        "0000000000000000000000000000000000000000 0000000000000000000000000000000000000000 \
+         ffffffffffffffffffffffffffffffffffffffff",
+    ],
+];
+
+/// The bytes that are left over after the last event.
+const LEFT_OVER: [(&str, usize); 8] = [
+    (
+        "00000000030000000000000000000000000000000000000000000000210000005370656320494420 \
+      4576656e743033000000000000020002010000000400140000",
+        0,
+    ),
+    (
+        "00000000030000000000000000000000000000000000000000000000210000005370656320494420 \
+      4576656e7430330000000000000200020100000004001400000100000008000000010000000400aa \
+      aaaaaaaaaaaaaaaaaaaaaaaaaaaaaaaaaaaaaa00000000",
+        0,
+    ),
+    (
+        "00000000030000000000000000000000000000000000000000000000210000005370656320494420 \
+      4576656e7430330000000000000200020100000004001400000100000008000000010000000400aa \
+      aaaaaaaaaaaaaaaaaaaaaaaaaaaaaaaaaaaaaa0000000001",
+        1,
+    ),
+    (
+        "00000000030000000000000000000000000000000000000000000000210000005370656320494420 \
+      4576656e7430330000000000000200020100000004001400000100000008000000010000000400aa \
+      aaaaaaaaaaaaaaaaaaaaaaaaaaaaaaaaaaaaaa000000",
+        37,
+    ),
+    ("616263", 3),
+    (
+        "0100000008000000aaaaaaaaaaaaaaaaaaaaaaaaaaaaaaaaaaaaaaaa00000000",
+        0,
+    ),
+    (
+        "0100000008000000aaaaaaaaaaaaaaaaaaaaaaaaaaaaaaaaaaaaaaaa000000000100000008000000 \
+      aaaaaaaaaaaaaaaaaaaaaaaaaaaaaaaaaaaaaaaa000000",
+        31,
+    ),
+    ("", 0),
+];
+
+/// Returns registers 0, 1 and 17 as hex, those that there are.
+fn text_of(alloc: Global, registers: &Registers) -> Result<String, AllocError> {
+    let mut text = String::new(alloc);
+    for register in [0, 1, 17] {
+        if let Some(value) = registers.value(PcrIndex(register)) {
+            let space = if text.is_empty() { "" } else { " " };
+            let value = hex::encode(alloc, value.as_bytes())?;
+            write!(text, "{space}{value}")?;
+        }
+    }
+    Ok(text)
+}
+
+/// Returns the text of a log's outcome with SHA-1: its registers, or the event's index, its offset
+/// and its fault.
+fn outcome(alloc: Global, bytes: &[u8]) -> Result<String, Fail> {
+    let text = match replay(&Log::new(bytes, Some(bytes.len())), Bank::Sha1) {
+        Ok(registers) => text_of(alloc, &registers),
+        Err(at) => format!(in alloc; "{} {} {:?}", at.index, at.offset, at.fault),
+    };
+    Ok(text?)
+}
+
+#[test]
+fn a_log_leads_to_its_registers_or_names_the_event(rt: HostRuntime) -> Result<(), Fail> {
+    each_shows(rt.alloc(), &LOGS, outcome)
+}
+
+#[test]
+fn what_follows_the_last_event_is_left_over(rt: HostRuntime) -> Result<(), Fail> {
+    each_reads(rt.alloc(), &LEFT_OVER, |bytes| {
+        Log::new(bytes, Some(bytes.len())).left_over().len()
+    })
+}
+
+#[test]
+fn without_a_last_entry_all_bytes_are_left_over(rt: HostRuntime) -> Result<(), Fail> {
+    each_reads(rt.alloc(), &[("0102", 2usize), ("", 0)], |bytes| {
+        Log::new(bytes, None).left_over().len()
+    })
+}

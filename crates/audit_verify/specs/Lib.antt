@@ -1,4 +1,0 @@
-pub mod Reading
-pub mod Agreement
-pub mod Verdict
-pub mod private

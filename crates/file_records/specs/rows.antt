@@ -1,2 +1,0 @@
--- Worked rows: examples of the definitions.
-pub mod Records

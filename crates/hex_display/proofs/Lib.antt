@@ -1,3 +1,0 @@
-pub mod HexBlocks
-pub mod HexNumbers
-pub mod Appending

@@ -1,0 +1,6 @@
+//! Tests of the library `uefi_listing` over its public names: worked rows of each command, outputs
+//! that fail, and allocations that fail.
+#![tactic(auto)]
+
+#[cfg(test)]
+mod tests;

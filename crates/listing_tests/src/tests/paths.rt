@@ -1,0 +1,51 @@
+use crate::tests::rows::{Row, each_lists};
+use std::test::Fail;
+use test_support::samples::{CON_OUT, TWO_INSTANCES};
+use uefi_listing::command::Command;
+use uefi_listing::listing::Outcome;
+
+/// The listing of [`TWO_INSTANCES`].
+pub const TWO_INSTANCES_LISTING: &str = "instance 18\n  a0 b0 0a0b\n  a1 b1 14151617\n\
+    instance 18\n  a2 b2 1e1f\n  a3 b3 28292a2b\npath 36\n";
+
+#[test]
+fn a_path_is_listed_by_its_instances(rt: HostRuntime) -> Result<(), Fail> {
+    const ROWS: [Row<'_>; 5] = [
+        (Command::Path, TWO_INSTANCES, TWO_INSTANCES_LISTING),
+        (
+            Command::Path,
+            "7f02 0400  7fff 0400",
+            "instance 4\ninstance 4\npath 8\n",
+        ),
+        (Command::Path, "7fff 0600 aabb  cc", "instance 6\npath 6\n"),
+        (
+            Command::Path,
+            CON_OUT,
+            "instance 30\n  02 01 d041030a00000000\n  01 01 0001\n  02 03 00010180\n\
+            instance 73\n  02 01 d041030a00000000\n  01 01 001f\n  02 01 d041010500000000\n  \
+            03 0e 0000000000c2010000000000080101\n  03 0a 5347c1e0bef9d2119a0c0090273fc14d\n\
+            path 103\n",
+        ),
+        // The line of a node without data ends after its subtype.
+        (
+            Command::Path,
+            "0102 0400  7fff 0400",
+            "instance 8\n  01 02\npath 8\n",
+        ),
+    ];
+    each_lists(rt.alloc(), &ROWS, Outcome::Listed)
+}
+
+/// The line for bytes with no prefix that is a path.
+const NO_PATH: &str = "refused InvalidLength\n";
+
+#[test]
+fn bytes_without_a_path_are_refused(rt: HostRuntime) -> Result<(), Fail> {
+    const ROWS: [Row<'_>; 4] = [
+        (Command::Path, "", NO_PATH),
+        (Command::Path, "a0b0 0300", NO_PATH),
+        (Command::Path, "a0b0 ffff", NO_PATH),
+        (Command::Path, "a0b0 0600 0a0b", NO_PATH),
+    ];
+    each_lists(rt.alloc(), &ROWS, Outcome::Refused)
+}

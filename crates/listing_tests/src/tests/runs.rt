@@ -1,0 +1,104 @@
+use crate::tests::files::{AB_FILE, AB_FILE_LISTING};
+use crate::tests::logs::LOG1_LISTING;
+use crate::tests::maps::{FALLING_LISTING, FALLING_MAP, NO_MAP};
+use crate::tests::paths::TWO_INSTANCES_LISTING;
+use crate::tests::resources::{CUT_AFTER_A_RECORD, ROOT_BRIDGE_LISTING};
+use crate::tests::times::LAST_OF_FEBRUARY_LISTING;
+use crate::tests::v2_logs::{NO_HEADER, TWO_DIGESTS, TWO_DIGESTS_LISTING};
+use std::alloc::Global;
+use std::test::Fail;
+use test_support::bytes;
+use test_support::samples::{LAST_OF_FEBRUARY, LOG1, ROOT_BRIDGE, TWO_INSTANCES};
+use uefi_listing::command::Command;
+use uefi_listing::listing::Outcome::{self, Listed, Refused};
+
+/// The text of a configuration with two elements, of which the first keeps two pairs.
+pub const TWO_ELEMENTS: &str = "GUID=16d6474bd6a852459d44ccad2e0f4cf9&NAME=0041&PATH=7fff0400\
+    &OFFSET=00&WIDTH=01&VALUE=00&x=1&WIDTH=02&OFFSET=01&WIDTH=01&VALUE=0a";
+
+pub const TWO_ELEMENTS_LISTING: &str =
+    "config 4b47d616-a8d6-4552-9d44-ccad2e0f4cf9\n  name A\n  path 4\n  element 0 1 00\n  \
+    nv x=1\n  nv WIDTH=02\n  element 1 1 0a\nitems 1\n";
+
+/// The words of each command after the program's name, with a number where it has one, and what
+/// they ask for. The tests `words` go over them.
+pub const WORDS: [(&[&str], Command); 13] = [
+    (&["path", "FILE"], Command::Path),
+    (&["log1", "FILE", "34"], Command::Log1(Some(34))),
+    (&["log1", "FILE", "-"], Command::Log1(None)),
+    (&["log2", "FILE", "69"], Command::Log2(Some(69))),
+    (&["log2", "FILE", "68"], Command::Log2(Some(68))),
+    (&["log2after", "FILE", "69"], Command::Log2After(Some(69))),
+    (&["config", "FILE"], Command::Config),
+    (&["map", "FILE", "40"], Command::Map(40)),
+    (&["map", "FILE", "39"], Command::Map(39)),
+    (&["pci", "FILE"], Command::Pci),
+    (&["time", "FILE"], Command::Time),
+    (&["info", "FILE", "86"], Command::Info(86)),
+    (&["info", "FILE", "85"], Command::Info(85)),
+];
+
+/// A command, its input as [`input_of`] reads it, its listing and its outcome.
+pub type Run = (Command, &'static str, &'static str, Outcome);
+
+/// Runs of each command, and of each that can be refused a refused one too. The tests `memory` and
+/// `writers` go over them.
+pub const RUNS: [Run; 19] = [
+    (
+        Command::Path,
+        "7fff 0600 aabb",
+        "instance 6\npath 6\n",
+        Listed,
+    ),
+    (Command::Path, TWO_INSTANCES, TWO_INSTANCES_LISTING, Listed),
+    (Command::Path, "00", "refused InvalidLength\n", Refused),
+    (Command::Log1(Some(34)), LOG1, LOG1_LISTING, Listed),
+    (Command::Log1(None), LOG1, "events 0\n", Listed),
+    (
+        Command::Log2(Some(69)),
+        TWO_DIGESTS,
+        TWO_DIGESTS_LISTING,
+        Listed,
+    ),
+    (Command::Log2(Some(68)), TWO_DIGESTS, NO_HEADER, Listed),
+    (
+        Command::Log2After(Some(69)),
+        TWO_DIGESTS,
+        TWO_DIGESTS_LISTING,
+        Listed,
+    ),
+    (Command::Config, TWO_ELEMENTS, TWO_ELEMENTS_LISTING, Listed),
+    (Command::Config, "ff", "refused NotUtf8\n", Refused),
+    (Command::Map(40), FALLING_MAP, FALLING_LISTING, Listed),
+    (Command::Map(39), FALLING_MAP, NO_MAP, Refused),
+    (Command::Pci, ROOT_BRIDGE, ROOT_BRIDGE_LISTING, Listed),
+    (
+        Command::Pci,
+        CUT_AFTER_A_RECORD,
+        "refused NoEndTag\n",
+        Refused,
+    ),
+    (Command::Pci, "", "refused NoEndTag\n", Refused),
+    (
+        Command::Time,
+        LAST_OF_FEBRUARY,
+        LAST_OF_FEBRUARY_LISTING,
+        Listed,
+    ),
+    (Command::Time, "", "refused InvalidSize\n", Refused),
+    (Command::Info(86), AB_FILE, AB_FILE_LISTING, Listed),
+    (
+        Command::Info(85),
+        AB_FILE,
+        "refused BAD_BUFFER_SIZE\n",
+        Refused,
+    ),
+];
+
+/// Returns the bytes of a run's input: a configuration text that is listed as it stands, else hex.
+pub fn input_of(alloc: Global, (command, input, _, outcome): &Run) -> Result<Vec<u8>, Fail> {
+    match (command, outcome) {
+        (Command::Config, Listed) => Ok(Vec::from_slice(alloc, input.as_bytes())?),
+        _ => Ok(bytes(alloc, input)?),
+    }
+}

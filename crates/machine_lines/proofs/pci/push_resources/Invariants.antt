@@ -1,9 +1,0 @@
-use Rattle.std.proofs.Common.{◌≡◌, ◌++◌, string_bytes, flat_map}
-use Rattle.memory_maps.specs.pci.Views.{resources_of, resources_left}
-use Rattle.machine_lines.specs.Pci.{resource_line}
-use Rattle.machine_lines.proofs.pci.push_resources.Given as goal
-
-abbrev pub invariant-loop-range : goal.invariant-loop-range
-invariant-loop-range g l =
-    string_bytes l.text ++ flat_map resource_line (resources_left l.range-iterator) ≡ string_bytes l.initial.text
-    ++ flat_map resource_line (resources_of l.list)

@@ -1,4 +1,0 @@
-pub mod Path
-pub mod Map
-pub mod Pci
-pub mod listing

@@ -1,3 +1,0 @@
-pub mod Strides
-pub mod MapRows
-pub mod ListRows

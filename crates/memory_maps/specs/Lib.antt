@@ -1,4 +1,0 @@
-pub mod memory
-pub mod pci
-pub mod rows
-pub mod private

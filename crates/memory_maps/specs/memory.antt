@@ -1,5 +1,0 @@
-pub mod Descriptor
-pub mod Map
-pub mod Flags
-pub mod Texts
-pub mod Views

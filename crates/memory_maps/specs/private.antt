@@ -1,2 +1,0 @@
--- Words of ghost fields alone.
-pub mod memory

@@ -1,3 +1,0 @@
--- Worked rows: examples of the definitions.
-pub mod Maps
-pub mod Lists

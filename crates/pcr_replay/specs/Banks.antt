@@ -1,0 +1,28 @@
+-- The banks of registers: those whose hash functions are proved here (TCG Algorithm Registry, `TPM_ALG_ID`; FIPS 180-4).
+use Rattle.std.specs.Prelude.{ℕ, List}
+use Rattle.sha1.specs.Sha1.{sha1}
+use Rattle.sha2.specs.Sha256.{sha256}
+use Rattle.sha2.specs.Sha512.{sha384, sha512}
+use Rattle.pcr_replay.specs.declared.bank.Bank.{Bank}
+use Rattle.pcr_replay.specs.declared.bank.Bank.TheVariants.{Sha1, Sha256, Sha384, Sha512}
+
+-- The number of a bank's algorithm.
+abbrev pub algorithm_of : Bank → ℕ
+algorithm_of Sha1 = 0x04
+algorithm_of Sha256 = 0x0b
+algorithm_of Sha384 = 0x0c
+algorithm_of Sha512 = 0x0d
+
+-- How many bytes a digest has, and so a register.
+abbrev pub size_of : Bank → ℕ
+size_of Sha1 = 20
+size_of Sha256 = 32
+size_of Sha384 = 48
+size_of Sha512 = 64
+
+-- The hash function.
+abbrev pub hash_of : Bank → List ℕ → List ℕ
+hash_of Sha1 bytes = sha1 bytes
+hash_of Sha256 bytes = sha256 bytes
+hash_of Sha384 bytes = sha384 bytes
+hash_of Sha512 bytes = sha512 bytes

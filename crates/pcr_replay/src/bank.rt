@@ -1,0 +1,63 @@
+ghost use Rattle.std.specs.Prelude.{◌≡◌, ◌≤◌, ◌<◌, ℕ, IfSome, IfNone};
+ghost use Rattle.pcr_replay.specs.Banks.{algorithm_of, size_of};
+
+use uefi_tcg::AlgorithmId;
+
+/// A bank of registers: those whose values are digests of one algorithm.
+#[derive(Clone, Copy, PartialEq, Eq, Debug)]
+pub enum Bank {
+    /// SHA-1, with 20 bytes a register.
+    Sha1,
+    /// SHA-256, with 32 bytes.
+    Sha256,
+    /// SHA-384, with 48 bytes.
+    Sha384,
+    /// SHA-512, with 64 bytes.
+    Sha512,
+}
+
+impl Bank {
+    /// Each bank that can be replayed, in the order of their algorithms' numbers.
+    pub const ALL: [Bank; 4] = [Bank::Sha1, Bank::Sha256, Bank::Sha384, Bank::Sha512];
+
+    /// Returns the bank of an algorithm; `None` if it has another hash function than these, so
+    /// that its registers can't be replayed.
+    pub fn of(algorithm: AlgorithmId) -> Option<Bank>
+        ensures bank { IfSome result (λ bank. algorithm_of bank ≡ algorithm.0) }
+        ensures none { IfNone result ((bank : Bank) → algorithm_of bank ≡ algorithm.0 → ⊥) }
+    {
+        match algorithm {
+            AlgorithmId::SHA1 => Some(Bank::Sha1),
+            AlgorithmId::SHA256 => Some(Bank::Sha256),
+            AlgorithmId::SHA384 => Some(Bank::Sha384),
+            AlgorithmId::SHA512 => Some(Bank::Sha512),
+            _ => None,
+        }
+    }
+
+    /// Returns the algorithm of the bank's digests.
+    pub fn algorithm(self) -> AlgorithmId
+        ensures { result.0 ≡ algorithm_of self }
+    {
+        match self {
+            Bank::Sha1 => AlgorithmId::SHA1,
+            Bank::Sha256 => AlgorithmId::SHA256,
+            Bank::Sha384 => AlgorithmId::SHA384,
+            Bank::Sha512 => AlgorithmId::SHA512,
+        }
+    }
+
+    /// Returns the length of a digest in bytes, which is that of a register.
+    pub fn size(self) -> usize
+        ensures size { result ≡ size_of self }
+        ensures nonempty { 0 < result }
+        ensures small { result ≤ 64 }
+    {
+        match self {
+            Bank::Sha1 => 20,
+            Bank::Sha256 => 32,
+            Bank::Sha384 => 48,
+            Bank::Sha512 => 64,
+        }
+    }
+}

@@ -1,3 +1,0 @@
-pub mod V1
-pub mod V2
-pub mod listing

@@ -1,2 +1,0 @@
-pub mod Log1
-pub mod Log2

@@ -1,0 +1,5 @@
+pub mod content
+pub mod json
+pub mod text
+pub mod verify
+pub mod diff

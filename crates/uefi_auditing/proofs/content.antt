@@ -1,0 +1,4 @@
+pub mod VariableBytes
+pub mod ImageBytes
+pub mod Printed
+pub mod OneContent

@@ -1,0 +1,5 @@
+pub mod NoFloats
+pub mod NoFloatsInReplay
+pub mod EventLines
+pub mod Banks
+pub mod ReplayLines

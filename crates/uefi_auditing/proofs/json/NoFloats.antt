@@ -1,0 +1,98 @@
+-- No number of an event's JSON is a float.
+use Rattle.std.proofs.Common.{◌≡◌, ℕ, List, [], ◌∷◌, ◌++◌, map, refl, Bool, false, true, cond, ◌||◌, Option, Some, None}
+use Rattle.serde_json.specs.Data.{Data, string}
+use Rattle.serde_json.specs.View.{items_of}
+use Rattle.serde_json.specs.Written.{has_float, items_have_float}
+use Rattle.uefi_tcg.specs.v2.Event.{Digest, Event}
+use Rattle.uefi_path.specs.Node.{Node}
+use Rattle.uefi_path.specs.Path.{all_but_last}
+use Rattle.pcr_replay.specs.Entries.{Entry}
+use Rattle.uefi_auditing.specs.content.Content.{Content, unread, text, separator, locality, variable, image}
+use Rattle.uefi_auditing.specs.json.Content.{content_json, image_json, node_json, path_json, variable_json}
+use Rattle.uefi_auditing.specs.json.Event.{algorithm_json, digest_json, event_json, hashed_banks, hashed_bank}
+use Rattle.uefi_auditing.specs.json.Event.{name_or_number, named_number, type_json}
+use Rattle.uefi_auditing.specs.json.Names.{algorithm_name, bank_name, type_name}
+use Rattle.pcr_replay.specs.Measured.{is_hash_of_data}
+use Rattle.pcr_replay.specs.declared.bank.Bank.{Bank}
+use Rattle.pcr_replay.specs.declared.bank.Bank.TheVariants.{Sha1, Sha256, Sha384, Sha512}
+
+named : (name : Option (List ℕ)) (n : ℕ) → has_float (name_or_number name n) ≡ false
+named (Some name) n = refl
+named None n = refl
+
+typed : (name : Option (List ℕ)) (n : ℕ) → has_float (named_number name n) ≡ false
+typed (Some name) n = refl
+typed None n = refl
+
+pub algorithm : (n : ℕ) → has_float (algorithm_json n) ≡ false
+unfolding algorithm_json
+algorithm n = named (algorithm_name n) n
+
+event_type : (n : ℕ) → has_float (type_json n) ≡ false
+unfolding type_json
+event_type n = typed (type_name n) n
+
+digest : (digest : Digest) → has_float (digest_json digest) ≡ false
+unfolding digest_json
+digest d = rw (algorithm d.algorithm) refl
+
+digests : (digests : List Digest) → items_have_float (items_of (map digest_json digests)) ≡ false
+digests [] = refl
+digests (d ∷ ds) = rw (digest d) (digests ds)
+
+-- A bank's name, or nothing.
+bank : (event : Event) (bank : Bank) → items_have_float (items_of (hashed_bank event bank)) ≡ false
+unfolding hashed_bank
+bank event b = named_bank (is_hash_of_data b event) (bank_name b)
+  where
+    named_bank : (there : Bool) (name : List ℕ) → items_have_float (items_of (cond there (string name ∷ []) [])) ≡ false
+    named_bank true name = refl
+    named_bank false name = refl
+
+or_false : (a b : Bool) → (a || b) ≡ false → (a ≡ false) × (b ≡ false)
+or_false false b none = (refl, none)
+or_false true b none = (cc, cc)
+
+joined : (xs ys : List Data) → items_have_float (items_of xs) ≡ false → items_have_float (items_of ys) ≡ false
+    → items_have_float (items_of (xs ++ ys)) ≡ false
+joined [] ys none more = more
+joined (x ∷ xs) ys none more =
+    let parts = or_false (has_float x) (items_have_float (items_of xs)) none in
+    rw parts.0 (joined xs ys parts.1 more)
+
+banks : (event : Event) → items_have_float (items_of (hashed_banks event)) ≡ false
+unfolding hashed_banks
+banks event =
+    let one = hashed_bank event Sha1 in
+    let two = hashed_bank event Sha256 in
+    let three = hashed_bank event Sha384 in
+    let four = hashed_bank event Sha512 in
+    joined (one ++ two ++ three) four (joined (one ++ two) three (joined one two (bank event Sha1) (bank event Sha256))
+    (bank event Sha384)) (bank event Sha512)
+
+-- What data say has no float.
+nodes : (nodes : List Node) → items_have_float (items_of (map node_json nodes)) ≡ false
+unfolding node_json
+nodes [] = refl
+nodes (n ∷ ns) = nodes ns
+
+path : (found : Option (List Node)) → has_float (path_json found) ≡ false
+unfolding path_json
+path (Some found) = nodes (all_but_last found)
+path None = refl
+
+contents : (content : Content) → has_float (content_json content) ≡ false
+unfolding content_json variable_json image_json
+contents unread = refl
+contents (text bytes) = refl
+contents (separator n) = refl
+contents (locality n) = refl
+contents (variable read) = refl
+contents (image read found) = rw (path found) refl
+
+pub no_float : (log : List ℕ) (index : ℕ) (entry : Entry) (content : Content)
+    → has_float (event_json log index entry content) ≡ false
+unfolding event_json
+no_float log index entry content =
+    rw (contents content) (rw (digests entry.event.digests) (rw (banks entry.event) (rw
+    (event_type entry.event.event_type) refl)))

@@ -1,0 +1,4 @@
+pub mod Variable
+pub mod Image
+pub mod Content
+pub mod Views

@@ -1,0 +1,5 @@
+pub mod Names
+pub mod Content
+pub mod Event
+pub mod Events
+pub mod Replay

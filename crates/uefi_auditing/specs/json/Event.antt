@@ -1,0 +1,60 @@
+-- An event as JSON. The keys of an object come in order.
+use Rattle.std.specs.Prelude.{ℕ, ◌≡◌, List, [], ◌∷◌, ◌++◌, map, Option, Some, None, codes, if◌then◌else◌}
+use Rattle.hex.specs.Hex.{encode_lower}
+use Rattle.serde_json.specs.Data.{Data, number, unsigned, string, array, object, member, no_members}
+use Rattle.serde_json.specs.View.{items_of}
+use Rattle.serde_json.specs.Written.{compact_text}
+use Rattle.uefi_tcg.specs.v2.Event.{Digest, Event}
+use Rattle.pcr_replay.specs.declared.bank.Bank.{Bank}
+use Rattle.pcr_replay.specs.declared.bank.Bank.TheVariants.{Sha1, Sha256, Sha384, Sha512}
+use Rattle.pcr_replay.specs.Entries.{Entry}
+use Rattle.pcr_replay.specs.Measured.{is_hash_of_data}
+use Rattle.uefi_auditing.specs.content.Content.{Content, Says, form_of}
+use Rattle.uefi_auditing.specs.json.Content.{content_json}
+use Rattle.uefi_auditing.specs.json.Names.{algorithm_name, bank_name, type_name}
+
+-- The name, or the number of what has none.
+abbrev pub name_or_number : Option (List ℕ) → ℕ → Data
+name_or_number (Some name) n = string name
+name_or_number None n = number (unsigned n)
+
+unfoldable pub algorithm_json : ℕ → Data
+algorithm_json algorithm = name_or_number (algorithm_name algorithm) algorithm
+
+-- A digest: its algorithm, and its bytes in hex.
+unfoldable pub digest_json : Digest → Data
+digest_json digest = object (member (codes "algorithm") (algorithm_json digest.algorithm) (member (codes "digest") (string (encode_lower digest.bytes)) no_members))
+
+-- A type: its name, if it has one, and its number.
+abbrev pub named_number : Option (List ℕ) → ℕ → Data
+named_number (Some name) n = object (member (codes "name") (string name) (member (codes "number") (number (unsigned n)) no_members))
+named_number None n = object (member (codes "number") (number (unsigned n)) no_members)
+
+unfoldable pub type_json : ℕ → Data
+type_json event_type = named_number (type_name event_type) event_type
+
+-- The bank's name, if the event's digest of the bank is the hash of its data.
+unfoldable pub hashed_bank : Event → Bank → List Data
+hashed_bank event bank = if is_hash_of_data bank event then string (bank_name bank) ∷ [] else []
+
+-- The names of all such banks.
+unfoldable pub hashed_banks : Event → List Data
+hashed_banks event = hashed_bank event Sha1 ++ hashed_bank event Sha256 ++ hashed_bank event Sha384 ++ hashed_bank event Sha512
+
+-- An event of a log of this name, at this index: what its data say, the data in hex, its digests in order, the banks of which the digest is the hash of the data, its offset, its register and its type.
+unfoldable pub event_json : List ℕ → ℕ → Entry → Content → Data
+event_json log index entry content =
+    object (member (codes "content") (content_json content)
+    (member (codes "data") (string (encode_lower entry.event.event_data))
+    (member (codes "digests") (array (items_of (map digest_json entry.event.digests)))
+    (member (codes "hashes_to") (array (items_of (hashed_banks entry.event)))
+    (member (codes "index") (number (unsigned index))
+    (member (codes "log") (string log)
+    (member (codes "offset") (number (unsigned entry.offset))
+    (member (codes "register") (number (unsigned entry.event.pcr_index))
+    (member (codes "type") (type_json entry.event.event_type) no_members)))))))))
+
+-- The text of an event, with what its data say by its type.
+abbrev pub IsEventLine : List ℕ → ℕ → Entry → List ℕ → Type 0
+IsEventLine log index entry line = (content : Content) × Says (form_of entry.event.event_type) entry.event.event_data content
+    × (line ≡ compact_text (event_json log index entry content))

@@ -1,0 +1,5 @@
+-- Words of private contracts and ghost fields alone.
+pub mod json
+pub mod text
+pub mod verify
+pub mod diff

@@ -1,0 +1,85 @@
+ghost use Rattle.std.specs.Prelude.{◌&&◌, ◌≡◌, map, IfOk};
+ghost use Rattle.uefi_auditing.specs.diff.Differences.{AppendsDifferences};
+ghost use Rattle.uefi_auditing.specs.private.diff.Appending.{AppendsCompared, AppendsRegister};
+ghost use Rattle.uefi_auditing.specs.private.diff.Views.{numbered_of};
+
+use crate::diff::lines::push_first;
+use crate::diff::only::push_only;
+use crate::diff::register::{NumberedEntry, entries_of, first_difference};
+use crate::text::LogFile;
+use pcr_replay::laws::one_contents;
+use std::alloc::{AllocError, Global};
+
+/// How many registers are compared: the 24 that a TPM has, and those above as one.
+const COMPARED: u32 = 25;
+
+/// Appends how the events of two logs differ, register by register, those above 23 together: a line
+/// for the first event in which they differ, one for each event that only the old log has, and one
+/// for each that only the new log has. For a register whose events are the same there is none.
+///
+/// Events are the same if they have the same register, type, digests and data, wherever they stand
+/// in the log. An event that differs is compared with each event of its register in the other log.
+///
+/// Returns whether the events of all registers are the same.
+///
+/// # Errors
+///
+/// [`AllocError`] if an allocation fails. The text may have grown then.
+pub fn push_differences(
+    text: &mut String,
+    alloc: Global,
+    old: &LogFile<'_>,
+    new: &LogFile<'_>,
+) -> Result<bool, AllocError>
+    ensures { IfOk result (AppendsDifferences old.now new.now text.old text.new) }
+{
+    let mut same = true;
+    for register in 0..COMPARED {
+        let is_same = push_register(text, alloc, old, new, register)?;
+        same = both(same, is_same);
+    }
+    Ok(same)
+}
+
+/// Returns whether both are true.
+fn both(one: bool, other: bool) -> bool
+    ensures { result ≡ (one && other) }
+{
+    one && other
+}
+
+/// Appends how the events of a register differ, and returns whether they are the same.
+fn push_register(
+    text: &mut String,
+    alloc: Global,
+    old: &LogFile<'_>,
+    new: &LogFile<'_>,
+    register: u32,
+) -> Result<bool, AllocError>
+    ensures { IfOk result (AppendsRegister old.now new.now register text.old text.new) }
+{
+    one_contents();
+    let olds = entries_of(alloc, old.log().entries(), register)?;
+    let news = entries_of(alloc, new.log().entries(), register)?;
+    push_compared(text, old.name, olds.as_slice(), new.name, news.as_slice())
+}
+
+/// Appends how these events of two logs differ, and returns whether they are the same.
+fn push_compared(
+    text: &mut String,
+    old_name: &str,
+    olds: &[NumberedEntry<'_>],
+    new_name: &str,
+    news: &[NumberedEntry<'_>],
+) -> Result<bool, AllocError>
+    ensures { IfOk result (AppendsCompared old_name.now new_name.now (map numbered_of olds.now)
+        (map numbered_of news.now) text.old text.new) }
+{
+    let Some(at) = first_difference(olds, news) else {
+        return Ok(true);
+    };
+    push_first(text, old_name, olds.get(at), new_name, news.get(at))?;
+    push_only(text, old_name, olds, news)?;
+    push_only(text, new_name, news, olds)?;
+    Ok(false)
+}

@@ -1,0 +1,19 @@
+//! What an event log has, as the lines of JSON that the program `uefi_audit` prints.
+//!
+//! [`push_events`] appends the events of a log, a line each, and [`event_line`] returns the line of
+//! one event. [`push_replay_json`] appends one line for a log: the registers that it leads to, by
+//! banks, or why they can't be known.
+//!
+//! A line is the text without spaces of a value, with each object's keys in order (`specs/json`).
+
+pub use self::event::event_line;
+pub use self::events::push_events;
+pub use self::replay::push_replay_json;
+
+mod bank;
+mod content;
+mod digests;
+mod event;
+mod events;
+mod names;
+mod replay;

@@ -1,0 +1,116 @@
+ghost use Rattle.std.specs.Prelude.{◌≡◌, IfOk, string_bytes};
+ghost use Rattle.hex.specs.Hex.{encode_lower};
+ghost use Rattle.serde_json.specs.Data.{string};
+ghost use Rattle.serde_json.specs.View.{view};
+ghost use Rattle.pcr_replay.specs.Views.{entry_of};
+ghost use Rattle.uefi_auditing.specs.json.Event.{IsEventLine, event_json, type_json};
+ghost use Rattle.uefi_auditing.specs.content.Views.{content_of};
+
+use crate::content::{Content, read_content};
+use crate::json::content::content_json;
+use crate::json::digests::{digests_json, hashed_banks};
+use crate::json::names::type_name;
+use pcr_replay::LogEntry;
+use serde_json::{Map, Value, json, put};
+use std::alloc::{AllocError, Global};
+use uefi_tcg::EventType;
+
+/// Returns an event as one line of JSON, without a line's end: an object with the name of its log,
+/// the event's index in it, and what the event holds.
+///
+/// | key | value |
+/// |---|---|
+/// | `content` | what the data say, as below; `null` where they aren't read |
+/// | `data` | the data in hex |
+/// | `digests` | for each digest, in order, an object with `algorithm` and `digest` |
+/// | `hashes_to` | the names of the banks whose digest is the hash of the data |
+/// | `index`, `log` | what was given |
+/// | `offset` | where the event starts in the log's bytes |
+/// | `register` | the index of the register |
+/// | `type` | an object with `name`, if the type has one, and `number` |
+///
+/// An algorithm is its name, or the number of one without a name; a digest is in hex. A bank is in
+/// `hashes_to` if the event has one digest of it, of its length, and that is the hash.
+///
+/// | type of the event | `content` |
+/// |---|---|
+/// | `EV_NO_ACTION` | `locality`, if the data are `StartupLocality`, a zero byte and it |
+/// | `EV_SEPARATOR` | `separator`, the number that four bytes of data are |
+/// | `EV_ACTION`, `EV_EFI_ACTION`, `EV_OMIT_BOOT_DEVICE_EVENTS`, `EV_EFI_HCRTM_EVENT` | `text` |
+/// | `EV_EFI_VARIABLE_DRIVER_CONFIG`, `_BOOT`, `_BOOT2`, `_AUTHORITY` | `variable` |
+/// | `EV_EFI_BOOT_SERVICES_APPLICATION`, `_DRIVER`, `EV_EFI_RUNTIME_SERVICES_DRIVER` | `image` |
+///
+/// A text is in characters of ASCII that print. A variable has `guid`, `name` and `data`; in its
+/// name U+FFFD stands for a surrogate. An image has `address`, `length`, `link_address` and `path`,
+/// the nodes of its device path but the one that ends it, each with `type`, `subtype` and `data`;
+/// the path is `null` if its bytes are none.
+///
+/// # Errors
+///
+/// [`AllocError`] if an allocation fails.
+pub fn event_line(
+    alloc: Global,
+    log: &str,
+    index: usize,
+    entry: &LogEntry<'_>,
+) -> Result<String, AllocError>
+    ensures { IfOk result
+        (λ line. IsEventLine log.now index (entry_of entry.now) (string_bytes line)) }
+{
+    let content = read_content(&entry.event);
+    let value = event_json(alloc, log, index, entry, &content)?;
+    value.to_string(alloc)
+}
+
+/// Returns an event as JSON, with what its data say.
+#[tactic(auto, unfolding(crate::specs::json::Event::event_json))]
+pub(crate) fn event_json(
+    alloc: Global,
+    log: &str,
+    index: usize,
+    entry: &LogEntry<'_>,
+    content: &Content<'_>,
+) -> Result<Value, AllocError>
+    ensures { IfOk result (λ value. view value
+        ≡ event_json log.now index (entry_of entry.now) (content_of content.now)) }
+{
+    let event = &entry.event;
+    let mut members = Map::new(alloc);
+    let content = content_json(alloc, content)?;
+    put(&mut members, alloc, "content", content)?;
+    let data = hex_json(alloc, event.event_data())?;
+    put(&mut members, alloc, "data", data)?;
+    let digests = Value::Array(digests_json(alloc, event)?);
+    put(&mut members, alloc, "digests", digests)?;
+    let hashes_to = Value::Array(hashed_banks(alloc, event)?);
+    put(&mut members, alloc, "hashes_to", hashes_to)?;
+    put(&mut members, alloc, "index", Value::from(index))?;
+    let log = Value::try_from_str(alloc, log)?;
+    put(&mut members, alloc, "log", log)?;
+    put(&mut members, alloc, "offset", Value::from(entry.offset))?;
+    let register = event.pcr_index().0;
+    put(&mut members, alloc, "register", Value::from(register))?;
+    let event_type = type_json(alloc, event.event_type())?;
+    put(&mut members, alloc, "type", event_type)?;
+    Ok(Value::Object(members))
+}
+
+/// Returns bytes as a text of hex digits.
+pub(crate) fn hex_json(alloc: Global, bytes: &[u8]) -> Result<Value, AllocError>
+    ensures { IfOk result (λ value. view value ≡ string (encode_lower bytes.now)) }
+{
+    let digits = hex::encode(alloc, bytes)?;
+    Ok(Value::String(digits))
+}
+
+/// Returns a type: its name, if it has one, and its number.
+#[tactic(auto, unfolding(crate::specs::json::Event::type_json))]
+fn type_json(alloc: Global, event_type: EventType) -> Result<Value, AllocError>
+    ensures { IfOk result (λ value. view value ≡ type_json event_type.0) }
+{
+    let number = event_type.0;
+    match type_name(event_type) {
+        Some(name) => json!(in alloc; {"name": name, "number": number}),
+        None => json!(in alloc; {"number": number}),
+    }
+}

@@ -1,0 +1,56 @@
+ghost use Rattle.std.specs.Prelude.{◌<◌, ◌^◌, length, OnOk};
+ghost use Rattle.pcr_replay.specs.Views.{entries_left, entry_of};
+ghost use Rattle.uefi_auditing.specs.json.Events.{AppendsEvents};
+ghost use Rattle.uefi_auditing.specs.private.json.Entries.{AppendsEvent, AppendsEventLines};
+
+use crate::json::event::event_line;
+use crate::text::LogFile;
+use pcr_replay::{LogEntries, LogEntry};
+use std::alloc::{AllocError, Global};
+
+/// Appends the events of a log in order, each as one line of JSON: that of [`event_line`] with the
+/// file's name and the event's index, and a line break.
+///
+/// # Errors
+///
+/// [`AllocError`] if an allocation fails. The text may have grown then.
+pub fn push_events(text: &mut String, alloc: Global, file: &LogFile<'_>) -> Result<(), AllocError>
+    ensures { OnOk result (AppendsEvents file.now.name.now file.now.bytes.now file.now.last_entry
+        text.old text.new) }
+{
+    push_entries(text, alloc, file.name, file.log().entries())
+}
+
+/// Appends a line for each entry.
+fn push_entries(
+    text: &mut String,
+    alloc: Global,
+    name: &str,
+    entries: LogEntries<'_>,
+) -> Result<(), AllocError>
+    requires { length (entries_left entries) < 2 ^ 64 }
+    ensures { OnOk result
+        (AppendsEventLines name.now (entries_left entries.entry) text.old text.new) }
+{
+    let mut index = 0;
+    for entry in entries {
+        push_event(text, alloc, name, index, &entry)?;
+        index += 1;
+    }
+    Ok(())
+}
+
+/// Appends the line of an entry.
+fn push_event(
+    text: &mut String,
+    alloc: Global,
+    name: &str,
+    index: usize,
+    entry: &LogEntry<'_>,
+) -> Result<(), AllocError>
+    ensures { OnOk result
+        (AppendsEvent name.now index (entry_of entry.now) text.old text.new) }
+{
+    let line = event_line(alloc, name, index, entry)?;
+    writeln!(text, "{line}")
+}

@@ -1,0 +1,14 @@
+//! Laws of the definitions. Each function states a law that holds for all values, and does nothing
+//! when it runs.
+
+ghost use Rattle.uefi_auditing.specs.Laws.{OneContent};
+
+use uefi_path::laws::one_front;
+
+/// States that the data of an event say one thing, by the form that its type gives them. So an
+/// event has one line, as [`event_line`](crate::event_line) promises it.
+pub fn one_content()
+    ensures { OneContent }
+{
+    one_front();
+}

@@ -1,0 +1,39 @@
+ghost use Rattle.std.specs.Prelude.{◌≡◌, IfSome, IfNone};
+ghost use Rattle.pcr_replay.specs.declared.bank.Bank.{Bank};
+ghost use Rattle.uefi_auditing.specs.text.Banks.{bank_name, bank_of};
+
+use pcr_replay::Bank;
+use uefi_tcg::AlgorithmId;
+
+/// Returns the name of a bank, as tpm2-tools has it.
+pub fn bank_name(bank: Bank) -> &'static str
+    ensures { result.now ≡ bank_name bank }
+{
+    match bank {
+        Bank::Sha1 => "sha1",
+        Bank::Sha256 => "sha256",
+        Bank::Sha384 => "sha384",
+        Bank::Sha512 => "sha512",
+    }
+}
+
+/// Returns the bank of this name; `None` if no bank that can be replayed has it.
+pub fn bank_named(name: &str) -> Option<Bank>
+    ensures bank { IfSome result (λ bank. name.now ≡ bank_name bank) }
+    ensures none { IfNone result ((bank : Bank) → name.now ≡ bank_name bank → ⊥) }
+{
+    match name {
+        "sha1" => Some(Bank::Sha1),
+        "sha256" => Some(Bank::Sha256),
+        "sha384" => Some(Bank::Sha384),
+        "sha512" => Some(Bank::Sha512),
+        _ => None,
+    }
+}
+
+/// Returns the bank of an algorithm; `None` if its registers can't be replayed.
+pub fn bank_of(algorithm: AlgorithmId) -> Option<Bank>
+    ensures { result ≡ bank_of algorithm.0 }
+{
+    Bank::of(algorithm)
+}

@@ -1,9 +1,0 @@
-pub mod NamedBits
-pub mod NumbersBack
-pub mod Parts
-pub mod Ranges
-pub mod Sharing
-pub mod WalkNames
-pub mod WriterArgs
-pub mod WriterWalk
-pub mod Written

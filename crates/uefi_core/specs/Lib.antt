@@ -1,9 +1,0 @@
-pub mod Prefix
-pub mod Flags
-pub mod LittleEndian
-pub mod Buffer
-pub mod GuidText
-pub mod StatusCode
-pub mod Views
-pub mod Texts
-pub mod Laws

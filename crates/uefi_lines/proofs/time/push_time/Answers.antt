@@ -1,7 +1,0 @@
-use Rattle.std.proofs.Common.{append_assoc}
-use Rattle.uefi_lines.specs.Time.{time_line}
-use Rattle.uefi_lines.proofs.time.push_time.Goals as goal
-
-pub returns : goal.returns
-unfolding time_line
-returns g c = simp append_assoc (simp (c.bits-daylight.ensures, c.daylight.ensures) at c.writeln.ensures.bytes)

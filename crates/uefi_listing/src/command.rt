@@ -1,0 +1,116 @@
+ghost use Rattle.std.specs.Prelude.{◌≡◌, ℕ, List, [], ◌∷◌, map, string_bytes, IfSome, IfNone, Option, MatchOption};
+ghost use Rattle.uefi_listing.specs.declared.command.Command.{Command};
+ghost use Rattle.uefi_listing.specs.Arguments.{AskOver, Asks, AskForNothing, IsDecimal, IsLastEntry};
+
+/// What the program is asked to list.
+#[derive(Clone, Copy, PartialEq, Eq, Debug)]
+pub enum Command {
+    /// `path FILE`: the device path that is a prefix of the file.
+    Path,
+    /// `log1 FILE LAST`: the file as a version 1 event log, with LAST as its last entry, or without
+    /// one if LAST is `-`.
+    Log1(Option<usize>),
+    /// `log2 FILE LAST`: the same of a version 2 event log.
+    Log2(Option<usize>),
+    /// `log2after FILE LAST`: the same, with the events that follow the header event.
+    Log2After(Option<usize>),
+    /// `config FILE`: the configurations of the file, which is a text.
+    Config,
+    /// `pci FILE`: the PCI resources that the file begins with.
+    Pci,
+    /// `time FILE`: the time in the first sixteen bytes of the file.
+    Time,
+    /// `map FILE DESC`: the file as a memory map with a descriptor every DESC bytes.
+    Map(usize),
+    /// `info FILE WRITTEN`: the file information record in the first WRITTEN bytes of the file.
+    Info(usize),
+}
+
+impl Command {
+    /// Returns the command that the words after the program's name ask for, or `None` if they ask
+    /// for none.
+    ///
+    /// The words are the command's name, FILE, and a third one for some commands: for `map` and
+    /// `info` a number, which is one or more digits 0 to 9 and at most 2^64 - 1; for `log1`, `log2`
+    /// and `log2after` such a number, or `-`.
+    pub fn from_words(words: &[String]) -> Option<Command>
+        ensures asked { IfSome result (λ command. Asks command (map string_bytes words.now)) }
+        ensures other_words { IfNone result (AskForNothing (map string_bytes words.now)) }
+    {
+        let (command, _) = command_and_file(words)?;
+        Some(command)
+    }
+}
+
+/// Returns the command and the FILE that the words after the program's name ask for, or `None` if
+/// they ask for none.
+pub fn command_and_file(words: &[String]) -> Option<(Command, &str)>
+    ensures asked { IfSome result
+        (λ asked. AskOver asked.0 asked.1.now (map string_bytes words.now)) }
+    ensures other_words { IfNone result (AskForNothing (map string_bytes words.now)) }
+{
+    match words {
+        [name, file] => Some((command_alone(name.as_str())?, file.as_str())),
+        [name, file, word] => Some((command_with(name.as_str(), word.as_str())?, file.as_str())),
+        _ => None,
+    }
+}
+
+/// Returns the command of this name that takes no word after FILE, or `None` if there is none.
+fn command_alone(name: &str) -> Option<Command>
+    ensures asked { IfSome result
+        (λ command. (file : List ℕ) → AskOver command file (name.now ∷ file ∷ [])) }
+    ensures other_name { IfNone result ((command : Command) → (file : List ℕ)
+        → AskOver command file (name.now ∷ file ∷ []) → ⊥) }
+{
+    match name {
+        "path" => Some(Command::Path),
+        "config" => Some(Command::Config),
+        "pci" => Some(Command::Pci),
+        "time" => Some(Command::Time),
+        _ => None,
+    }
+}
+
+/// Returns the command of this name with the word after FILE, or `None` if there is none or it
+/// wants another word.
+fn command_with(name: &str, word: &str) -> Option<Command>
+    ensures asked { IfSome result
+        (λ command. (file : List ℕ) → AskOver command file (name.now ∷ file ∷ word.now ∷ [])) }
+    ensures other_words { IfNone result ((command : Command) → (file : List ℕ)
+        → AskOver command file (name.now ∷ file ∷ word.now ∷ []) → ⊥) }
+{
+    match (name, last_entry(word), decimal(word)) {
+        ("log1", Some(last), _) => Some(Command::Log1(last)),
+        ("log2", Some(last), _) => Some(Command::Log2(last)),
+        ("log2after", Some(last), _) => Some(Command::Log2After(last)),
+        ("map", _, Some(stride)) => Some(Command::Map(stride)),
+        ("info", _, Some(written)) => Some(Command::Info(written)),
+        _ => None,
+    }
+}
+
+/// Returns the number that the word is in decimal, or `None` if it is none: it is empty, it has
+/// another character than a digit, or the number is above 2^64 - 1.
+fn decimal(word: &str) -> Option<usize>
+    ensures { MatchOption result ((n : ℕ) → IsDecimal word.now n → ⊥) (IsDecimal word.now) }
+{
+    // `parse` accepts a plus sign, which is no digit.
+    if word.starts_with('+') {
+        return None;
+    }
+    word.parse::<usize>().ok()
+}
+
+/// Returns the last entry that the word names, where `-` names none; or `None` if the word is
+/// neither that nor a number.
+fn last_entry(word: &str) -> Option<Option<usize>>
+    ensures { MatchOption result ((last_entry : Option ℕ) → IsLastEntry word.now last_entry → ⊥)
+        (IsLastEntry word.now) }
+{
+    if word == "-" {
+        return Some(None);
+    }
+    let last_entry = decimal(word)?;
+    Some(Some(last_entry))
+}

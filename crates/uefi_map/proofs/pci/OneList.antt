@@ -1,0 +1,165 @@
+-- All bytes begin with exactly one list, or have exactly one fault.
+use Rattle.std.proofs.Common.{◌≡◌, ℕ, suc, zero, ◌≤◌, ◌⊎◌, List, [], ◌∷◌, ◌++◌, length, drop, refl, sym, ◌∙◌, ap, subst}
+use Rattle.std.proofs.Common.{arith, inl, inr, length-append, length-drop}
+use Rattle.std.proofs.lemmas.List.{append_cancel_left}
+use Rattle.std.proofs.lemmas.Bool.{cases_eq, cases_lt}
+use Rattle.uefi_map.specs.declared.pci.resource.QwordAddressSpaceDescriptor.{QwordAddressSpaceDescriptor}
+use Rattle.uefi_map.specs.declared.pci.resource_error.ResourceError.{ResourceError}
+use Rattle.uefi_map.specs.declared.pci.resource_error.ResourceError.TheVariants.{NoEndTag, CutRecord, UnknownTag}
+use Rattle.uefi_map.specs.declared.pci.resource_error.ResourceError.TheVariants.{Memory}
+use Rattle.uefi_map.specs.pci.Resource.{record_tag, record_length, resource_in, IsRecord}
+use Rattle.uefi_map.specs.pci.ResourceList.{BeginWithRecords, BeginWith, end_tag, HaveList, IsFaultOf, HaveFault}
+use Rattle.uefi_map.specs.pci.ResourceList.{HaveSomeList, HaveSomeFault, HaveOneList, HaveOneFault}
+use Rattle.uefi_map.specs.pci.Laws.{ListOrFault, NeverBoth, ListAlone, FaultAlone}
+use Rattle.uefi_map.proofs.pci.Records.{same_part, more_records, first_record}
+
+-- The bytes begin with no record.
+abbrev NoRecord : List ℕ → Type 0
+NoRecord rest = (first after : List ℕ) (d : QwordAddressSpaceDescriptor) → IsRecord first d → rest ≡ first ++ after → ⊥
+
+-- The records up to where none comes are one list, and what follows them is one.
+one_walk : (ds es : List QwordAddressSpaceDescriptor) (bytes r s : List ℕ) → BeginWithRecords bytes ds r
+    → BeginWithRecords bytes es s
+    → NoRecord r → NoRecord s → (ds ≡ es) × (r ≡ s)
+one_walk [] [] bytes r s p q none_r none_s = (refl, sym p ∙ q)
+one_walk [] (e ∷ es) bytes r s p q none_r none_s = absurd (none_r q.0 q.1 e q.2 (sym p ∙ q.4))
+one_walk (d ∷ ds) [] bytes r s p q none_r none_s = absurd (none_s p.0 p.1 d p.2 (sym q ∙ p.4))
+one_walk (d ∷ ds) (e ∷ es) bytes r s p q none_r none_s =
+    let whole : p.0 ++ p.1 ≡ q.0 ++ q.1 = sym p.4 ∙ q.4 in
+    let size : length p.0 ≡ length q.0 = p.2.size ∙ sym q.2.size in
+    let text : p.0 ≡ q.0 = same_part p.0 q.0 p.1 q.1 size whole in
+    let after : p.1 ≡ q.1 = append_cancel_left q.0 p.1 q.1 (ap (λ b. b ++ p.1) (sym text) ∙ whole) in
+    let rest = one_walk ds es q.1 r s (subst (λ b. BeginWithRecords b ds r) after p.3) q.3 none_r none_s in
+    let first : d ≡ e = p.2.fields ∙ ap resource_in text ∙ sym q.2.fields in
+    let others : ds ≡ es = rest.0 in
+    ((cc), rest.1)
+
+-- A record begins with its tag, and has all its bytes.
+tag_of : (text after more : List ℕ) (d : QwordAddressSpaceDescriptor) (tag : ℕ) → IsRecord text d
+    → tag ∷ more ≡ text ++ after → tag ≡ record_tag
+tag_of [] after more d tag is e = absurd (omega (arith, is.size))
+tag_of (t ∷ text) after more d tag is e =
+    let first : t ≡ record_tag = is.tag in
+    cc
+
+long_enough : (rest text after : List ℕ) (d : QwordAddressSpaceDescriptor) → IsRecord text d → rest ≡ text ++ after
+    → record_length ≤ length rest
+long_enough rest text after d is e = omega (arith, is.size, ap length e, length-append text after)
+
+other_tag : (rest : List ℕ) (tag : ℕ) → BeginWith rest tag → (tag ≡ record_tag → ⊥) → NoRecord rest
+other_tag rest tag begin other text after d is e = other (tag_of text after begin.0 d tag is (sym begin.1 ∙ e))
+
+none_at_end : (rest : List ℕ) → BeginWith rest end_tag → NoRecord rest
+none_at_end rest begin = other_tag rest end_tag begin (λ same. absurd (omega (arith, same)))
+
+none_at_fault : (rest : List ℕ) (fault : ResourceError) → IsFaultOf rest fault → NoRecord rest
+none_at_fault rest NoEndTag empty =
+    λ text after d is e. omega (arith, long_enough rest text after d is e, ap length empty)
+none_at_fault rest CutRecord cut = λ text after d is e. omega (arith, long_enough rest text after d is e, cut.1)
+none_at_fault rest (UnknownTag tag) unknown = other_tag rest tag unknown.0 unknown.1
+none_at_fault rest Memory never = absurd never
+
+pub list_alone : ListAlone
+list_alone bytes ds es p q = (one_walk ds es bytes p.0 q.0 p.1 q.1 (none_at_end p.0 p.2) (none_at_end q.0 q.2)).0
+
+-- One offset has one fault.
+same_tag : (rest : List ℕ) (t u : ℕ) → BeginWith rest t → BeginWith rest u → t ≡ u
+same_tag rest t u p q =
+    let both : t ∷ p.0 ≡ u ∷ q.0 = sym p.1 ∙ q.1 in
+    cc
+
+not_empty : (rest : List ℕ) (t : ℕ) → rest ≡ [] → BeginWith rest t → ⊥
+not_empty rest t empty begin =
+    let both : [] ≡ t ∷ begin.0 = sym empty ∙ begin.1 in
+    cc
+
+one_fault_of : (rest : List ℕ) (f g : ResourceError) → IsFaultOf rest f → IsFaultOf rest g → f ≡ g
+one_fault_of rest NoEndTag NoEndTag p q = refl
+one_fault_of rest NoEndTag CutRecord p q = absurd (not_empty rest record_tag p q.0)
+one_fault_of rest NoEndTag (UnknownTag u) p q = absurd (not_empty rest u p q.0)
+one_fault_of rest CutRecord NoEndTag p q = absurd (not_empty rest record_tag q p.0)
+one_fault_of rest CutRecord CutRecord p q = refl
+one_fault_of rest CutRecord (UnknownTag u) p q = absurd (q.1 (same_tag rest u record_tag q.0 p.0))
+one_fault_of rest (UnknownTag t) NoEndTag p q = absurd (not_empty rest t q p.0)
+one_fault_of rest (UnknownTag t) CutRecord p q = absurd (p.1 (same_tag rest t record_tag p.0 q.0))
+one_fault_of rest (UnknownTag t) (UnknownTag u) p q = ap UnknownTag (same_tag rest t u p.0 q.0)
+one_fault_of rest Memory g p q = absurd p
+one_fault_of rest NoEndTag Memory p q = absurd q
+one_fault_of rest CutRecord Memory p q = absurd q
+one_fault_of rest (UnknownTag t) Memory p q = absurd q
+
+pub fault_alone : FaultAlone
+fault_alone bytes f g p q =
+    let same : p.1 ≡ q.1 = (one_walk p.0 q.0 bytes p.1 q.1 p.2 q.2 (none_at_fault p.1 f p.3)
+    (none_at_fault q.1 g q.3)).1 in
+    one_fault_of q.1 f g (subst (λ (rest : List ℕ). IsFaultOf rest f) same p.3) q.3
+
+-- The end tag is no fault.
+end_is_no_fault : (rest : List ℕ) (fault : ResourceError) → BeginWith rest end_tag → IsFaultOf rest fault → ⊥
+end_is_no_fault rest NoEndTag end p = not_empty rest end_tag p end
+end_is_no_fault rest CutRecord end p = let same : end_tag ≡ record_tag =
+    same_tag rest end_tag record_tag end p.0 in omega (arith, same)
+end_is_no_fault rest (UnknownTag tag) end p = p.2 (same_tag rest tag end_tag p.0 end)
+end_is_no_fault rest Memory end p = p
+
+pub never_both : NeverBoth
+never_both bytes has faulty =
+    let p = has.1 in
+    let q = faulty.1 in
+    let same : p.0 ≡ q.1 = (one_walk has.0 q.0 bytes p.0 q.1 p.1 q.2 (none_at_end p.0 p.2)
+    (none_at_fault q.1 faulty.0 q.3)).1 in
+    end_is_no_fault q.1 faulty.0 (subst (λ (rest : List ℕ). BeginWith rest end_tag) same p.2) q.3
+
+-- A list or a fault, after one record more.
+abbrev ListOrFaultOf : List ℕ → Type 0
+ListOrFaultOf bytes = HaveSomeList bytes ⊎ HaveSomeFault bytes
+
+after_record : (bytes after : List ℕ) (d : QwordAddressSpaceDescriptor) → BeginWithRecords bytes (d ∷ []) after
+    → ListOrFaultOf after → ListOrFaultOf bytes
+after_record bytes after d first (inl p) =
+    inl (d ∷ p.0, (p.1.0, more_records bytes after p.1.0 (d ∷ []) p.0 first p.1.1, p.1.2))
+after_record bytes after d first (inr p) =
+    inr (p.0, (d ∷ p.1.0, p.1.1, more_records bytes after p.1.1 (d ∷ []) p.1.0 first p.1.2, p.1.3))
+
+fault_here : (bytes : List ℕ) (fault : ResourceError) → IsFaultOf bytes fault → ListOrFaultOf bytes
+fault_here bytes fault p = inr (fault, ([], bytes, refl, p))
+
+-- By recursion on a number that the length doesn't exceed.
+found_within : (n : ℕ) (bytes : List ℕ) → length bytes ≤ n → ListOrFaultOf bytes
+found_within n [] within = fault_here [] NoEndTag refl
+found_within zero (t ∷ bytes) within = absurd (omega arith)
+found_within (suc n) (t ∷ bytes) within =
+    elim (cases_eq t record_tag) [
+      | inl is_record ↦
+          let begin : BeginWith (t ∷ bytes) record_tag = (bytes, ap (λ u. u ∷ bytes) is_record) in
+          elim (cases_lt (length (t ∷ bytes)) record_length) [
+            | inl short ↦ fault_here (t ∷ bytes) CutRecord (begin, short)
+            | inr enough ↦
+                let after = drop record_length (t ∷ bytes) in
+                after_record (t ∷ bytes) after _ (first_record (t ∷ bytes) begin enough)
+                (found_within n after (omega (arith, length-drop record_length (t ∷ bytes))))
+          ]
+      | inr no_record ↦ elim (cases_eq t end_tag) [
+        | inl is_end ↦ inl ([], (t ∷ bytes, refl, (bytes, ap (λ u. u ∷ bytes) is_end)))
+        | inr no_end ↦ fault_here (t ∷ bytes) (UnknownTag t) ((bytes, refl), no_record, no_end)
+      ]
+    ]
+
+pub list_or_fault : ListOrFault
+list_or_fault bytes = found_within (length bytes) bytes (omega arith)
+
+-- A list is the only one, and a fault is.
+pub have_one_list : (bytes : List ℕ) (list : List QwordAddressSpaceDescriptor) → HaveList bytes list
+    → HaveOneList bytes list
+have_one_list bytes list stands = record {
+  stands = stands;
+  no_other = λ other has. list_alone bytes other list has stands;
+  no_fault = never_both bytes (list, stands);
+}
+
+pub have_one_fault : (bytes : List ℕ) (fault : ResourceError) → HaveFault bytes fault → HaveOneFault bytes fault
+have_one_fault bytes fault stands = record {
+  stands = stands;
+  no_other = λ other has. fault_alone bytes other fault has stands;
+  no_list = λ has. never_both bytes has (fault, stands);
+}

@@ -1,0 +1,85 @@
+ghost use Rattle.std.specs.Prelude.{◌≡◌, ◌≢◌, ◌%◌, ◌↔◌, IsTrue};
+ghost use Rattle.uefi_map.specs.memory.Map.{IsMap, IsSane, count_of};
+
+use super::layout::{DESCRIPTOR_ALIGNMENT, DESCRIPTOR_LENGTH};
+
+/// The length of the longest map that counts as sane, 1 GiB.
+const MAX_SANE_SIZE: usize = 1 << 30;
+
+/// The key by which firmware knows one state of the memory map (UEFI 2.10, 7.2
+/// `EFI_BOOT_SERVICES.GetMemoryMap()`, `MapKey`). The default is 0.
+#[derive(Clone, Copy, PartialEq, Eq, Debug, Default)]
+pub struct MemoryMapKey(usize);
+
+impl MemoryMapKey {
+    ghost use Rattle.uefi_map.specs.memory.Views.{key_number};
+
+    /// Returns the key with the number.
+    pub fn from_raw(key: usize) -> MemoryMapKey
+        ensures { key_number result ≡ key }
+    {
+        MemoryMapKey(key)
+    }
+}
+
+/// What firmware says of a memory map beside its bytes (UEFI 2.10, 7.2
+/// `EFI_BOOT_SERVICES.GetMemoryMap()`).
+#[derive(Clone, Copy, Debug)]
+pub struct MemoryMapMeta {
+    /// The length of the whole map.
+    pub map_size: usize,
+    /// The stride: the bytes from one descriptor to the next, which may be more than a descriptor
+    /// has.
+    pub desc_size: usize,
+    /// The state of the map that the bytes are of.
+    pub map_key: MemoryMapKey,
+    /// The version of the descriptors.
+    pub desc_version: u32,
+}
+
+impl MemoryMapMeta {
+    ghost use Rattle.uefi_map.specs.memory.Views.{key_number};
+
+    /// Returns the sizes of a map of which neither the key nor the version is known: both are 0.
+    pub fn of(map_size: usize, desc_size: usize) -> MemoryMapMeta
+        ensures map_size { result.map_size ≡ map_size }
+        ensures desc_size { result.desc_size ≡ desc_size }
+        ensures key { key_number result.map_key ≡ 0 }
+        ensures version { result.desc_version ≡ 0 }
+    {
+        MemoryMapMeta {
+            map_size,
+            desc_size,
+            map_key: MemoryMapKey::from_raw(0),
+            desc_version: 0,
+        }
+    }
+
+    /// Returns the count of descriptors, for a stride that isn't 0 and divides the map's length.
+    pub fn entry_count(&self) -> usize
+        requires stride { self.now.desc_size ≢ 0 }
+        requires whole { self.now.map_size % self.now.desc_size ≡ 0 }
+        ensures { result ≡ count_of self.now }
+    {
+        self.map_size / self.desc_size
+    }
+
+    /// Returns whether the sizes are such as firmware gives: a stride of at least 40 bytes, and a
+    /// map of 1 to 2^30 bytes.
+    pub fn assert_sanity_checks(&self) -> bool
+        ensures { IsTrue result ↔ IsSane self.now }
+    {
+        self.desc_size >= DESCRIPTOR_LENGTH && self.map_size >= 1 && self.map_size <= MAX_SANE_SIZE
+    }
+
+    /// Returns whether the sizes make a map of a buffer with this length: the stride is at least 40
+    /// bytes, is a multiple of 8, and divides the map's length, which is at most the buffer's.
+    pub fn is_map_within(&self, length: usize) -> bool
+        ensures { IsTrue result ↔ IsMap length self.now }
+    {
+        self.desc_size >= DESCRIPTOR_LENGTH
+            && self.desc_size % DESCRIPTOR_ALIGNMENT == 0
+            && self.map_size % self.desc_size == 0
+            && self.map_size <= length
+    }
+}

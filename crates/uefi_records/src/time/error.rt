@@ -1,0 +1,106 @@
+ghost use Rattle.std.specs.Prelude.{Some};
+
+use std::error::Error;
+use std::fmt;
+
+/// Which fields of a time are at fault: outside their ranges or, for daylight, with bits that have
+/// no name. The default is no fault.
+#[derive(Clone, Copy, PartialEq, Eq, Debug, Default)]
+pub struct TimeError {
+    /// The year isn't 1900 to 9999.
+    pub year: bool,
+    /// The month isn't 1 to 12.
+    pub month: bool,
+    /// The day isn't 1 to 31.
+    pub day: bool,
+    /// The hour is above 23.
+    pub hour: bool,
+    /// The minute is above 59.
+    pub minute: bool,
+    /// The second is above 59.
+    pub second: bool,
+    /// The nanosecond is above 999,999,999.
+    pub nanosecond: bool,
+    /// The zone is neither unspecified nor -1440 to 1440 minutes.
+    pub timezone: bool,
+    /// Daylight has bits without a name. Only reading from bytes reports this, and then alone.
+    pub daylight: bool,
+}
+
+/// The error of bytes that are not a time.
+#[derive(Clone, Copy, PartialEq, Eq, Debug)]
+pub enum TimeByteConversionError {
+    /// These fields are at fault: daylight alone, or all others that are.
+    InvalidFields(TimeError),
+    /// There are fewer than sixteen bytes.
+    InvalidSize,
+}
+
+/// A line for each field that is at fault, in the order of the fields, each with a newline. The
+/// line of the month has no closing backquote, as in the Rust crate.
+impl fmt::Display for TimeError {
+    ghost use Rattle.uefi_records.specs.time.Texts.{time_error_text};
+
+    ghost output = { λ faults. Some (time_error_text faults) };
+
+    fn fmt<W: fmt::Write>(&self, f: &mut fmt::Formatter<W>) -> fmt::Result {
+        let year = FaultLine(self.year, "year not within `1900..=9999`");
+        let month = FaultLine(self.month, "month not within `1..=12");
+        let day = FaultLine(self.day, "day not within `1..=31`");
+        let hour = FaultLine(self.hour, "hour not within `0..=23`");
+        let minute = FaultLine(self.minute, "minute not within `0..=59`");
+        let second = FaultLine(self.second, "second not within `0..=59`");
+        let nanosecond = FaultLine(self.nanosecond, "nanosecond not within `0..=999_999_999`");
+        let zone = FaultLine(
+            self.timezone,
+            "time_zone not `Time::UNSPECIFIED_TIMEZONE` nor within `-1440..=1440`",
+        );
+        let daylight = FaultLine(self.daylight, "unknown bits set for daylight");
+        write!(
+            f,
+            "{year}{month}{day}{hour}{minute}{second}{nanosecond}{zone}{daylight}"
+        )
+    }
+}
+
+impl Error for TimeError {}
+
+/// A line of text, present if its field is at fault.
+#[derive(Clone, Copy)]
+struct FaultLine<'a>(bool, &'a str);
+
+impl fmt::Display for FaultLine<'_> {
+    ghost use Rattle.uefi_records.specs.time.Texts.{fault_line};
+
+    ghost output = { λ line. Some (fault_line line.0 line.1.now) };
+
+    fn fmt<W: fmt::Write>(&self, f: &mut fmt::Formatter<W>) -> fmt::Result {
+        let text = self.1;
+        if self.0 {
+            write!(f, "{text}\n")
+        } else {
+            write!(f, "")
+        }
+    }
+}
+
+/// The lines of the fields at fault, or a text without a newline if there are too few bytes.
+impl fmt::Display for TimeByteConversionError {
+    ghost use Rattle.uefi_records.specs.time.Texts.{conversion_error_text};
+
+    ghost output = { λ error. Some (conversion_error_text error) };
+
+    fn fmt<W: fmt::Write>(&self, f: &mut fmt::Formatter<W>) -> fmt::Result {
+        match self {
+            TimeByteConversionError::InvalidFields(faults) => write!(f, "{faults}"),
+            TimeByteConversionError::InvalidSize => {
+                write!(
+                    f,
+                    "the byte slice is not large enough to hold a Time struct"
+                )
+            }
+        }
+    }
+}
+
+impl Error for TimeByteConversionError {}
