@@ -3,3 +3,4 @@ pub mod Accepted
 pub mod Shown
 pub mod Compared
 pub mod Held
+pub mod CommandLine

@@ -30,7 +30,7 @@ const COMMANDS: [[&str; 2]; 4] = [
 ///
 /// What `clap` says of other words, the help or the version that they ask for, or
 /// [`OutOfMemory`](clap::error::ErrorKind::OutOfMemory) if an allocation fails.
-pub fn matches_of<'a>(alloc: Global, words: &'a [String]) -> Result<ArgMatches<'a>, Error> {
+pub(crate) fn matches_of<'a>(alloc: Global, words: &'a [String]) -> Result<ArgMatches<'a>, Error> {
     let mut command = Command::new(alloc, "uefi_audit")
         .version("0.1.0")
         .about(

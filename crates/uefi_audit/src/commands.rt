@@ -6,9 +6,9 @@ ghost use Rattle.uefi_audit.specs.declared.failure.Failure.TheVariants.{Output};
 use crate::compared::{push_comparison, push_verification};
 use crate::failure::{Failure, Status};
 use crate::input::{file_bytes, held_registers};
+use crate::request::{Format, Reading, Request};
 use crate::shown::{Shown, push_shown};
 use uefi_auditing::text::LogFile;
-use crate::{Format, Reading, Request};
 use std::io::{self, Write};
 use std::rt::Files;
 

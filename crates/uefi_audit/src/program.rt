@@ -3,9 +3,10 @@ ghost use Rattle.clap.specs.Words.{kind_of};
 ghost use Rattle.uefi_audit.specs.Ends.{failure_of};
 ghost use Rattle.uefi_audit.specs.declared.failure.Failure.TheVariants.{Output};
 
+use crate::command_line::matches_of;
 use crate::commands::perform;
 use crate::failure::{Failure, Status, exit_code};
-use crate::{matches_of, request_of};
+use crate::request::request_of;
 use std::process::ExitCode;
 use std::rt::{Env, Files};
 use std::{env, io};

@@ -9,7 +9,7 @@ use pcr_replay::Bank;
 
 /// What the words ask for.
 #[derive(Clone, Copy)]
-pub enum Request<'m, 'a> {
+pub(crate) enum Request<'m, 'a> {
     /// `events LOG..`: the events of each log.
     Events(&'m [&'a str]),
     /// `replay LOG.. [--bank B] [--json]`: the registers that each log leads to.
@@ -22,7 +22,7 @@ pub enum Request<'m, 'a> {
 
 /// How registers are printed.
 #[derive(Clone, Copy)]
-pub enum Format {
+pub(crate) enum Format {
     /// As `tpm2_pcrread` prints them.
     Text,
     /// As a JSON object a log (`--json`).
@@ -31,7 +31,7 @@ pub enum Format {
 
 /// How logs are read.
 #[derive(Clone, Copy)]
-pub struct Reading {
+pub(crate) struct Reading {
     /// `--last-entry N|none`.
     pub last_entry: LastEntry,
     /// `--allow-left-over`.
@@ -40,7 +40,7 @@ pub struct Reading {
 
 /// The last entry of a log, the offset at which its last event starts.
 #[derive(Clone, Copy)]
-pub enum LastEntry {
+pub(crate) enum LastEntry {
     /// The file's length, so that every whole event is one of the log.
     Length,
     /// This offset.
@@ -53,7 +53,7 @@ impl LastEntry {
     ghost use Rattle.uefi_audit.specs.CommandLine.{last_entry_of};
 
     /// Returns the last entry of a log of this length.
-    pub fn of_length(self, length: usize) -> Option<usize>
+    pub(crate) fn of_length(self, length: usize) -> Option<usize>
         ensures { result ≡ last_entry_of self length }
     {
         match self {
@@ -69,7 +69,7 @@ impl LastEntry {
 ///
 /// Which words lead to which matches is what `clap` promises. It also sees to it that `--locality`
 /// is a number below 256.
-pub fn request_of<'m, 'a>(
+pub(crate) fn request_of<'m, 'a>(
     name: &str,
     matches: &'m ArgMatches<'a>,
 ) -> Option<(Request<'m, 'a>, Reading)>
@@ -163,7 +163,7 @@ fn locality_of(matches: &ArgMatches<'_>) -> Option<u8>
 
 /// Returns how a command's matches ask for logs to be read; `None` if `--last-entry` has a word
 /// that is neither a number nor `none`.
-pub fn reading_of(matches: &ArgMatches<'_>) -> Option<Reading>
+pub(crate) fn reading_of(matches: &ArgMatches<'_>) -> Option<Reading>
     ensures { MatchOption result
         ((reading : Reading) → AsksReading (found_of matches.now) reading → ⊥)
         (AsksReading (found_of matches.now)) }

@@ -1,2 +1,5 @@
 pub mod Configurations
 pub mod NamedRecords
+pub mod LogSteps
+pub mod DigestLogs
+pub mod DigestSteps

@@ -3,12 +3,10 @@
 //! a program calls them over a file.
 
 pub mod calls;
-pub mod register;
-
-pub mod calls;
 pub mod configuration;
 pub mod file;
 pub mod map;
 pub mod path;
+pub mod register;
 pub mod resources;
 pub mod time;

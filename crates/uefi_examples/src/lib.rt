@@ -1,17 +1,21 @@
 //! Examples of callers: what a caller in another crate learns from public contracts alone.
 //!
-//! Each function calls a library of this repository and ensures what it then knows of its whole
-//! input. The proofs cite no proof of a library. Some of the functions are the examples in the
-//! documentation of the libraries. Those that read and write event logs stand in the crate
-//! `tcg_examples`.
+//! Begin with [`contracts`], which has a function of one's own over each reader. Each function here
+//! calls a library of this repository and ensures what it then knows of its whole input. The proofs
+//! cite no proof of a library. Some of the functions are the examples in the documentation of the
+//! libraries.
 #![tactic(auto)]
+
+pub mod contracts;
 
 pub mod base;
 pub mod configuration;
-pub mod contracts;
+pub mod digest_logs;
 pub mod errors;
+pub mod events;
 pub mod flags;
 pub mod full_map;
+pub mod logs;
 pub mod map;
 pub mod path;
 pub mod records;

@@ -13,7 +13,7 @@ use Rattle.uefi_hii.specs.Cut.{Part, AreGroups, pairs_of, results_of}
 use Rattle.uefi_hii.specs.Reading.{TakesGroup}
 use Rattle.uefi_hii.specs.Views.{result_of}
 use Rattle.uefi_hii.proofs.Wholes.{HasCut, all_groups, cut_more, cut_none}
-use Rattle.uefi_listing.specs.Config.{config_lines, configuration_lines, fault_line, header_lines, item_lines}
+use Rattle.uefi_listing.specs.Config.{result_lines, configuration_lines, fault_line, header_lines, item_lines}
 
 -- The lines of the first n groups of pairs were appended, and these pairs are left.
 pub record HasListed (A : Type 0) (all left : List Pair) (old now : List ℕ) (n : ℕ) : Type 0 where
@@ -70,7 +70,7 @@ pub listed_all : {A : Type 0} {all left : List Pair} {old now new : List ℕ} {c
     → HasListed A all left old now count → left ≡ []
     → new ≡ now ++ (codes "items " ++ decimal count ++ codes "\n")
     → (parts : List Part) × (pairs_of parts ≡ all) × AreGroups parts
-    × (new ≡ old ++ config_lines (results_of parts))
+    × (new ≡ old ++ result_lines (results_of parts))
 listed_all {A} {all} {left} {old} {now} {new} {count} so_far none is =
     let items = so_far.items in
     let found = all_groups all left items so_far.cut none in

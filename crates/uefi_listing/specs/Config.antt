@@ -65,18 +65,18 @@ abbrev pub item_lines : Result Configuration ParseError → List ℕ
 item_lines (Ok c) = configuration_lines c
 item_lines (Err fault) = fault_line fault
 
-abbrev pub config_lines : List (Result Configuration ParseError) → List ℕ
-config_lines results = flat_map item_lines results ++ codes "items " ++ decimal (length results) ++ codes "\n"
+abbrev pub result_lines : List (Result Configuration ParseError) → List ℕ
+result_lines results = flat_map item_lines results ++ codes "items " ++ decimal (length results) ++ codes "\n"
 
 -- The text grows by the lines of the results of groups that together are the pairs.
 abbrev pub AppendsConfigLines : {A : Type 0} → String A → String A → List Pair → Type 0
-AppendsConfigLines old new pairs = (parts : List Part) × (pairs_of parts ≡ pairs) × AreGroups parts × AppendsText old new (config_lines (results_of parts))
+AppendsConfigLines old new pairs = (parts : List Part) × (pairs_of parts ≡ pairs) × AreGroups parts × AppendsText old new (result_lines (results_of parts))
 
 -- The text lists the results of the cut of the bytes, which are UTF-8.
 pub record ListsConfigurations (bytes text : List ℕ) (parts : List Part) : Type 0 where
   pub is_text : IsUtf8 bytes
   pub cut : Cut bytes parts
-  pub lines : text ≡ config_lines (results_of parts)
+  pub lines : text ≡ result_lines (results_of parts)
 
 -- If the bytes are not UTF-8, the text says so.
 abbrev pub ConfigListing : List ℕ → List ℕ → Outcome → Type 0

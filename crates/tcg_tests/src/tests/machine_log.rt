@@ -1,8 +1,8 @@
 use std::test::Fail;
-use uefi_examples::digest_logs::count_of_register;
 use test_support::samples::MACHINE_LOG;
 use test_support::{bytes, same};
 use uefi_tcg::PcrIndex;
+use uefi_tcg::v2::EventLog;
 
 /// The events of each register in the log, counted by a reader of another language. Register 8 has
 /// none.
@@ -22,11 +22,23 @@ const COUNTS: [(u32, usize); 10] = [
 /// The offset at which the last event of the log starts.
 const LAST_ENTRY: usize = 5294;
 
+/// Returns how many events of the log extended a register.
+fn count_of_register(log: &EventLog<'_>, register: PcrIndex) -> usize {
+    let mut count = 0;
+    for event in log.iter() {
+        if event.pcr_index() == register {
+            count += 1;
+        }
+    }
+    count
+}
+
 #[test]
 fn each_register_of_a_machines_log_has_its_events(rt: HostRuntime) -> Result<(), Fail> {
-    let log = bytes(rt.alloc(), MACHINE_LOG)?;
+    let bytes = bytes(rt.alloc(), MACHINE_LOG)?;
+    let log = EventLog::new(Some(bytes.as_slice()), Some(LAST_ENTRY), false);
     for &(register, count) in &COUNTS {
-        let found = count_of_register(log.as_slice(), LAST_ENTRY, PcrIndex(register));
+        let found = count_of_register(&log, PcrIndex(register));
         same("a register", &(register, found), &(register, count))?;
     }
     Ok(())

@@ -1,15 +1,14 @@
-use super::register::events_of_register;
-use std::rt::Files;
-use std::{fs, io};
-use uefi_tcg::PcrIndex;
 use super::configuration::first_value_at;
 use super::file::file_size_in;
 use super::map::region_at;
 use super::path::goes_over_medium;
+use super::register::events_of_register;
 use super::resources::is_decoded;
 use super::time::year_in;
-use std::fs;
+use std::rt::Files;
+use std::{fs, io};
 use uefi_map::MemoryMapMeta;
+use uefi_tcg::PcrIndex;
 
 /// Prints the types of the events of a log that extended a register. The last event of the log may
 /// start anywhere, so every whole event counts.

@@ -1,8 +1,8 @@
-use uefi_auditing::event_line;
 use pcr_replay::Log;
 use std::alloc::Global;
 use std::test::Fail;
 use test_support::each_shows;
+use uefi_auditing::json::event_line;
 
 /// Logs with the last entry at their end, and the lines of their events.
 const LOGS: [[&str; 2]; 11] = [

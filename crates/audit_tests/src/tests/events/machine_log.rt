@@ -1,9 +1,9 @@
-use uefi_auditing::event_line;
 use pcr_replay::Log;
 use std::alloc::Global;
 use std::test::Fail;
 use test_support::samples::MACHINE_LOG;
 use test_support::{bytes, same_text};
+use uefi_auditing::json::event_line;
 
 /// Some events of a machine's log, each with its index and its line: the version of its code, a
 /// variable, a separator, an image and an action.

@@ -1,7 +1,6 @@
 use crate::tests::texts::{push_hex, push_kind};
 use std::alloc::{AllocError, Global};
 use std::test::Fail;
-use uefi_examples::digest_logs::all_bytes;
 use test_support::samples::{FOUR_EVENTS, FOUR_HEADER, SHA1_HEADER};
 use test_support::{bytes, holds, joined, joined_bytes, same, same_text};
 use uefi_tcg::AlgorithmId;
@@ -403,6 +402,16 @@ fn end_of(events: EventLogIter<'_>, input: &[u8], start: usize, ends: &[usize]) 
         Some(_) => None,
         None => Some(start),
     }
+}
+
+/// Returns the bytes of the events of a log, one after another.
+fn all_bytes(alloc: Global, bytes: &[u8], last_entry: usize) -> Result<Vec<u8>, AllocError> {
+    let log = EventLog::new(Some(bytes), Some(last_entry), false);
+    let mut joined = Vec::new(alloc);
+    for event in log.iter() {
+        joined.extend_from_slice(event.as_bytes())?;
+    }
+    Ok(joined)
 }
 
 /// Checks that the bytes of each event are those of the log up to its end, and so are those of all.

@@ -1,3 +1,0 @@
-pub mod LogSteps
-pub mod DigestLogs
-pub mod DigestSteps
