@@ -1,4 +1,6 @@
-ghost use Rattle.std.specs.Prelude.{◌≡◌, ◌≤◌, ℕ, length};
+ghost use Rattle.std.specs.Prelude.{◌≡◌, ◌≤◌, ℕ, length, nat_eq};
+ghost use Rattle.std.specs.Cmp.{partial_equiv_from_equiv, on_per, on_equiv};
+ghost use Rattle.std.specs.Cmp.Lexicographic.{pointwise, nat_list_eq_equiv};
 
 /// The most bytes that a register has.
 pub(crate) const ROOM: usize = 64;
@@ -39,9 +41,6 @@ impl RegisterValue {
 
 /// Equality of all bytes.
 impl PartialEq for RegisterValue {
-    ghost use Rattle.std.specs.Prelude.{nat_eq};
-    ghost use Rattle.std.specs.Cmp.{partial_equiv_from_equiv, on_per};
-    ghost use Rattle.std.specs.Cmp.Lexicographic.{pointwise, nat_list_eq_equiv};
     ghost use Rattle.pcr_replay.specs.Views.{value_of};
 
     ghost eq = { λ x y. pointwise nat_eq (value_of x) (value_of y) };
@@ -54,8 +53,6 @@ impl PartialEq for RegisterValue {
 }
 
 impl Eq for RegisterValue {
-    ghost use Rattle.std.specs.Cmp.{on_equiv};
-    ghost use Rattle.std.specs.Cmp.Lexicographic.{nat_list_eq_equiv};
     ghost use Rattle.pcr_replay.specs.Views.{value_of};
 
     ghost laws = { on_equiv value_of nat_list_eq_equiv };

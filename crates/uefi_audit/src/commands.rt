@@ -8,9 +8,9 @@ use crate::failure::{Failure, Status};
 use crate::input::{file_bytes, held_registers};
 use crate::request::{Format, Reading, Request};
 use crate::shown::{Shown, push_shown};
-use uefi_auditing::text::LogFile;
 use std::io::{self, Write};
 use std::rt::Files;
+use uefi_auditing::text::LogFile;
 
 /// Does what the words ask for.
 pub(crate) fn perform<R: Files + Input + Print + Eprint + AllocGlobal>(

@@ -2,10 +2,10 @@ ghost use Rattle.std.specs.Prelude.{IfOk};
 ghost use Rattle.uefi_audit.specs.Compared.{Compares, Verifies};
 
 use crate::shown::push_refusal;
+use std::alloc::{AllocError, Global};
 use uefi_auditing::diff::push_differences;
 use uefi_auditing::text::LogFile;
 use uefi_auditing::verify::{HeldRegister, push_verdict};
-use std::alloc::{AllocError, Global};
 
 /// Appends whether a log leads to the registers that a TPM held, and returns it; or the line that
 /// refuses the log.

@@ -1,13 +1,13 @@
 ghost use Rattle.std.specs.Prelude.{◌≡◌, ◌≢◌, [], IfOk, IfSome, Some, string_bytes};
 ghost use Rattle.uefi_audit.specs.Held.{fault_text, register_path};
 
-use uefi_auditing::text::bank_name;
-use uefi_auditing::verify::{HeldError, HeldRegister, held_in_file, held_in_text};
 use pcr_replay::{Bank, REGISTER_COUNT};
 use std::alloc::{AllocError, Global};
 use std::io::{self, ErrorKind, Read};
 use std::rt::Files;
 use std::{fmt, fs};
+use uefi_auditing::text::bank_name;
+use uefi_auditing::verify::{HeldError, HeldRegister, held_in_file, held_in_text};
 
 /// Returns the bytes of a file; `None` if it wasn't read, which is told on standard error.
 ///

@@ -1,11 +1,11 @@
 ghost use Rattle.std.specs.Prelude.{◌≡◌, ℕ, codes, IfSome, IfNone, MatchOption, Option};
 ghost use Rattle.clap.specs.Words.{found_of};
 ghost use Rattle.pcr_replay.specs.declared.bank.Bank.{Bank};
-ghost use Rattle.uefi_audit.specs.CommandLine.{Asks, AsksBank, AsksFormat, AsksLastEntry, AsksLocality, AsksReading, AskForNoRequest, AskForNothing, IsDecimal};
+ghost use Rattle.uefi_audit.specs.CommandLine.{Asks, AsksBank, AsksFormat, AsksLastEntry, AsksLocality, AsksReading, AskForNoRequest, AskForNothing, IsDecimal, last_entry_of};
 
-use uefi_auditing::text::bank_named;
 use clap::ArgMatches;
 use pcr_replay::Bank;
+use uefi_auditing::text::bank_named;
 
 /// What the words ask for.
 #[derive(Clone, Copy)]
@@ -50,8 +50,6 @@ pub(crate) enum LastEntry {
 }
 
 impl LastEntry {
-    ghost use Rattle.uefi_audit.specs.CommandLine.{last_entry_of};
-
     /// Returns the last entry of a log of this length.
     pub(crate) fn of_length(self, length: usize) -> Option<usize>
         ensures { result ≡ last_entry_of self length }

@@ -4,10 +4,10 @@ ghost use Rattle.uefi_auditing.specs.text.Replay.{AppendsReplay};
 ghost use Rattle.uefi_audit.specs.Accepted.{IsJudged};
 ghost use Rattle.uefi_audit.specs.Shown.{name_line, IsNamedReplay, Shows, ShowsEvents};
 
-use uefi_auditing::json::{push_events, push_replay_json};
-use uefi_auditing::text::{LogFile, push_left_over, push_replay};
 use pcr_replay::Bank;
 use std::alloc::{AllocError, Global};
+use uefi_auditing::json::{push_events, push_replay_json};
+use uefi_auditing::text::{LogFile, push_left_over, push_replay};
 
 /// What is printed of a log.
 #[derive(Clone, Copy)]

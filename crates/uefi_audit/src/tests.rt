@@ -37,10 +37,20 @@ const ASKED: [(&[&str], &str); 14] = [
         "verify a.log pcrs, locality 0, at its length",
     ),
     (
-        &["verify", "a.log", "--registers", "pcrs", "--locality", "255"],
+        &[
+            "verify",
+            "a.log",
+            "--registers",
+            "pcrs",
+            "--locality",
+            "255",
+        ],
         "verify a.log pcrs, locality 255, at its length",
     ),
-    (&["diff", "a.log", "b.log"], "diff a.log b.log, at its length"),
+    (
+        &["diff", "a.log", "b.log"],
+        "diff a.log b.log, at its length",
+    ),
     (
         &["diff", "a.log", "b.log", "--allow-left-over"],
         "diff a.log b.log, at its length, with bytes left over",
@@ -69,7 +79,14 @@ const REFUSED: [&[&str]; 16] = [
     &["replay", "a.log", "--bank", "sm3_256"],
     &["replay", "a.log", "--locality", "0"],
     &["verify", "a.log"],
-    &["verify", "a.log", "--registers", "pcrs", "--locality", "256"],
+    &[
+        "verify",
+        "a.log",
+        "--registers",
+        "pcrs",
+        "--locality",
+        "256",
+    ],
     &["verify", "a.log", "b.log", "--registers", "pcrs"],
     &["diff", "a.log"],
     &["diff", "a.log", "b.log", "c.log"],
@@ -162,7 +179,9 @@ fn words_ask_for_a_command(rt: HostRuntime) -> Result<(), Fail> {
     for (words, expected) in &ASKED {
         let found = asked(rt.alloc(), words)?;
         if found.as_deref() != Some(*expected) {
-            return Err(Fail::new(format_args!("{words:?}: found {found:?}, expected {expected:?}")));
+            return Err(Fail::new(format_args!(
+                "{words:?}: found {found:?}, expected {expected:?}"
+            )));
         }
     }
     Ok(())

@@ -1,5 +1,0 @@
-pub mod content
-pub mod json
-pub mod text
-pub mod verify
-pub mod diff

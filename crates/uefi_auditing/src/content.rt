@@ -12,7 +12,6 @@ ghost use Rattle.uefi_auditing.specs.declared.content.form.Form.TheVariants.{OfI
 
 pub use self::image::Image;
 pub use self::variable::Variable;
-
 use crate::content::form::{Form, form_of};
 use crate::content::image::{read_image, whole_path};
 use crate::content::variable::read_variable;

@@ -11,7 +11,6 @@ pub use self::algorithms::asked_algorithms;
 pub use self::naming::{bank_name, bank_named, bank_of};
 pub use self::registers::push_bank;
 pub use self::replay::{fault_text, push_left_over, push_replay};
-
 use pcr_replay::Log;
 
 mod algorithms;

@@ -108,7 +108,6 @@ impl<'a> CStr16<'a> {
 
 /// Writes the characters, without the NUL.
 impl fmt::Display for CStr16<'_> {
-    ghost use Rattle.std.specs.Prelude.{Some};
     ghost use Rattle.uefi_base.specs.Views.{text_units};
 
     ghost output = { λ text. Some (encode_utf8_all (characters_of (text_units text))) };

@@ -1,7 +1,7 @@
-ghost use Rattle.std.specs.Prelude.{◌≡◌, ◌↔◌, ◌<◌, [], ◌∷◌, ◌++◌, length, IsTrue, IsOk, IfOk, MatchOption};
+ghost use Rattle.std.specs.Prelude.{◌≡◌, ◌↔◌, ◌<◌, [], ◌∷◌, ◌++◌, length, IsTrue, IsOk, IfOk, MatchOption, encode_utf8_all, Some};
 ghost use Rattle.std.specs.Result.{IsErrOf};
 ghost use Rattle.std.specs.Str.{chars};
-ghost use Rattle.uefi_base.specs.Ucs2.{last_character, HasUnit, IsUcs2Text, MakeUcs2Text};
+ghost use Rattle.uefi_base.specs.Ucs2.{last_character, HasUnit, IsUcs2Text, MakeUcs2Text, characters_of};
 ghost use Rattle.uefi_base.specs.Faults.{AreTooMany, OffendsFirst};
 ghost use Rattle.uefi_base.specs.private.Search.{HasStrFault, IsFirstWithoutUnit};
 
@@ -70,8 +70,6 @@ impl<A: Allocator> CString16<A> {
 
 /// Writes the characters, without the NUL.
 impl<A: Allocator> fmt::Display for CString16<A> {
-    ghost use Rattle.std.specs.Prelude.{encode_utf8_all, Some};
-    ghost use Rattle.uefi_base.specs.Ucs2.{characters_of};
     ghost use Rattle.uefi_base.specs.Views.{owned_units};
 
     ghost output = { λ text. Some (encode_utf8_all (characters_of (owned_units text))) };

@@ -1,6 +1,7 @@
-ghost use Rattle.std.specs.Prelude.{◌≡◌};
+ghost use Rattle.std.specs.Prelude.{◌≡◌, Some};
 ghost use Rattle.uefi_base.specs.StatusCode.{status_code};
 ghost use Rattle.uefi_base.specs.Views.{error_status, error_data};
+ghost use Rattle.uefi_base.specs.Texts.{status_name, error_text};
 
 use std::{error, fmt};
 
@@ -37,9 +38,6 @@ impl Status {
 
 /// Writes the name that the status has in the standard, such as `BUFFER_TOO_SMALL`.
 impl fmt::Display for Status {
-    ghost use Rattle.std.specs.Prelude.{Some};
-    ghost use Rattle.uefi_base.specs.Texts.{status_name};
-
     ghost output = { λ status. Some (status_name status) };
 
     fn fmt<W: fmt::Write>(&self, f: &mut fmt::Formatter<W>) -> fmt::Result {
@@ -87,9 +85,6 @@ impl<D> Error<D> {
 
 /// Writes `UEFI error` and the name of the status, whatever the data is.
 impl<D> fmt::Display for Error<D> {
-    ghost use Rattle.std.specs.Prelude.{Some};
-    ghost use Rattle.uefi_base.specs.Texts.{error_text};
-
     ghost output = { λ error. Some (error_text error) };
 
     fn fmt<W: fmt::Write>(&self, f: &mut fmt::Formatter<W>) -> fmt::Result {

@@ -1,5 +1,6 @@
 ghost use Rattle.std.specs.Prelude.{◌≡◌, Some, MatchOption};
 ghost use Rattle.uefi_base.specs.Faults.{unaligned_error};
+ghost use Rattle.uefi_base.specs.Texts.{slice_error_text, str_error_text, unaligned_error_text};
 
 use std::alloc::AllocError;
 use std::error::Error;
@@ -24,8 +25,6 @@ pub enum FromSliceWithNulError {
 
 /// Writes what the units lack, or what offends and at which index.
 impl fmt::Display for FromSliceWithNulError {
-    ghost use Rattle.uefi_base.specs.Texts.{slice_error_text};
-
     ghost output = { λ error. Some (slice_error_text error) };
 
     fn fmt<W: fmt::Write>(&self, f: &mut fmt::Formatter<W>) -> fmt::Result {
@@ -62,8 +61,6 @@ pub enum FromStrError {
 
 /// Writes what offends.
 impl fmt::Display for FromStrError {
-    ghost use Rattle.uefi_base.specs.Texts.{str_error_text};
-
     ghost output = { λ error. Some (str_error_text error) };
 
     fn fmt<W: fmt::Write>(&self, f: &mut fmt::Formatter<W>) -> fmt::Result {
@@ -124,8 +121,6 @@ impl UnalignedCStr16Error {
 
 /// Writes what [`FromSliceWithNulError`] writes, or `out of memory`.
 impl fmt::Display for UnalignedCStr16Error {
-    ghost use Rattle.uefi_base.specs.Texts.{unaligned_error_text};
-
     ghost output = { λ error. Some (unaligned_error_text error) };
 
     fn fmt<W: fmt::Write>(&self, f: &mut fmt::Formatter<W>) -> fmt::Result {

@@ -2,6 +2,8 @@ ghost use Rattle.std.specs.Prelude.{◌≡◌, ◌↔◌, ◌%◌, ◌^◌, ◌<
 ghost use Rattle.std.specs.Cmp.{partial_equiv_from_equiv, on_per, on_equiv};
 ghost use Rattle.std.specs.Cmp.Lexicographic.{pointwise, nat_list_eq_equiv};
 ghost use Rattle.std.specs.Result.{IsErrOf};
+ghost use Rattle.std.specs.Iterator.{YieldsFirst, item_count, at_most, UpTo};
+ghost use Rattle.std.specs.Iterator.SizeHint.{IsWithinCount};
 ghost use Rattle.uefi_base.specs.Ucs2.{IsUcs2Text};
 ghost use Rattle.uefi_base.specs.Unaligned.{units_of};
 ghost use Rattle.uefi_base.specs.Faults.{HasFault, unaligned_error};
@@ -9,11 +11,11 @@ ghost use Rattle.uefi_base.specs.private.Search.{IsFirstNonCharacter};
 ghost use Rattle.uefi_base.specs.declared.text_error.FromSliceWithNulError.{FromSliceWithNulError};
 
 use crate::cstring16::CString16;
+use crate::little_endian::u16_at;
 use crate::text_error::{FromSliceWithNulError, UnalignedCStr16Error};
 use crate::ucs2::{fault_of, is_character};
 use std::alloc::Allocator;
 use std::iter::{ExactSizeIterator, FusedIterator};
-use crate::little_endian::u16_at;
 
 /// A slice of 16-bit units (UEFI 2.10, 2.3.1, `CHAR16`) in bytes, which may start at any address.
 ///
@@ -199,8 +201,6 @@ impl<'a> UnalignedSliceIter<'a> {
 }
 
 impl<'a> Iterator for UnalignedSliceIter<'a> {
-    ghost use Rattle.std.specs.Iterator.{YieldsFirst, item_count, at_most, UpTo};
-    ghost use Rattle.std.specs.Iterator.SizeHint.{IsWithinCount};
     ghost use Rattle.uefi_base.specs.Views.{units_left};
 
     type Item = u16;

@@ -1,6 +1,7 @@
 //! A memory map that the library doesn't know: what a type of another crate gives to be one.
 
 ghost use Rattle.std.specs.Prelude.{◌≡◌, ◌≤◌, length, SomeIff};
+ghost use Rattle.uefi_examples.specs.FullMap.{full_bytes, full_meta, full_with, full_bytes-with, full_meta-with};
 
 use crate::map::set_and_get;
 use uefi_map::{MemoryDescriptor, MemoryMap, MemoryMapKey, MemoryMapMeta, MemoryMapMut};
@@ -16,8 +17,6 @@ pub struct FullMap {
 }
 
 impl MemoryMap for FullMap {
-    ghost use Rattle.uefi_examples.specs.FullMap.{full_bytes, full_meta};
-
     ghost bytes = { full_bytes };
 
     ghost meta = { full_meta };
@@ -38,8 +37,6 @@ impl MemoryMap for FullMap {
 }
 
 impl MemoryMapMut for FullMap {
-    ghost use Rattle.uefi_examples.specs.FullMap.{full_with, full_bytes-with, full_meta-with};
-
     ghost with_bytes = { full_with };
 
     ghost bytes_with = { full_bytes-with };

@@ -6,10 +6,9 @@
 //! libraries.
 #![tactic(auto)]
 
-pub mod contracts;
-
 pub mod base;
 pub mod configuration;
+pub mod contracts;
 pub mod digest_logs;
 pub mod errors;
 pub mod events;

@@ -1,5 +1,6 @@
 ghost use Rattle.std.specs.Prelude.{List};
 ghost use Rattle.uefi_hii.specs.Cut.{Part, Cut};
+ghost use Rattle.uefi_hii.specs.Reading.{IsFirstResult};
 
 use crate::error::{ConfigHdrSection, ParseError};
 use crate::peeked::PeekedPairs;
@@ -94,8 +95,6 @@ pub struct ConfigurationString<A: Allocator = Global> {
 }
 
 impl<A: Allocator + Copy> ConfigurationString<A> {
-    ghost use Rattle.uefi_hii.specs.Reading.{IsFirstResult};
-
     /// Returns the first configuration of a text.
     ///
     /// The other configurations are neither read nor tested: [`parse_all`](crate::parse_all) and

@@ -1,3 +1,6 @@
+ghost use Rattle.std.specs.Prelude.{Some};
+ghost use Rattle.uefi_hii.specs.Texts.{section_text, error_text};
+
 use std::error::Error;
 use std::fmt;
 
@@ -38,9 +41,6 @@ pub enum ParseError {
 
 /// Writes the name of the part: `GUID`, `name`, `path` or `identifier`.
 impl fmt::Display for ConfigHdrSection {
-    ghost use Rattle.std.specs.Prelude.{Some};
-    ghost use Rattle.uefi_hii.specs.Texts.{section_text};
-
     ghost output = { λ section. Some (section_text section) };
 
     fn fmt<W: fmt::Write>(&self, f: &mut fmt::Formatter<W>) -> fmt::Result {
@@ -57,9 +57,6 @@ impl fmt::Display for ConfigHdrSection {
 /// Writes what is missing or wrong, for example `the header's GUID is missing or wrong`, or
 /// `out of memory`.
 impl fmt::Display for ParseError {
-    ghost use Rattle.std.specs.Prelude.{Some};
-    ghost use Rattle.uefi_hii.specs.Texts.{error_text};
-
     ghost output = { λ error. Some (error_text error) };
 
     fn fmt<W: fmt::Write>(&self, f: &mut fmt::Formatter<W>) -> fmt::Result {

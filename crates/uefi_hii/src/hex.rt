@@ -1,5 +1,8 @@
-ghost use Rattle.std.specs.Prelude.{◌≡◌, ◌∷◌, ◌++◌, [], ◌^◌, ◌<◌, length, MatchOption};
+ghost use Rattle.std.specs.Prelude.{◌≡◌, ◌∷◌, ◌++◌, [], ◌^◌, ◌<◌, length, MatchOption, Some, IfSome};
+ghost use Rattle.std.specs.Iterator.{YieldsFirst, item_count, at_most, UpTo, YieldsLast};
+ghost use Rattle.std.specs.Iterator.SizeHint.{IsWithinCount};
 ghost use Rattle.uefi_hii.specs.Hex.{hex, byte_of_one as one, byte_of_two as two};
+ghost use Rattle.uefi_hii.specs.Views.{bytes_left};
 
 use crate::digit::hex_digit;
 use std::iter::{ExactSizeIterator, FusedIterator};
@@ -18,8 +21,6 @@ pub struct HexBytes<'a> {
 }
 
 impl<'a> HexBytes<'a> {
-    ghost use Rattle.uefi_hii.specs.Views.{bytes_left};
-
     /// Returns the bytes that the text spells.
     #[tactic(auto, using(crate::proofs::HexEnds::few_bytes))]
     pub(crate) fn new(text: &'a str) -> HexBytes<'a>
@@ -35,11 +36,6 @@ impl<'a> HexBytes<'a> {
 }
 
 impl<'a> Iterator for HexBytes<'a> {
-    ghost use Rattle.std.specs.Prelude.{◌≡◌, length, Some, IfSome};
-    ghost use Rattle.std.specs.Iterator.{YieldsFirst, item_count, at_most, UpTo};
-    ghost use Rattle.std.specs.Iterator.SizeHint.{IsWithinCount};
-    ghost use Rattle.uefi_hii.specs.Views.{bytes_left};
-
     type Item = u8;
 
     ghost next_gives = { YieldsFirst bytes_left };
@@ -75,9 +71,6 @@ impl<'a> Iterator for HexBytes<'a> {
 }
 
 impl<'a> DoubleEndedIterator for HexBytes<'a> {
-    ghost use Rattle.std.specs.Iterator.{YieldsLast};
-    ghost use Rattle.uefi_hii.specs.Views.{bytes_left};
-
     ghost next_back_gives = { YieldsLast bytes_left };
 
     fn next_back(&mut self) -> Option<u8> {

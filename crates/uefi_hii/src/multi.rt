@@ -1,11 +1,12 @@
 ghost use Rattle.std.specs.Prelude.{◌≡◌, ◌≢◌, ◌^◌, ◌<◌, List, Err, IfOk, length, map};
 ghost use Rattle.std.specs.Bool.{MatchBool};
 ghost use Rattle.std.specs.List.{All};
+ghost use Rattle.std.specs.Iterator.{item_count};
 ghost use Rattle.uefi_hii.specs.declared.error.ParseError.TheVariants.{Memory};
 ghost use Rattle.uefi_hii.specs.Cut.{Part, Cut, results_of};
 ghost use Rattle.uefi_hii.specs.Pairs.{pairs};
-ghost use Rattle.uefi_hii.specs.Reading.{AreResults};
-ghost use Rattle.uefi_hii.specs.Views.{result_of};
+ghost use Rattle.uefi_hii.specs.Reading.{AreResults, YieldsGroup};
+ghost use Rattle.uefi_hii.specs.Views.{result_of, uncut_pairs};
 
 use crate::configuration::ConfigurationString;
 use crate::error::ParseError;
@@ -66,8 +67,6 @@ pub struct MultiConfigurationStringIter<'a, A: Allocator = Global> {
 }
 
 impl<'a, A: Allocator> MultiConfigurationStringIter<'a, A> {
-    ghost use Rattle.uefi_hii.specs.Views.{uncut_pairs};
-
     /// Returns the configurations of the text. This takes no memory.
     pub fn new(alloc: A, text: &'a str) -> MultiConfigurationStringIter<'a, A>
         ensures pairs { uncut_pairs result ≡ pairs text.now }
@@ -81,10 +80,6 @@ impl<'a, A: Allocator> MultiConfigurationStringIter<'a, A> {
 }
 
 impl<'a, A: Allocator + Copy> Iterator for MultiConfigurationStringIter<'a, A> {
-    ghost use Rattle.std.specs.Iterator.{item_count};
-    ghost use Rattle.uefi_hii.specs.Reading.{YieldsGroup};
-    ghost use Rattle.uefi_hii.specs.Views.{uncut_pairs};
-
     type Item = Result<ConfigurationString<A>, ParseError>;
 
     ghost next_gives = { YieldsGroup };

@@ -1,7 +1,8 @@
 ghost use Rattle.std.specs.Prelude.{◌≡◌, ◌≢◌, ◌^◌, ◌<◌, ◌≤◌, [], ◌∷◌, length, take};
 ghost use Rattle.std.specs.Str.{IsCharBoundary};
+ghost use Rattle.std.specs.Iterator.{YieldsFirstBy, item_count};
 ghost use Rattle.uefi_hii.specs.Pairs.{pair_of, pairs};
-ghost use Rattle.uefi_hii.specs.Views.{pair_view};
+ghost use Rattle.uefi_hii.specs.Views.{pair_view, pairs_left};
 
 use crate::finding::index_before;
 use std::iter::FusedIterator;
@@ -26,8 +27,6 @@ pub struct ConfigurationStringIter<'a> {
 }
 
 impl<'a> ConfigurationStringIter<'a> {
-    ghost use Rattle.uefi_hii.specs.Views.{pairs_left};
-
     /// Returns the pairs of the text. A text of n bytes has at most n pairs.
     #[tactic(auto, using(crate::proofs::Pieces::few_pairs))]
     pub fn new(text: &'a str) -> ConfigurationStringIter<'a>
@@ -42,9 +41,6 @@ impl<'a> ConfigurationStringIter<'a> {
 }
 
 impl<'a> Iterator for ConfigurationStringIter<'a> {
-    ghost use Rattle.std.specs.Iterator.{YieldsFirstBy, item_count};
-    ghost use Rattle.uefi_hii.specs.Views.{pairs_left};
-
     type Item = (&'a str, Option<&'a str>);
 
     ghost next_gives = { YieldsFirstBy pair_view pairs_left };

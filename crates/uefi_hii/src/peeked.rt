@@ -7,7 +7,7 @@ ghost use Rattle.uefi_hii.specs.private.Parts.{IsSkipped};
 ghost use Rattle.uefi_hii.specs.Pairs.{pairs};
 ghost use Rattle.uefi_hii.specs.Slots.{IsKey};
 ghost use Rattle.uefi_hii.specs.private.Taking.{StopsAt};
-ghost use Rattle.uefi_hii.specs.Views.{pair_view};
+ghost use Rattle.uefi_hii.specs.Views.{pair_view, peeked_pairs};
 
 use crate::keys;
 use crate::pairs::ConfigurationStringIter;
@@ -20,8 +20,6 @@ pub(crate) struct PeekedPairs<'a> {
 }
 
 impl<'a> PeekedPairs<'a> {
-    ghost use Rattle.uefi_hii.specs.Views.{peeked_pairs};
-
     /// Returns the pairs of the text.
     #[tactic(auto, using(crate::proofs::NextKept::peeked_again))]
     pub(crate) fn new(text: &'a str) -> PeekedPairs<'a>

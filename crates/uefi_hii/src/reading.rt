@@ -5,6 +5,7 @@ ghost use Rattle.uefi_hii.specs.Hex.{hex};
 ghost use Rattle.uefi_hii.specs.Reading.{TakesGroup};
 ghost use Rattle.uefi_hii.specs.private.Taking.{TakesHeader, TakesElement};
 ghost use Rattle.uefi_hii.specs.Views.{peeked_pairs};
+ghost use Rattle.uefi_hii.specs.declared.error.ParseError.TheVariants.{Memory};
 
 use crate::configuration::{ConfigurationString, ConfigurationStringElement};
 use crate::error::{ConfigHdrSection, ParseError};
@@ -17,9 +18,6 @@ use crate::taking::{
 use std::alloc::{AllocError, Allocator};
 
 impl From<AllocError> for ParseError {
-    ghost use Rattle.std.specs.Prelude.{◌≡◌};
-    ghost use Rattle.uefi_hii.specs.declared.error.ParseError.TheVariants.{Memory};
-
     ghost from_gives = { λ _ error. error ≡ Memory };
 
     fn from(_error: AllocError) -> ParseError {

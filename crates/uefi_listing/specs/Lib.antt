@@ -1,5 +1,4 @@
 pub mod Arguments
-pub mod Appending
 pub mod HexText
 pub mod Path
 pub mod Map
@@ -11,3 +10,4 @@ pub mod Log2
 pub mod Config
 pub mod Listing
 pub mod Running
+pub mod private

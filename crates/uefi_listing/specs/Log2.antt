@@ -5,7 +5,7 @@ use Rattle.std.specs.Int.{w16, w32, to_be_bytes}
 use Rattle.std.specs.declared.string.String.{String}
 use Rattle.uefi_tcg.specs.LogInput.{LogInput}
 use Rattle.uefi_tcg.specs.v2.Event.{Digest, Event}
-use Rattle.uefi_tcg.specs.declared.v2.start.Start.{Start as StartNamed}
+use Rattle.uefi_tcg.specs.declared.v2.log.Start.{Start as StartNamed}
 use Rattle.uefi_tcg.specs.v2.Header.{Header, Start}
 use Rattle.uefi_tcg.specs.v2.Log.{HasHeaderOf, IsLogOf}
 use Rattle.uefi_tcg.specs.v2.Views.{start_named}

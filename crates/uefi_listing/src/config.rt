@@ -4,7 +4,7 @@ ghost use Rattle.std.specs.Prelude.{◌≡◌, ◌≢◌, Err, flat_map, IfOk, O
 ghost use Rattle.uefi_base.specs.Appending.{AppendsText};
 ghost use Rattle.uefi_hii.specs.declared.error.ParseError.TheVariants.{Memory};
 ghost use Rattle.uefi_hii.specs.Views.{configuration_of, element_of, nv_pair_of, result_of, uncut_pairs};
-ghost use Rattle.uefi_listing.specs.Appending.{AppendsListing};
+ghost use Rattle.uefi_listing.specs.private.Appending.{AppendsListing};
 ghost use Rattle.uefi_listing.specs.Config.{AppendsConfigLines, ConfigListing, alt_line, configuration_lines, element_line, element_lines, fault_line, header_lines, item_lines, nv_line, section_name};
 
 use crate::hex_text::{Hex, gap_before};

@@ -8,7 +8,7 @@ ghost use Rattle.uefi_base.specs.Ucs2.{characters_of};
 ghost use Rattle.uefi_base.specs.Views.{error_data, slice_units};
 ghost use Rattle.uefi_records.specs.file.Views.{stated_size, file_fields_of, file_name_of};
 ghost use Rattle.uefi_records.specs.time.Views.{time_of};
-ghost use Rattle.uefi_listing.specs.Appending.{AppendsListing};
+ghost use Rattle.uefi_listing.specs.private.Appending.{AppendsListing};
 ghost use Rattle.uefi_listing.specs.Info.{info_lines, stamp_text, name_field, units_hex, refused_info_line, InfoListing};
 
 use crate::hex_text::{Hex, HexNumber, write_hex};

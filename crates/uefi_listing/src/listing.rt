@@ -1,7 +1,7 @@
 //! The listing of a command over bytes in memory.
 
 ghost use Rattle.std.specs.Prelude.{IfOk};
-ghost use Rattle.uefi_listing.specs.Appending.{AppendsListing};
+ghost use Rattle.uefi_listing.specs.private.Appending.{AppendsListing};
 ghost use Rattle.uefi_listing.specs.Listing.{Listing};
 
 use crate::command::Command;

@@ -4,7 +4,7 @@ ghost use Rattle.std.specs.Prelude.{◌≡◌, flat_map, IfOk, OnOk};
 ghost use Rattle.uefi_base.specs.Appending.{AppendsText};
 ghost use Rattle.uefi_map.specs.memory.Map.{entries_of};
 ghost use Rattle.uefi_map.specs.memory.Views.{ref_bytes, ref_meta};
-ghost use Rattle.uefi_listing.specs.Appending.{AppendsListing};
+ghost use Rattle.uefi_listing.specs.private.Appending.{AppendsListing};
 ghost use Rattle.uefi_listing.specs.Map.{entry_line, yes_or_no, file_meta, AppendsMapLines, MapListing};
 
 use crate::hex_text::HexNumber;

@@ -3,7 +3,7 @@
 ghost use Rattle.std.specs.Prelude.{IfOk, OnOk};
 ghost use Rattle.uefi_base.specs.Appending.{AppendsText};
 ghost use Rattle.uefi_path.specs.Views.{node_of, instance_nodes, path_nodes};
-ghost use Rattle.uefi_listing.specs.Appending.{AppendsListing};
+ghost use Rattle.uefi_listing.specs.private.Appending.{AppendsListing};
 ghost use Rattle.uefi_listing.specs.Path.{node_line, instance_lines, AppendsPathLines, PathListing};
 
 use crate::hex_text::{Hex, HexByte, gap_before};

@@ -3,7 +3,7 @@
 ghost use Rattle.std.specs.Prelude.{IfOk, OnOk, Some};
 ghost use Rattle.uefi_base.specs.Appending.{AppendsText};
 ghost use Rattle.uefi_map.specs.pci.Views.{resources_of};
-ghost use Rattle.uefi_listing.specs.Appending.{AppendsListing};
+ghost use Rattle.uefi_listing.specs.private.Appending.{AppendsListing};
 ghost use Rattle.uefi_listing.specs.Pci.{kind_text, resource_line, resource_lines, fault_line, PciListing};
 
 use crate::hex_text::HexNumber;

@@ -2,8 +2,8 @@ ghost use Rattle.std.specs.Prelude.{◌≡◌, IfOk, IfErr};
 ghost use Rattle.uefi_listing.specs.declared.run.RunError.TheVariants.{Memory};
 ghost use Rattle.uefi_listing.specs.Running.{WroteListing, StoppedAt};
 
-use crate::listing::{Outcome, listing};
 use crate::command::Command;
+use crate::listing::{Outcome, listing};
 use std::alloc::{AllocError, Allocator};
 use std::io::Write;
 

@@ -2,6 +2,7 @@ ghost use Rattle.std.specs.Prelude.{◌≡◌};
 ghost use Rattle.uefi_path.specs.Node.{IsEnd, IsEndEntire};
 ghost use Rattle.uefi_path.specs.private.Encoding.{IsEncodingOfNodes, EncodesPath, EncodesInstance};
 ghost use Rattle.uefi_path.specs.private.OnePath.{EncodesPath-prop, EncodesInstance-prop};
+ghost use Rattle.uefi_path.specs.Reading.{ReadsPath};
 
 use crate::error::ByteConversionError;
 use crate::instance::DevicePathInstance;
@@ -53,7 +54,6 @@ impl<A: Allocator> BoxedDevicePath<A> {
 /// `DevicePath::try_from` fails.
 impl<A: Allocator> TryFrom<Vec<u8, A>> for BoxedDevicePath<A> {
     ghost use Rattle.uefi_path.specs.Views.{boxed_nodes};
-    ghost use Rattle.uefi_path.specs.Reading.{ReadsPath};
 
     type Error = ByteConversionError;
 

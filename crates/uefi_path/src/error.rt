@@ -1,3 +1,6 @@
+ghost use Rattle.std.specs.Prelude.{Some};
+ghost use Rattle.uefi_path.specs.Texts.{error_text};
+
 use std::error::Error;
 use std::fmt;
 
@@ -11,9 +14,6 @@ pub enum ByteConversionError {
 
 /// Writes `invalid length`.
 impl fmt::Display for ByteConversionError {
-    ghost use Rattle.std.specs.Prelude.{Some};
-    ghost use Rattle.uefi_path.specs.Texts.{error_text};
-
     ghost output = { λ error. Some (error_text error) };
 
     fn fmt<W: fmt::Write>(&self, f: &mut fmt::Formatter<W>) -> fmt::Result {

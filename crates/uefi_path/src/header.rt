@@ -1,5 +1,6 @@
 ghost use Rattle.std.specs.Prelude.{◌≡◌};
 ghost use Rattle.uefi_path.specs.Header.{header, ReadsHeader};
+ghost use Rattle.uefi_path.specs.Views.{header_of};
 
 use crate::device_type::{DeviceSubType, DeviceType};
 use crate::error::ByteConversionError;
@@ -31,8 +32,6 @@ pub struct DevicePathHeader {
 }
 
 impl DevicePathHeader {
-    ghost use Rattle.uefi_path.specs.Views.{header_of};
-
     /// Returns the header with these fields, whatever the length is.
     pub fn new(device_type: DeviceType, sub_type: DeviceSubType, length: u16) -> DevicePathHeader
         ensures { header_of result ≡ header device_type.0 sub_type.0 length }
@@ -72,8 +71,6 @@ impl DevicePathHeader {
 ///
 /// [`ByteConversionError::InvalidLength`] if there are fewer than four bytes.
 impl<'a> TryFrom<&'a [u8]> for DevicePathHeader {
-    ghost use Rattle.uefi_path.specs.Views.{header_of};
-
     type Error = ByteConversionError;
 
     ghost try_from_gives = { λ bytes read. ReadsHeader header_of bytes.now read };

@@ -1,4 +1,5 @@
 ghost use Rattle.std.specs.Prelude.{◌^◌, ◌<◌, length};
+ghost use Rattle.std.specs.Iterator.{YieldsFirstBy, item_count};
 ghost use Rattle.uefi_path.specs.private.Encoding.{IsEncodingOfInstances, EncodesInstances};
 ghost use Rattle.uefi_path.specs.private.OnePath.{EncodesInstances-prop};
 
@@ -29,7 +30,6 @@ impl<'a> DevicePathInstanceIterator<'a> {
 }
 
 impl<'a> Iterator for DevicePathInstanceIterator<'a> {
-    ghost use Rattle.std.specs.Iterator.{YieldsFirstBy, item_count};
     ghost use Rattle.uefi_path.specs.Views.{instance_nodes, instances_left};
 
     type Item = DevicePathInstance<'a>;

@@ -1,4 +1,5 @@
 ghost use Rattle.std.specs.Prelude.{◌≡◌};
+ghost use Rattle.uefi_path.specs.Views.{loaded_path};
 
 use crate::path::DevicePath;
 
@@ -8,8 +9,6 @@ use crate::path::DevicePath;
 pub struct LoadedImageDevicePath<'a>(DevicePath<'a>);
 
 impl<'a> LoadedImageDevicePath<'a> {
-    ghost use Rattle.uefi_path.specs.Views.{loaded_path};
-
     /// Returns `path` as the device path of a loaded image.
     pub fn new(path: DevicePath<'a>) -> LoadedImageDevicePath<'a>
         ensures { loaded_path result ≡ path.entry }

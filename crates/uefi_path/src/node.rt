@@ -5,6 +5,7 @@ ghost use Rattle.uefi_path.specs.Header.{header_length};
 ghost use Rattle.uefi_path.specs.Node.{encoding, IsEndEntire};
 ghost use Rattle.uefi_path.specs.private.Encoding.{IsEncodingOfNode, EncodesNode};
 ghost use Rattle.uefi_path.specs.private.OneNode.{EncodesNode-prop};
+ghost use Rattle.uefi_path.specs.Reading.{ReadsNode};
 
 use crate::device_type::{DeviceSubType, DeviceType};
 use crate::error::ByteConversionError;
@@ -104,7 +105,6 @@ impl<'a> DevicePathNode<'a> {
 /// bytes.
 impl<'a> TryFrom<&'a [u8]> for DevicePathNode<'a> {
     ghost use Rattle.uefi_path.specs.Views.{node_of};
-    ghost use Rattle.uefi_path.specs.Reading.{ReadsNode};
 
     type Error = ByteConversionError;
 

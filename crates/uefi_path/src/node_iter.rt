@@ -1,4 +1,5 @@
 ghost use Rattle.std.specs.Prelude.{◌^◌, ◌<◌, length};
+ghost use Rattle.std.specs.Iterator.{YieldsFirstBy, item_count};
 ghost use Rattle.uefi_path.specs.private.Stop.{Stops, Stops-prop};
 ghost use Rattle.uefi_path.specs.private.Encoding.{IsEncodingOfNodes, EncodesNodes};
 ghost use Rattle.uefi_path.specs.private.OnePath.{EncodesNodes-prop};
@@ -31,7 +32,6 @@ impl<'a> DevicePathNodeIterator<'a> {
 }
 
 impl<'a> Iterator for DevicePathNodeIterator<'a> {
-    ghost use Rattle.std.specs.Iterator.{YieldsFirstBy, item_count};
     ghost use Rattle.uefi_path.specs.Views.{node_of, nodes_left};
 
     type Item = DevicePathNode<'a>;

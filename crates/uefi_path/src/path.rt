@@ -6,6 +6,7 @@ ghost use Rattle.uefi_path.specs.Node.{joined, IsEndEntire};
 ghost use Rattle.uefi_path.specs.Path.{IsPath, AreInstances, all_but_last};
 ghost use Rattle.uefi_path.specs.private.Encoding.{IsEncodingOfNodes, EncodesPath};
 ghost use Rattle.uefi_path.specs.private.OnePath.{EncodesPath-prop};
+ghost use Rattle.uefi_path.specs.Reading.{ReadsPath};
 
 use crate::boxed::BoxedDevicePath;
 use crate::error::ByteConversionError;
@@ -121,7 +122,6 @@ impl<'a> DevicePath<'a> {
 /// 4 or beyond the end of the bytes.
 impl<'a> TryFrom<&'a [u8]> for DevicePath<'a> {
     ghost use Rattle.uefi_path.specs.Views.{path_nodes};
-    ghost use Rattle.uefi_path.specs.Reading.{ReadsPath};
 
     type Error = ByteConversionError;
 

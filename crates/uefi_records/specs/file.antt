@@ -6,4 +6,3 @@ pub mod FileSystemInfo
 pub mod Identity
 pub mod Texts
 pub mod Views
-pub mod Kept

@@ -3,6 +3,10 @@ ghost use Rattle.std.specs.Cmp.{partial_equiv_from_equiv, on_per, on_equiv};
 ghost use Rattle.std.specs.Cmp.Lexicographic.{pointwise, nat_list_eq_equiv};
 ghost use Rattle.uefi_records.specs.time.Fields.{Fits, StandsIn, time_bytes, time_in, time_length, stated_zone, without_pads, zero_time};
 ghost use Rattle.uefi_records.specs.time.Faults.{IsValid, range_faults, is_zone_outside};
+ghost use Rattle.uefi_records.specs.time.Views.{time_of, fields_of, bytes_of_time};
+ghost use Rattle.uefi_records.specs.flags.Views.{daylight_bits};
+ghost use Rattle.uefi_records.specs.private.time.Within.{are_numbers_within};
+ghost use Rattle.uefi_records.specs.time.Reading.{ReadsTime};
 
 pub use self::error::{TimeByteConversionError, TimeError};
 pub use self::params::TimeParams;
@@ -98,10 +102,6 @@ pub struct Time {
 }
 
 impl Time {
-    ghost use Rattle.uefi_records.specs.time.Views.{time_of, fields_of};
-    ghost use Rattle.uefi_records.specs.flags.Views.{daylight_bits};
-    ghost use Rattle.uefi_records.specs.private.time.Within.{are_numbers_within};
-
     /// Makes the time with these fields, and zeros in its padding. A zone of `None` is stored as
     /// 0x07ff, so the zone 2047 reads back as `None`.
     ///
@@ -345,9 +345,6 @@ fn is_zone_outside(zone: i16) -> bool
 /// - [`TimeByteConversionError::InvalidFields`] with all fields outside their ranges, if there are
 ///   any.
 impl TryFrom<&[u8]> for Time {
-    ghost use Rattle.uefi_records.specs.time.Views.{time_of};
-    ghost use Rattle.uefi_records.specs.time.Reading.{ReadsTime};
-
     type Error = TimeByteConversionError;
 
     ghost try_from_gives = { λ bytes read. ReadsTime time_of bytes.now read };
@@ -373,8 +370,6 @@ impl TryFrom<&[u8]> for Time {
 
 /// Compares all sixteen bytes.
 impl PartialEq for Time {
-    ghost use Rattle.uefi_records.specs.time.Views.{bytes_of_time};
-
     ghost eq = { λ x y. pointwise nat_eq (bytes_of_time x) (bytes_of_time y) };
 
     ghost laws = { on_per bytes_of_time (partial_equiv_from_equiv nat_list_eq_equiv) };
@@ -385,7 +380,5 @@ impl PartialEq for Time {
 }
 
 impl Eq for Time {
-    ghost use Rattle.uefi_records.specs.time.Views.{bytes_of_time};
-
     ghost laws = { on_equiv bytes_of_time nat_list_eq_equiv };
 }

@@ -1,3 +1,5 @@
+ghost use Rattle.std.specs.Prelude.{replicate};
+
 use std::test::Fail;
 use test_support::{same, same_text};
 use uefi_base::little_endian::{u16_at, u32_at, u64_at};
@@ -95,8 +97,6 @@ impl Align for Label {
 }
 
 impl Identify for Label {
-    ghost use Rattle.std.specs.Prelude.{replicate};
-
     ghost GUID = { record { 0 = replicate 16 7 } };
 
     const GUID: Guid = Guid([7; 16]);

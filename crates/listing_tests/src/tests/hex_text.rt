@@ -1,8 +1,8 @@
 //! Bytes and numbers in hex, beside what was written by hand.
 
-use uefi_listing::hex_text::{Hex, HexByte, HexNumber, gap_before};
 use std::test::Fail;
 use test_support::{same_bytes, same_text};
+use uefi_listing::hex_text::{Hex, HexByte, HexNumber, gap_before};
 
 #[test]
 fn a_byte_has_two_digits(rt: HostRuntime) -> Result<(), Fail> {

@@ -7,10 +7,8 @@ ghost use Rattle.uefi_path.specs.Views.{node_of, path_nodes};
 ghost use Rattle.uefi_auditing.specs.json.Content.{content_json, image_json, node_json, only, path_json, unit_text, variable_json};
 ghost use Rattle.uefi_auditing.specs.content.Views.{content_of, image_of, variable_of};
 
-use crate::content::Content;
+use crate::content::{Content, Image, Variable};
 use crate::json::event::hex_json;
-use crate::content::image::Image;
-use crate::content::variable::Variable;
 use serde_json::{Map, Value, json, put};
 use std::alloc::{AllocError, Global};
 use uefi_base::UnalignedSlice;

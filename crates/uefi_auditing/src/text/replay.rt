@@ -5,8 +5,8 @@ ghost use Rattle.uefi_base.specs.Appending.{AppendsText};
 ghost use Rattle.uefi_auditing.specs.text.Replay.{fault_text, left_over_line, left_over_lines, other_bank_line, unreplayable_line, AppendsReplay, IsReplay};
 ghost use Rattle.uefi_auditing.specs.private.text.Appending.{AppendsAsked, AppendsBanks};
 
-use crate::text::algorithms::asked_algorithms;
 use crate::text::LogFile;
+use crate::text::algorithms::asked_algorithms;
 use crate::text::naming::{bank_name, bank_of};
 use crate::text::registers::push_bank;
 use pcr_replay::{Bank, Fault, Unreplayable, replay};

@@ -5,9 +5,9 @@ ghost use Rattle.pcr_replay.specs.Logs.{AreContents};
 ghost use Rattle.pcr_replay.specs.Views.{outcome_of, values_of};
 ghost use Rattle.uefi_auditing.specs.verify.Verdict.{difference_line, difference_lines, held_text, line_of, unknown_text, value_text};
 
+use crate::text::{bank_name, fault_text};
 use crate::verify::agreement::{agrees, led_to};
 use crate::verify::reading::HeldRegister;
-use crate::text::{bank_name, fault_text};
 use pcr_replay::{Log, Registers, Unreplayable};
 use std::alloc::{AllocError, Allocator};
 use uefi_tcg::PcrIndex;

@@ -6,8 +6,8 @@ ghost use Rattle.uefi_auditing.specs.verify.Reading.{HasNoBreak, IsBankNamed, Is
 ghost use Rattle.uefi_auditing.specs.verify.Reading.{StatesNothing, StatesRegister};
 ghost use Rattle.uefi_auditing.specs.private.verify.Lines.{ReadsLine};
 
-use crate::verify::line::{bank_in_line, register_in_line, value_in};
 use crate::text::bank_named;
+use crate::verify::line::{bank_in_line, register_in_line, value_in};
 use pcr_replay::{Bank, RegisterValue};
 use std::alloc::{AllocError, Allocator};
 

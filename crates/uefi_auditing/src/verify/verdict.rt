@@ -5,10 +5,10 @@ ghost use Rattle.pcr_replay.specs.Logs.{AreContents};
 ghost use Rattle.uefi_auditing.specs.verify.Agreement.{given_or_stated, Agree};
 ghost use Rattle.uefi_auditing.specs.verify.Verdict.{agree_line, AppendsVerdict};
 
+use crate::text::LogFile;
 use crate::verify::agreement::{agreeing_locality, nearest_locality};
 use crate::verify::difference::push_differences;
 use crate::verify::reading::HeldRegister;
-use crate::text::LogFile;
 use pcr_replay::laws::one_contents;
 use pcr_replay::{Log, startup_locality};
 use std::alloc::{AllocError, Allocator};

@@ -1,5 +1,5 @@
 ghost use Rattle.std.specs.Prelude.{◌≡◌, ◌≤◌, length};
-ghost use Rattle.uefi_map.specs.memory.Descriptor.{descriptor_in, Fits, encoding};
+ghost use Rattle.uefi_map.specs.memory.Descriptor.{descriptor_in, Fits, encoding, zero_descriptor, descriptor_alignment};
 
 use super::layout::{
     ATTRIBUTE_OFFSET, DESCRIPTOR_ALIGNMENT, DESCRIPTOR_LENGTH, PADDING_OFFSET, PAGE_COUNT_OFFSET,
@@ -61,8 +61,6 @@ impl MemoryDescriptor {
 
 /// Every field is zero: reserved memory of no pages at address 0, without attributes.
 impl Default for MemoryDescriptor {
-    ghost use Rattle.uefi_map.specs.memory.Descriptor.{zero_descriptor};
-
     ghost is_default = { λ d. d ≡ zero_descriptor };
 
     fn default() -> MemoryDescriptor {
@@ -78,8 +76,6 @@ impl Default for MemoryDescriptor {
 }
 
 impl Align for MemoryDescriptor {
-    ghost use Rattle.uefi_map.specs.memory.Descriptor.{descriptor_alignment};
-
     ghost alignment = { descriptor_alignment };
 
     fn alignment() -> usize {

@@ -1,3 +1,6 @@
+ghost use Rattle.std.specs.Prelude.{Some};
+ghost use Rattle.uefi_map.specs.memory.Texts.{map_error_text};
+
 use std::error::Error;
 use std::fmt;
 
@@ -13,9 +16,6 @@ pub enum MemoryMapError {
 
 /// The name of the error.
 impl fmt::Display for MemoryMapError {
-    ghost use Rattle.std.specs.Prelude.{Some};
-    ghost use Rattle.uefi_map.specs.memory.Texts.{map_error_text};
-
     ghost output = { λ error. Some (map_error_text error) };
 
     fn fmt<W: fmt::Write>(&self, f: &mut fmt::Formatter<W>) -> fmt::Result {

@@ -1,5 +1,7 @@
 ghost use Rattle.std.specs.Prelude.{◌≡◌, ◌↔◌, take, length, IsOk, IfOk, IfErr};
 ghost use Rattle.uefi_map.specs.memory.Map.{IsMap};
+ghost use Rattle.uefi_map.specs.memory.Views.{owned_bytes, owned_meta, owned_with};
+ghost use Rattle.uefi_map.specs.private.memory.Keeping.{owned_bytes-with, owned_meta-with};
 
 use super::map_error::MemoryMapError;
 use super::memory_map::{MemoryMap, MemoryMapMut};
@@ -15,8 +17,6 @@ pub struct MemoryMapOwned<A: Allocator = Global> {
 }
 
 impl<A: Allocator> MemoryMapOwned<A> {
-    ghost use Rattle.uefi_map.specs.memory.Views.{owned_bytes, owned_meta};
-
     /// Returns the map that the vector begins with. It drops the bytes after the map, and allocates
     /// nothing.
     ///
@@ -45,8 +45,6 @@ impl<A: Allocator> MemoryMapOwned<A> {
 }
 
 impl<A: Allocator> MemoryMap for MemoryMapOwned<A> {
-    ghost use Rattle.uefi_map.specs.memory.Views.{owned_bytes, owned_meta};
-
     ghost bytes = { owned_bytes };
 
     ghost meta = { owned_meta };
@@ -61,9 +59,6 @@ impl<A: Allocator> MemoryMap for MemoryMapOwned<A> {
 }
 
 impl<A: Allocator> MemoryMapMut for MemoryMapOwned<A> {
-    ghost use Rattle.uefi_map.specs.memory.Views.{owned_with};
-    ghost use Rattle.uefi_map.specs.private.memory.Keeping.{owned_bytes-with, owned_meta-with};
-
     ghost same_buffer = { λ _ _. Unit {0} };
 
     ghost with_bytes = { owned_with };

@@ -1,6 +1,10 @@
 ghost use Rattle.std.specs.Prelude.{◌≡◌, ◌↔◌, length, Err, IsOk, IfOk, IfErr, IsTrue, refl};
 ghost use Rattle.std.specs.Borrow.{sem};
+ghost use Rattle.std.proofs.Common.{◌∙◌};
 ghost use Rattle.uefi_map.specs.memory.Map.{IsMap};
+ghost use Rattle.uefi_map.specs.memory.Views.{mut_bytes, mut_meta, WritesTo, mut_with, WriteToTheSame};
+ghost use Rattle.uefi_map.specs.memory.Lending.{StaysIfRefused};
+ghost use Rattle.uefi_map.specs.private.memory.Keeping.{mut_meta-with};
 
 use super::map_error::MemoryMapError;
 use super::memory_map::{MemoryMap, MemoryMapMut};
@@ -17,9 +21,6 @@ pub struct MemoryMapRefMut<'a> {
 }
 
 impl<'a> MemoryMapRefMut<'a> {
-    ghost use Rattle.uefi_map.specs.memory.Views.{mut_bytes, mut_meta, WritesTo};
-    ghost use Rattle.uefi_map.specs.memory.Lending.{StaysIfRefused};
-
     /// Returns the map that the buffer begins with.
     ///
     /// # Errors
@@ -89,8 +90,6 @@ fn is_map(length: usize, meta: MemoryMapMeta) -> bool
 }
 
 impl<'a> MemoryMap for MemoryMapRefMut<'a> {
-    ghost use Rattle.uefi_map.specs.memory.Views.{mut_bytes, mut_meta};
-
     ghost bytes = { mut_bytes };
 
     ghost meta = { mut_meta };
@@ -105,10 +104,6 @@ impl<'a> MemoryMap for MemoryMapRefMut<'a> {
 }
 
 impl<'a> MemoryMapMut for MemoryMapRefMut<'a> {
-    ghost use Rattle.std.proofs.Common.{◌∙◌};
-    ghost use Rattle.uefi_map.specs.memory.Views.{mut_with, WriteToTheSame};
-    ghost use Rattle.uefi_map.specs.private.memory.Keeping.{mut_meta-with};
-
     ghost same_buffer = { WriteToTheSame };
 
     ghost with_bytes = { mut_with };

@@ -2,6 +2,7 @@ ghost use Rattle.std.specs.Prelude.{⊤, ◌≡◌, ◌↔◌, [], ◌∷◌, co
 ghost use Rattle.std.specs.Int.RustNames.{bit_or};
 ghost use Rattle.uefi_base.specs.Flags.{has_bits};
 ghost use Rattle.uefi_map.specs.memory.Flags.{named_attributes};
+ghost use Rattle.uefi_map.specs.memory.Views.{attribute_bits};
 
 use bitflags::{Flag, Flags, bitflag_items};
 
@@ -30,8 +31,6 @@ bitflag_items! {
 }
 
 impl MemoryAttribute {
-    ghost use Rattle.uefi_map.specs.memory.Views.{attribute_bits};
-
     /// Returns the empty set.
     pub fn empty() -> MemoryAttribute
         ensures { attribute_bits result ≡ 0 }

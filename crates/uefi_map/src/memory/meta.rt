@@ -1,5 +1,6 @@
 ghost use Rattle.std.specs.Prelude.{◌≡◌, ◌≢◌, ◌%◌, ◌↔◌, IsTrue};
 ghost use Rattle.uefi_map.specs.memory.Map.{IsMap, IsSane, count_of};
+ghost use Rattle.uefi_map.specs.memory.Views.{key_number};
 
 use super::layout::{DESCRIPTOR_ALIGNMENT, DESCRIPTOR_LENGTH};
 
@@ -12,8 +13,6 @@ const MAX_SANE_SIZE: usize = 1 << 30;
 pub struct MemoryMapKey(usize);
 
 impl MemoryMapKey {
-    ghost use Rattle.uefi_map.specs.memory.Views.{key_number};
-
     /// Returns the key with the number.
     pub fn from_raw(key: usize) -> MemoryMapKey
         ensures { key_number result ≡ key }
@@ -38,8 +37,6 @@ pub struct MemoryMapMeta {
 }
 
 impl MemoryMapMeta {
-    ghost use Rattle.uefi_map.specs.memory.Views.{key_number};
-
     /// Returns the sizes of a map of which neither the key nor the version is known: both are 0.
     pub fn of(map_size: usize, desc_size: usize) -> MemoryMapMeta
         ensures map_size { result.map_size ≡ map_size }

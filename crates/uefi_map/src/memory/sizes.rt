@@ -1,6 +1,7 @@
 ghost use Rattle.std.specs.Prelude.{◌≡◌};
 ghost use Rattle.uefi_map.specs.memory.Map.{IsMap, meta_within};
 ghost use Rattle.uefi_map.specs.private.memory.Map.{HasWholeStrides};
+ghost use Rattle.uefi_map.specs.declared.memory.meta.MemoryMapMeta.{MemoryMapMeta};
 
 use super::meta::MemoryMapMeta;
 use std::marker::Model;
@@ -15,9 +16,6 @@ pub struct Sizes {
 }
 
 impl Model for Sizes {
-    ghost use Rattle.uefi_map.specs.declared.memory.meta.MemoryMapMeta.{MemoryMapMeta};
-    ghost use Rattle.uefi_map.specs.private.memory.Map.{HasWholeStrides};
-
     ghost Value = { MemoryMapMeta };
 
     ghost view = { λ sizes. sizes.meta };

@@ -1,4 +1,6 @@
 ghost use Rattle.std.specs.Prelude.{◌≡◌, Some};
+ghost use Rattle.uefi_map.specs.pci.Texts.{resource_error_text};
+ghost use Rattle.uefi_map.specs.declared.pci.resource_error.ResourceError.TheVariants.{Memory};
 
 use std::alloc::AllocError;
 use std::error::Error;
@@ -21,8 +23,6 @@ pub enum ResourceError {
 
 /// Writes what is missing, or the byte that is no tag as a decimal number.
 impl fmt::Display for ResourceError {
-    ghost use Rattle.uefi_map.specs.pci.Texts.{resource_error_text};
-
     ghost output = { λ error. Some (resource_error_text error) };
 
     fn fmt<W: fmt::Write>(&self, f: &mut fmt::Formatter<W>) -> fmt::Result {
@@ -39,8 +39,6 @@ impl Error for ResourceError {}
 
 /// An allocation that fails is [`ResourceError::Memory`].
 impl From<AllocError> for ResourceError {
-    ghost use Rattle.uefi_map.specs.declared.pci.resource_error.ResourceError.TheVariants.{Memory};
-
     ghost from_gives = { λ _ error. error ≡ Memory };
 
     fn from(_error: AllocError) -> ResourceError {

@@ -1,4 +1,7 @@
 ghost use Rattle.std.specs.Prelude.{◌≡◌, ◌^◌, ◌<◌, length, Some, IfSome};
+ghost use Rattle.std.specs.Iterator.{YieldsFirst, item_count, at_most, UpTo};
+ghost use Rattle.std.specs.Iterator.SizeHint.{IsWithinCount};
+ghost use Rattle.uefi_map.specs.pci.Views.{resources_in, resources_left};
 
 use super::resource::{QwordAddressSpaceDescriptor, RECORD_LENGTH};
 use std::iter::{ExactSizeIterator, FusedIterator};
@@ -14,8 +17,6 @@ pub struct ResourceIter<'a> {
 
 #[tactic(auto, using(crate::proofs::pci::Records::resource_count))]
 impl<'a> ResourceIter<'a> {
-    ghost use Rattle.uefi_map.specs.pci.Views.{resources_in, resources_left};
-
     /// Returns the resources of whole records.
     pub(super) fn over(rest: &'a [u8]) -> ResourceIter<'a>
         ensures resources { resources_left result ≡ resources_in rest.now }
@@ -28,10 +29,6 @@ impl<'a> ResourceIter<'a> {
 }
 
 impl<'a> Iterator for ResourceIter<'a> {
-    ghost use Rattle.std.specs.Iterator.{YieldsFirst, item_count, at_most, UpTo};
-    ghost use Rattle.std.specs.Iterator.SizeHint.{IsWithinCount};
-    ghost use Rattle.uefi_map.specs.pci.Views.{resources_left};
-
     type Item = QwordAddressSpaceDescriptor;
 
     ghost next_gives = { YieldsFirst resources_left };

@@ -1,5 +1,6 @@
 ghost use Rattle.std.specs.Prelude.{◌≡◌, ◌^◌, ◌<◌, [], ◌∷◌, length, IfOk, IfErr, IfSome, IsNone};
 ghost use Rattle.uefi_map.specs.pci.ResourceList.{BeginWithRecords, BeginWith, end_tag, IsFaultOf, ReadsList};
+ghost use Rattle.uefi_map.specs.pci.Views.{resources_left, resources_of};
 
 use super::resource::{QwordAddressSpaceDescriptor, RECORD_LENGTH};
 use super::resource_error::ResourceError;
@@ -43,8 +44,6 @@ pub struct ResourceList<'a> {
 }
 
 impl<'a> ResourceList<'a> {
-    ghost use Rattle.uefi_map.specs.pci.Views.{resources_left, resources_of};
-
     /// Returns the resources, in order.
     pub fn iter(&self) -> ResourceIter<'a>
         ensures resources { resources_left result ≡ resources_of self.now }
@@ -68,8 +67,6 @@ impl<'a> ResourceList<'a> {
 ///
 /// It allocates nothing, so [`Memory`](ResourceError::Memory) never comes.
 impl<'a> TryFrom<&'a [u8]> for ResourceList<'a> {
-    ghost use Rattle.uefi_map.specs.pci.Views.{resources_of};
-
     type Error = ResourceError;
 
     ghost try_from_gives = { λ bytes read. ReadsList resources_of bytes.now read };

@@ -7,7 +7,7 @@ use Rattle.std.proofs.lemmas.List.{take-take, drop-take, length-take, length-dro
 use Rattle.std.proofs.lemmas.List.{take_min, take_rest}
 use Rattle.uefi_base.specs.Unaligned.{units_of}
 use Rattle.uefi_base.proofs.UnitsOfBytes.{units_by_place}
-use Rattle.uefi_records.specs.file.Kept.{EndsWithName}
+use Rattle.uefi_records.specs.private.file.Kept.{EndsWithName}
 use Rattle.uefi_records.specs.file.Name.{IsName, first_zero, record_end, record_size, units_from}
 use Rattle.uefi_records.specs.file.Verdict.{accepted, too_small, judged, verdict}
 use Rattle.uefi_records.proofs.file.FirstZero.{IsFirstAt, first_zero_is}

@@ -8,7 +8,7 @@ use Rattle.uefi_base.specs.Ucs2.{IsUcs2Text}
 use Rattle.uefi_base.specs.Unaligned.{AreUnits, units_of, unit_bytes}
 use Rattle.uefi_base.proofs.UnitsBack.{units_read_back}
 use Rattle.uefi_records.specs.file.Name.{IsName, FitName, units_from, record_end}
-use Rattle.uefi_records.specs.file.Kept.{EndsWithName}
+use Rattle.uefi_records.specs.private.file.Kept.{EndsWithName}
 
 -- A text is a name.
 pub FitName_of_text : (units : List ℕ) → IsUcs2Text units → AreUnits units → FitName units

@@ -7,7 +7,7 @@ use Rattle.uefi_records.specs.declared.file.creation_error.FileInfoCreationError
 use Rattle.uefi_records.specs.declared.file.creation_error.FileInfoCreationError.TheVariants.{InsufficientStorage}
 use Rattle.uefi_records.specs.declared.file.file_info.FileInfo.{FileInfo}
 use Rattle.uefi_records.specs.file.Name.{FitName, record_end, record_size, units_from}
-use Rattle.uefi_records.specs.file.Kept.{EndsWithName}
+use Rattle.uefi_records.specs.private.file.Kept.{EndsWithName}
 use Rattle.uefi_records.specs.file.FileInfo.{FileFields, FitFile, file_fields, file_header, file_info_alignment}
 use Rattle.uefi_records.specs.file.FileInfo.{file_info_size, file_name_offset, size_in}
 use Rattle.uefi_records.specs.file.Views.{file_info_view, stated_size, file_fields_of, file_name_of}

@@ -1,1 +1,2 @@
 pub mod Nonzero
+pub mod Kept

@@ -1,4 +1,5 @@
 ghost use Rattle.std.specs.Prelude.{Some};
+ghost use Rattle.uefi_records.specs.file.Texts.{creation_error_text};
 
 use std::error::Error;
 use std::fmt;
@@ -12,8 +13,6 @@ pub enum FileInfoCreationError {
 
 /// The text `provided buffer was too small. need at least N bytes`, without a newline.
 impl fmt::Display for FileInfoCreationError {
-    ghost use Rattle.uefi_records.specs.file.Texts.{creation_error_text};
-
     ghost output = { λ error. Some (creation_error_text error) };
 
     fn fmt<W: fmt::Write>(&self, f: &mut fmt::Formatter<W>) -> fmt::Result {

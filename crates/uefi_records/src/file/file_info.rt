@@ -8,9 +8,11 @@ ghost use Rattle.uefi_base.specs.Views.{slice_units, text_units};
 ghost use Rattle.uefi_base.specs.Flags.{has_bits};
 ghost use Rattle.uefi_records.specs.flags.Named.{directory_attribute};
 ghost use Rattle.uefi_records.specs.file.Name.{FitName};
-ghost use Rattle.uefi_records.specs.file.Kept.{EndsWithName};
+ghost use Rattle.uefi_records.specs.private.file.Kept.{EndsWithName};
 ghost use Rattle.uefi_records.specs.file.FileInfo.{FitFile, size_in, file_fields, file_info_alignment, file_info_bytes, file_info_size, file_info_verdict, file_name_offset};
 ghost use Rattle.uefi_records.specs.file.Verdict.{FollowsVerdict};
+ghost use Rattle.uefi_records.specs.flags.Views.{attribute_bits};
+ghost use Rattle.uefi_records.specs.time.Views.{time_of};
 
 use crate::file::creation_error::FileInfoCreationError;
 use crate::file::identity::FileInfoIdentity;
@@ -77,8 +79,6 @@ pub struct FileInfo<'a> {
 }
 
 impl<'a> FileInfo<'a> {
-    ghost use Rattle.uefi_records.specs.flags.Views.{attribute_bits};
-    ghost use Rattle.uefi_records.specs.time.Views.{time_of};
     ghost use Rattle.uefi_records.specs.file.Views.{file_fields_given, file_header_of, file_info_view};
     ghost use Rattle.uefi_records.specs.file.Views.{stated_size, file_fields_of, file_name_of};
 

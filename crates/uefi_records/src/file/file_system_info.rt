@@ -5,7 +5,7 @@ ghost use Rattle.std.specs.Borrow.{sem};
 ghost use Rattle.uefi_base.specs.Buffer.{put_prefix, EndsAs};
 ghost use Rattle.uefi_base.specs.Views.{slice_units, text_units};
 ghost use Rattle.uefi_records.specs.file.Name.{FitName};
-ghost use Rattle.uefi_records.specs.file.Kept.{EndsWithName};
+ghost use Rattle.uefi_records.specs.private.file.Kept.{EndsWithName};
 ghost use Rattle.uefi_records.specs.file.FileInfo.{size_in};
 ghost use Rattle.uefi_records.specs.file.FileSystemInfo.{FitFileSystem, file_system_fields, file_system_info_alignment, file_system_info_bytes, file_system_info_size, file_system_info_verdict, label_offset, unused_bytes};
 ghost use Rattle.uefi_records.specs.file.Verdict.{FollowsVerdict};

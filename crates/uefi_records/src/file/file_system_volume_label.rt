@@ -5,7 +5,7 @@ ghost use Rattle.std.specs.Borrow.{sem};
 ghost use Rattle.uefi_base.specs.Buffer.{put_prefix, EndsAs};
 ghost use Rattle.uefi_base.specs.Views.{slice_units, text_units};
 ghost use Rattle.uefi_records.specs.file.Name.{FitName};
-ghost use Rattle.uefi_records.specs.file.Kept.{EndsWithName};
+ghost use Rattle.uefi_records.specs.private.file.Kept.{EndsWithName};
 ghost use Rattle.uefi_records.specs.file.FileSystemInfo.{lone_label_offset, volume_label_alignment, volume_label_bytes, volume_label_size, volume_label_verdict};
 ghost use Rattle.uefi_records.specs.file.Verdict.{FollowsVerdict};
 

@@ -5,7 +5,7 @@ ghost use Rattle.std.specs.Prelude.{◌≡◌, ◌↔◌, ◌+◌, ◌*◌, ◌<
 ghost use Rattle.uefi_base.specs.Views.{slice_units};
 ghost use Rattle.uefi_records.specs.file.FileInfo.{file_info_alignment, file_name_offset};
 ghost use Rattle.uefi_records.specs.file.Name.{FitName, record_end, record_size, round_up, units_from};
-ghost use Rattle.uefi_records.specs.file.Kept.{EndsWithName};
+ghost use Rattle.uefi_records.specs.private.file.Kept.{EndsWithName};
 ghost use Rattle.uefi_records.specs.file.Verdict.{verdict, accepted, Refuses};
 
 use crate::file::creation_error::FileInfoCreationError;

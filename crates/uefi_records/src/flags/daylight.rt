@@ -2,6 +2,7 @@ ghost use Rattle.std.specs.Prelude.{⊤, ◌≡◌, ◌↔◌, [], ◌∷◌, co
 ghost use Rattle.std.specs.Int.RustNames.{bit_or};
 ghost use Rattle.uefi_base.specs.Flags.{has_bits};
 ghost use Rattle.uefi_records.specs.flags.Named.{named_daylight};
+ghost use Rattle.uefi_records.specs.flags.Views.{daylight_bits};
 
 use bitflags::{Flag, Flags, bitflag_items};
 
@@ -23,8 +24,6 @@ bitflag_items! {
 }
 
 impl Daylight {
-    ghost use Rattle.uefi_records.specs.flags.Views.{daylight_bits};
-
     /// Returns the set without flags.
     pub fn empty() -> Daylight
         ensures { daylight_bits result ≡ 0 }

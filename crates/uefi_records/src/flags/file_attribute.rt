@@ -2,6 +2,7 @@ ghost use Rattle.std.specs.Prelude.{⊤, ◌≡◌, ◌↔◌, [], ◌∷◌, co
 ghost use Rattle.std.specs.Int.RustNames.{bit_or};
 ghost use Rattle.uefi_base.specs.Flags.{has_bits};
 ghost use Rattle.uefi_records.specs.flags.Named.{named_attributes};
+ghost use Rattle.uefi_records.specs.flags.Views.{attribute_bits};
 
 use bitflags::{Flag, Flags, bitflag_items};
 
@@ -31,8 +32,6 @@ bitflag_items! {
 }
 
 impl FileAttribute {
-    ghost use Rattle.uefi_records.specs.flags.Views.{attribute_bits};
-
     /// Returns the set without flags.
     pub fn empty() -> FileAttribute
         ensures { attribute_bits result ≡ 0 }

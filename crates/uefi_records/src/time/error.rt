@@ -1,4 +1,5 @@
 ghost use Rattle.std.specs.Prelude.{Some};
+ghost use Rattle.uefi_records.specs.time.Texts.{time_error_text, fault_line, conversion_error_text};
 
 use std::error::Error;
 use std::fmt;
@@ -39,8 +40,6 @@ pub enum TimeByteConversionError {
 /// A line for each field that is at fault, in the order of the fields, each with a newline. The
 /// line of the month has no closing backquote, as in the Rust crate.
 impl fmt::Display for TimeError {
-    ghost use Rattle.uefi_records.specs.time.Texts.{time_error_text};
-
     ghost output = { λ faults. Some (time_error_text faults) };
 
     fn fmt<W: fmt::Write>(&self, f: &mut fmt::Formatter<W>) -> fmt::Result {
@@ -70,8 +69,6 @@ impl Error for TimeError {}
 struct FaultLine<'a>(bool, &'a str);
 
 impl fmt::Display for FaultLine<'_> {
-    ghost use Rattle.uefi_records.specs.time.Texts.{fault_line};
-
     ghost output = { λ line. Some (fault_line line.0 line.1.now) };
 
     fn fmt<W: fmt::Write>(&self, f: &mut fmt::Formatter<W>) -> fmt::Result {
@@ -86,8 +83,6 @@ impl fmt::Display for FaultLine<'_> {
 
 /// The lines of the fields at fault, or a text without a newline if there are too few bytes.
 impl fmt::Display for TimeByteConversionError {
-    ghost use Rattle.uefi_records.specs.time.Texts.{conversion_error_text};
-
     ghost output = { λ error. Some (conversion_error_text error) };
 
     fn fmt<W: fmt::Write>(&self, f: &mut fmt::Formatter<W>) -> fmt::Result {
