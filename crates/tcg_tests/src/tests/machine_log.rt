@@ -24,13 +24,9 @@ const LAST_ENTRY: usize = 5294;
 
 /// Returns how many events of the log extended a register.
 fn count_of_register(log: &EventLog<'_>, register: PcrIndex) -> usize {
-    let mut count = 0;
-    for event in log.iter() {
-        if event.pcr_index() == register {
-            count += 1;
-        }
-    }
-    count
+    log.iter()
+        .filter(|event| event.pcr_index() == register)
+        .count()
 }
 
 #[test]
