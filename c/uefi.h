@@ -15,9 +15,9 @@
  *     UefiDigest digest;
  *     if (uefi_log2_header(log, last, &header)) {
  *         size_t at = header.event_end;
- *         while (uefi_log2_next(log, last, &header.table, &at, &event)) {
+ *         while (uefi_log2_next(log, last, header.rows, &at, &event)) {
  *             size_t next = 0;
- *             while (uefi_digest_next(event.digests, &header.table, &next, &digest))
+ *             while (uefi_digest_next(event.digests, header.rows, &next, &digest))
  *                 measure(event.pcr_index, digest.algorithm, digest.bytes);
  *         }
  *         if (at <= last && at < size)
@@ -27,13 +27,13 @@
  * Bytes. A function takes bytes as a UefiBytes: where they begin, and how
  * many there are. `at` is never NULL, also where `n` is 0; uefi_bytes() makes
  * one of any pointer and length, and of NULL no bytes. What a function returns
- * in a UefiBytes, or in a table, points into the bytes that it was passed.
+ * in a UefiBytes points into the bytes that it was passed.
  *
  * Cursors. A function that goes from one item to the next takes `offset`, a
  * number that the caller keeps: set it to the start, 0 if nothing else is
  * said, and call until the function returns false. An offset may be any
- * number, also past the end; a table any fields: a caller's state needs no
- * trust.
+ * number, also past the end; the rows of a table any bytes: a caller's state
+ * needs no trust.
  *
  * Results. Where a function returns false, `*offset` and `*out` are as they
  * were. `*out` may be uninitialized: it is only written.
@@ -44,11 +44,11 @@
  *
  * Two archives have the same functions. libuefi.a uses no memory below the
  * stack pointer, so it can stand in firmware, in boot loaders and in kernels,
- * which take interrupts on the running stack. libuefi_user.a, built by LLVM,
- * is smaller, and uses the red zone: link it into programs of an operating
- * system alone. Both run on each x86-64 processor, and call nothing
- * that they don't have. They follow the System V calling convention; an EFI
- * application gets it by UEFI_CALL below.
+ * which take interrupts on the running stack. libuefi_user.a is smaller, and
+ * uses the red zone: link it into programs of an operating system alone. Both
+ * run on each x86-64 machine, and call nothing that they don't have. They
+ * follow the System V calling convention; an EFI application gets it by
+ * UEFI_CALL below.
  */
 #ifndef UEFI_H
 #define UEFI_H
@@ -169,22 +169,7 @@ typedef struct {
 UEFI_CALL bool uefi_log1_next(UefiBytes log, size_t last_entry, size_t *offset, UefiEvent1 *out);
 
 typedef struct {
-    uint16_t algorithm;
-    uint16_t size; /* of its digests, in bytes */
-} UefiDigestRow;
-
-/* A table of algorithms with the sizes of their digests: the first `count` of
- * the rows in `first`, and then those in the bytes of `others`. The first row
- * of an algorithm decides. */
-typedef struct {
-    UefiDigestRow first[8];
-    size_t count;
-    UefiBytes others; /* four bytes a row: algorithm and size, little-endian */
-} UefiDigestTable;
-
-typedef struct {
-    UefiDigestTable table;
-    UefiBytes rows;   /* all rows of the table, four bytes each: rows.n / 4 */
+    UefiBytes rows;   /* of the table of algorithms: see below */
     UefiBytes vendor; /* at most 255 bytes */
     size_t events_start; /* where the header's own bytes end */
     size_t event_end;    /* where the event ends that has the header: there, or later */
@@ -208,22 +193,41 @@ typedef struct {
     uint16_t algorithm; /* 4: SHA-1, 0xb: SHA-256, 0xc: SHA-384, 0xd: SHA-512 */
 } UefiDigest;
 
+/* The table of a log's header says what size the digests of each algorithm
+ * have. It is kept as the bytes of its rows, four each: the algorithm in two
+ * bytes and the size in two, both little-endian. The first row of an algorithm
+ * decides, and bytes after the last whole row are no row.
+ *
+ * The table of a real log has one to five rows. One of many rows makes a log
+ * slow to read: a call for an event goes over them once, and once more for each
+ * of its digests; a call for a digest goes over them twice. So a log of E events
+ * with D digests each, under a table with R rows, takes up to
+ * E * (3 * D + 2) * R steps. To refuse a header of more rows before any event is
+ * read, write
+ *
+ *     if (header.rows.n / 4 > 8)
+ *         return refused;
+ */
+
 /* The header of a version 2 log, which stands in its first event, of type
  * EV_NO_ACTION. False if the log doesn't begin with one: the log is of
  * version 1, the header is cut or damaged, or its event doesn't end at
  * `last_entry` or before, unless it starts there. */
 UEFI_CALL bool uefi_log2_header(UefiBytes log, size_t last_entry, UefiLogHeader *out);
 
-/* The next event of a version 2 log under the header's table
- * (TCG_PCR_EVENT2). Start at the header's `event_end`: the event that has the
- * header isn't returned. (From `events_start` on the Rust crate `uefi` reads;
- * both are the same unless more follows the header in its event.) */
-UEFI_CALL bool uefi_log2_next(UefiBytes log, size_t last_entry, const UefiDigestTable *table,
-                              size_t *offset, UefiEvent2 *out);
+/* The next event of a version 2 log (TCG_PCR_EVENT2) under the header's table,
+ * whose rows these are. False under a table of 2^32 rows or more, which no
+ * header has.
+ *
+ * Start at `event_end`: after the header event stand the events that firmware
+ * writes, and that Linux, tpm2-tools and uefi_audit read. The Rust crate `uefi`
+ * starts after the header, at `events_start`. Logs differ only where other
+ * bytes follow the header in its event. */
+UEFI_CALL bool uefi_log2_next(UefiBytes log, size_t last_entry, UefiBytes rows, size_t *offset,
+                              UefiEvent2 *out);
 
-/* The next digest of an event. */
-UEFI_CALL bool uefi_digest_next(UefiBytes digests, const UefiDigestTable *table, size_t *offset,
-                                UefiDigest *out);
+/* The next digest of an event, under the same rows. */
+UEFI_CALL bool uefi_digest_next(UefiBytes digests, UefiBytes rows, size_t *offset, UefiDigest *out);
 
 /* Writes an event of a version 1 log to the beginning of the buffer, and sets
  * `*size` to its length. If it returns false, the buffer is as it was, and

@@ -19,7 +19,6 @@
 #define log1_next plain_log1_next
 #define log2_next plain_log2_next
 #define digest_next plain_digest_next
-typedef UefiBytes Table;
 #else
 #define path_of WALK(uefi_path)
 #define next_node WALK(uefi_path_next_node)
@@ -29,15 +28,14 @@ typedef UefiBytes Table;
 #define log2_header WALK(uefi_log2_header)
 #define log2_next WALK(uefi_log2_next)
 #define digest_next WALK(uefi_digest_next)
-typedef const UefiDigestTable *Table;
 bool path_of(UefiBytes bytes, UefiBytes *path);
 bool next_node(UefiBytes path, size_t *offset, UefiNode *out);
 bool next_instance(UefiBytes path, size_t *offset, UefiBytes *instance);
 bool map_entry(UefiBytes map, size_t stride, size_t index, UefiDescriptor *out);
 bool log1_next(UefiBytes log, size_t last_entry, size_t *offset, UefiEvent1 *out);
 bool log2_header(UefiBytes log, size_t last_entry, UefiLogHeader *out);
-bool log2_next(UefiBytes log, size_t last_entry, Table table, size_t *offset, UefiEvent2 *out);
-bool digest_next(UefiBytes digests, Table table, size_t *offset, UefiDigest *out);
+bool log2_next(UefiBytes log, size_t last_entry, UefiBytes rows, size_t *offset, UefiEvent2 *out);
+bool digest_next(UefiBytes digests, UefiBytes rows, size_t *offset, UefiDigest *out);
 #endif
 
 /* The length of the path. */
@@ -90,10 +88,10 @@ static uint64_t walk_log1(UefiBytes log) {
 }
 
 /* Algorithms and first bytes of an event's digests. */
-static uint64_t digest_sum(const UefiEvent2 *event, Table table) {
+static uint64_t digest_sum(const UefiEvent2 *event, UefiBytes rows) {
     UefiDigest digest;
     uint64_t sum = 0;
-    for (size_t at = 0; digest_next(event->digests, table, &at, &digest);)
+    for (size_t at = 0; digest_next(event->digests, rows, &at, &digest);)
         sum += (uint64_t)digest.algorithm + (digest.bytes.n ? digest.bytes.at[0] : 0);
     return sum;
 }
@@ -104,27 +102,27 @@ static uint64_t walk_log2(UefiBytes log, bool with_digests) {
     uint64_t sum = 0;
 #ifdef PLAIN
     size_t next;
-    Table table;
-    if (!plain_log2_header(log, log.n, &table, &next))
+    UefiBytes rows;
+    if (!plain_log2_header(log, log.n, &rows, &next))
         return 0;
 #else
     UefiLogHeader header;
     if (!log2_header(log, log.n, &header))
         return 0;
     size_t next = header.events_start;
-    Table table = &header.table;
+    UefiBytes rows = header.rows;
 #endif
-    while (log2_next(log, log.n, table, &next, &event)) {
+    while (log2_next(log, log.n, rows, &next, &event)) {
         sum += (uint64_t)event.pcr_index + event.event_type + event.event_data.n;
         if (with_digests)
-            sum += digest_sum(&event, table);
+            sum += digest_sum(&event, rows);
     }
     return sum;
 }
 
 uint64_t WALK(walk)(uint32_t which, const uint8_t *at, size_t n);
 
-/* The walk of this number, as bench/src/c_library.rs names them. */
+/* The walk of this number, as bench/src/c_main.rs names them. */
 uint64_t WALK(walk)(uint32_t which, const uint8_t *at, size_t n) {
     UefiBytes bytes = uefi_bytes(at, n);
     switch (which) {

@@ -1,6 +1,6 @@
 //! Configuration strings: the readers that are measured, and the inputs.
 
-use crate::Case;
+use crate::measure::{Case, Size, measure};
 use crate::random::Random;
 use crate::readers::config::{Configurations, Pairs, hex};
 
@@ -44,9 +44,7 @@ fn read_values(bytes: &[u8]) -> u64 {
     let mut sum = 0u64;
     for configuration in Configurations::new(text_of(bytes)).flatten() {
         for element in &configuration.elements {
-            sum = sum
-                .wrapping_add(element.value.len() as u64)
-                .wrapping_add(first_of(&element.value));
+            sum = sum.wrapping_add(element.value.len() as u64).wrapping_add(first_of(&element.value));
         }
     }
     sum
@@ -64,22 +62,21 @@ fn push_digits(text: &mut Vec<u8>, count: usize, random: &mut Random) {
     text.extend((0..count).map(|_| b"0123456789abcdef"[random.below(16) as usize]));
 }
 
-/// Configurations of ten elements with values of 32 bytes, in a text of this length at least, and
-/// the number of their elements.
-fn make_configurations(length: usize) -> (Vec<u8>, usize) {
+/// Configurations of 42 elements, each with a value of 32 bytes, in a text of at least this length.
+/// With the header and the number of the alternative, each configuration has 130 pairs and 4 KB.
+fn make_configurations(length: usize) -> Vec<u8> {
     let mut random = Random::new();
     let mut text = Vec::new();
-    let mut elements = 0;
     while text.len() < length {
         text.extend(if text.is_empty() { "" } else { "&" }.bytes());
         text.extend(HEADER.bytes());
-        for offset in 0..10 {
+        text.extend("&ALTCFG=0001".bytes());
+        for offset in 0..42 {
             text.extend(format!("&OFFSET={:04x}&WIDTH=0020&VALUE=", 32 * offset).bytes());
             push_digits(&mut text, 64, &mut random);
         }
-        elements += 10;
     }
-    (text, elements)
+    text
 }
 
 /// A configuration of one element, whose value has this many digits.
@@ -89,29 +86,29 @@ fn make_value(digits: usize) -> Vec<u8> {
     text
 }
 
-const LENGTH: usize = 64_000_000;
+fn measure_configurations(size: Size) {
+    let (length, words) = size.pick((1, "130 pairs, 4 KB"), (64_000_000, "2,000,000 pairs, 64 MB"));
+    let input = &make_configurations(length);
+    let reader = "pairs of configurations";
+    let case = Case { reader, proved: port_config_pairs, plain: read_pairs, size, input, words };
+    measure(&case);
+    let reader = "configurations";
+    measure(&Case { reader, proved: port_config, plain: read_configurations, ..case });
+}
 
-pub fn with_cases(mut measure: impl FnMut(&Case<'_>)) {
-    let (input, elements) = &make_configurations(LENGTH);
-    let items = Pairs { rest: text_of(input) }.count();
-    measure(&Case {
-        name: "port_config_pairs",
-        port: port_config_pairs,
-        rust: read_pairs,
-        input,
-        items,
-    });
-    let items = *elements;
-    measure(&Case { name: "port_config", port: port_config, rust: read_configurations, input, items });
-    let input = &make_value(LENGTH);
-    let items = LENGTH / 2;
-    measure(&Case {
-        name: "port_config_value",
-        port: port_config_value,
-        rust: read_values,
-        input,
-        items,
-    });
-    let digits = &input[input.len() - LENGTH..];
-    measure(&Case { name: "port_hex", port: port_hex, rust: read_hex, input: digits, items });
+fn measure_digits(size: Size) {
+    let (digits, words) = size.pick((4096, "4,096 digits"), (64_000_000, "64,000,000 digits"));
+    let input = &make_value(digits);
+    let reader = "long values";
+    measure(&Case { reader, proved: port_config_value, plain: read_values, size, input, words });
+    let (digits, words) = size.pick((64, "64 digits"), (digits, words));
+    let (reader, input) = ("hex", &input[input.len() - digits..]);
+    measure(&Case { reader, proved: port_hex, plain: read_hex, size, input, words });
+}
+
+pub fn measure_all() {
+    for size in Size::ALL {
+        measure_digits(size);
+        measure_configurations(size);
+    }
 }

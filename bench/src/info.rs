@@ -1,6 +1,6 @@
 //! Information on files: the reader that is measured, and the input.
 
-use crate::Case;
+use crate::measure::{Case, Size, measure};
 use crate::random::Random;
 use crate::readers::info::{ALIGNMENT, FileInfo, NAME_OFFSET};
 
@@ -24,8 +24,10 @@ pub fn make_info(units: usize) -> Vec<u8> {
     bytes
 }
 
-pub fn with_cases(mut measure: impl FnMut(&Case<'_>)) {
-    let items = 32_000_000;
-    let input = &make_info(items);
-    measure(&Case { name: "port_info", port: port_info, rust: read_info, input, items });
+pub fn measure_all() {
+    for size in Size::ALL {
+        let (units, words) = size.pick((12, "12 units"), (32_000_000, "32,000,000 units"));
+        let (reader, input) = ("names", &make_info(units));
+        measure(&Case { reader, proved: port_info, plain: read_info, size, input, words });
+    }
 }

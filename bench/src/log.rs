@@ -1,6 +1,6 @@
 //! Event logs: the reader that is measured, and the input.
 
-use crate::Case;
+use crate::measure::{Case, Size, measure};
 use crate::random::Random;
 use crate::readers::log1::Events;
 
@@ -41,8 +41,16 @@ pub fn make_log1(count: usize) -> Vec<u8> {
     bytes
 }
 
-pub fn with_cases(mut measure: impl FnMut(&Case<'_>)) {
-    let items = 1_000_000;
-    let input = &make_log1(items);
-    measure(&Case { name: "port_log1", port: port_events1, rust: read_events1, input, items });
+/// Returns the count of events of this size, and the words for it.
+pub fn log_size(size: Size) -> (usize, &'static str) {
+    size.pick((200, "200 events"), (1_000_000, "1,000,000 events"))
+}
+
+pub fn measure_all() {
+    for size in Size::ALL {
+        let (count, words) = log_size(size);
+        let input = &make_log1(count);
+        let reader = "logs: version 1";
+        measure(&Case { reader, proved: port_events1, plain: read_events1, size, input, words });
+    }
 }

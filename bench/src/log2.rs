@@ -1,6 +1,7 @@
 //! Event logs of version 2: the readers that are measured, and the inputs.
 
-use crate::Case;
+use crate::log::log_size;
+use crate::measure::{Case, Size, measure};
 use crate::random::Random;
 use crate::readers::log2::{Digests, Events, Header, NO_ACTION, ROW_LENGTH, SIGNATURE};
 
@@ -52,22 +53,8 @@ fn read_digests(bytes: &[u8]) -> u64 {
     log_sum(bytes, std::hint::black_box(true))
 }
 
-/// Algorithms, each with the size of its digests: SHA-1, SHA-256, SHA-384, SHA-512, SM3-256, the
-/// SHA-3 family, and four that have no name.
-const ALGORITHMS: [(u16, u16); 12] = [
-    (0x04, 20),
-    (0x0b, 32),
-    (0x0c, 48),
-    (0x0d, 64),
-    (0x12, 32),
-    (0x27, 32),
-    (0x28, 48),
-    (0x29, 64),
-    (0x80, 20),
-    (0x81, 32),
-    (0x82, 48),
-    (0x83, 64),
-];
+/// Algorithms, each with the size of its digests: SHA-1, SHA-256, SHA-384 and SHA-512.
+const ALGORITHMS: [(u16, u16); 4] = [(0x04, 20), (0x0b, 32), (0x0c, 48), (0x0d, 64)];
 
 /// The event with the header of a log under this many rows.
 fn make_header(rows: usize) -> Vec<u8> {
@@ -101,16 +88,18 @@ pub fn make_log(count: usize, rows: usize) -> Vec<u8> {
     bytes
 }
 
-pub fn with_cases(mut measure: impl FnMut(&Case<'_>)) {
-    let items = 1_000_000;
-    let names = [
-        (2, "port_log2 2", "port_log2 2 digests"),
-        (4, "port_log2 4", "port_log2 4 digests"),
-        (12, "port_log2 12", "port_log2 12 digests"),
+pub fn measure_all() {
+    let readers = [
+        (2, "logs: version 2, two digests", "logs: version 2, each of two digests"),
+        (4, "logs: version 2, four digests", "logs: version 2, each of four digests"),
     ];
-    for (rows, events, digests) in names {
-        let input = &make_log(items, rows);
-        measure(&Case { name: events, port: port_events, rust: read_events, input, items });
-        measure(&Case { name: digests, port: port_digests, rust: read_digests, input, items });
+    for size in Size::ALL {
+        let (count, words) = log_size(size);
+        for (rows, reader, with_digests) in readers {
+            let input = &make_log(count, rows);
+            let case = Case { reader, proved: port_events, plain: read_events, size, input, words };
+            measure(&case);
+            measure(&Case { reader: with_digests, proved: port_digests, plain: read_digests, ..case });
+        }
     }
 }

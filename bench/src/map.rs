@@ -1,6 +1,6 @@
 //! Memory maps: the readers that are measured, and the input.
 
-use crate::Case;
+use crate::measure::{Case, Size, measure};
 use crate::random::Random;
 use crate::readers::map::Map;
 
@@ -37,8 +37,7 @@ fn read_order(bytes: &[u8]) -> u64 {
     let Some(map) = Map::new(bytes, std::hint::black_box(STRIDE)) else {
         return 0;
     };
-    let (entries, others) = (map.entries(), map.entries().skip(1));
-    u64::from(entries.zip(others).all(|(one, next)| one.phys_start() <= next.phys_start()))
+    u64::from(map.entries().is_sorted_by_key(|entry| entry.phys_start()))
 }
 
 /// Descriptors in order, at a stride of 48 bytes.
@@ -58,12 +57,24 @@ pub fn make_map(count: usize) -> Vec<u8> {
     bytes
 }
 
-pub fn with_cases(mut measure: impl FnMut(&Case<'_>)) {
-    let items = 1_000_000;
-    let input = &make_map(items);
-    let cases = [
-        Case { name: "port_map", port: port_entries, rust: read_entries, input, items },
-        Case { name: "port_sorted", port: port_order, rust: read_order, input, items },
-    ];
-    cases.iter().for_each(|case| measure(case));
+/// Returns the count of descriptors of this size, and the words for it.
+pub fn map_size(size: Size) -> (usize, &'static str) {
+    size.pick((100, "100 descriptors"), (1_000_000, "1,000,000 descriptors"))
+}
+
+pub fn measure_all() {
+    for size in Size::ALL {
+        let (count, words) = map_size(size);
+        let input = &make_map(count);
+        let case = Case {
+            reader: "maps: entries",
+            proved: port_entries,
+            plain: read_entries,
+            size,
+            input,
+            words,
+        };
+        measure(&case);
+        measure(&Case { reader: "maps: `is_sorted`", proved: port_order, plain: read_order, ..case });
+    }
 }

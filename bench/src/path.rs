@@ -1,6 +1,6 @@
 //! Device paths: the readers that are measured, and the input.
 
-use crate::Case;
+use crate::measure::{Case, Size, measure};
 use crate::random::Random;
 use crate::readers::path::{END, END_ENTIRE, END_INSTANCE, HEADER, Instances, Nodes, Stop, split};
 
@@ -17,9 +17,7 @@ fn read_path(bytes: &[u8]) -> u64 {
 fn node_sum(rest: &[u8], stop: Stop) -> u64 {
     let mut sum = 0u64;
     for node in (Nodes { rest, stop }) {
-        sum = sum
-            .wrapping_add(u64::from(node.device_type()))
-            .wrapping_add(node.data().len() as u64);
+        sum = sum.wrapping_add(u64::from(node.device_type())).wrapping_add(node.data().len() as u64);
     }
     sum
 }
@@ -34,14 +32,12 @@ fn read_instances(bytes: &[u8]) -> u64 {
     };
     let mut sum = 0u64;
     for instance in (Instances { rest }) {
-        sum = sum
-            .wrapping_add(instance.len() as u64)
-            .wrapping_add(node_sum(instance, Stop::AnyEnd));
+        sum = sum.wrapping_add(instance.len() as u64).wrapping_add(node_sum(instance, Stop::AnyEnd));
     }
     sum
 }
 
-/// A path of a million nodes with data of 0 to 24 bytes. Each 50th ends an instance.
+/// A path of this many nodes with data of 0 to 24 bytes. Each 50th ends an instance.
 pub fn make_path(nodes: usize) -> Vec<u8> {
     let mut random = Random::new();
     let mut bytes = Vec::new();
@@ -59,13 +55,30 @@ pub fn make_path(nodes: usize) -> Vec<u8> {
     bytes
 }
 
-pub fn with_cases(mut measure: impl FnMut(&Case<'_>)) {
-    let items = 1_000_000;
-    let input = &make_path(items);
-    let cases = [
-        Case { name: "port_path", port: port_path, rust: read_path, input, items },
-        Case { name: "port_nodes", port: port_nodes, rust: read_nodes, input, items },
-        Case { name: "port_instances", port: port_instances, rust: read_instances, input, items },
-    ];
-    cases.iter().for_each(|case| measure(case));
+/// Returns the count of nodes of this size, and the words for it.
+pub fn path_size(size: Size) -> (usize, &'static str) {
+    size.pick((5, "5 nodes"), (1_000_000, "1,000,000 nodes, an instance each 50"))
+}
+
+pub fn measure_all() {
+    for size in Size::ALL {
+        let (nodes, words) = path_size(size);
+        let input = &make_path(nodes);
+        let case = Case {
+            reader: "paths: `try_from`",
+            proved: port_path,
+            plain: read_path,
+            size,
+            input,
+            words,
+        };
+        measure(&case);
+        measure(&Case { reader: "paths: nodes", proved: port_nodes, plain: read_nodes, ..case });
+        measure(&Case {
+            reader: "paths: instances",
+            proved: port_instances,
+            plain: read_instances,
+            ..case
+        });
+    }
 }

@@ -1,6 +1,6 @@
 //! Lists of PCI resources: the reader that is measured, which collects them, and the input.
 
-use crate::Case;
+use crate::measure::{Case, Size, measure};
 use crate::random::Random;
 use crate::readers::pci::{END_TAG, RECORD_LENGTH, RECORD_TAG, Range, records};
 
@@ -38,8 +38,10 @@ pub fn make_list(count: usize) -> Vec<u8> {
     bytes
 }
 
-pub fn with_cases(mut measure: impl FnMut(&Case<'_>)) {
-    let items = 1_000_000;
-    let input = &make_list(items);
-    measure(&Case { name: "port_pci", port: port_pci, rust: read_resources, input, items });
+pub fn measure_all() {
+    for size in Size::ALL {
+        let (count, words) = size.pick((4, "4 resources"), (1_000_000, "1,000,000 resources"));
+        let (reader, input) = ("PCI resources", &make_list(count));
+        measure(&Case { reader, proved: port_pci, plain: read_resources, size, input, words });
+    }
 }

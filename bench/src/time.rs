@@ -1,6 +1,6 @@
 //! Times: the reader that is measured, and the input.
 
-use crate::Case;
+use crate::measure::{Case, Size, measure};
 use crate::random::Random;
 use crate::readers::time::{LENGTH, Time};
 
@@ -26,7 +26,7 @@ fn make_times(count: usize) -> Vec<u8> {
     let mut random = Random::new();
     let mut bytes = Vec::new();
     for i in 0..count {
-        let month = if i % 50 == 0 { 13 } else { 1 + random.below(12) as u8 };
+        let month = if i % 50 == 49 { 13 } else { 1 + random.below(12) as u8 };
         bytes.extend((1900 + random.below(8100) as u16).to_le_bytes());
         bytes.extend([month, 1 + random.below(31) as u8]);
         bytes.extend([random.below(24) as u8, random.below(60) as u8, random.below(60) as u8, 0]);
@@ -37,8 +37,10 @@ fn make_times(count: usize) -> Vec<u8> {
     bytes
 }
 
-pub fn with_cases(mut measure: impl FnMut(&Case<'_>)) {
-    let items = 1_000_000;
-    let input = &make_times(items);
-    measure(&Case { name: "port_times", port: port_times, rust: read_times, input, items });
+pub fn measure_all() {
+    for size in Size::ALL {
+        let (count, words) = size.pick((1, "1 time"), (1_000_000, "1,000,000 times"));
+        let (reader, input) = ("times", &make_times(count));
+        measure(&Case { reader, proved: port_times, plain: read_times, size, input, words });
+    }
 }

@@ -99,11 +99,11 @@ static int list_log2(UefiBytes log, size_t last_entry, bool after_header_event) 
     }
     put_header(&header);
     size_t at = after_header_event ? header.event_end : header.events_start;
-    for (; uefi_log2_next(log, last_entry, &header.table, &at, &event); count++) {
+    for (; uefi_log2_next(log, last_entry, header.rows, &at, &event); count++) {
         printf("event %" PRIu32 " 0x%08" PRIx32, event.pcr_index, event.event_type);
         put_data(event.event_data);
         putchar('\n');
-        for (size_t next = 0; uefi_digest_next(event.digests, &header.table, &next, &digest);) {
+        for (size_t next = 0; uefi_digest_next(event.digests, header.rows, &next, &digest);) {
             printf("  digest 0x%04x", digest.algorithm);
             put_data(digest.bytes);
             putchar('\n');

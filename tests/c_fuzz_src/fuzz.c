@@ -29,35 +29,31 @@ void need(bool holds, const char *file, int line) {
 /* Where a version 1 event ends; 0 for none. */
 static size_t plain1(UefiBytes log, size_t last, size_t at) {
     if (at > log.n || log.n - at < 32) return 0;
-    size_t length = 32 + (size_t)u32(log.at + at + 28);
-    if (length > log.n - at || !keeps(last, at, at + length)) return 0;
-    return at + length;
+    size_t length = u32(log.at + at + 28);
+    if (length > log.n - at - 32 || !keeps(last, at, at + 32 + length)) return 0;
+    return at + 32 + length;
 }
 
-static size_t first_rows(const UefiDigestTable *table) { return table->count < 8 ? table->count : 8; }
-
-static bool size_of(const UefiDigestTable *table, uint32_t algorithm, size_t *size) {
-    for (size_t i = 0; i < first_rows(table); i++)
-        if (table->first[i].algorithm == algorithm) return *size = table->first[i].size, true;
-    for (size_t i = 0; table->others.n - i >= 4; i += 4)
-        if (u16(table->others.at + i) == algorithm) return *size = u16(table->others.at + i + 2), true;
+static bool size_of(UefiBytes rows, uint32_t algorithm, size_t *size) {
+    for (size_t i = 0; rows.n - i >= 4; i += 4)
+        if (u16(rows.at + i) == algorithm) return *size = u16(rows.at + i + 2), true;
     return false;
 }
 
 /* The length of a digest with its algorithm; 0 for none. */
-static size_t plain_digest(const UefiDigestTable *table, const uint8_t *at, size_t n) {
+static size_t plain_digest(UefiBytes rows, const uint8_t *at, size_t n) {
     size_t size;
-    if (n < 2 || !size_of(table, u16(at), &size) || size > n - 2) return 0;
+    if (n < 2 || !size_of(rows, u16(at), &size) || size > n - 2) return 0;
     return 2 + size;
 }
 
 /* Where a version 2 event ends, and where its digests do; 0 for none. */
-static size_t plain2(UefiBytes log, size_t last, const UefiDigestTable *table, size_t at, size_t *digests_end) {
+static size_t plain2(UefiBytes log, size_t last, UefiBytes rows, size_t at, size_t *digests_end) {
     if (at > log.n || log.n - at < 12) return 0;
     size_t count = u32(log.at + at + 8), i = at + 12;
-    if (count > first_rows(table) + table->others.n / 4) return 0;
+    if (count > rows.n / 4) return 0;
     while (count--) {
-        size_t length = plain_digest(table, log.at + i, log.n - i);
+        size_t length = plain_digest(rows, log.at + i, log.n - i);
         if (!length) return 0;
         i += length;
     }
@@ -96,11 +92,11 @@ static bool one1(UefiBytes log, size_t last, size_t *at) {
     return events1++, true;
 }
 
-static bool one2(UefiBytes log, size_t last, const UefiDigestTable *table, size_t *at) {
+static bool one2(UefiBytes log, size_t last, UefiBytes rows, size_t *at) {
     UefiEvent2 out, untouched;
     memset(&out, 0xcc, sizeof out), memset(&untouched, 0xcc, sizeof out);
-    size_t start = *at, digests_end, end = plain2(log, last, table, start, &digests_end);
-    bool found = uefi_log2_next(log, last, table, at, &out);
+    size_t start = *at, digests_end, end = plain2(log, last, rows, start, &digests_end);
+    bool found = uefi_log2_next(log, last, rows, at, &out);
     NEED(found == (end != 0));
     if (!found) { NEED(*at == start); SAME(out); return false; }
     const uint8_t *b = log.at + start;
@@ -109,9 +105,9 @@ static bool one2(UefiBytes log, size_t last, const UefiDigestTable *table, size_
     NEED(out.event_data.at == log.at + digests_end + 4 && out.event_data.n == end - digests_end - 4);
     UefiDigest digest;
     size_t count = 0, next = 0;
-    for (size_t before = 0; uefi_digest_next(out.digests, table, &next, &digest); before = next, count++) {
+    for (size_t before = 0; uefi_digest_next(out.digests, rows, &next, &digest); before = next, count++) {
         const uint8_t *from = b + 12 + before;
-        size_t length = plain_digest(table, from, log.at + digests_end - from);
+        size_t length = plain_digest(rows, from, log.at + digests_end - from);
         NEED(length && next == before + length);
         NEED(digest.algorithm == u16(from) && digest.bytes.at == from + 2 && digest.bytes.n == length - 2);
     }
@@ -132,20 +128,16 @@ static void one_header(UefiBytes log, size_t last) {
     NEED(out.rows.at == log.at + 60 && out.rows.n == vendor - 60);
     NEED(out.vendor.at == log.at + vendor + 1 && out.vendor.n == log.at[vendor]);
     NEED(out.events_start == vendor + 1 + out.vendor.n && out.event_end == event_end);
-    UefiBytes rows = out.rows;
-    for (size_t k = 0; k < 8 && k < rows.n / 4; k++)
-        NEED(out.table.first[k].algorithm == u16(rows.at + 4 * k) && out.table.first[k].size == u16(rows.at + 4 * k + 2));
-    NEED(out.table.count + out.table.others.n / 4 == rows.n / 4);
     headers++;
     size_t at = any() & 1 ? out.events_start : out.event_end;
-    while (one2(log, last, &out.table, &at)) {}
+    while (one2(log, last, out.rows, &at)) {}
 }
 
-static void one_digest(const UefiDigestTable *table, UefiBytes bytes, size_t at) {
+static void one_digest(UefiBytes rows, UefiBytes bytes, size_t at) {
     UefiDigest out, untouched;
     memset(&out, 0xcc, sizeof out), memset(&untouched, 0xcc, sizeof out);
-    size_t start = at, length = at > bytes.n ? 0 : plain_digest(table, bytes.at + at, bytes.n - at);
-    bool found = uefi_digest_next(bytes, table, &at, &out);
+    size_t start = at, length = at > bytes.n ? 0 : plain_digest(rows, bytes.at + at, bytes.n - at);
+    bool found = uefi_digest_next(bytes, rows, &at, &out);
     NEED(found == (length != 0));
     if (!found) { NEED(at == start); SAME(out); return; }
     NEED(at == start + length && out.bytes.at == bytes.at + start + 2 && out.bytes.n == length - 2);
@@ -238,6 +230,17 @@ static void one_entry(UefiBytes map) {
     entries++;
 }
 
+/* Makes rows of a table: small numbers, large ones, and after some of them bytes of any kind. */
+static const uint8_t *rows_of(uint8_t *b, size_t n) {
+    size_t made = any() & 3 ? below(n + 1) : n;
+    for (size_t k = 0; k < n; k++) b[k] = any() & 1 ? 0 : any() & 1 ? below(80) : any();
+    for (size_t k = 0; made - k >= 4; k += 4) {
+        uint16_t row[] = {any() & 1 ? below(14) : any(), any() & 1 ? below(80) : any()};
+        memcpy(b + k, row, 4);
+    }
+    return b;
+}
+
 int main(int argc, char **argv) {
     static uint8_t seeds[16][AREA];
     size_t sizes[16], count = 0, inputs = 0;
@@ -263,17 +266,15 @@ int main(int argc, char **argv) {
         one_header(log, last);
         size_t at = any() & 1 ? 0 : any() & 3 ? below(n + 3) : (size_t)any();
         while (one1(log, last, &at)) {}
-        size_t r = below(40);
-        UefiDigestTable table = {.count = any() & 3 ? below(10) : (size_t)any(), .others = {rows_end - r, r}};
-        for (size_t k = 0; k < 8; k++) table.first[k] = (UefiDigestRow){any() & 1 ? below(14) : any(), any() & 1 ? below(80) : any()};
-        for (size_t k = 0; k < r; k++) (rows_end - r)[k] = any() & 1 ? 0 : any() & 1 ? below(80) : any();
-        if (any() & 1 && n > 80 && r >= 20) memcpy(rows_end - r, log.at + 60, 16), table.count = below(2);
+        size_t r = below(72);
+        UefiBytes rows = {rows_of(rows_end - r, r), r};
+        if (any() & 1 && n > 80 && r >= 20) memcpy(rows_end - r + 4 * below(2), log.at + 60, 16);
         at = any() & 1 ? 65 + 16 : any() & 3 ? below(n + 3) : (size_t)any();
-        while (one2(log, any() & 1 ? last : at, &table, &at)) {}
+        while (one2(log, any() & 1 ? last : at, rows, &at)) {}
         size_t cut = below(n + 1);
         UefiBytes part = {log.at + cut, n - cut};
         at = any() & 1 ? 0 : any() & 3 ? below(part.n + 3) : (size_t)any();
-        one_digest(&table, part, at), one_path(part, at), one_resource(part, at), one_pair(part, at), one_entry(part);
+        one_digest(rows, part, at), one_path(part, at), one_resource(part, at), one_pair(part, at), one_entry(part);
         records_of(part);
     }
     printf("%zu inputs, 0 differences: %zu headers, %zu and %zu events, %zu digests, %zu nodes, %zu entries, %zu resources, "

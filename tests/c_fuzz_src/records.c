@@ -127,7 +127,7 @@ static void one_text(UefiBytes text) {
     static const char pieces[][5] = {"\xc3\xa9", "\xed\x9f\xbf", "\xed\xa0\x80", "\xf4\x8f\xbf\xbf", "\xc0\x80"};
     uint8_t *b = (uint8_t *)text.at;
     if (any() & 1)
-        for (size_t i = 0; i < text.n; i++) b[i] = any() & 7 ? "0123456789abcdefABCDEF+g"[below(24)] : any() & 127;
+        for (size_t i = 0; i < text.n; i++) b[i] = any() & 7 ? "0123456789abcdefABCDEF+g"[below(24)] : (char)(any() & 127);
     if (any() & 3 && text.n > 4) memcpy(b + below(text.n - 4), pieces[below(5)], 2 + below(3));
     size_t length = (text.n + 1) / 2, n = any() & 3 ? length + below(9) : below(length + 1), size = 7;
     memset(room, 0x5a, n), memset(wanted, 0x5a, n);

@@ -21,10 +21,10 @@ static void add_digest(Tally *tally, uint16_t algorithm, UefiBytes digest) {
     add_bytes(tally, digest);
 }
 
-static size_t add_digests(Tally *tally, const UefiEvent2 *event, const UefiDigestTable *table) {
+static size_t add_digests(Tally *tally, const UefiEvent2 *event, UefiBytes rows) {
     UefiDigest digest;
     size_t count = 0;
-    for (size_t at = 0; uefi_digest_next(event->digests, table, &at, &digest); count++)
+    for (size_t at = 0; uefi_digest_next(event->digests, rows, &at, &digest); count++)
         add_digest(tally, digest.algorithm, digest.bytes);
     return count;
 }
@@ -37,10 +37,10 @@ static Tally proved_tally(const Log *log, size_t *digests, size_t *end) {
     *digests = *end = 0;
     if (!uefi_log2_header(log->bytes, log->last_entry, &header))
         return tally;
-    *end = header.events_start;
-    while (uefi_log2_next(log->bytes, log->last_entry, &header.table, end, &event)) {
+    *end = header.event_end;
+    while (uefi_log2_next(log->bytes, log->last_entry, header.rows, end, &event)) {
         add_event(&tally, event.pcr_index, event.event_type, event.event_data);
-        *digests += add_digests(&tally, &event, &header.table);
+        *digests += add_digests(&tally, &event, header.rows);
     }
     return tally;
 }

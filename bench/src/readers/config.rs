@@ -22,12 +22,7 @@ impl<'a> Iterator for Pairs<'a> {
 }
 
 fn digit(c: u8) -> Option<u8> {
-    match c {
-        b'0'..=b'9' => Some(c - b'0'),
-        b'a'..=b'f' => Some(c - b'a' + 10),
-        b'A'..=b'F' => Some(c - b'A' + 10),
-        _ => None,
-    }
+    char::from(c).to_digit(16).map(|digit| digit as u8)
 }
 
 /// The byte that one or two characters spell: 0 where they aren't digits.

@@ -1,4 +1,4 @@
--- The banks of registers: those whose hash functions are proved here (TCG Algorithm Registry, `TPM_ALG_ID`; FIPS 180-4).
+-- The banks of PCRs: those whose hash functions are proved here (TCG Algorithm Registry, `TPM_ALG_ID`; FIPS 180-4).
 use Rattle.std.specs.Prelude.{ℕ, List}
 use Rattle.sha1.specs.Sha1.{sha1}
 use Rattle.sha2.specs.Sha256.{sha256}
@@ -13,7 +13,7 @@ algorithm_of Sha256 = 0x0b
 algorithm_of Sha384 = 0x0c
 algorithm_of Sha512 = 0x0d
 
--- How many bytes a digest has, and so a register.
+-- How many bytes a digest has, and so a PCR.
 abbrev pub size_of : Bank → ℕ
 size_of Sha1 = 20
 size_of Sha256 = 32

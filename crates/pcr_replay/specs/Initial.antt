@@ -1,4 +1,4 @@
--- What the registers hold before any event (TCG PC Client Platform TPM Profile, "PCR Initial and Reset Values"; TCG PC Client Platform Firmware Profile 1.06, 3.3 and 10, "Startup Locality Event").
+-- What the PCRs hold before any event (TCG PC Client Platform TPM Profile, "PCR Initial and Reset Values"; TCG PC Client Platform Firmware Profile 1.06, 3.3 and 10, "Startup Locality Event").
 use Rattle.std.specs.Prelude.{ℕ, ◌-◌, ◌==◌, ◌&&◌, ◌++◌, List, [], ◌∷◌, length, take, slice_index, replicate, Option, None, Some, unwrap_or, if◌then◌else◌}
 use Rattle.std.specs.Str.{bytes_eq}
 use Rattle.uefi_tcg.specs.v2.Event.{Event}
@@ -13,7 +13,7 @@ locality_signature = 83 ∷ 116 ∷ 97 ∷ 114 ∷ 116 ∷ 117 ∷ 112 ∷ 76 �
 unfoldable pub locality_in : List ℕ → Option ℕ
 locality_in event_data = if (length event_data == 17) && bytes_eq (take 16 event_data) locality_signature then Some (slice_index event_data 16) else None
 
--- The locality that an event states: it extends no register.
+-- The locality that an event states: it extends no PCR.
 unfoldable pub stated_locality : Event → Option ℕ
 stated_locality event = if event.event_type == no_action then locality_in event.event_data else None
 
@@ -26,10 +26,10 @@ startup_locality (entry ∷ entries) = or_else (stated_locality entry.event) (st
     or_else (Some locality) other = Some locality
     or_else None other = other
 
--- Register 0 of this many bytes: zeros that end in the locality, which is 0 where none is stated.
-abbrev pub first_register : ℕ → Option ℕ → List ℕ
-first_register size locality = replicate (size - 1) 0 ++ unwrap_or locality 0 ∷ []
+-- PCR 0 of this many bytes: zeros that end in the locality, which is 0 where none is stated.
+abbrev pub first_pcr : ℕ → Option ℕ → List ℕ
+first_pcr size locality = replicate (size - 1) 0 ++ unwrap_or locality 0 ∷ []
 
--- The 24 registers of this many bytes each: 17 to 22 are ones, and zeros the others but register 0.
+-- The 24 PCRs of this many bytes each: 17 to 22 are ones, and zeros the others but PCR 0.
 unfoldable pub initial : ℕ → Option ℕ → List (List ℕ)
-initial size locality = first_register size locality ∷ (replicate 16 (replicate size 0) ++ (replicate 6 (replicate size 255) ++ replicate size 0 ∷ []))
+initial size locality = first_pcr size locality ∷ (replicate 16 (replicate size 0) ++ (replicate 6 (replicate size 255) ++ replicate size 0 ∷ []))

@@ -3,7 +3,7 @@ use Rattle.std.specs.Prelude.{ℕ, List, Bool, false, Result, Ok, Err}
 use Rattle.std.specs.Str.{bytes_eq}
 use Rattle.uefi_tcg.specs.v2.Event.{Event}
 use Rattle.pcr_replay.specs.declared.bank.Bank.{Bank}
-use Rattle.pcr_replay.specs.declared.registers.Fault.{Fault}
+use Rattle.pcr_replay.specs.declared.pcrs.Fault.{Fault}
 use Rattle.pcr_replay.specs.Banks.{hash_of}
 use Rattle.pcr_replay.specs.Replay.{digest_for}
 

@@ -3,10 +3,10 @@ ghost use Rattle.pcr_replay.specs.Banks.{algorithm_of, size_of};
 
 use uefi_tcg::AlgorithmId;
 
-/// A bank of registers: those whose values are digests of one algorithm.
+/// A bank of PCRs: those whose values are digests of one algorithm.
 #[derive(Clone, Copy, PartialEq, Eq, Debug)]
 pub enum Bank {
-    /// SHA-1, with 20 bytes a register.
+    /// SHA-1, with 20 bytes a PCR.
     Sha1,
     /// SHA-256, with 32 bytes.
     Sha256,
@@ -21,7 +21,7 @@ impl Bank {
     pub const ALL: [Bank; 4] = [Bank::Sha1, Bank::Sha256, Bank::Sha384, Bank::Sha512];
 
     /// Returns the bank of an algorithm; `None` if it has another hash function than these, so
-    /// that its registers can't be replayed.
+    /// that its PCRs can't be replayed.
     pub fn of(algorithm: AlgorithmId) -> Option<Bank>
         ensures bank { IfSome result (λ bank. algorithm_of bank ≡ algorithm.0) }
         ensures none { IfNone result ((bank : Bank) → algorithm_of bank ≡ algorithm.0 → ⊥) }
@@ -47,7 +47,7 @@ impl Bank {
         }
     }
 
-    /// Returns the length of a digest in bytes, which is that of a register.
+    /// Returns the length of a digest in bytes, which is that of a PCR.
     pub fn size(self) -> usize
         ensures size { result ≡ size_of self }
         ensures nonempty { 0 < result }

@@ -6,31 +6,31 @@ ghost use Rattle.pcr_replay.specs.Banks.{hash_of};
 ghost use Rattle.pcr_replay.specs.Views.{value_of};
 
 use crate::bank::Bank;
-use crate::value::RegisterValue;
+use crate::value::PcrValue;
 use sha1::Sha1;
 use sha2::{Digest, Sha256, Sha384, Sha512};
 
 /// Returns the bank's digest of two parts that follow one another.
-pub(crate) fn hash_joined(bank: Bank, first: &[u8], second: &[u8]) -> RegisterValue
+pub(crate) fn hash_joined(bank: Bank, first: &[u8], second: &[u8]) -> PcrValue
     ensures { value_of result ≡ hash_of bank (first.now ++ second.now) }
 {
     match bank {
         Bank::Sha1 => joined_sha1(first, second),
-        Bank::Sha256 => RegisterValue::new(joined::<Sha256>(first, second).as_slice()),
-        Bank::Sha384 => RegisterValue::new(joined::<Sha384>(first, second).as_slice()),
-        Bank::Sha512 => RegisterValue::new(joined::<Sha512>(first, second).as_slice()),
+        Bank::Sha256 => PcrValue::new(joined::<Sha256>(first, second).as_slice()),
+        Bank::Sha384 => PcrValue::new(joined::<Sha384>(first, second).as_slice()),
+        Bank::Sha512 => PcrValue::new(joined::<Sha512>(first, second).as_slice()),
     }
 }
 
 /// Returns the SHA-1 digest of two parts that follow one another.
-fn joined_sha1(first: &[u8], second: &[u8]) -> RegisterValue
+fn joined_sha1(first: &[u8], second: &[u8]) -> PcrValue
     ensures { value_of result ≡ sha1 (first.now ++ second.now) }
 {
     let mut hasher = Sha1::new();
     hasher.update(first);
     hasher.update(second);
     let digest = hasher.finalize();
-    RegisterValue::new(digest.as_slice())
+    PcrValue::new(digest.as_slice())
 }
 
 /// Returns the SHA-2 digest of two parts that follow one another.

@@ -1,4 +1,4 @@
--- A log beside registers, and two logs.
+-- A log beside PCRs, and two logs.
 use Rattle.std.proofs.Common.{◌≡◌, ◌∙◌, ℕ, List, [], ◌++◌, ap, sym, append-nil}
 use Rattle.std.specs.Prelude.{◌↔◌, Bool, true, false, Option, IsTrue, string_bytes}
 use Rattle.std.specs.declared.alloc.Global.{Global}
@@ -7,7 +7,7 @@ use Rattle.uefi_auditing.specs.declared.text.LogFile.{LogFile}
 use Rattle.uefi_auditing.specs.diff.Differences.{AppendsDifferences}
 use Rattle.uefi_auditing.specs.verify.Agreement.{Agree}
 use Rattle.uefi_auditing.specs.verify.Verdict.{AppendsVerdict}
-use Rattle.uefi_auditing.specs.declared.verify.reading.HeldRegister.{HeldRegister}
+use Rattle.uefi_auditing.specs.declared.verify.reading.HeldPcr.{HeldPcr}
 use Rattle.uefi_audit.specs.Compared.{Compares, Verifies}
 use Rattle.uefi_audit.proofs.Judging.{Judges, true_is_not}
 
@@ -16,7 +16,7 @@ same_bytes : (old new line : List ℕ) → line ≡ [] → new ≡ old ++ line �
 same_bytes old new line none grown = grown ∙ ap (λ l. old ++ l) none ∙ append-nil old
 
 -- The log is accepted: the text has the verdict.
-pub verified : (file : LogFile) (allowed : Bool) (held : List HeldRegister) (locality : Option ℕ) (old start new : String Global) (accepted well : Bool)
+pub verified : (file : LogFile) (allowed : Bool) (held : List HeldPcr) (locality : Option ℕ) (old start new : String Global) (accepted well : Bool)
     → accepted ≡ true → Judges file allowed (string_bytes old) (string_bytes start) accepted
     → (IsTrue well ↔ Agree file.bytes.now file.last_entry locality held)
     → AppendsVerdict file locality held start new well → Verifies file allowed held locality old new well

@@ -1,5 +1,5 @@
 -- Logs that are accepted or refused.
-use Rattle.std.proofs.Common.{◌≡◌, ◌∙◌, ℕ, List, [], ◌∷◌, ◌++◌, length, ap, sym, refl, append-nil}
+use Rattle.std.proofs.Common.{◌≡◌, ◌∙◌, ℕ, List, [], ◌∷◌, ◌++◌, length, ap, sym, refl}
 use Rattle.std.specs.Prelude.{◌↔◌, Bool, true, false}
 use Rattle.pcr_replay.specs.Entries.{Contents}
 use Rattle.pcr_replay.specs.Logs.{left_over}
@@ -14,11 +14,6 @@ true_is_not e = cc
 abbrev pub Judges : LogFile → Bool → List ℕ → List ℕ → Bool → Type 0
 Judges file allowed old new accepted =
     (line : List ℕ) × IsJudged file allowed line accepted × (new ≡ old ++ line)
-
--- All bytes are allowed.
-pub judged_allowed : (file : LogFile) (allowed : Bool) (old : List ℕ) → allowed ≡ true → Judges file allowed old old true
-judged_allowed file allowed old is =
-    ([], record { whole = λ not. absurd (true_is_not (sym is ∙ not)); no_line = refl }, sym (append-nil old))
 
 no_rest : (name rest : List ℕ) (end : ℕ) → rest ≡ [] → rest_lines name end rest ≡ []
 unfolding rest_lines

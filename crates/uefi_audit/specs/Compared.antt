@@ -7,20 +7,20 @@ use Rattle.uefi_auditing.specs.declared.text.LogFile.{LogFile}
 use Rattle.uefi_auditing.specs.diff.Differences.{AppendsDifferences}
 use Rattle.uefi_auditing.specs.verify.Agreement.{Agree}
 use Rattle.uefi_auditing.specs.verify.Verdict.{AppendsVerdict}
-use Rattle.uefi_auditing.specs.declared.verify.reading.HeldRegister.{HeldRegister}
+use Rattle.uefi_auditing.specs.declared.verify.reading.HeldPcr.{HeldPcr}
 use Rattle.uefi_audit.specs.Accepted.{IsJudged}
 
 -- A text grew by the lines that refuse logs, and nothing is well.
 abbrev pub Refuses : List ℕ → String Global → String Global → Bool → Type 0
 Refuses lines old new well = AppendsText old new lines × (well ≡ false)
 
--- `verify`: all is well exactly if the log is accepted and leads to the registers, and the text has the verdict.
-abbrev pub VerifiesIf : Bool → List ℕ → LogFile → List HeldRegister → Option ℕ → String Global → String Global → Bool → Type 0
+-- `verify`: all is well exactly if the log is accepted and leads to the PCRs, and the text has the verdict.
+abbrev pub VerifiesIf : Bool → List ℕ → LogFile → List HeldPcr → Option ℕ → String Global → String Global → Bool → Type 0
 VerifiesIf true line file held locality old new well =
     (IsTrue well ↔ Agree file.bytes.now file.last_entry locality held) × AppendsVerdict file locality held old new well
 VerifiesIf false line file held locality old new well = Refuses line old new well
 
-abbrev pub Verifies : LogFile → Bool → List HeldRegister → Option ℕ → String Global → String Global → Bool → Type 0
+abbrev pub Verifies : LogFile → Bool → List HeldPcr → Option ℕ → String Global → String Global → Bool → Type 0
 Verifies file allowed held locality old new well =
     (line : List ℕ) × (accepted : Bool) × IsJudged file allowed line accepted
     × VerifiesIf accepted line file held locality old new well

@@ -20,7 +20,7 @@ worse Wrong Wrong = Wrong
 worse Wrong Unread = Unread
 worse Unread other = Unread
 
--- The exit status by what was met: 1 if registers or events differ, or a log can't be replayed or has bytes left over.
+-- The exit status by what was met: 1 if PCRs or events differ, or a log can't be replayed or has bytes left over.
 abbrev pub code_of : Status → ℕ
 code_of Well = 0
 code_of Wrong = 1

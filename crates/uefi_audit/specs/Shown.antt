@@ -10,7 +10,7 @@ use Rattle.uefi_auditing.specs.json.Events.{AppendsEvents}
 use Rattle.uefi_auditing.specs.json.Replay.{IsReplayJson}
 use Rattle.uefi_audit.specs.Accepted.{IsJudged}
 use Rattle.uefi_audit.specs.declared.shown.Shown.{Shown}
-use Rattle.uefi_audit.specs.declared.shown.Shown.TheVariants.{Events, Registers, RegistersJson}
+use Rattle.uefi_audit.specs.declared.shown.Shown.TheVariants.{Events, Pcrs, PcrsJson}
 
 -- A text stays as it was.
 abbrev pub Stays : String Global → String Global → Type 0
@@ -32,7 +32,7 @@ abbrev pub name_line : Bool → List ℕ → List ℕ
 name_line true name = name ++ codes ":\n"
 name_line false name = []
 
--- `replay`: that line, and the registers that the log leads to.
+-- `replay`: that line, and the PCRs that the log leads to.
 abbrev pub IsNamedReplay : Bool → LogFile → Option Bank → Bool → List ℕ → Bool → Type 0
 IsNamedReplay is_one_of_many file bank allowed text well =
     (replay : List ℕ) × IsReplay file.name.now file.bytes.now file.last_entry bank allowed replay well
@@ -42,8 +42,8 @@ IsNamedReplay is_one_of_many file bank allowed text well =
 abbrev pub Shows : Shown → Bool → LogFile → Bool → String Global → String Global → String Global → String Global → Bool → Type 0
 Shows Events is_one_of_many file allowed old new told_before told_after well =
     ShowsEvents file allowed old new told_before told_after well
-Shows (Registers bank) is_one_of_many file allowed old new told_before told_after well =
+Shows (Pcrs bank) is_one_of_many file allowed old new told_before told_after well =
     AppendsReplay (IsNamedReplay is_one_of_many file bank allowed) old new well × Stays told_before told_after
-Shows (RegistersJson bank) is_one_of_many file allowed old new told_before told_after well =
+Shows (PcrsJson bank) is_one_of_many file allowed old new told_before told_after well =
     AppendsReplay (IsReplayJson file.name.now file.bytes.now file.last_entry bank allowed) old new well
     × Stays told_before told_after

@@ -1,8 +1,6 @@
 use clap::{Arg, ArgAction, ArgMatches, Command, Error, value_parser};
 use std::alloc::{AllocError, Global};
-
-/// The banks that `--bank` takes.
-const BANKS: [&str; 4] = ["sha1", "sha256", "sha384", "sha512"];
+use uefi_auditing::text::BANK_NAMES;
 
 /// The commands in the order of the help, each with what the help says of it.
 const COMMANDS: [[&str; 2]; 4] = [
@@ -110,10 +108,10 @@ fn args_of_diff<'a>(alloc: Global) -> Result<Vec<Arg<'a>>, AllocError> {
 
 /// Returns the argument for the bank to replay.
 fn bank<'a>(alloc: Global) -> Arg<'a> {
-    option(alloc, "bank", "BANK", "Replays this bank alone").value_parser(BANKS.as_slice())
+    option(alloc, "bank", "BANK", "Replays this bank alone").value_parser(BANK_NAMES.as_slice())
 }
 
-/// Returns the argument for the file or folder with a TPM's registers.
+/// Returns the argument for the file or folder with a TPM's PCRs.
 fn registers<'a>(alloc: Global) -> Arg<'a> {
     option(
         alloc,
@@ -124,7 +122,7 @@ fn registers<'a>(alloc: Global) -> Arg<'a> {
     .required(true)
 }
 
-/// Returns the argument for the locality of register 0.
+/// Returns the argument for the locality of PCR 0.
 fn locality<'a>(alloc: Global) -> Arg<'a> {
     option(
         alloc,

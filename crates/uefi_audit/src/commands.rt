@@ -21,10 +21,10 @@ pub(crate) fn perform<R: Files + Input + Print + Eprint + AllocGlobal>(
     match *request {
         Request::Events(logs) => show_logs(rt, logs, reading, Shown::Events),
         Request::Replay(logs, bank, Format::Text) => {
-            show_logs(rt, logs, reading, Shown::Registers(bank))
+            show_logs(rt, logs, reading, Shown::Pcrs(bank))
         }
         Request::Replay(logs, bank, Format::Json) => {
-            show_logs(rt, logs, reading, Shown::RegistersJson(bank))
+            show_logs(rt, logs, reading, Shown::PcrsJson(bank))
         }
         Request::Verify(log, registers, locality) => {
             verify_log(rt, log, registers, reading, locality)
@@ -81,7 +81,7 @@ fn show_log<R: Print + Eprint + AllocGlobal>(
     Ok(Status::of(well))
 }
 
-/// Prints whether a log leads to the registers of a TPM.
+/// Prints whether a log leads to the PCRs of a TPM.
 fn verify_log<R: Files + Input + Print + Eprint + AllocGlobal>(
     rt: &R,
     log: &str,

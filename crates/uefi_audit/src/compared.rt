@@ -5,9 +5,9 @@ use crate::shown::push_refusal;
 use std::alloc::{AllocError, Global};
 use uefi_auditing::diff::push_differences;
 use uefi_auditing::text::LogFile;
-use uefi_auditing::verify::{HeldRegister, push_verdict};
+use uefi_auditing::verify::{HeldPcr, push_verdict};
 
-/// Appends whether a log leads to the registers that a TPM held, and returns it; or the line that
+/// Appends whether a log leads to the PCRs that a TPM held, and returns it; or the line that
 /// refuses the log.
 ///
 /// # Errors
@@ -17,7 +17,7 @@ pub(crate) fn push_verification(
     text: &mut String,
     alloc: Global,
     file: &LogFile<'_>,
-    held: &[HeldRegister],
+    held: &[HeldPcr],
     locality: Option<u8>,
     allow_left_over: bool,
 ) -> Result<bool, AllocError>

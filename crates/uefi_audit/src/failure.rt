@@ -67,7 +67,7 @@ impl Failure {
 pub(crate) enum Status {
     /// All is well.
     Well,
-    /// Registers differ, or a log can't be replayed or has bytes left over.
+    /// PCRs differ, or a log can't be replayed or has bytes left over.
     Wrong,
     /// A file wasn't read.
     Unread,

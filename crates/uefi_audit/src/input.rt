@@ -1,13 +1,13 @@
 ghost use Rattle.std.specs.Prelude.{◌≡◌, ◌≢◌, [], IfOk, IfSome, Some, string_bytes};
 ghost use Rattle.uefi_audit.specs.Held.{fault_text, register_path};
 
-use pcr_replay::{Bank, REGISTER_COUNT};
+use pcr_replay::{Bank, PCR_COUNT};
 use std::alloc::{AllocError, Global};
 use std::io::{self, ErrorKind, Read};
 use std::rt::Files;
 use std::{fmt, fs};
 use uefi_auditing::text::bank_name;
-use uefi_auditing::verify::{HeldError, HeldRegister, held_in_file, held_in_text};
+use uefi_auditing::verify::{HeldError, HeldPcr, held_in_file, held_in_text};
 
 /// Returns the bytes of a file; `None` if it wasn't read, which is told on standard error.
 ///
@@ -42,12 +42,12 @@ fn tell<R: Eprint>(rt: &R, path: &str, error: &io::Error) {
     let _ = eprintln!(rt; "uefi_audit: {path}: {error}");
 }
 
-/// Returns the registers of a TPM in a file that `tpm2_pcrread` printed, or in a folder as Linux
+/// Returns the PCRs of a TPM in a file that `tpm2_pcrread` printed, or in a folder as Linux
 /// has it; `None` if there are none to be read, which is told on standard error.
 pub(crate) fn held_registers<R: Files + Input + Eprint + AllocGlobal>(
     rt: &R,
     path: &str,
-) -> Option<Vec<HeldRegister>>
+) -> Option<Vec<HeldPcr>>
     ensures { IfSome result (λ held. held.items ≢ []) }
 {
     let held = match fs::metadata(rt, path) {
@@ -61,11 +61,11 @@ pub(crate) fn held_registers<R: Files + Input + Eprint + AllocGlobal>(
     Some(held)
 }
 
-/// Returns the registers in a file that `tpm2_pcrread` printed.
+/// Returns the PCRs in a file that `tpm2_pcrread` printed.
 fn held_in_listing<R: Files + Input + Eprint + AllocGlobal>(
     rt: &R,
     path: &str,
-) -> Option<Vec<HeldRegister>> {
+) -> Option<Vec<HeldPcr>> {
     let bytes = file_bytes(rt, path)?;
     match held_in_text(rt.alloc(), bytes.as_slice()) {
         Ok(held) => Some(held),
@@ -76,13 +76,13 @@ fn held_in_listing<R: Files + Input + Eprint + AllocGlobal>(
     }
 }
 
-/// Tells on standard error why a file has no registers that can be compared.
+/// Tells on standard error why a file has no PCRs that can be compared.
 fn tell_held<R: Eprint>(rt: &R, path: &str, error: HeldError) {
     let fault = HeldFault(error);
     let _ = eprintln!(rt; "uefi_audit: {path}: {fault}");
 }
 
-/// Why a file has no registers that can be compared, displayed as standard error is told it.
+/// Why a file has no PCRs that can be compared, displayed as standard error is told it.
 #[derive(Clone, Copy, Drop)]
 struct HeldFault(HeldError);
 
@@ -100,14 +100,14 @@ impl fmt::Display for HeldFault {
     }
 }
 
-/// Returns the registers of which the folder has a file, as `pcr-sha256/0`.
+/// Returns the PCRs of which the folder has a file, as `pcr-sha256/0`.
 fn held_in_folder<R: Files + Input + Eprint + AllocGlobal>(
     rt: &R,
     path: &str,
-) -> Option<Vec<HeldRegister>> {
+) -> Option<Vec<HeldPcr>> {
     let mut held = Vec::new(rt.alloc());
     for bank in Bank::ALL {
-        for register in 0..REGISTER_COUNT as u32 {
+        for register in 0..PCR_COUNT as u32 {
             if let Some(found) = held_in_bank(rt, path, bank, register)? {
                 if held.push(found).is_err() {
                     tell_held(rt, path, HeldError::Memory);
@@ -119,13 +119,13 @@ fn held_in_folder<R: Files + Input + Eprint + AllocGlobal>(
     Some(held)
 }
 
-/// Returns the register of a bank, if the folder has a file for it.
+/// Returns the PCR of a bank, if the folder has a file for it.
 fn held_in_bank<R: Files + Input + Eprint + AllocGlobal>(
     rt: &R,
     folder: &str,
     bank: Bank,
     register: u32,
-) -> Option<Option<HeldRegister>>
+) -> Option<Option<HeldPcr>>
     ensures { IfSome result (λ found. IfSome found
         (λ held. (held.bank ≡ bank) × (held.register ≡ register))) }
 {
@@ -139,7 +139,7 @@ fn held_in_bank<R: Files + Input + Eprint + AllocGlobal>(
     }
     let bytes = file_bytes(rt, path.as_str())?;
     match held_in_file(rt.alloc(), bank, bytes.as_slice()) {
-        Ok(value) => Some(Some(HeldRegister {
+        Ok(value) => Some(Some(HeldPcr {
             bank,
             register,
             value,
@@ -151,7 +151,7 @@ fn held_in_bank<R: Files + Input + Eprint + AllocGlobal>(
     }
 }
 
-/// Returns the path of a register's file in the folder, as `pcr-sha256/0`.
+/// Returns the path of a PCR's file in the folder, as `pcr-sha256/0`.
 fn register_path(
     alloc: Global,
     folder: &str,

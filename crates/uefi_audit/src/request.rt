@@ -12,7 +12,7 @@ use uefi_auditing::text::bank_named;
 pub(crate) enum Request<'m, 'a> {
     /// `events LOG..`: the events of each log.
     Events(&'m [&'a str]),
-    /// `replay LOG.. [--bank B] [--json]`: the registers that each log leads to.
+    /// `replay LOG.. [--bank B] [--json]`: the PCRs that each log leads to.
     Replay(&'m [&'a str], Option<Bank>, Format),
     /// `verify LOG --registers FILE [--locality N]`: whether they are those of a TPM.
     Verify(&'a str, &'a str, Option<u8>),
@@ -20,7 +20,7 @@ pub(crate) enum Request<'m, 'a> {
     Diff(&'a str, &'a str),
 }
 
-/// How registers are printed.
+/// How PCRs are printed.
 #[derive(Clone, Copy)]
 pub(crate) enum Format {
     /// As `tpm2_pcrread` prints them.
@@ -75,12 +75,8 @@ pub(crate) fn request_of<'m, 'a>(
     ensures reading { IfSome result (λ asked. AsksReading (found_of matches.now) asked.1) }
     ensures nothing { IfNone result (AskForNothing name.now (found_of matches.now)) }
 {
-    let Some(reading) = reading_of(matches) else {
-        return None;
-    };
-    let Some(request) = request_named(name, matches) else {
-        return None;
-    };
+    let reading = reading_of(matches)?;
+    let request = request_named(name, matches)?;
     Some((request, reading))
 }
 
@@ -103,9 +99,7 @@ fn events_of<'m, 'a>(matches: &'m ArgMatches<'a>) -> Option<Request<'m, 'a>>
     ensures request { IfSome result (Asks (codes "events") (found_of matches.now)) }
     ensures nothing { IfNone result (AskForNoRequest (codes "events") (found_of matches.now)) }
 {
-    let Some(logs) = matches.get_strs("logs") else {
-        return None;
-    };
+    let logs = matches.get_strs("logs")?;
     Some(Request::Events(logs))
 }
 
@@ -114,12 +108,8 @@ fn replay_of<'m, 'a>(matches: &'m ArgMatches<'a>) -> Option<Request<'m, 'a>>
     ensures request { IfSome result (Asks (codes "replay") (found_of matches.now)) }
     ensures nothing { IfNone result (AskForNoRequest (codes "replay") (found_of matches.now)) }
 {
-    let Some(logs) = matches.get_strs("logs") else {
-        return None;
-    };
-    let Some(bank) = bank_of(matches) else {
-        return None;
-    };
+    let logs = matches.get_strs("logs")?;
+    let bank = bank_of(matches)?;
     Some(Request::Replay(logs, bank, format_of(matches)))
 }
 
@@ -128,12 +118,8 @@ fn verify_of<'m, 'a>(matches: &'m ArgMatches<'a>) -> Option<Request<'m, 'a>>
     ensures request { IfSome result (Asks (codes "verify") (found_of matches.now)) }
     ensures nothing { IfNone result (AskForNoRequest (codes "verify") (found_of matches.now)) }
 {
-    let Some(log) = matches.get_str("log") else {
-        return None;
-    };
-    let Some(registers) = matches.get_str("registers") else {
-        return None;
-    };
+    let log = matches.get_str("log")?;
+    let registers = matches.get_str("registers")?;
     let locality = locality_of(matches);
     Some(Request::Verify(log, registers, locality))
 }
@@ -143,12 +129,8 @@ fn diff_of<'m, 'a>(matches: &'m ArgMatches<'a>) -> Option<Request<'m, 'a>>
     ensures request { IfSome result (Asks (codes "diff") (found_of matches.now)) }
     ensures nothing { IfNone result (AskForNoRequest (codes "diff") (found_of matches.now)) }
 {
-    let Some(old) = matches.get_str("old") else {
-        return None;
-    };
-    let Some(new) = matches.get_str("new") else {
-        return None;
-    };
+    let old = matches.get_str("old")?;
+    let new = matches.get_str("new")?;
     Some(Request::Diff(old, new))
 }
 
@@ -166,9 +148,7 @@ pub(crate) fn reading_of(matches: &ArgMatches<'_>) -> Option<Reading>
         ((reading : Reading) → AsksReading (found_of matches.now) reading → ⊥)
         (AsksReading (found_of matches.now)) }
 {
-    let Some(last_entry) = last_entry_of(matches) else {
-        return None;
-    };
+    let last_entry = last_entry_of(matches)?;
     let allow_left_over = matches.get_flag("allow-left-over");
     Some(Reading {
         last_entry,
@@ -205,9 +185,7 @@ fn bank_of(matches: &ArgMatches<'_>) -> Option<Option<Bank>>
     let Some(name) = matches.get_str("bank") else {
         return Some(None);
     };
-    let Some(bank) = bank_named(name) else {
-        return None;
-    };
+    let bank = bank_named(name)?;
     Some(Some(bank))
 }
 

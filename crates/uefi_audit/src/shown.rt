@@ -14,13 +14,13 @@ use uefi_auditing::text::{LogFile, push_left_over, push_replay};
 pub(crate) enum Shown {
     /// Its events.
     Events,
-    /// The registers that it leads to: of one bank, or of all that it has.
-    Registers(Option<Bank>),
+    /// The PCRs that it leads to: of one bank, or of all that it has.
+    Pcrs(Option<Bank>),
     /// The same, as a JSON object.
-    RegistersJson(Option<Bank>),
+    PcrsJson(Option<Bank>),
 }
 
-/// Appends what is to be shown of a log, and returns whether all is well. Its registers stand below
+/// Appends what is to be shown of a log, and returns whether all is well. Its PCRs stand below
 /// its name if it is one of several. What standard error is to be told is appended to `told`.
 ///
 /// # Errors
@@ -40,10 +40,10 @@ pub(crate) fn push_shown(
 {
     match shown {
         Shown::Events => push_whole_events(text, told, alloc, file, allow_left_over),
-        Shown::Registers(bank) => {
+        Shown::Pcrs(bank) => {
             push_named_replay(text, alloc, file, bank, is_one_of_many, allow_left_over)
         }
-        Shown::RegistersJson(bank) => push_replay_json(text, alloc, file, bank, allow_left_over),
+        Shown::PcrsJson(bank) => push_replay_json(text, alloc, file, bank, allow_left_over),
     }
 }
 
@@ -67,7 +67,7 @@ fn push_whole_events(
     Ok(accepted)
 }
 
-/// Appends the registers that a log leads to, below the log's name if it is one of several. Returns
+/// Appends the PCRs that a log leads to, below the log's name if it is one of several. Returns
 /// whether all are known.
 fn push_named_replay(
     text: &mut String,

@@ -6,7 +6,7 @@ use std::alloc::{AllocError, Global};
 use std::test::Fail;
 
 /// Words after the program's name, and what they ask for.
-const ASKED: [(&[&str], &str); 14] = [
+const ASKED: [(&[&str], &str); 16] = [
     (&["events", "a.log"], "events a.log, at its length"),
     (
         &["events", "a.log", "b.log"],
@@ -56,6 +56,22 @@ const ASKED: [(&[&str], &str); 14] = [
         "diff a.log b.log, at its length, with bytes left over",
     ),
     (
+        &[
+            "replay",
+            "a.log",
+            "b.log",
+            "--allow-left-over",
+            "--bank",
+            "sha384",
+            "--json",
+        ],
+        "replay a.log b.log, Sha384, as JSON, at its length, with bytes left over",
+    ),
+    (
+        &["verify", "--last-entry=34", "--registers=pcrs", "a.log"],
+        "verify a.log pcrs, any locality, at 34",
+    ),
+    (
         &["events", "a.log", "--last-entry", "none"],
         "events a.log, without an entry",
     ),
@@ -70,7 +86,7 @@ const ASKED: [(&[&str], &str); 14] = [
 ];
 
 /// Words after the program's name that ask for nothing.
-const REFUSED: [&[&str]; 16] = [
+const REFUSED: [&[&str]; 21] = [
     &[],
     &["event", "a.log"],
     &["events"],
@@ -88,12 +104,24 @@ const REFUSED: [&[&str]; 16] = [
         "256",
     ],
     &["verify", "a.log", "b.log", "--registers", "pcrs"],
+    &["verify", "a.log", "--registers", "pcrs", "--locality", "-1"],
+    &[
+        "verify",
+        "a.log",
+        "--registers",
+        "pcrs",
+        "--locality",
+        "three",
+    ],
+    &["events", "a.log", "--json"],
+    &["diff", "a.log", "b.log", "--bank", "sha1"],
     &["diff", "a.log"],
     &["diff", "a.log", "b.log", "c.log"],
     &["events", "a.log", "--last-entry", ""],
     &["events", "a.log", "--last-entry", "+1"],
     &["events", "a.log", "--last-entry", "0x10"],
     &["events", "a.log", "--last-entry", "18446744073709551616"],
+    &["events", "a.log", "--last-entry", "-"],
 ];
 
 /// Appends a space and each name.

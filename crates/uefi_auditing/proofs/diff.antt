@@ -1,4 +1,3 @@
-pub mod SameEvents
 pub mod Registers
 pub mod OnlyLines
 pub mod LineTexts

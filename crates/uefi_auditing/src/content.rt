@@ -2,7 +2,7 @@
 //!
 //! Begin with [`read_content`].
 
-ghost use Rattle.std.specs.Prelude.{◌≡◌, true};
+ghost use Rattle.std.specs.Prelude.{◌≡◌};
 ghost use Rattle.std.specs.List.{list_all};
 ghost use Rattle.pcr_replay.specs.Initial.{locality_in};
 ghost use Rattle.pcr_replay.specs.Views.{event_of};
@@ -81,32 +81,21 @@ fn separator_content(bytes: &[u8]) -> Content<'_>
 fn text_content(bytes: &[u8]) -> Content<'_>
     ensures { content_of result ≡ text_content bytes.now }
 {
+    let Ok(text) = str::from_utf8(bytes) else {
+        return Content::Unread;
+    };
     if are_printed(bytes) {
-        Content::Text(ascii(bytes))
+        Content::Text(text)
     } else {
         Content::Unread
     }
-}
-
-/// Returns printed characters as text.
-fn ascii(bytes: &[u8]) -> &str
-    requires { list_all is_printed bytes.now ≡ true }
-    ensures { result.now ≡ bytes.now }
-{
-    // ASCII is UTF-8.
-    unsafe { str::from_utf8_unchecked(bytes) }
 }
 
 /// Returns whether each byte is a character of ASCII that prints, or a space.
 fn are_printed(bytes: &[u8]) -> bool
     ensures { result ≡ list_all is_printed bytes.now }
 {
-    for byte in bytes {
-        if *byte < b' ' || *byte > b'~' {
-            return false;
-        }
-    }
-    true
+    bytes.iter().all(|byte| matches!(*byte, b' '..=b'~'))
 }
 
 /// Returns the variable that data are.

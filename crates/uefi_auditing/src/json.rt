@@ -1,8 +1,8 @@
 //! What an event log has, as the lines of JSON that the program `uefi_audit` prints.
 //!
 //! [`push_events`] appends the events of a log, a line each, and [`event_line`] returns the line of
-//! one event. [`push_replay_json`] appends one line for a log: the registers that it leads to, by
-//! banks, or why they can't be known.
+//! one event. [`push_replay_json`] appends one line for a log: the PCRs that it leads to, by
+//! banks, or why they are undetermined.
 //!
 //! A line is the text without spaces of a value, with each object's keys in order (`specs/json`).
 

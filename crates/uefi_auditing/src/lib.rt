@@ -1,8 +1,8 @@
 //! What the program `uefi_audit` shows of event logs of measured boot, over bytes in memory.
 //!
 //! Begin with a [`text::LogFile`], the bytes of a log with the name to print. [`text`] appends the
-//! registers that the log leads to, [`verify`] compares them with those that a TPM held, [`diff`]
-//! compares two logs, and [`json`] appends events and registers as JSON. [`content`] reads what the
+//! PCRs that the log leads to, [`verify`] compares them with those that a TPM held, [`diff`]
+//! compares two logs, and [`json`] appends events and PCRs as JSON. [`content`] reads what the
 //! data of an event say.
 //!
 //! The contracts say which lines these are, by the one list of events that a log has (`specs/`). A

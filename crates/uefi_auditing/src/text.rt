@@ -1,14 +1,14 @@
 //! What an event log leads to, as the lines that the program `uefi_audit` prints.
 //!
 //! Begin with a [`LogFile`], the bytes of a log with the name to print. [`push_replay`] appends the
-//! registers that the log leads to, as `tpm2_pcrread` of tpm2-tools prints registers, or the line
-//! that names the first event by which they can't be known. A log with bytes after its last event
+//! PCRs that the log leads to, as `tpm2_pcrread` of tpm2-tools prints PCRs, or the line
+//! that names the first event by which they are undetermined. A log with bytes after its last event
 //! is refused, unless the caller allows it.
 
 ghost use Rattle.std.specs.Prelude.{◌≡◌};
 
 pub use self::algorithms::asked_algorithms;
-pub use self::naming::{bank_name, bank_named, bank_of};
+pub use self::naming::{BANK_NAMES, bank_name, bank_named, bank_of};
 pub use self::registers::push_bank;
 pub use self::replay::{fault_text, push_left_over, push_replay};
 use pcr_replay::Log;

@@ -1,6 +1,7 @@
 pub mod Prefix
 pub mod Flags
 pub mod LittleEndian
+pub mod Fields
 pub mod Buffer
 pub mod Appending
 pub mod GuidText

@@ -1,12 +1,20 @@
-//! Writing the parts of a record into a buffer.
+//! Buffers: the bound on their length, and writing the parts of a record into one.
 //!
-//! Each function writes one part at an offset and leaves all other bytes unchanged. The caller
-//! makes sure that the part fits, so that a writer compares the length of its buffer once for all
-//! parts.
+//! A function that writes puts one part at an offset and leaves all other bytes unchanged. The
+//! caller makes sure that the part fits, so that a writer compares the length of its buffer once
+//! for all parts.
 
-ghost use Rattle.std.specs.Prelude.{◌≡◌, ◌+◌, ◌≤◌, length, ◌*◌};
+ghost use Rattle.std.specs.Prelude.{◌≡◌, ◌+◌, ◌*◌, ◌^◌, ◌≤◌, ◌<◌, length};
 ghost use Rattle.uefi_base.specs.Buffer.{put_at};
 ghost use Rattle.uefi_base.specs.Unaligned.{unit_bytes};
+
+/// States that the length of a slice fits `usize`, so that what it holds can be counted, and does
+/// nothing when it runs.
+pub fn length_fits(bytes: &[u8])
+    ensures { length bytes.now < 2 ^ 64 }
+{
+    let _length = bytes.len();
+}
 
 /// Copies `part` into `buffer` at `offset`, and leaves all other bytes unchanged. The caller makes
 /// sure that the part fits, so that a writer compares the length of its buffer once for all parts.

@@ -1,4 +1,4 @@
-ghost use Rattle.std.specs.Prelude.{◌≡◌, ◌↔◌, length, encode_utf8_all, string_bytes, IsOk, IfOk, Some};
+ghost use Rattle.std.specs.Prelude.{◌≡◌, ◌↔◌, [], length, encode_utf8_all, string_bytes, IsTrue, IsOk, IfOk, Some};
 ghost use Rattle.std.specs.Fmt.{DisplaysOnOk};
 ghost use Rattle.std.specs.Result.{IsErrOf};
 ghost use Rattle.uefi_base.specs.Ucs2.{AreCharactersBefore, IsUcs2Text, characters_of};
@@ -87,6 +87,13 @@ impl<'a> CStr16<'a> {
         ensures { result ≡ length (characters_of (text_units self.now)) }
     {
         self.units.len() - 1
+    }
+
+    /// Returns whether there are no characters: whether the NUL is the only unit.
+    pub fn is_empty(&self) -> bool
+        ensures { IsTrue result ↔ (characters_of (text_units self.now) ≡ []) }
+    {
+        self.num_chars() == 0
     }
 
     /// Returns the characters, without the NUL, in a `String`.

@@ -15,6 +15,7 @@ use std::fmt;
 ///
 /// Two GUIDs are equal if all their bytes are.
 #[derive(Clone, Copy, PartialEq, Eq, Debug)]
+#[repr(transparent)]
 pub struct Guid(pub [u8; 16]);
 
 impl Guid {

@@ -10,6 +10,7 @@ ghost use Rattle.uefi_base.specs.Faults.{HasFault, unaligned_error};
 ghost use Rattle.uefi_base.specs.private.Search.{IsFirstNonCharacter};
 ghost use Rattle.uefi_base.specs.declared.text_error.FromSliceWithNulError.{FromSliceWithNulError};
 
+use crate::buffer::length_fits;
 use crate::cstring16::CString16;
 use crate::little_endian::u16_at;
 use crate::text_error::{FromSliceWithNulError, UnalignedCStr16Error};
@@ -194,8 +195,7 @@ impl<'a> UnalignedSliceIter<'a> {
         ensures units { units_left result ≡ units_of rest.now }
         ensures countable { length rest.now < 2 ^ 64 }
     {
-        // The length of a slice fits `usize`, so its units can be counted.
-        let _length = rest.len();
+        length_fits(rest);
         UnalignedSliceIter { rest }
     }
 }
@@ -210,11 +210,9 @@ impl<'a> Iterator for UnalignedSliceIter<'a> {
     ghost remaining = { item_count units_left };
 
     fn next(&mut self) -> Option<u16> {
-        let [low, high, rest @ ..] = self.rest else {
-            return None;
-        };
+        let (unit, rest) = self.rest.split_first_chunk::<2>()?;
         self.rest = rest;
-        Some(u16::from_le_bytes([*low, *high]))
+        Some(u16::from_le_bytes(*unit))
     }
 
     /// Returns the number of units that are left, as both bounds.

@@ -1,25 +1,22 @@
--- Cursors that moved, and cursors past the end.
-use Rattle.std.proofs.Common.{◌≡◌, ℕ, ◌<◌, ◌≤◌, List, [], length, drop, refl, sym, ap, ◌∙◌, arith}
+-- Cursors that moved.
+use Rattle.std.proofs.Common.{◌≡◌, ℕ, ◌-◌, ◌<◌, ◌≤◌, ◌⊎◌, inl, inr, List, [], length, drop, refl, sym, ap, ◌∙◌}
+use Rattle.std.proofs.Common.{arith}
+use Rattle.std.proofs.lemmas.Bool.{cases_lt}
 use Rattle.std.proofs.lemmas.List.{length-append, length-drop, drop-drop, drop_at, nil_from_length}
-use Rattle.uefi_base.specs.Prefix.{IsPrefix}
 use Rattle.uefi_c.specs.Cursor.{Stands}
 
--- Nothing follows an offset past the end.
-pub none_past : (bytes : List ℕ) (offset : ℕ) → length bytes < offset → drop offset bytes ≡ []
-none_past bytes offset past = nil_from_length (drop offset bytes) (omega (arith, length-drop offset bytes))
-
--- So no encoding stands there that has bytes.
-pub no_prefix : (encoding bytes : List ℕ) (offset : ℕ) → length bytes < offset → 0 < length encoding
-    → IsPrefix encoding (drop offset bytes) → ⊥
-no_prefix encoding bytes offset past some prefix =
-    absurd (omega (
-      arith,
-      past,
-      some,
-      ap length (sym (none_past bytes offset past) ∙ prefix.1),
-      length-append
-          encoding prefix.0,
-    ))
+-- What is left from some offset on is left from the bytes' length less its own on.
+pub rest_at_end : (bytes rest : List ℕ) (n : ℕ) → rest ≡ drop n bytes → drop (length bytes - length rest) bytes ≡ rest
+rest_at_end bytes rest n is = by_order (cases_lt n (length bytes))
+  where
+    by_order : (n < length bytes) ⊎ (length bytes ≤ n) → drop (length bytes - length rest) bytes ≡ rest
+    by_order (inl lt) =
+        ap (λ (m : ℕ). drop m bytes) (omega (arith, lt, ap length is, length-drop n bytes)) ∙ sym is
+    by_order (inr le) =
+        let none : rest ≡ [] =
+        is ∙ nil_from_length (drop n bytes) (omega (arith, le, length-drop n bytes)) in
+        ap (λ (m : ℕ). drop m bytes) (omega (arith, ap length none))
+        ∙ nil_from_length (drop (length bytes) bytes) (omega (arith, length-drop (length bytes) bytes)) ∙ sym none
 
 module _ (encoding bytes : List ℕ) (start end : ℕ) (stands : Stands encoding bytes start end) where
   -- What follows an encoding that stands there follows its end.

@@ -4,7 +4,6 @@ pub mod Log1Steps
 pub mod Log2Steps
 pub mod PathSteps
 pub mod MapSteps
-pub mod PciRecords
-pub mod Bytes
+pub mod PciSteps
 pub mod PairSteps
 pub mod NameBytes

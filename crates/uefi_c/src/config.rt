@@ -1,7 +1,10 @@
-ghost use Rattle.std.specs.Prelude.{◌≡◌, ◌==◌, ◌<◌, ◌≤◌, [], ◌∷◌, drop, length, IsTrue, IsFalse};
-ghost use Rattle.std.specs.List.{position_or_len};
-ghost use Rattle.uefi_hii.specs.Pairs.{pairs, pair_of};
+ghost use Rattle.std.specs.Prelude.{◌≡◌, ◌<◌, ◌≤◌, [], ◌∷◌, drop, length, IsTrue, IsFalse, IfSome, IfNone};
+ghost use Rattle.uefi_hii.specs.Pairs.{pairs};
+ghost use Rattle.uefi_hii.specs.Views.{pair_view};
 ghost use Rattle.uefi_c.specs.Config.{pair_seen};
+
+use crate::cursor::bytes_from;
+use uefi_hii::next_pair;
 
 /// A key of a configuration text, and its value if it has one.
 #[derive(Clone, Copy)]
@@ -14,12 +17,6 @@ pub struct UefiPair<'a> {
     /// Whether there is a value.
     pub has_value: bool,
 }
-
-/// The byte between two pairs.
-const AMPERSAND: u8 = b'&';
-
-/// The byte between a key and its value.
-const EQUALS_SIGN: u8 = b'=';
 
 /// Reads the pair of a configuration text at the offset, and moves the offset to the next.
 #[unsafe(no_mangle)]
@@ -36,50 +33,40 @@ pub extern "C" fn uefi_config_next_pair<'a>(
     ensures offset_unchanged { IsFalse result → offset.new ≡ offset.old }
     ensures out_unchanged { IsFalse result → out.new ≡ out.old }
 {
-    if *offset >= text.len() {
+    let Some((pair, end)) = pair_at(text, *offset) else {
         return false;
-    }
-    let (_, rest) = text.split_at(*offset);
-    let end = position_of(AMPERSAND, rest);
-    let (piece, _) = rest.split_at(end);
-    *out = pair_of(piece);
-    *offset += end;
-    if *offset < text.len() {
-        *offset += 1;
-    }
+    };
+    *out = pair;
+    *offset = end;
     true
 }
 
-/// Returns the key of a piece, and its value if it has one.
-fn pair_of(piece: &[u8]) -> UefiPair<'_>
-    ensures { pair_seen result ≡ pair_of piece.now }
+/// Returns the pair of a configuration text at the offset, and the offset of the next.
+fn pair_at(text: &[u8], offset: usize) -> Option<(UefiPair<'_>, usize)>
+    ensures pair { IfSome result (λ found. pairs (drop offset text.now)
+        ≡ pair_seen found.0 ∷ pairs (drop found.1 text.now)) }
+    ensures moves { IfSome result (λ found. offset < found.1) }
+    ensures within { IfSome result (λ found. found.1 ≤ length text.now) }
+    ensures none { IfNone result (pairs (drop offset text.now) ≡ []) }
 {
-    let end = position_of(EQUALS_SIGN, piece);
-    let (key, rest) = piece.split_at(end);
-    if rest.is_empty() {
-        return UefiPair {
-            key,
-            value: rest,
-            has_value: false,
-        };
-    }
-    let (_, value) = rest.split_at(1);
-    UefiPair {
-        key,
-        value,
-        has_value: true,
-    }
+    let ((key, value), rest) = next_pair(bytes_from(text, offset)?)?;
+    Some((seen(key, value), text.len() - rest.len()))
 }
 
-/// Returns the index of the first of these bytes, or the length if there is none.
-fn position_of(wanted: u8, bytes: &[u8]) -> usize
-    ensures position { result ≡ position_or_len (λ byte. byte == wanted) bytes.now }
-    ensures within { result ≤ length bytes.now }
+/// Returns the pair of this key and this value.
+fn seen<'a>(key: &'a [u8], value: Option<&'a [u8]>) -> UefiPair<'a>
+    ensures { pair_seen result ≡ pair_view (key.entry, value.entry) }
 {
-    for index in 0..bytes.len() {
-        if bytes[index] == wanted {
-            return index;
-        }
+    match value {
+        Some(value) => UefiPair {
+            key,
+            value,
+            has_value: true,
+        },
+        None => UefiPair {
+            key,
+            value: &[],
+            has_value: false,
+        },
     }
-    bytes.len()
 }

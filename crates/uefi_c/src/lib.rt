@@ -10,6 +10,7 @@
 
 pub mod callers;
 mod config;
+mod cursor;
 mod hex;
 mod info;
 mod log1;

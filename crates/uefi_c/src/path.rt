@@ -1,4 +1,4 @@
-ghost use Rattle.std.specs.Prelude.{◌≡◌, ◌++◌, ◌↔◌, List, ℕ, drop, IsTrue, IsFalse, IfSome, IfNone};
+ghost use Rattle.std.specs.Prelude.{◌≡◌, ◌++◌, ◌↔◌, ◌+◌, ◌≤◌, List, ℕ, drop, length, IsTrue, IsFalse, IfSome, IfNone};
 ghost use Rattle.uefi_base.specs.Prefix.{IsPrefix};
 ghost use Rattle.uefi_path.specs.Node.{Node, Fits, encoding, joined, HasNode, IsEnd};
 ghost use Rattle.uefi_path.specs.Path.{IsPath, HasPath};
@@ -6,6 +6,7 @@ ghost use Rattle.uefi_path.specs.private.Encoding.{EncodesInstance};
 ghost use Rattle.uefi_path.specs.Views.{node_of};
 ghost use Rattle.uefi_c.specs.Path.{HasInstance, node_seen, IsNextNode, IsNextInstance, EndsWalk};
 
+use crate::cursor::bytes_from;
 use uefi_path::{DevicePath, DevicePathNode, DeviceType};
 
 /// A node of a device path.
@@ -50,22 +51,27 @@ pub extern "C" fn uefi_path_next_node<'a>(
     ensures offset_unchanged { IsFalse result → offset.new ≡ offset.old }
     ensures out_unchanged { IsFalse result → out.new ≡ out.old }
 {
-    if *offset > path.len() {
-        return false;
-    }
-    let (_, rest) = path.split_at(*offset);
-    let Ok(node) = DevicePathNode::try_from(rest) else {
+    let Some((node, end)) = next_node(path, *offset) else {
         return false;
     };
-    let end = *offset + node.as_bytes().len();
-    if ends_walk(&node, end == path.len()) {
-        return false;
-    }
     out.data = node.data();
     out.device_type = node.device_type().0;
     out.sub_type = node.sub_type().0;
     *offset = end;
     true
+}
+
+/// Returns the node at the offset, unless it ends the walk, and the offset of its end.
+fn next_node(path: &[u8], offset: usize) -> Option<(DevicePathNode<'_>, usize)>
+    ensures node { IfSome result (λ found. IsNextNode path.now offset (node_of found.0) found.1) }
+    ensures none { IfNone result
+        ((node : Node) (end : ℕ) → IsNextNode path.now offset node end → ⊥) }
+{
+    let (node, rest) = split_node(bytes_from(path, offset)?)?;
+    if ends_walk(&node, rest.is_empty()) {
+        return None;
+    }
+    Some((node, path.len() - rest.len()))
 }
 
 /// Returns whether the node ends the walk, by whether the bytes end after it.
@@ -98,16 +104,22 @@ pub extern "C" fn uefi_path_next_instance<'a>(
     ensures offset_unchanged { IsFalse result → offset.new ≡ offset.old }
     ensures out_unchanged { IsFalse result → instance.new ≡ instance.old }
 {
-    if *offset > path.len() {
-        return false;
-    }
-    let (_, rest) = path.split_at(*offset);
-    let Some(found) = first_instance(rest) else {
+    let Some(found) = instance_at(path, *offset) else {
         return false;
     };
     *offset += found.len();
     *instance = found;
     true
+}
+
+/// Returns the instance at the offset.
+fn instance_at(path: &[u8], offset: usize) -> Option<&[u8]>
+    ensures instance { IfSome result (λ found. EncodesInstance found.now) }
+    ensures prefix { IfSome result (λ found. IsPrefix found.now (drop offset path.now)) }
+    ensures within { IfSome result (λ found. offset + length found.now ≤ length path.now) }
+    ensures none { IfNone result (¬ HasInstance (drop offset path.now)) }
+{
+    first_instance(bytes_from(path, offset)?)
 }
 
 /// Returns the instance that the bytes begin with: the nodes up to the first of type END.
@@ -118,9 +130,7 @@ fn first_instance(bytes: &[u8]) -> Option<&[u8]>
 {
     let mut rest = bytes;
     loop {
-        let Some((node, after)) = split_node(rest) else {
-            return None;
-        };
+        let (node, after) = split_node(rest)?;
         rest = after;
         if is_end(&node) {
             let (found, _) = bytes.split_at(bytes.len() - rest.len());
@@ -136,9 +146,7 @@ fn split_node(bytes: &[u8]) -> Option<(DevicePathNode<'_>, &[u8])>
         (λ split. bytes.now ≡ encoding (node_of split.0) ++ split.1.now) }
     ensures none { IfNone result (¬ HasNode bytes.now) }
 {
-    let Ok(node) = DevicePathNode::try_from(bytes) else {
-        return None;
-    };
+    let node = DevicePathNode::try_from(bytes).ok()?;
     let (_, after) = bytes.split_at(node.as_bytes().len());
     Some((node, after))
 }

@@ -1,18 +1,10 @@
-ghost use Rattle.std.specs.Prelude.{◌≡◌, ◌≢◌, ◌+◌, ◌≤◌, [], ◌∷◌, drop, length};
-ghost use Rattle.uefi_map.specs.pci.Resource.{record_length, resource_in};
+ghost use Rattle.std.specs.Prelude.{◌≡◌, ◌≢◌, ◌+◌, ℕ, [], ◌∷◌, drop};
+ghost use Rattle.uefi_map.specs.pci.Resource.{range_type, record_length};
 ghost use Rattle.uefi_map.specs.pci.ResourceList.{BeginWithRecords};
 ghost use Rattle.uefi_c.specs.Pci.{resource_seen, IsStep};
 
-use uefi_base::little_endian::u64_at;
-
-/// The length of a record.
-const RECORD_LENGTH: usize = 46;
-
-/// The first byte of a record.
-const RECORD_TAG: u8 = 0x8a;
-
-/// The first byte of the end tag.
-const END_TAG: u8 = 0x79;
+use crate::cursor::bytes_from;
+use uefi_map::{QwordAddressSpaceDescriptor, ResourceError};
 
 // What stands at a cursor.
 
@@ -66,46 +58,37 @@ pub extern "C" fn uefi_pci_next(list: &[u8], offset: &mut usize, out: &mut UefiR
     ensures offset_unchanged { result ≢ 1 → offset.new ≡ offset.old }
     ensures out_unchanged { result ≢ 1 → out.new ≡ out.old }
 {
-    if *offset > list.len() {
+    let Some(rest) = bytes_from(list, *offset) else {
         return NO_END_TAG;
-    }
-    let (_, rest) = list.split_at(*offset);
-    let step = step_at(rest);
-    if step == RECORD {
-        let (record, _) = rest.split_at(RECORD_LENGTH);
-        *out = resource_in(record);
-        *offset += RECORD_LENGTH;
-    }
-    step
-}
-
-/// Returns what the bytes begin with.
-fn step_at(rest: &[u8]) -> u32
-    ensures { IsStep rest.now result }
-{
-    match rest.first() {
-        None => NO_END_TAG,
-        Some(&END_TAG) => END,
-        Some(&RECORD_TAG) if rest.len() < RECORD_LENGTH => CUT_RECORD,
-        Some(&RECORD_TAG) => RECORD,
-        Some(_) => UNKNOWN_TAG,
+    };
+    match QwordAddressSpaceDescriptor::read(rest) {
+        Ok(Some((resource, after))) => {
+            *out = seen(&resource);
+            *offset = list.len() - after.len();
+            RECORD
+        }
+        Ok(None) => END,
+        Err(ResourceError::NoEndTag) => NO_END_TAG,
+        Err(ResourceError::CutRecord) => CUT_RECORD,
+        Err(ResourceError::UnknownTag(_)) => UNKNOWN_TAG,
+        // A record is read without memory.
+        Err(ResourceError::Memory) => unreachable!(),
     }
 }
 
-/// Returns the resource in the bytes of a record.
-#[tactic(auto, unfolding(uefi_map::specs::pci::Resource::resource_in))]
-fn resource_in(bytes: &[u8]) -> UefiResource
-    requires { record_length ≤ length bytes.now }
-    ensures { resource_seen result ≡ resource_in bytes.now }
+/// Returns the fields of a resource.
+fn seen(resource: &QwordAddressSpaceDescriptor) -> UefiResource
+    ensures { (number : ℕ) → resource.now.resource_range_type ≡ range_type number
+        → resource_seen result ≡ resource.now }
 {
     UefiResource {
-        granularity: u64_at(bytes, 6),
-        address_min: u64_at(bytes, 14),
-        address_max: u64_at(bytes, 22),
-        translation_offset: u64_at(bytes, 30),
-        address_length: u64_at(bytes, 38),
-        range_type: bytes[3],
-        general_flags: bytes[4],
-        type_specific_flags: bytes[5],
+        granularity: resource.granularity,
+        address_min: resource.address_min,
+        address_max: resource.address_max,
+        translation_offset: resource.translation_offset,
+        address_length: resource.address_length,
+        range_type: resource.resource_range_type.number(),
+        general_flags: resource.general_flags,
+        type_specific_flags: resource.type_specific_flags,
     }
 }

@@ -16,7 +16,8 @@ use uefi_tcg::{AlgorithmId, PcrIndex};
 /// The events of a log, or that an allocation failed.
 type Events<'a> = Result<Vec<PcrEvent<'a>>, AllocError>;
 
-/// Collects the events of a log of version 2: they are the log under its own header's table.
+/// Collects the events of a log of version 2 from the header's end on, where the Rust crate `uefi`
+/// starts: they are the log under its own header's table.
 pub fn collected_events<'a>(alloc: Global, bytes: &'a [u8], last_entry: usize) -> Events<'a>
     ensures { IfOk result
         (λ events. IsLogOf after_header (Some bytes.now) (Some last_entry)
@@ -27,7 +28,8 @@ pub fn collected_events<'a>(alloc: Global, bytes: &'a [u8], last_entry: usize) -
         .collect(alloc)
 }
 
-/// Collects the events of a log that follow its header event: they are its log from there.
+/// Collects the events of a log that follow its header event, as firmware writes them and Linux,
+/// tpm2-tools and `uefi_audit` read them: they are its log from there.
 pub fn events_after_header_event<'a>(
     alloc: Global,
     bytes: &'a [u8],
@@ -248,12 +250,8 @@ pub fn two_steps(bytes: &[u8], last_entry: usize) -> Option<(PcrEvent<'_>, PcrEv
 {
     let log = EventLog::new(Some(bytes), Some(last_entry), false);
     let mut events = log.iter_after_header_event();
-    let Some(first) = events.next() else {
-        return None;
-    };
-    let Some(second) = events.next() else {
-        return None;
-    };
+    let first = events.next()?;
+    let second = events.next()?;
     Some((first, second))
 }
 
@@ -303,9 +301,7 @@ pub fn first_event<'a>(
         option_map digest_of found.2 ≡ slice_get (event_of found.0).digests 0) }
 {
     let log = EventLog::new(Some(bytes), Some(last_entry), false);
-    let Some(event) = log.iter().next() else {
-        return None;
-    };
+    let event = log.iter().next()?;
     let digest = event.digests().into_iter().next();
     Some((event, event.event_data(), digest))
 }

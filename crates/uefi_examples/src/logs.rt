@@ -158,12 +158,8 @@ pub fn two_steps(bytes: &[u8], last_entry: usize) -> Option<(PcrEvent<'_>, PcrEv
 {
     let log = EventLog::new(Some(bytes), Some(last_entry), false);
     let mut events = log.iter();
-    let Some(first) = events.next() else {
-        return None;
-    };
-    let Some(second) = events.next() else {
-        return None;
-    };
+    let first = events.next()?;
+    let second = events.next()?;
     Some((first, second))
 }
 

@@ -64,9 +64,7 @@ pub fn pages_in(buffer: &[u8], meta: MemoryMapMeta) -> Option<u64>
         IsNone result → IsMap (length buffer.now) meta
         → 2 ^ 64 ≤ sum_by (λ d. d.page_count) entries }
 {
-    let Ok(map) = MemoryMapRef::new(buffer, meta) else {
-        return None;
-    };
+    let map = MemoryMapRef::new(buffer, meta).ok()?;
     page_sum(&map)
 }
 
@@ -151,9 +149,7 @@ pub fn set_and_get_in(
 ) -> Option<MemoryDescriptor>
     ensures { SomeIff result (IsMap (length buffer.old) meta × (i < count_of meta)) d }
 {
-    let Ok(mut map) = MemoryMapRefMut::new(buffer, meta) else {
-        return None;
-    };
+    let mut map = MemoryMapRefMut::new(buffer, meta).ok()?;
     map.set(i, d)?;
     map.get(i)
 }

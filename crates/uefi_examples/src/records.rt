@@ -44,9 +44,7 @@ pub fn creation_bytes(buffer: &[u8], written: usize) -> Option<[u8; 16]>
     ensures { IfSome result (λ bytes. bytes ≡ slice_range buffer.now 24 40) }
 {
     times_read_back();
-    let Ok(info) = FileInfo::from_uefi(buffer, written) else {
-        return None;
-    };
+    let info = FileInfo::from_uefi(buffer, written).ok()?;
     Some(info.create_time().to_bytes())
 }
 
@@ -59,9 +57,7 @@ pub fn name_length(buffer: &[u8], written: usize) -> Option<usize>
     ensures accepted { IsSome result → (name : List ℕ)
         × (file_info_verdict (take written buffer.now) (length buffer.now) ≡ accepted name) }
 {
-    let Ok(info) = FileInfo::from_uefi(buffer, written) else {
-        return None;
-    };
+    let info = FileInfo::from_uefi(buffer, written).ok()?;
     Some(info.file_name().len())
 }
 
@@ -116,9 +112,7 @@ pub fn file_read_back<'a>(
     let written = write_file_info(
         buffer, sizes.0, sizes.1, times.0, times.1, times.2, attribute, file_name,
     );
-    let Ok(end) = written else {
-        return None;
-    };
+    let end = written.ok()?;
     FileInfo::from_uefi(buffer, end).ok()
 }
 

@@ -43,9 +43,7 @@ pub fn addresses_in(bytes: &[u8]) -> Option<u64>
     ensures fits { (list : List QwordAddressSpaceDescriptor) → HaveList bytes.now list
         → sum_by (λ range. range.address_length) list < 2 ^ 64 → IsSome result }
 {
-    let Ok(list) = ResourceList::try_from(bytes) else {
-        return None;
-    };
+    let list = ResourceList::try_from(bytes).ok()?;
     let mut addresses = 0u64;
     for range in list.iter() {
         addresses = addresses.checked_add(range.address_length)?;

@@ -37,9 +37,7 @@ pub fn file_system_read_back<'a>(
         block_size,
         volume_label,
     );
-    let Ok(end) = written else {
-        return None;
-    };
+    let end = written.ok()?;
     FileSystemInfo::from_uefi(buffer, end).ok()
 }
 
@@ -53,9 +51,7 @@ pub fn label_read_back<'a>(
         ↔ (volume_label_size (length (text_units volume_label.now)) ≤ length buffer.old) }
 {
     reads_back();
-    let Ok(end) = write_file_system_volume_label(buffer, volume_label) else {
-        return None;
-    };
+    let end = write_file_system_volume_label(buffer, volume_label).ok()?;
     FileSystemVolumeLabel::from_uefi(buffer, end).ok()
 }
 

@@ -1,41 +1,23 @@
 -- The first byte of a kind in a text, as a search by sixteen bytes finds it.
 use Rattle.std.proofs.Common.{◌≡◌, ℕ, ◌+◌, ◌-◌, ◌*◌, ◌<◌, ◌≤◌, Bool, true, false, cond, not, List, [], ◌∷◌, map, length}
-use Rattle.std.proofs.Common.{get_or, take, sym, ◌∙◌, ap, arith, inl, inr, ◌⊎◌}
+use Rattle.std.proofs.Common.{get_or, sym, ◌∙◌, ap, arith, inl, inr, ◌⊎◌}
 use Rattle.std.specs.Prelude.{◌==◌, Some, None}
 use Rattle.std.specs.List.{position_or_len}
-use Rattle.std.specs.Str.{IsCharBoundary, IsUtf8}
-use Rattle.std.proofs.lemmas.Bool.{cases_lt, eqb-true}
-use Rattle.std.proofs.lemmas.List.{get_or-take, length-take-le}
+use Rattle.std.proofs.lemmas.Bool.{cases_lt}
 use Rattle.std.proofs.lemmas.List.Sums.{fails_before_first, passes_at_first, position_or_len_is}
 use Rattle.std.proofs.lemmas.Simd.{get_or-chunk, length-chunk}
-use Rattle.std.proofs.lemmas.Str.{IsCharBoundary-after_ascii, IsCharBoundary-before_ascii}
 use lib.Lanes.{chunk, mask_l}
 use Rattle.uefi_hii.specs.private.Finding.{FindsFirst, IsNotBefore}
 
--- The index before which the byte doesn't stand, and at which it does or the bytes end, is the first.
-first_index : (byte end index : ℕ) (bytes : List ℕ) → end ≤ length bytes → index ≤ end
-    → IsNotBefore byte index bytes → (index < end → (get_or bytes index 0 == byte) ≡ true)
-    → position_or_len (λ c. c == byte) (take end bytes) ≡ index
-first_index byte end index bytes within ordered none at =
-    let long = length-take-le end bytes within in
-    position_or_len_is (λ c. c == byte) (take end bytes) index 0 (omega (arith, long))
-    (λ k below. ap (λ c. c == byte) (get_or-take end bytes k 0 (omega arith)) ∙ none k below)
-    (λ below.
-    let inside : index < end = omega (arith, long, below) in
-    ap (λ c. c == byte) (get_or-take end bytes index 0 inside) ∙ at inside)
+-- The index before which the byte doesn't stand, and at which it does, is the first; or there is none.
+pub finds : (byte index : ℕ) (bytes : List ℕ) → index < length bytes → IsNotBefore byte index bytes
+    → (get_or bytes index 0 == byte) ≡ true → FindsFirst byte bytes (Some index)
+finds byte index bytes within none at =
+    (sym (position_or_len_is (λ c. c == byte) bytes index 0 (omega arith) none (λ _. at)), within)
 
-pub finds : (byte end index : ℕ) (bytes : List ℕ) → end ≤ length bytes → index < end → IsNotBefore byte index bytes
-    → (get_or bytes index 0 == byte) ≡ true → FindsFirst byte (take end bytes) (Some index)
-finds byte end index bytes within before none at = (
-  sym (first_index byte end index bytes within (omega arith) none (λ _. at)),
-  omega (arith, length-take-le end bytes within),
-)
-
-pub finds_none : (byte end : ℕ) (bytes : List ℕ) → end ≤ length bytes → IsNotBefore byte end bytes
-    → FindsFirst byte (take end bytes) None
-finds_none byte end bytes within none =
-    first_index byte end end bytes within (omega arith) none (λ below. absurd (omega arith))
-    ∙ sym (length-take-le end bytes within)
+pub finds_none : (byte : ℕ) (bytes : List ℕ) → IsNotBefore byte (length bytes) bytes → FindsFirst byte bytes None
+finds_none byte bytes none =
+    position_or_len_is (λ c. c == byte) bytes (length bytes) 0 (omega arith) none (λ below. absurd (omega arith))
 
 -- Where a bit of a mask is set, some lane passes the test.
 pub some_lane_passes : (p : ℕ → Bool) (lanes : List ℕ) → 0 < mask_l (map p lanes)
@@ -81,44 +63,10 @@ module _ (byte index : ℕ) (bytes : List ℕ) (within : index + 16 ≤ length b
       ap (λ c. c == byte) (sym (get_or-chunk index 16 bytes run 0 inside))
       ∙ ap (λ i. get_or block i 0 == byte) is ∙ here
 
-  -- A byte that was found in a block is the first, or comes after the end.
-  pub finds_in_block : (end run : ℕ) → end ≤ length bytes → FindsFirst byte block (Some run)
-      → IsNotBefore byte index bytes → index + run < end → FindsFirst byte (take end bytes) (Some (index + run))
-  finds_in_block end run inside found none near =
+  -- A byte that was found in a block is the first.
+  pub finds_in_block : (run : ℕ) → FindsFirst byte block (Some run) → IsNotBefore byte index bytes
+      → FindsFirst byte bytes (Some (index + run))
+  finds_in_block run found none =
       let few : run < 16 = omega (arith, found.1, long) in
-      finds byte end (index + run) bytes inside near (not_before_in_block run (omega arith) found.0 none)
+      finds byte (index + run) bytes (omega arith) (not_before_in_block run (omega arith) found.0 none)
       (found_in_block run few found.0)
-
-  pub finds_beyond : (end run : ℕ) → end ≤ length bytes → FindsFirst byte block (Some run)
-      → IsNotBefore byte index bytes → end ≤ index + run → FindsFirst byte (take end bytes) None
-  finds_beyond end run inside found none far =
-      let few : run < 16 = omega (arith, found.1, long) in
-      finds_none byte end bytes inside
-      (λ k below. not_before_in_block run (omega arith) found.0 none k (omega arith))
-
--- A byte that was found comes before the end, and stands there.
-pub found_before : (byte end at : ℕ) (text : List ℕ) → end ≤ length text
-    → FindsFirst byte (take end text) (Some at) → at < end
-found_before byte end at text within found = omega (arith, found.1, length-take-le end text within)
-
-stands_at : (byte end at : ℕ) (text : List ℕ) → end ≤ length text
-    → FindsFirst byte (take end text) (Some at) → get_or text at 0 ≡ byte
-stands_at byte end at text within found =
-    let at_first = passes_at_first (λ c. c == byte) (take end text) 0 (omega (arith, found.0, found.1)) in
-    let passes : (get_or (take end text) at 0 == byte) ≡ true =
-    ap (λ i. get_or (take end text) i 0 == byte) found.0 ∙ at_first in
-    sym (get_or-take end text at 0 (found_before byte end at text within found))
-    ∙ eqb-true (get_or (take end text) at 0) byte passes
-
--- A text may be cut at an ASCII byte that was found, and after it.
-pub cut_at : (byte end at : ℕ) (text : List ℕ) → byte < 128 → end ≤ length text
-    → FindsFirst byte (take end text) (Some at) → IsCharBoundary text at
-cut_at byte end at text ascii within found =
-    let before = found_before byte end at text within found in
-    IsCharBoundary-before_ascii text at (omega arith) (omega (arith, stands_at byte end at text within found))
-
-pub cut_after : (byte end at : ℕ) (text : List ℕ) → byte < 128 → end ≤ length text → IsUtf8 text
-    → FindsFirst byte (take end text) (Some at) → IsCharBoundary text (at + 1)
-cut_after byte end at text ascii within utf8 found =
-    let before = found_before byte end at text within found in
-    IsCharBoundary-after_ascii text at utf8 (omega arith) (omega (arith, stands_at byte end at text within found))

@@ -8,12 +8,13 @@ use Rattle.uefi_path.specs.Node.{Node}
 use Rattle.uefi_path.specs.Views.{boxed_nodes}
 use Rattle.uefi_path.specs.declared.boxed.BoxedDevicePath.{BoxedDevicePath}
 use Rattle.uefi_hii.specs.Pairs.{Pair}
-use Rattle.uefi_hii.specs.Configuration.{HasPath, guid_in, name_in}
+use Rattle.uefi_hii.specs.Configuration.{HasPath, guid_in, name_in, value_at}
 use Rattle.uefi_hii.specs.Slots.{AltSlot, GuidSlot, IsGood, IsHeader, IsKey, NameSlot, PathSlot, error_of}
 use Rattle.uefi_hii.specs.Cut.{first_pair}
-use Rattle.uefi_hii.specs.private.Taking.{Misses, Takes, TakesAlt, TakesError, TakesHeader, TakesPath}
+use Rattle.uefi_hii.specs.Reading.{MayRunOut}
+use Rattle.uefi_hii.specs.private.Taking.{IsNamed, Misses, Takes, TakesAlt, TakesError, TakesHeader, TakesPath}
 use Rattle.uefi_hii.proofs.Failing.{fails_after}
-use Rattle.uefi_hii.proofs.Shapes.{some_is}
+use Rattle.uefi_hii.proofs.Shapes.{named_value, some_is}
 
 -- The three pairs with which a header begins, and the pairs that are left.
 pub record HasThree (before left : List Pair) (x y : List ℕ) (path : List Node) : Type 0 where
@@ -72,6 +73,21 @@ alt_fails before left after x y path e some three missed =
     subst (λ x. TakesError before x after) (sym missed.0)
     (fails_after AltSlot before (three.g ∷ three.n ∷ three.p ∷ []) left after some three.whole
     (λ q is. (good, key (q ∷ after) is)) (λ is. (good, key [] is)) missed.2)
+
+-- Memory may run out once the second pair has the name's key and a value.
+pub may_run_out : (before one : List Pair) (x : List ℕ) → Takes guid_in before (Some x) one → IsNamed one
+    → MayRunOut before
+may_run_out before [] x g named = absurd named
+may_run_out before (n ∷ others) x g named = subst MayRunOut (sym g.1) (some_is (guid_in g.0) x g.2, named)
+
+pub named : (one two : List Pair) (y : List ℕ) → Takes name_in one (Some y) two → IsNamed one
+named one two y n = subst IsNamed (sym n.1) (named_value (value_at (codes "NAME") n.0) y n.2)
+
+pub memory_residual : {A : Type 0} (before after : List Pair) (r : Result (ConfigurationString A) ParseError)
+    → IsErrAnd r (λ y. y ≡ Memory) → MayRunOut before → TakesHeader before r after
+memory_residual before after (Ok c) h m = absurd h
+memory_residual {A} before after (Err e) h m =
+    subst (λ (z : ParseError). TakesHeader {A = A} before (Err z) after) (sym h) m
 
 -- The header of an error that is passed on.
 pub header_residual : {A : Type 0} (before after : List Pair) (r : Result (ConfigurationString A) ParseError)

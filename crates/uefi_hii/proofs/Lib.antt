@@ -20,6 +20,7 @@ pub mod Cuts
 pub mod Joined
 pub mod Failing
 pub mod Taken
+pub mod TextPairs
 pub mod Headers
 pub mod Elements
 pub mod Wholes

@@ -1,15 +1,20 @@
 -- The first piece of a text, and how many pairs a text has.
-use Rattle.std.proofs.Common.{◌≡◌, ◌≢◌, ℕ, ◌+◌, ◌-◌, ◌<◌, ◌≤◌, Bool, true, false, cond, not, List, [], ◌∷◌, length, map}
-use Rattle.std.proofs.Common.{take, drop, refl, sym, ◌∙◌, ap, arith, lit≤}
-use Rattle.std.specs.Prelude.{Option, Some, None, if◌then◌else◌}
-use Rattle.std.specs.List.{slice_split, slice_range, onto_first, before_first, after_first, position_or_len}
-use Rattle.std.proofs.lemmas.Bool.{lt-ltb}
-use Rattle.std.proofs.lemmas.List.{drop-take, length-map, length-take-le, take-append-drop, take-append-le}
+use Rattle.std.proofs.Common.{◌≡◌, ◌≢◌, ℕ, ◌+◌, ◌<◌, ◌≤◌, Bool, true, false, cond, not, List, [], ◌∷◌, length, map}
+use Rattle.std.proofs.Common.{take, drop, refl, sym, ◌∙◌, ap, ap₂, arith, inl, inr, ◌⊎◌, lit≤}
+use Rattle.std.specs.Prelude.{Option, Some, None, if◌then◌else◌, nat_lt, ◌==◌}
+use Rattle.std.specs.List.{slice_split, onto_first, before_first, after_first, position_or_len}
+use Rattle.std.proofs.lemmas.Bool.{cases_lt, le-ltb, lt-ltb}
+use Rattle.std.proofs.lemmas.List.{drop-drop, drop_all, length-map}
+use Rattle.std.proofs.lemmas.List.Sums.{prefix_len-le-length}
+use Rattle.std.proofs.Math.Seq.{take-length}
 use Rattle.std.proofs.lemmas.List.Splits.{slice_split_first, length-slice_split}
-use Rattle.uefi_hii.specs.private.Finding.{FindsFirst}
-use Rattle.uefi_hii.specs.Pairs.{Pair, ampersand, is_equals_sign, pair_of, pairs, without_empty_last}
-use Rattle.uefi_hii.specs.private.Parts.{equals_sign}
-use Rattle.uefi_hii.specs.private.Parts.{has_equals_sign, is_ampersand, pieces}
+use Rattle.uefi_hii.specs.private.Finding.{FindsFirst, parts_at}
+use Rattle.uefi_hii.specs.Pairs.{Pair, pair_of, pairs, without_empty_last}
+use Rattle.uefi_hii.specs.private.Parts.{is_ampersand, pieces}
+
+-- A pair, by its key and its value.
+abbrev by_parts : List ℕ → Option (List ℕ) → Pair
+by_parts key value = record { key = key; value = value }
 
 -- A list without a separator is one part.
 split_none : (p : ℕ → Bool) (xs : List ℕ) → position_or_len p xs ≡ length xs → slice_split p xs ≡ xs ∷ []
@@ -45,41 +50,43 @@ pub pairs_alone : (text : List ℕ) → text ≢ [] → position_or_len is_amper
 pairs_alone [] some e = absurd (some refl)
 pairs_alone (c ∷ text) some e = ap (λ ps. map pair_of (without_empty_last ps)) (split_none is_ampersand (c ∷ text) e)
 
--- The first pair of a text, by the index of its first ampersand.
-pub pairs_at : (text rest : List ℕ) (end : ℕ) → FindsFirst ampersand text (Some end) → rest ≡ drop (end + 1) text
-    → pairs text ≡ pair_of (take end text) ∷ pairs rest
-pairs_at text rest end found is =
-    pairs_first text (take end text) rest (omega (arith, found.0, found.1)) (ap (λ n. take n text) found.0)
-    (is ∙ ap (λ n. drop (n + 1) text) found.0)
+-- The pairs of a text are that of its first piece, and those of the text after it.
+pub pairs_cut : (text : List ℕ) → text ≢ []
+    → pairs text ≡ pair_of (before_first is_ampersand text) ∷ pairs (after_first is_ampersand text)
+pairs_cut text some = by_order (cases_lt (position_or_len is_ampersand text) (length text))
+  where
+    by_order : (position_or_len is_ampersand text < length text) ⊎ (length text ≤ position_or_len is_ampersand text)
+        → pairs text ≡ pair_of (before_first is_ampersand text) ∷ pairs (after_first is_ampersand text)
+    by_order (inl within) = pairs_first text _ _ within refl refl
+    by_order (inr past) =
+        let end : position_or_len is_ampersand text ≡ length text =
+        omega (arith, prefix_len-le-length (λ c. not (is_ampersand c)) text) in
+        let piece : before_first is_ampersand text ≡ text = ap (λ n. take n text) end ∙ take-length text in
+        let rest : after_first is_ampersand text ≡ [] = drop_all (position_or_len is_ampersand text + 1) text (omega arith) in
+        pairs_alone text some end ∙ ap₂ (λ p r. pair_of p ∷ pairs r) (sym piece) (sym rest)
 
--- A pair, by its key and its value.
-abbrev by_parts : List ℕ → Option (List ℕ) → Pair
-by_parts key value = record { key = key; value = value }
+-- The parts of bytes where there is such a byte, and where there is none.
+pub parts_found : (byte index : ℕ) (bytes before after : List ℕ) → FindsFirst byte bytes (Some index)
+    → before ≡ take index bytes → after ≡ drop 1 (drop index bytes)
+    → by_parts before (Some after) ≡ parts_at byte bytes
+parts_found byte index bytes before after found before_is after_is =
+    let at : ℕ = position_or_len (λ c. c == byte) bytes in
+    let test : nat_lt at (length bytes) ≡ true = lt-ltb at (length bytes) (omega (arith, found.0, found.1)) in
+    ap₂ by_parts (before_is ∙ ap (λ n. take n bytes) found.0)
+    (ap Some (after_is ∙ drop-drop 1 index bytes ∙ ap (λ n. drop (n + 1) bytes) found.0)
+    ∙ ap (λ t. if t then Some (after_first (λ c. c == byte) bytes) else None) (sym test))
 
--- A piece with an equals sign is the pair of what stands before it and after it.
-pub pair_with_value : (text key value : List ℕ) (at end : ℕ) → end ≤ length text
-    → FindsFirst equals_sign (take end text) (Some at) → key ≡ slice_range text 0 at
-    → value ≡ slice_range text (at + 1) end
-    → by_parts key (Some value) ≡ pair_of (take end text)
-pair_with_value text key value at end within (is, inside) key_is value_is =
-    let piece : List ℕ = take end text in
-    let long : length piece ≡ end = length-take-le end text within in
-    let has : has_equals_sign piece ≡ true =
-    lt-ltb (position_or_len is_equals_sign piece) (length piece) (omega (arith, is, inside)) in
-    let before_it : take at piece ≡ take at text =
-    sym (take-append-le at piece (drop end text) (omega (arith, inside))) ∙ ap (take at) (take-append-drop end text) in
-    let same_end : at + 1 + (end - (at + 1)) ≡ end = omega (arith, inside, long) in
-    let after_it : drop (at + 1) piece ≡ slice_range text (at + 1) end =
-    ap (λ n. drop (at + 1) (take n text)) (sym same_end) ∙ drop-take (at + 1) (end - (at + 1)) text in
-    let its_key : key ≡ before_first is_equals_sign piece =
-    key_is ∙ ap (λ n. take n text) (omega arith) ∙ sym before_it ∙ ap (λ n. take n piece) is in
-    let its_value : value ≡ after_first is_equals_sign piece = value_is ∙ sym after_it
-    ∙ ap (λ n. drop (n + 1) piece) is in
-    ap (λ k. by_parts k (Some value)) its_key
-    ∙ ap (λ v. by_parts (before_first is_equals_sign piece) (Some v)) its_value
-    ∙ ap (λ t. by_parts (before_first is_equals_sign piece)
-    (if t then Some (after_first is_equals_sign piece) else None))
-    (sym has)
+pub parts_alone : (byte : ℕ) (bytes : List ℕ) → FindsFirst byte bytes None → by_parts bytes None ≡ parts_at byte bytes
+parts_alone byte bytes none =
+    let at : ℕ = position_or_len (λ c. c == byte) bytes in
+    let test : nat_lt at (length bytes) ≡ false = le-ltb at (length bytes) (omega (arith, none)) in
+    ap₂ by_parts (sym (ap (λ n. take n bytes) none ∙ take-length bytes))
+    (ap (λ t. if t then Some (after_first (λ c. c == byte) bytes) else None) (sym test))
+
+-- The same pair, and the same rest.
+pub same_step : (all : List Pair) (k l r s : List ℕ) (v w : Option (List ℕ)) → k ≡ l → v ≡ w → r ≡ s
+    → all ≡ by_parts l w ∷ pairs s → all ≡ by_parts k v ∷ pairs r
+same_step all k l r s v w key value rest step = cc
 
 -- A text has at most as many pairs as characters.
 few_pieces : (text : List ℕ) → length (without_empty_last (pieces text)) ≤ length text

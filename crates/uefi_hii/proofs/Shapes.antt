@@ -1,11 +1,12 @@
 -- Pairs that spell a header, an element or a configuration, and a pair more.
 use Rattle.std.proofs.Common.{◌≡◌, ◌≢◌, ℕ, List, [], ◌∷◌, ◌++◌, refl, sym, ◌∙◌, ap, subst, append_assoc}
 use Rattle.std.proofs.lemmas.List.{append-nil}
-use Rattle.std.specs.Prelude.{Option, Some, None, IsSome, is_some, codes}
+use Rattle.std.specs.Prelude.{Option, Some, None, IsSome, is_some, option_and_then, codes}
 use Rattle.std.specs.List.{AllByRecursion}
 use Rattle.uefi_hii.specs.Pairs.{Pair}
 use Rattle.uefi_hii.specs.Configuration.{Configuration, Element, Spells, SpellsElement, SpellsElements, SpellsHeader}
-use Rattle.uefi_hii.specs.Configuration.{guid_in, number_in}
+use Rattle.uefi_hii.specs.Configuration.{guid_in, number_in, value_at}
+use Rattle.uefi_hii.specs.Values.{name}
 use Rattle.uefi_hii.specs.private.Parts.{IsSkipped, low_16_bits}
 use Rattle.uefi_hii.specs.Slots.{IsHeader}
 use Rattle.uefi_hii.specs.Slots.{IsHeaderWithAlt}
@@ -14,6 +15,11 @@ use Rattle.uefi_hii.proofs.Machine.{last_with_pair, with_pair, with_skipped}
 
 pub some_is : {A : Type 0} (o : Option A) (x : A) → o ≡ Some x → IsSome o
 some_is o x e = ap is_some e
+
+-- A value that is a name is one.
+pub named_value : (o : Option (List ℕ)) (y : List ℕ) → option_and_then name o ≡ Some y → IsSome o
+named_value (Some value) y e = refl
+named_value None y e = absurd (cc)
 
 AllByRecursion-push : {A : Type 0} (P : A → Type 0) (xs : List A) (x : A) → AllByRecursion P xs → P x
     → AllByRecursion P (xs ++ x ∷ [])
@@ -133,7 +139,7 @@ spells_header h c s e =
           subst (λ es. SpellsElements [] es) (sym e) refl;
     }
 
--- A configuration has pairs, and the first is good for the GUID.
+-- A configuration has pairs. The first is good for the GUID, and the second has the name's key and a value.
 pub spells_some : (f : List Pair) (c : Configuration) → Spells f c → f ≢ []
 spells_some f c s e = by_header s.header s.is_header (sym s.whole ∙ e)
   where
@@ -150,6 +156,8 @@ spells_good before f left c s e =
     by_header [] rest x = absurd x
     by_header (g ∷ []) rest x = absurd x
     by_header (g ∷ n ∷ []) rest x = absurd x
-    by_header (g ∷ n ∷ p ∷ []) rest x = some_is (guid_in g) c.guid x.0
-    by_header (g ∷ n ∷ p ∷ a ∷ []) rest x = some_is (guid_in g) c.guid x.0
+    by_header (g ∷ n ∷ p ∷ []) rest x =
+        (some_is (guid_in g) c.guid x.0, named_value (value_at (codes "NAME") n) c.name x.1)
+    by_header (g ∷ n ∷ p ∷ a ∷ []) rest x =
+        (some_is (guid_in g) c.guid x.0, named_value (value_at (codes "NAME") n) c.name x.1)
     by_header (g ∷ n ∷ p ∷ a ∷ b ∷ h) rest x = absurd x

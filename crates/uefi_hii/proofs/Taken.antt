@@ -1,10 +1,10 @@
 -- The next pair, taken for its value.
-use Rattle.std.proofs.Common.{◌≡◌, Bool, true, false, not, List, ◌∷◌, refl, ap, inr}
-use Rattle.std.specs.Prelude.{ℕ, Option, Some, None, IsSome, is_some, if◌then◌else◌}
+use Rattle.std.proofs.Common.{◌≡◌, Bool, true, false, not, List, ◌∷◌, refl, sym, ap, subst, inr}
+use Rattle.std.specs.Prelude.{ℕ, Option, Some, None, Result, Ok, Err, OnErr, IsSome, is_some, if◌then◌else◌, codes}
 use Rattle.std.specs.Str.{bytes_eq}
 use Rattle.uefi_hii.specs.Pairs.{Pair}
 use Rattle.uefi_hii.specs.Configuration.{value_at}
-use Rattle.uefi_hii.specs.private.Taking.{Takes}
+use Rattle.uefi_hii.specs.private.Taking.{IsNamed, Takes}
 
 -- What holds nothing doesn't hold something.
 pub nothing_in : {A : Type 0} (o : Option A) → o ≡ None → IsSome o → ⊥
@@ -36,3 +36,12 @@ takes_same key before after p e same = by_value p.value (value_at-same key p sam
     by_value : (value : Option (List ℕ)) → value_at key p ≡ value → Takes (value_at key) before value after
     by_value (Some value) is = (p, e, is)
     by_value None is = inr (p, e, nothing_in (value_at key p) is)
+
+-- An error, where the next pair has the key NAME and a value.
+pub on_error : {A E : Type 0} (r : Result A E) (P : Type 0) → P → OnErr r P
+on_error (Ok x) P p = tt
+on_error (Err e) P p = p
+
+pub is_named : (before after : List Pair) (value : List ℕ) → Takes (value_at (codes "NAME")) before (Some value) after
+    → IsNamed before
+is_named before after value t = subst IsNamed (sym t.1) (ap is_some t.2)

@@ -1,22 +1,27 @@
 -- The results of all groups of a text, one after another, and of the first.
-use Rattle.std.proofs.Common.{◌≡◌, ◌≢◌, ℕ, List, [], ◌∷◌, ◌++◌, map, refl, sym, ◌∙◌, ap, subst, append_assoc}
+use Rattle.std.proofs.Common.{◌≡◌, ◌≢◌, ℕ, List, [], ◌∷◌, ◌++◌, map, length, refl, sym, ◌∙◌, ap, subst, append_assoc}
+use Rattle.std.proofs.Common.{arith, inl, inr, length-append}
 use Rattle.std.proofs.lemmas.List.{append-nil, map-append}
 use Rattle.std.proofs.lemmas.List.Concat.{flat_map-append}
 use Rattle.std.proofs.lemmas.List.Elements.{All-nil, All-push, All-same}
 use Rattle.std.specs.List.{All}
-use Rattle.std.specs.Prelude.{Result, Ok, Err, ⊤}
+use Rattle.std.specs.Prelude.{Some, None, Result, Ok, Err, ⊤}
 use Rattle.uefi_hii.specs.declared.configuration.ConfigurationString.{ConfigurationString}
 use Rattle.uefi_hii.specs.declared.error.ConfigHdrSection.{ConfigHdrSection}
 use Rattle.uefi_hii.specs.declared.error.ConfigHdrSection.TheVariants.{Guid}
 use Rattle.uefi_hii.specs.declared.error.ParseError.{ParseError}
 use Rattle.uefi_hii.specs.declared.error.ParseError.TheVariants.{BlockConfig, BlockName, ConfigHdr, Memory}
 use Rattle.uefi_hii.specs.Pairs.{Pair, pairs}
-use Rattle.uefi_hii.specs.Configuration.{Configuration}
-use Rattle.uefi_hii.specs.Group.{Group}
+use Rattle.uefi_hii.specs.Configuration.{Configuration, Spells, SpellsHeader}
+use Rattle.uefi_hii.specs.Slots.{AltSlot, Expects, GuidSlot, IsGood, NameSlot, OffsetSlot, PathSlot, Slot, ValueSlot}
+use Rattle.uefi_hii.specs.Slots.{WidthSlot}
+use Rattle.uefi_hii.specs.Group.{FailsAt, Gives, Group}
 use Rattle.uefi_hii.specs.Cut.{AreGroups, Cut, Part, first_pair, pairs_of, results_of}
 use Rattle.uefi_hii.specs.Views.{result_of}
 use Rattle.uefi_hii.specs.Reading.{AreResults, IsFirstResult, MayRunOut, TakesGroup}
 use Rattle.uefi_hii.specs.Laws.{BeginsWith}
+use Rattle.uefi_hii.proofs.Expecting.{MustCome, by_row}
+use Rattle.uefi_hii.proofs.Shapes.{spells_some}
 use Rattle.uefi_hii.proofs.Cuts.{cut_once, group_some, has_one_cut, one_group, part}
 
 -- Groups with these pairs behind the last.
@@ -142,14 +147,59 @@ name_kept A e = cc
 value_kept : (A : Type 0) → ◌≢◌ {A = Result (ConfigurationString A) ParseError} (Err BlockConfig) (Err Memory)
 value_kept A e = cc
 
--- Pairs that begin with a good GUID have it in their first group.
+-- A body has pairs.
+no_body : (body rest : List Pair) (c : Configuration) → [] ≡ body ++ rest → Spells body c → ⊥
+no_body [] rest c is s = spells_some [] c s refl
+no_body (b ∷ body) rest c is s = cc
+
+-- A pair that is good for the GUID, and that another follows, is no group.
+good_alone : (q n : Pair) (rest : List Pair) (r : Result Configuration ParseError) → IsGood GuidSlot q
+    → Gives (q ∷ []) (first_pair (n ∷ rest)) r → ⊥
+good_alone q n rest (Ok c) good gives = by_header gives.0.header gives.0.is_header gives.0.whole
+  where
+    by_header : (h : List Pair) → SpellsHeader h c → q ∷ [] ≡ h ++ gives.0.rest → ⊥
+    by_header [] s e = s
+    by_header (a ∷ []) s e = s
+    by_header (a ∷ b ∷ h) s e = cc
+good_alone q n rest (Err error) good gives = by_slot gives.0 gives.2
+  where
+    -- Nothing but the GUID comes first.
+    by_must : (last : Pair) (slot : Slot) → q ≡ last → ¬ IsGood slot last → MustCome [] (Some last) slot → ⊥
+    by_must last GuidSlot same bad must = bad (subst (IsGood GuidSlot) same good)
+    by_must last NameSlot same bad must = must
+    by_must last PathSlot same bad must = must
+    by_must last AltSlot same bad must = must.0
+    by_must last OffsetSlot same bad (inl must) = must.0
+    by_must last OffsetSlot same bad (inr (inl must)) = must.0
+    by_must last OffsetSlot same bad (inr (inr must)) = spells_some [] must.0.0 must.0.1 refl
+    by_must last WidthSlot same bad must = no_body must.0 must.1 must.3.0 must.2 must.3.1
+    by_must last ValueSlot same bad must = no_body must.0 must.1 must.3.0 must.2 must.3.1
+
+    by_before : (before : List Pair) (last : Pair) (slot : Slot) → q ∷ [] ≡ before ++ last ∷ []
+        → Expects before (Some last) slot → ¬ IsGood slot last → ⊥
+    by_before [] last slot whole expects bad =
+        let same : q ≡ last = cc in
+        by_must last slot same bad (by_row [] (Some last) slot expects)
+    by_before (b ∷ before) last slot whole expects bad =
+        absurd (omega (arith, ap (λ ps. length ps) whole, length-append before (last ∷ [])))
+
+    by_slot : (slot : Slot) → FailsAt slot (q ∷ []) (Some n) → ⊥
+    by_slot slot (inl m) = by_before m.0 m.1 slot m.2 m.3 m.4
+    by_slot slot (inr none) = let other : Some n ≡ None = none.0 in cc
+
+-- Pairs that begin with a good GUID and a pair for the name have both in their first group.
 first_good : (text : List ℕ) (e : Part) (parts : List Part) → MayRunOut (pairs text) → Cut text (e ∷ parts)
     → MayRunOut e.group
-first_good text e parts m c = by_group e.group c.each.0.not_empty (subst MayRunOut (sym c.whole) m)
+first_good text e parts m c = by_group e.group c.each.0 (pairs_of parts) refl (subst MayRunOut (sym c.whole) m)
   where
-    by_group : (g : List Pair) → g ≢ [] → MayRunOut (g ++ pairs_of parts) → MayRunOut g
-    by_group [] some x = absurd (some refl)
-    by_group (q ∷ g) some x = x
+    by_group : (g : List Pair) → Group g (first_pair (pairs_of parts)) e.result → (others : List Pair)
+        → pairs_of parts ≡ others → MayRunOut (g ++ others) → MayRunOut g
+    by_group [] group others is x = absurd (group.not_empty refl)
+    by_group (q ∷ []) group [] is x = x
+    by_group (q ∷ []) group (n ∷ others) is x =
+        absurd (good_alone q n others e.result x.0
+        (subst (λ ps. Gives (q ∷ []) (first_pair ps) e.result) is group.gives))
+    by_group (q ∷ n ∷ g) group others is x = x
 
 pub is_first : {A : Type 0} (text : List ℕ) (after : List Pair) (r : Result (ConfigurationString A) ParseError)
     → pairs text ≢ [] → TakesGroup (pairs text) r after

@@ -1,19 +1,21 @@
 -- What the readers of configurations return.
-use Rattle.std.specs.Prelude.{◌≡◌, ◌≢◌, ℕ, List, [], ◌∷◌, ◌++◌, Option, Result, Err, map, MatchOption, IsSomeAnd, ⊤}
+use Rattle.std.specs.Prelude.{◌≡◌, ◌≢◌, ℕ, List, [], ◌∷◌, ◌++◌, Option, Result, Err, map, MatchOption, IsSome, codes, ⊤}
 use Rattle.uefi_hii.specs.declared.configuration.ConfigurationString.{ConfigurationString}
 use Rattle.uefi_hii.specs.declared.error.ConfigHdrSection.TheVariants.{Guid}
 use Rattle.uefi_hii.specs.declared.error.ParseError.{ParseError}
 use Rattle.uefi_hii.specs.declared.error.ParseError.TheVariants.{ConfigHdr, Memory}
 use Rattle.uefi_hii.specs.declared.multi.MultiConfigurationStringIter.{MultiConfigurationStringIter}
 use Rattle.uefi_hii.specs.Pairs.{Pair}
+use Rattle.uefi_hii.specs.Configuration.{value_at}
 use Rattle.uefi_hii.specs.Slots.{GuidSlot, IsGood}
 use Rattle.uefi_hii.specs.Group.{Group}
 use Rattle.uefi_hii.specs.Cut.{Part, first_pair, results_of, Cut}
 use Rattle.uefi_hii.specs.Views.{uncut_pairs, result_of}
 
--- Memory can run out only in a group that begins with a pair good for the GUID.
+-- Memory can run out only in a group that begins with a pair good for the GUID, and one with the key NAME and a value.
 abbrev pub MayRunOut : List Pair → Type 0
-MayRunOut pairs = IsSomeAnd (first_pair pairs) (IsGood GuidSlot)
+MayRunOut (g ∷ n ∷ others) = IsGood GuidSlot g × IsSome (value_at (codes "NAME") n)
+MayRunOut _ = ⊥
 
 -- The prefix of the pairs that is a group gave the result, and the others are left; or memory ran out.
 abbrev pub TakesGroup : {A : Type 0} → List Pair → Result (ConfigurationString A) ParseError → List Pair → Type 0

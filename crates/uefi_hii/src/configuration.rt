@@ -110,8 +110,9 @@ impl<A: Allocator + Copy> ConfigurationString<A> {
     ///   a number.
     /// - [`ParseError::BlockConfig`] if `VALUE` doesn't follow them.
     /// - [`ParseError::Memory`] if an allocation fails before an error is found. None is made before
-    ///   the GUID is read. For a name and for a path memory is asked before the value is judged, so
-    ///   a wrong one may be [`ParseError::Memory`]; every other pair is judged first.
+    ///   the GUID is read and `NAME` has a value. For a name and for a path memory is asked before
+    ///   the value is judged, so a wrong one may be [`ParseError::Memory`]; every other pair is
+    ///   judged first.
     pub fn from_str(alloc: A, text: &str) -> Result<ConfigurationString<A>, ParseError>
         ensures cut { (parts : List Part) × Cut text.now parts × IsFirstResult parts result }
         ensures only { (parts : List Part) → Cut text.now parts → IsFirstResult parts result }

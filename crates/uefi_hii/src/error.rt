@@ -21,12 +21,13 @@ pub enum ConfigHdrSection {
 ///
 /// The first pair that is missing or wrong decides, unless an allocation fails before it is found.
 ///
-/// While a group's first pair isn't a good GUID, no memory is asked for, so
-/// `ConfigHdr(ConfigHdrSection::Guid)` is never replaced by [`Memory`](ParseError::Memory). After a
-/// good GUID every reader of configurations may return `Memory` although a later pair is missing or
-/// wrong: the name, the path and each element take memory as they are read. For a name and for a
-/// path memory is asked before the value is judged, so even a wrong one may be `Memory`; the pairs
-/// `ALTCFG`, `OFFSET`, `WIDTH` and `VALUE` are judged first, and then memory is asked.
+/// Errors and requests for memory come in the order of the pairs. No memory is asked for before the
+/// group's first pair is a good GUID and its second has the key `NAME` and a value, so the errors of
+/// these two are never replaced by [`Memory`](ParseError::Memory). After them every reader of
+/// configurations may return `Memory` although a later pair is missing or wrong: the name, the path
+/// and each element take memory as they are read. For a name and for a path memory is asked before
+/// the value is judged, so even a wrong one may be `Memory`; the pairs `ALTCFG`, `OFFSET`, `WIDTH`
+/// and `VALUE` are judged first, and then memory is asked.
 #[derive(Clone, Copy, PartialEq, Eq, Debug)]
 pub enum ParseError {
     /// A pair of the header is missing or wrong.

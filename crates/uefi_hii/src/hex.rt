@@ -6,6 +6,7 @@ ghost use Rattle.uefi_hii.specs.Views.{bytes_left};
 
 use crate::digit::hex_digit;
 use std::iter::{ExactSizeIterator, FusedIterator};
+use uefi_base::buffer::length_fits;
 
 /// The bytes that a text spells in hex, from either end.
 ///
@@ -27,11 +28,9 @@ impl<'a> HexBytes<'a> {
         ensures bytes { bytes_left result ≡ hex text.now }
         ensures countable { length (bytes_left result) < 2 ^ 64 }
     {
-        // The length of a text is a `usize`, so its bytes can be counted.
-        let _length = text.len();
-        HexBytes {
-            rest: text.as_bytes(),
-        }
+        let rest = text.as_bytes();
+        length_fits(rest);
+        HexBytes { rest }
     }
 }
 
@@ -74,9 +73,7 @@ impl<'a> DoubleEndedIterator for HexBytes<'a> {
     ghost next_back_gives = { YieldsLast bytes_left };
 
     fn next_back(&mut self) -> Option<u8> {
-        let Some((before, byte)) = split_last_byte(self.rest) else {
-            return None;
-        };
+        let (before, byte) = split_last_byte(self.rest)?;
         self.rest = before;
         Some(byte)
     }
@@ -96,15 +93,11 @@ fn split_last_byte(text: &[u8]) -> Option<(&[u8], u8)>
     ensures { MatchOption result (hex text.now ≡ [])
         (λ r. hex text.now ≡ hex r.0.now ++ r.1 ∷ []) }
 {
-    let Some((last, before)) = text.split_last() else {
-        return None;
-    };
+    let (last, before) = text.split_last()?;
     if text.len() % 2 != 0 {
         return Some((before, byte_of_one(*last)));
     }
-    let Some((first, before)) = before.split_last() else {
-        return None;
-    };
+    let (first, before) = before.split_last()?;
     Some((before, byte_of_two(*first, *last)))
 }
 

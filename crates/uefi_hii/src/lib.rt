@@ -7,7 +7,7 @@
 //! [`MultiConfigurationStringIter`] for one after another, or with [`parse_all`] for all of them.
 //! Each gives a configuration that owns its memory, or the error of a group of pairs in which one
 //! is missing or wrong. [`ConfigurationStringIter`] gives the pairs themselves, and takes no
-//! memory.
+//! memory. [`next_pair`] is one step of it, over bytes.
 //!
 //! The contracts speak of the one cut of a text into groups: `specs/Slots.antt` says which pair has
 //! to come next, `specs/Group.antt` what a group is, and `specs/Cut.antt` what the cut is. That
@@ -19,7 +19,7 @@ pub use self::error::{ConfigHdrSection, ParseError};
 pub use self::filling::fill_from_hex;
 pub use self::hex::HexBytes;
 pub use self::multi::{MultiConfigurationStringIter, parse_all};
-pub use self::pairs::ConfigurationStringIter;
+pub use self::pairs::{ConfigurationStringIter, next_pair};
 
 mod configuration;
 mod digit;

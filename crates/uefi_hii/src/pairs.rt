@@ -1,16 +1,18 @@
-ghost use Rattle.std.specs.Prelude.{◌≡◌, ◌≢◌, ◌^◌, ◌<◌, ◌≤◌, [], ◌∷◌, length, take};
-ghost use Rattle.std.specs.Str.{IsCharBoundary};
+ghost use Rattle.std.specs.Prelude.{◌≡◌, ◌==◌, ◌^◌, ◌<◌, ◌≤◌, [], ◌∷◌, length, MatchOption, IfSome};
+ghost use Rattle.std.specs.List.{before_first, after_first};
 ghost use Rattle.std.specs.Iterator.{YieldsFirstBy, item_count};
-ghost use Rattle.uefi_hii.specs.Pairs.{pair_of, pairs};
+ghost use Rattle.uefi_hii.specs.Pairs.{ampersand, pair_of, pairs};
+ghost use Rattle.uefi_hii.specs.private.Finding.{parts_at};
 ghost use Rattle.uefi_hii.specs.Views.{pair_view, pairs_left};
 
-use crate::finding::index_before;
+use crate::finding::index_of;
 use std::iter::FusedIterator;
+use uefi_base::buffer::length_fits;
 
-/// The end of a pair, but of the last.
+/// The byte between two pairs.
 const AMPERSAND: u8 = b'&';
 
-/// The end of a key that has a value.
+/// The byte between a key and its value.
 const EQUALS_SIGN: u8 = b'=';
 
 /// The pairs of keys and values of a text, in order (UEFI 2.10, 35.2.1 "String Syntax").
@@ -34,8 +36,7 @@ impl<'a> ConfigurationStringIter<'a> {
         ensures few { length (pairs_left result) ≤ length text.now }
         ensures countable { length (pairs_left result) < 2 ^ 64 }
     {
-        // The length of a text is a `usize`, so its pairs can be counted.
-        let _length = text.len();
+        length_fits(text.as_bytes());
         ConfigurationStringIter { rest: text }
     }
 }
@@ -49,10 +50,7 @@ impl<'a> Iterator for ConfigurationStringIter<'a> {
 
     #[inline(always)]
     fn next(&mut self) -> Option<(&'a str, Option<&'a str>)> {
-        if self.rest.is_empty() {
-            return None;
-        }
-        let (pair, rest) = split_pair(self.rest);
+        let (pair, rest) = next_text_pair(self.rest)?;
         self.rest = rest;
         Some(pair)
     }
@@ -60,26 +58,59 @@ impl<'a> Iterator for ConfigurationStringIter<'a> {
 
 impl<'a> FusedIterator for ConfigurationStringIter<'a> {}
 
-/// Returns the first pair of a text, and the text after it.
+/// Returns the first pair of a text that is given as bytes, and the bytes after it: one step of
+/// [`ConfigurationStringIter`], over any bytes. `None` if there are no bytes.
+///
+/// The pair is the bytes before the first `&`, or all bytes if there is none, cut at their first
+/// `=`. The bytes after that `&` are left.
 #[inline(always)]
-fn split_pair(text: &str) -> ((&str, Option<&str>), &str)
-    requires { text.now ≢ [] }
-    ensures { pairs text.now ≡ pair_view result.0 ∷ pairs result.1.now }
+pub fn next_pair(bytes: &[u8]) -> Option<((&[u8], Option<&[u8]>), &[u8])>
+    ensures pair { IfSome result (λ cut. pair_view cut.0
+        ≡ pair_of (before_first (λ byte. byte == ampersand) bytes.now)) }
+    ensures rest { IfSome result (λ cut. cut.1.now
+        ≡ after_first (λ byte. byte == ampersand) bytes.now) }
+    ensures pairs { MatchOption result (pairs bytes.now ≡ [])
+        (λ cut. pairs bytes.now ≡ pair_view cut.0 ∷ pairs cut.1.now) }
+    ensures none { MatchOption result (bytes.now ≡ []) (λ cut. length cut.1.now < length bytes.now) }
 {
-    match index_before(text.as_bytes(), AMPERSAND, text.len()) {
-        Some(end) => (pair_before(text, end), &text[end + 1..]),
-        None => (pair_before(text, text.len()), ""),
+    if bytes.is_empty() {
+        return None;
+    }
+    let (piece, rest) = split_once(bytes, AMPERSAND);
+    Some((split_once(piece, EQUALS_SIGN), rest.unwrap_or(&[])))
+}
+
+/// Returns the bytes before the first `byte`, and those after it if there is one.
+#[inline(always)]
+fn split_once(bytes: &[u8], byte: u8) -> (&[u8], Option<&[u8]>)
+    ensures { pair_view result ≡ parts_at byte bytes.now }
+{
+    match index_of(bytes, byte) {
+        Some(index) => {
+            let (before, from_byte) = bytes.split_at(index);
+            let (_, after) = from_byte.split_at(1);
+            (before, Some(after))
+        }
+        None => (bytes, None),
     }
 }
 
-/// Returns the pair that the piece up to `end` is.
+/// Returns the first pair of a text, and the text after it.
 #[inline(always)]
-fn pair_before(text: &str, end: usize) -> (&str, Option<&str>)
-    requires { IsCharBoundary text.now end }
-    ensures { pair_view result ≡ pair_of (take end text.now) }
+fn next_text_pair(text: &str) -> Option<((&str, Option<&str>), &str)>
+    ensures { MatchOption result (pairs text.now ≡ [])
+        (λ cut. pairs text.now ≡ pair_view cut.0 ∷ pairs cut.1.now) }
 {
-    match index_before(text.as_bytes(), EQUALS_SIGN, end) {
-        Some(key_end) => (&text[..key_end], Some(&text[key_end + 1..end])),
-        None => (&text[..end], None),
-    }
+    let ((key, value), rest) = next_pair(text.as_bytes())?;
+    let value = match value {
+        Some(value) => {
+            let start = key.len() + 1;
+            Some(&text[start..start + value.len()])
+        }
+        None => None,
+    };
+    Some((
+        (&text[..key.len()], value),
+        &text[text.len() - rest.len()..],
+    ))
 }

@@ -54,9 +54,7 @@ impl<'a> PeekedPairs<'a> {
             ((peeked_pairs self.old ≡ []) × (peeked_pairs self.new ≡ []))
             (λ taken. peeked_pairs self.old ≡ pair_view taken ∷ peeked_pairs self.new) }
     {
-        let Some(pair) = self.next else {
-            return None;
-        };
+        let pair = self.next?;
         self.next = self.after.next();
         Some(pair)
     }

@@ -1,8 +1,8 @@
 //! Helpers of the readers: each takes the next pair, if it is the one that has to come.
 
-ghost use Rattle.std.specs.Prelude.{◌≡◌, IfOk, map, option_map, string_bytes};
+ghost use Rattle.std.specs.Prelude.{◌≡◌, IfOk, OnErr, map, option_map, string_bytes};
 ghost use Rattle.uefi_hii.specs.Configuration.{value_at, guid_in, name_in, number_in};
-ghost use Rattle.uefi_hii.specs.private.Taking.{Takes, TakesPath, TakesAlt, Skips};
+ghost use Rattle.uefi_hii.specs.private.Taking.{Takes, IsNamed, TakesPath, TakesAlt, Skips};
 ghost use Rattle.uefi_hii.specs.Views.{nv_pair_of, pair_view, peeked_pairs};
 
 use crate::configuration::{ConfigurationString, NvPair};
@@ -22,9 +22,7 @@ pub(crate) fn take_value<'a>(pairs: &mut PeekedPairs<'a>, key: &str) -> Option<&
     ensures { Takes (value_at key.now) (peeked_pairs pairs.old)
         (option_map (λ value. value.now) result) (peeked_pairs pairs.new) }
 {
-    let Some((found, value)) = pairs.next() else {
-        return None;
-    };
+    let (found, value) = pairs.next()?;
     if found != key {
         return None;
     }
@@ -51,8 +49,9 @@ pub(crate) fn take_name<A: Allocator + Copy>(
     alloc: A,
     pairs: &mut PeekedPairs<'_>,
 ) -> Result<Option<String<A>>, AllocError>
-    ensures { IfOk result (λ taken. Takes name_in (peeked_pairs pairs.old)
+    ensures taken { IfOk result (λ taken. Takes name_in (peeked_pairs pairs.old)
         (option_map string_bytes taken) (peeked_pairs pairs.new)) }
+    ensures named { OnErr result (IsNamed (peeked_pairs pairs.old)) }
 {
     match take_value(pairs, keys::NAME) {
         Some(value) => ConfigurationString::parse_string_from_hex(alloc, value),

@@ -1,6 +1,6 @@
 //! What `config` lists of bytes, and what it refuses.
 
-ghost use Rattle.std.specs.Prelude.{◌≡◌, ◌≢◌, Err, flat_map, IfOk, OnOk};
+ghost use Rattle.std.specs.Prelude.{◌≡◌, ◌≢◌, ◌<◌, ◌^◌, Err, flat_map, length, string_bytes, IfOk, OnOk};
 ghost use Rattle.uefi_base.specs.Appending.{AppendsText};
 ghost use Rattle.uefi_hii.specs.declared.error.ParseError.TheVariants.{Memory};
 ghost use Rattle.uefi_hii.specs.Views.{configuration_of, element_of, nv_pair_of, result_of, uncut_pairs};
@@ -36,11 +36,18 @@ pub fn push_configurations<A: Allocator + Copy>(
     while let Some(item) = items.next() {
         push_item(text, &item)?;
         // Each item has a line, so the items are no more than the text's bytes.
-        let _length = text.len();
+        length_fits(text);
         count += 1;
     }
     writeln!(text, "items {count}")?;
     Ok(())
+}
+
+/// States that the length of a text fits `usize`, which a proof knows once the length is read.
+fn length_fits<A: Allocator>(text: &String<A>)
+    ensures { length (string_bytes text.now) < 2 ^ 64 }
+{
+    let _length = text.len();
 }
 
 /// Appends the lines of a configuration, or the line of the fault.

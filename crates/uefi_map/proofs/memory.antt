@@ -1,4 +1,5 @@
 pub mod Strides
+pub mod Sorted
 pub mod Fields
 pub mod Parts
 pub mod StrideFree

@@ -2,9 +2,8 @@
 use Rattle.std.proofs.Common.{◌≡◌, ℕ, ◌+◌, ◌-◌, ◌*◌, ◌<◌, ◌≤◌, List, [], ◌∷◌, ◌++◌, length, take, drop, get_or, sym}
 use Rattle.std.proofs.Common.{◌∙◌, ap, arith}
 use Rattle.std.proofs.lemmas.Grind.{common_steps}
-use Rattle.std.proofs.lemmas.List.{drop-drop, length-append, length-take-le, take-append-drop}
-use Rattle.std.specs.Int.{w16, from_le_bytes}
-use Rattle.std.proofs.Math.Seq.{drop-append_seam, take-append_seam, take-append-add}
+use Rattle.std.proofs.lemmas.List.{length-take-le}
+use Rattle.std.proofs.Math.Seq.{take-append_seam, take-append-add}
 use Rattle.uefi_path.specs.Node.{encoding, HasNode}
 use Rattle.uefi_base.specs.LittleEndian.{u16_at, u16_bytes}
 use Rattle.uefi_base.specs.Prefix.{IsPrefix}
@@ -27,6 +26,10 @@ header_prefix bytes n small enough made =
       drop-items_from 0 4 4 bytes (omega arith) enough
           ∙ ap (λ s. get_or bytes 0 0 ∷ get_or bytes 1 0 ∷ s ++ drop 4 bytes) (sym two),
     )
+
+-- The length is the number in bytes 2 and 3.
+pub two_bytes_of_length : (bytes : List ℕ) → u16_at bytes LENGTH_OFFSET ≡ get_or bytes 2 0 + get_or bytes 3 0 * 256
+two_bytes_of_length bytes = grind (arith, common_steps)
 
 -- A prefix with the length that its header states encodes a node.
 pub node_prefix : (bytes : List ℕ) (t u n : ℕ) → ((i : ℕ) → get_or bytes i 0 < 256)
@@ -72,53 +75,3 @@ stated_prefix bytes n has made =
             ∙ take-append_seam (encoding node) rest;
       },
     )
-
--- Bytes that start with a node are that node, and then the bytes after the length that they state.
-pub first_cut : (bytes : List ℕ) (n : ℕ) (has : HasNode bytes) → n ≡ u16_at bytes LENGTH_OFFSET
-    → bytes ≡ encoding has.0 ++ drop n bytes
-first_cut bytes n has made =
-    let node = has.0 in
-    let rest = has.2.0 in
-    let stated : u16_at bytes LENGTH_OFFSET ≡ header_length + length node.payload =
-    ap (λ b. u16_at b LENGTH_OFFSET) has.2.1 ∙ stated_length node has.1 in
-    let whole : n ≡ length (encoding node) = omega (arith, made, stated) in
-    let after : drop n bytes ≡ rest =
-    ap (drop n) has.2.1 ∙ ap (λ k. drop k (encoding node ++ rest)) whole ∙ drop-append_seam (encoding node) rest in
-    has.2.1 ∙ ap (λ s. encoding node ++ s) (sym after)
-
--- Bytes that start with a node state a length of at least 4, and are at least that long.
-pub states_length : (bytes : List ℕ) → HasNode bytes
-    → (4 ≤ length bytes) × (4 ≤ u16_at bytes LENGTH_OFFSET) × (u16_at bytes LENGTH_OFFSET ≤ length bytes)
-states_length bytes has =
-    let node = has.0 in
-    let rest = has.2.0 in
-    let whole : length bytes ≡ header_length + (length node.payload + length rest) =
-    omega (arith, ap length has.2.1, length-append node.payload rest) in
-    let stated : u16_at bytes LENGTH_OFFSET ≡ header_length + length node.payload =
-    ap (λ b. u16_at b LENGTH_OFFSET) has.2.1 ∙ stated_length node has.1 in
-    (omega (arith, whole), omega (arith, stated), omega (arith, stated, whole))
-
--- The length is the number in bytes 2 and 3.
-two_bytes_of_length : (bytes : List ℕ) → u16_at bytes LENGTH_OFFSET ≡ get_or bytes 2 0 + get_or bytes 3 0 * 256
-two_bytes_of_length bytes = grind (arith, common_steps)
-
--- Bytes that state such a length start with a node.
-pub has_node : (bytes : List ℕ) → ((i : ℕ) → get_or bytes i 0 < 256) → 4 ≤ length bytes
-    → 4 ≤ u16_at bytes LENGTH_OFFSET → u16_at bytes LENGTH_OFFSET ≤ length bytes → HasNode bytes
-has_node bytes small header whole_header within =
-    let n = u16_at bytes LENGTH_OFFSET in
-    let stated = two_bytes_of_length bytes in
-    let encodes = node_prefix bytes (get_or bytes 0 0) (get_or bytes 1 0) n small
-    (header_prefix bytes n small header stated) whole_header within (omega (arith, stated, small 2, small 3)) in (
-      encodes.0,
-      encodes.1.fits,
-      (drop n bytes, sym (take-append-drop n bytes) ∙ ap (λ s. s ++ drop n bytes) encodes.1.encoded),
-    )
-
--- The length that the bytes from an offset on state.
-pub stated_at : (bytes : List ℕ) (offset : ℕ)
-    → u16_at bytes (offset + LENGTH_OFFSET) ≡ u16_at (drop offset bytes) LENGTH_OFFSET
-stated_at bytes offset =
-    let two : offset + LENGTH_OFFSET + 2 - (offset + LENGTH_OFFSET) ≡ 2 = omega arith in
-    ap (from_le_bytes w16) (ap (λ n. take n (drop (offset + LENGTH_OFFSET) bytes)) two
-    ∙ ap (take 2) (sym (drop-drop LENGTH_OFFSET offset bytes)))

@@ -1,7 +1,7 @@
 -- A walk over the nodes that bytes start with.
-use Rattle.std.proofs.Common.{◌≡◌, ℕ, ◌+◌, ◌-◌, ◌≤◌, List, [], ◌∷◌, ◌++◌, length, take, drop, refl, sym, ◌∙◌, ap}
-use Rattle.std.proofs.Common.{append_assoc, arith, length-append, subst}
-use Rattle.std.proofs.lemmas.List.{length-drop, take_at}
+use Rattle.std.proofs.Common.{◌≡◌, ℕ, ◌-◌, List, [], ◌∷◌, ◌++◌, length, take, refl, sym, ◌∙◌, ap, subst, arith}
+use Rattle.std.proofs.Common.{append_assoc, length-append}
+use Rattle.std.proofs.lemmas.List.{take_at}
 use Rattle.std.specs.List.{AllByRecursion}
 use Rattle.uefi_path.specs.Node.{Node, Fits, encoding, joined, HasNode}
 use Rattle.uefi_path.specs.private.Encoding.{AreNodes}
@@ -9,8 +9,6 @@ use Rattle.uefi_path.specs.Path.{LastAlone}
 use Rattle.uefi_path.specs.private.Encoding.{HasNodes}
 use Rattle.uefi_path.specs.private.Encoding.{EncodesNodes}
 use Rattle.uefi_path.specs.private.OnePath.{joined-append}
-use Rattle.uefi_path.specs.private.Stop.{StatesLength}
-use Rattle.uefi_path.proofs.Nodes.{first_cut, states_length}
 use Rattle.uefi_path.proofs.Steps.{HasNodes-node, after_first}
 
 -- The bytes are the encoding of the nodes, none of which satisfies P, and then the rest.
@@ -76,40 +74,12 @@ passed_end P bytes rest after n before fits so e =
       },
     )
 
--- What the walk hasn't passed is no longer than the bytes.
-pub passed_within : (P : Node → Type 0) (bytes rest : List ℕ) → HasPassed P bytes rest → length rest ≤ length bytes
-passed_within P bytes rest before =
-    omega (arith, ap length before.1.split, length-append (joined before.0) rest)
-
--- The walk continues after the length that the rest states, where its node doesn't satisfy P.
-pub passed_over : (P : Node → Type 0) (bytes rest : List ℕ) (n : ℕ) (has : HasNode rest) → HasPassed P bytes rest
-    → StatesLength rest n → (P has.0 → ⊥) → HasPassed P bytes (drop n rest)
-passed_over P bytes rest n has before stated not_so =
-    passed_more P bytes rest (drop n rest) has.0 before has.1 not_so (first_cut rest n has stated)
-
--- The walk stops after that length, where its node does.
-pub passed_up_to : (P : Node → Type 0) (bytes rest : List ℕ) (n : ℕ) (has : HasNode rest) → HasPassed P bytes rest
-    → StatesLength rest n → P has.0 → EncodesNodes P (take (length bytes - length rest + n) bytes)
-passed_up_to P bytes rest n has before stated so =
-    let within = passed_within P bytes rest before in
-    let states = states_length rest has in
-    let same : length bytes - length (drop n rest) ≡ length bytes - length rest + n =
-    omega (arith, length-drop n rest, within, states.2, stated) in
-    subst (λ (k : ℕ). EncodesNodes P (take k bytes)) same
-    (passed_end P bytes rest (drop n rest) has.0 before has.1 so (first_cut rest n has stated))
-
 -- After a node that doesn't satisfy P, the bytes still start with such nodes.
 pub HasNodes-after : (P : Node → Type 0) (bytes after : List ℕ) (n : Node) → HasNodes P bytes → Fits n → (P n → ⊥)
     → bytes ≡ encoding n ++ after → HasNodes P after
 HasNodes-after P bytes after n has fits not_so e =
     let others = after_first P n has.0 after has.2.0 fits not_so has.1 (sym e ∙ has.2.1) in
     (others.0, others.1, (has.2.0, others.2))
-
--- So they do after the length that they state.
-pub HasNodes-over : (P : Node → Type 0) (bytes : List ℕ) (n : ℕ) (has : HasNode bytes) → HasNodes P bytes
-    → StatesLength bytes n → (P has.0 → ⊥) → HasNodes P (drop n bytes)
-HasNodes-over P bytes n has all stated not_so =
-    HasNodes-after P bytes (drop n bytes) has.0 all has.1 not_so (first_cut bytes n has stated)
 
 -- So they do after any number of such nodes.
 HasNodes-after_all : (P : Node → Type 0) (ns : List Node) (bytes rest : List ℕ) → AreNodes ns

@@ -2,6 +2,7 @@
 ///
 /// Numbers without a constant here are valid too.
 #[derive(Clone, Copy, PartialEq, Eq, Debug)]
+#[repr(transparent)]
 pub struct DeviceType(pub u8);
 
 impl DeviceType {
@@ -29,6 +30,7 @@ impl DeviceType {
 ///
 /// Its meaning depends on the type. Numbers without a constant here are valid too.
 #[derive(Clone, Copy, PartialEq, Eq, Debug)]
+#[repr(transparent)]
 pub struct DeviceSubType(pub u8);
 
 impl DeviceSubType {

@@ -4,6 +4,7 @@ ghost use Rattle.uefi_path.specs.Views.{header_of};
 
 use crate::device_type::{DeviceSubType, DeviceType};
 use crate::error::ByteConversionError;
+use uefi_base::little_endian::u16_at;
 
 // The offsets of a node's type, subtype and length.
 pub(crate) const DEVICE_TYPE_OFFSET: usize = 0;
@@ -25,6 +26,7 @@ pub(crate) const HEADER_LENGTH: usize = 4;
 ///
 /// The length is the one that the bytes state. It may be below 4, or beyond the end of the bytes.
 #[derive(Clone, Copy, PartialEq, Eq, Debug)]
+#[repr(C)]
 pub struct DevicePathHeader {
     device_type: DeviceType,
     sub_type: DeviceSubType,
@@ -76,13 +78,13 @@ impl<'a> TryFrom<&'a [u8]> for DevicePathHeader {
     ghost try_from_gives = { λ bytes read. ReadsHeader header_of bytes.now read };
 
     fn try_from(bytes: &'a [u8]) -> Result<DevicePathHeader, ByteConversionError> {
-        let [device_type, sub_type, low, high, ..] = bytes else {
+        if bytes.len() < HEADER_LENGTH {
             return Err(ByteConversionError::InvalidLength);
-        };
+        }
         Ok(DevicePathHeader {
-            device_type: DeviceType(*device_type),
-            sub_type: DeviceSubType(*sub_type),
-            length: u16::from_le_bytes([*low, *high]),
+            device_type: DeviceType(bytes[DEVICE_TYPE_OFFSET]),
+            sub_type: DeviceSubType(bytes[SUB_TYPE_OFFSET]),
+            length: u16_at(bytes, LENGTH_OFFSET),
         })
     }
 }

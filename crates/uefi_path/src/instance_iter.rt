@@ -5,6 +5,7 @@ ghost use Rattle.uefi_path.specs.private.OnePath.{EncodesInstances-prop};
 
 use crate::instance::DevicePathInstance;
 use crate::walk::{StopCondition, first_nodes};
+use uefi_base::buffer::length_fits;
 
 /// An iterator over the instances of a path, in order.
 ///
@@ -23,8 +24,7 @@ impl<'a> DevicePathInstanceIterator<'a> {
         ensures instances { IsEncodingOfInstances rest.now result.instances.0 }
         ensures countable { length rest.now < 2 ^ 64 }
     {
-        // The length of a slice fits `usize`, so its instances can be counted.
-        let _length = rest.len();
+        length_fits(rest);
         DevicePathInstanceIterator { rest }
     }
 }

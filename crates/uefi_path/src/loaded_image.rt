@@ -6,6 +6,7 @@ use crate::path::DevicePath;
 /// The device path of a loaded image, which says where the image was loaded from (UEFI 2.10, 9.2
 /// `EFI_LOADED_IMAGE_DEVICE_PATH_PROTOCOL`).
 #[derive(Clone, Copy)]
+#[repr(transparent)]
 pub struct LoadedImageDevicePath<'a>(DevicePath<'a>);
 
 impl<'a> LoadedImageDevicePath<'a> {

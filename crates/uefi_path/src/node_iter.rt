@@ -6,6 +6,7 @@ ghost use Rattle.uefi_path.specs.private.OnePath.{EncodesNodes-prop};
 
 use crate::node::DevicePathNode;
 use crate::walk::{StopCondition, first_node};
+use uefi_base::buffer::length_fits;
 
 /// An iterator over the nodes of a path or of an instance, in order, without the last one.
 ///
@@ -25,8 +26,7 @@ impl<'a> DevicePathNodeIterator<'a> {
         ensures nodes { IsEncodingOfNodes (Stops stop) rest.now result.nodes.0 }
         ensures countable { length rest.now < 2 ^ 64 }
     {
-        // The length of a slice fits `usize`, so its nodes can be counted.
-        let _length = rest.len();
+        length_fits(rest);
         DevicePathNodeIterator { rest, stop }
     }
 }
@@ -41,10 +41,10 @@ impl<'a> Iterator for DevicePathNodeIterator<'a> {
     ghost remaining = { item_count nodes_left };
 
     fn next(&mut self) -> Option<DevicePathNode<'a>> {
-        if self.stop.stops_at(self.rest) {
+        let (node, after) = first_node(self.rest);
+        if self.stop.stops_at(&node) {
             return None;
         }
-        let (node, after) = first_node(self.rest);
         *self = DevicePathNodeIterator::new(after, self.stop);
         Some(node)
     }

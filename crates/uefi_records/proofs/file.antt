@@ -3,7 +3,6 @@ pub mod Names
 pub mod FirstZero
 pub mod Judging
 pub mod UnitLanes
-pub mod NonzeroPages
 pub mod Prefixes
 pub mod FieldsBack
 pub mod Equality

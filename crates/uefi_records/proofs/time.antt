@@ -1,3 +1,3 @@
 -- Times and their bytes.
 pub mod ReadBack
-pub mod Lanes
+pub mod Ranges

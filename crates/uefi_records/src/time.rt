@@ -5,18 +5,15 @@ ghost use Rattle.uefi_records.specs.time.Fields.{Fits, StandsIn, time_bytes, tim
 ghost use Rattle.uefi_records.specs.time.Faults.{IsValid, range_faults, is_zone_outside};
 ghost use Rattle.uefi_records.specs.time.Views.{time_of, fields_of, bytes_of_time};
 ghost use Rattle.uefi_records.specs.flags.Views.{daylight_bits};
-ghost use Rattle.uefi_records.specs.private.time.Within.{are_numbers_within};
 ghost use Rattle.uefi_records.specs.time.Reading.{ReadsTime};
 
 pub use self::error::{TimeByteConversionError, TimeError};
 pub use self::params::TimeParams;
-use self::ranges::are_bytes_within;
 use crate::flags::Daylight;
 use uefi_base::little_endian::{u16_at, u32_at};
 
 mod error;
 mod params;
-mod ranges;
 
 /// The length of a time, in bytes.
 const TIME_LENGTH: usize = 16;
@@ -44,18 +41,8 @@ const DAYLIGHT_OFFSET: usize = 14;
 
 const LAST_PAD_OFFSET: usize = 15;
 
-// The first and the last year of the range, and the last nanosecond of a second.
-const FIRST_YEAR: u16 = 1900;
-
-const LAST_YEAR: u16 = 9999;
-
-const LAST_NANOSECOND: u32 = 999_999_999;
-
 /// The zone of local time, `EFI_UNSPECIFIED_TIMEZONE`.
 const UNSPECIFIED_TIMEZONE: i16 = 0x07ff;
-
-/// The most minutes that a zone is from UTC: those of a day.
-const LARGEST_TIMEZONE: i16 = 1440;
 
 /// A date and a time of day (UEFI 2.10, 8.3 `GetTime()`, `EFI_TIME`).
 ///
@@ -74,7 +61,8 @@ const LARGEST_TIMEZONE: i16 = 1440;
 /// | 15 | 1 | padding | |
 ///
 /// A value, whose fields may be outside their ranges: [`Time::is_valid`] says which are. Two times
-/// are equal if all their sixteen bytes are.
+/// are equal if all their sixteen bytes are. The fields lie in memory as in the table: the layout is
+/// that of C.
 ///
 /// # Examples
 ///
@@ -87,6 +75,7 @@ const LARGEST_TIMEZONE: i16 = 1440;
 /// }
 /// ```
 #[derive(Clone, Copy, Debug)]
+#[repr(C)]
 pub struct Time {
     year: u16,
     month: u8,
@@ -100,6 +89,8 @@ pub struct Time {
     daylight: Daylight,
     last_pad: u8,
 }
+
+const _: () = prove!(size_of::<Time>() == TIME_LENGTH);
 
 impl Time {
     /// Makes the time with these fields, and zeros in its padding. A zone of `None` is stored as
@@ -126,10 +117,8 @@ impl Time {
             daylight: params.daylight,
             last_pad: 0,
         };
-        match time.is_valid() {
-            Ok(()) => Ok(time),
-            Err(faults) => Err(faults),
-        }
+        time.is_valid()?;
+        Ok(time)
     }
 
     /// Returns the time whose bytes are all zero. To firmware it means that a file's time is not to
@@ -170,27 +159,18 @@ impl Time {
         }
     }
 
-    /// Returns whether year, nanosecond and zone are within their ranges.
-    fn are_numbers_within(&self) -> bool
-        ensures { result ≡ are_numbers_within (time_of self.now) }
-    {
-        !(self.year < FIRST_YEAR || self.year > LAST_YEAR)
-            && !(self.nanosecond > LAST_NANOSECOND)
-            && !is_zone_outside(self.zone)
-    }
-
     /// Returns the fields outside their ranges. Daylight is never at fault here.
     fn range_faults(&self) -> TimeError
         ensures { result ≡ range_faults (time_of self.now) }
     {
         TimeError {
-            year: self.year < FIRST_YEAR || self.year > LAST_YEAR,
-            month: self.month < 1 || self.month > 12,
-            day: self.day < 1 || self.day > 31,
-            hour: self.hour > 23,
-            minute: self.minute > 59,
-            second: self.second > 59,
-            nanosecond: self.nanosecond > LAST_NANOSECOND,
+            year: !(1900..=9999).contains(&self.year),
+            month: !(1..=12).contains(&self.month),
+            day: !(1..=31).contains(&self.day),
+            hour: !(0..=23).contains(&self.hour),
+            minute: !(0..=59).contains(&self.minute),
+            second: !(0..=59).contains(&self.second),
+            nanosecond: !(0..=999_999_999).contains(&self.nanosecond),
             timezone: is_zone_outside(self.zone),
             daylight: false,
         }
@@ -330,7 +310,7 @@ impl Time {
 fn is_zone_outside(zone: i16) -> bool
     ensures { result ≡ is_zone_outside zone }
 {
-    zone != UNSPECIFIED_TIMEZONE && (zone < -LARGEST_TIMEZONE || zone > LARGEST_TIMEZONE)
+    zone != UNSPECIFIED_TIMEZONE && !(-1440..=1440).contains(&zone)
 }
 
 /// Reads the time in the first sixteen bytes. What follows is ignored, and the padding becomes
@@ -354,17 +334,16 @@ impl TryFrom<&[u8]> for Time {
             return Err(TimeByteConversionError::InvalidSize);
         }
         let time = Time::read(bytes);
-        if time.are_numbers_within() && are_bytes_within(bytes) {
-            return Ok(time.without_pads());
-        }
         if Daylight::from_bits(time.daylight.bits()).is_none() {
             return Err(TimeByteConversionError::InvalidFields(TimeError {
                 daylight: true,
                 ..TimeError::default()
             }));
         }
-        let faults = time.range_faults();
-        Err(TimeByteConversionError::InvalidFields(faults))
+        match time.is_valid() {
+            Ok(()) => Ok(time.without_pads()),
+            Err(faults) => Err(TimeByteConversionError::InvalidFields(faults)),
+        }
     }
 }
 

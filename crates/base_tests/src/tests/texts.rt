@@ -11,16 +11,18 @@ fn check_text(alloc: Global, units: &[u16], count: usize, expected: &str) -> Res
     let characters = text.to_string(alloc)?;
     let found = (
         text.num_chars(),
+        text.is_empty(),
         text.as_u16_with_nul(),
         characters.as_str(),
     );
-    same(expected, &found, &(count, units, expected))
+    same(expected, &found, &(count, count == 0, units, expected))
 }
 
 #[test]
 fn a_text_has_its_characters(rt: HostRuntime) -> Result<(), Fail> {
-    const ROWS: [(&[u16], usize, &str); 2] = [
+    const ROWS: [(&[u16], usize, &str); 3] = [
         (&[0x61, 0x62, 0], 2, "ab"),
+        (&[0], 0, ""),
         // The units on both sides of the surrogates.
         (&[0xd7ff, 0xe000, 0xffff, 0], 3, "\u{d7ff}\u{e000}\u{ffff}"),
     ];

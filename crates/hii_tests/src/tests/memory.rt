@@ -4,7 +4,7 @@ use crate::tests::samples::{
 };
 use std::alloc::{AllocError, Allocator, Global};
 use std::test::Fail;
-use test_support::{Refusing, holds, same_text, takes_memory, without_request};
+use test_support::{Refusing, holds, in_turn, same, same_text, takes_memory, without_request};
 use uefi_hii::{ConfigurationString, MultiConfigurationStringIter, ParseError, parse_all};
 
 /// Returns whether the name in hex is the driver's, or `None` if memory ran out.
@@ -148,6 +148,90 @@ fn a_wrong_guid_is_an_error_though_memory_is_refused(rt: HostRuntime) -> Result<
         without_request(alloc, &line, |heap| first_line(heap, alloc, text))?;
     }
     without_request(alloc, &line, |heap| first_line(heap, alloc, ""))
+}
+
+/// The pair that every configuration begins with.
+const GUID_PAIR: &str = "GUID=16d6474bd6a852459d44ccad2e0f4cf9";
+
+/// Pairs that are read, a pair after them that is missing or wrong for a slot whose value needs no
+/// memory, and its error.
+const WRONG_SLOTS: [(&str, &str, &str); 14] = [
+    (GUID_PAIR, "&NAMES=0041", "ConfigHdr(Name)\n"),
+    (GUID_PAIR, "&PATH=7fff0400", "ConfigHdr(Name)\n"),
+    ("@", "&ALTCFG=112233", "ConfigHdr(DescHdr)\n"),
+    ("@", "&ALTCFG", "ConfigHdr(DescHdr)\n"),
+    ("@", "&WIDTH=01", "BlockName\n"),
+    ("@", "&OFFSET=112233", "BlockName\n"),
+    ("@&ALTCFG=0001", "&OFFSET", "BlockName\n"),
+    ("@&OFFSET=00", "&WIDTH=112233", "BlockName\n"),
+    ("@&OFFSET=00", "&VALUE=00", "BlockName\n"),
+    ("@&OFFSET=00&WIDTH=01", "&VALUE", "BlockConfig\n"),
+    ("@&OFFSET=00&WIDTH=01", "&x=1", "BlockConfig\n"),
+    // After an element, and after the pairs that it keeps.
+    (
+        "@&OFFSET=00&WIDTH=01&VALUE=1122",
+        "&OFFSET=112233",
+        "BlockName\n",
+    ),
+    (
+        "@&OFFSET=00&WIDTH=01&VALUE=1122&x=1&y",
+        "&OFFSET=00&WIDTH=112233",
+        "BlockName\n",
+    ),
+    (
+        "#&OFFSET=00&WIDTH=01&VALUE=1122&OFFSET=02&WIDTH=01&VALUE=33",
+        "&OFFSET=04&WIDTH=01&VALUE",
+        "BlockConfig\n",
+    ),
+];
+
+/// Returns how many requests are granted, and none refused, where the first item of the text is
+/// read.
+fn requests_of(alloc: Global, text: &str) -> Result<u64, Fail> {
+    let line = first_line(alloc, alloc, text).ok_or("memory")?;
+    in_turn(alloc, &line, |heap| first_line(heap, alloc, text))
+}
+
+/// Checks that the error of a row is the first item, where the requests of the pairs before it are
+/// granted and every later one is refused.
+fn check_wrong_slot(alloc: Global, row: &(&str, &str, &str)) -> Result<(), Fail> {
+    let &(before, wrong, error) = row;
+    let before = text_of(alloc, before)?;
+    let granted = requests_of(alloc, before.as_str())?;
+    let text = format!(in alloc; "{}{wrong}", before.as_str())?;
+    let error = Some(String::from_str(alloc, error)?);
+    let heap = Refusing::after(alloc, granted);
+    same(wrong, &first_line(&heap, alloc, text.as_str()), &error)?;
+    holds("no request of from_str is refused", heap.is_waiting())?;
+    let heap = Refusing::after(alloc, granted);
+    same(wrong, &iterated_line(&heap, alloc, text.as_str()), &error)?;
+    holds("no request of the iterator is refused", heap.is_waiting())
+}
+
+#[test]
+fn an_error_comes_before_the_requests_of_later_pairs(rt: HostRuntime) -> Result<(), Fail> {
+    for row in &WRONG_SLOTS {
+        check_wrong_slot(rt.alloc(), row)?;
+    }
+    Ok(())
+}
+
+#[test]
+fn a_wrong_key_for_the_name_is_an_error_though_memory_is_refused(
+    rt: HostRuntime,
+) -> Result<(), Fail> {
+    let alloc = rt.alloc();
+    let line = Some(String::from_str(alloc, "ConfigHdr(Name)\n")?);
+    for wrong in ["&NAMES=0041", "&name=0041", "&PATH=7fff0400", "&NAME", "&"] {
+        let text = format!(in alloc; "{GUID_PAIR}{wrong}&PATH=7fff0400")?;
+        without_request(
+            alloc,
+            &line,
+            |heap| iterated_line(heap, alloc, text.as_str()),
+        )?;
+        without_request(alloc, &line, |heap| first_line(heap, alloc, text.as_str()))?;
+    }
+    Ok(())
 }
 
 /// Checks that an iterator over the text is made without a request for memory.

@@ -2,7 +2,7 @@ use std::alloc::Global;
 use std::test::Fail;
 use test_support::{each_gives, holds, same, same_bytes};
 use uefi_base::Guid;
-use uefi_hii::{ConfigurationString, ConfigurationStringIter, keys};
+use uefi_hii::{ConfigurationString, ConfigurationStringIter, keys, next_pair};
 
 #[test]
 fn hex_is_a_number(_rt: HostRuntime) -> Result<(), Fail> {
@@ -121,6 +121,54 @@ fn a_text_has_pairs(rt: HostRuntime) -> Result<(), Fail> {
         same(row, &found.as_str(), &expected)?;
     }
     Ok(())
+}
+
+/// Texts, and their first pair: its key, its value, and the text that is left.
+const FIRST_PAIRS: [(&str, &str, Option<&str>, &str); 8] = [
+    ("a=1=2&&b&", "a", Some("1=2"), "&b&"),
+    ("&b", "", None, "b"),
+    ("a&", "a", None, ""),
+    ("=", "", Some(""), ""),
+    ("a&b=1", "a", None, "b=1"),
+    // Sixteen bytes before the first of the signs, and more.
+    ("0123456789abcdef=0&1", "0123456789abcdef", Some("0"), "1"),
+    (
+        "OFFSET=0123456789&WIDTH=01",
+        "OFFSET",
+        Some("0123456789"),
+        "WIDTH=01",
+    ),
+    (
+        "0123456789abcdef0123456789abcdef01&b",
+        "0123456789abcdef0123456789abcdef01",
+        None,
+        "b",
+    ),
+];
+
+/// Checks the first pair of the bytes, and those that are left.
+fn check_first_pair(
+    bytes: &[u8],
+    key: &[u8],
+    value: Option<&[u8]>,
+    rest: &[u8],
+) -> Result<(), Fail> {
+    same(
+        "the first pair",
+        &next_pair(bytes),
+        &Some(((key, value), rest)),
+    )
+}
+
+#[test]
+fn a_pair_is_cut_off_bytes(_rt: HostRuntime) -> Result<(), Fail> {
+    for &(text, key, value, rest) in &FIRST_PAIRS {
+        let value = value.map(|value| value.as_bytes());
+        check_first_pair(text.as_bytes(), key.as_bytes(), value, rest.as_bytes())?;
+    }
+    // The bytes needn't be text.
+    check_first_pair(b"\xff=\x80&\xc3", b"\xff", Some(b"\x80"), b"\xc3")?;
+    holds("no bytes", next_pair(b"").is_none())
 }
 
 #[test]

@@ -182,9 +182,7 @@ fn a_list_cut_anywhere_is_refused(rt: HostRuntime) -> Result<(), Fail> {
 
 /// Returns the bytes of [`ROOT_BRIDGE`] with a tag at an offset.
 fn with_tag(alloc: Global, offset: usize, tag: u8) -> Option<Vec<u8>> {
-    let Ok(mut list) = bytes(alloc, ROOT_BRIDGE) else {
-        return None;
-    };
+    let mut list = bytes(alloc, ROOT_BRIDGE).ok()?;
     *list.get_mut(offset)? = tag;
     Some(list)
 }
@@ -231,7 +229,31 @@ fn a_number_names_a_range_type() -> Result<(), Fail> {
         (3, ResourceRangeType::Unknown(3)),
         (255, ResourceRangeType::Unknown(255)),
     ];
-    each_gives(&ROWS, |number| ResourceRangeType::from(*number))
+    each_gives(&ROWS, |number| ResourceRangeType::from(*number))?;
+    for &(number, kind) in &ROWS {
+        same("the number of a type", &kind.number(), &number)?;
+    }
+    Ok(())
+}
+
+/// Returns the resource of the record that the bytes begin with, and how many bytes follow it.
+fn first_record(input: &[u8]) -> Result<Option<(Range, usize)>, ResourceError> {
+    let read = QwordAddressSpaceDescriptor::read(input)?;
+    Ok(read.map(|(resource, after)| (range_of(&resource), after.len())))
+}
+
+#[test]
+fn one_record_is_read(rt: HostRuntime) -> Result<(), Fail> {
+    let rows = [
+        (ROOT_BRIDGE, Ok(RANGES[0].map(|range| (range, 140)))),
+        ("79", Ok(None)),
+        ("79 12 34", Ok(None)),
+        ("", Err(ResourceError::NoEndTag)),
+        ("8a", Err(ResourceError::CutRecord)),
+        ("8a 2b00 01", Err(ResourceError::CutRecord)),
+        ("12", Err(ResourceError::UnknownTag(0x12))),
+    ];
+    each_reads(rt.alloc(), &rows, first_record)
 }
 
 #[test]

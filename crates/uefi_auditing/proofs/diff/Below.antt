@@ -1,4 +1,4 @@
--- The lines of registers, one after another.
+-- The lines of PCRs, one after another.
 use Rattle.std.proofs.Common.{◌∙◌, ℕ, ◌+◌, [], ◌++◌, add-one, ap, sym, refl, append_assoc, append-nil}
 use Rattle.std.proofs.Common.{string_bytes, subst}
 use Rattle.std.specs.Prelude.{Bool, true, ◌&&◌}

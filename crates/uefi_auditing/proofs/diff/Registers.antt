@@ -1,9 +1,9 @@
--- The events of a register, and where two lists of them differ first.
-use Rattle.std.proofs.Common.{◌≡◌, ◌∙◌, ℕ, suc, ◌+◌, ◌<◌, max, List, [], ◌∷◌, ◌++◌, length, map, ap, ap₂, sym}
-use Rattle.std.proofs.Common.{◌≤◌, get_or, append_assoc, arith, cond, inl, inr, refl, subst}
-use Rattle.std.specs.Prelude.{true, false, Option, None, Some, IfSome, is_some, nat_lt, option_map, slice_get}
+-- The events of a PCR, and where two lists of them differ first.
+use Rattle.std.proofs.Common.{◌≡◌, ◌∙◌, ℕ, suc, zero, ◌+◌, ◌<◌, max, List, [], ◌∷◌, length, map, ap, ap₂, sym}
+use Rattle.std.proofs.Common.{get_or, arith, inl, inr, refl, subst}
+use Rattle.std.specs.Prelude.{◌↔◌, Bool, MatchBool, true, false, Option, None, Some, IfSome, is_some, nat_lt, option_map, slice_get}
 use Rattle.std.specs.Borrow.{Bor}
-use Rattle.std.specs.List.{filter}
+use Rattle.std.specs.List.{AllWithin, HoldsAt, filter}
 use Rattle.std.proofs.lemmas.Bool.{cases_lt, ltb-false, ltb-true}
 use Rattle.std.proofs.lemmas.Option.{slice_get-map, slice_get_past, slice_get_read}
 use Rattle.pcr_replay.specs.Entries.{Entry}
@@ -15,29 +15,6 @@ use Rattle.uefi_auditing.specs.declared.diff.register.NumberedEntry.{NumberedEnt
 
 abbrev pub those_of : ℕ → ℕ → List Entry → List Numbered
 those_of register index entries = filter (λ found. is_of register found.entry) (numbered index entries)
-
--- One more entry is of the register, or isn't.
-pub taken : (register index : ℕ) (entry : Entry) (left rest : List Entry) (all found next : List Numbered)
-    → left ≡ entry ∷ rest → is_of register entry ≡ true
-    → next ≡ found ++ record { index = index; entry = entry } ∷ []
-    → found ++ those_of register index left ≡ all → next ++ those_of register (index + 1) rest ≡ all
-taken register index entry left rest all found next is test more before =
-    let now : Numbered = record { index = index; entry = entry } in
-    let others : List Numbered = those_of register (index + 1) rest in
-    let step : those_of register index left ≡ now ∷ others =
-    ap (those_of register index) is ∙ ap (λ t. cond t (now ∷ others) others) test in
-    ap (λ (f : List Numbered). f ++ others) more ∙ append_assoc found (now ∷ []) others
-    ∙ ap (λ (t : List Numbered). found ++ t) (sym step) ∙ before
-
-pub passed : (register index : ℕ) (entry : Entry) (left rest : List Entry) (all found : List Numbered)
-    → left ≡ entry ∷ rest → is_of register entry ≡ false
-    → found ++ those_of register index left ≡ all → found ++ those_of register (index + 1) rest ≡ all
-passed register index entry left rest all found is test before =
-    let now : Numbered = record { index = index; entry = entry } in
-    let others : List Numbered = those_of register (index + 1) rest in
-    let step : those_of register index left ≡ others =
-    ap (those_of register index) is ∙ ap (λ t. cond t (now ∷ others) others) test in
-    ap (λ (t : List Numbered). found ++ t) (sym step) ∙ before
 
 -- What holds below a number and at it holds below the next one.
 pub below_more : (P : ℕ → Type 0) (n : ℕ) → ((k : ℕ) → k < n → P k) → P n → (k : ℕ) → k < n + 1 → P k
@@ -93,30 +70,30 @@ entry_got all at got is =
     sym (map_twice numbered_of (λ found. found.now) got) ∙ ap (option_map numbered_of) is
     ∙ sym (slice_get-map numbered_of all at)
 
--- The event of an item of a slice, and of none past its end.
-pub event_of_item : (all : List NumberedEntry) (at : ℕ) (item : NumberedEntry) → at < length all
-    → item ≡ get_or all at item → event_at (map numbered_of all) at ≡ Some (event_of item.entry.event)
-event_of_item all at item within is =
-    sym (event_there all at) ∙ ap (option_map (λ (found : NumberedEntry). event_of found.entry.event))
-    (slice_get_read all (length all) at item refl within is)
+-- The event at the place of an item of a slice that has it.
+found_at : (all : List NumberedEntry) (event : Event) (at : ℕ) → at < length all
+    → HoldsAt (λ other. event ≡ event_of other.entry.event) all at → event_at (map numbered_of all) at ≡ Some event
+found_at [] event at within holds = absurd (omega (arith, within))
+found_at (a ∷ more) event zero within holds = ap Some (sym (holds a))
+found_at (a ∷ more) event (suc at) within holds = found_at more event at (omega (arith, within)) (λ d. holds d)
 
--- An event that isn't the same as an item's isn't at its place.
-pub not_there : (all : List NumberedEntry) (at : ℕ) (item : NumberedEntry) (event : Event) → at < length all
-    → item ≡ get_or all at item → (event ≡ event_of item.entry.event → ⊥)
-    → event_at (map numbered_of all) at ≡ Some event → ⊥
-not_there all at item event within is other there =
-    let same : Some (event_of item.entry.event) ≡ Some event = sym (event_of_item all at item within is) ∙ there in
-    other (let alike : event_of item.entry.event ≡ event = cc in sym alike)
+-- An event that is no item's is at no place.
+at_none : (all : List NumberedEntry) (event : Event)
+    → AllWithin (λ other. event ≡ event_of other.entry.event → ⊥) all 0 (length all)
+    → (at : ℕ) → event_at (map numbered_of all) at ≡ Some event → ⊥
+at_none [] event none at there = cc
+at_none (a ∷ more) event none zero there =
+    none 0 a (omega arith) (omega arith) (let same : event_of a.entry.event ≡ event = cc in sym same)
+at_none (a ∷ more) event none (suc at) there =
+    at_none more event (λ k d low within. none (suc k) d (omega arith) (omega (arith, within))) at there
 
--- An event that is at no place before the end is none of them.
-pub not_among : (all : List NumberedEntry) (index : ℕ) (event : Event) → length all ≤ index
-    → ((k : ℕ) → k < index → event_at (map numbered_of all) k ≡ Some event → ⊥)
-    → IsAmong event (map numbered_of all) → ⊥
-not_among all index event ended none among =
-    elim (cases_lt among.0 (length all)) [
-      | inl within ↦ none among.0 (omega arith) among.1
-      | inr past ↦
-          let nothing : event_at (map numbered_of all) among.0 ≡ None = sym (event_there all among.0)
-          ∙ ap (option_map (λ (found : NumberedEntry). event_of found.entry.event)) (slice_get_past all among.0 past) in
-          let both : None ≡ Some event = sym nothing ∙ among.1 in cc
-    ]
+-- An event is among those of a slice exactly if it is an item's.
+pub among_if_found : (all : List NumberedEntry) (event : Event) (found : Bool)
+    → MatchBool found
+    ((k : ℕ) × (k < length all) × HoldsAt (λ other. event ≡ event_of other.entry.event) all k)
+    (AllWithin (λ other. event ≡ event_of other.entry.event → ⊥) all 0 (length all))
+    → (found ≡ true) ↔ IsAmong event (map numbered_of all)
+among_if_found all event true item =
+    ((λ so. (item.0, found_at all event item.0 item.1 item.2)), (λ among. refl))
+among_if_found all event false none =
+    ((λ so. cc), (λ among. absurd (at_none all event none among.0 among.1)))

@@ -1,4 +1,4 @@
--- What is appended of a register.
+-- What is appended of a PCR.
 use Rattle.std.proofs.Common.{◌∙◌, ◌≡◌, ℕ, List, [], ◌++◌, append_assoc, append-nil, ap, sym, refl, subst, inl, inr}
 use Rattle.std.proofs.Common.{string_bytes}
 use Rattle.std.specs.Prelude.{Bool, true, false, slice_get}

@@ -11,7 +11,8 @@ use Rattle.uefi_auditing.specs.content.Content.{Content, unread, text, separator
 use Rattle.uefi_auditing.specs.json.Content.{content_json, image_json, node_json, path_json, variable_json}
 use Rattle.uefi_auditing.specs.json.Event.{algorithm_json, digest_json, event_json, hashed_banks, hashed_bank}
 use Rattle.uefi_auditing.specs.json.Event.{name_or_number, named_number, type_json}
-use Rattle.uefi_auditing.specs.json.Names.{algorithm_name, bank_name, type_name}
+use Rattle.uefi_auditing.specs.json.Names.{algorithm_name, type_name}
+use Rattle.uefi_auditing.specs.text.Banks.{bank_name}
 use Rattle.pcr_replay.specs.Measured.{is_hash_of_data}
 use Rattle.pcr_replay.specs.declared.bank.Bank.{Bank}
 use Rattle.pcr_replay.specs.declared.bank.Bank.TheVariants.{Sha1, Sha256, Sha384, Sha512}

@@ -1,5 +1,5 @@
 -- No number of a log's JSON is a float.
-use Rattle.std.proofs.Common.{◌≡◌, ℕ, List, [], ◌∷◌, map, refl, Bool, false, true, ◌==◌, cond, Option, Some, None}
+use Rattle.std.proofs.Common.{◌≡◌, ℕ, List, [], ◌∷◌, map, refl, Bool, false, true, ◌==◌, cond, Some, None}
 use Rattle.std.specs.Prelude.{Ok, Err, codes}
 use Rattle.serde_json.specs.Data.{Data, null, number, unsigned, object, member, no_members}
 use Rattle.serde_json.specs.View.{items_of}

@@ -1,10 +1,10 @@
--- The lines of registers, one after another.
+-- The lines of PCRs, one after another.
 use Rattle.std.proofs.Common.{◌≡◌, ◌∙◌, ℕ, suc, ◌+◌, ◌<◌, ◌≤◌, List, [], ◌∷◌, ◌++◌, length, drop, drop-cons, get_or}
 use Rattle.std.proofs.Common.{ap, sym, append_assoc, append-nil, arith}
 use Rattle.std.proofs.Math.ListN.{drop_of_length-le}
 use Rattle.uefi_auditing.specs.text.Registers.{register_line, register_lines}
 
--- The line of the next register, and those that follow.
+-- The line of the next PCR, and those that follow.
 pub next_line : (values : List (List ℕ)) (number : ℕ) (value : List ℕ) → number < length values
     → get_or values number [] ≡ value
     → register_lines number (drop number values) ≡ register_line number value

@@ -2,17 +2,12 @@
 use Rattle.std.proofs.Common.{◌≡◌, ◌∙◌, ℕ, ◌+◌, ◌-◌, ◌<◌, List, [], ◌∷◌, ◌++◌, length, get_or, map, subst}
 use Rattle.std.proofs.Common.{take, ap, ap₂, sym, refl, append_assoc, append-nil, string_bytes}
 use Rattle.std.proofs.Common.{inl, inr}
-use Rattle.std.specs.Prelude.{Bool, true, false, ◌&&◌, IfSome, Option, Some, None, Ok, Err}
-use Rattle.std.specs.Option.{option_map}
+use Rattle.std.specs.Prelude.{Bool, true, false, ◌&&◌, Option, Some, None, Ok, Err}
 use Rattle.std.proofs.lemmas.Grind.{flat_map-append}
 use Rattle.std.proofs.lemmas.List.{map_more}
 use Rattle.std.proofs.lemmas.List.Folds.{list_all-append}
 use Rattle.uefi_tcg.specs.declared.algorithm_id.AlgorithmId.{AlgorithmId}
 use Rattle.std.specs.declared.string.String.{String}
-use Rattle.uefi_tcg.specs.declared.v2.header.EventLogHeader.{EventLogHeader}
-use Rattle.uefi_tcg.specs.v2.Header.{Header}
-use Rattle.uefi_tcg.specs.v2.Log.{HasHeaderOf}
-use Rattle.uefi_tcg.specs.v2.Views.{header_of}
 use Rattle.pcr_replay.specs.Entries.{Entry}
 use Rattle.uefi_auditing.specs.declared.text.LogFile.{LogFile}
 use Rattle.pcr_replay.specs.declared.bank.Bank.{Bank}
@@ -21,20 +16,11 @@ use Rattle.pcr_replay.specs.Replay.{replayed}
 use Rattle.uefi_auditing.specs.text.Banks.{bank_of}
 use Rattle.uefi_auditing.specs.text.Registers.{bank_lines}
 use Rattle.uefi_auditing.specs.text.Replay.{algorithm_lines, is_replayed, other_bank_line, replayed_lines, unreplayable_line}
-use Rattle.uefi_auditing.specs.text.Replay.{IsHeaderOf, ShowsBanks}
+use Rattle.uefi_auditing.specs.text.Replay.{ShowsBanks}
 use Rattle.uefi_base.specs.Appending.{AppendsText}
 use Rattle.uefi_auditing.specs.text.Replay.{left_over_line, AppendsReplay, IsReplay}
 use Rattle.uefi_auditing.specs.private.text.Appending.{AppendsAsked, AppendsBanks}
 use Rattle.uefi_auditing.proofs.text.LeftOver.{ended_at, Leaves}
-
--- Of no algorithm nothing is appended.
-pub no_banks : {A : Type 0} (file : LogFile) (text : String A) → AppendsBanks file [] text text true
-no_banks file text = λ contents is. (
-  [],
-  record { lines = refl; all_known = refl },
-  sym
-      (append-nil (string_bytes text)),
-)
 
 -- The bank of one more algorithm follows those before it.
 pub banks_more : {A : Type 0} (file : LogFile) (algorithms : List ℕ) (algorithm : ℕ) (old now next : String A)
@@ -65,15 +51,7 @@ banks_upto file all index item old now next well more within before step =
     subst (λ algorithms. AppendsBanks file algorithms old next (well && more)) (sym (map_more f all index item within))
     (banks_more file (map f (take index all)) (f (get_or all index item)) old now next well more before step)
 
--- The header that a reader found, if it found one, is that of the log.
-pub header_found : (bytes : List ℕ) (last_entry : Option ℕ) (found : Option EventLogHeader)
-    → IfSome found (λ header. HasHeaderOf (Some bytes) last_entry (header_of header))
-    → ((header : Header) → HasHeaderOf (Some bytes) last_entry header → option_map header_of found ≡ Some header)
-    → IsHeaderOf bytes last_entry (option_map header_of found)
-header_found bytes last_entry None is_header only = λ header has. let same = only header has in cc
-header_found bytes last_entry (Some header) is_header only = is_header
-
--- What is appended of one algorithm: the line of another bank, a bank's registers, or the line of an event.
+-- What is appended of one algorithm: the line of another bank, a bank's PCRs, or the line of an event.
 pub shown_other : (name : List ℕ) (entries : List Entry) (algorithm : ℕ) → bank_of algorithm ≡ None
     → ShowsBanks name entries (algorithm ∷ []) (other_bank_line name algorithm) false
 unfolding algorithm_lines is_replayed

@@ -1,11 +1,10 @@
 -- The localities at which a TPM can have been started.
-use Rattle.std.proofs.Common.{◌≡◌, ◌∙◌, ℕ, ◌+◌, ◌<◌, ◌≤◌, List, length, get_or, take, inl, inr, refl, sym, subst}
-use Rattle.std.proofs.Common.{arith, ap}
-use Rattle.std.specs.Prelude.{Bool, true, false, not, None, Some}
-use Rattle.std.proofs.lemmas.List.Sums.{count_by_more_no, count_by_more_yes}
+use Rattle.std.proofs.Common.{◌≡◌, ℕ, ◌<◌, ◌≤◌, List, inl, inr, refl, sym, subst}
+use Rattle.std.proofs.Common.{arith}
+use Rattle.std.specs.Prelude.{None, Some}
 use Rattle.pcr_replay.specs.Entries.{Entry}
-use Rattle.uefi_auditing.specs.declared.verify.reading.HeldRegister.{HeldRegister}
-use Rattle.uefi_auditing.specs.verify.Agreement.{AgreeAt, AreBegunAt, IsNearest, IsPossible, agrees, differing}
+use Rattle.uefi_auditing.specs.declared.verify.reading.HeldPcr.{HeldPcr}
+use Rattle.uefi_auditing.specs.verify.Agreement.{AgreeAt, AreBegunAt, IsNearest, IsPossible, differing}
 
 -- What holds of 0, 3 and 4 holds of each that is possible, where none is stated.
 pub of_three : (P : ℕ → Type 0) → P 0 → P 3 → P 4 → (locality : ℕ) → IsPossible None locality → P locality
@@ -19,7 +18,7 @@ of_three P zero three four locality possible =
     ]
 
 -- They agree at the one that is stated.
-pub begun_at_stated : (entries : List Entry) (held : List HeldRegister) (stated : ℕ) → AgreeAt entries stated held
+pub begun_at_stated : (entries : List Entry) (held : List HeldPcr) (stated : ℕ) → AgreeAt entries stated held
     → AreBegunAt entries (Some stated) held stated
 begun_at_stated entries held stated agree = record {
   possible = refl;
@@ -28,7 +27,7 @@ begun_at_stated entries held stated agree = record {
 }
 
 -- Or at 0; at 3, if not at 0; at 4, if at neither.
-pub begun_at_0 : (entries : List Entry) (held : List HeldRegister) → AgreeAt entries 0 held
+pub begun_at_0 : (entries : List Entry) (held : List HeldPcr) → AgreeAt entries 0 held
     → AreBegunAt entries None held 0
 begun_at_0 entries held agree = record {
   possible = inl refl;
@@ -36,7 +35,7 @@ begun_at_0 entries held agree = record {
   lowest = λ other is below so. absurd (omega arith);
 }
 
-pub begun_at_3 : (entries : List Entry) (held : List HeldRegister) → (AgreeAt entries 0 held → ⊥)
+pub begun_at_3 : (entries : List Entry) (held : List HeldPcr) → (AgreeAt entries 0 held → ⊥)
     → AgreeAt entries 3 held → AreBegunAt entries None held 3
 begun_at_3 entries held not_0 agree = record {
   possible = inr (inl refl);
@@ -45,7 +44,7 @@ begun_at_3 entries held not_0 agree = record {
       (λ below so. absurd (omega arith));
 }
 
-pub begun_at_4 : (entries : List Entry) (held : List HeldRegister) → (AgreeAt entries 0 held → ⊥)
+pub begun_at_4 : (entries : List Entry) (held : List HeldPcr) → (AgreeAt entries 0 held → ⊥)
     → (AgreeAt entries 3 held → ⊥) → AgreeAt entries 4 held → AreBegunAt entries None held 4
 begun_at_4 entries held not_0 not_3 agree = record {
   possible = inr (inr refl);
@@ -55,7 +54,7 @@ begun_at_4 entries held not_0 not_3 agree = record {
 }
 
 -- Or it is the first of 0, 3 and 4 at which the fewest differ.
-pub nearest_is_0 : (entries : List Entry) (held : List HeldRegister) (at_0 at_3 at_4 : ℕ)
+pub nearest_is_0 : (entries : List Entry) (held : List HeldPcr) (at_0 at_3 at_4 : ℕ)
     → at_0 ≡ differing entries 0 held → at_3 ≡ differing entries 3 held → at_4 ≡ differing entries 4 held
     → at_0 ≤ at_3 → at_0 ≤ at_4 → IsNearest entries None held 0
 nearest_is_0 entries held at_0 at_3 at_4 z t f below_three below_four =
@@ -66,7 +65,7 @@ nearest_is_0 entries held at_0 at_3 at_4 z t f below_three below_four =
       lowest = λ other is below. absurd (omega arith);
     }
 
-pub nearest_is_3 : (entries : List Entry) (held : List HeldRegister) (at_0 at_3 at_4 : ℕ)
+pub nearest_is_3 : (entries : List Entry) (held : List HeldPcr) (at_0 at_3 at_4 : ℕ)
     → at_0 ≡ differing entries 0 held → at_3 ≡ differing entries 3 held → at_4 ≡ differing entries 4 held
     → at_3 < at_0 → at_3 ≤ at_4 → IsNearest entries None held 3
 nearest_is_3 entries held at_0 at_3 at_4 z t f below_zero below_four =
@@ -79,7 +78,7 @@ nearest_is_3 entries held at_0 at_3 at_4 z t f below_zero below_four =
           (λ below. absurd (omega arith));
     }
 
-pub nearest_is_4 : (entries : List Entry) (held : List HeldRegister) (at_0 at_3 at_4 : ℕ)
+pub nearest_is_4 : (entries : List Entry) (held : List HeldPcr) (at_0 at_3 at_4 : ℕ)
     → at_0 ≡ differing entries 0 held → at_3 ≡ differing entries 3 held → at_4 ≡ differing entries 4 held
     → at_4 < at_0 → at_4 < at_3 → IsNearest entries None held 4
 nearest_is_4 entries held at_0 at_3 at_4 z t f below_zero below_three =
@@ -92,21 +91,3 @@ nearest_is_4 entries held at_0 at_3 at_4 z t f below_zero below_three =
       lowest = of_three (λ l. l < 4 → count 4 < count l) (λ below. first) (λ below. second)
           (λ below. absurd (omega arith));
     }
-
--- One more register, which differs or agrees.
-pub one_differs : (entries : List Entry) (locality : ℕ) (all : List HeldRegister) (index : ℕ) (item : HeldRegister)
-    (count : ℕ) → index < length all → item ≡ get_or all index item → false ≡ agrees entries locality item
-    → count ≡ differing entries locality (take index all)
-    → count + 1 ≡ differing entries locality (take (index + 1) all)
-one_differs entries locality all index item count within is not_so before =
-    let p : HeldRegister → Bool = λ register. not (agrees entries locality register) in
-    ap (λ n. n + 1) before
-    ∙ sym (count_by_more_yes p all index item within (ap p (sym is) ∙ ap not (sym not_so)))
-
-pub one_agrees : (entries : List Entry) (locality : ℕ) (all : List HeldRegister) (index : ℕ) (item : HeldRegister)
-    (count : ℕ) → index < length all → item ≡ get_or all index item → true ≡ agrees entries locality item
-    → count ≡ differing entries locality (take index all)
-    → count ≡ differing entries locality (take (index + 1) all)
-one_agrees entries locality all index item count within is so before =
-    let p : HeldRegister → Bool = λ register. not (agrees entries locality register) in
-    before ∙ sym (count_by_more_no p all index item within (ap p (sym is) ∙ ap not (sym so)))

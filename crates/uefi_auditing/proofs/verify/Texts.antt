@@ -4,7 +4,7 @@ use Rattle.std.proofs.Common.{arith, length-append, refl, subst, sym}
 use Rattle.std.specs.Prelude.{Option, None, flat_map, codes}
 use Rattle.std.proofs.lemmas.List.{flat_map_more}
 use Rattle.pcr_replay.specs.declared.bank.Bank.{Bank}
-use Rattle.uefi_auditing.specs.declared.verify.reading.HeldRegister.{HeldRegister}
+use Rattle.uefi_auditing.specs.declared.verify.reading.HeldPcr.{HeldPcr}
 use Rattle.uefi_auditing.specs.verify.Reading.{BeginsWith, BeginsWrong, HasNoBreak, LineStates, StateRegisters, StopsAt}
 
 -- What follows a line is shorter.
@@ -13,8 +13,8 @@ shorter rest line after cut =
     let size = ap length cut ∙ length-append line (10 ∷ after) in omega (arith, size)
 
 -- One more line after those that were read.
-one_more : (bank : Option Bank) (lines : List (List ℕ)) (held : List HeldRegister) (last : Option Bank)
-    (line : List ℕ) (more : List HeldRegister) (next : Option Bank) → StateRegisters bank lines held last
+one_more : (bank : Option Bank) (lines : List (List ℕ)) (held : List HeldPcr) (last : Option Bank)
+    (line : List ℕ) (more : List HeldPcr) (next : Option Bank) → StateRegisters bank lines held last
     → HasNoBreak line → LineStates last line more next → StateRegisters bank (lines ++ line ∷ []) (held ++ more) next
 one_more bank [] held last line more next before whole states = (
   more,
@@ -36,7 +36,7 @@ one_more bank (line ∷ lines) held last new more next before whole states = (
 )
 
 -- After one more line was read.
-pub line_read : (text : List ℕ) (held more : List HeldRegister) (last next : Option Bank) (rest line after : List ℕ)
+pub line_read : (text : List ℕ) (held more : List HeldPcr) (last next : Option Bank) (rest line after : List ℕ)
     → BeginsWith text held last rest → rest ≡ line ++ 10 ∷ after → HasNoBreak line → LineStates last line more next
     → BeginsWith text (held ++ more) next after
 line_read text held more last next rest line after before cut whole states =
@@ -52,7 +52,7 @@ line_read text held more last next rest line after before cut whole states =
     }
 
 -- At a wrong line.
-pub stopped : (text rest : List ℕ) (held : List HeldRegister) (last : Option Bank) (offset : ℕ)
+pub stopped : (text rest : List ℕ) (held : List HeldPcr) (last : Option Bank) (offset : ℕ)
     → BeginsWith text held last rest → offset + length rest ≡ length text → BeginsWrong last rest
     → StopsAt text offset
 stopped text rest held last offset before here wrong = record {

@@ -5,7 +5,7 @@ use Rattle.std.specs.declared.string.String.{String}
 use Rattle.pcr_replay.specs.Entries.{Contents}
 use Rattle.pcr_replay.specs.Logs.{AreContents}
 use Rattle.uefi_auditing.specs.declared.text.LogFile.{LogFile}
-use Rattle.uefi_auditing.specs.declared.verify.reading.HeldRegister.{HeldRegister}
+use Rattle.uefi_auditing.specs.declared.verify.reading.HeldPcr.{HeldPcr}
 use Rattle.uefi_auditing.specs.verify.Agreement.{given_or_stated, Agree, AgreeAt, AreBegunAt, IsNearest, IsPossible}
 use Rattle.uefi_auditing.specs.verify.Verdict.{agree_line, difference_lines, AppendsVerdict}
 
@@ -20,15 +20,15 @@ pub to_log : (log_bytes bytes : List ℕ) (log_last last_entry : Option ℕ) (co
 to_log log_bytes bytes log_last last_entry contents b l is =
     of_log bytes log_bytes last_entry log_last contents (sym b) (sym l) is
 
--- The registers agree at a locality.
-pub agree : (bytes : List ℕ) (last_entry given stated : Option ℕ) (held : List HeldRegister) (locality : ℕ)
+-- The PCRs agree at a locality.
+pub agree : (bytes : List ℕ) (last_entry given stated : Option ℕ) (held : List HeldPcr) (locality : ℕ)
     (contents : Contents) → AreContents bytes last_entry contents → stated ≡ given_or_stated given contents.entries
     → AreBegunAt contents.entries stated held locality → Agree bytes last_entry given held
 agree bytes last_entry given stated held locality contents is same so =
     (contents, is, locality, subst (λ s. IsPossible s locality) same so.possible, so.agree)
 
 -- They agree at none.
-pub disagree : (log_bytes bytes : List ℕ) (log_last last_entry given stated : Option ℕ) (held : List HeldRegister)
+pub disagree : (log_bytes bytes : List ℕ) (log_last last_entry given stated : Option ℕ) (held : List HeldPcr)
     → log_bytes ≡ bytes → log_last ≡ last_entry
     → ((contents : Contents) → AreContents log_bytes log_last contents → stated
     ≡ given_or_stated given contents.entries)
@@ -40,7 +40,7 @@ disagree log_bytes bytes log_last last_entry given stated held b l same none so 
     none so.0 is so.2 (subst (λ s. IsPossible s so.2) (sym (same so.0 is)) so.3) so.4
 
 -- The line that they agree was appended.
-pub agreement_said : {A : Type 0} (file : LogFile) (given stated : Option ℕ) (held : List HeldRegister)
+pub agreement_said : {A : Type 0} (file : LogFile) (given stated : Option ℕ) (held : List HeldPcr)
     (locality : ℕ) (contents : Contents) (old new : String A)
     → AreContents file.bytes.now file.last_entry contents → stated ≡ given_or_stated given contents.entries
     → AreBegunAt contents.entries stated held locality
@@ -52,7 +52,7 @@ agreement_said file given stated held locality contents old new is same so more 
     (contents, is, line, inl (record { locality = locality; begun = begun; line = refl; said = refl }), more)
 
 -- The lines of those that differ were.
-pub difference_said : {A : Type 0} (file : LogFile) (given stated : Option ℕ) (held : List HeldRegister)
+pub difference_said : {A : Type 0} (file : LogFile) (given stated : Option ℕ) (held : List HeldPcr)
     (locality : ℕ) (contents : Contents) (old new : String A)
     → AreContents file.bytes.now file.last_entry contents → stated ≡ given_or_stated given contents.entries
     → ((other : ℕ) → IsPossible stated other → AgreeAt contents.entries other held → ⊥)

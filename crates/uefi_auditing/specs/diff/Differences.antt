@@ -1,5 +1,5 @@
--- How the events of two logs differ, by registers, and what `uefi_audit diff` prints of it. Events are the same if they
--- are equal: register, type, digests and data. Where they stand in the log is nothing of theirs.
+-- How the events of two logs differ, by PCRs, and what `uefi_audit diff` prints of it. Events are the same if they
+-- are equal: PCR, type, digests and data. Where they stand in the log is nothing of theirs.
 use Rattle.std.specs.Prelude.{ℕ, zero, suc, ◌≡◌, ◌≢◌, ◌⊎◌, ◌+◌, ◌<◌, ◌==◌, ◌&&◌, min, Bool, true, false, codes}
 use Rattle.std.specs.Prelude.{List, [], ◌∷◌, ◌++◌, map, slice_get, Option, None, Some, option_map}
 use Rattle.std.specs.List.{filter}
@@ -21,7 +21,7 @@ abbrev pub numbered : ℕ → List Entry → List Numbered
 numbered index [] = []
 numbered index (entry ∷ entries) = record { index = index; entry = entry } ∷ numbered (index + 1) entries
 
--- Those of a register. The registers above 23, which a PC's TPM doesn't have, are taken together as one, the register
+-- Those of a PCR. The PCRs above 23, which a PC's TPM doesn't have, are taken together as one, PCR
 -- 24.
 abbrev pub is_of : ℕ → Entry → Bool
 is_of register entry = min entry.event.pcr_index 24 == register
@@ -29,7 +29,7 @@ is_of register entry = min entry.event.pcr_index 24 == register
 abbrev pub in_register : ℕ → List Entry → List Numbered
 in_register register entries = filter (λ found. is_of register found.entry) (numbered 0 entries)
 
--- Their registers, their events, and the event at a place, if there is one.
+-- Their PCRs, their events, and the event at a place, if there is one.
 abbrev pub register_of : Numbered → ℕ
 register_of found = found.entry.event.pcr_index
 
@@ -91,7 +91,7 @@ AreOnly name others (found ∷ more) text =
     (line : List ℕ) × (rest : List ℕ) × IsOnlyLine name others found line × AreOnly name others more rest
     × (text ≡ line ++ rest)
 
--- The events of a register are the same, and there is no line.
+-- The events of a PCR are the same, and there is no line.
 pub record AreSame (old new : List Numbered) (text : List ℕ) (same : Bool) : Type 0 where
   pub events : events_in old ≡ events_in new
   pub no_line : text ≡ []
@@ -112,7 +112,7 @@ abbrev pub ShowsRegister : List ℕ → List ℕ → List Numbered → List Numb
 ShowsRegister old_name new_name old new text same =
     AreSame old new text same ⊎ Differ old_name new_name old new text same
 
--- The same of all registers below a number, one after another; and whether the events of all are the same.
+-- The same of all PCRs below a number, one after another; and whether the events of all are the same.
 abbrev pub ShowsBelow : ℕ → List ℕ → List ℕ → List Entry → List Entry → List ℕ → Bool → Type 0
 ShowsBelow zero old_name new_name old new text same = (text ≡ []) × (same ≡ true)
 ShowsBelow (suc register) old_name new_name old new text same =
@@ -121,7 +121,7 @@ ShowsBelow (suc register) old_name new_name old new text same =
     × ShowsRegister old_name new_name (in_register register old) (in_register register new) lines is_same
     × (text ≡ before ++ lines) × (same ≡ (all_before && is_same))
 
--- What `diff` prints of the one log that each file is: of the registers 0 to 23, and of those above.
+-- What `diff` prints of the one log that each file is: of the PCRs 0 to 23, and of those above.
 abbrev pub IsDiff : List ℕ → List ℕ → Contents → Contents → List ℕ → Bool → Type 0
 IsDiff old_name new_name old new text same = ShowsBelow 25 old_name new_name old.entries new.entries text same
 

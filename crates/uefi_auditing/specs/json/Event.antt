@@ -11,7 +11,8 @@ use Rattle.pcr_replay.specs.Entries.{Entry}
 use Rattle.pcr_replay.specs.Measured.{is_hash_of_data}
 use Rattle.uefi_auditing.specs.content.Content.{Content, Says, form_of}
 use Rattle.uefi_auditing.specs.json.Content.{content_json}
-use Rattle.uefi_auditing.specs.json.Names.{algorithm_name, bank_name, type_name}
+use Rattle.uefi_auditing.specs.json.Names.{algorithm_name, type_name}
+use Rattle.uefi_auditing.specs.text.Banks.{bank_name}
 
 -- The name, or the number of what has none.
 abbrev pub name_or_number : Option (List ℕ) → ℕ → Data
@@ -41,7 +42,7 @@ hashed_bank event bank = if is_hash_of_data bank event then string (bank_name ba
 unfoldable pub hashed_banks : Event → List Data
 hashed_banks event = hashed_bank event Sha1 ++ hashed_bank event Sha256 ++ hashed_bank event Sha384 ++ hashed_bank event Sha512
 
--- An event of a log of this name, at this index: what its data say, the data in hex, its digests in order, the banks of which the digest is the hash of the data, its offset, its register and its type.
+-- An event of a log of this name, at this index: what its data say, the data in hex, its digests in order, the banks of which the digest is the hash of the data, its offset, its PCR and its type.
 unfoldable pub event_json : List ℕ → ℕ → Entry → Content → Data
 event_json log index entry content =
     object (member (codes "content") (content_json content)

@@ -1,7 +1,5 @@
 -- The names of types of events (TCG PC Client Platform Firmware Profile 1.06, 10.4.1 "Event Types") and of hash algorithms (TCG Algorithm Registry, `TPM_ALG_ID`).
 use Rattle.std.specs.Prelude.{ℕ, ◌-◌, ◌==◌, nat_lt, List, [], ◌∷◌, slice_get, Option, Some, None, codes, if◌then◌else◌}
-use Rattle.pcr_replay.specs.declared.bank.Bank.{Bank}
-use Rattle.pcr_replay.specs.declared.bank.Bank.TheVariants.{Sha1, Sha256, Sha384, Sha512}
 
 -- The types from 0 on.
 abbrev pub types : List (List ℕ)
@@ -45,10 +43,3 @@ algorithm_name number =
     else if number == 0x28 then Some (codes "sha3_384")
     else if number == 0x29 then Some (codes "sha3_512")
     else None
-
--- The name of a bank: that of its algorithm.
-abbrev pub bank_name : Bank → List ℕ
-bank_name Sha1 = codes "sha1"
-bank_name Sha256 = codes "sha256"
-bank_name Sha384 = codes "sha384"
-bank_name Sha512 = codes "sha512"

@@ -1,4 +1,4 @@
--- What `uefi_audit replay --json` prints of a log: an object with the registers that it leads to, by banks. The keys of
+-- What `uefi_audit replay --json` prints of a log: an object with the PCRs that it leads to, by banks. The keys of
 -- an object come in order.
 use Rattle.std.specs.Prelude.{ℕ, ◌≡◌, ◌≢◌, ◌⊎◌, ◌==◌, Bool, false, List, [], ◌++◌, length, map, codes}
 use Rattle.std.specs.Prelude.{Option, None, Some, Result, Ok, Err, is_ok, option_map, if◌then◌else◌}
@@ -16,7 +16,7 @@ use Rattle.uefi_auditing.specs.json.Event.{algorithm_json}
 use Rattle.uefi_auditing.specs.text.Banks.{bank_of}
 use Rattle.uefi_auditing.specs.text.Replay.{AreAsked, fault_text}
 
--- What events lead to in a bank: the registers' values, or the first event by which they can't be known; nothing if
+-- What events lead to in a bank: the PCRs' values, or the first event by which they are undetermined; nothing if
 -- the bank can't be replayed.
 abbrev pub Outcome : Type 0
 Outcome = Option (Result (List (List ℕ)) Unreplayable)
@@ -24,7 +24,7 @@ Outcome = Option (Result (List (List ℕ)) Unreplayable)
 abbrev pub led_to : List Entry → ℕ → Outcome
 led_to entries algorithm = option_map (λ bank. replayed bank entries) (bank_of algorithm)
 
--- Whether the registers are known.
+-- Whether the PCRs are known.
 abbrev pub is_known : Outcome → Bool
 is_known None = false
 is_known (Some outcome) = is_ok outcome
@@ -41,7 +41,7 @@ fault_json None = null
 fault_json (Some (Ok values)) = null
 fault_json (Some (Err at)) = unreplayable_json at
 
--- A register's value in hex, and those of all.
+-- A PCR's value in hex, and those of all.
 abbrev pub register_json : List ℕ → Data
 register_json value = string (encode_lower value)
 
@@ -50,7 +50,7 @@ registers_json None = null
 registers_json (Some (Ok values)) = array (items_of (map register_json values))
 registers_json (Some (Err at)) = null
 
--- A bank: the name of its algorithm, or the number of one without a name; its registers, or why they can't be known.
+-- A bank: the name of its algorithm, or the number of one without a name; its PCRs, or why they are undetermined.
 unfoldable pub bank_json : ℕ → Outcome → Data
 bank_json algorithm outcome =
     object (member (codes "algorithm") (algorithm_json algorithm)
@@ -87,7 +87,7 @@ pub record RefusesJson (name bytes : List ℕ) (contents : Contents) (allowed : 
   pub line : text ≡ replay_line name bytes contents null
   pub not_well : well ≡ false
 
--- The log has none, or they are allowed: it has the banks of these algorithms; and whether the registers of all are
+-- The log has none, or they are allowed: it has the banks of these algorithms; and whether the PCRs of all are
 -- known.
 pub record ShowsJson (name bytes : List ℕ) (contents : Contents) (allowed : Bool) (algorithms text : List ℕ)
     (well : Bool) : Type 0 where

@@ -9,7 +9,7 @@ bank_name Sha256 = codes "sha256"
 bank_name Sha384 = codes "sha384"
 bank_name Sha512 = codes "sha512"
 
--- The bank of an algorithm's number, if its registers can be replayed.
+-- The bank of an algorithm's number, if its PCRs can be replayed.
 unfoldable pub bank_of : ℕ → Option Bank
 bank_of algorithm =
     if algorithm == 0x04 then Some Sha1

@@ -1,4 +1,4 @@
--- What `uefi_audit replay` prints of a log: the registers that it leads to, by banks, or why they can't be known.
+-- What `uefi_audit replay` prints of a log: the PCRs that it leads to, by banks, or why they are undetermined.
 use Rattle.std.specs.Prelude.{ℕ, ◌≡◌, ◌≢◌, ◌⊎◌, Bool, false, List, [], ◌∷◌, ◌++◌, length, map, flat_map, codes, Option, None, Some, Result, Ok, Err, is_ok}
 use Rattle.std.specs.List.{list_all}
 use Rattle.std.specs.Fmt.{decimal}
@@ -7,8 +7,8 @@ use Rattle.uefi_base.specs.Appending.{AppendsText}
 use Rattle.uefi_tcg.specs.v2.Header.{Header}
 use Rattle.uefi_tcg.specs.v2.Log.{HasHeaderOf}
 use Rattle.pcr_replay.specs.declared.bank.Bank.{Bank}
-use Rattle.pcr_replay.specs.declared.registers.Fault.{Fault}
-use Rattle.pcr_replay.specs.declared.registers.Fault.TheVariants.{NoRegister, NoDigest, TwoDigests, OtherLength}
+use Rattle.pcr_replay.specs.declared.pcrs.Fault.{Fault}
+use Rattle.pcr_replay.specs.declared.pcrs.Fault.TheVariants.{NoPcr, NoDigest, TwoDigests, OtherLength}
 use Rattle.pcr_replay.specs.declared.replaying.Unreplayable.{Unreplayable}
 use Rattle.pcr_replay.specs.Entries.{Contents, Entry}
 use Rattle.pcr_replay.specs.Logs.{AreContents, left_over}
@@ -17,14 +17,14 @@ use Rattle.pcr_replay.specs.Banks.{algorithm_of}
 use Rattle.uefi_auditing.specs.text.Banks.{bank_name, bank_of}
 use Rattle.uefi_auditing.specs.text.Registers.{bank_lines}
 
--- Why the registers can't be known after an event.
+-- Why the PCRs are undetermined after an event.
 abbrev pub fault_text : Fault → List ℕ
-fault_text NoRegister = codes "is of a register above 23"
+fault_text NoPcr = codes "is of a register above 23"
 fault_text NoDigest = codes "has no digest of the bank"
 fault_text TwoDigests = codes "has two digests of the bank or more"
 fault_text OtherLength = codes "has a digest of another length"
 
--- The line that names the first event by which they can't be known: the log, the bank, the event's index and its offset.
+-- The line that names the first event by which they are undetermined: the log, the bank, the event's index and its offset.
 unfoldable pub unreplayable_line : List ℕ → Bank → Unreplayable → List ℕ
 unreplayable_line name bank at =
     name ++ codes ": " ++ bank_name bank ++ codes ": event " ++ decimal at.index ++ codes " at offset " ++ decimal at.offset ++ codes " " ++ fault_text at.fault ++ codes "\n"
@@ -33,12 +33,12 @@ unreplayable_line name bank at =
 unfoldable pub other_bank_line : List ℕ → ℕ → List ℕ
 other_bank_line name algorithm = name ++ codes ": the bank of algorithm " ++ decimal algorithm ++ codes " can't be replayed\n"
 
--- The registers of a bank, or that line.
+-- The PCRs of a bank, or that line.
 unfoldable pub replayed_lines : List ℕ → Bank → Result (List (List ℕ)) Unreplayable → List ℕ
 replayed_lines name bank (Ok values) = bank_lines bank values
 replayed_lines name bank (Err at) = unreplayable_line name bank at
 
--- The lines of an algorithm's bank, after all events of a log; and whether they are its registers.
+-- The lines of an algorithm's bank, after all events of a log; and whether they are its PCRs.
 unfoldable pub algorithm_lines : List ℕ → List Entry → ℕ → List ℕ
 algorithm_lines name entries algorithm = lines (bank_of algorithm)
   where
@@ -68,7 +68,7 @@ abbrev pub AreAsked : List ℕ → Option ℕ → Option Bank → List ℕ → T
 AreAsked bytes last_entry (Some bank) algorithms = algorithms ≡ algorithm_of bank ∷ []
 AreAsked bytes last_entry None algorithms = (header : Option Header) × IsHeaderOf bytes last_entry header × (algorithms ≡ algorithms_in header)
 
--- The text has the banks' registers after all events, or why they can't be known; and whether it has registers alone.
+-- The text has the banks' PCRs after all events, or why they are undetermined; and whether it has PCRs alone.
 pub record ShowsBanks (name : List ℕ) (entries : List Entry) (algorithms text : List ℕ) (well : Bool) : Type 0 where
   pub lines : text ≡ flat_map (algorithm_lines name entries) algorithms
   pub all_known : well ≡ list_all (is_replayed entries) algorithms

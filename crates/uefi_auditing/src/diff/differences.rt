@@ -1,4 +1,4 @@
-ghost use Rattle.std.specs.Prelude.{◌&&◌, ◌≡◌, map, IfOk};
+ghost use Rattle.std.specs.Prelude.{◌≡◌, map, IfOk};
 ghost use Rattle.uefi_auditing.specs.diff.Differences.{AppendsDifferences};
 ghost use Rattle.uefi_auditing.specs.private.diff.Appending.{AppendsCompared, AppendsRegister};
 ghost use Rattle.uefi_auditing.specs.private.diff.Views.{numbered_of};
@@ -10,17 +10,17 @@ use crate::text::LogFile;
 use pcr_replay::laws::one_contents;
 use std::alloc::{AllocError, Global};
 
-/// How many registers are compared: the 24 that a TPM has, and those above as one.
+/// How many PCRs are compared: the 24 that a TPM has, and those above as one.
 const COMPARED: u32 = 25;
 
-/// Appends how the events of two logs differ, register by register, those above 23 together: a line
+/// Appends how the events of two logs differ, PCR by PCR, those above 23 together: a line
 /// for the first event in which they differ, one for each event that only the old log has, and one
-/// for each that only the new log has. For a register whose events are the same there is none.
+/// for each that only the new log has. For a PCR whose events are the same there is none.
 ///
-/// Events are the same if they have the same register, type, digests and data, wherever they stand
-/// in the log. An event that differs is compared with each event of its register in the other log.
+/// Events are the same if they have the same PCR, type, digests and data, wherever they stand
+/// in the log. An event that differs is compared with each event of its PCR in the other log.
 ///
-/// Returns whether the events of all registers are the same.
+/// Returns whether the events of all PCRs are the same.
 ///
 /// # Errors
 ///
@@ -35,20 +35,12 @@ pub fn push_differences(
 {
     let mut same = true;
     for register in 0..COMPARED {
-        let is_same = push_register(text, alloc, old, new, register)?;
-        same = both(same, is_same);
+        same &= push_register(text, alloc, old, new, register)?;
     }
     Ok(same)
 }
 
-/// Returns whether both are true.
-fn both(one: bool, other: bool) -> bool
-    ensures { result ≡ (one && other) }
-{
-    one && other
-}
-
-/// Appends how the events of a register differ, and returns whether they are the same.
+/// Appends how the events of a PCR differ, and returns whether they are the same.
 fn push_register(
     text: &mut String,
     alloc: Global,

@@ -46,10 +46,7 @@ fn push_if_missing(
 fn is_among(event: &LogEvent<'_>, others: &[NumberedEntry<'_>]) -> bool
     ensures { IsTrue result ↔ IsAmong (event_of event.now) (map numbered_of others.now) }
 {
-    for other in others {
-        if is_same_event(event, &other.entry.event) {
-            return true;
-        }
-    }
-    false
+    others
+        .iter()
+        .any(|other| is_same_event(event, &other.entry.event))
 }

@@ -7,7 +7,7 @@ use crate::diff::same::is_same_event;
 use pcr_replay::{LogEntries, LogEntry};
 use std::alloc::{AllocError, Global};
 
-/// The register as which those above 23 are taken together.
+/// The PCR as which those above 23 are taken together.
 const ABOVE: u32 = 24;
 
 /// An event of a log with its index.
@@ -19,7 +19,7 @@ pub(crate) struct NumberedEntry<'a> {
     pub(crate) entry: LogEntry<'a>,
 }
 
-/// Returns the events of a register, in order; for the register 24, those of all above 23.
+/// Returns the events of a PCR, in order; for PCR 24, those of all above 23.
 pub(crate) fn entries_of<'a>(
     alloc: Global,
     entries: LogEntries<'a>,
@@ -40,7 +40,7 @@ pub(crate) fn entries_of<'a>(
     Ok(found)
 }
 
-/// Returns whether an event is of a register; for the register 24, whether it is of one above 23.
+/// Returns whether an event is of a PCR; for PCR 24, whether it is of one above 23.
 fn is_of(register: u32, entry: &LogEntry<'_>) -> bool
     ensures { result ≡ is_of register (entry_of entry.now) }
 {
@@ -70,14 +70,9 @@ fn is_same_or_none(one: Option<&NumberedEntry<'_>>, other: Option<&NumberedEntry
     ensures { IsTrue result ↔ (option_map (λ found. event_of found.now.entry.event) one.entry
         ≡ option_map (λ found. event_of found.now.entry.event) other.entry) }
 {
-    match one {
-        Some(one) => match other {
-            Some(other) => is_same_event(&one.entry.event, &other.entry.event),
-            None => false,
-        },
-        None => match other {
-            Some(_) => false,
-            None => true,
-        },
+    match (one, other) {
+        (Some(one), Some(other)) => is_same_event(&one.entry.event, &other.entry.event),
+        (None, None) => true,
+        _ => false,
     }
 }

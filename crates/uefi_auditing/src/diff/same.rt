@@ -7,7 +7,7 @@ use pcr_replay::LogEvent;
 use uefi_tcg::AlgorithmId;
 use uefi_tcg::v2::PcrEventDigests;
 
-/// Returns whether two events are the same: of one register and one type, with the same digests in
+/// Returns whether two events are the same: of one PCR and one type, with the same digests in
 /// the same order, and with the same data.
 pub fn is_same_event(one: &LogEvent<'_>, other: &LogEvent<'_>) -> bool
     ensures { IsTrue result ↔ (event_of one.now ≡ event_of other.now) }
@@ -69,10 +69,7 @@ fn is_sha1(digests: PcrEventDigests<'_>, digest: &[u8]) -> bool
     if !are_same_bytes(bytes, digest) {
         return false;
     }
-    match digests.next() {
-        Some(_) => false,
-        None => true,
-    }
+    digests.next().is_none()
 }
 
 /// Returns whether digests are the same, in the same order.
@@ -91,8 +88,5 @@ fn are_same_digests(one: PcrEventDigests<'_>, other: PcrEventDigests<'_>) -> boo
             return false;
         }
     }
-    match others.next() {
-        Some(_) => false,
-        None => true,
-    }
+    others.next().is_none()
 }

@@ -9,7 +9,7 @@ ghost use Rattle.uefi_auditing.specs.json.Replay.{bank_json, fault_json, is_know
 
 use crate::json::digests::algorithm_json;
 use crate::text::{LogFile, bank_of, fault_text};
-use pcr_replay::{RegisterValue, Registers, Unreplayable, replay};
+use pcr_replay::{PcrValue, Pcrs, Unreplayable, replay};
 use serde_json::{Map, Value, json, put};
 use std::alloc::{AllocError, Global};
 use uefi_tcg::AlgorithmId;
@@ -18,34 +18,28 @@ use uefi_tcg::AlgorithmId;
 pub(crate) fn led_to(
     file: &LogFile<'_>,
     algorithm: AlgorithmId,
-) -> Option<Result<Registers, Unreplayable>>
+) -> Option<Result<Pcrs, Unreplayable>>
     ensures { (contents : Contents)
         → AreContents file.now.bytes.now file.now.last_entry contents
         → option_map outcome_of result ≡ led_to contents.entries algorithm.0 }
 {
-    let Some(bank) = bank_of(algorithm) else {
-        return None;
-    };
+    let bank = bank_of(algorithm)?;
     Some(replay(&file.log(), bank))
 }
 
-/// Returns whether the registers are known.
-pub(crate) fn is_known(outcome: &Option<Result<Registers, Unreplayable>>) -> bool
+/// Returns whether the PCRs are known.
+pub(crate) fn is_known(outcome: &Option<Result<Pcrs, Unreplayable>>) -> bool
     ensures { result ≡ is_known (option_map outcome_of outcome.now) }
 {
-    match outcome {
-        Some(Ok(_)) => true,
-        Some(Err(_)) => false,
-        None => false,
-    }
+    matches!(outcome, Some(Ok(_)))
 }
 
-/// Returns the bank of an algorithm: its name or number, its registers, or why they can't be known.
+/// Returns the bank of an algorithm: its name or number, its PCRs, or why they are undetermined.
 #[tactic(auto, unfolding(crate::specs::json::Replay::bank_json))]
 pub(crate) fn bank_json(
     alloc: Global,
     algorithm: AlgorithmId,
-    outcome: &Option<Result<Registers, Unreplayable>>,
+    outcome: &Option<Result<Pcrs, Unreplayable>>,
 ) -> Result<Value, AllocError>
     ensures { IfOk result (λ value. view value
         ≡ bank_json algorithm.0 (option_map outcome_of outcome.now)) }
@@ -60,11 +54,11 @@ pub(crate) fn bank_json(
     Ok(Value::Object(members))
 }
 
-/// Returns the first event by which the registers can't be known; `null` if there is none.
+/// Returns the first event by which the PCRs are undetermined; `null` if there is none.
 #[tactic(auto, unfolding(crate::specs::json::Replay::fault_json))]
 fn fault_json(
     alloc: Global,
-    outcome: &Option<Result<Registers, Unreplayable>>,
+    outcome: &Option<Result<Pcrs, Unreplayable>>,
 ) -> Result<Value, AllocError>
     ensures { IfOk result (λ value. view value
         ≡ fault_json (option_map outcome_of outcome.now)) }
@@ -76,7 +70,7 @@ fn fault_json(
     }
 }
 
-/// Returns an event by which the registers can't be known: its index, its offset, and why.
+/// Returns an event by which the PCRs are undetermined: its index, its offset, and why.
 #[tactic(auto, unfolding(crate::specs::json::Replay::unreplayable_json))]
 fn unreplayable_json(alloc: Global, at: &Unreplayable) -> Result<Value, AllocError>
     ensures { IfOk result (λ value. view value ≡ unreplayable_json at.now) }
@@ -86,11 +80,11 @@ fn unreplayable_json(alloc: Global, at: &Unreplayable) -> Result<Value, AllocErr
     json!(in alloc; {"index": index, "offset": offset, "reason": reason})
 }
 
-/// Returns the values of the registers; `null` if they aren't known.
+/// Returns the values of the PCRs; `null` if they aren't known.
 #[tactic(auto, unfolding(crate::specs::json::Replay::registers_json))]
 fn registers_json(
     alloc: Global,
-    outcome: &Option<Result<Registers, Unreplayable>>,
+    outcome: &Option<Result<Pcrs, Unreplayable>>,
 ) -> Result<Value, AllocError>
     ensures { IfOk result (λ value. view value
         ≡ registers_json (option_map outcome_of outcome.now)) }
@@ -102,8 +96,8 @@ fn registers_json(
     }
 }
 
-/// Returns values of registers as texts of hex digits.
-fn values_json(alloc: Global, values: &[RegisterValue]) -> Result<Vec<Value>, AllocError>
+/// Returns values of PCRs as texts of hex digits.
+fn values_json(alloc: Global, values: &[PcrValue]) -> Result<Vec<Value>, AllocError>
     ensures { IfOk result
         (λ texts. map view texts.items ≡ map register_json (map value_of values.now)) }
 {

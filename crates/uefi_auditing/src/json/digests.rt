@@ -5,7 +5,8 @@ ghost use Rattle.pcr_replay.specs.Entries.{with_sha1};
 ghost use Rattle.pcr_replay.specs.Views.{event_of};
 ghost use Rattle.uefi_auditing.specs.json.Event.{algorithm_json, digest_json, hashed_bank, hashed_banks};
 
-use crate::json::names::{algorithm_name, bank_name};
+use crate::json::names::algorithm_name;
+use crate::text::bank_name;
 use pcr_replay::{Bank, LogEvent, is_hash_of_data};
 use serde_json::{Value, json};
 use std::alloc::{AllocError, Global};

@@ -26,7 +26,7 @@ use uefi_tcg::EventType;
 /// | `hashes_to` | the names of the banks whose digest is the hash of the data |
 /// | `index`, `log` | what was given |
 /// | `offset` | where the event starts in the log's bytes |
-/// | `register` | the index of the register |
+/// | `register` | the index of the PCR |
 /// | `type` | an object with `name`, if the type has one, and `number` |
 ///
 /// An algorithm is its name, or the number of one without a name; a digest is in hex. A bank is in

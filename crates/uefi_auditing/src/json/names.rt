@@ -1,8 +1,7 @@
 ghost use Rattle.std.specs.Prelude.{◌≡◌, slice_get, map};
 ghost use Rattle.std.specs.Option.{option_map};
-ghost use Rattle.uefi_auditing.specs.json.Names.{algorithm_name, bank_name, type_name};
+ghost use Rattle.uefi_auditing.specs.json.Names.{algorithm_name, type_name};
 
-use pcr_replay::Bank;
 use uefi_tcg::{AlgorithmId, EventType};
 
 /// The types of events from 0 on (TCG PC Client Platform Firmware Profile 1.06, 10.4.1).
@@ -108,17 +107,5 @@ pub(crate) fn algorithm_name(algorithm: AlgorithmId) -> Option<&'static str>
         0x28 => Some("sha3_384"),
         0x29 => Some("sha3_512"),
         _ => None,
-    }
-}
-
-/// Returns the name of a bank's algorithm.
-pub(crate) fn bank_name(bank: Bank) -> &'static str
-    ensures { result.now ≡ bank_name bank }
-{
-    match bank {
-        Bank::Sha1 => "sha1",
-        Bank::Sha256 => "sha256",
-        Bank::Sha384 => "sha384",
-        Bank::Sha512 => "sha512",
     }
 }

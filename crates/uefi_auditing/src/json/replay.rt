@@ -1,4 +1,4 @@
-ghost use Rattle.std.specs.Prelude.{◌≡◌, ◌++◌, ◌&&◌, ◌≤◌, ◌-◌, ◌∷◌, [], codes, false, length, map, IfOk, OnOk};
+ghost use Rattle.std.specs.Prelude.{◌≡◌, ◌++◌, ◌≤◌, ◌-◌, ◌∷◌, [], codes, false, length, map, IfOk, OnOk};
 ghost use Rattle.uefi_base.specs.Appending.{AppendsText};
 ghost use Rattle.serde_json.specs.Data.{null};
 ghost use Rattle.serde_json.specs.View.{view};
@@ -25,14 +25,14 @@ use uefi_tcg::AlgorithmId;
 /// | key of a bank | value |
 /// |---|---|
 /// | `algorithm` | its name, or the number of one without a name |
-/// | `fault` | the first event by which the registers can't be known: `index`, `offset`, `reason` |
-/// | `registers` | the 24 values in hex; `null` if they can't be known |
+/// | `fault` | the first event by which the PCRs are undetermined: `index`, `offset`, `reason` |
+/// | `registers` | the 24 values in hex; `null` if they are undetermined |
 ///
 /// Both are `null` in a bank that can't be replayed. The banks that are asked for are one, or
 /// without one those of the table in the log's header, SHA-1's in a log of version 1. A log is
 /// refused if it has bytes left over and `allow_left_over` isn't set.
 ///
-/// Returns whether the log isn't refused, and the registers of all these banks are known.
+/// Returns whether the log isn't refused, and the PCRs of all these banks are known.
 ///
 /// # Errors
 ///
@@ -127,7 +127,7 @@ fn left_over_json(alloc: Global, offset: usize, count: usize) -> Result<Value, A
     json!(in alloc; {"count": count, "offset": offset})
 }
 
-/// Pushes the banks that are asked for. Returns whether the registers of all are known.
+/// Pushes the banks that are asked for. Returns whether the PCRs of all are known.
 fn push_asked(
     values: &mut Vec<Value>,
     alloc: Global,
@@ -140,7 +140,7 @@ fn push_asked(
     push_banks(values, alloc, file, algorithms.as_slice())
 }
 
-/// Pushes the bank of each algorithm. Returns whether the registers of all are known.
+/// Pushes the bank of each algorithm. Returns whether the PCRs of all are known.
 fn push_banks(
     values: &mut Vec<Value>,
     alloc: Global,
@@ -152,20 +152,12 @@ fn push_banks(
 {
     let mut all_known = true;
     for algorithm in algorithms {
-        let known = push_bank(values, alloc, file, *algorithm)?;
-        all_known = both(all_known, known);
+        all_known &= push_bank(values, alloc, file, *algorithm)?;
     }
     Ok(all_known)
 }
 
-/// Returns whether both are true.
-fn both(one: bool, other: bool) -> bool
-    ensures { result ≡ (one && other) }
-{
-    one && other
-}
-
-/// Pushes the bank of an algorithm. Returns whether its registers are known.
+/// Pushes the bank of an algorithm. Returns whether its PCRs are known.
 fn push_bank(
     values: &mut Vec<Value>,
     alloc: Global,

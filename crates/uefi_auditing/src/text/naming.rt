@@ -5,6 +5,9 @@ ghost use Rattle.uefi_auditing.specs.text.Banks.{bank_name, bank_of};
 use pcr_replay::Bank;
 use uefi_tcg::AlgorithmId;
 
+/// The names of the banks that can be replayed, as tpm2-tools has them.
+pub const BANK_NAMES: [&str; 4] = ["sha1", "sha256", "sha384", "sha512"];
+
 /// Returns the name of a bank, as tpm2-tools has it.
 pub fn bank_name(bank: Bank) -> &'static str
     ensures { result.now ≡ bank_name bank }
@@ -31,7 +34,7 @@ pub fn bank_named(name: &str) -> Option<Bank>
     }
 }
 
-/// Returns the bank of an algorithm; `None` if its registers can't be replayed.
+/// Returns the bank of an algorithm; `None` if its PCRs can't be replayed.
 pub fn bank_of(algorithm: AlgorithmId) -> Option<Bank>
     ensures { result ≡ bank_of algorithm.0 }
 {

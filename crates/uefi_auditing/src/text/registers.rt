@@ -4,11 +4,11 @@ ghost use Rattle.pcr_replay.specs.Views.{values_of};
 ghost use Rattle.uefi_auditing.specs.text.Registers.{bank_lines, padding, register_line, register_lines};
 
 use crate::text::naming::bank_name;
-use pcr_replay::{Bank, Registers};
+use pcr_replay::{Bank, Pcrs};
 use std::alloc::{AllocError, Allocator};
 
-/// Appends the registers of a bank, as `tpm2_pcrread` of tpm2-tools 5.4 prints them: a line with the
-/// bank's name, and a line for each register with its value in hex, in upper case.
+/// Appends the PCRs of a bank, as `tpm2_pcrread` of tpm2-tools 5.4 prints them: a line with the
+/// bank's name, and a line for each PCR with its value in hex, in upper case.
 ///
 /// # Errors
 ///
@@ -18,7 +18,7 @@ pub fn push_bank<A: Allocator + Copy>(
     text: &mut String<A>,
     alloc: A,
     bank: Bank,
-    registers: &Registers,
+    registers: &Pcrs,
 ) -> Result<(), AllocError>
     ensures { OnOk result
         (AppendsText text.old text.new (bank_lines bank (values_of registers.now))) }
@@ -28,11 +28,11 @@ pub fn push_bank<A: Allocator + Copy>(
     push_registers(text, alloc, registers)
 }
 
-/// Appends a line for each register.
+/// Appends a line for each PCR.
 fn push_registers<A: Allocator + Copy>(
     text: &mut String<A>,
     alloc: A,
-    registers: &Registers,
+    registers: &Pcrs,
 ) -> Result<(), AllocError>
     ensures { OnOk result
         (AppendsText text.old text.new (register_lines 0 (values_of registers.now))) }
@@ -44,7 +44,7 @@ fn push_registers<A: Allocator + Copy>(
     Ok(())
 }
 
-/// Appends the line of a register.
+/// Appends the line of a PCR.
 fn push_register<A: Allocator + Copy>(
     text: &mut String<A>,
     alloc: A,
@@ -57,7 +57,7 @@ fn push_register<A: Allocator + Copy>(
     writeln!(text, "    {number}{gap}: 0x{digits}")
 }
 
-/// Returns what follows a register's number, so that it is as wide as two digits.
+/// Returns what follows a PCR's number, so that it is as wide as two digits.
 #[tactic(auto, unfolding(crate::specs::text::Registers::padding))]
 fn padding(number: usize) -> &'static str
     ensures { result.now ≡ padding number }

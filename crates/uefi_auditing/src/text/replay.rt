@@ -1,4 +1,4 @@
-ghost use Rattle.std.specs.Prelude.{◌≡◌, ◌&&◌, ◌↔◌, ◌≤◌, ◌-◌, Bool, List, [], ◌∷◌, ℕ, length, map, IfOk, IsTrue, OnOk};
+ghost use Rattle.std.specs.Prelude.{◌≡◌, ◌↔◌, ◌≤◌, ◌-◌, Bool, List, [], ◌∷◌, ℕ, length, map, IfOk, IsTrue, OnOk};
 ghost use Rattle.pcr_replay.specs.Entries.{Contents};
 ghost use Rattle.pcr_replay.specs.Logs.{AreContents, left_over};
 ghost use Rattle.uefi_base.specs.Appending.{AppendsText};
@@ -13,15 +13,15 @@ use pcr_replay::{Bank, Fault, Unreplayable, replay};
 use std::alloc::{AllocError, Allocator};
 use uefi_tcg::AlgorithmId;
 
-/// Appends the registers that a log leads to, a bank after another: of one bank, or without one of
+/// Appends the PCRs that a log leads to, a bank after another: of one bank, or without one of
 /// each algorithm in the table of the log's header, SHA-1 in a log of version 1.
 ///
-/// A line stands in place of a bank's registers if they can't be known. It names the log, the bank,
+/// A line stands in place of a bank's PCRs if they are undetermined. It names the log, the bank,
 /// and the index and the offset of the first event that says so; or the algorithm, if its bank
 /// can't be replayed. If the log has bytes left over after its last event, and `allow_left_over`
 /// isn't set, one line alone says so, with their offset and count.
 ///
-/// Returns whether registers were appended, and no such line.
+/// Returns whether PCRs were appended, and no such line.
 ///
 /// # Errors
 ///
@@ -88,7 +88,7 @@ fn push_left_over_line<A: Allocator>(
     )
 }
 
-/// Appends the registers of one bank, or of all banks that the log has.
+/// Appends the PCRs of one bank, or of all banks that the log has.
 fn push_asked<A: Allocator + Copy>(
     text: &mut String<A>,
     alloc: A,
@@ -101,7 +101,7 @@ fn push_asked<A: Allocator + Copy>(
     push_banks(text, alloc, file, algorithms.as_slice())
 }
 
-/// Appends the registers of each algorithm's bank.
+/// Appends the PCRs of each algorithm's bank.
 fn push_banks<A: Allocator + Copy>(
     text: &mut String<A>,
     alloc: A,
@@ -113,20 +113,12 @@ fn push_banks<A: Allocator + Copy>(
 {
     let mut well = true;
     for algorithm in algorithms {
-        let replayed = push_algorithm(text, alloc, file, *algorithm)?;
-        well = both(well, replayed);
+        well &= push_algorithm(text, alloc, file, *algorithm)?;
     }
     Ok(well)
 }
 
-/// Returns whether both are true.
-fn both(one: bool, other: bool) -> bool
-    ensures { result ≡ (one && other) }
-{
-    one && other
-}
-
-/// Appends the registers of an algorithm's bank, or the line that says why they can't be known.
+/// Appends the PCRs of an algorithm's bank, or the line that says why they are undetermined.
 fn push_algorithm<A: Allocator + Copy>(
     text: &mut String<A>,
     alloc: A,
@@ -167,7 +159,7 @@ fn push_other_bank<A: Allocator>(
     )
 }
 
-/// Appends the line that names the first event by which a bank's registers can't be known.
+/// Appends the line that names the first event by which a bank's PCRs are undetermined.
 fn push_unreplayable<A: Allocator>(
     text: &mut String<A>,
     name: &str,
@@ -185,12 +177,12 @@ fn push_unreplayable<A: Allocator>(
     )
 }
 
-/// Returns what is wrong with an event by which the registers can't be known.
+/// Returns what is wrong with an event by which the PCRs are undetermined.
 pub fn fault_text(fault: Fault) -> &'static str
     ensures { result.now ≡ fault_text fault }
 {
     match fault {
-        Fault::NoRegister => "is of a register above 23",
+        Fault::NoPcr => "is of a register above 23",
         Fault::NoDigest => "has no digest of the bank",
         Fault::TwoDigests => "has two digests of the bank or more",
         Fault::OtherLength => "has a digest of another length",

@@ -5,14 +5,14 @@ ghost use Rattle.pcr_replay.specs.Views.{outcome_of, value_of};
 ghost use Rattle.uefi_auditing.specs.verify.Agreement.{agrees, differing, has_value, led_to};
 ghost use Rattle.uefi_auditing.specs.verify.Agreement.{AgreeAt, AreBegunAt, IsNearest, IsPossible};
 
-use crate::verify::reading::HeldRegister;
+use crate::verify::reading::HeldPcr;
 use pcr_replay::laws::one_contents;
-use pcr_replay::{Bank, Log, Registers, Unreplayable, replay_begun_at};
+use pcr_replay::{Bank, Log, Pcrs, Unreplayable, replay_begun_at};
 use uefi_tcg::PcrIndex;
 
-/// Returns the locality at which all these registers hold what the log leads to: the one that is
+/// Returns the locality at which all these PCRs hold what the log leads to: the one that is
 /// `stated`, or else the first of 0, 3 and 4. `None` if at none of them they do.
-pub fn agreeing_locality(log: &Log<'_>, held: &[HeldRegister], stated: Option<u8>) -> Option<u8>
+pub fn agreeing_locality(log: &Log<'_>, held: &[HeldPcr], stated: Option<u8>) -> Option<u8>
     ensures agree { (contents : Contents)
         → AreContents log.now.bytes.now log.now.last_entry contents
         → IfSome result (AreBegunAt contents.entries stated held.now) }
@@ -39,30 +39,25 @@ pub fn agreeing_locality(log: &Log<'_>, held: &[HeldRegister], stated: Option<u8
     None
 }
 
-/// Returns whether all these registers hold what the log leads to in a TPM that was started at this
+/// Returns whether all these PCRs hold what the log leads to in a TPM that was started at this
 /// locality.
-pub fn agrees_at(log: &Log<'_>, held: &[HeldRegister], locality: u8) -> bool
+pub fn agrees_at(log: &Log<'_>, held: &[HeldPcr], locality: u8) -> bool
     ensures { (contents : Contents) → AreContents log.now.bytes.now log.now.last_entry contents
         → (IsTrue result ↔ AgreeAt contents.entries locality held.now) }
 {
-    for register in held {
-        if !agrees(log, register, locality) {
-            return false;
-        }
-    }
-    true
+    held.iter().all(|register| agrees(log, register, locality))
 }
 
-/// Returns whether the register holds what the log leads to.
-pub fn agrees(log: &Log<'_>, held: &HeldRegister, locality: u8) -> bool
+/// Returns whether the PCR holds what the log leads to.
+pub fn agrees(log: &Log<'_>, held: &HeldPcr, locality: u8) -> bool
     ensures { (contents : Contents) → AreContents log.now.bytes.now log.now.last_entry contents
         → result ≡ agrees contents.entries locality held.now }
 {
     has_value(&led_to(log, held.bank, locality), held)
 }
 
-/// Returns what a log leads to in the registers of a bank.
-pub(crate) fn led_to(log: &Log<'_>, bank: Bank, locality: u8) -> Result<Registers, Unreplayable>
+/// Returns what a log leads to in the PCRs of a bank.
+pub(crate) fn led_to(log: &Log<'_>, bank: Bank, locality: u8) -> Result<Pcrs, Unreplayable>
     ensures { (contents : Contents) → AreContents log.now.bytes.now log.now.last_entry contents
         → outcome_of result ≡ led_to contents.entries locality bank }
 {
@@ -70,8 +65,8 @@ pub(crate) fn led_to(log: &Log<'_>, bank: Bank, locality: u8) -> Result<Register
     replay_begun_at(log.entries(), bank, Some(locality))
 }
 
-/// Returns whether a register has its value among those that a log leads to.
-fn has_value(outcome: &Result<Registers, Unreplayable>, held: &HeldRegister) -> bool
+/// Returns whether a PCR has its value among those that a log leads to.
+fn has_value(outcome: &Result<Pcrs, Unreplayable>, held: &HeldPcr) -> bool
     ensures { result
         ≡ has_value (outcome_of outcome.now) held.now.register (value_of held.now.value) }
 {
@@ -84,9 +79,9 @@ fn has_value(outcome: &Result<Registers, Unreplayable>, held: &HeldRegister) -> 
     }
 }
 
-/// Returns the locality at which the fewest registers differ: the one that is `stated`, or else
+/// Returns the locality at which the fewest PCRs differ: the one that is `stated`, or else
 /// one of 0, 3 and 4, of several the first.
-pub(crate) fn nearest_locality(log: &Log<'_>, held: &[HeldRegister], stated: Option<u8>) -> u8
+pub(crate) fn nearest_locality(log: &Log<'_>, held: &[HeldPcr], stated: Option<u8>) -> u8
     ensures { (contents : Contents) → AreContents log.now.bytes.now log.now.last_entry contents
         → IsNearest contents.entries stated held.now result }
 {
@@ -101,16 +96,12 @@ pub(crate) fn nearest_locality(log: &Log<'_>, held: &[HeldRegister], stated: Opt
     if three <= four { 3 } else { 4 }
 }
 
-/// Returns how many registers differ from those that the log leads to.
-fn differing(log: &Log<'_>, held: &[HeldRegister], locality: u8) -> usize
+/// Returns how many PCRs differ from those that the log leads to.
+fn differing(log: &Log<'_>, held: &[HeldPcr], locality: u8) -> usize
     ensures { (contents : Contents) → AreContents log.now.bytes.now log.now.last_entry contents
         → result ≡ differing contents.entries locality held.now }
 {
-    let mut count = 0usize;
-    for register in held {
-        if !agrees(log, register, locality) {
-            count += 1;
-        }
-    }
-    count
+    held.iter()
+        .filter(|register| !agrees(log, register, locality))
+        .count()
 }

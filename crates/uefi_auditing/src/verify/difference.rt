@@ -7,18 +7,18 @@ ghost use Rattle.uefi_auditing.specs.verify.Verdict.{difference_line, difference
 
 use crate::text::{bank_name, fault_text};
 use crate::verify::agreement::{agrees, led_to};
-use crate::verify::reading::HeldRegister;
-use pcr_replay::{Log, Registers, Unreplayable};
+use crate::verify::reading::HeldPcr;
+use pcr_replay::{Log, Pcrs, Unreplayable};
 use std::alloc::{AllocError, Allocator};
 use uefi_tcg::PcrIndex;
 
-/// Appends a line for each register that doesn't hold what the log leads to.
+/// Appends a line for each PCR that doesn't hold what the log leads to.
 pub(crate) fn push_differences<A: Allocator + Copy>(
     text: &mut String<A>,
     alloc: A,
     name: &str,
     log: &Log<'_>,
-    held: &[HeldRegister],
+    held: &[HeldPcr],
     locality: u8,
 ) -> Result<(), AllocError>
     ensures { (contents : Contents) → AreContents log.now.bytes.now log.now.last_entry contents
@@ -31,13 +31,13 @@ pub(crate) fn push_differences<A: Allocator + Copy>(
     Ok(())
 }
 
-/// Appends the line of a register, unless it holds what the log leads to.
+/// Appends the line of a PCR, unless it holds what the log leads to.
 fn push_if_differing<A: Allocator + Copy>(
     text: &mut String<A>,
     alloc: A,
     name: &str,
     log: &Log<'_>,
-    held: &HeldRegister,
+    held: &HeldPcr,
     locality: u8,
 ) -> Result<(), AllocError>
     ensures { (contents : Contents) → AreContents log.now.bytes.now log.now.last_entry contents
@@ -51,13 +51,13 @@ fn push_if_differing<A: Allocator + Copy>(
     push_difference(text, alloc, name, held, &outcome, locality)
 }
 
-/// Appends the line of a register that differs.
+/// Appends the line of a PCR that differs.
 fn push_difference<A: Allocator + Copy>(
     text: &mut String<A>,
     alloc: A,
     name: &str,
-    held: &HeldRegister,
-    outcome: &Result<Registers, Unreplayable>,
+    held: &HeldPcr,
+    outcome: &Result<Pcrs, Unreplayable>,
     locality: u8,
 ) -> Result<(), AllocError>
     ensures { OnOk result (AppendsText text.old text.new
@@ -70,12 +70,12 @@ fn push_difference<A: Allocator + Copy>(
     }
 }
 
-/// Appends which register of the log differs, and what it held.
+/// Appends which PCR of the log differs, and what it held.
 fn push_held<A: Allocator + Copy>(
     text: &mut String<A>,
     alloc: A,
     name: &str,
-    held: &HeldRegister,
+    held: &HeldPcr,
 ) -> Result<(), AllocError>
     ensures { OnOk result (AppendsText text.old text.new (held_text name.now held.now)) }
 {
@@ -84,7 +84,7 @@ fn push_held<A: Allocator + Copy>(
     write!(text, "{name}: {bank} register {register} held 0x{digits}")
 }
 
-/// Appends by which event the registers can't be known.
+/// Appends by which event the PCRs are undetermined.
 fn push_unknown<A: Allocator>(text: &mut String<A>, at: &Unreplayable) -> Result<(), AllocError>
     ensures { OnOk result (AppendsText text.old text.new (unknown_text at.now)) }
 {
@@ -95,11 +95,11 @@ fn push_unknown<A: Allocator>(text: &mut String<A>, at: &Unreplayable) -> Result
     )
 }
 
-/// Appends what the log leads to in a register.
+/// Appends what the log leads to in a PCR.
 fn push_led_to<A: Allocator + Copy>(
     text: &mut String<A>,
     alloc: A,
-    registers: &Registers,
+    registers: &Pcrs,
     register: u32,
     locality: u8,
 ) -> Result<(), AllocError>

@@ -3,7 +3,7 @@ ghost use Rattle.uefi_auditing.specs.verify.Reading.{number_in, IsBankLine, IsRe
 ghost use Rattle.pcr_replay.specs.Views.{value_of};
 
 use hex::FromHexError;
-use pcr_replay::{Bank, RegisterValue};
+use pcr_replay::{Bank, PcrValue};
 use std::alloc::{AllocError, Allocator};
 
 /// Returns the name in the line that a bank begins with, as `tpm2_pcrread` prints it: two spaces,
@@ -18,7 +18,7 @@ pub fn bank_in_line(line: &[u8]) -> Option<&[u8]>
     }
 }
 
-/// Returns the number and the digits in the line of a register, as `tpm2_pcrread` prints it: four
+/// Returns the number and the digits in the line of a PCR, as `tpm2_pcrread` prints it: four
 /// spaces, the number as wide as two digits, `: 0x` and hex digits. `None` for another line.
 pub fn register_in_line(line: &[u8]) -> Option<(u32, &[u8])>
     ensures { MatchOption result
@@ -61,13 +61,13 @@ fn number_in(first: u8, second: u8) -> Option<u32>
     Some(10 * tens + u32::from(second - b'0'))
 }
 
-/// Returns the value that hex digits state for a register of a bank; `None` if they state none, or
+/// Returns the value that hex digits state for a PCR of a bank; `None` if they state none, or
 /// one that hasn't the bank's length.
 pub(crate) fn value_in<A: Allocator>(
     alloc: A,
     bank: Bank,
     digits: &[u8],
-) -> Result<Option<RegisterValue>, AllocError>
+) -> Result<Option<PcrValue>, AllocError>
     ensures { IfOk result (λ found. MatchOption found
         ((value : List ℕ) → IsValueIn bank digits.now value → ⊥)
         (λ value. IsValueIn bank digits.now (value_of value))) }
@@ -80,5 +80,5 @@ pub(crate) fn value_in<A: Allocator>(
     if bytes.len() != bank.size() {
         return Ok(None);
     }
-    Ok(Some(RegisterValue::new(bytes.as_slice())))
+    Ok(Some(PcrValue::new(bytes.as_slice())))
 }

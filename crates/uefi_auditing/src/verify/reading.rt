@@ -1,33 +1,33 @@
 ghost use Rattle.std.specs.Prelude.{◌≡◌, ◌++◌, ◌∷◌, List, ℕ, IfErr, IfOk, MatchOption, Some};
 ghost use Rattle.pcr_replay.specs.Views.{value_of};
 ghost use Rattle.uefi_auditing.specs.declared.verify.reading.HeldError.TheVariants.{Memory};
-ghost use Rattle.uefi_auditing.specs.declared.verify.reading.HeldRegister.{HeldRegister};
+ghost use Rattle.uefi_auditing.specs.declared.verify.reading.HeldPcr.{HeldPcr};
 ghost use Rattle.uefi_auditing.specs.verify.Reading.{HasNoBreak, IsBankNamed, IsFileError, IsFileOf, IsTextError, IsTextOf};
 ghost use Rattle.uefi_auditing.specs.verify.Reading.{StatesNothing, StatesRegister};
 ghost use Rattle.uefi_auditing.specs.private.verify.Lines.{ReadsLine};
 
 use crate::text::bank_named;
 use crate::verify::line::{bank_in_line, register_in_line, value_in};
-use pcr_replay::{Bank, RegisterValue};
+use pcr_replay::{Bank, PcrValue};
 use std::alloc::{AllocError, Allocator};
 
-/// A register that a TPM held.
+/// A PCR that a TPM held.
 #[derive(Clone, Copy)]
-pub struct HeldRegister {
+pub struct HeldPcr {
     /// Its bank.
     pub bank: Bank,
     /// Its number.
     pub register: u32,
     /// What it held.
-    pub value: RegisterValue,
+    pub value: PcrValue,
 }
 
-/// Why no registers were read from a text.
+/// Why no PCRs were read from a text.
 #[derive(Clone, Copy, PartialEq, Eq, Debug, Drop)]
 pub enum HeldError {
     /// An allocation failed.
     Memory,
-    /// The line that begins at this offset neither begins a bank nor states a register of a bank
+    /// The line that begins at this offset neither begins a bank nor states a PCR of a bank
     /// that can be replayed, or it doesn't end.
     Line(usize),
 }
@@ -40,19 +40,19 @@ impl From<AllocError> for HeldError {
     }
 }
 
-/// Returns the registers that `tpm2_pcrread` of tpm2-tools printed. Hex digits may be of either
+/// Returns the PCRs that `tpm2_pcrread` of tpm2-tools printed. Hex digits may be of either
 /// case.
 ///
 /// # Errors
 ///
 /// - [`HeldError::Memory`] if an allocation fails.
 /// - [`HeldError::Line`] with the offset of the first line that is none of `tpm2_pcrread`'s, that
-///   states a register of a bank that can't be replayed, or a value of another length than its
+///   states a PCR of a bank that can't be replayed, or a value of another length than its
 /// bank's.
 pub fn held_in_text<A: Allocator + Copy>(
     alloc: A,
     text: &[u8],
-) -> Result<Vec<HeldRegister, A>, HeldError>
+) -> Result<Vec<HeldPcr, A>, HeldError>
     ensures held { IfOk result (λ held. IsTextOf text.now held.items) }
     ensures error { IfErr result (λ error. IsTextError text.now error) }
 {
@@ -73,11 +73,11 @@ pub fn held_in_text<A: Allocator + Copy>(
     Ok(held)
 }
 
-/// Reads a line: of a bank, of which the registers are that follow, or of a register, which is
+/// Reads a line: of a bank, of which the PCRs are that follow, or of a PCR, which is
 /// appended. Returns the bank of the lines that follow; `None` if the line is neither.
 fn read_line<A: Allocator + Copy>(
     alloc: A,
-    held: &mut Vec<HeldRegister, A>,
+    held: &mut Vec<HeldPcr, A>,
     bank: Option<Bank>,
     line: &[u8],
 ) -> Result<Option<Option<Bank>>, AllocError>
@@ -94,7 +94,7 @@ fn read_line<A: Allocator + Copy>(
     Ok(Some(bank))
 }
 
-/// Returns the value of a register of a bank that its file in Linux's sysfs states, as in
+/// Returns the value of a PCR of a bank that its file in Linux's sysfs states, as in
 /// `pcr-sha256/0`: hex digits and a line break.
 ///
 /// # Errors
@@ -106,7 +106,7 @@ pub fn held_in_file<A: Allocator + Copy>(
     alloc: A,
     bank: Bank,
     text: &[u8],
-) -> Result<RegisterValue, HeldError>
+) -> Result<PcrValue, HeldError>
     ensures value { IfOk result (λ value. IsFileOf bank text.now (value_of value)) }
     ensures error { IfErr result (λ error. IsFileError bank text.now error) }
 {
@@ -124,12 +124,8 @@ fn split_line(text: &[u8]) -> Option<(&[u8], &[u8])>
     ensures { MatchOption result (HasNoBreak text.now) (λ split. HasNoBreak split.0.now
         × (text.now ≡ split.0.now ++ 10 ∷ split.1.now)) }
 {
-    for at in 0..text.len() {
-        if text[at] == b'\n' {
-            return Some((&text[..at], &text[at + 1..]));
-        }
-    }
-    None
+    let at = text.iter().position(|byte| *byte == b'\n')?;
+    Some((&text[..at], &text[at + 1..]))
 }
 
 /// Returns the bank of this name; `None` if none that can be replayed has it.
@@ -142,14 +138,14 @@ fn bank_of_name(name: &[u8]) -> Option<Bank>
     }
 }
 
-/// Returns the register of the bank that the line states; `None` if it states none.
+/// Returns the PCR of the bank that the line states; `None` if it states none.
 fn held_in_line<A: Allocator>(
     alloc: A,
     bank: Option<Bank>,
     line: &[u8],
-) -> Result<Option<HeldRegister>, AllocError>
+) -> Result<Option<HeldPcr>, AllocError>
     ensures { IfOk result (λ found. MatchOption found
-        ((held : HeldRegister) → bank ≡ Some held.bank → StatesRegister line.now held → ⊥)
+        ((held : HeldPcr) → bank ≡ Some held.bank → StatesRegister line.now held → ⊥)
         (λ held. (bank ≡ Some held.bank) × StatesRegister line.now held)) }
 {
     let Some(bank) = bank else {
@@ -161,7 +157,7 @@ fn held_in_line<A: Allocator>(
     let Some(value) = value_in(alloc, bank, digits)? else {
         return Ok(None);
     };
-    Ok(Some(HeldRegister {
+    Ok(Some(HeldPcr {
         bank,
         register,
         value,

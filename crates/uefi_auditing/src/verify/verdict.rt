@@ -8,15 +8,15 @@ ghost use Rattle.uefi_auditing.specs.verify.Verdict.{agree_line, AppendsVerdict}
 use crate::text::LogFile;
 use crate::verify::agreement::{agreeing_locality, nearest_locality};
 use crate::verify::difference::push_differences;
-use crate::verify::reading::HeldRegister;
+use crate::verify::reading::HeldPcr;
 use pcr_replay::laws::one_contents;
 use pcr_replay::{Log, startup_locality};
 use std::alloc::{AllocError, Allocator};
 
-/// Appends whether a log leads to these registers: one line if it does, or else a line for each
-/// register that differs. Returns whether it does.
+/// Appends whether a log leads to these PCRs: one line if it does, or else a line for each
+/// PCR that differs. Returns whether it does.
 ///
-/// Register 0 begins with the locality that is `given`, or else with the one that the log states.
+/// PCR 0 begins with the locality that is `given`, or else with the one that the log states.
 /// If the log states none, it may agree as begun at 0, 3 or 4. The line says at which; if they
 /// don't agree, the lines are those of the locality at which the fewest differ.
 ///
@@ -27,7 +27,7 @@ pub fn push_verdict<A: Allocator + Copy>(
     text: &mut String<A>,
     alloc: A,
     file: &LogFile<'_>,
-    held: &[HeldRegister],
+    held: &[HeldPcr],
     given: Option<u8>,
 ) -> Result<bool, AllocError>
     ensures agree { IfOk result (λ agrees. IsTrue agrees
@@ -49,7 +49,7 @@ pub fn push_verdict<A: Allocator + Copy>(
     }
 }
 
-/// Appends the line that says how many registers agree, and at which locality.
+/// Appends the line that says how many PCRs agree, and at which locality.
 fn push_agreement<A: Allocator>(
     text: &mut String<A>,
     name: &str,

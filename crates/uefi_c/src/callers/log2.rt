@@ -1,18 +1,17 @@
 ghost use Rattle.std.specs.Prelude.{◌≡◌, ◌≤◌, ◌<◌, ◌^◌, List, Option, length, IfOk, map, flat_map};
 ghost use Rattle.std.specs.List.{AllByRecursion};
+ghost use Rattle.uefi_tcg.specs.v2.Digests.{digest_bytes};
 ghost use Rattle.uefi_tcg.specs.v2.Event.{Digest, Event, IsDigest};
 ghost use Rattle.uefi_tcg.specs.v2.Header.{HeaderEvent, after_header, after_event};
 ghost use Rattle.uefi_tcg.specs.private.v2.Log.{IsLongestFrom};
 ghost use Rattle.uefi_tcg.specs.v2.Log.{IsLog};
-ghost use Rattle.uefi_tcg.specs.v2.OneEvent.{digest_bytes, parts_of};
-ghost use Rattle.uefi_tcg.specs.v2.Spelling.{spelled};
-ghost use Rattle.uefi_c.specs.Log2.{digest_seen, parts_seen};
+ghost use Rattle.uefi_tcg.specs.v2.Reading.{rows_in};
+ghost use Rattle.uefi_c.specs.Log2.{digest_seen, parts_of, parts_seen};
 
 use crate::log2::{
     UefiDigest, UefiEvent2, UefiLogHeader, uefi_digest_next, uefi_log2_header, uefi_log2_next,
 };
 use std::alloc::{AllocError, Allocator};
-use uefi_tcg::v2::DigestTable;
 
 /// Collects the events of a version 2 log, by a loop: the log, as the library's `iter` gives it.
 pub fn log2_by_steps<'a, A: Allocator>(
@@ -28,7 +27,7 @@ pub fn log2_by_steps<'a, A: Allocator>(
     if !uefi_log2_header(log, last_entry, &mut header) {
         return Ok(Vec::new(alloc));
     }
-    events_from(alloc, log, last_entry, &header.table, header.events_start)
+    events_from(alloc, log, last_entry, header.rows, header.events_start)
 }
 
 /// Collects those after the header event, by a loop, as the library's `iter_after_header_event`
@@ -46,21 +45,21 @@ pub fn log2_after_event_by_steps<'a, A: Allocator>(
     if !uefi_log2_header(log, last_entry, &mut header) {
         return Ok(Vec::new(alloc));
     }
-    events_from(alloc, log, last_entry, &header.table, header.event_end)
+    events_from(alloc, log, last_entry, header.rows, header.event_end)
 }
 
-/// Collects the events under the table from the start on.
+/// Collects the events under the table of these rows from the start on.
 fn events_from<'a, A: Allocator>(
     alloc: A,
     log: &'a [u8],
     last_entry: usize,
-    table: &DigestTable<'_>,
+    rows: &'a [u8],
     start: usize,
 ) -> Result<Vec<UefiEvent2<'a>, A>, AllocError>
     requires start { start ≤ length log.now }
-    requires few { length (spelled table.now) < 2 ^ 32 }
+    requires few { length (rows_in rows.now) < 2 ^ 32 }
     ensures { IfOk result (λ views. (events : List Event)
-        × IsLongestFrom (spelled table.now) start log.now last_entry events
+        × IsLongestFrom (rows_in rows.now) start log.now last_entry events
         × (map parts_seen views.items ≡ map parts_of events)) }
 {
     let mut views = Vec::new(alloc);
@@ -72,7 +71,7 @@ fn events_from<'a, A: Allocator>(
         pcr_index: 0,
         event_type: 0,
     };
-    while uefi_log2_next(log, last_entry, table, &mut offset, &mut event) {
+    while uefi_log2_next(log, last_entry, rows, &mut offset, &mut event) {
         views.push(event)?;
     }
     Ok(views)
@@ -81,7 +80,6 @@ fn events_from<'a, A: Allocator>(
 /// Returns a header whose fields are zero and empty.
 fn no_header<'a>() -> UefiLogHeader<'a> {
     UefiLogHeader {
-        table: DigestTable::from_rows(&[]),
         rows: &[],
         vendor: &[],
         events_start: 0,
@@ -94,15 +92,15 @@ fn no_header<'a>() -> UefiLogHeader<'a> {
     }
 }
 
-/// Collects the digests that bytes encode under this table, by a loop: those of the event that has
+/// Collects the digests that bytes encode under the table of these rows, by a loop: those of the event that has
 /// the bytes, as the library's `digests` gives them.
 pub fn digests_by_steps<'a, A: Allocator>(
     alloc: A,
     digests: &'a [u8],
-    table: &DigestTable<'_>,
+    rows: &[u8],
 ) -> Result<Vec<UefiDigest<'a>, A>, AllocError>
-    ensures { IfOk result (λ views. (all : List Digest)
-        → AllByRecursion (IsDigest (spelled table.now)) all
+    ensures { IfOk result (λ views. length (rows_in rows.now) < 2 ^ 32 → (all : List Digest)
+        → AllByRecursion (IsDigest (rows_in rows.now)) all
         → digests.now ≡ flat_map digest_bytes all → map digest_seen views.items ≡ all) }
 {
     let mut views = Vec::new(alloc);
@@ -111,7 +109,7 @@ pub fn digests_by_steps<'a, A: Allocator>(
         bytes: &[],
         algorithm: 0,
     };
-    while uefi_digest_next(digests, table, &mut offset, &mut digest) {
+    while uefi_digest_next(digests, rows, &mut offset, &mut digest) {
         views.push(digest)?;
     }
     Ok(views)

@@ -8,7 +8,9 @@ use std::alloc::{AllocError, Global};
 use uefi_tcg::PcrIndex;
 use uefi_tcg::v2::{EventLog, PcrEvent};
 
-/// Returns the events of a log that extended a register, in order.
+/// Returns the events of a log that extended a register, in order, from where the Rust crate `uefi`
+/// starts. For those that firmware writes, and that Linux, tpm2-tools and `uefi_audit` read, call
+/// `iter_after_header_event`.
 pub fn events_of_register<'a>(
     alloc: Global,
     bytes: &'a [u8],

@@ -1,9 +1,9 @@
 -- Names for parts of the definitions, which private contracts and proofs speak of.
-use Rattle.std.specs.Prelude.{◌≡◌, ◌≢◌, ℕ, ◌+◌, ◌*◌, ◌%◌, ◌^◌, ◌==◌, ◌&&◌, not, Bool, List, [], Option, MatchOption, IsSomeAnd, codes, fold, length, nat_lt, ⊤}
+use Rattle.std.specs.Prelude.{◌≡◌, ◌≢◌, ℕ, ◌+◌, ◌*◌, ◌%◌, ◌^◌, ◌==◌, ◌&&◌, not, Bool, List, [], Option, MatchOption, IsSomeAnd, codes, fold, ⊤}
 use Rattle.std.specs.Int.{is_in_range}
-use Rattle.std.specs.List.{slice_split, position_or_len}
-use Rattle.uefi_hii.specs.Pairs.{Pair, ampersand, is_equals_sign}
-use Rattle.uefi_hii.specs.Configuration.{Configuration, Spells}
+use Rattle.std.specs.List.{slice_split}
+use Rattle.uefi_hii.specs.Pairs.{Pair, ampersand}
+use Rattle.uefi_hii.specs.Configuration.{Configuration}
 
 abbrev pub plus_sign : ℕ
 plus_sign = 43
@@ -18,15 +18,9 @@ is_ampersand c = c == ampersand
 abbrev pub pieces : List ℕ → List (List ℕ)
 pieces text = slice_split is_ampersand text
 
-abbrev pub has_equals_sign : List ℕ → Bool
-has_equals_sign piece = nat_lt (position_or_len is_equals_sign piece) (length piece)
-
 -- The number that bytes are, the highest first.
 abbrev pub big_endian : List ℕ → ℕ
 big_endian bytes = fold (λ number byte. number * 256 + byte) 0 bytes
-
-abbrev pub guid_length : ℕ
-guid_length = 16
 
 -- A unit of a name is neither zero nor a surrogate.
 abbrev pub is_name_unit : ℕ → Bool
@@ -41,9 +35,6 @@ low_16_bits n = n % 2 ^ 16
 -- An element skips each pair whose key is neither OFFSET nor GUID.
 abbrev pub IsSkipped : Pair → Type 0
 IsSkipped pair = (pair.key ≢ codes "OFFSET") × (pair.key ≢ codes "GUID")
-
-abbrev pub IsBody : List Pair → Type 0
-IsBody pairs = (c : Configuration) × Spells pairs c
 
 -- The coming pair is there, and has another key.
 abbrev pub IsOtherKey : List ℕ → Option Pair → Type 0

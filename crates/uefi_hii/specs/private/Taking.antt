@@ -1,5 +1,5 @@
 -- What the helpers of the readers take from the pairs that are left.
-use Rattle.std.specs.Prelude.{◌≡◌, ◌⊎◌, ℕ, List, [], ◌∷◌, ◌++◌, Option, Some, None, Result, Ok, Err, IsSome, codes, ⊤}
+use Rattle.std.specs.Prelude.{◌≡◌, ◌⊎◌, ℕ, List, [], ◌∷◌, ◌++◌, Option, Some, None, Result, Ok, Err, IsSome, IsSomeAnd, codes, ⊤}
 use Rattle.std.specs.List.{AllByRecursion}
 use Rattle.uefi_path.specs.declared.boxed.BoxedDevicePath.{BoxedDevicePath}
 use Rattle.uefi_path.specs.Views.{boxed_nodes}
@@ -8,7 +8,7 @@ use Rattle.uefi_hii.specs.declared.configuration.ConfigurationStringElement.{Con
 use Rattle.uefi_hii.specs.declared.error.ParseError.{ParseError}
 use Rattle.uefi_hii.specs.declared.error.ParseError.TheVariants.{Memory}
 use Rattle.uefi_hii.specs.Pairs.{Pair}
-use Rattle.uefi_hii.specs.Configuration.{number_in, HasPath, SpellsHeader, SpellsElement}
+use Rattle.uefi_hii.specs.Configuration.{number_in, value_at, HasPath, SpellsHeader, SpellsElement}
 use Rattle.uefi_hii.specs.private.Parts.{low_16_bits, IsSkipped}
 use Rattle.uefi_hii.specs.Slots.{PathSlot, AltSlot, OffsetSlot, WidthSlot, ValueSlot, IsGood, IsKey, error_of}
 use Rattle.uefi_hii.specs.Group.{Group}
@@ -24,6 +24,10 @@ Misses Good before after = ((before ≡ []) × (after ≡ [])) ⊎ ((pair : Pair
 abbrev pub Takes : {A : Type 0} → (Pair → Option A) → List Pair → Option A → List Pair → Type 0
 Takes value_in before (Some value) after = (pair : Pair) × (before ≡ pair ∷ after) × (value_in pair ≡ Some value)
 Takes value_in before None after = Misses (λ pair. IsSome (value_in pair)) before after
+
+-- The next pair has the key NAME and a value.
+abbrev pub IsNamed : List Pair → Type 0
+IsNamed pairs = IsSomeAnd (first_pair pairs) (λ pair. IsSome (value_at (codes "NAME") pair))
 
 -- The next pair's value began with the path, and the pair is gone.
 abbrev pub TakesPath : {A : Type 0} → List Pair → Option (BoxedDevicePath A) → List Pair → Type 0

@@ -16,6 +16,13 @@ record_length = 46
 abbrev pub range_type : ℕ → ResourceRangeType
 range_type number = if number == 0 then Memory else if number == 1 then Io else if number == 2 then Bus else Unknown number
 
+-- The number of what a range is made of.
+abbrev pub type_number : ResourceRangeType → ℕ
+type_number Memory = 0
+type_number Io = 1
+type_number Bus = 2
+type_number (Unknown number) = number
+
 -- The resource with these fields.
 abbrev pub resource_given : ResourceRangeType → ℕ → ℕ → ℕ → ℕ → ℕ → ℕ → ℕ → QwordAddressSpaceDescriptor
 resource_given kind general_flags type_specific_flags granularity address_min address_max translation_offset address_length =

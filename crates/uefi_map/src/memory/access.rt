@@ -5,6 +5,7 @@ ghost use Rattle.uefi_map.specs.memory.Descriptor.{descriptor, with_descriptor};
 ghost use Rattle.uefi_map.specs.memory.Map.{IsMap, AreSorted, count_of};
 
 use super::descriptor::{MemoryDescriptor, write};
+use super::iter::MemoryMapIter;
 use super::layout::{DESCRIPTOR_LENGTH, offset_of};
 use super::meta::MemoryMapMeta;
 
@@ -23,15 +24,7 @@ pub(crate) fn are_sorted(bytes: &[u8], meta: &MemoryMapMeta) -> bool
     requires { IsMap (length bytes.now) meta.now }
     ensures { IsTrue result ↔ AreSorted bytes.now meta.now }
 {
-    let mut last = 0;
-    for i in 0..meta.entry_count() {
-        let start = read_at(bytes, meta, i).phys_start;
-        if start < last {
-            return false;
-        }
-        last = start;
-    }
-    true
+    MemoryMapIter::of(bytes, meta).is_sorted_by_key(|entry| entry.phys_start)
 }
 
 /// Writes the descriptor at an index of a map.

@@ -22,7 +22,10 @@ use uefi_base::little_endian::{u32_at, u64_at};
 /// | 32 | 8 | attributes |
 ///
 /// All numbers are little-endian. Every number is kept as it was read, and so is the padding.
+///
+/// The fields lie in memory as in the table: the layout is that of C.
 #[derive(Clone, Copy, PartialEq, Eq, Debug)]
+#[repr(C)]
 pub struct MemoryDescriptor {
     /// What the memory is for.
     pub ty: MemoryType,
@@ -37,6 +40,8 @@ pub struct MemoryDescriptor {
     /// What the memory is capable of.
     pub att: MemoryAttribute,
 }
+
+const _: () = prove!(size_of::<MemoryDescriptor>() == DESCRIPTOR_LENGTH);
 
 impl MemoryDescriptor {
     /// The version of the descriptors that this type reads and writes.

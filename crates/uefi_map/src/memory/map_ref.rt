@@ -17,9 +17,7 @@ use super::meta::MemoryMapMeta;
 /// /// Returns the count of pages in a buffer of firmware's, or `None` if it holds no map or the sum
 /// /// doesn't fit.
 /// pub fn pages_in(buffer: &[u8], meta: MemoryMapMeta) -> Option<u64> {
-///     let Ok(map) = MemoryMapRef::new(buffer, meta) else {
-///         return None;
-///     };
+///     let map = MemoryMapRef::new(buffer, meta).ok()?;
 ///     let mut pages = 0u64;
 ///     for entry in map.entries() {
 ///         pages = pages.checked_add(entry.page_count)?;

@@ -1,6 +1,7 @@
 /// What a range of memory is for (UEFI 2.10, 7.2 `EFI_BOOT_SERVICES.AllocatePages()`,
-/// `EFI_MEMORY_TYPE`). A number without a name here is kept as it is.
+/// `EFI_MEMORY_TYPE`). A number without a name here is kept as it is. The layout is that of `u32`.
 #[derive(Clone, Copy, PartialEq, Eq, Debug)]
+#[repr(transparent)]
 pub struct MemoryType(pub u32);
 
 impl MemoryType {

@@ -1,7 +1,15 @@
-ghost use Rattle.std.specs.Prelude.{◌≡◌, ◌≤◌, length};
-ghost use Rattle.uefi_map.specs.pci.Resource.{range_type, resource_in};
+ghost use Rattle.std.specs.Prelude.{◌≡◌, ◌≤◌, ℕ, [], ◌∷◌, length, IfOk, IfErr, IfSome, IsNone};
+ghost use Rattle.uefi_map.specs.pci.Resource.{range_type, type_number, resource_in};
+ghost use Rattle.uefi_map.specs.pci.ResourceList.{BeginWithRecords, BeginWith, end_tag, IsFaultOf};
 
+use super::resource_error::ResourceError;
 use uefi_base::little_endian::u64_at;
+
+/// The first byte of a record.
+const RECORD_TAG: u8 = 0x8a;
+
+/// The first byte of the end tag.
+const END_TAG: u8 = 0x79;
 
 /// The length of a record.
 pub(crate) const RECORD_LENGTH: usize = 46;
@@ -34,6 +42,21 @@ pub enum ResourceRangeType {
     Bus,
     /// Another number, which is kept as it is.
     Unknown(u8),
+}
+
+impl ResourceRangeType {
+    /// Returns the number of the type.
+    pub fn number(&self) -> u8
+        ensures number { result ≡ type_number self.now }
+        ensures back { (number : ℕ) → self.now ≡ range_type number → result ≡ number }
+    {
+        match self {
+            ResourceRangeType::Memory => 0,
+            ResourceRangeType::Io => 1,
+            ResourceRangeType::Bus => 2,
+            ResourceRangeType::Unknown(number) => *number,
+        }
+    }
 }
 
 /// The type with the number: a named one for 0, 1 and 2, and otherwise
@@ -90,9 +113,38 @@ pub struct QwordAddressSpaceDescriptor {
 }
 
 impl QwordAddressSpaceDescriptor {
+    /// Reads the record that the bytes begin with, and returns its resource and the bytes after it.
+    /// If the bytes begin with the end tag, it returns `None`.
+    ///
+    /// [`ResourceList::try_from`](crate::ResourceList) reads each record so.
+    ///
+    /// # Errors
+    ///
+    /// - [`NoEndTag`](ResourceError::NoEndTag) if there is no byte.
+    /// - [`CutRecord`](ResourceError::CutRecord) if the tag of a record is there, and the bytes end
+    ///   before the record does.
+    /// - [`UnknownTag`](ResourceError::UnknownTag) with the first byte, if it is neither tag.
+    pub fn read(bytes: &[u8]) -> Result<Option<(QwordAddressSpaceDescriptor, &[u8])>, ResourceError>
+        ensures record { IfOk result (λ next. IfSome next
+            (λ first. BeginWithRecords bytes.now (first.0 ∷ []) first.1.now)) }
+        ensures end { IfOk result (λ next. IsNone next → BeginWith bytes.now end_tag) }
+        ensures fault { IfErr result (λ fault. IsFaultOf bytes.now fault) }
+    {
+        match bytes.first() {
+            None => Err(ResourceError::NoEndTag),
+            Some(&END_TAG) => Ok(None),
+            Some(&RECORD_TAG) if bytes.len() < RECORD_LENGTH => Err(ResourceError::CutRecord),
+            Some(&RECORD_TAG) => {
+                let (record, after) = bytes.split_at(RECORD_LENGTH);
+                Ok(Some((QwordAddressSpaceDescriptor::in_record(record), after)))
+            }
+            Some(tag) => Err(ResourceError::UnknownTag(*tag)),
+        }
+    }
+
     /// Returns the fields of a record, whatever its first three bytes.
     #[tactic(auto, unfolding(crate::specs::pci::Resource::resource_in))]
-    pub(crate) fn read(bytes: &[u8]) -> QwordAddressSpaceDescriptor
+    pub(crate) fn in_record(bytes: &[u8]) -> QwordAddressSpaceDescriptor
         requires { RECORD_LENGTH ≤ length bytes.now }
         ensures { result ≡ resource_in bytes.now }
     {

@@ -5,6 +5,7 @@ ghost use Rattle.uefi_map.specs.pci.Views.{resources_in, resources_left};
 
 use super::resource::{QwordAddressSpaceDescriptor, RECORD_LENGTH};
 use std::iter::{ExactSizeIterator, FusedIterator};
+use uefi_base::buffer::length_fits;
 
 /// The resources of a list, in order, each by value.
 ///
@@ -22,8 +23,7 @@ impl<'a> ResourceIter<'a> {
         ensures resources { resources_left result ≡ resources_in rest.now }
         ensures countable { length (resources_left result) < 2 ^ 64 }
     {
-        // A slice's length is a `usize`, so what its bytes hold can be counted.
-        let _length = rest.len();
+        length_fits(rest);
         ResourceIter { rest }
     }
 }
@@ -39,7 +39,7 @@ impl<'a> Iterator for ResourceIter<'a> {
     fn next(&mut self) -> Option<QwordAddressSpaceDescriptor> {
         let (record, rest) = self.rest.split_at_checked(RECORD_LENGTH)?;
         self.rest = rest;
-        Some(QwordAddressSpaceDescriptor::read(record))
+        Some(QwordAddressSpaceDescriptor::in_record(record))
     }
 
     /// Returns the count of resources that are left, as both bounds.

@@ -1,7 +1,8 @@
 -- The first zero among units.
 use Rattle.std.proofs.Common.{◌≡◌, ◌≢◌, ℕ, zero, suc, ◌+◌, ◌-◌, ◌*◌, ◌/◌, ◌<◌, ◌≤◌, Option, Some, List, [], ◌∷◌, length}
-use Rattle.std.proofs.Common.{get_or, take, drop, sym, ◌∙◌, ap, arith, cond, ⊎_elim, subst}
+use Rattle.std.proofs.Common.{get_or, take, drop, sym, ◌∙◌, ap, arith, cond, ⊎_elim, subst, refl, Bool, true, false}
 use Rattle.std.specs.Prelude.{◌==◌}
+use Rattle.std.specs.Option.{option_map}
 use Rattle.std.specs.List.{position_from}
 use Rattle.std.proofs.lemmas.Bool.{cases_eq}
 use Rattle.std.proofs.lemmas.Bool.Decides.{nat_tests}
@@ -11,11 +12,15 @@ use Rattle.uefi_base.proofs.UnitsOfBytes.{units_by_place}
 use Rattle.uefi_records.specs.file.Name.{first_zero, unit_length}
 
 -- An odd last byte is in no unit.
-pub whole_units : (bytes : List ℕ) → units_of (take (length bytes / 2 * 2) bytes) ≡ units_of bytes
+whole_units : (bytes : List ℕ) → units_of (take (length bytes / 2 * 2) bytes) ≡ units_of bytes
 whole_units bytes =
     let twice : length bytes / 2 * 2 ≡ 2 * (length bytes / 2) = omega arith in
     ap (λ n. units_of (take n bytes)) twice ∙ units_by_place.front bytes (length bytes / 2)
     ∙ take_all (length bytes / 2) (units_of bytes) (omega (arith, units_by_place.counted bytes))
+
+pub units_of_whole : (bytes whole : List ℕ) → whole ≡ take (length bytes / 2 * 2) bytes
+    → units_of whole ≡ units_of bytes
+units_of_whole bytes whole is = ap units_of is ∙ whole_units bytes
 
 -- No unit before the index is zero.
 abbrev pub NoZeroBefore : ℕ → List ℕ → Type 0
@@ -86,6 +91,27 @@ found_first (u ∷ units) i found is = ⊎_elim
     let index : found - i ≡ suc (found - (i + 1)) = omega (arith, later.0) in
     (omega (arith, later.0), rw index (later_by_one u units (found - (i + 1)) positive later.1)))
     (cases_eq u 0)
+
+-- A search that begins to count at a number finds the same unit, that much later.
+counted_on : (b : Bool) (start i : ℕ) (rest later : Option ℕ) → option_map (λ k. start + k) rest ≡ later
+    → option_map (λ k. start + k) (cond b (Some i) rest) ≡ cond b (Some (start + i)) later
+counted_on true start i rest later same = refl
+counted_on false start i rest later same = same
+
+counted_from : (start i : ℕ) (units : List ℕ) → option_map (λ k. start + k) (position_from (λ unit. unit == 0) i units)
+    ≡ position_from (λ unit. unit == 0) (start + i) units
+counted_from start i [] = refl
+counted_from start i (u ∷ units) =
+    let next : start + (i + 1) ≡ start + i + 1 = omega arith in
+    counted_on (u == 0) start i (position_from (λ unit. unit == 0) (i + 1) units) _
+    (counted_from start (i + 1) units ∙ ap (λ n. position_from (λ unit. unit == 0) n units) next)
+
+pub found_from : (start : ℕ) (units : List ℕ) (found : Option ℕ) → found ≡ first_zero units
+    → option_map (λ k. start + k) found ≡ position_from (λ unit. unit == 0) start units
+found_from start units found is =
+    let first : start + 0 ≡ start = omega arith in
+    ap (option_map (λ k. start + k)) is ∙ counted_from start 0 units
+    ∙ ap (λ n. position_from (λ unit. unit == 0) n units) first
 
 pub first_zero_is : (units : List ℕ) (index : ℕ) → first_zero units ≡ Some index → IsFirstAt units index
 first_zero_is units index is = let same : index - 0 ≡ index =

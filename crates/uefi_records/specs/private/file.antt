@@ -1,2 +1,1 @@
-pub mod Nonzero
 pub mod Kept

@@ -10,8 +10,9 @@ use bitflags::{Flag, Flags, bitflag_items};
 /// `EFI_TIME`).
 ///
 /// Equality and order are those of the bits, and the default is the empty set.
-/// [`Daylight::from_bits_retain`] keeps bits without a name.
+/// [`Daylight::from_bits_retain`] keeps bits without a name. The layout is that of `u8`.
 #[derive(Clone, Copy, PartialEq, Eq, PartialOrd, Ord, Default, Debug)]
+#[repr(transparent)]
 pub struct Daylight(u8);
 
 bitflag_items! {

@@ -10,8 +10,9 @@ use bitflags::{Flag, Flags, bitflag_items};
 /// `EFI_FILE_PROTOCOL.Open()`).
 ///
 /// Equality and order are those of the bits, and the default is the empty set.
-/// [`FileAttribute::from_bits_retain`] keeps bits without a name.
+/// [`FileAttribute::from_bits_retain`] keeps bits without a name. The layout is that of `u64`.
 #[derive(Clone, Copy, PartialEq, Eq, PartialOrd, Ord, Default, Debug)]
+#[repr(transparent)]
 pub struct FileAttribute(u64);
 
 bitflag_items! {

@@ -1,4 +1,4 @@
-use pcr_replay::{Bank, Log, Registers, replay};
+use pcr_replay::{Bank, Log, Pcrs, replay};
 use std::alloc::{AllocError, Global};
 use std::test::Fail;
 use test_support::{each_reads, each_shows};
@@ -91,7 +91,7 @@ const LOGS: [[&str; 2]; 19] = [
          4576656e7430330000000000000200020100000004001400000100000008000000010000000400aa \
          aaaaaaaaaaaaaaaaaaaaaaaaaaaaaaaaaaaaaa000000001800000008000000010000000400aaaaaa \
          aaaaaaaaaaaaaaaaaaaaaaaaaaaaaaaaaa00000000",
-        "1 103 NoRegister",
+        "1 103 NoPcr",
     ],
     // Register 23.
     [
@@ -152,7 +152,7 @@ const LOGS: [[&str; 2]; 19] = [
     [
         "0100000008000000aaaaaaaaaaaaaaaaaaaaaaaaaaaaaaaaaaaaaaaa000000001800000008000000 \
          bbbbbbbbbbbbbbbbbbbbbbbbbbbbbbbbbbbbbbbb00000000",
-        "1 32 NoRegister",
+        "1 32 NoPcr",
     ],
     // No bytes.
     [
@@ -201,7 +201,7 @@ const LEFT_OVER: [(&str, usize); 8] = [
 ];
 
 /// Returns registers 0, 1 and 17 as hex, those that there are.
-fn text_of(alloc: Global, registers: &Registers) -> Result<String, AllocError> {
+fn text_of(alloc: Global, registers: &Pcrs) -> Result<String, AllocError> {
     let mut text = String::new(alloc);
     for register in [0, 1, 17] {
         if let Some(value) = registers.value(PcrIndex(register)) {

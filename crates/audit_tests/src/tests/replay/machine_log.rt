@@ -1,4 +1,4 @@
-use pcr_replay::{Bank, Log, Registers, replay};
+use pcr_replay::{Bank, Log, Pcrs, replay};
 use std::alloc::Global;
 use std::test::Fail;
 use test_support::samples::MACHINE_LOG;
@@ -172,7 +172,7 @@ fn check(alloc: Global, bank: Bank, rows: &[(u32, &str)]) -> Result<(), Fail> {
 /// Checks that a register has this value, written as hex.
 fn check_register(
     alloc: Global,
-    registers: &Registers,
+    registers: &Pcrs,
     register: u32,
     expected: &str,
 ) -> Result<(), Fail> {

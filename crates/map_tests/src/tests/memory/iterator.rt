@@ -30,12 +30,8 @@ fn all_steps(entries: MemoryMapIter<'_>) -> AllSteps {
 
 /// Returns the first step and all steps of an iterator over a map of three descriptors.
 fn steps(input: &[u8]) -> Option<(FirstStep, AllSteps)> {
-    let Ok(map) = MemoryMapRef::new(input, meta_of(120, 40)) else {
-        return None;
-    };
-    let Ok(entries) = map.entries().clone() else {
-        return None;
-    };
+    let map = MemoryMapRef::new(input, meta_of(120, 40)).ok()?;
+    let entries = map.entries().clone().ok()?;
     Some((first_step(map.entries()), all_steps(entries)))
 }
 
@@ -54,9 +50,7 @@ fn what_is_left_is_counted(rt: HostRuntime) -> Result<(), Fail> {
 
 /// Returns the count of descriptors, and what the iterator gives when it is asked twice.
 fn steps_of_none(input: &&[u8]) -> Option<(usize, [bool; 2])> {
-    let Ok(map) = MemoryMapRef::new(*input, meta_of(0, 40)) else {
-        return None;
-    };
+    let map = MemoryMapRef::new(*input, meta_of(0, 40)).ok()?;
     let mut left = map.entries();
     Some((left.len(), [left.next().is_none(), left.next().is_none()]))
 }

@@ -181,15 +181,9 @@ fn facts<M: MemoryMap>(map: &M) -> Facts {
 
 /// Returns whether these descriptors stand at their indices, and no other after them.
 fn has_entries<M: MemoryMap>(map: &M, entries: &[[u64; 6]]) -> bool {
-    for (i, entry) in entries.iter().enumerate() {
-        let Some(found) = map.get(i) else {
-            return false;
-        };
-        if fields(&found) != *entry {
-            return false;
-        }
-    }
-    map.get(entries.len()).is_none()
+    let mut indices = entries.iter().enumerate();
+    indices.all(|(i, entry)| map.get(i).map(|found| fields(&found)) == Some(*entry))
+        && map.get(entries.len()).is_none()
 }
 
 /// Returns whether the iterator gives these descriptors, and no other.
@@ -268,12 +262,8 @@ fn a_descriptor_stands_at_its_index(rt: HostRuntime) -> Result<(), Fail> {
 
 /// Returns whether a map of three descriptors that begin at these addresses is sorted.
 fn is_sorted(alloc: Global, starts: &[u64; 3]) -> Option<bool> {
-    let Ok(input) = map_at(alloc, starts) else {
-        return None;
-    };
-    let Ok(map) = MemoryMapRef::new(input.as_slice(), meta_of(120, 40)) else {
-        return None;
-    };
+    let input = map_at(alloc, starts).ok()?;
+    let map = MemoryMapRef::new(input.as_slice(), meta_of(120, 40)).ok()?;
     Some(map.is_sorted())
 }
 

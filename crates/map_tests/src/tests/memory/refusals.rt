@@ -55,12 +55,8 @@ fn owned_refusal(input: &Vec<u8>, buffer: Vec<u8>, meta: MemoryMapMeta) -> [bool
 fn refusals(alloc: Global, row: &Row) -> Option<[bool; 5]> {
     let (byte, length, map_size, desc_size) = *row;
     let meta = meta_of(map_size, desc_size);
-    let Ok(input) = [byte].repeat(alloc, length) else {
-        return None;
-    };
-    let Ok(mut buffer) = input.clone() else {
-        return None;
-    };
+    let input = [byte].repeat(alloc, length).ok()?;
+    let mut buffer = input.clone().ok()?;
     let [read, written] = borrowed_refusals(input.as_slice(), buffer.as_mut_slice(), meta);
     let [owned, is_same] = owned_refusal(&input, buffer, meta);
     Some([!meta.is_map_within(length), read, written, owned, is_same])

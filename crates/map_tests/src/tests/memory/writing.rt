@@ -51,9 +51,7 @@ const SET: Set = [
 /// Returns the bytes of a firmware's map, in which the second stride ends with `ee`; or `None` if
 /// memory ran out.
 fn before(alloc: Global) -> Option<Vec<u8>> {
-    let Ok(mut map) = bytes(alloc, FIRMWARE_MAP) else {
-        return None;
-    };
+    let mut map = bytes(alloc, FIRMWARE_MAP).ok()?;
     map.as_mut_slice()
         .get_mut(88..96)?
         .copy_from_slice(&[0xee; 8]);
@@ -108,9 +106,7 @@ fn a_write_changes_forty_owned_bytes_alone(rt: HostRuntime) -> Result<(), Fail> 
 
 /// Sets the start of the third descriptor: the descriptor that was there, and where all begin then.
 fn set_start(buffer: &mut [u8], start: u64) -> Option<([u64; 6], [Option<u64>; 4])> {
-    let Ok(mut map) = MemoryMapRefMut::new(buffer, meta_of(160, 40)) else {
-        return None;
-    };
+    let mut map = MemoryMapRefMut::new(buffer, meta_of(160, 40)).ok()?;
     let mut written = map.get(2)?;
     written.phys_start = start;
     let before = map.set(2, written)?;
@@ -165,9 +161,7 @@ fn a_descriptor_is_set_at_its_index() -> Result<(), Fail> {
 /// Writes a byte of the second descriptor's type into the bytes of a firmware's map, and returns the
 /// type.
 fn type_written(buffer: &mut [u8]) -> Option<MemoryType> {
-    let Ok(mut map) = MemoryMapRefMut::new(buffer, meta_of(480, 48)) else {
-        return None;
-    };
+    let mut map = MemoryMapRefMut::new(buffer, meta_of(480, 48)).ok()?;
     write_type(&mut map, 49, 1)
 }
 

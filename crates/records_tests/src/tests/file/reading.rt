@@ -11,9 +11,7 @@ use uefi_records::{FileInfo, FileSystemInfo, FileSystemVolumeLabel};
 type File = ((u64, u64, u64), u64, [bool; 2], Units);
 
 fn file(input: &[u8]) -> Option<File> {
-    let Ok(info) = FileInfo::from_uefi(input, 86) else {
-        return None;
-    };
+    let info = FileInfo::from_uefi(input, 86).ok()?;
     Some((
         (info.size(), info.file_size(), info.physical_size()),
         info.attribute().bits(),
@@ -95,9 +93,7 @@ type Read = Result<Units, Refusal>;
 
 /// Returns the name of the file information record in a cut buffer.
 fn name_in(alloc: Global, (row, length, written): &Cut) -> Option<Read> {
-    let Ok(input) = bytes(alloc, row) else {
-        return None;
-    };
+    let input = bytes(alloc, row).ok()?;
     match FileInfo::from_uefi(input.get(..*length)?, *written) {
         Ok(info) => Some(Ok(units(info.file_name()))),
         Err(error) => Some(Err(refusal(error))),
@@ -182,12 +178,9 @@ fn is_judged_where_written(input: &[u8], written: usize) -> bool {
 
 /// Returns whether that holds whatever number was written.
 fn is_judged_by_what_is_left(input: &[u8]) -> bool {
-    for written in 0..=90 {
-        if !is_judged_where_written(input, written) {
-            return false;
-        }
-    }
-    is_judged_where_written(input, 1000) && is_judged_where_written(input, usize::MAX)
+    (0..=90).all(|written| is_judged_where_written(input, written))
+        && is_judged_where_written(input, 1000)
+        && is_judged_where_written(input, usize::MAX)
 }
 
 #[test]
@@ -197,9 +190,7 @@ fn a_cut_buffer_is_refused_by_what_is_left(rt: HostRuntime) -> Result<(), Fail> 
 
 /// Returns the units of the label in the bytes of which this many were written.
 fn label_in(alloc: Global, (row, written): &(&str, usize)) -> Option<Read> {
-    let Ok(input) = bytes(alloc, row) else {
-        return None;
-    };
+    let input = bytes(alloc, row).ok()?;
     match FileSystemVolumeLabel::from_uefi(input.as_slice(), *written) {
         Ok(label) => Some(Ok(units(label.volume_label()))),
         Err(error) => Some(Err(refusal(error))),
@@ -238,46 +229,30 @@ fn both_with_byte(
 /// Returns whether [`FILE`] is equal to itself with another byte at an offset.
 fn is_equal_file(alloc: Global, change: &(usize, u8)) -> Option<bool> {
     let (one, other) = both_with_byte(alloc, FILE, change)?;
-    let Ok(one) = FileInfo::from_uefi(one.as_slice(), 86) else {
-        return None;
-    };
-    let Ok(other) = FileInfo::from_uefi(other.as_slice(), 86) else {
-        return None;
-    };
+    let one = FileInfo::from_uefi(one.as_slice(), 86).ok()?;
+    let other = FileInfo::from_uefi(other.as_slice(), 86).ok()?;
     Some(one == other)
 }
 
 /// Returns whether [`FILE_SYSTEM`] is equal to itself with another byte at an offset.
 fn is_equal_file_system(alloc: Global, change: &(usize, u8)) -> Option<bool> {
     let (one, other) = both_with_byte(alloc, FILE_SYSTEM, change)?;
-    let Ok(one) = FileSystemInfo::from_uefi(one.as_slice(), 42) else {
-        return None;
-    };
-    let Ok(other) = FileSystemInfo::from_uefi(other.as_slice(), 42) else {
-        return None;
-    };
+    let one = FileSystemInfo::from_uefi(one.as_slice(), 42).ok()?;
+    let other = FileSystemInfo::from_uefi(other.as_slice(), 42).ok()?;
     Some(one == other)
 }
 
 /// Returns whether the labels in the bytes are equal.
 fn are_equal(one: &[u8], other: &[u8]) -> Option<bool> {
-    let Ok(one) = FileSystemVolumeLabel::from_uefi(one, 8) else {
-        return None;
-    };
-    let Ok(other) = FileSystemVolumeLabel::from_uefi(other, 8) else {
-        return None;
-    };
+    let one = FileSystemVolumeLabel::from_uefi(one, 8).ok()?;
+    let other = FileSystemVolumeLabel::from_uefi(other, 8).ok()?;
     Some(one == other)
 }
 
 /// Returns whether the labels in both rows are equal.
 fn are_equal_labels(alloc: Global, (one, other): &(&str, &str)) -> Option<bool> {
-    let Ok(one) = bytes(alloc, one) else {
-        return None;
-    };
-    let Ok(other) = bytes(alloc, other) else {
-        return None;
-    };
+    let one = bytes(alloc, one).ok()?;
+    let other = bytes(alloc, other).ok()?;
     are_equal(one.as_slice(), other.as_slice())
 }
 

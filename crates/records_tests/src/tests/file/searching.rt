@@ -52,12 +52,9 @@ fn zero_at(alloc: Global, length: usize, index: usize) -> Result<Vec<u8>, AllocE
 
 /// Returns the index of the first zero unit, by a search one unit at a time.
 fn one_by_one(bytes: &[u8]) -> Option<usize> {
-    for index in 0..bytes.len() / 2 {
-        if bytes[2 * index] == 0 && bytes[2 * index + 1] == 0 {
-            return Some(index);
-        }
-    }
-    None
+    bytes
+        .chunks_exact(2)
+        .position(|unit| unit == [0, 0].as_slice())
 }
 
 /// Checks that a zero unit at the index is found where a search one unit at a time finds it.
@@ -82,18 +79,18 @@ fn a_zero_unit_at_each_index_is_found_as_one_by_one(rt: HostRuntime) -> Result<(
     Ok(())
 }
 
-/// The bytes of more than twice eight pages, of which each has 2048 units.
-const MANY_PAGES: usize = 70_001;
+/// The length of an input of many units.
+const LONG: usize = 70_001;
 
-/// Indices about the ends of pages, and past all units.
-const ABOUT_PAGES: [usize; 13] = [
+/// Indices all over the units of that input, and past them.
+const FAR_APART: [usize; 13] = [
     0, 15, 16, 2_047, 2_048, 14_336, 16_383, 16_384, 18_432, 32_767, 32_768, 34_999, 35_000,
 ];
 
 #[test]
-fn a_zero_unit_about_the_end_of_a_page_is_found_as_one_by_one(rt: HostRuntime) -> Result<(), Fail> {
-    for &index in &ABOUT_PAGES {
-        is_found(rt.alloc(), MANY_PAGES, index)?;
+fn a_zero_unit_among_many_is_found_as_one_by_one(rt: HostRuntime) -> Result<(), Fail> {
+    for &index in &FAR_APART {
+        is_found(rt.alloc(), LONG, index)?;
     }
     Ok(())
 }

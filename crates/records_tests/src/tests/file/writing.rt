@@ -35,9 +35,7 @@ fn zero_file<'a>(
 
 /// Writes a file information record named `ab`, and returns its size and its name.
 fn write_file(storage: &mut [u8]) -> Option<(u64, Units)> {
-    let Ok(name) = CStr16::from_u16_with_nul(&AB) else {
-        return None;
-    };
+    let name = CStr16::from_u16_with_nul(&AB).ok()?;
     let info = zero_file(storage, &name).ok()?;
     Some((info.size(), units(info.file_name())))
 }
@@ -82,9 +80,7 @@ fn file(info: &FileInfo<'_>) -> File {
 /// Writes a file information record named `ab` of these times and this attribute, and returns what
 /// it gives back.
 fn given_back(times: [Time; 3], attribute: FileAttribute) -> Option<File> {
-    let Ok(name) = CStr16::from_u16_with_nul(&AB) else {
-        return None;
-    };
+    let name = CStr16::from_u16_with_nul(&AB).ok()?;
     let [created, accessed, modified] = times;
     let mut storage = [0; 88];
     let info = FileInfo::new(
@@ -119,9 +115,7 @@ fn a_written_file_gives_back_what_was_passed() -> Result<(), Fail> {
 /// Writes a file system information record labelled `ab`, and returns its size and whether it is
 /// read-only.
 fn write_file_system(storage: &mut [u8]) -> Option<(u64, bool)> {
-    let Ok(label) = CStr16::from_u16_with_nul(&AB) else {
-        return None;
-    };
+    let label = CStr16::from_u16_with_nul(&AB).ok()?;
     let info = FileSystemInfo::new(storage, true, 1, 2, 3, &label).ok()?;
     Some((info.size(), info.read_only()))
 }
@@ -145,9 +139,7 @@ fn a_written_file_system_leaves_the_unused_bytes(rt: HostRuntime) -> Result<(), 
 
 /// Writes the label `ab`, and returns its units.
 fn write_label(storage: &mut [u8]) -> Option<Units> {
-    let Ok(name) = CStr16::from_u16_with_nul(&AB) else {
-        return None;
-    };
+    let name = CStr16::from_u16_with_nul(&AB).ok()?;
     let label = FileSystemVolumeLabel::new(storage, &name).ok()?;
     Some(units(label.volume_label()))
 }
@@ -171,9 +163,7 @@ type Size = Option<Result<u64, FileInfoCreationError>>;
 
 /// Returns the size of a file information record that is named `test_name`.
 fn file_size(storage: &mut [u8]) -> Size {
-    let Ok(name) = CStr16::from_u16_with_nul(&TEST_NAME) else {
-        return None;
-    };
+    let name = CStr16::from_u16_with_nul(&TEST_NAME).ok()?;
     match zero_file(storage, &name) {
         Ok(info) => Some(Ok(info.size())),
         Err(error) => Some(Err(error)),
@@ -182,9 +172,7 @@ fn file_size(storage: &mut [u8]) -> Size {
 
 /// Returns the size of a file system information record that is labelled `test_name2`.
 fn file_system_size(storage: &mut [u8]) -> Size {
-    let Ok(label) = CStr16::from_u16_with_nul(&TEST_NAME2) else {
-        return None;
-    };
+    let label = CStr16::from_u16_with_nul(&TEST_NAME2).ok()?;
     match FileSystemInfo::new(storage, false, 0, 0, 0, &label) {
         Ok(info) => Some(Ok(info.size())),
         Err(error) => Some(Err(error)),

@@ -3,33 +3,15 @@ use std::alloc::Global;
 use std::test::Fail;
 use test_support::samples::{FOUR_EVENTS, FOUR_HEADER};
 use test_support::{bytes, holds, joined, same};
-use uefi_tcg::v2::{
-    DigestTable, EventLog, EventLogIter, EventParts, PcrEvent, PcrEventDigests, event_starting_at,
-};
+use uefi_tcg::v2::{AlgorithmDigestSizes, EventLog, EventLogIter, PcrEvent, event_starting_at};
 
-/// The event under the table that starts at the offset, where the table has fewer than 2^32 rows.
-fn step<'a>(
-    table: &DigestTable<'_>,
-    input: &'a [u8],
-    offset: usize,
-    last_entry: usize,
-) -> Option<(EventParts<'a>, usize)> {
-    if table.len() > u32::MAX as usize {
-        return None;
-    }
-    event_starting_at(table, input, offset, last_entry)
-}
-
-/// Whether the event's digests are those that the parts encode.
-fn are_same_digests(
-    digests: PcrEventDigests<'_>,
-    parts: &EventParts<'_>,
-    table: &DigestTable<'_>,
-) -> bool {
-    let mut rest = parts.digests;
-    let mut count = 0u32;
+/// Whether the digests of the event are those that its bytes encode under the table, one by one.
+fn are_first_digests(event: &PcrEvent<'_>, sizes: &AlgorithmDigestSizes<'_>) -> bool {
+    let digests = event.digests();
+    let mut rest = digests.as_bytes();
+    let mut count = 0usize;
     for digest in digests {
-        let Some((first, others)) = table.first_digest(rest) else {
+        let Some((first, others)) = sizes.first_digest(rest) else {
             return false;
         };
         if first != digest {
@@ -38,35 +20,36 @@ fn are_same_digests(
         rest = others;
         count = count.saturating_add(1);
     }
-    rest.is_empty() && count == parts.digest_count
+    rest.is_empty() && count == digests.len() && digests.is_empty() == (count == 0)
 }
 
-fn is_same_event(event: &PcrEvent<'_>, parts: &EventParts<'_>, table: &DigestTable<'_>) -> bool {
-    event.pcr_index() == parts.pcr_index
-        && event.event_type() == parts.event_type
-        && event.event_data() == parts.event_data
-        && are_same_digests(event.digests(), parts, table)
+fn is_same_event(event: &PcrEvent<'_>, other: &PcrEvent<'_>) -> bool {
+    event.pcr_index() == other.pcr_index()
+        && event.event_type() == other.event_type()
+        && event.digests().as_bytes() == other.digests().as_bytes()
+        && event.event_data() == other.event_data()
+        && event.as_bytes() == other.as_bytes()
 }
 
 /// Whether the events that start at the offset, and then at each event's end, are these.
-fn are_steps(
+fn are_steps<'a>(
     events: EventLogIter<'_>,
-    table: &DigestTable<'_>,
-    input: &[u8],
+    sizes: &AlgorithmDigestSizes<'a>,
+    input: &'a [u8],
     start: usize,
     last_entry: usize,
 ) -> bool {
     let mut offset = start;
     for event in events {
-        let Some((parts, end)) = step(table, input, offset, last_entry) else {
+        let Some(step) = event_starting_at(sizes, input, offset, last_entry) else {
             return false;
         };
-        if !is_same_event(&event, &parts, table) {
+        if !is_same_event(&event, &step) || !are_first_digests(&step, sizes) {
             return false;
         }
-        offset = end;
+        offset = offset.saturating_add(step.as_bytes().len());
     }
-    step(table, input, offset, last_entry).is_none()
+    event_starting_at(sizes, input, offset, last_entry).is_none()
 }
 
 /// Whether the steps from either start are the events of the log, if it has a header.
@@ -75,12 +58,14 @@ fn steps_are_events(input: &[u8], last_entry: usize) -> bool {
     let Some(header) = log.header() else {
         return log.iter().next().is_none();
     };
-    let table = DigestTable::from(header.algorithm_digest_sizes());
+    let Some(sizes) = AlgorithmDigestSizes::from_rows(header.algorithm_digest_sizes().rows()) else {
+        return false;
+    };
     let (start, after) = (header.size_in_bytes(), header.event_size());
-    are_steps(log.iter(), &table, input, start, last_entry)
+    are_steps(log.iter(), &sizes, input, start, last_entry)
         && are_steps(
             log.iter_after_header_event(),
-            &table,
+            &sizes,
             input,
             after,
             last_entry,
@@ -109,7 +94,7 @@ fn the_steps_of_a_log_are_its_events(rt: HostRuntime) -> Result<(), Fail> {
 
 /// An offset, a last entry, and of the event of `FOUR_EVENTS` that starts there the type, the number
 /// of digests, the length of the data, and the end.
-const STEPS: [(usize, usize, Option<(u32, u32, usize, usize)>); 11] = [
+const STEPS: [(usize, usize, Option<(u32, usize, usize, usize)>); 11] = [
     (77, 267, Some((0x8, 4, 2, 267))),
     (77, 77, Some((0x8, 4, 2, 267))),
     (77, 76, None),
@@ -124,15 +109,15 @@ const STEPS: [(usize, usize, Option<(u32, u32, usize, usize)>); 11] = [
 ];
 
 /// What `STEPS` says of the event that starts there, under the table of the log's header.
-fn shape(input: &[u8], offset: usize, last_entry: usize) -> Option<(u32, u32, usize, usize)> {
+fn shape(input: &[u8], offset: usize, last_entry: usize) -> Option<(u32, usize, usize, usize)> {
     let header = EventLog::new(Some(input), Some(usize::MAX), false).header()?;
-    let table = DigestTable::from(header.algorithm_digest_sizes());
-    let (parts, end) = step(&table, input, offset, last_entry)?;
+    let sizes = header.algorithm_digest_sizes();
+    let event = event_starting_at(&sizes, input, offset, last_entry)?;
     Some((
-        parts.event_type.0,
-        parts.digest_count,
-        parts.event_data.len(),
-        end,
+        event.event_type().0,
+        event.digests().len(),
+        event.event_data().len(),
+        offset.saturating_add(event.as_bytes().len()),
     ))
 }
 

@@ -1,65 +1,49 @@
+use std::alloc::Global;
 use std::test::Fail;
 use test_support::{bytes, each_reads, same};
 use uefi_tcg::AlgorithmId;
-use uefi_tcg::v2::{DigestRow, DigestTable};
+use uefi_tcg::v2::AlgorithmDigestSizes;
 
-/// The bytes of rows, and of their table how many rows stand in `first`, the length of `others`, and
-/// how many rows there are.
-const ROWS: [(&str, (usize, usize, usize)); 6] = [
-    ("", (0, 0, 0)),
-    ("0400 14", (0, 3, 0)),
-    ("0400 1400", (1, 0, 1)),
-    ("0400 1400  0b", (1, 1, 1)),
+/// The bytes of rows, and how many rows there are.
+const ROWS: [(&str, Option<usize>); 6] = [
+    ("", Some(0)),
+    ("0400 14", Some(0)),
+    ("0400 1400", Some(1)),
+    ("0400 1400  0b", Some(1)),
     (
         "0400 1400  0100 0100  0200 0200  0300 0300  0500 0500  0600 0600  0700 0700  0800 0800",
-        (8, 0, 8),
+        Some(8),
     ),
     (
         "0400 1400  0100 0100  0200 0200  0300 0300  0500 0500  0600 0600  0700 0700  0800 0800 \
          0900 0900  0a00 0a00  0b",
-        (8, 9, 10),
+        Some(10),
     ),
 ];
 
-fn shape(rows: &[u8]) -> (usize, usize, usize) {
-    let table = DigestTable::from_rows(rows);
-    (table.count, table.others.len(), table.len())
+/// The number of rows, if the table says rightly whether it is empty.
+fn row_count(rows: &[u8]) -> Option<usize> {
+    let sizes = AlgorithmDigestSizes::from_rows(rows)?;
+    if sizes.is_empty() != (sizes.len() == 0) {
+        return None;
+    }
+    Some(sizes.len())
 }
 
 #[test]
-fn a_table_has_eight_rows_in_its_fields(rt: HostRuntime) -> Result<(), Fail> {
-    each_reads(rt.alloc(), &ROWS, shape)
+fn a_table_has_a_row_for_each_four_bytes(rt: HostRuntime) -> Result<(), Fail> {
+    each_reads(rt.alloc(), &ROWS, row_count)
 }
 
-fn row(algorithm: u16, size: u16) -> DigestRow {
-    DigestRow { algorithm, size }
-}
-
-/// A table whose fields spell as many of eight rows as it says: SHA-1 has two, of the sizes 20 and 1,
-/// and the algorithm 9 has the size 0. The other rows are the caller's.
-fn table_of(count: usize, others: &[u8]) -> DigestTable<'_> {
-    let first = [
-        row(4, 20),
-        row(0xb, 32),
-        row(4, 1),
-        row(9, 0),
-        row(0xd, 64),
-        row(0xd, 64),
-        row(0xd, 64),
-        row(0xe, 7),
-    ];
-    DigestTable {
-        first,
-        count,
-        others,
-    }
-}
+/// Eight rows: SHA-1 has two, of the sizes 20 and 1, and the algorithm 9 has the size 0.
+const FIRST: &str = "0400 1400  0b00 2000  0400 0100  0900 0000 \
+    0d00 4000  0d00 4000  0d00 4000  0e00 0700";
 
 /// Rows of SHA-1 with the size 2, and of SHA-384; then a row without its last byte.
 const OTHERS: &str = "0400 0200  0c00 3000  0f00 05";
 
-/// How many of the first rows count, how many rows there are with `OTHERS`, and the sizes of SHA-1,
-/// SHA-256, SHA-384 and the algorithms 0xe and 0xf.
+/// How many rows of `FIRST` stand before those of `OTHERS`, how many rows there are, and the sizes
+/// of SHA-1, SHA-256, SHA-384 and the algorithms 0xe and 0xf.
 const SIZES: [(usize, usize, [Option<u16>; 5]); 7] = [
     (0, 2, [Some(2), None, Some(48), None, None]),
     (1, 3, [Some(20), None, Some(48), None, None]),
@@ -74,31 +58,49 @@ const SIZES: [(usize, usize, [Option<u16>; 5]); 7] = [
     ),
 ];
 
-fn sizes_in(table: &DigestTable<'_>) -> [Option<u16>; 5] {
-    [
-        table.get_size(AlgorithmId::SHA1),
-        table.get_size(AlgorithmId::SHA256),
-        table.get_size(AlgorithmId::SHA384),
-        table.get_size(AlgorithmId(0xe)),
-        table.get_size(AlgorithmId(0xf)),
-    ]
+/// The bytes of as many rows of `FIRST`, or of all, and then those of `OTHERS`.
+fn rows(alloc: Global, count: usize) -> Result<Vec<u8>, Fail> {
+    let first = bytes(alloc, FIRST)?;
+    let others = bytes(alloc, OTHERS)?;
+    let mut rows = Vec::new(alloc);
+    for (index, byte) in first.iter().enumerate() {
+        if index / 4 < count {
+            rows.push(*byte)?;
+        }
+    }
+    rows.extend_from_slice(others.as_slice())?;
+    Ok(rows)
+}
+
+/// The number of rows, and the sizes of five algorithms.
+fn shape(rows: &[u8]) -> Option<(usize, [Option<u16>; 5])> {
+    let sizes = AlgorithmDigestSizes::from_rows(rows)?;
+    Some((
+        sizes.len(),
+        [
+            sizes.get_size(AlgorithmId::SHA1),
+            sizes.get_size(AlgorithmId::SHA256),
+            sizes.get_size(AlgorithmId::SHA384),
+            sizes.get_size(AlgorithmId(0xe)),
+            sizes.get_size(AlgorithmId(0xf)),
+        ],
+    ))
 }
 
 #[test]
-fn a_table_is_what_its_fields_spell(rt: HostRuntime) -> Result<(), Fail> {
-    let others = bytes(rt.alloc(), OTHERS)?;
+fn the_first_row_of_an_algorithm_decides_its_size(rt: HostRuntime) -> Result<(), Fail> {
     for &(count, length, sizes) in &SIZES {
-        let table = table_of(count, others.as_slice());
-        same(
-            "a table",
-            &(count, table.len(), sizes_in(&table)),
-            &(count, length, sizes),
-        )?;
+        let input = rows(rt.alloc(), count)?;
+        let found = shape(input.as_slice());
+        same("a table", &(count, found), &(count, Some((length, sizes))))?;
     }
     Ok(())
 }
 
-/// Bytes, and of the digest that they begin with under the first four rows of `table_of` the
+/// The first four rows of `FIRST`.
+const FOUR_ROWS: [u8; 16] = [4, 0, 20, 0, 0xb, 0, 32, 0, 4, 0, 1, 0, 9, 0, 0, 0];
+
+/// Bytes, and of the digest that they begin with under `FOUR_ROWS` the
 /// algorithm, the first byte and the length, and how many bytes follow.
 const DIGESTS: [(&str, Option<(u16, Option<u8>, usize, usize)>); 7] = [
     (
@@ -114,7 +116,8 @@ const DIGESTS: [(&str, Option<(u16, Option<u8>, usize, usize)>); 7] = [
 ];
 
 fn first_digest(input: &[u8]) -> Option<(u16, Option<u8>, usize, usize)> {
-    let ((algorithm, digest), rest) = table_of(4, &[]).first_digest(input)?;
+    let sizes = AlgorithmDigestSizes::from_rows(&FOUR_ROWS)?;
+    let ((algorithm, digest), rest) = sizes.first_digest(input)?;
     Some((
         algorithm.0,
         digest.first().copied(),

@@ -2,5 +2,6 @@ use Rattle.clap.specs.Words.{found_of}
 use Rattle.uefi_audit.proofs.Requests.{no_replay}
 use Rattle.uefi_audit.proofs.request.replay_of.Goals as goal
 
-pub returns-in_default-bank_of-clause-nothing : goal.returns-in_default-bank_of-clause-nothing
-returns-in_default-bank_of-clause-nothing c = no_replay (found_of c.args.matches.now) c.in_default-bank_of.ensures
+pub returns-in_err-bank-clause-nothing : goal.returns-in_err-bank-clause-nothing
+returns-in_err-bank-clause-nothing c =
+    rw c.from_residual-in_err-bank.ensures (no_replay (found_of c.args.matches.now) c.in_err-bank.ensures)

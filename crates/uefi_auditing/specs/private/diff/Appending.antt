@@ -13,13 +13,13 @@ abbrev pub AppendsOnly : List ℕ → List Numbered → List Numbered → String
 AppendsOnly name others entries old new =
     (text : List ℕ) × AreOnly name others entries text × AppendsText old new text
 
--- It grew by those of a register with these entries.
+-- It grew by those of a PCR with these entries.
 abbrev pub AppendsCompared : List ℕ → List ℕ → List Numbered → List Numbered → String Global → String Global → Bool
     → Type 0
 AppendsCompared old_name new_name old new before after same =
     (text : List ℕ) × ShowsRegister old_name new_name old new text same × AppendsText before after text
 
--- It grew by the lines of a register, whatever the contents of the logs are.
+-- It grew by the lines of a PCR, whatever the contents of the logs are.
 abbrev pub AppendsRegister : LogFile → LogFile → ℕ → String Global → String Global → Bool → Type 0
 AppendsRegister old new register before after same =
     (olds : Contents) (news : Contents) → AreContents old.bytes.now old.last_entry olds
@@ -27,7 +27,7 @@ AppendsRegister old new register before after same =
     → AppendsCompared old.name.now new.name.now (in_register register olds.entries) (in_register register news.entries)
     before after same
 
--- By those of all registers below a number.
+-- By those of all PCRs below a number.
 abbrev pub AppendsBelow : LogFile → LogFile → ℕ → String Global → String Global → Bool → Type 0
 AppendsBelow old new register before after same =
     (olds : Contents) (news : Contents) → AreContents old.bytes.now old.last_entry olds

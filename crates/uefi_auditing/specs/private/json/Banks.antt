@@ -15,7 +15,7 @@ use Rattle.uefi_auditing.specs.declared.text.LogFile.{LogFile}
 use Rattle.uefi_auditing.specs.text.Replay.{AreAsked}
 use Rattle.uefi_auditing.specs.json.Replay.{banks_json, is_known, led_to, replay_json}
 
--- The banks of these algorithms were pushed, and whether the registers of all are known.
+-- The banks of these algorithms were pushed, and whether the PCRs of all are known.
 abbrev pub PushesBanks : LogFile → List ℕ → List Value → List Value → Bool → Type 0
 PushesBanks file algorithms old new known =
     (contents : Contents) → AreContents file.bytes.now file.last_entry contents

@@ -8,6 +8,7 @@ use Rattle.uefi_records.specs.time.Fields.{TimeFields, time_bytes, time_in}
 use Rattle.uefi_records.specs.file.FileInfo.{file_info_verdict}
 use Rattle.uefi_records.specs.file.Name.{first_zero}
 use Rattle.uefi_records.specs.file.Verdict.{accepted, judged}
+use Rattle.uefi_examples.proofs.Results.{ok_is}
 use Rattle.uefi_examples.proofs.records.creation_bytes.Goals as goal
 
 -- A time has sixteen bytes.
@@ -49,10 +50,13 @@ pub returns : goal.returns
 returns c =
     let bytes : List ℕ = c.args.buffer.now in
     let part : List ℕ = slice_range bytes 24 40 in
+    let read = ok_is c.from_uefi.result c.in_ok-info.info c.in_ok-info.ensures.value in
+    let verdict = rw read at c.from_uefi.ensures.verdict in
+    let fields = rw read at c.from_uefi.ensures.fields in
     let sized : length part ≡ 16 = length-range bytes 24 16
-    (omega (arith, fields_within bytes _ c.args.written c.in-Ok.ensures.verdict)) in
+    (omega (arith, fields_within bytes _ c.args.written verdict)) in
     let each : AreBytes bytes = λ i. omega (arith, c.type_inv.buffer i) in
     let stands = c.times_read_back.ensures.read part (AreBytes-range bytes 24 40 each) (omega (arith, sized)) in
     c.to_bytes.ensures.bytes ∙ ap time_bytes
-    (c.create_time.ensures ∙ ap (λ fields. fields.create_time) c.in-Ok.ensures.fields)
+    (c.create_time.ensures ∙ ap (λ all. all.create_time) fields)
     ∙ nothing_after part (time_bytes (time_in part)) stands.1.0 (length-time (time_in part) ∙ sym sized) stands.1.1

@@ -8,6 +8,7 @@ use Rattle.uefi_records.specs.file.FileInfo.{file_info_verdict, file_name_offset
 use Rattle.uefi_records.specs.file.Verdict.{accepted}
 use Rattle.uefi_records.specs.file.Views.{file_fields_given}
 use Rattle.uefi_examples.proofs.NamedRecords.{IfSome_of_ok, IfSome_is, is_named}
+use Rattle.uefi_examples.proofs.Results.{ok_is}
 use Rattle.uefi_examples.proofs.records.file_read_back.Goals as goal
 
 -- A buffer is read back as the record with these fields and this name.
@@ -29,23 +30,29 @@ written_reads law fields name old new end fit fit_name short covers room same wr
     subst (ReadsAs fields name end) (sym written) (record { verdict = seen.0; size = seen.1; same_fields = seen.2 })
 
 -- The buffer that was written to reads as what was passed.
-back : (c : goal.After-ok)
+back : (c : goal.After-ok-2)
     → ReadsAs (file_fields_given c.args.sizes.0 c.args.sizes.1 c.args.times.0 c.args.times.1 c.args.times.2
     c.args.attribute)
-    (text_units c.args.file_name.now) c.in-Ok.end c.write_file_info-written.new.buffer
+    (text_units c.args.file_name.now) c.in_ok-end.end c.write_file_info-written.new.buffer
 back c =
-    let wrote = c.in-Ok.ensures in
-    written_reads c.reads_back.ensures.file_info _ _ _ _ _ wrote.fields_fit wrote.name_fits (omega arith) wrote.end
-    (wrote.fits.0 refl) c.write_file_info-written.auto.buffer wrote.written
+    let wrote = c.write_file_info-written.ensures in
+    let is = ok_is c.write_file_info-written.result c.in_ok-end.end c.in_ok-end.ensures.value in
+    let fields_fit = rw is at wrote.fields_fit in
+    let name_fits = rw is at wrote.name_fits in
+    let end = rw is at wrote.end in
+    let fits = rw is at wrote.fits in
+    let written = rw is at wrote.written in
+    written_reads c.reads_back.ensures.file_info _ _ _ _ _ fields_fit name_fits (omega arith) end (fits.0 refl)
+    c.write_file_info-written.auto.buffer written
 
 pub returns-clause-fields : goal.returns-clause-fields
 returns-clause-fields c =
-    IfSome_is _ _ _ c.from_uefi.result c.ok.result c.ok.ensures.value (back c).same_fields c.from_uefi.ensures.fields
+    IfSome_is _ _ _ c.from_uefi.result c.ok-2.result c.ok-2.ensures.value (back c).same_fields c.from_uefi.ensures.fields
 
 pub returns-clause-name : goal.returns-clause-name
-returns-clause-name c = IfSome_of_ok _ c.from_uefi.result c.ok.result c.ok.ensures.value
+returns-clause-name c = IfSome_of_ok _ c.from_uefi.result c.ok-2.result c.ok-2.ensures.value
     (is_named _ _ _ c.from_uefi.result c.from_uefi.ensures.verdict (back c).verdict)
 
 pub returns-clause-size : goal.returns-clause-size
 returns-clause-size c =
-    IfSome_is _ _ _ c.from_uefi.result c.ok.result c.ok.ensures.value (back c).size c.from_uefi.ensures.size
+    IfSome_is _ _ _ c.from_uefi.result c.ok-2.result c.ok-2.ensures.value (back c).size c.from_uefi.ensures.size

@@ -11,6 +11,7 @@ use Rattle.uefi_records.specs.file.FileSystemInfo.{file_system_info_verdict, lab
 use Rattle.uefi_records.specs.file.Verdict.{accepted}
 use Rattle.uefi_records.specs.file.Views.{file_system_fields_given}
 use Rattle.uefi_examples.proofs.NamedRecords.{IfSome_of_ok, IfSome_is, is_named, is_read}
+use Rattle.uefi_examples.proofs.Results.{ok_is}
 use Rattle.uefi_examples.proofs.volumes.file_system_read_back.Goals as goal
 
 -- A buffer is read back as the record with these fields and this label.
@@ -38,32 +39,38 @@ written_reads law fields label old new end fit fit_label short covers room same 
     subst (ReadsAs fields label end) (sym written) (record { verdict = seen.0; size = seen.1; same_fields = seen.2 })
 
 -- The buffer that was written to is read as what was passed.
-back : (c : goal.After-ok)
+back : (c : goal.After-ok-2)
     → ReadsAs (file_system_fields_given c.args.read_only c.args.volume_size c.args.free_space c.args.block_size)
     (text_units c.args.volume_label.now)
-    c.in-Ok.end c.write_file_system_info-written.new.buffer
+    c.in_ok-end.end c.write_file_system_info-written.new.buffer
 back c =
-    let wrote = c.in-Ok.ensures in
-    written_reads c.reads_back.ensures.file_system_info _ _ _ _ _ wrote.fields_fit wrote.label_fits
-    (omega arith) wrote.end
-    (wrote.fits.0 refl) c.write_file_system_info-written.auto.buffer wrote.written
+    let wrote = c.write_file_system_info-written.ensures in
+    let is = ok_is c.write_file_system_info-written.result c.in_ok-end.end c.in_ok-end.ensures.value in
+    let fields_fit = rw is at wrote.fields_fit in
+    let label_fits = rw is at wrote.label_fits in
+    let end = rw is at wrote.end in
+    let fits = rw is at wrote.fits in
+    let written = rw is at wrote.written in
+    written_reads c.reads_back.ensures.file_system_info _ _ _ _ _ fields_fit label_fits (omega arith) end (fits.0 refl)
+    c.write_file_system_info-written.auto.buffer written
 
 pub returns-clause-fields : goal.returns-clause-fields
 returns-clause-fields c =
-    IfSome_is _ _ _ c.from_uefi.result c.ok.result c.ok.ensures.value (back c).same_fields c.from_uefi.ensures.fields
+    IfSome_is _ _ _ c.from_uefi.result c.ok-2.result c.ok-2.ensures.value (back c).same_fields c.from_uefi.ensures.fields
 
 pub returns-clause-label : goal.returns-clause-label
 returns-clause-label c =
-    IfSome_of_ok _ c.from_uefi.result c.ok.result c.ok.ensures.value
+    IfSome_of_ok _ c.from_uefi.result c.ok-2.result c.ok-2.ensures.value
     (is_named _ _ _ c.from_uefi.result c.from_uefi.ensures.verdict (back c).verdict)
 
 pub returns-clause-size : goal.returns-clause-size
 returns-clause-size c =
-    IfSome_is _ _ _ c.from_uefi.result c.ok.result c.ok.ensures.value (back c).size c.from_uefi.ensures.size
+    IfSome_is _ _ _ c.from_uefi.result c.ok-2.result c.ok-2.ensures.value (back c).size c.from_uefi.ensures.size
 
 pub returns-clause-fits : goal.returns-clause-fits
 returns-clause-fits c = (
-  λ _. c.in-Ok.ensures.fits.0 refl,
-  λ _. is_read _ _ _ c.from_uefi.result c.ok.result c.ok.ensures.value
+  λ _. let fits = rw (ok_is c.write_file_system_info-written.result c.in_ok-end.end c.in_ok-end.ensures.value)
+      at c.write_file_system_info-written.ensures.fits in fits.0 refl,
+  λ _. is_read _ _ _ c.from_uefi.result c.ok-2.result c.ok-2.ensures.value
       c.from_uefi.ensures.verdict (back c).verdict,
 )

@@ -6,6 +6,7 @@ use Rattle.uefi_records.specs.file.FileSystemInfo.{lone_label_offset, volume_lab
 use Rattle.uefi_records.specs.file.FileSystemInfo.{volume_label_verdict}
 use Rattle.uefi_records.specs.file.Verdict.{accepted}
 use Rattle.uefi_examples.proofs.NamedRecords.{IfSome_of_ok, is_named}
+use Rattle.uefi_examples.proofs.Results.{ok_is}
 use Rattle.uefi_examples.proofs.volumes.label_read_back.Goals as goal
 
 -- A buffer that the label was written to is read back as that label.
@@ -21,9 +22,13 @@ written_reads law label old new end fit covers room same written =
 
 pub returns-clause-label : goal.returns-clause-label
 returns-clause-label c =
-    let wrote = c.in-Ok.ensures in
-    let same = c.write_file_system_volume_label.auto.buffer in
-    let seen = written_reads c.reads_back.ensures.volume_label _ _ _ _ wrote.label_fits wrote.end
-    (wrote.fits.0 refl) same wrote.written in
-    IfSome_of_ok _ c.from_uefi.result c.ok.result c.ok.ensures.value
+    let wrote = c.write_file_system_volume_label.ensures in
+    let is = ok_is c.write_file_system_volume_label.result c.in_ok-end.end c.in_ok-end.ensures.value in
+    let label_fits = rw is at wrote.label_fits in
+    let end = rw is at wrote.end in
+    let fits = rw is at wrote.fits in
+    let written = rw is at wrote.written in
+    let seen = written_reads c.reads_back.ensures.volume_label _ _ _ _ label_fits end (fits.0 refl)
+    c.write_file_system_volume_label.auto.buffer written in
+    IfSome_of_ok _ c.from_uefi.result c.ok-2.result c.ok-2.ensures.value
     (is_named _ _ _ c.from_uefi.result c.from_uefi.ensures.verdict seen)

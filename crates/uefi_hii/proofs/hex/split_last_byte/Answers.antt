@@ -5,13 +5,13 @@ use Rattle.uefi_hii.proofs.hex.split_last_byte.Goals as goal
 
 pub returns-then-text-ne0 : goal.returns-then-text-ne0
 returns-then-text-ne0 c =
-    last_of_one c.args.text.now c.in-Some.before.now c.in-Some.last.now c.in-Some.ensures.cases.0
+    last_of_one c.args.text.now c.in_ok-last.before.now c.in_ok-last.last.now c.in_ok-last.ensures.cases.0
     c.if-text-ne0.true
-    ∙ ap (λ byte. hex c.in-Some.before.now ++ byte ∷ []) (sym c.byte_of_one.ensures)
+    ∙ ap (λ byte. hex c.in_ok-last.before.now ++ byte ∷ []) (sym c.byte_of_one.ensures)
 
 pub returns : goal.returns
 returns c =
-    last_of_two c.args.text.now c.in-Some.before.now c.in-Some-split_last.before.now c.in-Some-split_last.first.now
-    c.in-Some.last.now
-    c.in-Some.ensures.cases.0 c.in-Some-split_last.ensures.cases.0 c.if-text-ne0.false
-    ∙ ap (λ byte. hex c.in-Some-split_last.before.now ++ byte ∷ []) (sym c.byte_of_two.ensures)
+    last_of_two c.args.text.now c.in_ok-last.before.now c.in_ok-first.before.now c.in_ok-first.first.now
+    c.in_ok-last.last.now
+    c.in_ok-last.ensures.cases.0 c.in_ok-first.ensures.cases.0 c.if-text-ne0.false
+    ∙ ap (λ byte. hex c.in_ok-first.before.now ++ byte ∷ []) (sym c.byte_of_two.ensures)

@@ -1,6 +1,6 @@
 use Rattle.std.proofs.Common.{length}
 use Rattle.uefi_path.specs.private.Encoding.{HasNodes}
-use Rattle.uefi_path.specs.private.Stop.{StatesLength, Stops}
+use Rattle.uefi_path.specs.private.Stop.{Stops}
 use Rattle.uefi_path.proofs.Passing.{HasPassed}
 use Rattle.uefi_path.proofs.walk.first_nodes.Given as goal
 
@@ -8,7 +8,6 @@ abbrev pub invariant-loop-stop : goal.invariant-loop-stop
 invariant-loop-stop l = record {
   passed : HasPassed (Stops l.stop) l.bytes l.rest;
   left : HasNodes (Stops l.stop) l.rest;
-  stated : StatesLength l.rest l.length;
 }
 
 abbrev pub decreases-loop-stop : goal.decreases-loop-stop

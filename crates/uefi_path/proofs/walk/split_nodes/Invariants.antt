@@ -1,15 +1,10 @@
 use Rattle.std.proofs.Common.{length}
-use Rattle.uefi_path.specs.Node.{HasNode}
-use Rattle.uefi_path.specs.private.Stop.{StatesLength, Stops}
+use Rattle.uefi_path.specs.private.Stop.{Stops}
 use Rattle.uefi_path.proofs.Passing.{HasPassed}
 use Rattle.uefi_path.proofs.walk.split_nodes.Given as goal
 
-abbrev pub invariant-loop-stop : goal.invariant-loop-stop
-invariant-loop-stop l = record {
-  passed : HasPassed (Stops l.stop) l.bytes l.rest;
-  node : HasNode l.rest;
-  stated : StatesLength l.rest l.length;
-}
+abbrev pub invariant-loop-node : goal.invariant-loop-node
+invariant-loop-node l = HasPassed (Stops l.stop) l.bytes l.rest
 
-abbrev pub decreases-loop-stop : goal.decreases-loop-stop
-decreases-loop-stop l = length l.rest
+abbrev pub decreases-loop-node : goal.decreases-loop-node
+decreases-loop-node l = length l.rest

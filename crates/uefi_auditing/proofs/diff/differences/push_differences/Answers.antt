@@ -1,4 +1,4 @@
-use Rattle.std.proofs.Common.{◌≡◌, ◌+◌, ℕ, Bool, arith, subst, sym}
+use Rattle.std.proofs.Common.{◌≡◌, ℕ, arith, subst}
 use Rattle.uefi_auditing.specs.private.diff.Appending.{AppendsBelow}
 use Rattle.uefi_auditing.proofs.diff.Below.{none_below, one_more}
 use Rattle.uefi_auditing.proofs.diff.differences.push_differences.Goals as goal
@@ -11,11 +11,9 @@ loop-register-init c = record {
 
 pub loop-register-preserved : goal.loop-register-preserved
 loop-register-preserved c = record {
-  below = subst (λ (same : Bool). AppendsBelow c.args.old.now c.args.new.now (c.loop-register.register + 1)
-      c.args.text.now c.push_register.new.text same) (sym c.both-same.ensures)
-      (one_more c.args.old.now c.args.new.now c.loop-register.register c.args.text.now c.loop-register.text
-      c.push_register.new.text c.loop-register.same c.in_ok-is_same.is_same c.loop-register.invariant.below
-      c.in_ok-is_same.ensures);
+  below = one_more c.args.old.now c.args.new.now c.loop-register.register c.args.text.now c.loop-register.text
+      c.push_register.new.text c.loop-register.same _ c.loop-register.invariant.below
+      c.in_ok-same.ensures;
   within = omega arith;
 }
 

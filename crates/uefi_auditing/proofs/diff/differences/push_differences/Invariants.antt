@@ -2,7 +2,7 @@ use Rattle.std.proofs.Common.{◌≤◌}
 use Rattle.uefi_auditing.specs.private.diff.Appending.{AppendsBelow}
 use Rattle.uefi_auditing.proofs.diff.differences.push_differences.Given as goal
 
--- The lines of the registers below this one were appended.
+-- The lines of the PCRs below this one were appended.
 abbrev pub invariant-loop-register : goal.invariant-loop-register
 invariant-loop-register l = record {
   below : AppendsBelow l.old l.new l.register l.initial.text l.text l.same;

@@ -1,4 +1,4 @@
-use Rattle.std.proofs.Common.{◌+◌, Bool, List, map, subst, sym, take}
+use Rattle.std.proofs.Common.{List, map, subst}
 use Rattle.std.proofs.lemmas.List.{take_all}
 use Rattle.uefi_tcg.specs.declared.algorithm_id.AlgorithmId.{AlgorithmId}
 use Rattle.uefi_auditing.specs.private.json.Banks.{PushesBanks}
@@ -15,10 +15,8 @@ loop-algorithm-preserved c =
     let index = c.loop-algorithm.algorithm-index in
     let old = c.args.values.now.items in
     let new = c.push_bank.new.values.items in
-    subst (λ (known : Bool). PushesBanks file (map (λ algorithm. algorithm.0) (take (index + 1) all)) old new known)
-    (sym c.both-all_known.ensures)
-    (banks_upto file all index _ old c.loop-algorithm.values.items new c.loop-algorithm.all_known c.in_ok-known.known
-    c.loop-algorithm-test.true c.loop-algorithm.invariant c.in_ok-known.ensures)
+    banks_upto file all index _ old c.loop-algorithm.values.items new c.loop-algorithm.all_known _
+    c.loop-algorithm-test.true c.loop-algorithm.invariant c.in_ok-all_known.ensures
 
 pub returns : goal.returns
 returns c =

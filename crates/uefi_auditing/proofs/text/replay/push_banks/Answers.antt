@@ -1,4 +1,4 @@
-use Rattle.std.proofs.Common.{◌+◌, List, Bool, map, sym, subst, take}
+use Rattle.std.proofs.Common.{List, map, subst}
 use Rattle.std.proofs.lemmas.List.{take_all}
 use Rattle.uefi_tcg.specs.declared.algorithm_id.AlgorithmId.{AlgorithmId}
 use Rattle.uefi_auditing.specs.private.text.Appending.{AppendsBanks}
@@ -12,10 +12,8 @@ loop-algorithm-preserved g c =
     let index = c.loop-algorithm.algorithm-index in
     let old = c.args.text.now in
     let new = c.push_algorithm.new.text in
-    subst (λ (well : Bool). AppendsBanks file (map (λ algorithm. algorithm.0) (take (index + 1) all)) old new well)
-    (sym c.both-well.ensures)
-    (banks_upto file all index _ old c.loop-algorithm.text new c.loop-algorithm.well c.in_ok-replayed.replayed
-    c.loop-algorithm-test.true c.loop-algorithm.invariant c.in_ok-replayed.ensures)
+    banks_upto file all index _ old c.loop-algorithm.text new c.loop-algorithm.well _
+    c.loop-algorithm-test.true c.loop-algorithm.invariant c.in_ok-well.ensures
 
 pub returns : goal.returns
 returns g c =

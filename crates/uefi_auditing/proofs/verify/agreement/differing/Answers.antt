@@ -1,33 +1,17 @@
-use Rattle.std.proofs.Common.{◌∙◌, List, arith, ap}
-use Rattle.std.proofs.lemmas.List.{take_all}
-use Rattle.uefi_auditing.specs.declared.verify.reading.HeldRegister.{HeldRegister}
-use Rattle.uefi_auditing.specs.verify.Agreement.{differing}
-use Rattle.uefi_auditing.proofs.verify.Localities.{one_agrees, one_differs}
+use Rattle.std.proofs.Common.{◌∙◌, rules, tests}
+use Rattle.std.specs.Prelude.{Bool, not}
+use Rattle.std.proofs.lemmas.Iterator.{YieldsList-from_slice}
+use Rattle.std.proofs.lemmas.Iterator.Consumers.{YieldsList-from_filter, count_from_yields_List}
+use Rattle.std.proofs.lemmas.List.Sums.{length-filter}
+use Rattle.uefi_auditing.specs.declared.verify.reading.HeldPcr.{HeldPcr}
+use Rattle.uefi_auditing.specs.verify.Agreement.{agrees}
 use Rattle.uefi_auditing.proofs.verify.agreement.differing.Goals as goal
-use Rattle.uefi_auditing.proofs.verify.agreement.differing.Goals.{then-not-agrees, else-not-agrees}
-
-pub loop-register-preserved : goal.loop-register-preserved
-loop-register-preserved c =
-    let item = c.register-item.result in
-    elim c.if-not-agrees.branch [
-      | then-not-agrees w ↦ record {
-        within = omega (arith, w.count-is, c.loop-register.invariant.within);
-        counted = λ contents is. w.count-is
-            ∙ one_differs contents.entries c.args.locality c.args.held.now c.loop-register.register-index item
-            c.loop-register.count c.loop-register-test.true c.register-item.is (w.if-not-agrees.ensures contents is)
-            (c.loop-register.invariant.counted contents is);
-      }
-      | else-not-agrees w ↦ record {
-        within = omega (arith, w.count-is, c.loop-register.invariant.within);
-        counted = λ contents is. w.count-is
-            ∙ one_agrees contents.entries c.args.locality c.args.held.now c.loop-register.register-index item
-            c.loop-register.count c.loop-register-test.true c.register-item.is (w.if-not-agrees.ensures contents is)
-            (c.loop-register.invariant.counted contents is);
-      }
-    ]
 
 pub returns : goal.returns
 returns c = λ contents is.
-    c.loop-register.invariant.counted contents is
-    ∙ ap (λ (all : List HeldRegister). differing contents.entries c.args.locality all)
-    (take_all c.loop-register.register-index c.args.held.now c.loop-register-test.false)
+    let held = c.args.held.now in
+    let differs : HeldPcr → Bool = λ register. not (agrees contents.entries c.args.locality register) in
+    count_from_yields_List c.filter.result c.count.result c.count.ensures.ran
+    (YieldsList-from_filter _ differs (YieldsList-from_slice held (cc)) c.filter.ensures.closure
+    (λ x b q k. search (rules, tests)))
+    ∙ length-filter differs held

@@ -5,7 +5,7 @@ use Rattle.pcr_replay.specs.Logs.{AreContents}
 use Rattle.uefi_auditing.specs.verify.Verdict.{difference_lines}
 use Rattle.uefi_auditing.proofs.verify.difference.push_differences.Given as goal
 
--- The lines of the registers before the index were appended.
+-- The lines of the PCRs before the index were appended.
 abbrev pub invariant-loop-register : goal.invariant-loop-register
 invariant-loop-register g l =
     (contents : Contents) → AreContents l.log.bytes.now l.log.last_entry contents

@@ -1,6 +1,6 @@
 use Rattle.std.proofs.Common.{refl, sym, subst, arith}
-use Rattle.uefi_tcg.specs.v2.OneEvent.{digest_bytes}
-use Rattle.uefi_tcg.specs.v2.Spelling.{spelled}
+use Rattle.uefi_tcg.specs.v2.Digests.{digest_bytes}
+use Rattle.uefi_tcg.specs.v2.Reading.{rows_in}
 use Rattle.uefi_c.specs.Log2.{digest_seen}
 use Rattle.uefi_c.proofs.Cursors.{moves, within}
 use Rattle.uefi_c.proofs.DigestSteps.{Left, none_yet, some_bytes, one_less, none_left}
@@ -8,7 +8,7 @@ use Rattle.uefi_c.proofs.callers.log2.digests_by_steps.Goals as goal
 
 pub loop-digest-init : goal.loop-digest-init
 loop-digest-init g c = λ all are is.
-    let table = spelled c.args.table.now in
+    let table = rows_in c.args.rows.now in
     subst (Left table all c.args.digests.now 0) (sym c.new-views.ensures.items)
     (none_yet table all c.args.digests.now are is)
 
@@ -27,11 +27,11 @@ pub loop-digest-preserved : goal.loop-digest-preserved
 loop-digest-preserved g c = λ all are is.
     let new = c.uefi_digest_next.new in
     let ensures = c.loop-digest-test.ensures in
-    one_less (spelled c.args.table.now) c.args.digests.now c.loop-digest.offset new.offset new.out (ensures.digest refl)
+    one_less (rows_in c.args.rows.now) c.args.digests.now c.loop-digest.offset new.offset new.out (ensures.digest refl)
     (ensures.stands refl) all c.loop-digest.views.items c.push.new.self.items c.in_ok-push.ensures.items
     (c.loop-digest.invariant all are is)
 
 pub returns : goal.returns
-returns g c = λ all are is.
-    none_left (spelled c.args.table.now) all c.args.digests.now c.loop-digest.offset c.loop-digest.views.items
-    (c.loop-digest-test.ensures.none refl) (c.loop-digest.invariant all are is)
+returns g c = λ few all are is.
+    none_left (rows_in c.args.rows.now) all c.args.digests.now c.loop-digest.offset c.loop-digest.views.items
+    (c.loop-digest-test.ensures.none refl few) (c.loop-digest.invariant all are is)

@@ -4,8 +4,8 @@ use Rattle.uefi_path.specs.Views.{node_of, nodes_left}
 use Rattle.uefi_path.proofs.Steps.{HasNodes-node, HasNodes-encoded, none_before_end, after_node, next_node}
 use Rattle.uefi_path.proofs.node_iter.DevicePathNodeIteratorIterator.next.Goals as goal
 
-pub stops_at-requires : goal.stops_at-requires
-stops_at-requires c =
+pub first_node-requires : goal.first_node-requires
+first_node-requires c =
     let iter = c.args.self.now in
     HasNodes-node (Stops iter.stop) iter.rest.now
     (HasNodes-encoded (Stops iter.stop) iter.rest.now iter.nodes.0 iter.nodes.1)
@@ -13,37 +13,25 @@ stops_at-requires c =
 pub returns-then-stops_at-clause-steps : goal.returns-then-stops_at-clause-steps
 returns-then-stops_at-clause-steps c =
     let iter = c.args.self.now in
-    let P = Stops iter.stop in
-    let has = HasNodes-node P iter.rest.now (HasNodes-encoded P iter.rest.now iter.nodes.0 iter.nodes.1) in
     let none : nodes_left iter ≡ [] =
-    none_before_end P iter.rest.now has.2.0 has.0 iter.nodes.0 iter.nodes.1 has.1
-    ((c.stops_at.ensures has.0 has.2).0 c.if-stops_at.true) has.2.1 in
+    none_before_end (Stops iter.stop) iter.rest.now c.first_node.result.1.now
+    (node_of c.first_node.result.0) iter.nodes.0 iter.nodes.1 c.first_node.ensures.fits
+    (c.stops_at.ensures.0 c.if-stops_at.true) c.first_node.ensures.split in
     (none, none)
-
-pub first_node-requires : goal.first_node-requires
-first_node-requires c =
-    let iter = c.args.self.now in
-    HasNodes-node (Stops iter.stop) iter.rest.now
-    (HasNodes-encoded (Stops iter.stop) iter.rest.now iter.nodes.0 iter.nodes.1)
 
 pub new-requires : goal.new-requires
 new-requires c =
     let iter = c.args.self.now in
-    let cut = c.first_node.ensures.split in
     after_node (Stops iter.stop) iter.rest.now c.first_node.result.1.now
     (node_of c.first_node.result.0) iter.nodes.0 iter.nodes.1 c.first_node.ensures.fits
-    (λ so. let stopped : false ≡ true =
-    (c.if-stops_at.ensures (node_of c.first_node.result.0) (c.first_node.result.1.now, cut)).1 so in cc) cut
+    (λ so. let stopped : false ≡ true = c.if-stops_at.ensures.1 so in cc) c.first_node.ensures.split
 
 pub returns-clause-steps : goal.returns-clause-steps
 returns-clause-steps c =
     let iter = c.args.self.now in
-    let cut = c.first_node.ensures.split in
     next_node (Stops iter.stop) iter.rest.now c.first_node.result.1.now
     (node_of c.first_node.result.0) iter.nodes.0 c.new.result.nodes.0 iter.nodes.1 c.first_node.ensures.fits
-    (λ so. let stopped : false ≡ true =
-    (c.if-stops_at.ensures (node_of c.first_node.result.0) (c.first_node.result.1.now, cut)).1 so in cc) cut
-    c.new.ensures.nodes
+    (λ so. let stopped : false ≡ true = c.if-stops_at.ensures.1 so in cc) c.first_node.ensures.split c.new.ensures.nodes
 
 pub returns-clause-goes : goal.returns-clause-goes
 returns-clause-goes c =

@@ -21,9 +21,9 @@ pub loop-after-preserved : goal.loop-after-preserved
 loop-after-preserved c =
     let passed = c.loop-after.invariant in
     let next = rw c.in-Some.is at c.in_ok-after.ensures.record in (
-      passed.0 ++ next.0 ∷ [],
+      passed.0 ++ _ ∷ [],
       more_records c.args.bytes.now c.loop-after.rest.now c.in-Some.after.now passed.0
-          (next.0 ∷ []) passed.1 next.1,
+          (_ ∷ []) passed.1 next,
     )
 
 pub returns : goal.returns

@@ -1,9 +1,0 @@
-use Rattle.std.proofs.Common.{◌-◌, ◌≤◌, length}
-use Rattle.uefi_hii.specs.private.Finding.{IsNotBefore}
-use Rattle.uefi_hii.proofs.finding.index_after.Given as goal
-
-abbrev pub invariant-loop-index : goal.invariant-loop-index
-invariant-loop-index l = (l.index ≤ length l.bytes) × IsNotBefore l.byte l.index l.bytes
-
-abbrev pub decreases-loop-index : goal.decreases-loop-index
-decreases-loop-index l = l.end - l.index
