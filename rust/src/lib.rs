@@ -1,0 +1,157 @@
+//! Readers and writers of the record formats of UEFI firmware, over byte slices.
+//!
+//! | module | reads |
+//! |---|---|
+//! | [`proto::device_path`] | device paths |
+//! | [`proto::tcg`] | event logs of measured boot |
+//! | [`proto::hii::config_str`] | HII configuration strings |
+//! | [`proto::media::file`] | file information records |
+//! | [`proto::pci`] | lists of PCI resources |
+//! | [`mem::memory_map`] | memory maps |
+//! | [`runtime`] | times |
+//!
+//! Modules and names are those of the crate `uefi` 0.41.0. Nothing calls firmware, nothing trusts
+//! the bytes, and there is no `unsafe` code. Views borrow the bytes that they were read from. What
+//! allocates needs the feature `alloc`, which is on by default, and returns an error where memory
+//! runs out.
+//!
+//! The Rust files are written from source that is proved; they aren't themselves proved. The
+//! README says what is checked.
+#![no_std]
+#![forbid(unsafe_code)]
+#![warn(missing_debug_implementations)]
+// Statuses have the names of the specification.
+#![allow(non_camel_case_types)]
+// The traits `FromStr` are implemented below, over these functions.
+#![allow(clippy::should_implement_trait)]
+
+#[cfg(feature = "alloc")]
+extern crate alloc;
+
+mod formats;
+mod support;
+
+pub use crate::formats::uefi_base::*;
+pub use crate::support::alloc::AllocError;
+
+/// A result whose error is an [`Error`] of UEFI.
+pub type Result<Output = (), Data = ()> = core::result::Result<Output, Error<Data>>;
+
+pub mod data_types {
+    //! Texts, GUIDs and units in bytes.
+
+    pub use crate::formats::uefi_base::*;
+}
+
+pub mod proto {
+    //! Formats that protocols of firmware hand out.
+
+    pub mod device_path {
+        //! Device paths (UEFI 2.10, chapter 10). Begin with [`DevicePath::try_from`].
+
+        pub use crate::formats::uefi_path::*;
+    }
+
+    pub mod tcg {
+        //! Event logs of measured boot. Begin with [`v1::EventLog::new`] for a log of SHA-1 digests, and
+        //! with [`v2::EventLog::new`] for one whose header states the algorithms.
+
+        pub use crate::formats::uefi_tcg::*;
+    }
+
+    pub mod hii {
+        //! The human interface infrastructure.
+
+        pub mod config_str {
+            //! Configuration strings (UEFI 2.10, 35.2.1).
+            #![cfg_attr(feature = "alloc", doc = "Begin with [`ConfigurationString::from_str`].")]
+
+            pub use crate::formats::uefi_hii::*;
+        }
+    }
+
+    pub mod media {
+        //! Media.
+
+        pub mod file {
+            //! Records of files and file systems (UEFI 2.10, 13.5). Begin with [`FileInfo::from_uefi`].
+
+            pub use crate::formats::uefi_records::{
+                FileAttribute, FileInfo, FileInfoCreationError, FileProtocolInfo, FileSystemInfo,
+                FileSystemVolumeLabel, first_zero_unit, write_file_info, write_file_system_info,
+                write_file_system_volume_label,
+            };
+        }
+    }
+
+    pub mod pci {
+        //! Lists of PCI resources (UEFI 2.10, 14.2). Begin with [`ResourceList::try_from`].
+
+        #[cfg(feature = "alloc")]
+        pub use crate::formats::uefi_map::parse;
+        pub use crate::formats::uefi_map::{
+            QwordAddressSpaceDescriptor, ResourceError, ResourceIter, ResourceList,
+            ResourceRangeType,
+        };
+
+        pub mod configuration {
+            //! The same names, where `uefi` has them.
+
+            pub use super::*;
+        }
+    }
+}
+
+pub mod mem {
+    //! Memory.
+
+    pub mod memory_map {
+        //! Memory maps (UEFI 2.10, 7.2). Begin with [`MemoryMapRef::new`].
+
+        #[cfg(feature = "alloc")]
+        pub use crate::formats::uefi_map::MemoryMapOwned;
+        pub use crate::formats::uefi_map::{
+            MemoryAttribute, MemoryDescriptor, MemoryMap, MemoryMapError, MemoryMapIter,
+            MemoryMapKey, MemoryMapMeta, MemoryMapMut, MemoryMapRef, MemoryMapRefMut, MemoryType,
+        };
+    }
+}
+
+pub mod runtime {
+    //! Times (UEFI 2.10, 8.3). Begin with [`Time::try_from`] or [`Time::new`].
+
+    pub use crate::formats::uefi_records::{
+        Daylight, Time, TimeByteConversionError, TimeError, TimeParams,
+    };
+}
+
+#[cfg(feature = "alloc")]
+mod from_str {
+    use crate::proto::hii::config_str::{ConfigurationString, ParseError};
+    use crate::{CString16, FromStrError};
+    use core::str::FromStr;
+
+    impl FromStr for CString16 {
+        type Err = FromStrError;
+
+        fn from_str(text: &str) -> Result<CString16, FromStrError> {
+            CString16::from_str(text)
+        }
+    }
+
+    impl TryFrom<&str> for CString16 {
+        type Error = FromStrError;
+
+        fn try_from(text: &str) -> Result<CString16, FromStrError> {
+            CString16::from_str(text)
+        }
+    }
+
+    impl FromStr for ConfigurationString {
+        type Err = ParseError;
+
+        fn from_str(text: &str) -> Result<ConfigurationString, ParseError> {
+            ConfigurationString::from_str(text)
+        }
+    }
+}

@@ -1,0 +1,10 @@
+//! What stands for the parts of Rattle's library that Rust's `core` has in another form.
+
+pub(crate) mod alloc;
+pub(crate) mod bitflags;
+// Some calls are those of the tests and of the examples alone.
+#[cfg(feature = "alloc")]
+#[allow(dead_code)]
+pub(crate) mod fallible;
+pub(crate) mod signed;
+pub(crate) mod simd;

@@ -1,0 +1,55 @@
+//! The repository's tests of the libraries and of the listings, written out by `tools/erase`, and by
+//! hand each allocation refused in turn, and every `# Panics`.
+
+// The form is the one of the repository's tests, of which some are left out.
+#![allow(dead_code, unused_imports, clippy::all)]
+
+extern crate alloc;
+
+#[macro_use]
+#[path = "../../examples/uefi_list/text.rs"]
+mod text;
+
+/// `format!`, which may run out of memory.
+macro_rules! fallible_format {
+    ($($form:tt)*) => { Ok::<String, uefi_formats::AllocError>(format!($($form)*)) };
+}
+
+mod base_tests;
+#[path = "../../examples/uefi_list/hex.rs"]
+mod hex;
+mod hii_tests;
+mod listing_tests;
+mod map_tests;
+mod memory;
+mod panics;
+mod path_tests;
+mod records_tests;
+mod sizes;
+mod support;
+mod tcg_tests;
+mod test_support;
+#[path = "../../examples/uefi_list/uefi_listing/mod.rs"]
+mod uefi_listing;
+
+// The libraries, by the names that the repository's tests have for them.
+mod uefi_base {
+    pub use uefi_formats::*;
+}
+mod uefi_hii {
+    pub use uefi_formats::proto::hii::config_str::*;
+}
+mod uefi_map {
+    pub use uefi_formats::mem::memory_map::*;
+    pub use uefi_formats::proto::pci::*;
+}
+mod uefi_path {
+    pub use uefi_formats::proto::device_path::*;
+}
+mod uefi_records {
+    pub use uefi_formats::proto::media::file::*;
+    pub use uefi_formats::runtime::*;
+}
+mod uefi_tcg {
+    pub use uefi_formats::proto::tcg::*;
+}

@@ -1,0 +1,141 @@
+//! The readers of the package, as `crates/uefi_bench` has those of the proved archive: each returns a
+//! sum over what it gave.
+
+use std::hint::black_box;
+use uefi_formats::UnalignedSlice;
+use uefi_formats::mem::memory_map::{MemoryDescriptor, MemoryMap, MemoryMapKey, MemoryMapMeta, MemoryMapRef};
+use uefi_formats::proto::device_path::{DevicePath, DevicePathNodeIterator};
+use uefi_formats::proto::hii::config_str::{
+    ConfigurationString, ConfigurationStringElement, ConfigurationStringIter, MultiConfigurationStringIter,
+    fill_from_hex,
+};
+use uefi_formats::proto::media::file::FileInfo;
+use uefi_formats::proto::pci;
+use uefi_formats::proto::tcg::{v1, v2};
+use uefi_formats::runtime::Time;
+
+fn sum(numbers: impl IntoIterator<Item = u64>) -> u64 {
+    numbers.into_iter().fold(0, u64::wrapping_add)
+}
+
+pub fn path(bytes: &[u8]) -> u64 {
+    DevicePath::try_from(bytes).map_or(0, |path| path.as_bytes().len() as u64)
+}
+
+fn node_sum(nodes: DevicePathNodeIterator<'_>) -> u64 {
+    sum(nodes.map(|node| u64::from(node.device_type().0).wrapping_add(node.data().len() as u64)))
+}
+
+pub fn nodes(bytes: &[u8]) -> u64 {
+    DevicePath::try_from(bytes).map_or(0, |path| node_sum(path.node_iter()))
+}
+
+pub fn instances(bytes: &[u8]) -> u64 {
+    let Ok(path) = DevicePath::try_from(bytes) else {
+        return 0;
+    };
+    sum(path.instance_iter().map(|it| node_sum(it.node_iter()).wrapping_add(it.as_bytes().len() as u64)))
+}
+
+pub fn log1(bytes: &[u8], last_entry: usize) -> u64 {
+    let log = v1::EventLog::new(Some(bytes), Some(last_entry), false);
+    sum(log.iter().flat_map(|event| {
+        let head = [event.pcr_index().0, event.event_type().0, u32::from(event.digest()[0])].map(u64::from);
+        head.into_iter().chain([event.event_data().len() as u64])
+    }))
+}
+
+pub fn log2(bytes: &[u8], last_entry: usize, digests: bool) -> u64 {
+    let log = v2::EventLog::new(Some(bytes), Some(last_entry), false);
+    let mut sum = 0u64;
+    for event in log.iter() {
+        sum = sum
+            .wrapping_add(u64::from(event.pcr_index().0))
+            .wrapping_add(u64::from(event.event_type().0))
+            .wrapping_add(event.event_data().len() as u64);
+        if digests {
+            for (algorithm, digest) in event.digests() {
+                let first = digest.first().map_or(0, |byte| u64::from(*byte));
+                sum = sum.wrapping_add(u64::from(algorithm.0)).wrapping_add(first);
+            }
+        }
+    }
+    sum
+}
+
+fn map_of(bytes: &[u8], desc_size: usize) -> Option<MemoryMapRef<'_>> {
+    let (map_size, desc_version) = (bytes.len(), MemoryDescriptor::VERSION);
+    MemoryMapRef::new(bytes, MemoryMapMeta { map_size, desc_size, map_key: MemoryMapKey::default(), desc_version }).ok()
+}
+
+pub fn map(bytes: &[u8], desc_size: usize) -> u64 {
+    let Some(map) = map_of(bytes, desc_size) else {
+        return 0;
+    };
+    sum(map.entries().map(|it| u64::from(it.ty.0).wrapping_add(it.phys_start).wrapping_add(it.page_count)))
+}
+
+pub fn sorted(bytes: &[u8], desc_size: usize) -> u64 {
+    map_of(bytes, desc_size).map_or(0, |map| u64::from(map.is_sorted()))
+}
+
+pub fn info(bytes: &[u8]) -> u64 {
+    FileInfo::from_uefi(bytes, bytes.len()).map_or(0, |info| info.file_name().len().saturating_sub(1) as u64)
+}
+
+pub fn times(bytes: &[u8]) -> u64 {
+    sum(bytes.chunks_exact(16).filter_map(|part| Time::try_from(part).ok()).map(|time| {
+        sum([u64::from(time.year()), u64::from(time.day()), u64::from(time.nanosecond())])
+    }))
+}
+
+pub fn resources(bytes: &[u8]) -> u64 {
+    pci::parse(bytes).map_or(0, |list| {
+        (list.len() as u64).wrapping_add(list.first().map_or(0, |range| range.granularity))
+    })
+}
+
+fn text_of(bytes: &[u8]) -> &str {
+    std::str::from_utf8(bytes).unwrap_or("")
+}
+
+fn first_of(bytes: &[u8]) -> u64 {
+    bytes.first().map_or(0, |byte| u64::from(*byte))
+}
+
+pub fn pairs(bytes: &[u8]) -> u64 {
+    sum(ConfigurationStringIter::new(text_of(bytes))
+        .map(|(key, value)| (key.len() as u64).wrapping_add(value.map_or(0, str::len) as u64)))
+}
+
+fn configuration_sum(bytes: &[u8], number: impl Fn(&ConfigurationStringElement) -> u64) -> u64 {
+    let mut sum = 0u64;
+    for configuration in MultiConfigurationStringIter::new(text_of(bytes)).flatten() {
+        for element in &configuration.elements {
+            sum = sum.wrapping_add(number(element)).wrapping_add(first_of(&element.value));
+        }
+    }
+    sum
+}
+
+pub fn configurations(bytes: &[u8]) -> u64 {
+    configuration_sum(bytes, |element| element.offset.wrapping_add(element.width))
+}
+
+pub fn values(bytes: &[u8]) -> u64 {
+    configuration_sum(bytes, |element| element.value.len() as u64)
+}
+
+pub fn hex(bytes: &[u8]) -> u64 {
+    let text = text_of(bytes);
+    let mut filled = vec![0; ConfigurationString::parse_bytes_from_hex(text).len()];
+    fill_from_hex(text, &mut filled);
+    (filled.len() as u64).wrapping_add(first_of(black_box(&filled)))
+}
+
+/// What the archive has no function for: it has only to end.
+pub fn others(bytes: &[u8]) -> u64 {
+    let even = &bytes[..bytes.len() / 2 * 2];
+    let text = UnalignedSlice::new(even).to_cstring16().map_or(0, |text| text.as_cstr16().num_chars() as u64);
+    text.wrapping_add(format!("{:?}", DevicePath::try_from(even)).len() as u64)
+}

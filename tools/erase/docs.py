@@ -1,0 +1,69 @@
+"""Docs: Rust's examples for Rattle's, paths of this package, and no sentence that only a prover needs."""
+import os
+import re
+import textwrap
+
+BLOCK = re.compile(r'(?:^|(?<=\n))([ ]*)//([/!])[^\n]*(?:\n\1//\2[^\n]*)*')
+# Of what a sentence doesn't speak here: a caller in Rust sees no contract.
+PROOF = re.compile(r'specs/|\b(contracts?|prove[sdn]?|proofs?|laws?|clauses?)\b')
+ASIDE = re.compile(r' ?\(\[`\w+`\]\(crate::laws::\w+\)\)|, with\s+their\s+contracts,')
+SENTENCE = re.compile(r'(?<=[.:])\s+(?=[A-Z`\[])')
+TYPES = ('struct', 'enum', 'trait')
+
+
+class Docs:
+    """The folder of the examples, and which of them have been used."""
+
+    def __init__(self, folder, libraries):
+        self.folder, self.used = folder, set()
+        self.path = re.compile(rf'(?<=[`(\[])(crate|{"|".join(libraries)})::')
+
+    def files(self):
+        return {os.path.join(folder, name) for folder, _, names in os.walk(self.folder) for name in names}
+
+    def rewrite(self, source, crate, shown):
+        """Writes the docs of a file anew."""
+        words, folder = {}, f'{self.folder}/{crate}/{os.path.dirname(shown.partition("/src/")[2])}'
+        for start, keyword, end in source.items():
+            name, kind = source.item_name(keyword), source.at(keyword)
+            link = kind in TYPES and source.at(keyword - 1) == 'pub'
+            words[start] = os.path.normpath(f'{folder}/{name}.md'), f'\n\nIts contract: `{shown}`.' * link
+            if kind in ('impl', 'trait'):
+                for first, inner, _ in source.items(source.until(keyword, '{') + 1, end - 1):
+                    words[first] = os.path.normpath(f'{folder}/{name}.{source.item_name(inner)}.md'), ''
+        for i, token in enumerate(source.tokens):
+            if '///' in token.space or '//!' in token.space:
+                example, link = words.get(i, (None, ''))
+                token.space = BLOCK.sub(lambda it: self.block(it, source, i, crate, example, link), token.space)
+
+    def block(self, found, source, i, crate, example, link):
+        """A block of docs, written anew."""
+        indent, mark = found[1], found[2]
+        text = '\n'.join(line.strip()[3:].removeprefix(' ') for line in found[0].split('\n'))
+        text = self.with_example(source, i, text, example) if '```' in text else text
+        parts = [paragraph(part, 96 - len(indent)) for part in ASIDE.sub('', text).split('\n\n')]
+        text = '\n\n'.join(part for part in parts if part) + link * (mark == '/')
+        text = self.path.sub(lambda it: f'crate::formats::{crate if it[1] == "crate" else it[1]}::', text)
+        return '\n'.join(f'{indent}//{mark} {line}'.rstrip() for line in text.split('\n')) if text else ''
+
+    def with_example(self, source, i, text, example):
+        """The docs with the examples of the item's file, in place of the source's: of a last section Examples, or
+        of what begins with the first example."""
+        before = re.split(r'(?m)^# Examples$|^```', text)[0]
+        if re.search(r'(?m)^# [A-Z]', re.sub(r'(?ms)^```.*?^```', '', text[len(before) + 2:])):
+            source.refuse(i, 'a section after the examples')
+        if not example or not os.path.exists(example):
+            source.refuse(i, f'no example in Rust: {example}')
+        self.used.add(example)
+        with open(example, encoding='utf-8') as file:
+            return before + file.read().strip()
+
+
+def paragraph(text, width):
+    """A paragraph without the sentences that speak of proofs."""
+    if '```' in text or text.startswith(('|', '#')) or not PROOF.search(text):
+        return text
+    if text.startswith('- '):
+        return '\n'.join(item for item in re.split(r'\n(?=- )', text) if not PROOF.search(item))
+    sentences = [sentence for sentence in SENTENCE.split(' '.join(text.split('\n'))) if not PROOF.search(sentence)]
+    return textwrap.fill(' '.join(sentences), width, break_on_hyphens=False)

@@ -1,0 +1,48 @@
+"""Deletes ghost text: what only the prover reads."""
+from rules import GHOST
+from tokens import CLAUSES, CLOSE, rewrite
+
+
+def erase(source):
+    """Deletes the ghost text of a file."""
+    for names, delete in ((('ghost',), member), (CLAUSES, clause)):
+        for i in range(len(source.tokens) - 1, -1, -1):
+            if source.is_name(i, *names):
+                delete(source, i)
+    rewrite(source, GHOST)
+    for start, keyword, end in reversed(list(source.items())):
+        # A test that calls laws, which do nothing.
+        if any(source.at(i) == 'laws' and source.at(i + 1) == '::' for i in range(keyword, end)):
+            source.cut(start, end)
+    for i, token in enumerate(source.tokens):
+        if token.kind in ('name', 'sign') and not token.text.isascii():
+            source.refuse(i, f'ghost text is left: {token.text}')
+
+
+def member(source, i):
+    """`ghost use ..;`, `ghost NAME = ..;`, and fields `ghost NAME: ..,`, with `pub` before them."""
+    start = i
+    if source.at(i - 1) == ')':
+        while source.at(start) != '(':
+            start -= 1
+    start -= source.at(start - 1) == 'pub'
+    end = i
+    while source.at(end) not in (';', ',', '', *CLOSE):
+        end = source.after(end)
+    source.cut(start, end + (source.at(end) in (';', ',')))
+
+
+def clause(source, i):
+    """`requires NAME { .. }`, `ensures NAME { .. }`, `ensures* NAME { .. }`, of functions and bounds."""
+    opening = i + 1
+    while source.at(opening) != '{':
+        if source.at(opening) != '*' and not source.is_name(opening):
+            source.refuse(i, 'a clause without braces')
+        opening += 1
+    end = source.after(opening)
+    if source.at(end) == '{':
+        # The body stands in the line of its function's head, and below its bounds.
+        source.tokens[end].space = '\n' if source.at(i - 1) == ',' else ' '
+    elif source.at(end) == ';':
+        source.tokens[end].space = ''
+    del source.tokens[i:end]

@@ -1,0 +1,66 @@
+"""The forms that are deleted, and those that have another form in Rust."""
+import re
+
+from tokens import Rule
+
+
+def rules(table):
+    return [Rule(before, after) for before, after in table]
+
+
+# What is left of ghost text: attributes, models, `Drop` (each type of Rust may be dropped), and laws.
+GHOST = rules([
+    ("#![tactic $x]", ""), ("#[tactic $x]", ""), ("#[cycle]", ""),
+    ("use std::marker::Model;", ""), ("impl Model for $$type { }", ""), ("impl<$a> Model for $$type { }", ""),
+    ("#[derive(Drop)]", ""), ("(Drop, $next", "($next"), (", Drop, ", ", "), (", Drop)", ")"),
+    (": Drop +", ":"), ("+ Drop", ""), (": Drop", ""),
+    ("pub mod laws;", ""), (", laws,", ","), (", laws}", "}"), ("{laws, $next", "{$next"),
+])
+RUST = rules([
+    ("fmt::Formatter<W>", "fmt::Formatter<'_>"),
+    # What allocates returns an error where Rust's own calls end the program.
+    *((f"Vec::{call}(", f"Vec::fallible_{call}(") for call in ("with_capacity", "from_slice", "from_elem")),
+    *((f"String::{call}(", f"String::fallible_{call}(") for call in ("with_capacity", "from_str")),
+    *((f".{call}", f".fallible_{call}") for call in ("push(", "push_str(", "extend_from_slice(", "collect(", "collect::")),
+    ("vec![in alloc; $$item; $$count]", "Vec::fallible_from_elem($$item, $$count)"),
+    # What is displayed stays as it is.
+    ("write!(f,", "write!(f,"), ("writeln!(f,", "writeln!(f,"),
+    ("write!($out,", "fallible_write!($out,"),
+    ("writeln!($out,", "fallible_writeln!($out,"),
+    ("writeln!($out)", 'fallible_writeln!($out, "")'),
+    # What rustc 1.85 lacks.
+    (".cast_signed()", ".to_signed()"),
+    ("str::from_utf8(", "core::str::from_utf8("),
+    ("unsafe { str::from_utf8_unchecked($$bytes) }", 'core::str::from_utf8($$bytes).expect("UTF-8")'),
+    # What is proved of a constant is asserted as it is compiled.
+    ("prove!($$fact)", "assert!($$fact)"),
+    # A product that fits 64 bits: in 32 bits it is past every length, as it is in 64.
+    ("$length * $count as usize", "$length.saturating_mul($count as usize)"),
+])
+# What only tests do. `heap` is an allocator that refuses: here the test program's own does.
+TESTS = rules([(before.replace("ALLOC", alloc), after) for alloc in ("alloc", "rt.alloc()") for before, after in [
+    (".to_string(ALLOC)", ".to_string().text()"),
+    (".replace(ALLOC, $next", ".fallible_replace($next"),
+    (".repeat(ALLOC, $next", ".fallible_repeat($next"),
+    ("format!(in ALLOC; $next", "fallible_format!($next"),
+]] + [
+    ("let alloc = rt.alloc();", ""),
+    (".clone()", ".fallible_clone()"),
+    ("|heap|", "||"),
+    ("|alloc, $name|", "|$name|"),
+])
+# Elements that go, of lists of parameters, arguments and fields: allocators, their types, writers' types, handles.
+ALLOCATOR = re.compile(
+    r'&?(alloc|heap)|&?rt\.alloc\(\)|self\.alloc|(alloc|heap): ?&?(A|Global|Refusing<Global>)|&?Refusing<Global>'
+    r'|A(: ?Allocator)?( ?\+ ?Copy)?( = Global)?|Allocator|Global|_?rt: ?HostRuntime|W: ?fmt::Write')
+# The imports of which nothing is left then.
+EMPTY = rules([("use std::alloc::{};", ""), ("use std::alloc::Allocator;", ""), ("use std::alloc::Global;", ""),
+               ("use std::alloc::{AllocError};", "use std::alloc::AllocError;")])
+# The modules of std that are in core, in this package's support, and in std.
+CORE, SUPPORT, STD = {'cell', 'cmp', 'error', 'fmt', 'iter', 'ops', 'str'}, {'alloc', 'simd', 'test'}, {'io'}
+# All that may be left.
+ATTRIBUTES = {'allow', 'cfg', 'derive', 'inline', 'must_use', 'repr', 'test'}
+MACROS = {'assert', 'bitflag_items', 'fallible_format', 'fallible_write', 'fallible_writeln', 'format_args', 'matches',
+          'unreachable', 'write', 'writeln'}
+# Names of which none may be left.
+NO_RULE = {'A', 'Allocator', 'Drop', 'Global', 'HostRuntime', 'Model', 'alloc', 'ghost', 'laws', 'rt', 'unsafe'}

@@ -1,0 +1,112 @@
+"""Writes what is left in Rust: without allocators, over `core`, in the modules of this package."""
+import re
+
+from rules import ALLOCATOR, ATTRIBUTES, CORE, EMPTY, MACROS, NO_RULE, RUST, STD, SUPPORT, TESTS
+from tokens import OPEN, rewrite
+
+
+def to_rust(source, modules, root, tests):
+    """Writes a file without ghost text in Rust. `root` is the module of its crate, `modules` those of others."""
+    rewrite(source, TESTS + RUST if tests else RUST)
+    for i in range(len(source.tokens) - 1, -1, -1):
+        sign = source.tokens[i].kind == 'sign' and source.at(i)
+        close = source.close(i) if sign in OPEN else source.angle(i) if sign == '<' else None
+        if close:
+            drop_elements(source, i, close)
+    rewrite(source, EMPTY)
+    for i, token in enumerate(source.tokens):
+        if token.kind == 'name' and source.at(i + 1) == '::' and source.at(i - 1) not in ('::', '.'):
+            token.text = root if token.text == 'crate' else modules.get(token.text, token.text)
+            if token.text == 'std':
+                token.text = std(source, i, root)
+    attributes(source, tests)
+    check(source)
+
+
+def drop_elements(source, opening, close):
+    """Drops allocators from a list, and the brackets of a list of types of which nothing is left."""
+    count, i = len(source.tokens), close
+    while i > opening:
+        start = next(j for j in range(i - 1, opening - 1, -1) if j == opening or source.at(j) == ',')
+        if start + 1 < i and ALLOCATOR.fullmatch(source.code(start + 1, i)):
+            last = source.at(i) != ','
+            source.tokens[i + 1 - last].space = source.tokens[start + 1].space if not last else source.tokens[i].space
+            del source.tokens[start + (not last or source.at(start) != ','):i + (not last)]
+        i = start
+    close -= count - len(source.tokens)
+    if source.at(opening) == '<' and close == opening + 1:
+        del source.tokens[opening - (source.at(opening - 1) == '::'):close + 1]
+
+
+def std(source, i, root):
+    """What stands for `std`."""
+    parts = source.names(i + 2, source.after(i + 2))
+    if set(parts) <= CORE:
+        return 'core'
+    if len(parts) == 1 and parts[0] in SUPPORT:
+        return 'crate::support'
+    if not set(parts) <= STD or root.startswith('crate::formats'):
+        source.refuse(i, f'no rule: std::{"/".join(parts)}')
+    return 'std'
+
+
+def head(source, keyword):
+    """The index of the first attribute of an item."""
+    i = keyword - (source.at(keyword - 1) == 'const')
+    if source.at(i - 1) == ')':
+        while source.at(i - 1) != 'pub':
+            i -= 1
+    i -= source.at(i - 1) == 'pub'
+    while source.at(i - 1) == ']':
+        i -= 1
+        while source.at(i) != '#':
+            i -= 1
+    return i
+
+
+def attributes(source, tests):
+    """`Debug` for each type; `#[inline]` for each function of the library but those that display, since a
+    caller in another crate sees only such bodies."""
+    for i in range(len(source.tokens) - 2, -1, -1):
+        if not source.is_name(i, 'struct', 'enum', 'fn') or not source.is_name(i + 1):
+            continue
+        start = head(source, i)
+        given = source.names(start, i)
+        if source.at(i) == 'fn':
+            has_body = source.at(source.until(i, ';', '{')) == '{'
+            if has_body and not tests and 'inline' not in given and source.at(i + 1) != 'fmt':
+                source.insert(start, '#[inline]')
+        elif 'derive' not in given:
+            source.insert(start, '#[derive(Debug)]')
+        elif 'Debug' not in given:
+            derive = next(j for j in range(start, i) if source.at(j) == 'derive')
+            source.tokens[source.close(derive + 1) - 1].text += ', Debug'
+
+
+def check(source):
+    """Stops at what has no rule."""
+    for i, token in enumerate(source.tokens):
+        following = source.at(i + 1)
+        if token.kind == 'sign' and token.text == '#' and following in ('[', '!'):
+            if source.at(i + 2 + (following == '!')) not in ATTRIBUTES:
+                source.refuse(i, 'an attribute without a rule')
+        macro = following == '!' and source.at(i + 2) in OPEN and token.text not in MACROS
+        if token.kind == 'name' and (macro or token.text in NO_RULE and '::' not in (source.at(i - 1), following)):
+            source.refuse(i, f'no rule: {token.text}')
+
+
+def text_of(source, in_library, gate):
+    """The text, with imports of what Rattle has in scope everywhere, and of traits whose methods calls became."""
+    names, lines = set(source.names()), []
+    owned = (('string', 'String'), ('vec', 'Vec')) if in_library else ()
+    lines += [f'{gate}\nuse alloc::{module}::{name};' for module, name in owned if name in names]
+    if any(name.startswith('fallible_') for name in names) or 'text' in names and not in_library:
+        lines.append(f'{gate}\nuse crate::support::fallible::*;' if in_library else 'use crate::support::fallible::*;')
+    if 'write_char' in names:
+        lines.append('use core::fmt::Write as _;')
+    if 'to_signed' in names:
+        lines.append('use crate::support::signed::ToSigned;')
+    text = source.text()
+    docs = re.match(r'(//![^\n]*\n)*', text)[0]
+    parts = [docs.strip(), '\n'.join(lines), text[len(docs):].strip()]
+    return '\n\n'.join(part for part in parts if part) + '\n'
