@@ -219,10 +219,11 @@ UEFI_CALL bool uefi_log2_header(UefiBytes log, size_t last_entry, UefiLogHeader 
  * whose rows these are. False under a table of 2^32 rows or more, which no
  * header has.
  *
- * Start at `event_end`: after the header event stand the events that firmware
- * writes, and that Linux, tpm2-tools and uefi_audit read. The Rust crate `uefi`
- * starts after the header, at `events_start`. Logs differ only where other
- * bytes follow the header in its event. */
+ * Read a version 2 log by `iter_after_header_event`, in C from `event_end`:
+ * these are the events that firmware writes, and that Linux, tpm2-tools and
+ * `uefi_audit` read; `iter`, in C from `events_start`, starts where the Rust
+ * crate `uefi` does. The two differ only where other bytes follow the header in
+ * its event. */
 UEFI_CALL bool uefi_log2_next(UefiBytes log, size_t last_entry, UefiBytes rows, size_t *offset,
                               UefiEvent2 *out);
 

@@ -98,6 +98,9 @@ static int list_log2(UefiBytes log, size_t last_entry, bool after_header_event) 
         return 0;
     }
     put_header(&header);
+    // Read a version 2 log by `iter_after_header_event`, in C from `event_end`: these are the
+    // events that firmware writes, and that Linux, tpm2-tools and `uefi_audit` read; `iter`, in C
+    // from `events_start`, starts where the Rust crate `uefi` does.
     size_t at = after_header_event ? header.event_end : header.events_start;
     for (; uefi_log2_next(log, last_entry, header.rows, &at, &event); count++) {
         printf("event %" PRIu32 " 0x%08" PRIx32, event.pcr_index, event.event_type);

@@ -1,3 +1,9 @@
+//! Callers of the reader of version 2 logs.
+//!
+//! Read a version 2 log by `iter_after_header_event`, in C from `event_end`: these are the events
+//! that firmware writes, and that Linux, tpm2-tools and `uefi_audit` read; `iter`, in C from
+//! `events_start`, starts where the Rust crate `uefi` does.
+
 ghost use Rattle.std.specs.Prelude.{◌≡◌, ◌==◌, ◌+◌, ◌-◌, ◌/◌, ◌<◌, ◌≤◌, ℕ, List, [], ◌∷◌, Option, Some, count_by, length, map, option_map, slice_get, take, IfOk, IfSome, MatchOption, drop};
 ghost use Rattle.std.specs.List.{concat};
 ghost use Rattle.uefi_base.specs.Prefix.{IsPrefix};
@@ -16,8 +22,8 @@ use uefi_tcg::{AlgorithmId, PcrIndex};
 /// The events of a log, or that an allocation failed.
 type Events<'a> = Result<Vec<PcrEvent<'a>>, AllocError>;
 
-/// Collects the events of a log of version 2 from the header's end on, where the Rust crate `uefi`
-/// starts: they are the log under its own header's table.
+/// Collects the events of a log of version 2 from the header's end on: they are the log under its
+/// own header's table.
 pub fn collected_events<'a>(alloc: Global, bytes: &'a [u8], last_entry: usize) -> Events<'a>
     ensures { IfOk result
         (λ events. IsLogOf after_header (Some bytes.now) (Some last_entry)
@@ -28,8 +34,7 @@ pub fn collected_events<'a>(alloc: Global, bytes: &'a [u8], last_entry: usize) -
         .collect(alloc)
 }
 
-/// Collects the events of a log that follow its header event, as firmware writes them and Linux,
-/// tpm2-tools and `uefi_audit` read them: they are its log from there.
+/// Collects the events of a log that follow its header event: they are its log from there.
 pub fn events_after_header_event<'a>(
     alloc: Global,
     bytes: &'a [u8],
