@@ -92,8 +92,8 @@ fn no_header<'a>() -> UefiLogHeader<'a> {
     }
 }
 
-/// Collects the digests that bytes encode under the table of these rows, by a loop: those of the event that has
-/// the bytes, as the library's `digests` gives them.
+/// Collects the digests that bytes encode under the table of these rows, by a loop: those of the
+/// event that has the bytes, as the library's `digests` gives them.
 pub fn digests_by_steps<'a, A: Allocator>(
     alloc: A,
     digests: &'a [u8],
