@@ -2,7 +2,7 @@ use crate::tests::samples::{
     ISCSI_ALTERNATIVES, ISCSI_ALTERNATIVES_ITEMS, ISCSI_NAME, ISCSI_TWICE, ISCSI_TWICE_ITEMS,
     KEPT_PAIRS, KEPT_PAIRS_ITEMS, line_of, push_item, text_of,
 };
-use std::alloc::{AllocError, Allocator, Global};
+use std::alloc::{Allocator, Global};
 use std::test::Fail;
 use test_support::{Refusing, holds, in_turn, same, same_text, takes_memory, without_request};
 use uefi_hii::{ConfigurationString, MultiConfigurationStringIter, ParseError, parse_all};
@@ -155,7 +155,7 @@ const GUID_PAIR: &str = "GUID=16d6474bd6a852459d44ccad2e0f4cf9";
 
 /// Pairs that are read, a pair after them that is missing or wrong for a slot whose value needs no
 /// memory, and its error.
-const WRONG_SLOTS: [(&str, &str, &str); 14] = [
+const WRONG_SLOTS: [(&str, &str, &str); 17] = [
     (GUID_PAIR, "&NAMES=0041", "ConfigHdr(Name)\n"),
     (GUID_PAIR, "&PATH=7fff0400", "ConfigHdr(Name)\n"),
     ("@", "&ALTCFG=112233", "ConfigHdr(DescHdr)\n"),
@@ -165,6 +165,8 @@ const WRONG_SLOTS: [(&str, &str, &str); 14] = [
     ("@&ALTCFG=0001", "&OFFSET", "BlockName\n"),
     ("@&OFFSET=00", "&WIDTH=112233", "BlockName\n"),
     ("@&OFFSET=00", "&VALUE=00", "BlockName\n"),
+    ("@&OFFSET=00", "", "BlockName\n"),
+    ("@&OFFSET=00&WIDTH=01", "", "BlockConfig\n"),
     ("@&OFFSET=00&WIDTH=01", "&VALUE", "BlockConfig\n"),
     ("@&OFFSET=00&WIDTH=01", "&x=1", "BlockConfig\n"),
     // After an element, and after the pairs that it keeps.
@@ -181,6 +183,11 @@ const WRONG_SLOTS: [(&str, &str, &str); 14] = [
     (
         "#&OFFSET=00&WIDTH=01&VALUE=1122&OFFSET=02&WIDTH=01&VALUE=33",
         "&OFFSET=04&WIDTH=01&VALUE",
+        "BlockConfig\n",
+    ),
+    (
+        "@&OFFSET=00&WIDTH=01&VALUE=1122",
+        "&OFFSET=02&WIDTH=01",
         "BlockConfig\n",
     ),
 ];
