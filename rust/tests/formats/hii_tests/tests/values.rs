@@ -156,7 +156,11 @@ fn check_first_pair(
     value: Option<&[u8]>,
     rest: &[u8],
 ) -> Result<(), Fail> {
-    same("the first pair", &next_pair(bytes), &Some(((key, value), rest)))
+    same(
+        "the first pair",
+        &next_pair(bytes),
+        &Some(((key, value), rest)),
+    )
 }
 
 #[test]

@@ -35,10 +35,10 @@ fn is_same_event(event: &PcrEvent<'_>, other: &PcrEvent<'_>) -> bool {
 }
 
 /// Whether the events that start at the offset, and then at each event's end, are these.
-fn are_steps(
+fn are_steps<'a>(
     events: EventLogIter<'_>,
-    sizes: &AlgorithmDigestSizes<'_>,
-    input: &[u8],
+    sizes: &AlgorithmDigestSizes<'a>,
+    input: &'a [u8],
     start: usize,
     last_entry: usize,
 ) -> bool {
