@@ -168,12 +168,16 @@ impl Mask {
     /// A bit for each lane, the first lane's lowest.
     #[inline(always)]
     pub fn to_bitmask(self) -> u64 {
+        // Most blocks have no lane that is sought.
+        if self.0[0] | self.0[1] == 0 {
+            return 0;
+        }
         gathered(self.0[0]) | gathered(self.0[1]) << 8
     }
 
     #[inline(always)]
     pub fn select(self, yes: u8x16, no: u8x16) -> u8x16 {
-        let all = self.0.map(|bits| (bits >> 7) * 255);
+        let all = self.0.map(|bits| (bits << 1).wrapping_sub(bits >> 7));
         u8x16([
             (all[0] & yes.0[0]) | (!all[0] & no.0[0]),
             (all[1] & yes.0[1]) | (!all[1] & no.0[1]),
@@ -231,6 +235,9 @@ impl UnitMask {
     /// A bit for each unit, the first unit's lowest.
     #[inline(always)]
     pub fn to_bitmask(self) -> u64 {
+        if self.0[0] | self.0[1] | self.0[2] | self.0[3] == 0 {
+            return 0;
+        }
         let four = |a: u64| (a >> 15).wrapping_mul(0x1000_2000_4000_8000) >> 60;
         four(self.0[0]) | four(self.0[1]) << 4 | four(self.0[2]) << 8 | four(self.0[3]) << 12
     }
