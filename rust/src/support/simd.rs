@@ -14,10 +14,9 @@ pub(crate) struct Mask([u64; 2]);
 
 #[inline(always)]
 fn word(bytes: &[u8], at: usize) -> u64 {
-    let part = &bytes[at..at + 8];
-    u64::from_le_bytes([
-        part[0], part[1], part[2], part[3], part[4], part[5], part[6], part[7],
-    ])
+    let mut part = [0; 8];
+    part.copy_from_slice(&bytes[at..at + 8]);
+    u64::from_le_bytes(part)
 }
 
 /// A lane's highest bit where the first is at least the second.
@@ -238,8 +237,12 @@ impl UnitMask {
         if self.0[0] | self.0[1] | self.0[2] | self.0[3] == 0 {
             return 0;
         }
-        let four = |a: u64| (a >> 15).wrapping_mul(0x1000_2000_4000_8000) >> 60;
-        four(self.0[0]) | four(self.0[1]) << 4 | four(self.0[2]) << 8 | four(self.0[3]) << 12
+        // Of each lane the bits of the four words side by side, then four apart, then lane after lane.
+        let [a, b, c, d] = self.0;
+        let bits = a >> 15 | b >> 14 | c >> 13 | d >> 12;
+        let bits = (bits | bits << 6) & 0x0303_0303_0303_0303;
+        let bits = (bits | bits << 3) & 0x1111_1111_1111_1111;
+        bits.wrapping_mul(0x0001_0002_0004_0008) >> 48
     }
 }
 
