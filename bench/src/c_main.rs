@@ -7,6 +7,8 @@ mod log;
 mod log2;
 mod map;
 mod measure;
+#[path = "../../tests/rust_fuzz_src/readers.rs"]
+mod package;
 mod path;
 mod random;
 mod readers;
@@ -57,7 +59,15 @@ fn measure_walk<const WALK: u32>(calls: &str, input: &Input) {
         [("libuefi.a", any::<WALK> as unsafe extern "C" fn(_, _) -> _), ("libuefi_user.a", user::<WALK>)]
     {
         let reader = &format!("{calls}, {archive}");
-        measure(&Case { reader, proved, plain: plain::<WALK>, size: *size, input: bytes, words });
+        measure(&Case {
+            reader,
+            proved,
+            plain: plain::<WALK>,
+            package: None,
+            size: *size,
+            input: bytes,
+            words,
+        });
     }
 }
 

@@ -1,6 +1,7 @@
 //! Configuration strings: the readers that are measured, and the inputs.
 
 use crate::measure::{Case, Size, measure};
+use crate::package;
 use crate::random::Random;
 use crate::readers::config::{Configurations, Pairs, hex};
 
@@ -89,21 +90,49 @@ fn make_value(digits: usize) -> Vec<u8> {
 fn measure_configurations(size: Size) {
     let (length, words) = size.pick((1, "130 pairs, 4 KB"), (64_000_000, "2,000,000 pairs, 64 MB"));
     let input = &make_configurations(length);
-    let reader = "pairs of configurations";
-    let case = Case { reader, proved: port_config_pairs, plain: read_pairs, size, input, words };
+    let case = Case {
+        reader: "pairs of configurations",
+        proved: port_config_pairs,
+        plain: read_pairs,
+        package: Some(package::pairs),
+        size,
+        input,
+        words,
+    };
     measure(&case);
-    let reader = "configurations";
-    measure(&Case { reader, proved: port_config, plain: read_configurations, ..case });
+    measure(&Case {
+        reader: "configurations",
+        proved: port_config,
+        plain: read_configurations,
+        package: Some(package::configurations),
+        ..case
+    });
 }
 
 fn measure_digits(size: Size) {
     let (digits, words) = size.pick((4096, "4,096 digits"), (64_000_000, "64,000,000 digits"));
     let input = &make_value(digits);
-    let reader = "long values";
-    measure(&Case { reader, proved: port_config_value, plain: read_values, size, input, words });
+    let case = Case {
+        reader: "long values",
+        proved: port_config_value,
+        plain: read_values,
+        package: Some(package::values),
+        size,
+        input,
+        words,
+    };
+    measure(&case);
     let (digits, words) = size.pick((64, "64 digits"), (digits, words));
-    let (reader, input) = ("hex", &input[input.len() - digits..]);
-    measure(&Case { reader, proved: port_hex, plain: read_hex, size, input, words });
+    let input = &input[input.len() - digits..];
+    measure(&Case {
+        reader: "hex",
+        proved: port_hex,
+        plain: read_hex,
+        package: Some(package::hex),
+        size,
+        input,
+        words,
+    });
 }
 
 pub fn measure_all() {

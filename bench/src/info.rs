@@ -1,6 +1,7 @@
 //! Information on files: the reader that is measured, and the input.
 
 use crate::measure::{Case, Size, measure};
+use crate::package;
 use crate::random::Random;
 use crate::readers::info::{ALIGNMENT, FileInfo, NAME_OFFSET};
 
@@ -27,7 +28,15 @@ pub fn make_info(units: usize) -> Vec<u8> {
 pub fn measure_all() {
     for size in Size::ALL {
         let (units, words) = size.pick((12, "12 units"), (32_000_000, "32,000,000 units"));
-        let (reader, input) = ("names", &make_info(units));
-        measure(&Case { reader, proved: port_info, plain: read_info, size, input, words });
+        let input = &make_info(units);
+        measure(&Case {
+            reader: "names",
+            proved: port_info,
+            plain: read_info,
+            package: Some(package::info),
+            size,
+            input,
+            words,
+        });
     }
 }

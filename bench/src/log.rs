@@ -1,6 +1,7 @@
 //! Event logs: the reader that is measured, and the input.
 
 use crate::measure::{Case, Size, measure};
+use crate::package;
 use crate::random::Random;
 use crate::readers::log1::Events;
 
@@ -24,6 +25,10 @@ fn read_events1(bytes: &[u8]) -> u64 {
             .wrapping_add(event.data.len() as u64);
     }
     sum
+}
+
+fn package_events1(bytes: &[u8]) -> u64 {
+    package::log1(bytes, std::hint::black_box(bytes.len()))
 }
 
 /// Events of version 1 with data of 0 to 40 bytes.
@@ -50,7 +55,14 @@ pub fn measure_all() {
     for size in Size::ALL {
         let (count, words) = log_size(size);
         let input = &make_log1(count);
-        let reader = "logs: version 1";
-        measure(&Case { reader, proved: port_events1, plain: read_events1, size, input, words });
+        measure(&Case {
+            reader: "logs: version 1",
+            proved: port_events1,
+            plain: read_events1,
+            package: Some(package_events1),
+            size,
+            input,
+            words,
+        });
     }
 }

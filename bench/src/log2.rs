@@ -2,6 +2,7 @@
 
 use crate::log::log_size;
 use crate::measure::{Case, Size, measure};
+use crate::package;
 use crate::random::Random;
 use crate::readers::log2::{Digests, Events, Header, NO_ACTION, ROW_LENGTH, SIGNATURE};
 
@@ -53,6 +54,14 @@ fn read_digests(bytes: &[u8]) -> u64 {
     log_sum(bytes, std::hint::black_box(true))
 }
 
+fn package_events(bytes: &[u8]) -> u64 {
+    package::log2(bytes, std::hint::black_box(bytes.len()), std::hint::black_box(false))
+}
+
+fn package_digests(bytes: &[u8]) -> u64 {
+    package::log2(bytes, std::hint::black_box(bytes.len()), std::hint::black_box(true))
+}
+
 /// Algorithms, each with the size of its digests: SHA-1, SHA-256, SHA-384 and SHA-512.
 const ALGORITHMS: [(u16, u16); 4] = [(0x04, 20), (0x0b, 32), (0x0c, 48), (0x0d, 64)];
 
@@ -97,9 +106,23 @@ pub fn measure_all() {
         let (count, words) = log_size(size);
         for (rows, reader, with_digests) in readers {
             let input = &make_log(count, rows);
-            let case = Case { reader, proved: port_events, plain: read_events, size, input, words };
+            let case = Case {
+                reader,
+                proved: port_events,
+                plain: read_events,
+                package: Some(package_events),
+                size,
+                input,
+                words,
+            };
             measure(&case);
-            measure(&Case { reader: with_digests, proved: port_digests, plain: read_digests, ..case });
+            measure(&Case {
+                reader: with_digests,
+                proved: port_digests,
+                plain: read_digests,
+                package: Some(package_digests),
+                ..case
+            });
         }
     }
 }

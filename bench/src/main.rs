@@ -1,6 +1,7 @@
-//! Measures the proved readers beside plain Rust readers of the same formats (`readers/`).
+//! Measures the proved readers beside plain Rust readers of the same formats (`readers/`), and beside
+//! those of the package in `rust/`.
 //!
-//! Both read the same inputs, which are made here from a fixed seed, and must return the same sum.
+//! All read the same inputs, which are made here from a fixed seed, and must return the same sum.
 //! Each reader has a line for an input as machines have it, and one for a large input.
 
 mod config;
@@ -9,6 +10,9 @@ mod log;
 mod log2;
 mod map;
 mod measure;
+#[path = "../../tests/rust_fuzz_src/readers.rs"]
+#[allow(dead_code, reason = "the fuzzing run calls one more")]
+mod package;
 mod path;
 mod random;
 #[allow(dead_code, reason = "the listings read the other fields")]

@@ -1,6 +1,7 @@
 //! Memory maps: the readers that are measured, and the input.
 
 use crate::measure::{Case, Size, measure};
+use crate::package;
 use crate::random::Random;
 use crate::readers::map::Map;
 
@@ -40,6 +41,14 @@ fn read_order(bytes: &[u8]) -> u64 {
     u64::from(map.entries().is_sorted_by_key(|entry| entry.phys_start()))
 }
 
+fn package_entries(bytes: &[u8]) -> u64 {
+    package::map(bytes, std::hint::black_box(STRIDE))
+}
+
+fn package_order(bytes: &[u8]) -> u64 {
+    package::sorted(bytes, std::hint::black_box(STRIDE))
+}
+
 /// Descriptors in order, at a stride of 48 bytes.
 pub fn make_map(count: usize) -> Vec<u8> {
     let mut random = Random::new();
@@ -70,11 +79,18 @@ pub fn measure_all() {
             reader: "maps: entries",
             proved: port_entries,
             plain: read_entries,
+            package: Some(package_entries),
             size,
             input,
             words,
         };
         measure(&case);
-        measure(&Case { reader: "maps: `is_sorted`", proved: port_order, plain: read_order, ..case });
+        measure(&Case {
+            reader: "maps: `is_sorted`",
+            proved: port_order,
+            plain: read_order,
+            package: Some(package_order),
+            ..case
+        });
     }
 }

@@ -1,9 +1,9 @@
-//! Measures a proved reader and a plain one over the same input.
+//! Measures a proved reader, a plain one and that of the package over the same input.
 
 use std::hint::black_box;
 use std::time::{Duration, Instant};
 
-/// Both readers take turns for at least this time and this many rounds.
+/// The readers take turns for at least this time and this many rounds.
 const LEAST_TIME: Duration = Duration::from_secs(2);
 const LEAST_ROUNDS: usize = 5;
 
@@ -33,12 +33,14 @@ impl Size {
     }
 }
 
-/// A proved reader, the plain one that it is compared with, and an input. Each reader returns a sum
-/// over what it read.
+/// A proved reader, the ones that it is compared with, and an input. Each reader returns a sum over
+/// what it read.
 pub struct Case<'a> {
     pub reader: &'a str,
     pub proved: unsafe extern "C" fn(*const u8, usize) -> u64,
     pub plain: fn(&[u8]) -> u64,
+    /// The reader of the package in `rust/`, where it has one.
+    pub package: Option<fn(&[u8]) -> u64>,
     pub size: Size,
     pub input: &'a [u8],
     /// The input in words, as `200 events`.
@@ -64,30 +66,41 @@ fn calls_of_round(call: impl Fn() -> u64) -> usize {
 }
 
 /// Measures a case and prints one line: reader, size, input, and the seconds that a call of the
-/// proved and of the plain reader took in its best round, with tabs between them.
+/// proved reader, of the plain one and, if there is one, of the package's took in its best round,
+/// with tabs between them.
 ///
 /// # Panics
 ///
-/// If the plain reader refuses the input, or the two sums differ.
+/// If the plain reader refuses the input, or two sums differ.
 pub fn measure(case: &Case<'_>) {
-    let (proved, plain) = black_box((case.proved, case.plain));
+    let (proved, plain, package) = black_box((case.proved, case.plain, case.package));
     let call_proved = || {
         let input = black_box(case.input);
         // SAFETY: the reader reads the bytes of the slice, and is done with them when it returns.
         unsafe { proved(input.as_ptr(), input.len()) }
     };
     let call_plain = || plain(black_box(case.input));
+    let call_package = package.map(|package| move || package(black_box(case.input)));
     let sum = call_plain();
     assert_ne!(sum, 0, "{}: the plain reader refuses the input", case.reader);
     assert_eq!(call_proved(), sum, "{}: the sums differ", case.reader);
+    let of_package = call_package.as_ref().map_or(sum, |call| call());
+    assert_eq!(of_package, sum, "{}: the package's sum differs", case.reader);
     let calls = calls_of_round(call_plain);
-    let (mut least_proved, mut least_plain) = (f64::INFINITY, f64::INFINITY);
+    let [mut least_proved, mut least_plain, mut least_package] = [f64::INFINITY; 3];
     let start = Instant::now();
     let mut rounds = 0;
     while rounds < LEAST_ROUNDS || start.elapsed() < LEAST_TIME {
         least_plain = least_plain.min(seconds_per_call(calls, call_plain));
         least_proved = least_proved.min(seconds_per_call(calls, call_proved));
+        if let Some(call) = &call_package {
+            least_package = least_package.min(seconds_per_call(calls, call));
+        }
         rounds += 1;
     }
-    println!("{}\t{}\t{}\t{least_proved:e}\t{least_plain:e}", case.reader, case.size.name(), case.words,);
+    print!("{}\t{}\t{}\t{least_proved:e}\t{least_plain:e}", case.reader, case.size.name(), case.words);
+    match call_package {
+        Some(_) => println!("\t{least_package:e}"),
+        None => println!(),
+    }
 }

@@ -1,6 +1,7 @@
 //! Device paths: the readers that are measured, and the input.
 
 use crate::measure::{Case, Size, measure};
+use crate::package;
 use crate::random::Random;
 use crate::readers::path::{END, END_ENTIRE, END_INSTANCE, HEADER, Instances, Nodes, Stop, split};
 
@@ -68,16 +69,24 @@ pub fn measure_all() {
             reader: "paths: `try_from`",
             proved: port_path,
             plain: read_path,
+            package: Some(package::path),
             size,
             input,
             words,
         };
         measure(&case);
-        measure(&Case { reader: "paths: nodes", proved: port_nodes, plain: read_nodes, ..case });
+        measure(&Case {
+            reader: "paths: nodes",
+            proved: port_nodes,
+            plain: read_nodes,
+            package: Some(package::nodes),
+            ..case
+        });
         measure(&Case {
             reader: "paths: instances",
             proved: port_instances,
             plain: read_instances,
+            package: Some(package::instances),
             ..case
         });
     }

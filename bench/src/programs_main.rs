@@ -11,6 +11,8 @@ mod list;
 mod listings;
 mod map;
 mod measure;
+#[path = "../../tests/rust_fuzz_src/readers.rs"]
+mod package;
 mod path;
 mod random;
 mod readers;

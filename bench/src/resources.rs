@@ -1,6 +1,7 @@
 //! Lists of PCI resources: the reader that is measured, which collects them, and the input.
 
 use crate::measure::{Case, Size, measure};
+use crate::package;
 use crate::random::Random;
 use crate::readers::pci::{END_TAG, RECORD_LENGTH, RECORD_TAG, Range, records};
 
@@ -41,7 +42,15 @@ pub fn make_list(count: usize) -> Vec<u8> {
 pub fn measure_all() {
     for size in Size::ALL {
         let (count, words) = size.pick((4, "4 resources"), (1_000_000, "1,000,000 resources"));
-        let (reader, input) = ("PCI resources", &make_list(count));
-        measure(&Case { reader, proved: port_pci, plain: read_resources, size, input, words });
+        let input = &make_list(count);
+        measure(&Case {
+            reader: "PCI resources",
+            proved: port_pci,
+            plain: read_resources,
+            package: Some(package::resources),
+            size,
+            input,
+            words,
+        });
     }
 }

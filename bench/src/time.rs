@@ -1,6 +1,7 @@
 //! Times: the reader that is measured, and the input.
 
 use crate::measure::{Case, Size, measure};
+use crate::package;
 use crate::random::Random;
 use crate::readers::time::{LENGTH, Time};
 
@@ -40,7 +41,15 @@ fn make_times(count: usize) -> Vec<u8> {
 pub fn measure_all() {
     for size in Size::ALL {
         let (count, words) = size.pick((1, "1 time"), (1_000_000, "1,000,000 times"));
-        let (reader, input) = ("times", &make_times(count));
-        measure(&Case { reader, proved: port_times, plain: read_times, size, input, words });
+        let input = &make_times(count);
+        measure(&Case {
+            reader: "times",
+            proved: port_times,
+            plain: read_times,
+            package: Some(package::times),
+            size,
+            input,
+            words,
+        });
     }
 }

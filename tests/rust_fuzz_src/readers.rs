@@ -39,10 +39,15 @@ pub fn instances(bytes: &[u8]) -> u64 {
 
 pub fn log1(bytes: &[u8], last_entry: usize) -> u64 {
     let log = v1::EventLog::new(Some(bytes), Some(last_entry), false);
-    sum(log.iter().flat_map(|event| {
-        let head = [event.pcr_index().0, event.event_type().0, u32::from(event.digest()[0])].map(u64::from);
-        head.into_iter().chain([event.event_data().len() as u64])
-    }))
+    let mut sum = 0u64;
+    for event in log.iter() {
+        sum = sum
+            .wrapping_add(u64::from(event.pcr_index().0))
+            .wrapping_add(u64::from(event.event_type().0))
+            .wrapping_add(u64::from(event.digest()[0]))
+            .wrapping_add(event.event_data().len() as u64);
+    }
+    sum
 }
 
 pub fn log2(bytes: &[u8], last_entry: usize, digests: bool) -> u64 {
@@ -90,7 +95,7 @@ pub fn times(bytes: &[u8]) -> u64 {
 }
 
 pub fn resources(bytes: &[u8]) -> u64 {
-    pci::parse(bytes).map_or(0, |list| {
+    black_box(pci::parse(bytes)).map_or(0, |list| {
         (list.len() as u64).wrapping_add(list.first().map_or(0, |range| range.granularity))
     })
 }

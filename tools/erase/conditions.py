@@ -5,7 +5,7 @@ from tokens import lex
 def read(path):
     """The rows: for each function and its condition what is asserted, and when the function panics."""
     with open(path, encoding='utf-8') as file:
-        lines = [line.rstrip('\n').split(' | ') for line in file if not line.startswith('#')]
+        lines = [line.rstrip('\n').split(' | ') for line in file]
     return {(function, condition): (asserted, when) for function, condition, asserted, when in lines}
 
 

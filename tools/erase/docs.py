@@ -8,7 +8,6 @@ BLOCK = re.compile(r'(?:^|(?<=\n))([ ]*)//([/!])[^\n]*(?:\n\1//\2[^\n]*)*')
 PROOF = re.compile(r'specs/|\b(contracts?|prove[sdn]?|proofs?|laws?|clauses?)\b')
 ASIDE = re.compile(r' ?\(\[`\w+`\]\(crate::laws::\w+\)\)|, with\s+their\s+contracts,')
 SENTENCE = re.compile(r'(?<=[.:])\s+(?=[A-Z`\[])')
-TYPES = ('struct', 'enum', 'trait')
 
 
 class Docs:
@@ -26,7 +25,7 @@ class Docs:
         words, folder = {}, f'{self.folder}/{crate}/{os.path.dirname(shown.partition("/src/")[2])}'
         for start, keyword, end in source.items():
             name, kind = source.item_name(keyword), source.at(keyword)
-            link = kind in TYPES and source.at(keyword - 1) == 'pub'
+            link = kind in ('struct', 'enum', 'trait') and source.at(keyword - 1) == 'pub'
             words[start] = os.path.normpath(f'{folder}/{name}.md'), f'\n\nIts contract: `{shown}`.' * link
             if kind in ('impl', 'trait'):
                 for first, inner, _ in source.items(source.until(keyword, '{') + 1, end - 1):

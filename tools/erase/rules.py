@@ -10,11 +10,10 @@ def rules(table):
 
 # What is left of ghost text: attributes, models, `Drop` (each type of Rust may be dropped), and laws.
 GHOST = rules([
-    ("#![tactic $x]", ""), ("#[tactic $x]", ""), ("#[cycle]", ""),
+    ("#![tactic $x]", ""), ("#[tactic $x]", ""), ("#[cycle]", ""), ("#[derive(Drop)]", ""), ("pub mod laws;", ""),
     ("use std::marker::Model;", ""), ("impl Model for $$type { }", ""), ("impl<$a> Model for $$type { }", ""),
-    ("#[derive(Drop)]", ""), ("(Drop, $next", "($next"), (", Drop, ", ", "), (", Drop)", ")"),
-    (": Drop +", ":"), ("+ Drop", ""), (": Drop", ""),
-    ("pub mod laws;", ""), (", laws,", ","), (", laws}", "}"), ("{laws, $next", "{$next"),
+    ("(Drop, $next", "($next"), (", Drop, ", ", "), (", Drop)", ")"), (": Drop +", ":"), ("+ Drop", ""), (": Drop", ""),
+    (", laws,", ","), (", laws}", "}"), ("{laws, $next", "{$next"),
 ])
 RUST = rules([
     ("fmt::Formatter<W>", "fmt::Formatter<'_>"),
@@ -25,12 +24,10 @@ RUST = rules([
     ("vec![in alloc; $$item; $$count]", "Vec::fallible_from_elem($$item, $$count)"),
     # What is displayed stays as it is.
     ("write!(f,", "write!(f,"), ("writeln!(f,", "writeln!(f,"),
-    ("write!($out,", "fallible_write!($out,"),
-    ("writeln!($out,", "fallible_writeln!($out,"),
+    ("write!($out,", "fallible_write!($out,"), ("writeln!($out,", "fallible_writeln!($out,"),
     ("writeln!($out)", 'fallible_writeln!($out, "")'),
     # What rustc 1.85 lacks.
-    (".cast_signed()", ".to_signed()"),
-    ("str::from_utf8(", "core::str::from_utf8("),
+    (".cast_signed()", ".to_signed()"), ("str::from_utf8(", "core::str::from_utf8("),
     ("unsafe { str::from_utf8_unchecked($$bytes) }", 'core::str::from_utf8($$bytes).expect("UTF-8")'),
     # What is proved of a constant is asserted as it is compiled.
     ("prove!($$fact)", "assert!($$fact)"),
@@ -39,15 +36,10 @@ RUST = rules([
 ])
 # What only tests do. `heap` is an allocator that refuses: here the test program's own does.
 TESTS = rules([(before.replace("ALLOC", alloc), after) for alloc in ("alloc", "rt.alloc()") for before, after in [
-    (".to_string(ALLOC)", ".to_string().text()"),
-    (".replace(ALLOC, $next", ".fallible_replace($next"),
-    (".repeat(ALLOC, $next", ".fallible_repeat($next"),
-    ("format!(in ALLOC; $next", "fallible_format!($next"),
+    (".to_string(ALLOC)", ".to_string().text()"), (".replace(ALLOC, $next", ".fallible_replace($next"),
+    (".repeat(ALLOC, $next", ".fallible_repeat($next"), ("format!(in ALLOC; $next", "fallible_format!($next"),
 ]] + [
-    ("let alloc = rt.alloc();", ""),
-    (".clone()", ".fallible_clone()"),
-    ("|heap|", "||"),
-    ("|alloc, $name|", "|$name|"),
+    ("let alloc = rt.alloc();", ""), (".clone()", ".fallible_clone()"), ("|heap|", "||"), ("|alloc, $name|", "|$name|"),
 ])
 # Elements that go, of lists of parameters, arguments and fields: allocators, their types, writers' types, handles.
 ALLOCATOR = re.compile(

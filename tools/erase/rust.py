@@ -97,9 +97,8 @@ def check(source):
 
 def text_of(source, in_library, gate):
     """The text, with imports of what Rattle has in scope everywhere, and of traits whose methods calls became."""
-    names, lines = set(source.names()), []
-    owned = (('string', 'String'), ('vec', 'Vec')) if in_library else ()
-    lines += [f'{gate}\nuse alloc::{module}::{name};' for module, name in owned if name in names]
+    names, owned = set(source.names()), (('string', 'String'), ('vec', 'Vec')) if in_library else ()
+    lines = [f'{gate}\nuse alloc::{module}::{name};' for module, name in owned if name in names]
     if any(name.startswith('fallible_') for name in names) or 'text' in names and not in_library:
         lines.append(f'{gate}\nuse crate::support::fallible::*;' if in_library else 'use crate::support::fallible::*;')
     if 'write_char' in names:

@@ -18,7 +18,6 @@ class Refused(Exception):
 
 class Token:
     """A token: its kind, its text, the blanks and comments before it, and its line."""
-
     def __init__(self, kind, text, space='', line=0):
         self.kind, self.text, self.space, self.line = kind, text, space, line
 

@@ -14,10 +14,9 @@ pub(crate) struct Mask([u64; 2]);
 
 #[inline(always)]
 fn word(bytes: &[u8], at: usize) -> u64 {
-    let part = &bytes[at..at + 8];
-    u64::from_le_bytes([
-        part[0], part[1], part[2], part[3], part[4], part[5], part[6], part[7],
-    ])
+    let mut part = [0; 8];
+    part.copy_from_slice(&bytes[at..at + 8]);
+    u64::from_le_bytes(part)
 }
 
 /// A lane's highest bit where the first is at least the second.
@@ -168,12 +167,16 @@ impl Mask {
     /// A bit for each lane, the first lane's lowest.
     #[inline(always)]
     pub fn to_bitmask(self) -> u64 {
+        // Most blocks have no lane that is sought.
+        if self.0[0] | self.0[1] == 0 {
+            return 0;
+        }
         gathered(self.0[0]) | gathered(self.0[1]) << 8
     }
 
     #[inline(always)]
     pub fn select(self, yes: u8x16, no: u8x16) -> u8x16 {
-        let all = self.0.map(|bits| (bits >> 7) * 255);
+        let all = self.0.map(|bits| (bits << 1).wrapping_sub(bits >> 7));
         u8x16([
             (all[0] & yes.0[0]) | (!all[0] & no.0[0]),
             (all[1] & yes.0[1]) | (!all[1] & no.0[1]),
@@ -231,8 +234,15 @@ impl UnitMask {
     /// A bit for each unit, the first unit's lowest.
     #[inline(always)]
     pub fn to_bitmask(self) -> u64 {
-        let four = |a: u64| (a >> 15).wrapping_mul(0x1000_2000_4000_8000) >> 60;
-        four(self.0[0]) | four(self.0[1]) << 4 | four(self.0[2]) << 8 | four(self.0[3]) << 12
+        if self.0[0] | self.0[1] | self.0[2] | self.0[3] == 0 {
+            return 0;
+        }
+        // Of each lane the bits of the four words side by side, then four apart, then lane after lane.
+        let [a, b, c, d] = self.0;
+        let bits = a >> 15 | b >> 14 | c >> 13 | d >> 12;
+        let bits = (bits | bits << 6) & 0x0303_0303_0303_0303;
+        let bits = (bits | bits << 3) & 0x1111_1111_1111_1111;
+        bits.wrapping_mul(0x0001_0002_0004_0008) >> 48
     }
 }
 
