@@ -1,3 +1,4 @@
 mod boxes;
+mod load_options;
 mod paths;
 mod values;

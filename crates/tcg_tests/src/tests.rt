@@ -1,4 +1,5 @@
 mod capabilities;
+mod content;
 mod machine_log;
 mod texts;
 mod v1;

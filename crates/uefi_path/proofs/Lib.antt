@@ -1,6 +1,8 @@
 pub mod Counts
 pub mod Cuts
 pub mod Decide
+pub mod Descriptions
+pub mod LoadOptions
 pub mod OneFront
 pub mod Nodes
 pub mod Passing

@@ -4,6 +4,10 @@ pub mod Reading
 pub mod Header
 pub mod Views
 pub mod Texts
+pub mod LoadOption
+pub mod LoadOptionFlags
+pub mod LoadOptionViews
+pub mod LoadOptionTexts
 pub mod Laws
 pub mod rows
 pub mod private

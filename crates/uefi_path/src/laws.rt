@@ -2,6 +2,7 @@
 //! when it runs.
 
 ghost use Rattle.uefi_path.specs.Laws.{OneFront};
+ghost use Rattle.uefi_path.specs.LoadOption.{OneLoadOption};
 ghost use Rattle.uefi_path.specs.rows.Paths.{RowsHold};
 
 /// States that no path is a proper prefix of another, and a path followed by any bytes starts with
@@ -14,4 +15,9 @@ pub fn one_front()
 /// examples of the bytes of paths, and of bytes that start with no path. Each row is a theorem.
 pub fn worked_rows()
     ensures { RowsHold }
+{}
+
+/// States that bytes are at most one load option.
+pub fn one_load_option()
+    ensures { OneLoadOption }
 {}

@@ -9,8 +9,11 @@
 //! then return the parts, each a view that lives as long as the source bytes. Nothing is copied,
 //! and no view allocates.
 //!
+//! [`LoadOption::try_from`] reads the value of a variable such as `Boot0000`, which has the path to
+//! an image.
+//!
 //! The contracts speak of the nodes that bytes encode: `specs/Node.antt` and `specs/Path.antt`
-//! define nodes, paths and instances.
+//! define nodes, paths and instances, and `specs/LoadOption.antt` load options.
 #![tactic(auto)]
 
 pub use self::boxed::{BoxedDevicePath, BoxedDevicePathInstance};
@@ -19,6 +22,9 @@ pub use self::error::ByteConversionError;
 pub use self::header::DevicePathHeader;
 pub use self::instance::DevicePathInstance;
 pub use self::instance_iter::DevicePathInstanceIterator;
+pub use self::load_option::LoadOption;
+pub use self::load_option_attributes::LoadOptionAttributes;
+pub use self::load_option_error::LoadOptionError;
 pub use self::loaded_image::LoadedImageDevicePath;
 pub use self::node::DevicePathNode;
 pub use self::node_iter::DevicePathNodeIterator;
@@ -31,6 +37,9 @@ mod header;
 mod instance;
 mod instance_iter;
 pub mod laws;
+mod load_option;
+mod load_option_attributes;
+mod load_option_error;
 mod loaded_image;
 mod node;
 mod node_iter;

@@ -56,13 +56,11 @@ fn guid(bytes: &[u8]) -> String {
 fn image(data: &[u8]) -> Option<String> {
     let (address, size) = (u64_at(data, 0)?, u64_at(data, 8)?);
     let (link, length) = (u64_at(data, 16)?, u64_at(data, 24)?);
-    let path = &data[32..];
-    if path.len() as u64 != length {
-        return None;
-    }
-    let path = nodes(path).unwrap_or("null".to_owned());
+    let (path, rest) = data[32..].split_at_checked(usize::try_from(length).ok()?)?;
+    let path = nodes(path).unwrap_or_else(|| format!("\"{}\"", hex(path)));
+    let rest = if rest.is_empty() { String::new() } else { format!(",\"rest\":\"{}\"", hex(rest)) };
     Some(format!(
-        "{{\"image\":{{\"address\":{address},\"length\":{size},\"link_address\":{link},\"path\":{path}}}}}"
+        "{{\"image\":{{\"address\":{address},\"length\":{size},\"link_address\":{link},\"path\":{path}{rest}}}}}"
     ))
 }
 

@@ -10,6 +10,9 @@
 //! fails exactly if no prefix is one. [`DevicePath::instance_iter`] and [`DevicePath::node_iter`]
 //! then return the parts, each a view that lives as long as the source bytes. Nothing is copied,
 //! and no view allocates.
+//!
+//! [`LoadOption::try_from`] reads the value of a variable such as `Boot0000`, which has the path to
+//! an image.
 
 #[cfg(feature = "alloc")]
 pub use self::boxed::{BoxedDevicePath, BoxedDevicePathInstance};
@@ -18,6 +21,9 @@ pub use self::error::ByteConversionError;
 pub use self::header::DevicePathHeader;
 pub use self::instance::DevicePathInstance;
 pub use self::instance_iter::DevicePathInstanceIterator;
+pub use self::load_option::LoadOption;
+pub use self::load_option_attributes::LoadOptionAttributes;
+pub use self::load_option_error::LoadOptionError;
 pub use self::loaded_image::LoadedImageDevicePath;
 pub use self::node::DevicePathNode;
 pub use self::node_iter::DevicePathNodeIterator;
@@ -29,6 +35,9 @@ mod error;
 mod header;
 mod instance;
 mod instance_iter;
+mod load_option;
+mod load_option_attributes;
+mod load_option_error;
 mod loaded_image;
 mod node;
 mod node_iter;

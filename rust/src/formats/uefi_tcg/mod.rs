@@ -13,8 +13,8 @@
 //! asked of the bytes or of the last entry, which may be past the bytes; nothing is copied, and no
 //! view allocates.
 //!
-//! Beside logs there are one event at a time, the inputs that firmware is handed for an event, and
-//! the records of what a platform can do.
+//! Beside logs there are one event at a time, the inputs that firmware is handed for an event, the
+//! records of what a platform can do, and what the data of events say ([`content`]).
 
 pub use self::algorithm_id::AlgorithmId;
 pub use self::event_type::EventType;
@@ -22,6 +22,7 @@ pub use self::hash_algorithm::HashAlgorithm;
 pub use self::pcr_index::PcrIndex;
 
 mod algorithm_id;
+pub mod content;
 mod event_type;
 mod hash_algorithm;
 mod keeping;

@@ -1,0 +1,10 @@
+mod blobs;
+mod boot_order;
+mod gpt;
+mod headers;
+mod images;
+mod signature;
+mod tagged;
+mod texts;
+mod variables;
+mod versions;

@@ -1,0 +1,217 @@
+-- Load options: bytes are at most one, and when they are none.
+use Rattle.std.proofs.Common.{◌≡◌, ℕ, ◌-◌, ◌<◌, ◌≤◌, ◌^◌, List, [], ◌∷◌, ◌++◌, length, take, drop, refl, sym, ◌∙◌}
+use Rattle.std.proofs.Common.{ap, subst, arith, length-append, take-append-drop, Err}
+use Rattle.std.proofs.lemmas.List.{take_at, drop_at, drop-drop, length-take-le}
+use Rattle.std.proofs.lemmas.Nat.{from_le_bytes-to_le_bytes_2, from_le_bytes-to_le_bytes_4}
+use Rattle.std.specs.Int.{w16, w32, from_le_bytes}
+use Rattle.std.specs.Prelude.{slice_range}
+use Rattle.uefi_base.specs.LittleEndian.{AreBytes, u16_at, u16_bytes, u32_at, u32_bytes}
+use Rattle.uefi_base.specs.Prefix.{IsPrefix}
+use Rattle.uefi_base.specs.Unaligned.{unit_bytes}
+use Rattle.uefi_base.proofs.NumbersBack.{numbers_read_back}
+use Rattle.uefi_path.specs.LoadOption.{LoadOption, IsLoadOption, EncodesLoadOption, AreNonzeroUnits, HasFault, HasRest, OneLoadOption, ReadsLoadOption, file_path_list, load_option_bytes, with_nul}
+use Rattle.uefi_path.specs.Node.{Node, joined}
+use Rattle.uefi_path.specs.Path.{IsPath, all_but_last}
+use Rattle.uefi_path.specs.declared.load_option_error.LoadOptionError.{LoadOptionError}
+use Rattle.uefi_path.specs.declared.load_option_error.LoadOptionError.TheVariants.{TooShort, NotNulTerminated, FilePathListTooLong, FilePath}
+use Rattle.uefi_path.specs.private.OneNode.{same_split}
+use Rattle.uefi_path.specs.private.OnePath.{one_path}
+
+-- Units that start the same bytes are equal, and so is what follows them.
+pub same_unit : (u v : ℕ) (x y : List ℕ) → u < 2 ^ 16 → v < 2 ^ 16 → u16_bytes u ++ x ≡ u16_bytes v ++ y
+    → (u ≡ v) × (x ≡ y)
+same_unit u v x y fits_u fits_v e =
+    let both = same_split (u16_bytes u) (u16_bytes v) x y refl e in (
+      sym (from_le_bytes-to_le_bytes_2 u fits_u) ∙ ap (from_le_bytes w16) both.0 ∙ from_le_bytes-to_le_bytes_2 v fits_v,
+      both.1,
+    )
+
+-- So are descriptions.
+pub one_description : (d e x y : List ℕ) → AreNonzeroUnits d → AreNonzeroUnits e
+    → unit_bytes (with_nul d) ++ x ≡ unit_bytes (with_nul e) ++ y → (d ≡ e) × (x ≡ y)
+one_description [] [] x y fits_d fits_e same = (refl, (same_unit 0 0 x y (omega arith) (omega arith) same).1)
+one_description [] (v ∷ e) x y fits_d fits_e same =
+    let first : 0 ≡ v = (same_unit 0 v x (unit_bytes (with_nul e) ++ y) (omega arith) fits_e.0.1 same).0 in
+    absurd (omega (arith, first, fits_e.0.0))
+one_description (u ∷ d) [] x y fits_d fits_e same =
+    let first : u ≡ 0 = (same_unit u 0 (unit_bytes (with_nul d) ++ x) y fits_d.0.1 (omega arith) same).0 in
+    absurd (omega (arith, first, fits_d.0.0))
+one_description (u ∷ d) (v ∷ e) x y fits_d fits_e same =
+    let first = same_unit u v (unit_bytes (with_nul d) ++ x) (unit_bytes (with_nul e) ++ y) fits_d.0.1 fits_e.0.1 same in
+    let others = one_description d e x y fits_d.1 fits_e.1 first.1 in
+    let same_head : u ≡ v = first.0 in
+    let same_others : d ≡ e = others.0 in
+    ((cc), others.1)
+
+-- The bytes of a load option after the length of the file path list, and from that length on.
+abbrev after_length : LoadOption → List ℕ
+after_length option = unit_bytes (with_nul option.description) ++ (file_path_list option ++ option.optional_data)
+
+abbrev after_attributes : LoadOption → List ℕ
+after_attributes option = u16_bytes (length (file_path_list option)) ++ after_length option
+
+-- Bytes are at most one load option.
+pub one_load_option : OneLoadOption
+unfolding load_option_bytes
+one_load_option a b is_a is_b e =
+    let first = same_split (u32_bytes a.attributes) (u32_bytes b.attributes) (after_attributes a) (after_attributes b)
+    refl e in
+    let second = same_unit (length (file_path_list a)) (length (file_path_list b)) (after_length a) (after_length b)
+    is_a.file_path_list is_b.file_path_list first.1 in
+    let third = one_description a.description b.description (file_path_list a ++ a.optional_data)
+    (file_path_list b ++ b.optional_data) is_a.description is_b.description second.1 in
+    let fourth = same_split (file_path_list a) (file_path_list b) a.optional_data b.optional_data second.0 third.1 in
+    let fifth = one_path a.file_path b.file_path a.other_paths b.other_paths is_a.file_path is_b.file_path fourth.0 in
+    let attributes : a.attributes ≡ b.attributes =
+    sym (from_le_bytes-to_le_bytes_4 a.attributes is_a.attributes) ∙ ap (from_le_bytes w32) first.0
+    ∙ from_le_bytes-to_le_bytes_4 b.attributes is_b.attributes in
+    λ i. record {
+      attributes = attributes i;
+      description = third.0 i;
+      file_path = fifth.0 i;
+      other_paths = fifth.1 i;
+      optional_data = fourth.1 i;
+    }
+
+-- A range and what follows it.
+cut_range : (bytes : List ℕ) (from to : ℕ) → from ≤ to → slice_range bytes from to ++ drop to bytes ≡ drop from bytes
+cut_range bytes from to ordered =
+    ap (λ m. take (to - from) (drop from bytes) ++ m) (ap (λ m. drop m bytes) (omega arith) ∙ sym (drop-drop
+    (to - from) from bytes))
+    ∙ take-append-drop (to - from) (drop from bytes)
+
+-- The numbers in front of the description, and the bytes from it on.
+numbers_and_rest : (bytes : List ℕ) → AreBytes bytes → 6 ≤ length bytes
+    → u32_bytes (u32_at bytes 0) ++ (u16_bytes (u16_at bytes 4) ++ drop 6 bytes) ≡ bytes
+numbers_and_rest bytes each room =
+    ap (λ part. u32_bytes (u32_at bytes 0) ++ (part ++ drop 6 bytes)) (numbers_read_back.read.u16 bytes 4 each room)
+    ∙ ap (λ rest. u32_bytes (u32_at bytes 0) ++ rest) (cut_range bytes 4 6 (omega arith))
+    ∙ ap (λ part. part ++ drop 4 bytes) (numbers_read_back.read.u32 bytes 0 each (omega (arith, room)))
+    ∙ cut_range bytes 0 4 (omega arith)
+
+-- A prefix, and what follows it.
+pub prefix_and_rest : (prefix whole : List ℕ) → IsPrefix prefix whole → whole ≡ prefix ++ drop (length prefix) whole
+prefix_and_rest prefix whole is =
+    is.1 ∙ ap (λ rest. prefix ++ rest) (sym (ap (drop (length prefix)) is.1 ∙ drop_at prefix is.0 (length prefix) refl))
+
+-- The load option of these parts.
+abbrev with_parts : ℕ → List ℕ → List Node → List ℕ → List ℕ → LoadOption
+with_parts attributes units nodes list optional = record {
+  attributes = attributes;
+  description = all_but_last units;
+  file_path = nodes;
+  other_paths = drop (length (joined nodes)) list;
+  optional_data = optional;
+}
+
+-- The parts of bytes, which make a load option.
+pub record AreParts (bytes units rest list optional : List ℕ) (n attributes : ℕ) (nodes : List Node) : Type 0 where
+  pub each : AreBytes bytes
+  pub room : 6 ≤ length bytes
+  pub attributes_fit : attributes < 2 ^ 32
+  pub attributes_is : attributes ≡ u32_at bytes 0
+  pub length_fits : n < 2 ^ 16
+  pub length_is : n ≡ u16_at bytes 4
+  pub nul : units ≡ with_nul (all_but_last units)
+  pub nonzero : AreNonzeroUnits (all_but_last units)
+  pub split : drop 6 bytes ≡ unit_bytes units ++ rest
+  pub within : n ≤ length rest
+  pub list_is : list ≡ take n rest
+  pub optional_is : optional ≡ drop n rest
+  pub path : IsPath nodes
+  pub first : IsPrefix (joined nodes) list
+
+pub whole_load_option : (bytes units rest list optional : List ℕ) (n attributes : ℕ) (nodes : List Node)
+    → AreParts bytes units rest list optional n attributes nodes
+    → IsLoadOption (with_parts attributes units nodes list optional)
+    × (bytes ≡ load_option_bytes (with_parts attributes units nodes list optional))
+unfolding load_option_bytes
+whole_load_option bytes units rest list optional n attributes nodes are =
+    let starts : list ≡ joined nodes ++ drop (length (joined nodes)) list =
+    prefix_and_rest (joined nodes) list are.first in
+    let sized : length list ≡ n = ap length are.list_is ∙ length-take-le n rest are.within in
+    let parts : list ++ optional ≡ rest =
+    ap (λ l. l ++ optional) are.list_is ∙ ap (λ o. take n rest ++ o) are.optional_is ∙ take-append-drop n rest in (
+      record {
+        attributes = are.attributes_fit;
+        description = are.nonzero;
+        file_path = are.path;
+        file_path_list = subst (λ l. length l < 2 ^ 16) starts (subst (λ m. m < 2 ^ 16) (sym sized) are.length_fits);
+      },
+      sym (ap (λ l. u32_bytes attributes
+          ++ (u16_bytes (length l) ++ (unit_bytes (with_nul (all_but_last units)) ++ (l ++ optional)))) (sym starts)
+          ∙ ap (λ d. u32_bytes attributes ++ (u16_bytes (length list) ++ (unit_bytes d ++ (list ++ optional)))) (sym are.nul)
+          ∙ ap (λ r. u32_bytes attributes ++ (u16_bytes (length list) ++ (unit_bytes units ++ r))) parts
+          ∙ ap (λ r. u32_bytes attributes ++ (u16_bytes (length list) ++ r)) (sym are.split)
+          ∙ ap (λ m. u32_bytes attributes ++ (u16_bytes m ++ drop 6 bytes)) (sized ∙ are.length_is)
+          ∙ ap (λ m. u32_bytes m ++ (u16_bytes (u16_at bytes 4) ++ drop 6 bytes)) are.attributes_is
+          ∙ numbers_and_rest bytes are.each are.room),
+    )
+
+-- What the bytes of a load option say of it.
+record Says (bytes : List ℕ) (option : LoadOption) : Type 0 where
+  pub room : 6 ≤ length bytes
+  pub list_length : u16_at bytes 4 ≡ length (file_path_list option)
+  pub rest : drop 6 bytes ≡ after_length option
+
+says : (bytes : List ℕ) (option : LoadOption) → IsLoadOption option → bytes ≡ load_option_bytes option
+    → Says bytes option
+unfolding load_option_bytes
+says bytes option is e = record {
+  room = omega (arith, ap length e);
+  list_length = ap (λ bs. u16_at bs 4) e
+      ∙ from_le_bytes-to_le_bytes_2 (length (file_path_list option)) is.file_path_list;
+  rest = ap (drop 6) e;
+}
+
+-- The rest after a description is the file path list and the data.
+rest_is : (bytes rest d : List ℕ) (option : LoadOption) → IsLoadOption option → Says bytes option → AreNonzeroUnits d
+    → drop 6 bytes ≡ unit_bytes (with_nul d) ++ rest → rest ≡ file_path_list option ++ option.optional_data
+rest_is bytes rest d option is said fits split =
+    (one_description d option.description rest (file_path_list option ++ option.optional_data) fits is.description
+    (sym split ∙ said.rest)).1
+
+-- Bytes with a fault are no load option.
+pub no_load_option : (bytes : List ℕ) (error : LoadOptionError) → HasFault bytes error → ¬ EncodesLoadOption bytes
+no_load_option bytes TooShort fault (option, is, e) =
+    let said = says bytes option is e in absurd (omega (arith, said.room, fault))
+no_load_option bytes NotNulTerminated fault (option, is, e) =
+    fault.1 (
+      option.description,
+      file_path_list option ++ option.optional_data,
+      (is.description, (says bytes option is e).rest),
+    )
+no_load_option bytes FilePathListTooLong (rest, (d, room, (fits, split)), less) (option, is, e) =
+    let said = says bytes option is e in
+    let same = rest_is bytes rest d option is said fits split in
+    absurd (omega (
+      arith,
+      less,
+      said.list_length,
+      ap length same,
+      length-append (file_path_list option) option.optional_data,
+    ))
+no_load_option bytes (FilePath error) (rest, (d, room, (fits, split)), within, none) (option, is, e) =
+    let said = says bytes option is e in
+    let same = rest_is bytes rest d option is said fits split in
+    none (
+      option.file_path,
+      is.file_path,
+      (
+        option.other_paths,
+        ap (λ r. take (u16_at bytes 4) r) same
+            ∙ take_at (file_path_list option) option.optional_data (u16_at bytes 4) (sym said.list_length),
+      ),
+    )
+
+-- So a reader that finds a fault reads nothing else.
+pub refused : {V : Type 0} (option_of : V → LoadOption) (bytes : List ℕ) (error : LoadOptionError) → HasFault bytes error
+    → ReadsLoadOption option_of bytes (Err error)
+refused option_of bytes error fault = record { ok = tt; err = fault; none = no_load_option bytes error fault }
+
+-- The rest after a description that was found.
+pub rest_after : (bytes found units rest : List ℕ) → 6 ≤ length bytes → found ≡ drop 6 bytes
+    → found ≡ unit_bytes units ++ rest → units ≡ with_nul (all_but_last units) → AreNonzeroUnits (all_but_last units)
+    → HasRest bytes rest
+rest_after bytes found units rest room found_is split nul fits =
+    (all_but_last units, room, (fits, sym found_is ∙ split ∙ ap (λ us. unit_bytes us ++ rest) nul))
