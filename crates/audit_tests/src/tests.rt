@@ -1,2 +1,4 @@
 mod events;
+mod json;
 mod replay;
+mod text;

@@ -1,5 +1,9 @@
 pub mod Placing
 pub mod LogContents
 pub mod Digests
-pub mod Extending
-pub mod AfterEntries
+pub mod Boundaries
+pub mod Stepping
+pub mod Starting
+pub mod Logs
+pub mod EachPcr
+pub mod ItsEvents

@@ -1,6 +1,6 @@
 pub mod Banks
 pub mod Entries
-pub mod Initial
+pub mod Start
 pub mod Replay
 pub mod Measured
 pub mod Logs

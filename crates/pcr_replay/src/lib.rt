@@ -1,32 +1,38 @@
 //! The PCRs of a TPM that an event log of measured boot leads to.
 //!
-//! Begin with [`Log::new`], which takes a log's bytes and its last entry and finds its version, and
-//! with [`replay`], which returns the 24 PCRs of a [`Bank`], or names the first event by which
-//! they are undetermined. [`Log::entries`] returns the events, each with its offset, and
-//! [`Log::left_over`] the bytes after the last one: a log is whole where there are none.
+//! Begin with [`Log::new`], which takes a log's bytes and what is known of its last entry, and with
+//! [`replay`], which returns what the 24 PCRs of a [`Bank`] hold: each a value, or the first event
+//! by which it is undetermined. [`Log::entries`] returns the events, each with its offset,
+//! [`Log::padding`] the padding after the last one, and [`Log::left_over`] other bytes after it: a
+//! log is whole if there are none.
 //!
-//! The contracts speak of the one list of events that a log has (`specs/Logs.antt`), and of what
-//! each of them leaves in the PCRs (`specs/Replay.antt`, `specs/Initial.antt`). Nothing here
-//! allocates memory.
+//! The contracts speak of the one list of events that a log has (`specs/Logs.antt`), of what the
+//! PCRs start with (`specs/Start.antt`), and of what each event leaves in its PCR
+//! (`specs/Replay.antt`). Nothing here allocates memory.
 #![tactic(auto)]
 
 pub use self::bank::Bank;
-pub use self::digest::is_hash_of_data;
+pub use self::digest::{has_digest, is_hash_of, is_hash_of_data};
 pub use self::entries::{LogEntries, LogEntry};
 pub use self::event::LogEvent;
-pub use self::log::Log;
-pub use self::pcrs::{Fault, PCR_COUNT, Pcrs};
-pub use self::replaying::{Unreplayable, replay, replay_begun_at};
-pub use self::start::{locality_in, startup_locality};
+pub use self::fault::{Fault, Undetermined};
+pub use self::ignored::{Ignored, why_ignored};
+pub use self::log::{LastEntry, Log};
+pub use self::pcrs::{PCR_COUNT, Pcrs};
+pub use self::replaying::{has_measured, is_active, replay, replay_from};
+pub use self::start::{Start, locality_in, startup_locality, stated_locality};
 pub use self::value::PcrValue;
 
 mod bank;
 mod digest;
 mod entries;
 mod event;
+mod fault;
 mod hashing;
+mod ignored;
 pub mod laws;
 mod log;
+mod padding;
 mod pcrs;
 mod replaying;
 mod start;

@@ -4,11 +4,12 @@ use Rattle.std.specs.Prelude.{Option}
 use Rattle.clap.specs.declared.parser.matches.Found.{Found}
 use Rattle.pcr_replay.specs.declared.bank.Bank.{Bank}
 use Rattle.uefi_audit.specs.CommandLine.{AskForNoRequest, AsksBank}
-use Rattle.uefi_audit.specs.declared.request.Request.TheVariants.{Events, Replay, Verify, Diff}
+use Rattle.uefi_audit.specs.declared.request.Request.TheVariants.{Events, Replay, Verify, Diff, Check}
 
 -- Where `--bank` names none that can be replayed, `replay` asks for nothing.
 pub no_replay : (found : Found) → ((bank : Option Bank) → AsksBank found bank → ⊥) → AskForNoRequest (codes "replay") found
-no_replay found none (Events logs) asked = let other = ap (λ name. slice_index name 0) asked.0 in absurd (omega arith)
-no_replay found none (Replay logs bank format) asked = none bank asked.2
-no_replay found none (Verify log registers locality) asked = let other = ap (λ name. slice_index name 0) asked.0 in absurd (omega arith)
-no_replay found none (Diff old new) asked = let other = ap (λ name. slice_index name 0) asked.0 in absurd (omega arith)
+no_replay found none (Events logs format) asked = let other = ap (λ name. slice_index name 0) asked.0 in absurd (omega arith)
+no_replay found none (Replay logs bank locality format) asked = none bank asked.2
+no_replay found none (Verify verification) asked = let other = ap (λ name. slice_index name 0) asked.0 in absurd (omega arith)
+no_replay found none (Diff old new format) asked = let other = ap (λ name. slice_index name 0) asked.0 in absurd (omega arith)
+no_replay found none (Check logs format) asked = let other = ap (λ name. slice_index name 0) asked.0 in absurd (omega arith)

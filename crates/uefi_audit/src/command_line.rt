@@ -3,22 +3,26 @@ use std::alloc::{AllocError, Global};
 use uefi_auditing::text::BANK_NAMES;
 
 /// The commands in the order of the help, each with what the help says of it.
-const COMMANDS: [[&str; 2]; 4] = [
+const COMMANDS: [[&str; 2]; 5] = [
     [
         "events",
         "Prints the events of the logs, a JSON object a line",
     ],
     [
         "replay",
-        "Prints the registers that the logs lead to, as tpm2_pcrread prints them",
+        "Prints the PCRs that the logs lead to, as tpm2_pcrread prints them",
     ],
     [
         "verify",
-        "Compares the registers that a log leads to with those of a TPM",
+        "Compares the PCRs that a log leads to with those of a TPM",
     ],
     [
         "diff",
-        "Prints how the events of two logs differ, register by register",
+        "Prints how the events of two logs differ, PCR by PCR",
+    ],
+    [
+        "check",
+        "Prints which events have digests that aren't the hash of what their type measures",
     ],
 ];
 
@@ -32,7 +36,7 @@ pub(crate) fn matches_of<'a>(alloc: Global, words: &'a [String]) -> Result<ArgMa
     let mut command = Command::new(alloc, "uefi_audit")
         .version("0.1.0")
         .about(
-            "Audits event logs of measured boot: what a TPM's registers must be, from the log's bytes",
+            "Audits event logs of measured boot: what a TPM's PCRs must be, from the log's bytes",
         )
         .subcommand_required(true)
         .arg_required_else_help(true);
@@ -60,12 +64,19 @@ fn args_of<'a>(alloc: Global, name: &str) -> Result<Vec<Arg<'a>>, AllocError> {
         "events" => args_of_events(alloc),
         "replay" => args_of_replay(alloc),
         "verify" => args_of_verify(alloc),
-        _ => args_of_diff(alloc),
+        "diff" => args_of_diff(alloc),
+        _ => args_of_check(alloc),
     }
 }
 
 fn args_of_events<'a>(alloc: Global) -> Result<Vec<Arg<'a>>, AllocError> {
-    let args = vec![in alloc; logs(alloc), last_entry(alloc), allow_left_over(alloc)]?;
+    let args = vec![in alloc;
+        logs(alloc),
+        flag(alloc, "text", "Prints a block for each event that a person reads, not JSON"),
+        last_entry(alloc),
+        allow_left_over(alloc),
+        max_rows(alloc),
+    ]?;
     Ok(args)
 }
 
@@ -73,35 +84,53 @@ fn args_of_replay<'a>(alloc: Global) -> Result<Vec<Arg<'a>>, AllocError> {
     let args = vec![in alloc;
         logs(alloc),
         bank(alloc),
-        flag(alloc, "json", "Prints a JSON object a log, on a line"),
+        locality(alloc),
+        json(alloc),
         last_entry(alloc),
         allow_left_over(alloc),
+        max_rows(alloc),
     ]?;
     Ok(args)
 }
 
 fn args_of_verify<'a>(alloc: Global) -> Result<Vec<Arg<'a>>, AllocError> {
     let args = vec![in alloc;
-        file(alloc, "log", "LOG", "A file with an event log"),
+        file(alloc, "log", "LOG", "A file with an event log, - for standard input"),
         registers(alloc),
+        pcrs(alloc),
         locality(alloc),
+        json(alloc),
         last_entry(alloc),
         allow_left_over(alloc),
+        max_rows(alloc),
     ]?;
     Ok(args)
 }
 
 fn args_of_diff<'a>(alloc: Global) -> Result<Vec<Arg<'a>>, AllocError> {
     let args = vec![in alloc;
-        file(alloc, "old", "OLD", "A file with an event log"),
+        file(alloc, "old", "OLD", "A file with an event log, - for standard input"),
         file(
             alloc,
             "new",
             "NEW",
             "A file with the log to compare it with"
         ),
+        json(alloc),
         last_entry(alloc),
         allow_left_over(alloc),
+        max_rows(alloc),
+    ]?;
+    Ok(args)
+}
+
+fn args_of_check<'a>(alloc: Global) -> Result<Vec<Arg<'a>>, AllocError> {
+    let args = vec![in alloc;
+        logs(alloc),
+        json(alloc),
+        last_entry(alloc),
+        allow_left_over(alloc),
+        max_rows(alloc),
     ]?;
     Ok(args)
 }
@@ -117,9 +146,35 @@ fn registers<'a>(alloc: Global) -> Arg<'a> {
         alloc,
         "registers",
         "FILE",
-        "What tpm2_pcrread printed, or a folder with files such as pcr-sha256/0",
+        "What tpm2_pcrread printed, a TPM 1.2's file pcrs, or a folder with files such as pcr-sha256/0",
     )
     .required(true)
+}
+
+/// Returns the argument for the PCRs to compare.
+fn pcrs<'a>(alloc: Global) -> Arg<'a> {
+    option(
+        alloc,
+        "pcrs",
+        "PCRS",
+        "Compares these PCRs alone, such as 0-7,14 or sha256:0,7",
+    )
+}
+
+/// Returns the flag for JSON.
+fn json<'a>(alloc: Global) -> Arg<'a> {
+    flag(alloc, "json", "Prints a JSON object a line")
+}
+
+/// Returns the argument for the most rows that the table in a header may have.
+fn max_rows<'a>(alloc: Global) -> Arg<'a> {
+    option(
+        alloc,
+        "max-rows",
+        "N",
+        "Reads logs whose header has up to N algorithms [default: 256]",
+    )
+    .value_parser(value_parser!(u32))
 }
 
 /// Returns the argument for the locality of PCR 0.
@@ -128,7 +183,7 @@ fn locality<'a>(alloc: Global) -> Arg<'a> {
         alloc,
         "locality",
         "N",
-        "Begins register 0 at this locality, whatever the log states",
+        "Starts PCR 0 at this locality, whatever the log states",
     )
     .value_parser(value_parser!(u8))
 }
@@ -164,7 +219,7 @@ fn logs<'a>(alloc: Global) -> Arg<'a> {
         .required(true)
         .num_args(1..)
         .action(ArgAction::Append)
-        .help("Files with event logs")
+        .help("Files with event logs, - for standard input")
 }
 
 /// Returns the argument for the offset at which the last event starts.
@@ -173,7 +228,7 @@ fn last_entry<'a>(alloc: Global) -> Arg<'a> {
         alloc,
         "last-entry",
         "N|none",
-        "The offset at which the last event starts, none if the log is empty [default: the file's length]",
+        "The offset at which the last event starts, none if the log is empty; without it the log ends where padding starts, or with its last whole event",
     )
 }
 

@@ -1,7 +1,7 @@
 ghost use Rattle.std.specs.Prelude.{◌≡◌, option_map};
 ghost use Rattle.clap.specs.Words.{kind_of};
 ghost use Rattle.uefi_audit.specs.declared.failure.Failure.TheVariants.{Memory};
-ghost use Rattle.uefi_audit.specs.Ends.{code_of, exit_code, failure_code, failure_message, failure_of, status_of, worse};
+ghost use Rattle.uefi_audit.specs.Ends.{code_of, exit_code, failure_code, failure_message, failure_of, worse};
 
 use clap::error::ErrorKind;
 use std::alloc::AllocError;
@@ -9,8 +9,8 @@ use std::alloc::AllocError;
 /// Why the program stops before its end.
 #[derive(Clone, Copy, Drop)]
 pub(crate) enum Failure {
-    /// The words ask for nothing that the program does, and it has said so.
-    Words,
+    /// The arguments ask for nothing that the program does, and it has said so.
+    Arguments,
     /// They ask for help or the version, which was printed.
     Shown,
     /// A write failed or accepted no bytes.
@@ -35,7 +35,7 @@ impl Failure {
         match error.kind() {
             ErrorKind::OutOfMemory => Failure::Memory,
             ErrorKind::DisplayHelp | ErrorKind::DisplayVersion => Failure::Shown,
-            _ => Failure::Words,
+            _ => Failure::Arguments,
         }
     }
 
@@ -44,7 +44,7 @@ impl Failure {
         ensures { option_map (λ message. message.now) result ≡ failure_message self }
     {
         match self {
-            Failure::Words | Failure::Shown => None,
+            Failure::Arguments | Failure::Shown => None,
             Failure::Output => Some("uefi_audit: output"),
             Failure::Memory => Some("uefi_audit: memory"),
         }
@@ -56,7 +56,7 @@ impl Failure {
     {
         match self {
             Failure::Shown => 0,
-            Failure::Words => 2,
+            Failure::Arguments => 2,
             Failure::Output | Failure::Memory => 3,
         }
     }
@@ -65,29 +65,26 @@ impl Failure {
 /// How the commands that ran have ended: the worst of what they met.
 #[derive(Clone, Copy, PartialEq, Eq)]
 pub(crate) enum Status {
-    /// All is well.
+    /// It is as asked.
     Well,
-    /// PCRs differ, or a log can't be replayed or has bytes left over.
-    Wrong,
+    /// PCRs or events differ, or an event doesn't match its data.
+    Differs,
+    /// A log can't be judged: it has trailing bytes, nothing was measured, or a PCR that was asked
+    /// for is undetermined.
+    Unjudged,
     /// A file wasn't read.
     Unread,
 }
 
 impl Status {
-    /// Returns the status of what was well, or wasn't.
-    pub(crate) fn of(well: bool) -> Status
-        ensures { result ≡ status_of well }
-    {
-        if well { Status::Well } else { Status::Wrong }
-    }
-
     /// Returns the worse one of two.
     pub(crate) fn and(self, other: Status) -> Status
         ensures { result ≡ worse self other }
     {
         match (self, other) {
             (Status::Unread, _) | (_, Status::Unread) => Status::Unread,
-            (Status::Wrong, _) | (_, Status::Wrong) => Status::Wrong,
+            (Status::Unjudged, _) | (_, Status::Unjudged) => Status::Unjudged,
+            (Status::Differs, _) | (_, Status::Differs) => Status::Differs,
             (Status::Well, Status::Well) => Status::Well,
         }
     }
@@ -98,8 +95,9 @@ impl Status {
     {
         match self {
             Status::Well => 0,
-            Status::Wrong => 1,
+            Status::Differs => 1,
             Status::Unread => 3,
+            Status::Unjudged => 4,
         }
     }
 }

@@ -1,31 +1,49 @@
 ghost use Rattle.std.specs.Prelude.{◌≡◌, ℕ, codes, IfSome, IfNone, MatchOption, Option};
 ghost use Rattle.clap.specs.Words.{found_of};
 ghost use Rattle.pcr_replay.specs.declared.bank.Bank.{Bank};
-ghost use Rattle.uefi_audit.specs.CommandLine.{Asks, AsksBank, AsksFormat, AsksLastEntry, AsksLocality, AsksReading, AskForNoRequest, AskForNothing, IsDecimal, last_entry_of};
+ghost use Rattle.pcr_replay.specs.declared.log.LastEntry.{LastEntry};
+ghost use Rattle.uefi_audit.specs.CommandLine.{Asks, AsksBank, AsksFormat, AsksLastEntry, AsksLocality, AsksReading, AskForNoRequest, AskForNothing, IsDecimal};
 
 use clap::ArgMatches;
-use pcr_replay::Bank;
+use pcr_replay::{Bank, LastEntry};
 use uefi_auditing::text::bank_named;
 
-/// What the words ask for.
+/// What the arguments ask for.
 #[derive(Clone, Copy)]
 pub(crate) enum Request<'m, 'a> {
-    /// `events LOG..`: the events of each log.
-    Events(&'m [&'a str]),
-    /// `replay LOG.. [--bank B] [--json]`: the PCRs that each log leads to.
-    Replay(&'m [&'a str], Option<Bank>, Format),
-    /// `verify LOG --registers FILE [--locality N]`: whether they are those of a TPM.
-    Verify(&'a str, &'a str, Option<u8>),
-    /// `diff OLD NEW`: how the events of the two logs differ.
-    Diff(&'a str, &'a str),
+    /// `events LOG.. [--text]`: the events of each log.
+    Events(&'m [&'a str], Format),
+    /// `replay LOG.. [--bank B] [--locality N] [--json]`: the PCRs that each log leads to.
+    Replay(&'m [&'a str], Option<Bank>, Option<u8>, Format),
+    /// `verify LOG --registers FILE ..`: whether they are those of a TPM.
+    Verify(Verification<'a>),
+    /// `diff OLD NEW [--json]`: how the events of the two logs differ.
+    Diff(&'a str, &'a str, Format),
+    /// `check LOG.. [--json]`: whether each event's digests are the hash of what its type measures.
+    Check(&'m [&'a str], Format),
 }
 
-/// How PCRs are printed.
+/// What `verify` compares.
 #[derive(Clone, Copy)]
+pub(crate) struct Verification<'a> {
+    /// The file with the log.
+    pub log: &'a str,
+    /// The file or folder with the PCRs of the TPM.
+    pub registers: &'a str,
+    /// Which of them are compared (`--pcrs`); all without it.
+    pub pcrs: Option<&'a str>,
+    /// The locality at which the TPM was started (`--locality`).
+    pub locality: Option<u8>,
+    /// How the result is printed.
+    pub format: Format,
+}
+
+/// How a result is printed.
+#[derive(Clone, Copy, PartialEq, Eq)]
 pub(crate) enum Format {
-    /// As `tpm2_pcrread` prints them.
+    /// As text.
     Text,
-    /// As a JSON object a log (`--json`).
+    /// As JSON.
     Json,
 }
 
@@ -36,37 +54,18 @@ pub(crate) struct Reading {
     pub last_entry: LastEntry,
     /// `--allow-left-over`.
     pub allow_left_over: bool,
+    /// `--max-rows N`: how many algorithms the table in a log's header may have.
+    pub max_rows: u32,
 }
 
-/// The last entry of a log, the offset at which its last event starts.
-#[derive(Clone, Copy)]
-pub(crate) enum LastEntry {
-    /// The file's length, so that every whole event is one of the log.
-    Length,
-    /// This offset.
-    At(usize),
-    /// None: the log is empty.
-    Empty,
-}
-
-impl LastEntry {
-    /// Returns the last entry of a log of this length.
-    pub(crate) fn of_length(self, length: usize) -> Option<usize>
-        ensures { result ≡ last_entry_of self length }
-    {
-        match self {
-            LastEntry::Length => Some(length),
-            LastEntry::At(offset) => Some(offset),
-            LastEntry::Empty => None,
-        }
-    }
-}
+/// How many rows a table may have without `--max-rows`. Firmware writes one to five.
+const MAX_ROWS: u32 = 256;
 
 /// Returns what the matches of a command ask for, by the command's name; `None` if they ask for
 /// nothing that the program knows.
 ///
-/// Which words lead to which matches is what `clap` promises. It also sees to it that `--locality`
-/// is a number below 256.
+/// Which words lead to which matches is what `clap` promises. It also makes sure that `--locality`
+/// is a number below 256, and `--max-rows` one below 2^32.
 pub(crate) fn request_of<'m, 'a>(
     name: &str,
     matches: &'m ArgMatches<'a>,
@@ -90,6 +89,7 @@ fn request_named<'m, 'a>(name: &str, matches: &'m ArgMatches<'a>) -> Option<Requ
         "replay" => replay_of(matches),
         "verify" => verify_of(matches),
         "diff" => diff_of(matches),
+        "check" => check_of(matches),
         _ => None,
     }
 }
@@ -100,7 +100,8 @@ fn events_of<'m, 'a>(matches: &'m ArgMatches<'a>) -> Option<Request<'m, 'a>>
     ensures nothing { IfNone result (AskForNoRequest (codes "events") (found_of matches.now)) }
 {
     let logs = matches.get_strs("logs")?;
-    Some(Request::Events(logs))
+    let format = if matches.get_flag("text") { Format::Text } else { Format::Json };
+    Some(Request::Events(logs, format))
 }
 
 /// Returns what the matches of `replay` ask for.
@@ -110,7 +111,7 @@ fn replay_of<'m, 'a>(matches: &'m ArgMatches<'a>) -> Option<Request<'m, 'a>>
 {
     let logs = matches.get_strs("logs")?;
     let bank = bank_of(matches)?;
-    Some(Request::Replay(logs, bank, format_of(matches)))
+    Some(Request::Replay(logs, bank, locality_of(matches), format_of(matches)))
 }
 
 /// Returns what the matches of `verify` ask for.
@@ -120,8 +121,13 @@ fn verify_of<'m, 'a>(matches: &'m ArgMatches<'a>) -> Option<Request<'m, 'a>>
 {
     let log = matches.get_str("log")?;
     let registers = matches.get_str("registers")?;
-    let locality = locality_of(matches);
-    Some(Request::Verify(log, registers, locality))
+    Some(Request::Verify(Verification {
+        log,
+        registers,
+        pcrs: matches.get_str("pcrs"),
+        locality: locality_of(matches),
+        format: format_of(matches),
+    }))
 }
 
 /// Returns what the matches of `diff` ask for.
@@ -131,10 +137,19 @@ fn diff_of<'m, 'a>(matches: &'m ArgMatches<'a>) -> Option<Request<'m, 'a>>
 {
     let old = matches.get_str("old")?;
     let new = matches.get_str("new")?;
-    Some(Request::Diff(old, new))
+    Some(Request::Diff(old, new, format_of(matches)))
 }
 
-/// Returns the locality that the matches of `verify` ask for, if they ask for one.
+/// Returns what the matches of `check` ask for.
+fn check_of<'m, 'a>(matches: &'m ArgMatches<'a>) -> Option<Request<'m, 'a>>
+    ensures request { IfSome result (Asks (codes "check") (found_of matches.now)) }
+    ensures nothing { IfNone result (AskForNoRequest (codes "check") (found_of matches.now)) }
+{
+    let logs = matches.get_strs("logs")?;
+    Some(Request::Check(logs, format_of(matches)))
+}
+
+/// Returns the locality that a command's matches ask for, if they ask for one.
 fn locality_of(matches: &ArgMatches<'_>) -> Option<u8>
     ensures { AsksLocality (found_of matches.now) result }
 {
@@ -153,6 +168,7 @@ pub(crate) fn reading_of(matches: &ArgMatches<'_>) -> Option<Reading>
     Some(Reading {
         last_entry,
         allow_left_over,
+        max_rows: matches.get_one::<u32>("max-rows").unwrap_or(MAX_ROWS),
     })
 }
 
@@ -164,7 +180,7 @@ fn last_entry_of(matches: &ArgMatches<'_>) -> Option<LastEntry>
         (AsksLastEntry (found_of matches.now)) }
 {
     let Some(word) = matches.get_str("last-entry") else {
-        return Some(LastEntry::Length);
+        return Some(LastEntry::Unknown);
     };
     if word == "none" {
         return Some(LastEntry::Empty);

@@ -1,0 +1,4 @@
+pub mod FirstOnes
+pub mod Commands
+pub mod Matching
+pub mod Widening

@@ -1,4 +1,3 @@
-pub mod VariableBytes
-pub mod ImageBytes
+pub mod PathBytes
 pub mod Printed
 pub mod OneContent

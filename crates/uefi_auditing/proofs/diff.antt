@@ -1,5 +1,6 @@
-pub mod Registers
+pub mod Orders
+pub mod Index
+pub mod Pcrs
 pub mod OnlyLines
-pub mod LineTexts
 pub mod Below
 pub mod Shown

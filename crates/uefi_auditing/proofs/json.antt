@@ -1,5 +1,5 @@
 pub mod NoFloats
 pub mod NoFloatsInReplay
+pub mod Controls
 pub mod EventLines
-pub mod Banks
 pub mod ReplayLines

@@ -1,5 +1,3 @@
 pub mod BankOf
-pub mod LeftOver
 pub mod Lines
-pub mod Replaying
-pub mod Tables
+pub mod Ending

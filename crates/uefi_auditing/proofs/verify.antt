@@ -1,5 +1,8 @@
 pub mod Texts
+pub mod LineForms
+pub mod PcrLines
 pub mod BankNames
-pub mod Localities
-pub mod Differences
-pub mod Verdicts
+pub mod Cuts
+pub mod Selections
+pub mod Agreement
+pub mod Appending

@@ -1,7 +1,9 @@
+pub mod Replay
 pub mod content
-pub mod json
 pub mod text
-pub mod verify
-pub mod diff
+pub mod json
 pub mod Laws
 pub mod private
+pub mod verify
+pub mod diff
+pub mod Check

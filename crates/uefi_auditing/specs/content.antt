@@ -1,4 +1,3 @@
-pub mod Variable
-pub mod Image
+pub mod Path
 pub mod Content
 pub mod Views

@@ -1,4 +1,5 @@
 pub mod Names
+pub mod Line
 pub mod Content
 pub mod Event
 pub mod Events

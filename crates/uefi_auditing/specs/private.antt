@@ -1,5 +1,4 @@
 -- Words of private contracts and ghost fields alone.
 pub mod json
-pub mod text
 pub mod verify
 pub mod diff

@@ -1,3 +1,8 @@
+pub mod Names
 pub mod Banks
-pub mod Registers
-pub mod Replay
+pub mod Lines
+pub mod Pcrs
+pub mod Undetermined
+pub mod Trailing
+pub mod Remarks
+pub mod Faults

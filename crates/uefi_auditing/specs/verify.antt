@@ -1,3 +1,4 @@
 pub mod Reading
-pub mod Agreement
+pub mod Banks
+pub mod Selection
 pub mod Verdict

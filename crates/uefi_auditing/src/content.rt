@@ -4,24 +4,21 @@
 
 ghost use Rattle.std.specs.Prelude.{◌≡◌};
 ghost use Rattle.std.specs.List.{list_all};
-ghost use Rattle.pcr_replay.specs.Initial.{locality_in};
+ghost use Rattle.pcr_replay.specs.Start.{locality_in};
 ghost use Rattle.pcr_replay.specs.Views.{event_of};
 ghost use Rattle.uefi_auditing.specs.content.Content.{Says, form_of, is_printed, locality_content, separator_content, text_content};
 ghost use Rattle.uefi_auditing.specs.content.Views.{content_of};
 ghost use Rattle.uefi_auditing.specs.declared.content.form.Form.TheVariants.{OfImage, OfVariable};
 
-pub use self::image::Image;
-pub use self::variable::Variable;
 use crate::content::form::{Form, form_of};
-use crate::content::image::{read_image, whole_path};
-use crate::content::variable::read_variable;
+use crate::content::path::whole_path;
 use pcr_replay::{LogEvent, locality_in};
 use uefi_base::little_endian::u32_at;
 use uefi_path::DevicePath;
+use uefi_tcg::content::{ImageLoadEvent, VariableData};
 
 mod form;
-mod image;
-mod variable;
+mod path;
 
 /// What the data of an event say, where they are read.
 #[derive(Clone, Copy)]
@@ -35,9 +32,9 @@ pub enum Content<'a> {
     /// The locality at which the TPM was started.
     Locality(u8),
     /// A variable that was measured.
-    Variable(Variable<'a>),
+    Variable(VariableData<'a>),
     /// An image that was loaded, and its device path, if its bytes are one.
-    Image(Image<'a>, Option<DevicePath<'a>>),
+    Image(ImageLoadEvent<'a>, Option<DevicePath<'a>>),
 }
 
 /// Returns what the data of an event say, by the event's type.
@@ -103,7 +100,7 @@ fn are_printed(bytes: &[u8]) -> bool
 fn variable_content(bytes: &[u8]) -> Content<'_>
     ensures { Says OfVariable bytes.now (content_of result) }
 {
-    match read_variable(bytes) {
+    match VariableData::read(bytes) {
         Some(variable) => Content::Variable(variable),
         None => Content::Unread,
     }
@@ -114,8 +111,8 @@ fn variable_content(bytes: &[u8]) -> Content<'_>
 fn image_content(bytes: &[u8]) -> Content<'_>
     ensures { Says OfImage bytes.now (content_of result) }
 {
-    match read_image(bytes) {
-        Some(image) => Content::Image(image, whole_path(image.path)),
+    match ImageLoadEvent::read(bytes) {
+        Some(image) => Content::Image(image, whole_path(image.device_path)),
         None => Content::Unread,
     }
 }

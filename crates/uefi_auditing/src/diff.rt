@@ -4,10 +4,10 @@
 //! first event in which they differ, and a line for each event that only one of them has.
 
 pub use self::differences::push_differences;
-pub use self::same::is_same_event;
+pub use self::order::is_same_event;
 
 mod differences;
 mod lines;
 mod only;
-mod register;
-mod same;
+mod order;
+mod pcr;

@@ -2,9 +2,10 @@
 //!
 //! [`push_events`] appends the events of a log, a line each, and [`event_line`] returns the line of
 //! one event. [`push_replay_json`] appends one line for a log: the PCRs that it leads to, by
-//! banks, or why they are undetermined.
+//! banks, and why some are undetermined.
 //!
 //! A line is the text without spaces of a value, with each object's keys in order (`specs/json`).
+//! No control character is in it: in a string each is `\u` and four hex digits.
 
 pub use self::event::event_line;
 pub use self::events::push_events;
@@ -15,5 +16,6 @@ mod content;
 mod digests;
 mod event;
 mod events;
+mod line;
 mod names;
 mod replay;

@@ -4,6 +4,7 @@
 ghost use Rattle.uefi_auditing.specs.Laws.{OneContent};
 
 use uefi_path::laws::one_front;
+use uefi_tcg::laws::one_value;
 
 /// States that the data of an event say one thing, by the form that its type gives them. So an
 /// event has one line, as [`event_line`](crate::event_line) promises it.
@@ -11,4 +12,5 @@ pub fn one_content()
     ensures { OneContent }
 {
     one_front();
+    one_value();
 }

@@ -9,9 +9,11 @@
 //! failed allocation is the only error of the calls that append lines.
 #![tactic(auto)]
 
+pub mod check;
 pub mod content;
 pub mod diff;
 pub mod json;
 pub mod laws;
+pub mod replay;
 pub mod text;
 pub mod verify;

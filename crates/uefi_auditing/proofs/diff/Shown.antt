@@ -21,7 +21,7 @@ same_shown old_name new_name olds news text same = (
 pub differ_shown : (old_name new_name : List ℕ) (olds news : List Numbered) (at : ℕ)
     (text first second third : String Global) → DifferAt olds news at
     → AppendsText text first (first_line old_name (slice_get olds at) new_name (slice_get news at))
-    → AppendsOnly old_name news olds first second → AppendsOnly new_name olds news second third
+    → AppendsOnly old_name new_name news olds first second → AppendsOnly new_name old_name olds news second third
     → AppendsCompared old_name new_name olds news text third false
 differ_shown old_name new_name olds news at text first second third differ line of_old of_new =
     let head : List ℕ = first_line old_name (slice_get olds at) new_name (slice_get news at) in (

@@ -7,15 +7,16 @@ use Rattle.uefi_tcg.specs.v2.Event.{Digest, Event}
 use Rattle.uefi_path.specs.Node.{Node}
 use Rattle.uefi_path.specs.Path.{all_but_last}
 use Rattle.pcr_replay.specs.Entries.{Entry}
+use Rattle.std.specs.List.{flat_map}
+use Rattle.uefi_auditing.specs.Replay.{all_banks}
 use Rattle.uefi_auditing.specs.content.Content.{Content, unread, text, separator, locality, variable, image}
 use Rattle.uefi_auditing.specs.json.Content.{content_json, image_json, node_json, path_json, variable_json}
-use Rattle.uefi_auditing.specs.json.Event.{algorithm_json, digest_json, event_json, hashed_banks, hashed_bank}
+use Rattle.uefi_auditing.specs.json.Event.{algorithm_json, digest_json, event_json, hashed_bank}
 use Rattle.uefi_auditing.specs.json.Event.{name_or_number, named_number, type_json}
 use Rattle.uefi_auditing.specs.json.Names.{algorithm_name, type_name}
 use Rattle.uefi_auditing.specs.text.Banks.{bank_name}
 use Rattle.pcr_replay.specs.Measured.{is_hash_of_data}
 use Rattle.pcr_replay.specs.declared.bank.Bank.{Bank}
-use Rattle.pcr_replay.specs.declared.bank.Bank.TheVariants.{Sha1, Sha256, Sha384, Sha512}
 
 named : (name : Option (List ℕ)) (n : ℕ) → has_float (name_or_number name n) ≡ false
 named (Some name) n = refl
@@ -54,22 +55,16 @@ or_false : (a b : Bool) → (a || b) ≡ false → (a ≡ false) × (b ≡ false
 or_false false b none = (refl, none)
 or_false true b none = (cc, cc)
 
-joined : (xs ys : List Data) → items_have_float (items_of xs) ≡ false → items_have_float (items_of ys) ≡ false
+pub joined : (xs ys : List Data) → items_have_float (items_of xs) ≡ false → items_have_float (items_of ys) ≡ false
     → items_have_float (items_of (xs ++ ys)) ≡ false
 joined [] ys none more = more
 joined (x ∷ xs) ys none more =
     let parts = or_false (has_float x) (items_have_float (items_of xs)) none in
     rw parts.0 (joined xs ys parts.1 more)
 
-banks : (event : Event) → items_have_float (items_of (hashed_banks event)) ≡ false
-unfolding hashed_banks
-banks event =
-    let one = hashed_bank event Sha1 in
-    let two = hashed_bank event Sha256 in
-    let three = hashed_bank event Sha384 in
-    let four = hashed_bank event Sha512 in
-    joined (one ++ two ++ three) four (joined (one ++ two) three (joined one two (bank event Sha1) (bank event Sha256))
-    (bank event Sha384)) (bank event Sha512)
+banks : (event : Event) (banks : List Bank) → items_have_float (items_of (flat_map (hashed_bank event) banks)) ≡ false
+banks event [] = refl
+banks event (b ∷ bs) = joined (hashed_bank event b) (flat_map (hashed_bank event) bs) (bank event b) (banks event bs)
 
 -- What data say has no float.
 nodes : (nodes : List Node) → items_have_float (items_of (map node_json nodes)) ≡ false
@@ -95,5 +90,5 @@ pub no_float : (log : List ℕ) (index : ℕ) (entry : Entry) (content : Content
     → has_float (event_json log index entry content) ≡ false
 unfolding event_json
 no_float log index entry content =
-    rw (contents content) (rw (digests entry.event.digests) (rw (banks entry.event) (rw
+    rw (contents content) (rw (digests entry.event.digests) (rw (banks entry.event all_banks) (rw
     (event_type entry.event.event_type) refl)))

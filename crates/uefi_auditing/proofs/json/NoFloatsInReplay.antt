@@ -1,41 +1,57 @@
 -- No number of a log's JSON is a float.
-use Rattle.std.proofs.Common.{◌≡◌, ℕ, List, [], ◌∷◌, map, refl, Bool, false, true, ◌==◌, cond, Some, None}
+use Rattle.std.proofs.Common.{◌≡◌, ℕ, ◌+◌, List, [], ◌∷◌, map, refl, Bool, false, true, ◌==◌, cond, length}
 use Rattle.std.specs.Prelude.{Ok, Err, codes}
 use Rattle.serde_json.specs.Data.{Data, null, number, unsigned, object, member, no_members}
 use Rattle.serde_json.specs.View.{items_of}
 use Rattle.serde_json.specs.Written.{has_float, items_have_float}
-use Rattle.pcr_replay.specs.Entries.{Entry}
-use Rattle.uefi_auditing.specs.json.Replay.{Outcome, bank_json, banks_json, fault_json, left_over_json, led_to, register_json}
-use Rattle.uefi_auditing.specs.json.Replay.{registers_json, replay_json, unreplayable_json}
-use Rattle.uefi_auditing.proofs.json.NoFloats.{algorithm}
+use Rattle.pcr_replay.specs.declared.start.Start.{Start}
+use Rattle.pcr_replay.specs.Replay.{Outcome}
+use Rattle.uefi_auditing.specs.Replay.{BankOutcomes}
+use Rattle.uefi_auditing.specs.json.Replay.{bank_json, banks_json, if_undetermined, locality_json, log_json, part_json}
+use Rattle.uefi_auditing.specs.json.Replay.{register_json, undetermined_json}
+use Rattle.uefi_auditing.specs.text.Lines.{numbered}
 
-texts : (values : List (List ℕ)) → items_have_float (items_of (map register_json values)) ≡ false
-texts [] = refl
-texts (value ∷ values) = texts values
+registers : (outcomes : List Outcome) → items_have_float (items_of (map register_json outcomes)) ≡ false
+unfolding register_json
+registers [] = refl
+registers (Ok value ∷ outcomes) = registers outcomes
+registers (Err at ∷ outcomes) = registers outcomes
 
--- A bank, and all that are asked for.
-bank : (n : ℕ) (outcome : Outcome) → has_float (bank_json n outcome) ≡ false
-unfolding bank_json fault_json registers_json unreplayable_json
-bank n None = rw (algorithm n) refl
-bank n (Some (Ok values)) = rw (algorithm n) (rw (texts values) refl)
-bank n (Some (Err at)) = rw (algorithm n) refl
+undetermined : (register : ℕ) (outcomes : List Outcome)
+    → items_have_float (items_of (numbered if_undetermined register outcomes)) ≡ false
+unfolding numbered if_undetermined undetermined_json
+undetermined register [] = refl
+undetermined register (Ok value ∷ outcomes) = undetermined (register + 1) outcomes
+undetermined register (Err at ∷ outcomes) = undetermined (register + 1) outcomes
 
-pub banks : (entries : List Entry) (algorithms : List ℕ)
-    → items_have_float (items_of (banks_json entries algorithms)) ≡ false
-banks entries [] = refl
-banks entries (n ∷ ns) = rw (bank n (led_to entries n)) (banks entries ns)
+-- A bank, and all of them.
+bank : (found : BankOutcomes) → has_float (bank_json found) ≡ false
+unfolding bank_json
+bank found = rw (registers found.outcomes) (rw (undetermined 0 found.outcomes) refl)
 
-left_over : (offset count : ℕ) → has_float (left_over_json offset count) ≡ false
-unfolding left_over_json
-left_over offset count = either (count == 0)
+each : (found : List BankOutcomes) → items_have_float (items_of (map bank_json found)) ≡ false
+each [] = refl
+each (one ∷ others) = rw (bank one) (each others)
+
+banks : (accepted : Bool) (found : List BankOutcomes) → has_float (banks_json accepted found) ≡ false
+unfolding banks_json
+banks true found = each found
+banks false found = refl
+
+part : (offset : ℕ) (bytes : List ℕ) → has_float (part_json offset bytes) ≡ false
+unfolding part_json
+part offset bytes = either (length bytes == 0)
   where
     either : (none : Bool)
-        → has_float (cond none null (object (member (codes "count") (number (unsigned count)) (member (codes "offset")
-        (number (unsigned offset)) no_members)))) ≡ false
+        → has_float (cond none null (object (member (codes "count") (number (unsigned (length bytes)))
+        (member (codes "offset") (number (unsigned offset)) no_members)))) ≡ false
     either true = refl
     either false = refl
 
-pub no_float : (name : List ℕ) (offset count : ℕ) (banks : Data) → has_float banks ≡ false
-    → has_float (replay_json name offset count banks) ≡ false
-unfolding replay_json
-no_float name offset count banks none = rw none (rw (left_over offset count) refl)
+pub no_float : (accepted : Bool) (found : List BankOutcomes) (offset end : ℕ) (left padding : List ℕ) (start : Start)
+    (stated : Bool) (name : List ℕ)
+    → has_float (log_json (banks_json accepted found) (part_json offset left) (locality_json start stated) name
+    (part_json end padding)) ≡ false
+unfolding log_json locality_json
+no_float accepted found offset end left padding start stated name =
+    rw (banks accepted found) (rw (part offset left) (rw (part end padding) refl))

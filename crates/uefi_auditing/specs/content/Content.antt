@@ -3,9 +3,10 @@ use Rattle.std.specs.Prelude.{ℕ, ◌≡◌, ◌==◌, ◌&&◌, ◌||◌, nat_
 use Rattle.std.specs.List.{list_all}
 use Rattle.uefi_base.specs.LittleEndian.{u32_at}
 use Rattle.uefi_path.specs.Node.{Node}
-use Rattle.pcr_replay.specs.Initial.{locality_in}
-use Rattle.uefi_auditing.specs.content.Image.{Image, ReadsImage, ReadsNodes}
-use Rattle.uefi_auditing.specs.content.Variable.{Variable, ReadsVariable}
+use Rattle.pcr_replay.specs.Start.{locality_in}
+use Rattle.uefi_tcg.specs.content.Image.{Image, ReadsImage}
+use Rattle.uefi_tcg.specs.content.Variable.{Variable, ReadsVariable}
+use Rattle.uefi_auditing.specs.content.Path.{ReadsNodes}
 use Rattle.uefi_auditing.specs.declared.content.form.Form.{Form}
 use Rattle.uefi_auditing.specs.declared.content.form.Form.TheVariants.{OfLocality, OfSeparator, OfText, OfVariable, OfImage, Other}
 
@@ -50,7 +51,7 @@ variable_content None = unread
 
 -- An image, with the nodes of its path.
 unfoldable pub ImageContent : Option Image → Content → Type 0
-ImageContent (Some read) content = (nodes : Option (List Node)) × ReadsNodes read.path nodes × (content ≡ image read nodes)
+ImageContent (Some read) content = (nodes : Option (List Node)) × ReadsNodes read.device_path nodes × (content ≡ image read nodes)
 ImageContent None content = content ≡ unread
 
 -- What data of a form say.

@@ -3,14 +3,15 @@
 use Rattle.std.specs.Prelude.{ℕ, zero, suc, ◌≡◌, ◌≢◌, ◌⊎◌, ◌+◌, ◌<◌, ◌==◌, ◌&&◌, min, Bool, true, false, codes}
 use Rattle.std.specs.Prelude.{List, [], ◌∷◌, ◌++◌, map, slice_get, Option, None, Some, option_map}
 use Rattle.std.specs.List.{filter}
-use Rattle.std.specs.Fmt.{decimal}
+use Rattle.std.specs.Fmt.{decimal, digits}
 use Rattle.std.specs.declared.alloc.Global.{Global}
 use Rattle.std.specs.declared.string.String.{String}
 use Rattle.uefi_base.specs.Appending.{AppendsText}
 use Rattle.uefi_tcg.specs.v2.Event.{Event}
 use Rattle.pcr_replay.specs.Entries.{Contents, Entry}
-use Rattle.pcr_replay.specs.Logs.{AreContents}
+use Rattle.pcr_replay.specs.Logs.{HasContents}
 use Rattle.uefi_auditing.specs.declared.text.LogFile.{LogFile}
+use Rattle.uefi_auditing.specs.json.Names.{type_name}
 
 -- An entry of a log with its index.
 pub record Numbered : Type 0 where
@@ -24,14 +25,17 @@ numbered index (entry ∷ entries) = record { index = index; entry = entry } ∷
 -- Those of a PCR. The PCRs above 23, which a PC's TPM doesn't have, are taken together as one, PCR
 -- 24.
 abbrev pub is_of : ℕ → Entry → Bool
-is_of register entry = min entry.event.pcr_index 24 == register
+is_of pcr entry = min entry.event.pcr_index 24 == pcr
 
-abbrev pub in_register : ℕ → List Entry → List Numbered
-in_register register entries = filter (λ found. is_of register found.entry) (numbered 0 entries)
+abbrev pub of_pcr : ℕ → List Entry → List Numbered
+of_pcr pcr entries = filter (λ found. is_of pcr found.entry) (numbered 0 entries)
 
--- Their PCRs, their events, and the event at a place, if there is one.
-abbrev pub register_of : Numbered → ℕ
-register_of found = found.entry.event.pcr_index
+-- Their PCRs, their types, their events, and the event at a place, if there is one.
+abbrev pub pcr_of : Numbered → ℕ
+pcr_of found = found.entry.event.pcr_index
+
+abbrev pub type_of : Numbered → ℕ
+type_of found = found.entry.event.event_type
 
 abbrev pub event_in : Numbered → Event
 event_in found = found.entry.event
@@ -51,26 +55,33 @@ pub record DifferAt (old new : List Numbered) (at : ℕ) : Type 0 where
 abbrev pub IsAmong : Event → List Numbered → Type 0
 IsAmong event others = (at : ℕ) × (event_at others at ≡ Some event)
 
--- Where an event stands; the line of two events that differ, that of an event after the last one of the other log, and
--- that of an event that only one log has.
-unfoldable pub place_text : List ℕ → Numbered → List ℕ
-place_text name found =
-    codes "register " ++ (decimal (register_of found) ++ (codes ": event " ++ (decimal found.index
-    ++ (codes " at offset " ++ (decimal found.entry.offset ++ (codes " of " ++ name))))))
+-- The name of an event's type, or its number.
+unfoldable pub type_text : ℕ → Option (List ℕ) → List ℕ
+type_text number (Some name) = name
+type_text number None = codes "type 0x" ++ digits 16 false number
 
+-- An event of a log: its type, its index and its offset.
+unfoldable pub event_text : List ℕ → Numbered → List ℕ
+event_text name found =
+    type_text (type_of found) (type_name (type_of found)) ++ (codes " (event " ++ (decimal found.index
+    ++ (codes " at offset " ++ (decimal found.entry.offset ++ (codes " of " ++ (name ++ codes ")"))))))
+
+-- What a line begins with: the PCR and the event.
+unfoldable pub place_text : List ℕ → Numbered → List ℕ
+place_text name found = codes "PCR " ++ (decimal (pcr_of found) ++ (codes ": " ++ event_text name found))
+
+-- The line of two events that differ, that of an event after the last one of the other log, and that of an event that
+-- only one log has.
 unfoldable pub other_line : List ℕ → Numbered → List ℕ → Numbered → List ℕ
 other_line old_name old new_name new =
-    place_text old_name old ++ (codes " differs from event " ++ (decimal new.index ++ (codes " at offset "
-    ++ (decimal new.entry.offset ++ (codes " of " ++ (new_name ++ codes "\n"))))))
+    place_text old_name old ++ (codes " differs from " ++ (event_text new_name new ++ codes "\n"))
 
 unfoldable pub last_line : List ℕ → Numbered → List ℕ → List ℕ
 last_line name found other_name =
     place_text name found ++ (codes " comes after the last one of " ++ (other_name ++ codes "\n"))
 
-unfoldable pub only_line : List ℕ → Numbered → List ℕ
-only_line name found =
-    codes "register " ++ (decimal (register_of found) ++ (codes ": only " ++ (name ++ (codes " has event "
-    ++ (decimal found.index ++ (codes " at offset " ++ (decimal found.entry.offset ++ codes "\n")))))))
+unfoldable pub only_line : List ℕ → Numbered → List ℕ → List ℕ
+only_line name found other_name = place_text name found ++ (codes " isn't in " ++ (other_name ++ codes "\n"))
 
 -- The line of the first event in which two logs differ, by what each has there.
 unfoldable pub first_line : List ℕ → Option Numbered → List ℕ → Option Numbered → List ℕ
@@ -79,16 +90,16 @@ first_line old_name (Some old) new_name None = last_line old_name old new_name
 first_line old_name None new_name (Some new) = last_line new_name new old_name
 first_line old_name None new_name None = []
 
--- The line of an entry, if its event isn't among the others; and those of entries in order.
-abbrev pub IsOnlyLine : List ℕ → List Numbered → Numbered → List ℕ → Type 0
-IsOnlyLine name others found line =
+-- The line of an entry, if its event isn't among the others, which are of the other log; and those of entries in order.
+abbrev pub IsOnlyLine : List ℕ → List ℕ → List Numbered → Numbered → List ℕ → Type 0
+IsOnlyLine name other_name others found line =
     (IsAmong (event_in found) others × (line ≡ []))
-    ⊎ ((IsAmong (event_in found) others → ⊥) × (line ≡ only_line name found))
+    ⊎ ((IsAmong (event_in found) others → ⊥) × (line ≡ only_line name found other_name))
 
-abbrev pub AreOnly : List ℕ → List Numbered → List Numbered → List ℕ → Type 0
-AreOnly name others [] text = text ≡ []
-AreOnly name others (found ∷ more) text =
-    (line : List ℕ) × (rest : List ℕ) × IsOnlyLine name others found line × AreOnly name others more rest
+abbrev pub AreOnly : List ℕ → List ℕ → List Numbered → List Numbered → List ℕ → Type 0
+AreOnly name other_name others [] text = text ≡ []
+AreOnly name other_name others (found ∷ more) text =
+    (line : List ℕ) × (rest : List ℕ) × IsOnlyLine name other_name others found line × AreOnly name other_name others more rest
     × (text ≡ line ++ rest)
 
 -- The events of a PCR are the same, and there is no line.
@@ -102,23 +113,23 @@ pub record Differ (old_name new_name : List ℕ) (old new : List Numbered) (text
   pub at : ℕ
   pub first : DifferAt old new at
   pub only_old : List ℕ
-  pub of_old : AreOnly old_name new old only_old
+  pub of_old : AreOnly old_name new_name new old only_old
   pub only_new : List ℕ
-  pub of_new : AreOnly new_name old new only_new
+  pub of_new : AreOnly new_name old_name old new only_new
   pub lines : text ≡ first_line old_name (slice_get old at) new_name (slice_get new at) ++ (only_old ++ only_new)
   pub said : same ≡ false
 
-abbrev pub ShowsRegister : List ℕ → List ℕ → List Numbered → List Numbered → List ℕ → Bool → Type 0
-ShowsRegister old_name new_name old new text same =
+abbrev pub ShowsPcr : List ℕ → List ℕ → List Numbered → List Numbered → List ℕ → Bool → Type 0
+ShowsPcr old_name new_name old new text same =
     AreSame old new text same ⊎ Differ old_name new_name old new text same
 
 -- The same of all PCRs below a number, one after another; and whether the events of all are the same.
 abbrev pub ShowsBelow : ℕ → List ℕ → List ℕ → List Entry → List Entry → List ℕ → Bool → Type 0
 ShowsBelow zero old_name new_name old new text same = (text ≡ []) × (same ≡ true)
-ShowsBelow (suc register) old_name new_name old new text same =
+ShowsBelow (suc pcr) old_name new_name old new text same =
     (before : List ℕ) × (all_before : Bool) × (lines : List ℕ) × (is_same : Bool)
-    × ShowsBelow register old_name new_name old new before all_before
-    × ShowsRegister old_name new_name (in_register register old) (in_register register new) lines is_same
+    × ShowsBelow pcr old_name new_name old new before all_before
+    × ShowsPcr old_name new_name (of_pcr pcr old) (of_pcr pcr new) lines is_same
     × (text ≡ before ++ lines) × (same ≡ (all_before && is_same))
 
 -- What `diff` prints of the one log that each file is: of the PCRs 0 to 23, and of those above.
@@ -128,6 +139,6 @@ IsDiff old_name new_name old new text same = ShowsBelow 25 old_name new_name old
 -- The string grew by it.
 abbrev pub AppendsDifferences : LogFile → LogFile → String Global → String Global → Bool → Type 0
 AppendsDifferences old new before after same =
-    (olds : Contents) (news : Contents) → AreContents old.bytes.now old.last_entry olds
-    → AreContents new.bytes.now new.last_entry news
+    (olds : Contents) (news : Contents) → HasContents old.log olds
+    → HasContents new.log news
     → (text : List ℕ) × IsDiff old.name.now new.name.now olds news text same × AppendsText before after text

@@ -1,15 +1,15 @@
 -- What data say as JSON.
-use Rattle.std.specs.Prelude.{ℕ, ◌&&◌, nat_le, List, map, Option, Some, None, codes, encode_utf8, if◌then◌else◌}
+use Rattle.std.specs.Prelude.{ℕ, ◌&&◌, nat_le, List, [], ◌∷◌, map, Option, Some, None, codes, encode_utf8, if◌then◌else◌}
 use Rattle.std.specs.List.{flat_map}
 use Rattle.hex.specs.Hex.{encode_lower}
-use Rattle.serde_json.specs.Data.{Data, null, number, unsigned, string, array, object, member, no_members}
+use Rattle.serde_json.specs.Data.{Data, Members, null, number, unsigned, string, array, object, member, no_members, put}
 use Rattle.serde_json.specs.View.{items_of}
 use Rattle.uefi_base.specs.GuidText.{guid_text}
 use Rattle.uefi_path.specs.Node.{Node}
 use Rattle.uefi_path.specs.Path.{all_but_last}
+use Rattle.uefi_tcg.specs.content.Image.{Image}
+use Rattle.uefi_tcg.specs.content.Variable.{Variable}
 use Rattle.uefi_auditing.specs.content.Content.{Content, unread, text, separator, locality, variable, image}
-use Rattle.uefi_auditing.specs.content.Image.{Image}
-use Rattle.uefi_auditing.specs.content.Variable.{Variable}
 
 -- An object with one key.
 abbrev pub only : List ℕ → Data → Data
@@ -33,17 +33,22 @@ node_json node =
     (member (codes "subtype") (number (unsigned node.sub_type))
     (member (codes "type") (number (unsigned node.device_type)) no_members)))
 
--- The nodes of a path but the one that ends it.
-unfoldable pub path_json : Option (List Node) → Data
-path_json (Some nodes) = array (items_of (map node_json (all_but_last nodes)))
-path_json None = null
+-- The nodes of a device path but the one that ends it; the bytes in hex, if they are no path.
+unfoldable pub path_json : List ℕ → Option (List Node) → Data
+path_json bytes (Some nodes) = array (items_of (map node_json (all_but_last nodes)))
+path_json bytes None = string (encode_lower bytes)
+
+-- The members, and the bytes after the device path in hex, if there are any.
+abbrev pub with_rest : List ℕ → Members → Members
+with_rest [] members = members
+with_rest (byte ∷ bytes) members = put (codes "rest") (string (encode_lower (byte ∷ bytes))) members
 
 unfoldable pub image_json : Image → Option (List Node) → Data
-image_json read nodes =
-    object (member (codes "address") (number (unsigned read.address))
-    (member (codes "length") (number (unsigned read.size))
-    (member (codes "link_address") (number (unsigned read.link_address))
-    (member (codes "path") (path_json nodes) no_members))))
+image_json read nodes = object (with_rest read.rest
+    (member (codes "address") (number (unsigned read.location_in_memory))
+    (member (codes "length") (number (unsigned read.length_in_memory))
+    (member (codes "link_address") (number (unsigned read.link_time_address))
+    (member (codes "path") (path_json read.device_path nodes) no_members)))))
 
 unfoldable pub content_json : Content → Data
 content_json unread = null

@@ -1,16 +1,16 @@
 -- An event as JSON. The keys of an object come in order.
-use Rattle.std.specs.Prelude.{ℕ, ◌≡◌, List, [], ◌∷◌, ◌++◌, map, Option, Some, None, codes, if◌then◌else◌}
+use Rattle.std.specs.Prelude.{ℕ, ◌≡◌, List, [], ◌∷◌, flat_map, map, Option, Some, None, codes, if◌then◌else◌}
 use Rattle.hex.specs.Hex.{encode_lower}
 use Rattle.serde_json.specs.Data.{Data, number, unsigned, string, array, object, member, no_members}
 use Rattle.serde_json.specs.View.{items_of}
-use Rattle.serde_json.specs.Written.{compact_text}
 use Rattle.uefi_tcg.specs.v2.Event.{Digest, Event}
 use Rattle.pcr_replay.specs.declared.bank.Bank.{Bank}
-use Rattle.pcr_replay.specs.declared.bank.Bank.TheVariants.{Sha1, Sha256, Sha384, Sha512}
 use Rattle.pcr_replay.specs.Entries.{Entry}
 use Rattle.pcr_replay.specs.Measured.{is_hash_of_data}
+use Rattle.uefi_auditing.specs.Replay.{all_banks}
 use Rattle.uefi_auditing.specs.content.Content.{Content, Says, form_of}
 use Rattle.uefi_auditing.specs.json.Content.{content_json}
+use Rattle.uefi_auditing.specs.json.Line.{line_of}
 use Rattle.uefi_auditing.specs.json.Names.{algorithm_name, type_name}
 use Rattle.uefi_auditing.specs.text.Banks.{bank_name}
 
@@ -39,8 +39,8 @@ unfoldable pub hashed_bank : Event → Bank → List Data
 hashed_bank event bank = if is_hash_of_data bank event then string (bank_name bank) ∷ [] else []
 
 -- The names of all such banks.
-unfoldable pub hashed_banks : Event → List Data
-hashed_banks event = hashed_bank event Sha1 ++ hashed_bank event Sha256 ++ hashed_bank event Sha384 ++ hashed_bank event Sha512
+abbrev pub hashed_banks : Event → List Data
+hashed_banks event = flat_map (hashed_bank event) all_banks
 
 -- An event of a log of this name, at this index: what its data say, the data in hex, its digests in order, the banks of which the digest is the hash of the data, its offset, its PCR and its type.
 unfoldable pub event_json : List ℕ → ℕ → Entry → Content → Data
@@ -55,7 +55,7 @@ event_json log index entry content =
     (member (codes "register") (number (unsigned entry.event.pcr_index))
     (member (codes "type") (type_json entry.event.event_type) no_members)))))))))
 
--- The text of an event, with what its data say by its type.
+-- The line of an event, with what its data say by its type.
 abbrev pub IsEventLine : List ℕ → ℕ → Entry → List ℕ → Type 0
 IsEventLine log index entry line = (content : Content) × Says (form_of entry.event.event_type) entry.event.event_data content
-    × (line ≡ compact_text (event_json log index entry content))
+    × (line ≡ line_of (event_json log index entry content))

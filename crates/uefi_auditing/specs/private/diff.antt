@@ -1,2 +1,4 @@
+pub mod Order
 pub mod Views
+pub mod Index
 pub mod Appending

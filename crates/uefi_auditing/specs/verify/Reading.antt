@@ -1,103 +1,155 @@
--- PCRs as `tpm2_pcrread` of tpm2-tools 5.4 prints them, and as Linux has them in files; and where a text stops being
--- that.
+-- PCRs as `tpm2_pcrread` of tpm2-tools 5.4 prints them, and as Linux has them in files (Documentation/ABI/stable/sysfs-class-tpm); and where a text stops being that.
 use Rattle.std.specs.Prelude.{ℕ, ◌≡◌, ◌≢◌, ◌+◌, ◌-◌, ◌*◌, ◌==◌, ◌&&◌, nat_le, ◌⊎◌, ⊤, Bool, if◌then◌else◌}
 use Rattle.std.specs.Prelude.{List, [], ◌∷◌, ◌++◌, length, codes, flat_map, Option, None, Some, Ok}
 use Rattle.std.specs.List.{All}
+use Rattle.std.specs.Option.{option_map}
+use Rattle.std.specs.Str.{IsUtf8}
 use Rattle.hex.specs.Hex.{decode_of}
 use Rattle.pcr_replay.specs.declared.bank.Bank.{Bank}
+use Rattle.pcr_replay.specs.declared.bank.Bank.TheVariants.{Sha1}
 use Rattle.pcr_replay.specs.Banks.{size_of}
 use Rattle.pcr_replay.specs.Views.{value_of}
 use Rattle.uefi_auditing.specs.text.Banks.{bank_name}
-use Rattle.uefi_auditing.specs.declared.verify.reading.HeldError.{HeldError}
-use Rattle.uefi_auditing.specs.declared.verify.reading.HeldError.TheVariants.{Memory, Line}
-use Rattle.uefi_auditing.specs.declared.verify.reading.HeldPcr.{HeldPcr}
+use Rattle.uefi_auditing.specs.declared.verify.held.HeldError.{HeldError}
+use Rattle.uefi_auditing.specs.declared.verify.held.HeldError.TheVariants.{Memory, Line}
+use Rattle.uefi_auditing.specs.declared.verify.held.HeldPcr.{HeldPcr}
+use Rattle.uefi_auditing.specs.declared.verify.held.Section.{Section}
+use Rattle.uefi_auditing.specs.declared.verify.held.Section.TheVariants.{Before, Replayed, Unsupported}
 
 -- A digit 0 to 9.
 abbrev pub is_digit : ℕ → Bool
 is_digit character = nat_le 48 character && nat_le character 57
 
--- A PCR's number in two characters: one digit and a space, or two digits.
-unfoldable pub number_in : ℕ → ℕ → Option ℕ
-number_in first second =
-    if is_digit first then (if second == 32 then Some (first - 48) else if is_digit second then Some (10 * (first - 48) + (second - 48)) else None)
-    else None
+-- The number of two digits; and of two characters: one digit and a space, or two digits.
+unfoldable pub two_digits : ℕ → ℕ → Option ℕ
+two_digits tens ones = if is_digit tens && is_digit ones then Some (10 * (tens - 48) + (ones - 48)) else None
 
--- The line of a PCR: four spaces, the number, `: 0x` and digits.
-abbrev pub IsRegisterLine : List ℕ → ℕ → List ℕ → Type 0
-IsRegisterLine line number digits =
-    (first : ℕ) × (second : ℕ) × (line ≡ codes "    " ++ first ∷ second ∷ codes ": 0x" ++ digits) × (number_in first second ≡ Some number)
+unfoldable pub number_in : ℕ → ℕ → Option ℕ
+number_in first second = if is_digit first && (second == 32) then Some (first - 48) else two_digits first second
 
 -- The line that a bank begins with: two spaces, its name and a colon.
-abbrev pub IsBankLine : List ℕ → List ℕ → Type 0
-IsBankLine line name = line ≡ codes "  " ++ name ++ codes ":"
+abbrev pub IsNamedBy : List ℕ → List ℕ → Type 0
+IsNamedBy line name = line ≡ codes "  " ++ name ++ codes ":"
 
--- The bank of this name; `None` if none that can be replayed has it.
-abbrev pub IsBankNamed : List ℕ → Option Bank → Type 0
-IsBankNamed name (Some bank) = name ≡ bank_name bank
-IsBankNamed name None = (bank : Bank) → name ≡ bank_name bank → ⊥
+abbrev pub IsBankLine : List ℕ → List ℕ → Type 0
+IsBankLine line name = IsNamedBy line name × IsUtf8 name
+
+-- The line of a PCR: four spaces, the number, `: 0x` and hex digits.
+abbrev pub IsPcrLine : List ℕ → ℕ → List ℕ → Type 0
+IsPcrLine line number digits =
+    (first : ℕ) × (second : ℕ) × (line ≡ codes "    " ++ first ∷ second ∷ codes ": 0x" ++ digits) × (number_in first second ≡ Some number)
+
+-- The hex digits in a text of bytes, each of them a space and two digits; a space may end it.
+unfoldable pub unspaced : List ℕ → Option (List ℕ)
+unspaced [] = Some []
+unspaced (space ∷ []) = if space == 32 then Some [] else None
+unspaced (space ∷ high ∷ []) = None
+unspaced (space ∷ high ∷ low ∷ rest) = if space == 32 then option_map (λ digits. high ∷ low ∷ digits) (unspaced rest) else None
+
+-- The line of a PCR of TPM 1.2: `PCR-`, two digits, a colon and its bytes.
+abbrev pub IsTpm1Line : List ℕ → ℕ → List ℕ → Type 0
+IsTpm1Line line number digits =
+    (tens : ℕ) × (ones : ℕ) × (spaced : List ℕ) × (line ≡ codes "PCR-" ++ tens ∷ ones ∷ 58 ∷ spaced)
+    × (two_digits tens ones ≡ Some number) × (unspaced spaced ≡ Some digits)
 
 -- The hex digits, in either case, state the value of a PCR of the bank: one of the bank's length.
 pub record IsValueIn (bank : Bank) (digits value : List ℕ) : Type 0 where
   pub decoded : decode_of digits ≡ Ok value
   pub size : length value ≡ size_of bank
 
--- The line states the PCR.
-abbrev pub StatesRegister : List ℕ → HeldPcr → Type 0
-StatesRegister line held =
-    (digits : List ℕ) × IsRegisterLine line held.register digits × IsValueIn held.bank digits (value_of held.value)
+-- The line states the PCR: one of the bank that began before it, or one of TPM 1.2, whose bank is SHA-1.
+abbrev pub StatesPcr : Section → List ℕ → HeldPcr → Type 0
+StatesPcr section line held =
+    (digits : List ℕ) × IsValueIn held.bank digits (value_of held.value)
+    × (((section ≡ Replayed held.bank) × IsPcrLine line held.pcr digits) ⊎ ((held.bank ≡ Sha1) × IsTpm1Line line held.pcr digits))
 
--- The line begins a bank, of which the PCRs are that follow.
-abbrev pub BeginsBank : List ℕ → Option Bank → Type 0
-BeginsBank line next = (name : List ℕ) × IsBankLine line name × IsBankNamed name next
+-- What lines state: PCRs, the names of banks that can't be replayed, and which bank began last.
+pub record Stated : Type 0 where
+  pub pcrs : List HeldPcr
+  pub unsupported : List (List ℕ)
+  pub section : Section
 
--- What a line states in a bank, and the bank of the line that follows: it begins a bank and states no PCR, or it
--- states one of the bank.
-abbrev pub LineStates : Option Bank → List ℕ → List HeldPcr → Option Bank → Type 0
-LineStates bank line held next =
-    (BeginsBank line next × (held ≡ []))
-    ⊎ ((register : HeldPcr) × (bank ≡ Some register.bank) × StatesRegister line register
-    × (held ≡ register ∷ []) × (next ≡ bank))
+abbrev pub nothing_stated : Stated
+nothing_stated = record { pcrs = []; unsupported = []; section = Before }
 
--- The line does neither.
-pub record StatesNothing (bank : Option Bank) (line : List ℕ) : Type 0 where
-  pub begins_none : (name : List ℕ) → IsBankLine line name → ⊥
-  pub states_none : (register : HeldPcr) → bank ≡ Some register.bank → StatesRegister line register → ⊥
+-- A bank of this name begins: one that can be replayed, or another, whose name is noted.
+abbrev pub NamesBank : Stated → List ℕ → Stated → Type 0
+NamesBank before name after =
+    ((bank : Bank) × (name ≡ bank_name bank) × (after ≡ record before { section = Replayed bank }))
+    ⊎ (((bank : Bank) → name ≢ bank_name bank)
+    × (after ≡ record before { section = Unsupported; unsupported = before.unsupported ++ name ∷ [] }))
 
--- Bytes without a line break.
-abbrev pub HasNoBreak : List ℕ → Type 0
-HasNoBreak bytes = All (λ byte. byte ≢ 10) bytes
+-- A line begins a bank.
+abbrev pub BeginsBank : Stated → List ℕ → Stated → Type 0
+BeginsBank before line after = (name : List ℕ) × IsBankLine line name × NamesBank before name after
 
--- The lines state these PCRs, in order, where the first line is in one bank, and what follows the last in another.
-abbrev pub StateRegisters : Option Bank → List (List ℕ) → List HeldPcr → Option Bank → Type 0
-StateRegisters bank [] held last = (held ≡ []) × (last ≡ bank)
-StateRegisters bank (line ∷ lines) held last =
-    (first : List HeldPcr) × (next : Option Bank) × (others : List HeldPcr) × HasNoBreak line
-    × LineStates bank line first next × StateRegisters next lines others last × (held ≡ first ++ others)
+-- It states a PCR that no line before it states.
+abbrev pub IsNew : HeldPcr → List HeldPcr → Type 0
+IsNew held others = All (λ other. other.bank ≡ held.bank → other.pcr ≢ held.pcr) others
 
--- The text begins with lines that state these PCRs; the rest follows, in this bank.
-pub record BeginsWith (text : List ℕ) (held : List HeldPcr) (last : Option Bank) (rest : List ℕ) : Type 0 where
+abbrev pub StatesNew : Stated → List ℕ → Stated → Type 0
+StatesNew before line after =
+    (held : HeldPcr) × StatesPcr before.section line held × IsNew held before.pcrs
+    × (after ≡ record before { pcrs = before.pcrs ++ held ∷ [] })
+
+-- It is of a PCR in another bank, and is passed over.
+abbrev pub IsOfOther : Section → List ℕ → Type 0
+IsOfOther section line = (section ≡ Unsupported) × ((number : ℕ) × (digits : List ℕ) × IsPcrLine line number digits)
+
+abbrev pub IsPassedOver : Stated → List ℕ → Stated → Type 0
+IsPassedOver before line after = IsOfOther before.section line × (after ≡ before)
+
+-- What a line adds to what those before it state.
+abbrev pub Adds : Stated → List ℕ → Stated → Type 0
+Adds before line after =
+    BeginsBank before line after ⊎ StatesNew before line after ⊎ IsPassedOver before line after
+
+-- Bytes of which none has this value.
+abbrev pub Lacks : ℕ → List ℕ → Type 0
+Lacks value bytes = All (λ byte. byte ≢ value) bytes
+
+-- Bytes without the `\r` at their end, if they have one.
+abbrev pub IsWithoutReturn : List ℕ → List ℕ → Type 0
+IsWithoutReturn bytes line =
+    (bytes ≡ line ++ codes "\r") ⊎ ((bytes ≡ line) × ((front : List ℕ) → bytes ≢ front ++ codes "\r"))
+
+-- What the bytes of a line add.
+pub record IsRead (before : Stated) (bytes : List ℕ) (after : Stated) : Type 0 where
+  pub no_break : Lacks 10 bytes
+  pub line : List ℕ
+  pub without_return : IsWithoutReturn bytes line
+  pub adds : Adds before line after
+
+-- What lines in order do.
+abbrev pub AreRead : Stated → List (List ℕ) → Stated → Type 0
+AreRead before [] after = after ≡ before
+AreRead before (line ∷ lines) after = (next : Stated) × IsRead before line next × AreRead next lines after
+
+-- The text begins with lines that state this; the rest follows.
+pub record BeginsWith (text : List ℕ) (stated : Stated) (rest : List ℕ) : Type 0 where
   pub lines : List (List ℕ)
-  pub states : StateRegisters None lines held last
+  pub are_read : AreRead nothing_stated lines stated
   pub parts : text ≡ flat_map (λ line. line ++ codes "\n") lines ++ rest
 
--- The text is lines that state these PCRs.
-abbrev pub IsTextOf : List ℕ → List HeldPcr → Type 0
-IsTextOf text held = (last : Option Bank) × BeginsWith text held last []
+-- The text is lines that state these PCRs, and name these banks that can't be replayed.
+abbrev pub IsTextOf : List ℕ → List HeldPcr → List (List ℕ) → Type 0
+IsTextOf text pcrs unsupported =
+    (section : Section) × BeginsWith text (record { pcrs = pcrs; unsupported = unsupported; section = section }) []
 
--- There are bytes, and their first line doesn't end, or it neither begins a bank nor states a PCR of this one.
-abbrev pub BeginsWrong : Option Bank → List ℕ → Type 0
-BeginsWrong bank rest =
-    ((rest ≢ []) × HasNoBreak rest)
-    ⊎ ((line : List ℕ) × (after : List ℕ) × (rest ≡ line ++ (codes "\n" ++ after)) × HasNoBreak line × StatesNothing bank line)
+-- There are bytes, and their first line doesn't end, or it can't be read.
+abbrev pub BeginsWrong : Stated → List ℕ → Type 0
+BeginsWrong stated rest =
+    ((rest ≢ []) × Lacks 10 rest)
+    ⊎ ((line : List ℕ) × (after : List ℕ) × (rest ≡ line ++ (codes "\n" ++ after)) × Lacks 10 line
+    × ((next : Stated) → IsRead stated line next → ⊥))
 
--- The offset of the first wrong line: those before it state PCRs.
+-- The offset of the first wrong line: those before it are read.
 pub record StopsAt (text : List ℕ) (offset : ℕ) : Type 0 where
-  pub held : List HeldPcr
-  pub last : Option Bank
+  pub stated : Stated
   pub rest : List ℕ
-  pub before : BeginsWith text held last rest
+  pub before : BeginsWith text stated rest
   pub here : offset + length rest ≡ length text
-  pub wrong : BeginsWrong last rest
+  pub wrong : BeginsWrong stated rest
 
 -- Why a text has no PCRs: an allocation failed, or a line is wrong.
 abbrev pub IsTextError : List ℕ → HeldError → Type 0

@@ -1,11 +1,11 @@
 ghost use Rattle.std.specs.Prelude.{◌≡◌, map, IfOk};
 ghost use Rattle.uefi_auditing.specs.diff.Differences.{AppendsDifferences};
-ghost use Rattle.uefi_auditing.specs.private.diff.Appending.{AppendsCompared, AppendsRegister};
+ghost use Rattle.uefi_auditing.specs.private.diff.Appending.{AppendsCompared, AppendsPcr};
 ghost use Rattle.uefi_auditing.specs.private.diff.Views.{numbered_of};
 
 use crate::diff::lines::push_first;
 use crate::diff::only::push_only;
-use crate::diff::register::{NumberedEntry, entries_of, first_difference};
+use crate::diff::pcr::{NumberedEntry, entries_of, first_difference};
 use crate::text::LogFile;
 use pcr_replay::laws::one_contents;
 use std::alloc::{AllocError, Global};
@@ -18,51 +18,60 @@ const COMPARED: u32 = 25;
 /// for each that only the new log has. For a PCR whose events are the same there is none.
 ///
 /// Events are the same if they have the same PCR, type, digests and data, wherever they stand
-/// in the log. An event that differs is compared with each event of its PCR in the other log.
+/// in the log. An event is sought among those of its PCR in the other log by their order, so that the
+/// time is in proportion to n log n.
 ///
 /// Returns whether the events of all PCRs are the same.
 ///
 /// # Errors
 ///
 /// [`AllocError`] if an allocation fails. The text may have grown then.
-pub fn push_differences(
+pub fn push_differences<'a>(
     text: &mut String,
     alloc: Global,
-    old: &LogFile<'_>,
-    new: &LogFile<'_>,
+    old: &LogFile<'a>,
+    new: &LogFile<'a>,
 ) -> Result<bool, AllocError>
     ensures { IfOk result (AppendsDifferences old.now new.now text.old text.new) }
 {
     let mut same = true;
-    for register in 0..COMPARED {
-        same &= push_register(text, alloc, old, new, register)?;
+    for pcr in 0..COMPARED {
+        same &= push_pcr(text, alloc, old, new, pcr)?;
     }
     Ok(same)
 }
 
 /// Appends how the events of a PCR differ, and returns whether they are the same.
-fn push_register(
+fn push_pcr<'a>(
     text: &mut String,
     alloc: Global,
-    old: &LogFile<'_>,
-    new: &LogFile<'_>,
-    register: u32,
+    old: &LogFile<'a>,
+    new: &LogFile<'a>,
+    pcr: u32,
 ) -> Result<bool, AllocError>
-    ensures { IfOk result (AppendsRegister old.now new.now register text.old text.new) }
+    ensures { IfOk result (AppendsPcr old.now new.now pcr text.old text.new) }
 {
     one_contents();
-    let olds = entries_of(alloc, old.log().entries(), register)?;
-    let news = entries_of(alloc, new.log().entries(), register)?;
-    push_compared(text, old.name, olds.as_slice(), new.name, news.as_slice())
+    let olds = entries_of(alloc, old.log.entries(), pcr)?;
+    let news = entries_of(alloc, new.log.entries(), pcr)?;
+    push_compared(
+        text,
+        alloc,
+        old.name,
+        olds.as_slice(),
+        new.name,
+        news.as_slice(),
+    )
 }
 
 /// Appends how these events of two logs differ, and returns whether they are the same.
-fn push_compared(
+fn push_compared<'a>(
     text: &mut String,
+    alloc: Global,
     old_name: &str,
-    olds: &[NumberedEntry<'_>],
+    olds: &[NumberedEntry<'a>],
     new_name: &str,
-    news: &[NumberedEntry<'_>],
+    news: &[NumberedEntry<'a>],
 ) -> Result<bool, AllocError>
     ensures { IfOk result (AppendsCompared old_name.now new_name.now (map numbered_of olds.now)
         (map numbered_of news.now) text.old text.new) }
@@ -71,7 +80,7 @@ fn push_compared(
         return Ok(true);
     };
     push_first(text, old_name, olds.get(at), new_name, news.get(at))?;
-    push_only(text, old_name, olds, news)?;
-    push_only(text, new_name, news, olds)?;
+    push_only(text, alloc, old_name, olds, new_name, news)?;
+    push_only(text, alloc, new_name, news, old_name, olds)?;
     Ok(false)
 }

@@ -1,10 +1,13 @@
 ghost use Rattle.std.specs.Prelude.{OnOk, option_map};
 ghost use Rattle.uefi_base.specs.Appending.{AppendsText};
-ghost use Rattle.uefi_auditing.specs.diff.Differences.{first_line, last_line, only_line, other_line, place_text};
+ghost use Rattle.uefi_auditing.specs.diff.Differences.{event_text, first_line, last_line, only_line, other_line, place_text, type_text};
+ghost use Rattle.uefi_auditing.specs.json.Names.{type_name};
 ghost use Rattle.uefi_auditing.specs.private.diff.Views.{numbered_of};
 
-use crate::diff::register::NumberedEntry;
+use crate::diff::pcr::NumberedEntry;
+use crate::json::names::type_name;
 use std::alloc::AllocError;
+use uefi_tcg::EventType;
 
 /// Appends the line of the first event in which two logs differ; nothing if neither has one there.
 #[tactic(auto, unfolding(crate::specs::diff::Differences::first_line))]
@@ -32,6 +35,7 @@ pub(crate) fn push_first(
 }
 
 /// Appends the line of an event of the old log that differs from the one of the new.
+#[tactic(auto, unfolding(crate::specs::diff::Differences::other_line))]
 fn push_other(
     text: &mut String,
     old_name: &str,
@@ -43,14 +47,13 @@ fn push_other(
         (other_line old_name.now (numbered_of old.now) new_name.now (numbered_of new.now))) }
 {
     push_place(text, old_name, old)?;
-    let (index, offset) = (new.index, new.entry.offset);
-    writeln!(
-        text,
-        " differs from event {index} at offset {offset} of {new_name}"
-    )
+    text.push_str(" differs from ")?;
+    push_event(text, new_name, new)?;
+    text.push_str("\n")
 }
 
 /// Appends the line of an event that comes after the last one of the other log.
+#[tactic(auto, unfolding(crate::specs::diff::Differences::last_line))]
 fn push_last(
     text: &mut String,
     name: &str,
@@ -64,32 +67,54 @@ fn push_last(
     writeln!(text, " comes after the last one of {other_name}")
 }
 
-/// Appends where an event of a log stands.
-fn push_place(text: &mut String, name: &str, found: &NumberedEntry<'_>) -> Result<(), AllocError>
-    ensures { OnOk result
-        (AppendsText text.old text.new (place_text name.now (numbered_of found.now))) }
-{
-    let register = found.entry.event.pcr_index().0;
-    let (index, offset) = (found.index, found.entry.offset);
-    write!(
-        text,
-        "register {register}: event {index} at offset {offset} of {name}"
-    )
-}
-
-/// Appends the line of an event that only one log has.
+/// Appends the line of an event that the other log doesn't have.
+#[tactic(auto, unfolding(crate::specs::diff::Differences::only_line))]
 pub(crate) fn push_only_line(
     text: &mut String,
     name: &str,
     found: &NumberedEntry<'_>,
+    other_name: &str,
 ) -> Result<(), AllocError>
-    ensures { OnOk result
-        (AppendsText text.old text.new (only_line name.now (numbered_of found.now))) }
+    ensures { OnOk result (AppendsText text.old text.new
+        (only_line name.now (numbered_of found.now) other_name.now)) }
 {
-    let register = found.entry.event.pcr_index().0;
+    push_place(text, name, found)?;
+    writeln!(text, " isn't in {other_name}")
+}
+
+/// Appends what a line begins with: the PCR and an event of a log.
+#[tactic(auto, unfolding(crate::specs::diff::Differences::place_text))]
+fn push_place(text: &mut String, name: &str, found: &NumberedEntry<'_>) -> Result<(), AllocError>
+    ensures { OnOk result
+        (AppendsText text.old text.new (place_text name.now (numbered_of found.now))) }
+{
+    let pcr = found.entry.event.pcr_index().0;
+    write!(text, "PCR {pcr}: ")?;
+    push_event(text, name, found)
+}
+
+/// Appends the type, the index and the offset of an event of a log.
+#[tactic(auto, unfolding(crate::specs::diff::Differences::event_text))]
+fn push_event(text: &mut String, name: &str, found: &NumberedEntry<'_>) -> Result<(), AllocError>
+    ensures { OnOk result
+        (AppendsText text.old text.new (event_text name.now (numbered_of found.now))) }
+{
+    push_type(text, found.entry.event.event_type())?;
     let (index, offset) = (found.index, found.entry.offset);
-    writeln!(
-        text,
-        "register {register}: only {name} has event {index} at offset {offset}"
-    )
+    write!(text, " (event {index} at offset {offset} of {name})")
+}
+
+/// Appends the name of a type, or its number.
+#[tactic(auto, unfolding(crate::specs::diff::Differences::type_text))]
+fn push_type(text: &mut String, event_type: EventType) -> Result<(), AllocError>
+    ensures { OnOk result (AppendsText text.old text.new
+        (type_text event_type.0 (type_name event_type.0))) }
+{
+    match type_name(event_type) {
+        Some(name) => text.push_str(name),
+        None => {
+            let number = event_type.0;
+            write!(text, "type 0x{:x}", number)
+        }
+    }
 }

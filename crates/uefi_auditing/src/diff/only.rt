@@ -1,52 +1,62 @@
-ghost use Rattle.std.specs.Prelude.{◌↔◌, [], ◌∷◌, map, IsTrue, OnOk};
-ghost use Rattle.pcr_replay.specs.Views.{event_of};
-ghost use Rattle.uefi_auditing.specs.diff.Differences.{IsAmong};
-ghost use Rattle.uefi_auditing.specs.private.diff.Views.{numbered_of};
+ghost use Rattle.std.specs.Prelude.{◌↔◌, [], ◌∷◌, List, map, IfOk, OnOk};
+ghost use Rattle.uefi_auditing.specs.diff.Differences.{Numbered};
 ghost use Rattle.uefi_auditing.specs.private.diff.Appending.{AppendsOnly};
+ghost use Rattle.uefi_auditing.specs.private.diff.Index.{AreKeysOf};
+ghost use Rattle.uefi_auditing.specs.private.diff.Views.{numbered_of};
 
 use crate::diff::lines::push_only_line;
-use crate::diff::register::NumberedEntry;
-use crate::diff::same::is_same_event;
-use pcr_replay::LogEvent;
-use std::alloc::AllocError;
+use crate::diff::order::EventKey;
+use crate::diff::pcr::NumberedEntry;
+use std::alloc::{AllocError, Global};
+use std::collections::BTreeSet;
 
 /// Appends a line for each event of a log that the other log doesn't have.
-pub(crate) fn push_only(
+pub(crate) fn push_only<'a>(
     text: &mut String,
+    alloc: Global,
     name: &str,
-    found: &[NumberedEntry<'_>],
-    others: &[NumberedEntry<'_>],
+    found: &[NumberedEntry<'a>],
+    other_name: &str,
+    others: &[NumberedEntry<'a>],
 ) -> Result<(), AllocError>
-    ensures { OnOk result (AppendsOnly name.now (map numbered_of others.now)
+    ensures { OnOk result (AppendsOnly name.now other_name.now (map numbered_of others.now)
         (map numbered_of found.now) text.old text.new) }
 {
+    let keys = keys_of(alloc, others)?;
     for entry in found {
-        push_if_missing(text, name, entry, others)?;
+        push_if_missing(text, name, entry, other_name, &keys)?;
     }
     Ok(())
 }
 
-/// Appends the line of an event, if it isn't among the others.
-fn push_if_missing(
-    text: &mut String,
-    name: &str,
-    found: &NumberedEntry<'_>,
-    others: &[NumberedEntry<'_>],
-) -> Result<(), AllocError>
-    ensures { OnOk result (AppendsOnly name.now (map numbered_of others.now)
-        (numbered_of found.now ∷ []) text.old text.new) }
+/// Returns the keys of the events of entries.
+fn keys_of<'a>(
+    alloc: Global,
+    entries: &[NumberedEntry<'a>],
+) -> Result<BTreeSet<EventKey<'a>>, AllocError>
+    ensures { IfOk result (λ keys. AreKeysOf keys (map numbered_of entries.now)) }
 {
-    if is_among(&found.entry.event, others) {
-        return Ok(());
+    let mut keys = BTreeSet::new(alloc);
+    for entry in entries {
+        keys.insert(EventKey::new(entry.entry.event))?;
     }
-    push_only_line(text, name, found)
+    Ok(keys)
 }
 
-/// Returns whether an event is one of the others.
-fn is_among(event: &LogEvent<'_>, others: &[NumberedEntry<'_>]) -> bool
-    ensures { IsTrue result ↔ IsAmong (event_of event.now) (map numbered_of others.now) }
+/// Appends the line of an event, if it isn't among the others, whose keys these are.
+fn push_if_missing<'a>(
+    text: &mut String,
+    name: &str,
+    found: &NumberedEntry<'a>,
+    other_name: &str,
+    keys: &BTreeSet<EventKey<'a>>,
+) -> Result<(), AllocError>
+    ensures { (others : List Numbered) → AreKeysOf keys.now others
+        → OnOk result (AppendsOnly name.now other_name.now others
+        (numbered_of found.now ∷ []) text.old text.new) }
 {
-    others
-        .iter()
-        .any(|other| is_same_event(event, &other.entry.event))
+    if keys.contains(&EventKey::new(found.entry.event)) {
+        return Ok(());
+    }
+    push_only_line(text, name, found, other_name)
 }

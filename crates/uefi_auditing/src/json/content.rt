@@ -1,18 +1,20 @@
-ghost use Rattle.std.specs.Prelude.{◌≡◌, map, IfOk, encode_utf8, string_bytes, option_map};
+ghost use Rattle.std.specs.Prelude.{◌≡◌, map, IfOk, OnOk, encode_utf8, string_bytes, option_map};
 ghost use Rattle.std.specs.List.{flat_map};
-ghost use Rattle.serde_json.specs.View.{view};
+ghost use Rattle.serde_json.specs.View.{view, members_view};
 ghost use Rattle.uefi_base.specs.Views.{slice_units};
 ghost use Rattle.uefi_path.specs.Path.{all_but_last};
 ghost use Rattle.uefi_path.specs.Views.{node_of, path_nodes};
-ghost use Rattle.uefi_auditing.specs.json.Content.{content_json, image_json, node_json, only, path_json, unit_text, variable_json};
-ghost use Rattle.uefi_auditing.specs.content.Views.{content_of, image_of, variable_of};
+ghost use Rattle.uefi_auditing.specs.json.Content.{content_json, image_json, node_json, only, path_json, unit_text, variable_json, with_rest};
+ghost use Rattle.uefi_tcg.specs.content.Views.{image_of, variable_of};
+ghost use Rattle.uefi_auditing.specs.content.Views.{content_of};
 
-use crate::content::{Content, Image, Variable};
+use crate::content::Content;
 use crate::json::event::hex_json;
 use serde_json::{Map, Value, json, put};
 use std::alloc::{AllocError, Global};
 use uefi_base::UnalignedSlice;
 use uefi_path::{DevicePath, DevicePathNode};
+use uefi_tcg::content::{ImageLoadEvent, VariableData};
 
 /// Returns what data say as JSON: an object with one key for the form, or `null`.
 #[tactic(auto, unfolding(crate::specs::json::Content::content_json))]
@@ -40,7 +42,7 @@ fn only(alloc: Global, key: &str, value: Value) -> Result<Value, AllocError>
 
 /// Returns a variable: its GUID, its name and its data.
 #[tactic(auto, unfolding(crate::specs::json::Content::variable_json))]
-fn variable_json(alloc: Global, variable: &Variable<'_>) -> Result<Value, AllocError>
+fn variable_json(alloc: Global, variable: &VariableData<'_>) -> Result<Value, AllocError>
     ensures { IfOk result (λ value. view value ≡ variable_json (variable_of variable.now)) }
 {
     let mut members = Map::new(alloc);
@@ -75,34 +77,63 @@ fn character(unit: u16) -> char
     }
 }
 
-/// Returns an image: its numbers, and the nodes of its device path.
+/// Returns an image: its numbers, its device path, and the bytes after that, if there are any.
 #[tactic(auto, unfolding(crate::specs::json::Content::image_json))]
 fn image_json(
     alloc: Global,
-    image: &Image<'_>,
+    image: &ImageLoadEvent<'_>,
     path: &Option<DevicePath<'_>>,
 ) -> Result<Value, AllocError>
     ensures { IfOk result (λ value. view value
         ≡ image_json (image_of image.now) (option_map path_nodes path.now)) }
 {
     let mut members = Map::new(alloc);
-    put(&mut members, alloc, "address", Value::from(image.address))?;
-    put(&mut members, alloc, "length", Value::from(image.size))?;
-    let link_address = Value::from(image.link_address);
+    put(
+        &mut members,
+        alloc,
+        "address",
+        Value::from(image.location_in_memory),
+    )?;
+    put(
+        &mut members,
+        alloc,
+        "length",
+        Value::from(image.length_in_memory),
+    )?;
+    let link_address = Value::from(image.link_time_address);
     put(&mut members, alloc, "link_address", link_address)?;
-    let path = path_json(alloc, path)?;
+    let path = path_json(alloc, image.device_path, path)?;
     put(&mut members, alloc, "path", path)?;
+    put_rest(&mut members, alloc, image.rest)?;
     Ok(Value::Object(members))
 }
 
-/// Returns the nodes of a path before the one that ends it; `null` without a path.
+/// Adds the bytes after a device path, if there are any.
+fn put_rest(members: &mut Map<String, Value>, alloc: Global, rest: &[u8]) -> Result<(), AllocError>
+    ensures { OnOk result (members_view members.new.entries
+        ≡ with_rest rest.now (members_view members.old.entries)) }
+{
+    if rest.is_empty() {
+        return Ok(());
+    }
+    let rest = hex_json(alloc, rest)?;
+    put(members, alloc, "rest", rest)
+}
+
+/// Returns the nodes of a device path before the one that ends it; the bytes in hex, if they are no
+/// path.
 #[tactic(auto, unfolding(crate::specs::json::Content::path_json))]
-fn path_json(alloc: Global, path: &Option<DevicePath<'_>>) -> Result<Value, AllocError>
-    ensures { IfOk result (λ value. view value ≡ path_json (option_map path_nodes path.now)) }
+fn path_json(
+    alloc: Global,
+    bytes: &[u8],
+    path: &Option<DevicePath<'_>>,
+) -> Result<Value, AllocError>
+    ensures { IfOk result
+        (λ value. view value ≡ path_json bytes.now (option_map path_nodes path.now)) }
 {
     match path {
         Some(path) => Ok(Value::Array(nodes_json(alloc, path)?)),
-        None => Ok(Value::Null),
+        None => hex_json(alloc, bytes),
     }
 }
 

@@ -76,15 +76,13 @@ pub(crate) fn algorithm_json(alloc: Global, algorithm: AlgorithmId) -> Result<Va
 }
 
 /// Returns the names of the banks in which an event's digest is the hash of its data.
-#[tactic(auto, unfolding(crate::specs::json::Event::hashed_banks))]
 pub(crate) fn hashed_banks(alloc: Global, event: &LogEvent<'_>) -> Result<Vec<Value>, AllocError>
     ensures { IfOk result (λ values. map view values.items ≡ hashed_banks (event_of event.now)) }
 {
     let mut names = Vec::new(alloc);
-    push_hashed(alloc, &mut names, Bank::Sha1, event)?;
-    push_hashed(alloc, &mut names, Bank::Sha256, event)?;
-    push_hashed(alloc, &mut names, Bank::Sha384, event)?;
-    push_hashed(alloc, &mut names, Bank::Sha512, event)?;
+    for bank in &Bank::ALL {
+        push_hashed(alloc, &mut names, *bank, event)?;
+    }
     Ok(names)
 }
 

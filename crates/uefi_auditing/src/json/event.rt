@@ -9,6 +9,7 @@ ghost use Rattle.uefi_auditing.specs.content.Views.{content_of};
 use crate::content::{Content, read_content};
 use crate::json::content::content_json;
 use crate::json::digests::{digests_json, hashed_banks};
+use crate::json::line::line_of;
 use crate::json::names::type_name;
 use pcr_replay::LogEntry;
 use serde_json::{Map, Value, json, put};
@@ -59,7 +60,7 @@ pub fn event_line(
 {
     let content = read_content(&entry.event);
     let value = event_json(alloc, log, index, entry, &content)?;
-    value.to_string(alloc)
+    line_of(alloc, &value)
 }
 
 /// Returns an event as JSON, with what its data say.

@@ -1,10 +1,13 @@
 ghost use Rattle.std.specs.Prelude.{◌<◌, ◌^◌, length, OnOk};
+ghost use Rattle.pcr_replay.specs.Entries.{Contents};
+ghost use Rattle.pcr_replay.specs.Logs.{HasContents};
 ghost use Rattle.pcr_replay.specs.Views.{entries_left, entry_of};
 ghost use Rattle.uefi_auditing.specs.json.Events.{AppendsEvents};
-ghost use Rattle.uefi_auditing.specs.private.json.Entries.{AppendsEvent, AppendsEventLines};
+ghost use Rattle.uefi_auditing.specs.private.json.Entries.{AppendsEvent};
 
 use crate::json::event::event_line;
 use crate::text::LogFile;
+use pcr_replay::laws::one_contents;
 use pcr_replay::{LogEntries, LogEntry};
 use std::alloc::{AllocError, Global};
 
@@ -15,10 +18,11 @@ use std::alloc::{AllocError, Global};
 ///
 /// [`AllocError`] if an allocation fails. The text may have grown then.
 pub fn push_events(text: &mut String, alloc: Global, file: &LogFile<'_>) -> Result<(), AllocError>
-    ensures { OnOk result (AppendsEvents file.now.name.now file.now.bytes.now file.now.last_entry
-        text.old text.new) }
+    ensures { (contents : Contents) → HasContents file.now.log contents → OnOk result
+        (AppendsEvents file.now.name.now contents.entries text.old text.new) }
 {
-    push_entries(text, alloc, file.name, file.log().entries())
+    one_contents();
+    push_entries(text, alloc, file.name, file.log.entries())
 }
 
 /// Appends a line for each entry.
@@ -30,7 +34,7 @@ fn push_entries(
 ) -> Result<(), AllocError>
     requires { length (entries_left entries) < 2 ^ 64 }
     ensures { OnOk result
-        (AppendsEventLines name.now (entries_left entries.entry) text.old text.new) }
+        (AppendsEvents name.now (entries_left entries.entry) text.old text.new) }
 {
     let mut index = 0;
     for entry in entries {

@@ -1,38 +1,37 @@
-ghost use Rattle.std.specs.Prelude.{◌≡◌, ◌++◌, ◌≤◌, ◌-◌, ◌∷◌, [], codes, false, length, map, IfOk, OnOk};
-ghost use Rattle.uefi_base.specs.Appending.{AppendsText};
-ghost use Rattle.serde_json.specs.Data.{null};
+ghost use Rattle.std.specs.Prelude.{◌≡◌, ◌==◌, ◌||◌, ◌-◌, length, map, IfOk, OnOk};
 ghost use Rattle.serde_json.specs.View.{view};
-ghost use Rattle.serde_json.specs.Written.{compact_text, has_float};
-ghost use Rattle.uefi_auditing.specs.text.Replay.{AppendsReplay};
-ghost use Rattle.uefi_auditing.specs.json.Replay.{IsReplayJson, left_over_json, replay_json};
-ghost use Rattle.uefi_auditing.specs.private.json.Banks.{AppendsKnown, PushesAsked, PushesBanks};
+ghost use Rattle.uefi_base.specs.Appending.{AppendsText};
+ghost use Rattle.pcr_replay.specs.Entries.{Contents};
+ghost use Rattle.pcr_replay.specs.Logs.{HasContents};
+ghost use Rattle.uefi_auditing.specs.Replay.{bank_outcomes_of};
+ghost use Rattle.uefi_auditing.specs.json.Replay.{is_accepted, locality_json, log_json, part_json, replay_line};
 
-use crate::json::bank::{bank_json, is_known, led_to};
-use crate::text::{LogFile, asked_algorithms};
-use pcr_replay::Bank;
+use crate::json::bank::banks_json;
+use crate::json::line::line_of;
+use crate::replay::BankPcrs;
+use crate::text::{LogFile, offset_of_last};
+use pcr_replay::{Log, Start};
 use serde_json::{Map, Value, json, put};
 use std::alloc::{AllocError, Global};
-use uefi_tcg::AlgorithmId;
 
 /// Appends what a log leads to as one line of JSON: an object, and a line break.
 ///
 /// | key | value |
 /// |---|---|
-/// | `banks` | an object for each bank that is asked for; `null` if the log is refused |
+/// | `banks` | an object for each bank; `null` if the log is refused |
 /// | `left_over` | `count` and `offset` of the bytes after the last event; `null` if none are |
+/// | `locality` | `number`, at which PCR 0 starts, and `stated`: whether the log or the caller says so |
 /// | `log` | the file's name |
+/// | `padding` | `count` and `offset` of the padding after the last event; `null` if there is none |
 ///
 /// | key of a bank | value |
 /// |---|---|
-/// | `algorithm` | its name, or the number of one without a name |
-/// | `fault` | the first event by which the PCRs are undetermined: `index`, `offset`, `reason` |
-/// | `registers` | the 24 values in hex; `null` if they are undetermined |
+/// | `algorithm` | its name |
+/// | `registers` | the 24 PCRs: each its value in hex, or `null` if it is undetermined |
+/// | `undetermined` | for each PCR that is, `register` and the event: `index`, `offset`, `reason` |
 ///
-/// Both are `null` in a bank that can't be replayed. The banks that are asked for are one, or
-/// without one those of the table in the log's header, SHA-1's in a log of version 1. A log is
-/// refused if it has bytes left over and `allow_left_over` isn't set.
-///
-/// Returns whether the log isn't refused, and the PCRs of all these banks are known.
+/// A log is refused if it has bytes left over and `allow_left_over` isn't set. Returns whether it is
+/// accepted.
 ///
 /// # Errors
 ///
@@ -41,134 +40,77 @@ pub fn push_replay_json(
     text: &mut String,
     alloc: Global,
     file: &LogFile<'_>,
-    bank: Option<Bank>,
+    start: &Start,
+    stated: bool,
+    banks: &[BankPcrs],
     allow_left_over: bool,
 ) -> Result<bool, AllocError>
-    ensures { IfOk result (AppendsReplay (IsReplayJson file.now.name.now file.now.bytes.now
-        file.now.last_entry bank allow_left_over) text.old text.new) }
+    ensures accepted { (contents : Contents) → HasContents file.now.log contents → IfOk result
+        (λ accepted. accepted ≡ is_accepted file.now.log contents allow_left_over) }
+    ensures line { (contents : Contents) → HasContents file.now.log contents → OnOk result
+        (AppendsText text.old text.new (replay_line file.now.name.now file.now.log contents
+        start.now stated (map bank_outcomes_of banks.now) allow_left_over)) }
 {
-    let left_over = file.log().left_over();
-    if left_over.is_empty() {
-        return push_known(text, alloc, file, left_over, bank);
-    }
-    if allow_left_over {
-        return push_known(text, alloc, file, left_over, bank);
-    }
-    push_object(text, alloc, file, left_over, Value::Null)?;
-    Ok(false)
+    let left_over = file.log.left_over();
+    let accepted = is_accepted(left_over, allow_left_over);
+    let banks = banks_json(alloc, accepted, banks)?;
+    let left_over = part_json(alloc, &file.log, left_over)?;
+    let locality = locality_json(alloc, start, stated)?;
+    let padding = part_json(alloc, &file.log, file.log.padding())?;
+    let value = log_json(alloc, banks, left_over, locality, file.name, padding)?;
+    let line = line_of(alloc, &value)?;
+    writeln!(text, "{line}")?;
+    Ok(accepted)
 }
 
-/// Appends the line of a log that isn't refused.
-fn push_known(
-    text: &mut String,
-    alloc: Global,
-    file: &LogFile<'_>,
-    left_over: &[u8],
-    bank: Option<Bank>,
-) -> Result<bool, AllocError>
-    requires { length left_over.now ≤ length file.now.bytes.now }
-    ensures { IfOk result (AppendsKnown file.now left_over.now bank text.old text.new) }
+/// Returns whether a log with these bytes left over is accepted.
+fn is_accepted(left_over: &[u8], allow_left_over: bool) -> bool
+    ensures { result ≡ (allow_left_over || (length left_over.now == 0)) }
 {
-    let mut banks = Vec::new(alloc);
-    let known = push_asked(&mut banks, alloc, file, bank)?;
-    push_object(text, alloc, file, left_over, Value::Array(banks))?;
-    Ok(known)
+    allow_left_over || left_over.is_empty()
 }
 
-/// Appends the object of a log with these banks, and a line break.
-fn push_object(
-    text: &mut String,
-    alloc: Global,
-    file: &LogFile<'_>,
-    left_over: &[u8],
-    banks: Value,
-) -> Result<(), AllocError>
-    requires { length left_over.now ≤ length file.now.bytes.now }
-    ensures { OnOk result (has_float (view banks) ≡ false
-        → AppendsText text.old text.new (compact_text (replay_json file.now.name.now
-        (length file.now.bytes.now - length left_over.now) (length left_over.now) (view banks))
-        ++ codes "\n")) }
+/// Returns the last bytes of a log: their count and their offset; `null` if there are none.
+#[tactic(auto, unfolding(crate::specs::json::Replay::part_json))]
+fn part_json(alloc: Global, log: &Log<'_>, last: &[u8]) -> Result<Value, AllocError>
+    ensures { IfOk result (λ value. view value
+        ≡ part_json (length log.now.bytes.now - length last.now) last.now) }
 {
-    let value = replay_json(alloc, file, left_over, banks)?;
-    let line = value.to_string(alloc)?;
-    writeln!(text, "{line}")
-}
-
-/// Returns the object of a log with these banks.
-#[tactic(auto, unfolding(crate::specs::json::Replay::replay_json))]
-fn replay_json(
-    alloc: Global,
-    file: &LogFile<'_>,
-    left_over: &[u8],
-    banks: Value,
-) -> Result<Value, AllocError>
-    requires { length left_over.now ≤ length file.now.bytes.now }
-    ensures { IfOk result (λ value. view value ≡ replay_json file.now.name.now
-        (length file.now.bytes.now - length left_over.now) (length left_over.now) (view banks)) }
-{
-    let mut members = Map::new(alloc);
-    put(&mut members, alloc, "banks", banks)?;
-    let count = left_over.len();
-    let left_over = left_over_json(alloc, file.bytes.len() - count, count)?;
-    put(&mut members, alloc, "left_over", left_over)?;
-    let log = Value::try_from_str(alloc, file.name)?;
-    put(&mut members, alloc, "log", log)?;
-    Ok(Value::Object(members))
-}
-
-/// Returns the bytes left over: their count and their offset; `null` if there are none.
-#[tactic(auto, unfolding(crate::specs::json::Replay::left_over_json))]
-fn left_over_json(alloc: Global, offset: usize, count: usize) -> Result<Value, AllocError>
-    ensures { IfOk result (λ value. view value ≡ left_over_json offset count) }
-{
-    if count == 0 {
+    if last.is_empty() {
         return Ok(Value::Null);
     }
+    let (count, offset) = (last.len(), offset_of_last(log, last));
     json!(in alloc; {"count": count, "offset": offset})
 }
 
-/// Pushes the banks that are asked for. Returns whether the PCRs of all are known.
-fn push_asked(
-    values: &mut Vec<Value>,
-    alloc: Global,
-    file: &LogFile<'_>,
-    bank: Option<Bank>,
-) -> Result<bool, AllocError>
-    ensures { IfOk result (PushesAsked file.now bank values.old.items values.new.items) }
+/// Returns the locality at which PCR 0 starts, and whether it is stated.
+#[tactic(auto, unfolding(crate::specs::json::Replay::locality_json))]
+fn locality_json(alloc: Global, start: &Start, stated: bool) -> Result<Value, AllocError>
+    ensures { IfOk result (λ value. view value ≡ locality_json start.now stated) }
 {
-    let algorithms = asked_algorithms(alloc, file, bank)?;
-    push_banks(values, alloc, file, algorithms.as_slice())
+    let number = start.locality;
+    json!(in alloc; {"number": number, "stated": stated})
 }
 
-/// Pushes the bank of each algorithm. Returns whether the PCRs of all are known.
-fn push_banks(
-    values: &mut Vec<Value>,
+/// Returns the object of a log.
+#[tactic(auto, unfolding(crate::specs::json::Replay::log_json))]
+fn log_json(
     alloc: Global,
-    file: &LogFile<'_>,
-    algorithms: &[AlgorithmId],
-) -> Result<bool, AllocError>
-    ensures { IfOk result (PushesBanks file.now (map (λ algorithm. algorithm.0) algorithms.now)
-        values.old.items values.new.items) }
+    banks: Value,
+    left_over: Value,
+    locality: Value,
+    name: &str,
+    padding: Value,
+) -> Result<Value, AllocError>
+    ensures { IfOk result (λ value. view value
+        ≡ log_json (view banks) (view left_over) (view locality) name.now (view padding)) }
 {
-    let mut all_known = true;
-    for algorithm in algorithms {
-        all_known &= push_bank(values, alloc, file, *algorithm)?;
-    }
-    Ok(all_known)
-}
-
-/// Pushes the bank of an algorithm. Returns whether its PCRs are known.
-fn push_bank(
-    values: &mut Vec<Value>,
-    alloc: Global,
-    file: &LogFile<'_>,
-    algorithm: AlgorithmId,
-) -> Result<bool, AllocError>
-    ensures { IfOk result
-        (PushesBanks file.now (algorithm.0 ∷ []) values.old.items values.new.items) }
-{
-    let outcome = led_to(file, algorithm);
-    let value = bank_json(alloc, algorithm, &outcome)?;
-    values.push(value)?;
-    Ok(is_known(&outcome))
+    let mut members = Map::new(alloc);
+    put(&mut members, alloc, "banks", banks)?;
+    put(&mut members, alloc, "left_over", left_over)?;
+    put(&mut members, alloc, "locality", locality)?;
+    let log = Value::try_from_str(alloc, name)?;
+    put(&mut members, alloc, "log", log)?;
+    put(&mut members, alloc, "padding", padding)?;
+    Ok(Value::Object(members))
 }

@@ -1,97 +1,129 @@
-ghost use Rattle.std.specs.Prelude.{◌≡◌, ◌++◌, ◌∷◌, List, ℕ, IfErr, IfOk, MatchOption, Some};
+ghost use Rattle.std.specs.Prelude.{◌≡◌, ◌++◌, ◌∷◌, ◌≢◌, List, ℕ, map, IfErr, IfOk, IsTrue, MatchOption, ◌↔◌};
 ghost use Rattle.pcr_replay.specs.Views.{value_of};
-ghost use Rattle.uefi_auditing.specs.declared.verify.reading.HeldError.TheVariants.{Memory};
-ghost use Rattle.uefi_auditing.specs.declared.verify.reading.HeldPcr.{HeldPcr};
-ghost use Rattle.uefi_auditing.specs.verify.Reading.{HasNoBreak, IsBankNamed, IsFileError, IsFileOf, IsTextError, IsTextOf};
-ghost use Rattle.uefi_auditing.specs.verify.Reading.{StatesNothing, StatesRegister};
-ghost use Rattle.uefi_auditing.specs.private.verify.Lines.{ReadsLine};
+ghost use Rattle.uefi_auditing.specs.declared.verify.held.HeldPcr.{HeldPcr};
+ghost use Rattle.uefi_auditing.specs.declared.verify.held.Section.{Section};
+ghost use Rattle.uefi_auditing.specs.verify.Reading.{Adds, IsFileError, IsFileOf, IsNew, IsOfOther, IsTextError, IsTextOf, IsValueIn, NamesBank};
+ghost use Rattle.uefi_auditing.specs.verify.Reading.{IsWithoutReturn, StatesPcr, Stated};
+ghost use Rattle.uefi_auditing.specs.private.verify.Views.{stated_of};
 
 use crate::text::bank_named;
-use crate::verify::line::{bank_in_line, register_in_line, value_in};
+use crate::verify::held::{Held, HeldError, HeldPcr, Section};
+use crate::verify::line::{bank_in_line, pcr_in_line, tpm1_pcr_in_line, value_in};
+use crate::verify::splitting::split_once;
 use pcr_replay::{Bank, PcrValue};
 use std::alloc::{AllocError, Allocator};
 
-/// A PCR that a TPM held.
-#[derive(Clone, Copy)]
-pub struct HeldPcr {
-    /// Its bank.
-    pub bank: Bank,
-    /// Its number.
-    pub register: u32,
-    /// What it held.
-    pub value: PcrValue,
-}
-
-/// Why no PCRs were read from a text.
-#[derive(Clone, Copy, PartialEq, Eq, Debug, Drop)]
-pub enum HeldError {
-    /// An allocation failed.
-    Memory,
-    /// The line that begins at this offset neither begins a bank nor states a PCR of a bank
-    /// that can be replayed, or it doesn't end.
-    Line(usize),
-}
-
-impl From<AllocError> for HeldError {
-    ghost from_gives = { λ _ error. error ≡ Memory };
-
-    fn from(_error: AllocError) -> HeldError {
-        HeldError::Memory
-    }
-}
-
-/// Returns the PCRs that `tpm2_pcrread` of tpm2-tools printed. Hex digits may be of either
-/// case.
+/// Returns the PCRs that a text states, as `tpm2_pcrread` of tpm2-tools prints them or as Linux has
+/// those of TPM 1.2 in its file `pcrs`, whose bank is SHA-1.
+///
+/// | line | what it says |
+/// |---|---|
+/// | `  sha256:` | the PCRs of this bank follow |
+/// | `    7 : 0x1234..` | PCR 7 of that bank held this |
+/// | `PCR-07: 12 34 ..` | PCR 7 of TPM 1.2 held this |
+///
+/// A line ends with `\n` or `\r\n`, the last one too. Hex digits may be of either case. The PCRs of
+/// a bank that can't be replayed are passed over, and its name is returned.
 ///
 /// # Errors
 ///
 /// - [`HeldError::Memory`] if an allocation fails.
-/// - [`HeldError::Line`] with the offset of the first line that is none of `tpm2_pcrread`'s, that
-///   states a PCR of a bank that can't be replayed, or a value of another length than its
-/// bank's.
-pub fn held_in_text<A: Allocator + Copy>(
+/// - [`HeldError::Line`] with the offset of the first line that is none of these, states a value of
+///   another length than its bank's, states a PCR that a line before it states, or doesn't end.
+pub fn held_in_text<'a, A: Allocator + Copy>(
     alloc: A,
-    text: &[u8],
-) -> Result<Vec<HeldPcr, A>, HeldError>
-    ensures held { IfOk result (λ held. IsTextOf text.now held.items) }
+    text: &'a [u8],
+) -> Result<Held<'a, A>, HeldError>
+    ensures held { IfOk result (λ held.
+        IsTextOf text.now held.pcrs.items (map (λ name. name.now) held.unsupported.items)) }
     ensures error { IfErr result (λ error. IsTextError text.now error) }
 {
-    let mut held = Vec::new(alloc);
-    let mut bank = None;
+    let (pcrs, unsupported) = (Vec::new(alloc), Vec::new(alloc));
+    let mut held = Held { pcrs, unsupported };
+    let mut section = Section::Before;
     let mut rest = text;
     while !rest.is_empty() {
         let offset = text.len() - rest.len();
-        let Some((line, after)) = split_line(rest) else {
+        let Some((bytes, after)) = split_once(rest, b'\n') else {
             return Err(HeldError::Line(offset));
         };
-        let Some(next) = read_line(alloc, &mut held, bank, line)? else {
+        let line = without_return(bytes);
+        let Some(next) = read_line(alloc, &mut held, section, line)? else {
             return Err(HeldError::Line(offset));
         };
-        bank = next;
+        section = next;
         rest = after;
     }
     Ok(held)
 }
 
-/// Reads a line: of a bank, of which the PCRs are that follow, or of a PCR, which is
-/// appended. Returns the bank of the lines that follow; `None` if the line is neither.
-fn read_line<A: Allocator + Copy>(
+/// Reads a line: of a bank that begins, or of a PCR, which is appended unless it is of a bank that
+/// can't be replayed. Returns the bank of the lines that follow; `None` if the line is neither.
+fn read_line<'a, A: Allocator + Copy>(
     alloc: A,
-    held: &mut Vec<HeldPcr, A>,
-    bank: Option<Bank>,
-    line: &[u8],
-) -> Result<Option<Option<Bank>>, AllocError>
-    ensures { IfOk result (λ read. MatchOption read (StatesNothing bank line.now)
-        (λ next. ReadsLine bank line.now held.old.items next held.new.items)) }
+    held: &mut Held<'a, A>,
+    section: Section,
+    line: &'a [u8],
+) -> Result<Option<Section>, AllocError>
+    ensures { IfOk result (λ read. MatchOption read
+        ((after : Stated) → Adds (stated_of held.old section) line.now after → ⊥)
+        (λ next. Adds (stated_of held.old section) line.now (stated_of held.new next))) }
 {
     if let Some(name) = bank_in_line(line) {
-        return Ok(Some(bank_of_name(name)));
+        return Ok(Some(begin_bank(held, name)?));
     }
-    let Some(register) = held_in_line(alloc, bank, line)? else {
+    if is_passed_over(section, line) {
+        return Ok(Some(section));
+    }
+    let Some(pcr) = held_in_line(alloc, section, line)? else {
         return Ok(None);
     };
-    held.push(register)?;
-    Ok(Some(bank))
+    if !is_new(&pcr, held.pcrs.as_slice()) {
+        return Ok(None);
+    }
+    held.pcrs.push(pcr)?;
+    Ok(Some(section))
+}
+
+/// Returns the bank of this name, which is noted if it can't be replayed.
+fn begin_bank<'a, A: Allocator>(
+    held: &mut Held<'a, A>,
+    name: &'a str,
+) -> Result<Section, AllocError>
+    ensures { (section : Section) → IfOk result (λ next.
+        NamesBank (stated_of held.old section) name.now (stated_of held.new next)) }
+{
+    match bank_named(name) {
+        Some(bank) => Ok(Section::Replayed(bank)),
+        None => {
+            held.unsupported.push(name)?;
+            Ok(Section::Unsupported)
+        }
+    }
+}
+
+/// Returns whether a line is of a PCR in a bank that can't be replayed.
+fn is_passed_over(section: Section, line: &[u8]) -> bool
+    ensures { IsTrue result ↔ IsOfOther section line.now }
+{
+    match section {
+        Section::Unsupported => pcr_in_line(line).is_some(),
+        _ => false,
+    }
+}
+
+/// Returns whether a PCR is none of the others.
+fn is_new(held: &HeldPcr, others: &[HeldPcr]) -> bool
+    ensures { IsTrue result ↔ IsNew held.now others.now }
+{
+    others.iter().all(|other| !is_same_pcr(held, other))
+}
+
+/// Returns whether two PCRs are the same: of one bank and one number.
+fn is_same_pcr(held: &HeldPcr, other: &HeldPcr) -> bool
+    ensures { IsTrue result ↔ ((other.now.bank ≡ held.now.bank) × (other.now.pcr ≡ held.now.pcr)) }
+{
+    held.bank == other.bank && held.pcr == other.pcr
 }
 
 /// Returns the value of a PCR of a bank that its file in Linux's sysfs states, as in
@@ -119,47 +151,53 @@ pub fn held_in_file<A: Allocator + Copy>(
     }
 }
 
-/// Returns the bytes before the first line break and those after it; `None` if there is none.
-fn split_line(text: &[u8]) -> Option<(&[u8], &[u8])>
-    ensures { MatchOption result (HasNoBreak text.now) (λ split. HasNoBreak split.0.now
-        × (text.now ≡ split.0.now ++ 10 ∷ split.1.now)) }
-{
-    let at = text.iter().position(|byte| *byte == b'\n')?;
-    Some((&text[..at], &text[at + 1..]))
-}
-
-/// Returns the bank of this name; `None` if none that can be replayed has it.
-fn bank_of_name(name: &[u8]) -> Option<Bank>
-    ensures { IsBankNamed name.now result }
-{
-    match str::from_utf8(name) {
-        Ok(name) => bank_named(name),
-        Err(_) => None,
-    }
-}
-
-/// Returns the PCR of the bank that the line states; `None` if it states none.
-fn held_in_line<A: Allocator>(
+/// Returns the PCR that a line states: one of the bank that began, or one of TPM 1.2. `None` if it
+/// states none.
+fn held_in_line<A: Allocator + Copy>(
     alloc: A,
-    bank: Option<Bank>,
+    section: Section,
     line: &[u8],
 ) -> Result<Option<HeldPcr>, AllocError>
     ensures { IfOk result (λ found. MatchOption found
-        ((held : HeldPcr) → bank ≡ Some held.bank → StatesRegister line.now held → ⊥)
-        (λ held. (bank ≡ Some held.bank) × StatesRegister line.now held)) }
+        ((held : HeldPcr) → StatesPcr section line.now held → ⊥)
+        (λ held. StatesPcr section line.now held)) }
 {
-    let Some(bank) = bank else {
+    if let Some((pcr, digits)) = tpm1_pcr_in_line(alloc, line)? {
+        return held_of(alloc, Bank::Sha1, pcr, digits.as_slice());
+    }
+    let Section::Replayed(bank) = section else {
         return Ok(None);
     };
-    let Some((register, digits)) = register_in_line(line) else {
+    let Some((pcr, digits)) = pcr_in_line(line) else {
         return Ok(None);
     };
+    held_of(alloc, bank, pcr, digits)
+}
+
+/// Returns the PCR of this bank and number whose value the digits state; `None` if they state none.
+fn held_of<A: Allocator>(
+    alloc: A,
+    bank: Bank,
+    pcr: u32,
+    digits: &[u8],
+) -> Result<Option<HeldPcr>, AllocError>
+    ensures { IfOk result (λ found. MatchOption found
+        ((value : List ℕ) → IsValueIn bank digits.now value → ⊥)
+        (λ held. (held.bank ≡ bank) × (held.pcr ≡ pcr)
+        × IsValueIn bank digits.now (value_of held.value))) }
+{
     let Some(value) = value_in(alloc, bank, digits)? else {
         return Ok(None);
     };
-    Ok(Some(HeldPcr {
-        bank,
-        register,
-        value,
-    }))
+    Ok(Some(HeldPcr { bank, pcr, value }))
+}
+
+/// Returns the bytes without the `\r` at their end, if there is one.
+fn without_return(bytes: &[u8]) -> &[u8]
+    ensures { IsWithoutReturn bytes.now result.now }
+{
+    match bytes {
+        [line @ .., b'\r'] => line,
+        _ => bytes,
+    }
 }

@@ -1,24 +1,22 @@
-ghost use Rattle.std.specs.Prelude.{◌≡◌, ◌↔◌, IfOk, IsTrue, OnOk};
+ghost use Rattle.std.specs.Prelude.{◌≡◌, map, flat_map, IfOk, OnOk};
+ghost use Rattle.std.specs.Option.{option_map};
 ghost use Rattle.uefi_base.specs.Appending.{AppendsText};
-ghost use Rattle.pcr_replay.specs.Entries.{Contents};
-ghost use Rattle.pcr_replay.specs.Logs.{AreContents};
-ghost use Rattle.uefi_auditing.specs.verify.Agreement.{given_or_stated, Agree};
-ghost use Rattle.uefi_auditing.specs.verify.Verdict.{agree_line, AppendsVerdict};
+ghost use Rattle.pcr_replay.specs.Views.{outcome_of, value_of};
+ghost use Rattle.uefi_auditing.specs.Replay.{bank_outcomes_of};
+ghost use Rattle.uefi_auditing.specs.verify.Verdict.{agree_line, held_text, line_of, outcome_text, undetermined_text, value_text, verdict_lines, verdict_of};
 
-use crate::text::LogFile;
-use crate::verify::agreement::{agreeing_locality, nearest_locality};
-use crate::verify::difference::push_differences;
-use crate::verify::reading::HeldPcr;
-use pcr_replay::laws::one_contents;
-use pcr_replay::{Log, startup_locality};
+use crate::replay::BankPcrs;
+use crate::text::{bank_name, fault_text};
+use crate::verify::comparison::{Verdict, agrees, led_to};
+use crate::verify::held::HeldPcr;
+use pcr_replay::{PcrValue, Undetermined};
 use std::alloc::{AllocError, Allocator};
 
-/// Appends whether a log leads to these PCRs: one line if it does, or else a line for each
-/// PCR that differs. Returns whether it does.
+/// Appends whether a log leads to these PCRs: one line if it does, or else a line for each PCR that
+/// doesn't agree. Returns how many differ, and how many are undetermined.
 ///
-/// PCR 0 begins with the locality that is `given`, or else with the one that the log states.
-/// If the log states none, it may agree as begun at 0, 3 or 4. The line says at which; if they
-/// don't agree, the lines are those of the locality at which the fewest differ.
+/// The lines name the log by `name`, and the `locality` at which PCR 0 starts. Each PCR is sought
+/// in the first of `replays` that is of its bank.
 ///
 /// # Errors
 ///
@@ -26,30 +24,27 @@ use std::alloc::{AllocError, Allocator};
 pub fn push_verdict<A: Allocator + Copy>(
     text: &mut String<A>,
     alloc: A,
-    file: &LogFile<'_>,
+    name: &str,
     held: &[HeldPcr],
-    given: Option<u8>,
-) -> Result<bool, AllocError>
-    ensures agree { IfOk result (λ agrees. IsTrue agrees
-        ↔ Agree file.now.bytes.now file.now.last_entry given held.now) }
-    ensures lines { IfOk result (AppendsVerdict file.now given held.now text.old text.new) }
+    replays: &[BankPcrs],
+    locality: u8,
+) -> Result<Verdict, AllocError>
+    ensures verdict { IfOk result (λ verdict.
+        verdict ≡ verdict_of (map bank_outcomes_of replays.now) held.now) }
+    ensures lines { OnOk result (AppendsText text.old text.new
+        (verdict_lines name.now (map bank_outcomes_of replays.now) locality held.now)) }
 {
-    let log = file.log();
-    let stated = given_or_stated(&log, given);
-    match agreeing_locality(&log, held, stated) {
-        Some(locality) => {
-            push_agreement(text, file.name, held.len(), locality)?;
-            Ok(true)
-        }
-        None => {
-            let locality = nearest_locality(&log, held, stated);
-            push_differences(text, alloc, file.name, &log, held, locality)?;
-            Ok(false)
-        }
+    let verdict = Verdict::of(held, replays);
+    if verdict.is_agreement() {
+        push_agreement(text, name, held.len(), locality)?;
+    } else {
+        push_disagreements(text, alloc, name, held, replays, locality)?;
     }
+    Ok(verdict)
 }
 
-/// Appends the line that says how many PCRs agree, and at which locality.
+/// Appends the line that says how many PCRs agree, and where PCR 0 starts.
+#[tactic(auto, unfolding(crate::specs::verify::Verdict::agree_line))]
 fn push_agreement<A: Allocator>(
     text: &mut String<A>,
     name: &str,
@@ -61,22 +56,113 @@ fn push_agreement<A: Allocator>(
 {
     writeln!(
         text,
-        "{name}: {count} registers agree, begun at locality {locality}"
+        "{name}: {count} PCRs agree, PCR 0 starts at locality {locality}"
     )
 }
 
-/// Returns the locality that is given, or else the one that the log states.
-fn given_or_stated(log: &Log<'_>, given: Option<u8>) -> Option<u8>
-    ensures log { (contents : Contents) × AreContents log.now.bytes.now log.now.last_entry contents
-        × (result ≡ given_or_stated given contents.entries) }
-    ensures every { (contents : Contents)
-        → AreContents log.now.bytes.now log.now.last_entry contents
-        → result ≡ given_or_stated given contents.entries }
+/// Appends a line for each PCR that doesn't agree.
+fn push_disagreements<A: Allocator + Copy>(
+    text: &mut String<A>,
+    alloc: A,
+    name: &str,
+    held: &[HeldPcr],
+    replays: &[BankPcrs],
+    locality: u8,
+) -> Result<(), AllocError>
+    ensures { OnOk result (AppendsText text.old text.new
+        (flat_map (line_of name.now (map bank_outcomes_of replays.now) locality) held.now)) }
 {
-    one_contents();
-    let stated = startup_locality(log.entries());
-    match given {
-        Some(locality) => Some(locality),
-        None => stated,
+    for pcr in held {
+        push_if_disagreeing(text, alloc, name, pcr, replays, locality)?;
     }
+    Ok(())
+}
+
+/// Appends the line of a PCR, unless it agrees.
+#[tactic(auto, unfolding(crate::specs::verify::Verdict::line_of))]
+fn push_if_disagreeing<A: Allocator + Copy>(
+    text: &mut String<A>,
+    alloc: A,
+    name: &str,
+    held: &HeldPcr,
+    replays: &[BankPcrs],
+    locality: u8,
+) -> Result<(), AllocError>
+    ensures { OnOk result (AppendsText text.old text.new
+        (line_of name.now (map bank_outcomes_of replays.now) locality held.now)) }
+{
+    if agrees(held, replays) {
+        return Ok(());
+    }
+    push_held(text, alloc, name, held)?;
+    push_outcome(text, alloc, held.pcr, locality, led_to(held, replays))
+}
+
+/// Appends which PCR doesn't agree, and what it held.
+#[tactic(auto, unfolding(crate::specs::verify::Verdict::held_text))]
+fn push_held<A: Allocator + Copy>(
+    text: &mut String<A>,
+    alloc: A,
+    name: &str,
+    held: &HeldPcr,
+) -> Result<(), AllocError>
+    ensures { OnOk result (AppendsText text.old text.new (held_text name.now held.now)) }
+{
+    let (bank, pcr) = (bank_name(held.bank), held.pcr);
+    let digits = hex::encode_upper(alloc, held.value.as_bytes())?;
+    write!(text, "{name}: {bank} PCR {pcr} held 0x{digits}")
+}
+
+/// Appends what the log leads to in a PCR.
+#[tactic(auto, unfolding(crate::specs::verify::Verdict::outcome_text))]
+fn push_outcome<A: Allocator + Copy>(
+    text: &mut String<A>,
+    alloc: A,
+    pcr: u32,
+    locality: u8,
+    outcome: Option<&Result<PcrValue, Undetermined>>,
+) -> Result<(), AllocError>
+    ensures { OnOk result (AppendsText text.old text.new (outcome_text pcr locality
+        (option_map (λ outcome. outcome_of outcome.now) outcome.entry))) }
+{
+    match outcome {
+        None => writeln!(text, ", and the log has no such PCR"),
+        Some(Ok(value)) => push_value(text, alloc, pcr, locality, value),
+        Some(Err(at)) => push_undetermined(text, at),
+    }
+}
+
+/// Appends the value to which the log leads in a PCR, and for PCR 0 where it starts.
+fn push_value<A: Allocator + Copy>(
+    text: &mut String<A>,
+    alloc: A,
+    pcr: u32,
+    locality: u8,
+    value: &PcrValue,
+) -> Result<(), AllocError>
+    ensures { OnOk result (AppendsText text.old text.new
+        (value_text pcr locality (value_of value.now))) }
+{
+    let digits = hex::encode_upper(alloc, value.as_bytes())?;
+    if pcr == 0 {
+        return writeln!(
+            text,
+            ", the log leads to 0x{digits}, PCR 0 starts at locality {locality}"
+        );
+    }
+    writeln!(text, ", the log leads to 0x{digits}")
+}
+
+/// Appends the event by which a PCR is undetermined.
+fn push_undetermined<A: Allocator>(
+    text: &mut String<A>,
+    at: &Undetermined,
+) -> Result<(), AllocError>
+    ensures { OnOk result (AppendsText text.old text.new (undetermined_text at.now)) }
+{
+    let (index, offset, fault) = (at.index, at.offset, fault_text(at.fault));
+    writeln!(
+        text,
+        ", undetermined: event {index} at offset {offset} {fault}"
+    )
 }

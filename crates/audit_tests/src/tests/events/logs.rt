@@ -1,11 +1,11 @@
-use pcr_replay::Log;
+use pcr_replay::{LastEntry, Log};
 use std::alloc::Global;
 use std::test::Fail;
 use test_support::each_shows;
 use uefi_auditing::json::event_line;
 
 /// Logs with the last entry at their end, and the lines of their events.
-const LOGS: [[&str; 2]; 11] = [
+const LOGS: [[&str; 2]; 12] = [
     // A version 1 event, whose digest is the hash of its data.
     [
         "04000000 07000080 da23614e02469a0d7c7bd1bdab5c9c474b1904dc 02000000 6162",
@@ -121,6 +121,18 @@ const LOGS: [[&str; 2]; 11] = [
          \"index\":1,\"log\":\"a log\",\"offset\":72,\"register\":7,\
          \"type\":{\"name\":\"EV_EFI_VARIABLE_AUTHORITY\",\"number\":2147483872}}\n",
     ],
+    // A variable whose name has controls of the writing direction.
+    [
+        "0700000001000080aaaaaaaaaaaaaaaaaaaaaaaaaaaaaaaaaaaaaaaa260000000001020304050607 \
+         08090a0b0c0d0e0f0300000000000000000000000000000041002e206920",
+        "{\"content\":{\"variable\":{\"data\":\"\",\
+         \"guid\":\"03020100-0504-0706-0809-0a0b0c0d0e0f\",\"name\":\"A\\u202e\\u2069\"}},\
+         \"data\":\"000102030405060708090a0b0c0d0e0f0300000000000000000000000000000041002e206\
+         920\",\"digests\":[{\"algorithm\":\"sha1\",\
+         \"digest\":\"aaaaaaaaaaaaaaaaaaaaaaaaaaaaaaaaaaaaaaaa\"}],\"hashes_to\":[],\
+         \"index\":0,\"log\":\"a log\",\"offset\":0,\"register\":7,\
+         \"type\":{\"name\":\"EV_EFI_VARIABLE_DRIVER_CONFIG\",\"number\":2147483649}}\n",
+    ],
     // A variable with a byte too many, one that states too long a name, and too few bytes for one.
     [
         "01000000 02000080 aaaaaaaaaaaaaaaaaaaaaaaaaaaaaaaaaaaaaaaa 24000000 \
@@ -199,7 +211,7 @@ const LOGS: [[&str; 2]; 11] = [
 
 /// Returns the lines of a log's events.
 pub(super) fn lines(alloc: Global, bytes: &[u8]) -> Result<String, Fail> {
-    let log = Log::new(bytes, Some(bytes.len()));
+    let log = Log::new(bytes, LastEntry::At(bytes.len()));
     let mut text = String::new(alloc);
     for (index, entry) in log.entries().enumerate() {
         let line = event_line(alloc, "a log", index, &entry)?;

@@ -1,4 +1,4 @@
-use pcr_replay::Log;
+use pcr_replay::{LastEntry, Log};
 use std::alloc::Global;
 use std::test::Fail;
 use test_support::samples::MACHINE_LOG;
@@ -92,7 +92,7 @@ fn check_line(alloc: Global, log: &Log<'_>, index: usize, expected: &str) -> Res
 #[test]
 fn events_of_a_machines_log_have_their_lines(rt: HostRuntime) -> Result<(), Fail> {
     let input = bytes(rt.alloc(), MACHINE_LOG)?;
-    let log = Log::new(input.as_slice(), Some(input.len()));
+    let log = Log::new(input.as_slice(), LastEntry::At(input.len()));
     for &(index, expected) in &MACHINE_LINES {
         check_line(rt.alloc(), &log, index, expected)?;
     }

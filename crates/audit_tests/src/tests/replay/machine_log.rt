@@ -1,11 +1,12 @@
-use pcr_replay::{Bank, Log, Pcrs, replay};
+use super::logs::outcome_text;
+use pcr_replay::{Bank, LastEntry, Log, Pcrs, replay};
 use std::alloc::Global;
 use std::test::Fail;
 use test_support::samples::MACHINE_LOG;
 use test_support::{bytes, same_text};
 use uefi_tcg::PcrIndex;
 
-/// The registers of SHA-1 that `tpm2_eventlog` 5.4 prints for the log of a machine.
+/// The PCRs of SHA-1 that `tpm2_eventlog` 5.4 prints for the log of a machine.
 const MACHINE_SHA1: [(u32, &str); 9] = [
     (0, "5ca4ef5fbe527bef22bfe4d3a1b9a36a71753de9"),
     (1, "6fe8e24ebdcbbda37709538b3e26b8e437c44335"),
@@ -18,7 +19,7 @@ const MACHINE_SHA1: [(u32, &str); 9] = [
     (9, "812a0c501c016c1ddba40586c6f23d67c17adebd"),
 ];
 
-/// The registers of SHA-256 that `tpm2_eventlog` 5.4 prints for the log of a machine.
+/// The PCRs of SHA-256 that `tpm2_eventlog` 5.4 prints for the log of a machine.
 const MACHINE_SHA256: [(u32, &str); 9] = [
     (
         0,
@@ -58,7 +59,7 @@ const MACHINE_SHA256: [(u32, &str); 9] = [
     ),
 ];
 
-/// The registers of SHA-384 that `tpm2_eventlog` 5.4 prints for the log of a machine.
+/// The PCRs of SHA-384 that `tpm2_eventlog` 5.4 prints for the log of a machine.
 const MACHINE_SHA384: [(u32, &str); 9] = [
     (
         0,
@@ -107,7 +108,7 @@ const MACHINE_SHA384: [(u32, &str); 9] = [
     ),
 ];
 
-/// The registers of SHA-512 that `tpm2_eventlog` 5.4 prints for the log of a machine.
+/// The PCRs of SHA-512 that `tpm2_eventlog` 5.4 prints for the log of a machine.
 const MACHINE_SHA512: [(u32, &str); 9] = [
     (
         0,
@@ -156,35 +157,28 @@ const MACHINE_SHA512: [(u32, &str); 9] = [
     ),
 ];
 
-/// Checks that a log leads to these registers of a bank.
+/// Checks that a log leads to these PCRs of a bank.
 fn check(alloc: Global, bank: Bank, rows: &[(u32, &str)]) -> Result<(), Fail> {
     let input = bytes(alloc, MACHINE_LOG)?;
-    let log = Log::new(input.as_slice(), Some(input.len()));
-    let Ok(registers) = replay(&log, bank) else {
-        return Err(Fail::new(format_args!("{bank:?}: it can't be replayed")));
-    };
-    for (register, expected) in rows {
-        check_register(alloc, &registers, *register, expected)?;
+    let log = Log::new(input.as_slice(), LastEntry::At(input.len()));
+    let pcrs = replay(&log, bank);
+    for (number, expected) in rows {
+        check_pcr(alloc, &pcrs, *number, expected)?;
     }
     Ok(())
 }
 
-/// Checks that a register has this value, written as hex.
-fn check_register(
-    alloc: Global,
-    registers: &Pcrs,
-    register: u32,
-    expected: &str,
-) -> Result<(), Fail> {
-    let Some(value) = registers.value(PcrIndex(register)) else {
-        return Err(Fail::new(format_args!("there is no register {register}")));
+/// Checks that a PCR has this value, written as hex.
+fn check_pcr(alloc: Global, pcrs: &Pcrs, number: u32, expected: &str) -> Result<(), Fail> {
+    let Some(outcome) = pcrs.outcome(PcrIndex(number)) else {
+        return Err(Fail::new(format_args!("there is no PCR {number}")));
     };
-    let found = hex::encode(alloc, value.as_bytes())?;
-    same_text("a register", found.as_str(), expected)
+    let found = outcome_text(alloc, outcome)?;
+    same_text("a PCR", found.as_str(), expected)
 }
 
 #[test]
-fn a_machines_log_leads_to_the_registers_of_each_bank(rt: HostRuntime) -> Result<(), Fail> {
+fn a_machines_log_leads_to_the_pcrs_of_each_bank(rt: HostRuntime) -> Result<(), Fail> {
     check(rt.alloc(), Bank::Sha1, &MACHINE_SHA1)?;
     check(rt.alloc(), Bank::Sha256, &MACHINE_SHA256)?;
     check(rt.alloc(), Bank::Sha384, &MACHINE_SHA384)?;

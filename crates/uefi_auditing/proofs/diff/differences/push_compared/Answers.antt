@@ -1,7 +1,7 @@
 use Rattle.std.proofs.Common.{◌∙◌, ◌++◌, ap₂, map, string_bytes}
 use Rattle.uefi_auditing.specs.diff.Differences.{first_line}
 use Rattle.uefi_auditing.specs.private.diff.Views.{numbered_of}
-use Rattle.uefi_auditing.proofs.diff.Registers.{entry_got, got_is}
+use Rattle.uefi_auditing.proofs.diff.Pcrs.{entry_got, got_is}
 use Rattle.uefi_auditing.proofs.diff.Shown.{differ_shown, same_shown}
 use Rattle.uefi_auditing.proofs.diff.differences.push_compared.Goals as goal
 

@@ -1,27 +1,31 @@
-use Rattle.std.proofs.Common.{◌≡◌, ◌∙◌, [], append-nil, false, inl, inr, map, refl, string_bytes, sym, true}
+use Rattle.std.proofs.Common.{◌≡◌, ◌∙◌, [], ap, append-nil, false, inl, inr, refl, string_bytes, subst, sym, true}
 use Rattle.std.proofs.lemmas.Result.{on_ok_weaker}
-use Rattle.uefi_auditing.specs.diff.Differences.{only_line}
+use Rattle.pcr_replay.specs.Views.{event_of}
+use Rattle.uefi_tcg.specs.v2.Event.{Event}
+use Rattle.uefi_auditing.specs.diff.Differences.{IsAmong, only_line}
 use Rattle.uefi_auditing.specs.private.diff.Views.{numbered_of}
 use Rattle.uefi_auditing.proofs.diff.OnlyLines.{one_line}
 use Rattle.uefi_auditing.proofs.diff.only.push_if_missing.Goals as goal
 
-pub returns-then-is_among : goal.returns-then-is_among
-returns-then-is_among c = (
+pub returns-then-contains : goal.returns-then-contains
+returns-then-contains c = λ others keys. (
   [],
-  one_line c.args.name.now (map numbered_of c.args.others.now) (numbered_of c.args.found.now) []
-      (inl (c.is_among.ensures.0 c.if-is_among.true, refl)),
+  one_line c.args.name.now c.args.other_name.now others (numbered_of c.args.found.now) []
+      (inl (subst (λ (e : Event). IsAmong e others) (ap event_of c.new.ensures)
+      ((keys c.new.result).0 (sym c.contains.ensures ∙ c.if-contains.true)), refl)),
   sym (append-nil (string_bytes c.args.text.now)),
 )
 
 pub returns : goal.returns
-returns c =
-    let name = c.args.name.now in
+returns c = λ others keys.
     let found = numbered_of c.args.found.now in
+    let line = only_line c.args.name.now found c.args.other_name.now in
     on_ok_weaker c.push_only_line.result
     (λ more. (
-      only_line name found,
-      one_line name (map numbered_of c.args.others.now) found (only_line name found) (inr (
-        (λ among. let so : false ≡ true = sym c.if-is_among.false ∙ c.is_among.ensures.1 among in cc),
+      line,
+      one_line c.args.name.now c.args.other_name.now others found line (inr (
+        (λ among. let so : false ≡ true = sym c.if-contains.false ∙ c.contains.ensures
+            ∙ (keys c.new.result).1 (subst (λ (e : Event). IsAmong e others) (sym (ap event_of c.new.ensures)) among) in cc),
         refl,
       )),
       more,

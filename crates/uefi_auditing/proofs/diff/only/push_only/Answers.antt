@@ -1,7 +1,7 @@
 use Rattle.std.proofs.Common.{[], ◌∷◌, map, subst}
 use Rattle.uefi_auditing.specs.private.diff.Appending.{AppendsOnly}
 use Rattle.uefi_auditing.specs.private.diff.Views.{numbered_of}
-use Rattle.uefi_auditing.specs.declared.diff.register.NumberedEntry.{NumberedEntry}
+use Rattle.uefi_auditing.specs.declared.diff.pcr.NumberedEntry.{NumberedEntry}
 use Rattle.uefi_auditing.proofs.diff.OnlyLines.{only_upto}
 use Rattle.uefi_auditing.proofs.diff.only.push_only.Goals as goal
 
@@ -9,7 +9,8 @@ pub loop-entry-preserved : goal.loop-entry-preserved
 loop-entry-preserved c =
     let name = c.args.name.now in
     let others = map numbered_of c.args.others.now in
-    only_upto name others c.args.found.now c.loop-entry.entry-index c.entry-item.result c.args.text.now
+    let other_name = c.args.other_name.now in
+    only_upto name other_name others c.args.found.now c.loop-entry.entry-index c.entry-item.result c.args.text.now
     c.loop-entry.text c.push_if_missing.new.text c.loop-entry-test.true c.loop-entry.invariant
-    (subst (λ (n : NumberedEntry). AppendsOnly name others (numbered_of n ∷ []) c.loop-entry.text
-    c.push_if_missing.new.text) c.entry-item.is c.in_ok-push_if_missing.ensures)
+    (subst (λ (n : NumberedEntry). AppendsOnly name other_name others (numbered_of n ∷ []) c.loop-entry.text
+    c.push_if_missing.new.text) c.entry-item.is (c.in_ok-push_if_missing.ensures others c.in_ok-keys.ensures))

@@ -6,4 +6,4 @@ use Rattle.uefi_auditing.proofs.diff.only.push_only.Given as goal
 -- The lines of the entries before the index were appended.
 abbrev pub invariant-loop-entry : goal.invariant-loop-entry
 invariant-loop-entry l =
-    AppendsOnly l.name (map numbered_of l.others) (map numbered_of (take l.entry-index l.found)) l.initial.text l.text
+    AppendsOnly l.name l.other_name (map numbered_of l.others) (map numbered_of (take l.entry-index l.found)) l.initial.text l.text

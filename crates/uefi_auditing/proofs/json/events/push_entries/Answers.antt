@@ -1,7 +1,7 @@
 use Rattle.std.proofs.Common.{List, ap, arith, length, string_bytes, subst}
 use Rattle.pcr_replay.specs.Entries.{Entry}
 use Rattle.pcr_replay.specs.Views.{entries_left, entry_of}
-use Rattle.uefi_auditing.specs.private.json.Entries.{AppendsEventLines}
+use Rattle.uefi_auditing.specs.json.Events.{AppendsEvents}
 use Rattle.uefi_auditing.proofs.json.EventLines.{all_lines, none_yet, one_more}
 use Rattle.uefi_auditing.proofs.json.events.push_entries.Goals as goal
 
@@ -22,6 +22,6 @@ loop-entry-preserved c =
 
 pub returns : goal.returns
 returns c =
-    subst (λ (entries : List Entry). AppendsEventLines c.args.name.now entries c.args.text.now c.loop-entry.text)
+    subst (λ (entries : List Entry). AppendsEvents c.args.name.now entries c.args.text.now c.loop-entry.text)
     (ap entries_left c.into_iter-entry-iterator.ensures.into_iter_gives)
     (all_lines c.args.name.now _ _ c.loop-entry.index _ _ c.in-None.ensures.steps.0 c.loop-entry.invariant.lines)

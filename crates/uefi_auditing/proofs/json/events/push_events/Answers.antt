@@ -1,20 +1,13 @@
-use Rattle.std.proofs.Common.{sym}
-use Rattle.std.proofs.lemmas.Result.{on_ok_weaker}
+use Rattle.std.proofs.Common.{subst}
+use Rattle.std.specs.Prelude.{OnOk}
+use Rattle.pcr_replay.specs.Entries.{Contents}
 use Rattle.pcr_replay.specs.Views.{contents_left}
-use Rattle.uefi_auditing.proofs.text.LeftOver.{to_log}
+use Rattle.uefi_auditing.specs.json.Events.{AppendsEvents}
 use Rattle.uefi_auditing.proofs.json.events.push_events.Goals as goal
 
 pub returns : goal.returns
-returns c =
-    on_ok_weaker c.push_entries.result
-    (λ lines. (
-      lines.0,
-      (
-        contents_left c.entries.result,
-        to_log _ _ _ _ (contents_left c.entries.result) (sym c.log.ensures.bytes) (sym c.log.ensures.last_entry)
-            c.entries.ensures.contents,
-        lines.1,
-      ),
-      lines.2,
-    ))
+returns c = λ contents is.
+    subst (λ (it : Contents). OnOk c.push_entries.result (AppendsEvents c.args.file.now.name.now it.entries
+    c.args.text.now c.push_entries.new.text))
+    (c.one_contents.ensures c.args.file.now.log (contents_left c.entries.result) contents c.entries.ensures.contents is)
     c.push_entries.ensures

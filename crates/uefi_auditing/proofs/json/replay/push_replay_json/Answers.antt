@@ -1,41 +1,27 @@
-use Rattle.std.proofs.lemmas.Result.{IfOk-weaker}
-use Rattle.uefi_auditing.proofs.text.LeftOver.{empty_if, few_left, filled_if, of_file}
-use Rattle.uefi_auditing.proofs.json.ReplayLines.{refused_json, shown_json}
+use Rattle.std.proofs.Common.{◌≡◌, ◌∙◌, ◌++◌, ap, map, string_bytes}
+use Rattle.std.specs.Prelude.{codes}
+use Rattle.serde_json.specs.Data.{Data}
+use Rattle.serde_json.specs.Written.{has_float}
+use Rattle.pcr_replay.specs.Logs.{left_over, padding}
+use Rattle.uefi_auditing.specs.Replay.{bank_outcomes_of}
+use Rattle.uefi_auditing.specs.json.Line.{line_of}
+use Rattle.uefi_auditing.specs.json.Replay.{is_accepted, replay_json}
+use Rattle.uefi_auditing.proofs.json.NoFloatsInReplay.{no_float}
+use Rattle.uefi_auditing.proofs.json.ReplayLines.{object_is}
 use Rattle.uefi_auditing.proofs.json.replay.push_replay_json.Goals as goal
 
-pub push_known-requires : goal.push_known-requires
-push_known-requires c =
-    few_left _ _ _ (of_file _ _ _ _ _ c.log.ensures.bytes c.log.ensures.last_entry c.left_over-left_over.ensures)
-
-pub push_known-requires-then-allow_left_over : goal.push_known-requires-then-allow_left_over
-push_known-requires-then-allow_left_over c =
-    few_left _ _ _ (of_file _ _ _ _ _ c.log.ensures.bytes c.log.ensures.last_entry c.left_over-left_over.ensures)
-
-pub push_object-requires : goal.push_object-requires
-push_object-requires c =
-    few_left _ _ _ (of_file _ _ _ _ _ c.log.ensures.bytes c.log.ensures.last_entry c.left_over-left_over.ensures)
-
-pub returns-then-is_empty : goal.returns-then-is_empty
-returns-then-is_empty c =
-    let leaves = of_file _ _ _ _ _ c.log.ensures.bytes c.log.ensures.last_entry c.left_over-left_over.ensures in
-    IfOk-weaker c.push_known.result _ _
-    (λ well known. shown_json c.args.file.now c.args.bank c.args.allow_left_over c.left_over-left_over.result.now
-    c.args.text.now c.push_known.new.text well leaves
-    (λ not. empty_if _ c.if-is_empty.ensures) known)
-    c.push_known.ensures
-
-pub returns-then-allow_left_over : goal.returns-then-allow_left_over
-returns-then-allow_left_over c =
-    let leaves = of_file _ _ _ _ _ c.log.ensures.bytes c.log.ensures.last_entry c.left_over-left_over.ensures in
-    IfOk-weaker c.push_known-then-allow_left_over.result _ _
-    (λ well known. shown_json c.args.file.now c.args.bank c.args.allow_left_over c.left_over-left_over.result.now
-    c.args.text.now c.push_known-then-allow_left_over.new.text well leaves
-    (λ not. let other = c.if-allow_left_over.true in cc) known)
-    c.push_known-then-allow_left_over.ensures
-
-pub returns : goal.returns
-returns c =
-    let leaves = of_file _ _ _ _ _ c.log.ensures.bytes c.log.ensures.last_entry c.left_over-left_over.ensures in
-    refused_json c.args.file.now c.args.bank c.args.allow_left_over c.left_over-left_over.result.now c.args.text.now
-    c.push_object.new.text leaves c.if-allow_left_over.false
-    (filled_if _ c.if-is_empty.ensures) c.in_ok-push_object.ensures
+pub returns-clause-line : goal.returns-clause-line
+returns-clause-line c = λ contents is.
+    let log = c.args.file.now.log in
+    let name = c.args.file.now.name.now in
+    let found = map bank_outcomes_of c.args.banks.now in
+    let object = object_is name log contents c.args.start.now c.args.stated c.args.allow_left_over
+    c.is_accepted-accepted.result found c.left_over-left_over.result.now c.padding.result.now _ _ _ _ _
+    (c.left_over-left_over.ensures contents is) (c.padding.ensures contents is) c.is_accepted-accepted.ensures
+    c.in_ok-banks.ensures c.in_ok-left_over.ensures c.in_ok-locality.ensures c.in_ok-padding.ensures
+    c.in_ok-value.ensures in
+    let none = no_float (is_accepted log contents c.args.allow_left_over) found contents.end contents.end
+    (left_over log contents) (padding log contents) c.args.start.now c.args.stated name in
+    c.in_ok-writeln.ensures.bytes
+    ∙ ap (λ t. string_bytes c.args.text.now ++ (t ++ codes "\n"))
+    (c.in_ok-line.ensures (ap has_float object ∙ none) ∙ ap line_of object)

@@ -1,12 +1,13 @@
 use Rattle.std.proofs.Common.{◌≤◌, length}
 use Rattle.uefi_auditing.specs.verify.Reading.{BeginsWith}
+use Rattle.uefi_auditing.specs.private.verify.Views.{stated_of}
 use Rattle.uefi_auditing.proofs.verify.reading.held_in_text.Given as goal
 
--- The text so far states the PCRs that were read.
+-- The text so far states what was read.
 abbrev pub invariant-loop-rest : goal.invariant-loop-rest
 invariant-loop-rest g l = record {
   within : length l.rest ≤ length l.text;
-  reads : BeginsWith l.text l.held.items l.bank l.rest;
+  reads : BeginsWith l.text (stated_of l.held l.section) l.rest;
 }
 
 abbrev pub decreases-loop-rest : goal.decreases-loop-rest

@@ -1,0 +1,4 @@
+//! What the digests of events are the hash of.
+
+mod lines;
+mod logs;

@@ -1,0 +1,3 @@
+//! The lines of JSON of what logs lead to.
+
+mod replay;

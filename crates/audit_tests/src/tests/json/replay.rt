@@ -1,0 +1,233 @@
+use pcr_replay::{LastEntry, Log, Start, startup_locality};
+use std::alloc::Global;
+use std::test::Fail;
+use test_support::{each_shows, same_text};
+use uefi_auditing::json::push_replay_json;
+use uefi_auditing::replay::{asked_banks, replay_banks};
+use uefi_auditing::text::LogFile;
+
+/// Logs with an unknown last entry, and their lines. Those with bytes left over are refused.
+const REFUSED: [[&str; 2]; 5] = [
+    // One bank; the locality is stated.
+    [
+        "00000000030000000000000000000000000000000000000000000000210000005370656320494420 \
+        4576656e743033000000000000020002010000000400140000000000000300000001000000040000 \
+        0000000000000000000000000000000000000011000000537461727475704c6f63616c6974790003 \
+        0000000008000000010000000400aaaaaaaaaaaaaaaaaaaaaaaaaaaaaaaaaaaaaaaa00000000",
+        "{\"banks\":[{\"algorithm\":\"sha1\",\
+         \"registers\":[\"209023205dc83ff844673ef0e73adf49400ec0df\",\
+         \"0000000000000000000000000000000000000000\",\
+         \"0000000000000000000000000000000000000000\",\
+         \"0000000000000000000000000000000000000000\",\
+         \"0000000000000000000000000000000000000000\",\
+         \"0000000000000000000000000000000000000000\",\
+         \"0000000000000000000000000000000000000000\",\
+         \"0000000000000000000000000000000000000000\",\
+         \"0000000000000000000000000000000000000000\",\
+         \"0000000000000000000000000000000000000000\",\
+         \"0000000000000000000000000000000000000000\",\
+         \"0000000000000000000000000000000000000000\",\
+         \"0000000000000000000000000000000000000000\",\
+         \"0000000000000000000000000000000000000000\",\
+         \"0000000000000000000000000000000000000000\",\
+         \"0000000000000000000000000000000000000000\",\
+         \"0000000000000000000000000000000000000000\",\
+         \"ffffffffffffffffffffffffffffffffffffffff\",\
+         \"ffffffffffffffffffffffffffffffffffffffff\",\
+         \"ffffffffffffffffffffffffffffffffffffffff\",\
+         \"ffffffffffffffffffffffffffffffffffffffff\",\
+         \"ffffffffffffffffffffffffffffffffffffffff\",\
+         \"ffffffffffffffffffffffffffffffffffffffff\",\
+         \"0000000000000000000000000000000000000000\"],\"undetermined\":[]}],\
+         \"left_over\":null,\"locality\":{\"number\":3,\"stated\":true},\"log\":\"a log\",\
+         \"padding\":null}\n",
+    ],
+    // PCR 1 is undetermined in one of two banks.
+    [
+        "00000000030000000000000000000000000000000000000000000000250000005370656320494420 \
+        4576656e74303300000000000002000202000000040014000b002000000100000008000000020000 \
+        000400aaaaaaaaaaaaaaaaaaaaaaaaaaaaaaaaaaaaaaaa0b00aaaaaaaaaaaaaaaaaaaaaaaaaaaaaa \
+        aaaaaaaaaaaaaaaaaaaaaaaaaaaaaaaaaa000000001000000008000000020000000400bbbbbbbbbb \
+        bbbbbbbbbbbbbbbbbbbbbbbbbbbbbb0b00bbbbbbbbbbbbbbbbbbbbbbbbbbbbbbbbbbbbbbbbbbbbbb \
+        bbbbbbbbbbbbbbbbbb000000000100000008000000010000000400bbbbbbbbbbbbbbbbbbbbbbbbbb \
+        bbbbbbbbbbbbbb000000000a00000008000000020000000400aaaaaaaaaaaaaaaaaaaaaaaaaaaaaa \
+        aaaaaaaaaa0b00aaaaaaaaaaaaaaaaaaaaaaaaaaaaaaaaaaaaaaaaaaaaaaaaaaaaaaaaaaaaaaaa00 \
+        000000",
+        "{\"banks\":[{\"algorithm\":\"sha1\",\
+         \"registers\":[\"0000000000000000000000000000000000000000\",\
+         \"e87208941fde536e6fa62a63d9e61903ade54dbb\",\
+         \"0000000000000000000000000000000000000000\",\
+         \"0000000000000000000000000000000000000000\",\
+         \"0000000000000000000000000000000000000000\",\
+         \"0000000000000000000000000000000000000000\",\
+         \"0000000000000000000000000000000000000000\",\
+         \"0000000000000000000000000000000000000000\",\
+         \"0000000000000000000000000000000000000000\",\
+         \"0000000000000000000000000000000000000000\",\
+         \"d6ebc4e04e1612a1ae465c51c090608bc5e6e174\",\
+         \"0000000000000000000000000000000000000000\",\
+         \"0000000000000000000000000000000000000000\",\
+         \"0000000000000000000000000000000000000000\",\
+         \"0000000000000000000000000000000000000000\",\
+         \"0000000000000000000000000000000000000000\",\
+         \"af40ddc4aca154a71fc215f17e4fe5a82f12e315\",\
+         \"ffffffffffffffffffffffffffffffffffffffff\",\
+         \"ffffffffffffffffffffffffffffffffffffffff\",\
+         \"ffffffffffffffffffffffffffffffffffffffff\",\
+         \"ffffffffffffffffffffffffffffffffffffffff\",\
+         \"ffffffffffffffffffffffffffffffffffffffff\",\
+         \"ffffffffffffffffffffffffffffffffffffffff\",\
+         \"0000000000000000000000000000000000000000\"],\"undetermined\":[]},\
+         {\"algorithm\":\"sha256\",\
+         \"registers\":[\"0000000000000000000000000000000000000000000000000000000000000000\",\
+         null,\"0000000000000000000000000000000000000000000000000000000000000000\",\
+         \"0000000000000000000000000000000000000000000000000000000000000000\",\
+         \"0000000000000000000000000000000000000000000000000000000000000000\",\
+         \"0000000000000000000000000000000000000000000000000000000000000000\",\
+         \"0000000000000000000000000000000000000000000000000000000000000000\",\
+         \"0000000000000000000000000000000000000000000000000000000000000000\",\
+         \"0000000000000000000000000000000000000000000000000000000000000000\",\
+         \"0000000000000000000000000000000000000000000000000000000000000000\",\
+         \"9ef814b42fa0be12d197c44d3e8e03441a4b1118237658368ba1351090e556ed\",\
+         \"0000000000000000000000000000000000000000000000000000000000000000\",\
+         \"0000000000000000000000000000000000000000000000000000000000000000\",\
+         \"0000000000000000000000000000000000000000000000000000000000000000\",\
+         \"0000000000000000000000000000000000000000000000000000000000000000\",\
+         \"0000000000000000000000000000000000000000000000000000000000000000\",\
+         \"86bfbce7f88e77dab6bbfb923bb70e2411d374dc658db751c9bdec438f5cce54\",\
+         \"ffffffffffffffffffffffffffffffffffffffffffffffffffffffffffffffff\",\
+         \"ffffffffffffffffffffffffffffffffffffffffffffffffffffffffffffffff\",\
+         \"ffffffffffffffffffffffffffffffffffffffffffffffffffffffffffffffff\",\
+         \"ffffffffffffffffffffffffffffffffffffffffffffffffffffffffffffffff\",\
+         \"ffffffffffffffffffffffffffffffffffffffffffffffffffffffffffffffff\",\
+         \"ffffffffffffffffffffffffffffffffffffffffffffffffffffffffffffffff\",\
+         \"0000000000000000000000000000000000000000000000000000000000000000\"],\
+         \"undetermined\":[{\"index\":2,\"offset\":213,\"reason\":\"has no digest of the \
+         bank\",\"register\":1}]}],\"left_over\":null,\"locality\":{\"number\":0,\
+         \"stated\":false},\"log\":\"a log\",\"padding\":null}\n",
+    ],
+    // PCRs 0 and 1 are undetermined, and padding.
+    [
+        "00000000030000000000000000000000000000000000000000000000250000005370656320494420 \
+        4576656e743033000000000000020002020000000400140004001400000000000003000000010000 \
+        000400000000000000000000000000000000000000000011000000537461727475704c6f63616c69 \
+        747900010100000008000000020000000400aaaaaaaaaaaaaaaaaaaaaaaaaaaaaaaaaaaaaaaa0400 \
+        aaaaaaaaaaaaaaaaaaaaaaaaaaaaaaaaaaaaaaaa00000000ffffffffffffffffff",
+        "{\"banks\":[{\"algorithm\":\"sha1\",\"registers\":[null,null,\
+         \"0000000000000000000000000000000000000000\",\
+         \"0000000000000000000000000000000000000000\",\
+         \"0000000000000000000000000000000000000000\",\
+         \"0000000000000000000000000000000000000000\",\
+         \"0000000000000000000000000000000000000000\",\
+         \"0000000000000000000000000000000000000000\",\
+         \"0000000000000000000000000000000000000000\",\
+         \"0000000000000000000000000000000000000000\",\
+         \"0000000000000000000000000000000000000000\",\
+         \"0000000000000000000000000000000000000000\",\
+         \"0000000000000000000000000000000000000000\",\
+         \"0000000000000000000000000000000000000000\",\
+         \"0000000000000000000000000000000000000000\",\
+         \"0000000000000000000000000000000000000000\",\
+         \"0000000000000000000000000000000000000000\",\
+         \"ffffffffffffffffffffffffffffffffffffffff\",\
+         \"ffffffffffffffffffffffffffffffffffffffff\",\
+         \"ffffffffffffffffffffffffffffffffffffffff\",\
+         \"ffffffffffffffffffffffffffffffffffffffff\",\
+         \"ffffffffffffffffffffffffffffffffffffffff\",\
+         \"ffffffffffffffffffffffffffffffffffffffff\",\
+         \"0000000000000000000000000000000000000000\"],\"undetermined\":[{\"index\":0,\
+         \"offset\":69,\"reason\":\"states a locality other than 0, 3 and 4\",\
+         \"register\":0},{\"index\":1,\"offset\":124,\"reason\":\"has two digests of the \
+         bank or more\",\"register\":1}]}],\"left_over\":null,\"locality\":{\"number\":1,\
+         \"stated\":true},\"log\":\"a log\",\"padding\":{\"count\":9,\"offset\":184}}\n",
+    ],
+    // Bytes are left over.
+    [
+        "00000000030000000000000000000000000000000000000000000000210000005370656320494420 \
+        4576656e7430330000000000000200020100000004001400000000000008000000010000000400aa \
+        aaaaaaaaaaaaaaaaaaaaaaaaaaaaaaaaaaaaaa000000000102",
+        "{\"banks\":null,\"left_over\":{\"count\":2,\"offset\":103},\
+         \"locality\":{\"number\":0,\"stated\":false},\"log\":\"a log\",\"padding\":null}\n",
+    ],
+    // No events.
+    [
+        "",
+        "{\"banks\":[],\"left_over\":null,\"locality\":{\"number\":0,\"stated\":false},\
+         \"log\":\"a log\",\"padding\":null}\n",
+    ],
+];
+
+/// The same where bytes that are left over are allowed.
+const ALLOWED: [[&str; 2]; 1] = [
+    [
+        "00000000030000000000000000000000000000000000000000000000210000005370656320494420 \
+        4576656e7430330000000000000200020100000004001400000000000008000000010000000400aa \
+        aaaaaaaaaaaaaaaaaaaaaaaaaaaaaaaaaaaaaa000000000102",
+        "{\"banks\":[{\"algorithm\":\"sha1\",\
+         \"registers\":[\"d6ebc4e04e1612a1ae465c51c090608bc5e6e174\",\
+         \"0000000000000000000000000000000000000000\",\
+         \"0000000000000000000000000000000000000000\",\
+         \"0000000000000000000000000000000000000000\",\
+         \"0000000000000000000000000000000000000000\",\
+         \"0000000000000000000000000000000000000000\",\
+         \"0000000000000000000000000000000000000000\",\
+         \"0000000000000000000000000000000000000000\",\
+         \"0000000000000000000000000000000000000000\",\
+         \"0000000000000000000000000000000000000000\",\
+         \"0000000000000000000000000000000000000000\",\
+         \"0000000000000000000000000000000000000000\",\
+         \"0000000000000000000000000000000000000000\",\
+         \"0000000000000000000000000000000000000000\",\
+         \"0000000000000000000000000000000000000000\",\
+         \"0000000000000000000000000000000000000000\",\
+         \"0000000000000000000000000000000000000000\",\
+         \"ffffffffffffffffffffffffffffffffffffffff\",\
+         \"ffffffffffffffffffffffffffffffffffffffff\",\
+         \"ffffffffffffffffffffffffffffffffffffffff\",\
+         \"ffffffffffffffffffffffffffffffffffffffff\",\
+         \"ffffffffffffffffffffffffffffffffffffffff\",\
+         \"ffffffffffffffffffffffffffffffffffffffff\",\
+         \"0000000000000000000000000000000000000000\"],\"undetermined\":[]}],\
+         \"left_over\":{\"count\":2,\"offset\":103},\"locality\":{\"number\":0,\
+         \"stated\":false},\"log\":\"a log\",\"padding\":null}\n",
+    ],
+];
+
+/// The line of a log without events whose name has characters that are escaped.
+const NAMED: &str = "{\"banks\":[],\"left_over\":null,\"locality\":{\"number\":0,\"stated\":false},\
+     \"log\":\"a\\u202eb\\u007f\\u0085\\u061c\\u2028\\u2066\\n\\\"\\\\ é\u{200d}😀\",\
+     \"padding\":null}\n";
+
+/// Returns the line of a log in a file of this name.
+fn line(
+    alloc: Global,
+    name: &str,
+    bytes: &[u8],
+    allow_left_over: bool,
+) -> Result<String, Fail> {
+    let log = Log::new(bytes, LastEntry::Unknown);
+    let (start, stated) = (Start::of(&log), startup_locality(&log).is_some());
+    let banks = asked_banks(alloc, &log, None)?;
+    let banks = replay_banks(alloc, &log, banks.as_slice(), &start)?;
+    let (mut text, file) = (String::new(alloc), LogFile { name, log });
+    let banks = banks.as_slice();
+    push_replay_json(&mut text, alloc, &file, &start, stated, banks, allow_left_over)?;
+    Ok(text)
+}
+
+#[test]
+fn a_log_has_a_line_with_its_banks_or_is_refused(rt: HostRuntime) -> Result<(), Fail> {
+    each_shows(rt.alloc(), &REFUSED, |alloc, bytes| line(alloc, "a log", bytes, false))
+}
+
+#[test]
+fn a_log_with_bytes_left_over_can_be_allowed(rt: HostRuntime) -> Result<(), Fail> {
+    each_shows(rt.alloc(), &ALLOWED, |alloc, bytes| line(alloc, "a log", bytes, true))
+}
+
+#[test]
+fn controls_of_a_name_are_escaped(rt: HostRuntime) -> Result<(), Fail> {
+    let name = "a\u{202e}b\u{7f}\u{85}\u{61c}\u{2028}\u{2066}\n\"\\ é\u{200d}😀";
+    let found = line(rt.alloc(), name, b"", false)?;
+    same_text("a name", found.as_str(), NAMED)
+}

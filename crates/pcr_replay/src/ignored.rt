@@ -1,0 +1,35 @@
+ghost use Rattle.std.specs.Prelude.{◌≡◌};
+ghost use Rattle.pcr_replay.specs.Replay.{why_ignored};
+ghost use Rattle.pcr_replay.specs.Views.{event_of};
+
+use crate::event::LogEvent;
+use crate::pcrs::PCR_COUNT;
+use crate::start::locality_in;
+use uefi_tcg::EventType;
+
+/// Why an event has no effect on any PCR, and should have.
+#[derive(Clone, Copy, PartialEq, Eq, Debug, Drop)]
+pub enum Ignored {
+    /// It is of a PCR above 23, and its type isn't [`EventType::NO_ACTION`].
+    NoPcr,
+    /// It states the locality at which the TPM was started, and is of another PCR than 0.
+    OtherPcr,
+}
+
+/// Returns why an event has no effect on any PCR, if it should have; `None` for all others.
+#[tactic(auto, unfolding(crate::specs::Replay::why_ignored))]
+pub fn why_ignored(event: &LogEvent<'_>) -> Option<Ignored>
+    ensures { result ≡ why_ignored (event_of event.now) }
+{
+    let pcr = event.pcr_index().0;
+    if event.event_type() == EventType::NO_ACTION {
+        if pcr != 0 && locality_in(event.event_data()).is_some() {
+            return Some(Ignored::OtherPcr);
+        }
+        return None;
+    }
+    if (pcr as usize) < PCR_COUNT {
+        return None;
+    }
+    Some(Ignored::NoPcr)
+}

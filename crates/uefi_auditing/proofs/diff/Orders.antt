@@ -1,0 +1,74 @@
+-- Events that the order doesn't tell apart are the same.
+use Rattle.std.proofs.Common.{◌≡◌, ◌∙◌, ℕ, List, [], ◌∷◌, ap, ap₂, refl, sym}
+use Rattle.std.specs.Prelude.{◌↔◌, Bool, true, false}
+use Rattle.std.specs.declared.cmp.Ordering.{Ordering}
+use Rattle.std.specs.declared.cmp.Ordering.TheVariants.{Less, Equal, Greater}
+use Rattle.std.specs.Ordering.{is_eq, nat_cmp, ordering_reverse, ordering_then}
+use Rattle.std.specs.Cmp.{IsTotalOrder, tied_itself}
+use Rattle.std.specs.Cmp.Lexicographic.{lists_total, slice_cmp}
+use Rattle.std.proofs.lemmas.Cmp.{ranked}
+use Rattle.uefi_tcg.specs.v2.Event.{Digest, Event}
+use Rattle.uefi_auditing.specs.private.diff.Order.{digest_cmp, digest_cmp_total, event_cmp, event_cmp_total}
+
+both_equal : (one other : Ordering) → ordering_then one other ≡ Equal → (one ≡ Equal) × (other ≡ Equal)
+both_equal Less other is = cc
+both_equal Equal other is = (refl, is)
+both_equal Greater other is = cc
+
+same_numbers : (one other : ℕ) → nat_cmp one other ≡ Equal → one ≡ other
+same_numbers one other is = let so = ranked one other Equal (sym is) in so
+
+same_lists : {A : Type 0} (cmp : A → A → Ordering) → ((one other : A) → cmp one other ≡ Equal → one ≡ other)
+    → (ones others : List A) → slice_cmp cmp ones others ≡ Equal → ones ≡ others
+same_lists cmp same [] [] is = refl
+same_lists cmp same [] (other ∷ others) is = cc
+same_lists cmp same (one ∷ ones) [] is = cc
+same_lists cmp same (one ∷ ones) (other ∷ others) is =
+    let so = both_equal (cmp one other) (slice_cmp cmp ones others) is in
+    ap₂ (λ x xs. x ∷ xs) (same one other so.0) (same_lists cmp same ones others so.1)
+
+same_digests : (one other : Digest) → digest_cmp one other ≡ Equal → one ≡ other
+same_digests one other is =
+    let so = both_equal (nat_cmp one.algorithm other.algorithm) (slice_cmp nat_cmp one.bytes other.bytes) is in
+    ap₂ (λ a b. let digest : Digest = record { algorithm = a; bytes = b } in digest)
+    (same_numbers one.algorithm other.algorithm so.0) (same_lists nat_cmp same_numbers one.bytes other.bytes so.1)
+
+made : ℕ → ℕ → List Digest → List ℕ → Event
+made pcr kind digests payload =
+    record { pcr_index = pcr; event_type = kind; digests = digests; event_data = payload }
+
+pub same_events : (one other : Event) → event_cmp one other ≡ Equal → one ≡ other
+unfolding event_cmp made
+same_events one other is =
+    let first = both_equal (nat_cmp one.pcr_index other.pcr_index) _ is in
+    let second = both_equal (nat_cmp one.event_type other.event_type) _ first.1 in
+    let third = both_equal (slice_cmp nat_cmp one.event_data other.event_data)
+    (slice_cmp digest_cmp one.digests other.digests) second.1 in
+    let pcr = same_numbers one.pcr_index other.pcr_index first.0 in
+    let kind = same_numbers one.event_type other.event_type second.0 in
+    let payload = same_lists nat_cmp same_numbers one.event_data other.event_data third.0 in
+    let digests = same_lists digest_cmp same_digests one.digests other.digests third.1 in
+    ap₂ (λ p k. made p k one.digests one.event_data) pcr kind
+    ∙ ap₂ (λ d e. made other.pcr_index other.event_type d e) digests payload
+
+pub equal_if_same : (one other : Event) → (is_eq (event_cmp one other) ≡ true) ↔ (one ≡ other)
+equal_if_same one other = (
+  (λ so. same_events one other (told (event_cmp one other) so)),
+  (λ same. ap (λ e. is_eq (event_cmp e other)) same ∙ ap is_eq (tied_itself event_cmp_total other)),
+)
+  where
+    told : (order : Ordering) → is_eq order ≡ true → order ≡ Equal
+    told Less so = cc
+    told Equal so = refl
+    told Greater so = cc
+
+-- One digest of SHA-1 beside another; and the other way round.
+pub then_equal : (order : Ordering) → order ≡ ordering_then order Equal
+then_equal Less = refl
+then_equal Equal = refl
+then_equal Greater = refl
+
+pub reversed : (ones others : List Digest) (order : Ordering) → order ≡ slice_cmp digest_cmp ones others
+    → ordering_reverse order ≡ slice_cmp digest_cmp others ones
+reversed ones others order is =
+    ap ordering_reverse is ∙ sym ((lists_total digest_cmp_total).antisymm others ones)

@@ -1,0 +1,29 @@
+-- Names of files as they are printed: on one line, and with nothing in them hidden.
+use Rattle.std.specs.Prelude.{ℕ, ◌==◌, ◌&&◌, ◌||◌, Bool, List, ◌++◌, nat_le, flat_map, codes, encode_utf8, if◌then◌else◌}
+use Rattle.std.specs.Str.{chars}
+use Rattle.uefi_base.specs.GuidText.{hex_byte}
+
+abbrev pub is_between : ℕ → ℕ → ℕ → Bool
+is_between low high character = nat_le low character && nat_le character high
+
+-- A control character of ASCII or Latin-1, a separator of lines or paragraphs, or a control of the writing direction (Unicode's property `Bidi_Control`).
+unfoldable pub is_control : ℕ → Bool
+is_control character =
+    is_between 0 0x1f character || is_between 0x7f 0x9f character || (character == 0x61c)
+    || is_between 0x200e 0x200f character || is_between 0x2028 0x202e character || is_between 0x2066 0x2069 character
+
+-- A byte as `\x` and two hex digits.
+abbrev pub hex_escape : ℕ → List ℕ
+hex_escape byte = codes "\\x" ++ hex_byte byte
+
+-- What is written so, byte by byte: controls, and the backslash, by which a name can't be taken for another.
+abbrev pub is_escaped : ℕ → Bool
+is_escaped character = is_control character || (character == 0x5c)
+
+-- A character of a name.
+unfoldable pub shown_character : ℕ → List ℕ
+shown_character character = if is_escaped character then flat_map hex_escape (encode_utf8 character) else encode_utf8 character
+
+-- A name.
+unfoldable pub shown_name : List ℕ → List ℕ
+shown_name name = flat_map shown_character (chars name)

@@ -1,0 +1,78 @@
+ghost use Rattle.std.specs.Prelude.{◌≡◌, ◌↔◌, ◌<◌, ◌^◌, length, map, IfOk, IsTrue, MatchOption, option_map};
+ghost use Rattle.pcr_replay.specs.Views.{entries_left, entry_of, event_of};
+ghost use Rattle.uefi_auditing.specs.diff.Differences.{DifferAt, events_in, of_pcr, is_of};
+ghost use Rattle.uefi_auditing.specs.private.diff.Views.{numbered_of};
+
+use crate::diff::order::is_same_event;
+use pcr_replay::{LogEntries, LogEntry};
+use std::alloc::{AllocError, Global};
+
+/// The PCR as which those above 23 are taken together.
+const ABOVE: u32 = 24;
+
+/// An event of a log with its index.
+#[derive(Clone, Copy)]
+pub(crate) struct NumberedEntry<'a> {
+    /// Its index in the log: 0 for the first one.
+    pub(crate) index: usize,
+    /// The event with its offset.
+    pub(crate) entry: LogEntry<'a>,
+}
+
+/// Returns the events of a PCR, in order; for PCR 24, those of all above 23.
+pub(crate) fn entries_of<'a>(
+    alloc: Global,
+    entries: LogEntries<'a>,
+    pcr: u32,
+) -> Result<Vec<NumberedEntry<'a>>, AllocError>
+    requires { length (entries_left entries) < 2 ^ 64 }
+    ensures { IfOk result (λ found.
+        map numbered_of found.items ≡ of_pcr pcr (entries_left entries.entry)) }
+{
+    let mut found = Vec::new(alloc);
+    let mut index = 0;
+    for entry in entries {
+        if is_of(pcr, &entry) {
+            found.push(NumberedEntry { index, entry })?;
+        }
+        index += 1;
+    }
+    Ok(found)
+}
+
+/// Returns whether an event is of a PCR; for PCR 24, whether it is of one above 23.
+fn is_of(pcr: u32, entry: &LogEntry<'_>) -> bool
+    ensures { result ≡ is_of pcr (entry_of entry.now) }
+{
+    let of = entry.event.pcr_index().0;
+    of.min(ABOVE) == pcr
+}
+
+/// Returns the first place at which the events differ, or one list has an event and the other none.
+pub(crate) fn first_difference(
+    old: &[NumberedEntry<'_>],
+    new: &[NumberedEntry<'_>],
+) -> Option<usize>
+    ensures { MatchOption result
+        (events_in (map numbered_of old.now) ≡ events_in (map numbered_of new.now))
+        (DifferAt (map numbered_of old.now) (map numbered_of new.now)) }
+{
+    for at in 0..old.len().max(new.len()) {
+        if !is_same_or_none(old.get(at), new.get(at)) {
+            return Some(at);
+        }
+    }
+    None
+}
+
+/// Returns whether there are two events that are the same, or none.
+fn is_same_or_none(one: Option<&NumberedEntry<'_>>, other: Option<&NumberedEntry<'_>>) -> bool
+    ensures { IsTrue result ↔ (option_map (λ found. event_of found.now.entry.event) one.entry
+        ≡ option_map (λ found. event_of found.now.entry.event) other.entry) }
+{
+    match (one, other) {
+        (Some(one), Some(other)) => is_same_event(&one.entry.event, &other.entry.event),
+        (None, None) => true,
+        _ => false,
+    }
+}
