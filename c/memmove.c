@@ -1,4 +1,4 @@
-/* The one name that LLVM calls for copies, so that libuefi_user.a wants none. tools/build_c makes it a
+/* The one name that LLVM calls for copies, so that libuefi_formats_user.a wants none. tools/build_c makes it a
  * name of the archive's own.
  */
 #include <stddef.h>

@@ -2,7 +2,7 @@
 #ifndef PLAIN_H
 #define PLAIN_H
 
-#include "uefi.h"
+#include "uefi_formats.h"
 
 bool plain_path(UefiBytes bytes, UefiBytes *path);
 bool plain_path_next_node(UefiBytes path, size_t *offset, UefiNode *out);

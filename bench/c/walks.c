@@ -1,6 +1,6 @@
 /* Walks over a whole input by calls of a library. Each returns a sum, which the driver compares.
  *
- * It is compiled once for each library: over libuefi.a and over libuefi_user.a, whose names then begin with
+ * It is compiled once for each library: over libuefi_formats.a and over libuefi_formats_user.a, whose names then begin with
  * OVER, and over the plain readers (PLAIN). */
 #include "plain.h"
 
@@ -74,7 +74,7 @@ static uint64_t walk_map(UefiBytes map) {
     UefiDescriptor entry;
     uint64_t sum = 0;
     for (size_t index = 0; map_entry(map, STRIDE, index, &entry); index++)
-        sum += entry.ty + entry.phys_start + entry.page_count;
+        sum += entry.memory_type + entry.phys_start + entry.page_count;
     return sum;
 }
 

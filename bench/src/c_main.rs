@@ -30,12 +30,12 @@ const LOG1: u32 = 4;
 const LOG2: u32 = 5;
 const LOG2_DIGESTS: u32 = 6;
 
-/// A walk over libuefi_user.a.
+/// A walk over libuefi_formats_user.a.
 unsafe extern "C" fn user<const WALK: u32>(bytes: *const u8, length: usize) -> u64 {
     unsafe { user_walk(WALK, bytes, length) }
 }
 
-/// A walk over libuefi.a.
+/// A walk over libuefi_formats.a.
 unsafe extern "C" fn any<const WALK: u32>(bytes: *const u8, length: usize) -> u64 {
     unsafe { any_walk(WALK, bytes, length) }
 }
@@ -56,7 +56,7 @@ struct Input {
 fn measure_walk<const WALK: u32>(calls: &str, input: &Input) {
     let Input { size, bytes, words } = input;
     for (archive, proved) in
-        [("libuefi.a", any::<WALK> as unsafe extern "C" fn(_, _) -> _), ("libuefi_user.a", user::<WALK>)]
+        [("libuefi_formats.a", any::<WALK> as unsafe extern "C" fn(_, _) -> _), ("libuefi_formats_user.a", user::<WALK>)]
     {
         let reader = &format!("{calls}, {archive}");
         measure(&Case {

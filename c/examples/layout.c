@@ -1,23 +1,28 @@
 /* A program without a C library, which ends with status 0: both sides lay out
- * structures alike, a slice comes back as it was handed over, and NULL with
- * length 0 is empty bytes.
+ * structures alike, a slice comes back as it was handed over, NULL with length
+ * 0 is empty bytes, and a log without events has none.
  */
-#include "uefi.h"
+#include "uefi_formats.h"
 
-_Static_assert(sizeof(size_t) == 8 && sizeof(void *) == 8, "x86-64");
-_Static_assert(sizeof(UefiBytes) == 16 && offsetof(UefiBytes, n) == 8, "a slice");
-_Static_assert(sizeof(UefiNode) == 24 && offsetof(UefiNode, sub_type) == 17, "a node");
-_Static_assert(sizeof(UefiDescriptor) == 40, "a descriptor");
-_Static_assert(sizeof(UefiLogHeader) == 56 && offsetof(UefiLogHeader, uintn_size) == 55, "a header");
-_Static_assert(sizeof(UefiEvent1) == 48 && offsetof(UefiEvent1, digest) == 24, "an event of version 1");
-_Static_assert(sizeof(UefiEvent2) == 48 && offsetof(UefiEvent2, event_type) == 40, "an event of version 2");
-_Static_assert(sizeof(UefiDigest) == 24 && offsetof(UefiDigest, algorithm) == 16, "a digest");
-_Static_assert(sizeof(UefiTime) == 16 && offsetof(UefiTime, daylight) == 13, "a time");
-_Static_assert(sizeof(UefiTimeFaults) == 9, "faults");
-_Static_assert(sizeof(UefiFileInfo) == 96 && offsetof(UefiFileInfo, create_time) == 48, "a file");
-_Static_assert(sizeof(UefiFileSystemInfo) == 48 && offsetof(UefiFileSystemInfo, read_only) == 44, "a volume");
-_Static_assert(sizeof(UefiResource) == 48 && offsetof(UefiResource, general_flags) == 41, "a resource");
-_Static_assert(sizeof(UefiPair) == 40 && offsetof(UefiPair, has_value) == 32, "a pair");
+/* A number of bytes where a pointer has eight, and where it has four. */
+#define EITHER(of_64, of_32) (sizeof(void *) == 8 ? (of_64) : (of_32))
+#define HAS(type, size, member, offset, what) \
+    _Static_assert(sizeof(type) == (size) && offsetof(type, member) == (offset), what)
+
+HAS(UefiBytes, EITHER(16, 8), n, EITHER(8, 4), "a slice");
+HAS(UefiNode, EITHER(24, 12), sub_type, EITHER(17, 9), "a node");
+HAS(UefiDescriptor, 40, attribute, 32, "a descriptor");
+HAS(UefiLogHeader, EITHER(56, 32), uintn_size, EITHER(55, 31), "a header");
+HAS(UefiEvent1, EITHER(48, 36), digest, EITHER(24, 16), "an event of version 1");
+HAS(UefiEvent2, EITHER(48, 28), event_type, EITHER(40, 24), "an event of version 2");
+HAS(UefiDigest, EITHER(24, 12), algorithm, EITHER(16, 8), "a digest");
+HAS(UefiTime, 16, daylight, 13, "a time");
+HAS(UefiTimeFaults, 9, daylight, 8, "faults");
+HAS(UefiFileInfo, EITHER(96, 88), create_time, EITHER(48, 40), "a file");
+HAS(UefiFileSystemInfo, EITHER(48, 40), read_only, EITHER(44, 36), "a volume");
+HAS(UefiResource, EITHER(48, 44), general_flags, 41, "a resource");
+HAS(UefiPair, EITHER(40, 20), has_value, EITHER(32, 16), "a pair");
+_Static_assert(UEFI_FORMATS_VERSION == 0x000100, "version 0.1.0");
 
 static const uint8_t path_bytes[] = {1, 2, 6, 0, 9, 8, 0x7f, 0xff, 4, 0};
 static const uint8_t digest[20] = {1, 2, 3};
@@ -51,6 +56,22 @@ static int events(void) {
     return uefi_write_event_inputs(uefi_buffer(room, 19), uefi_bytes("xy", 2), 7, 8, &size) || size != 20 ? 9 : 0;
 }
 
+/* Zeros are whole events. A log without events has none, though its bytes are zeros. */
+static int empty_log(void) {
+    static const uint8_t area[4096];
+    UefiBytes log = uefi_bytes(area, sizeof area);
+    UefiLogHeader header;
+    UefiEvent1 event;
+    size_t at = 0, count = 0;
+    for (; uefi_log1_next(log, sizeof area, &at, &event); count++) {}
+    if (count != 128 || uefi_last_entry(0x7000, 0x7020) != 32)
+        return 17;
+    at = 0;
+    if (uefi_log1_next(log, uefi_last_entry(0x7000, 0), &at, &event) || at != 0)
+        return 18;
+    return uefi_log2_header(log, uefi_last_entry(0x7000, 0), &header) ? 19 : 0;
+}
+
 static int texts(void) {
     UefiPair pair;
     size_t at = 0, size = 0;
@@ -78,13 +99,30 @@ static int records(void) {
     return uefi_pci_next(uefi_bytes(zeros, 82), &at, &range) != UEFI_PCI_UNKNOWN_TAG ? 16 : 0;
 }
 
-__attribute__((used)) static void run(void) {
-    long status = paths();
-    status = status ? status : events();
-    status = status ? status : texts();
-    status = status ? status : records();
+__attribute__((noreturn)) static void end(long status) {
+#if defined(__x86_64__)
     __asm__ volatile("syscall" : : "a"(60L), "D"(status) : "memory");
+#elif defined(__aarch64__)
+    register long number __asm__("x8") = 93, first __asm__("x0") = status;
+    __asm__ volatile("svc 0" : : "r"(number), "r"(first) : "memory");
+#else
+    __asm__ volatile("int $0x80" : : "a"(1L), "b"(status) : "memory");
+#endif
     __builtin_unreachable();
 }
 
+__attribute__((used)) static void run(void) {
+    int status = paths();
+    status = status ? status : events();
+    status = status ? status : empty_log();
+    status = status ? status : texts();
+    end(status ? status : records());
+}
+
+#if defined(__x86_64__)
 __asm__(".globl _start\n_start: xor %ebp, %ebp\n call run\n");
+#elif defined(__aarch64__)
+__asm__(".globl _start\n_start: bl run\n");
+#else
+__asm__(".globl _start\n_start: and $-16, %esp\n call run\n");
+#endif

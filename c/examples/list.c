@@ -15,7 +15,7 @@
 #include <stdlib.h>
 #include <string.h>
 
-#include "uefi.h"
+#include "uefi_formats.h"
 
 static void put_hex(UefiBytes bytes) {
     for (size_t i = 0; i < bytes.n; i++)
@@ -56,8 +56,8 @@ static int list_map(UefiBytes map, size_t stride) {
         return 1;
     }
     for (; uefi_map_entry(map, stride, index, &entry); index++)
-        printf("entry %" PRIu32 " 0x%" PRIx64 " 0x%" PRIx64 " %" PRIu64 " 0x%" PRIx64 "\n", entry.ty,
-               entry.phys_start, entry.virt_start, entry.page_count, entry.att);
+        printf("entry %" PRIu32 " 0x%" PRIx64 " 0x%" PRIx64 " %" PRIu64 " 0x%" PRIx64 "\n", entry.memory_type,
+               entry.phys_start, entry.virt_start, entry.page_count, entry.attribute);
     printf("sorted %s\n", uefi_map_is_sorted(map, stride) ? "yes" : "no");
     printf("entries %zu\n", index);
     return 0;
@@ -216,7 +216,9 @@ int main(int argc, char **argv) {
     uint8_t *file = read_file(argv[2], &n);
     if (!file)
         return 2;
-    int status = list(argv[1], uefi_bytes(file, n), argc == 4 ? strtoull(argv[3], NULL, 10) : 0);
+    unsigned long long number = argc == 4 ? strtoull(argv[3], NULL, 10) : 0;
+    size_t most = (size_t)-1;
+    int status = list(argv[1], uefi_bytes(file, n), number < most ? (size_t)number : most);
     free(file);
     return status;
 }

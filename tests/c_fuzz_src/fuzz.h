@@ -6,7 +6,7 @@
 #include <stdlib.h>
 #include <string.h>
 
-#include "uefi.h"
+#include "uefi_formats.h"
 
 enum { AREA = 1 << 14 };
 

@@ -3,7 +3,7 @@
 #define APP_H
 
 #include "efi.h"
-#include "uefi.h"
+#include "uefi_formats.h"
 
 extern EfiSystemTable *firmware;
 

@@ -129,7 +129,7 @@ static bool get_log(EfiTcg2 *tcg2, Log *log) {
         return false;
     expect(!truncated, "the log isn't truncated");
     log->bytes = readable_from((const void *)start);
-    log->last_entry = (size_t)(last - start);
+    log->last_entry = uefi_last_entry(start, last);
     return true;
 }
 

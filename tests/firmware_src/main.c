@@ -1,5 +1,5 @@
 /* An EFI application that reads the firmware's own memory map, device paths and event log through the proved
- * functions of libuefi.a, and by plain C beside them. It prints a line for each, `differences N` and `done`, and
+ * functions of libuefi_formats.a, and by plain C beside them. It prints a line for each, `differences N` and `done`, and
  * turns the machine off. */
 #include "app.h"
 

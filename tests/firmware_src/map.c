@@ -21,12 +21,12 @@ static bool get_map(void) {
 }
 
 static void add_descriptor(Tally *tally, const UefiDescriptor *entry) {
-    add_number(tally, entry->ty);
+    add_number(tally, entry->memory_type);
     add_number(tally, entry->padding);
     add_number(tally, entry->phys_start);
     add_number(tally, entry->virt_start);
     add_number(tally, entry->page_count);
-    add_number(tally, entry->att);
+    add_number(tally, entry->attribute);
 }
 
 static Tally proved_tally(void) {
@@ -34,7 +34,7 @@ static Tally proved_tally(void) {
     UefiDescriptor entry;
     for (; uefi_map_entry(map, stride, tally.count, &entry); tally.count++) {
 #ifdef PLANT
-        entry.ty ^= tally.count == 3;
+        entry.memory_type ^= tally.count == 3;
 #endif
         add_descriptor(&tally, &entry);
     }
@@ -55,11 +55,11 @@ static Tally plain_tally(void) {
 }
 
 static void try_refusals(void) {
-    UefiDescriptor entry = {.ty = 77};
+    UefiDescriptor entry = {.memory_type = 77};
     expect(uefi_map_check(map, stride), "the map is one");
     expect(!uefi_map_check(uefi_bytes(map.at, map.n - 1), stride), "a cut map");
-    expect(!uefi_map_entry(map, stride, (size_t)-1, &entry) && entry.ty == 77, "no last descriptor");
-    expect(!uefi_map_entry(map, 39, 0, &entry) && entry.ty == 77, "a stride of 39");
+    expect(!uefi_map_entry(map, stride, (size_t)-1, &entry) && entry.memory_type == 77, "no last descriptor");
+    expect(!uefi_map_entry(map, 39, 0, &entry) && entry.memory_type == 77, "a stride of 39");
 }
 
 bool read_map(void) {

@@ -11,10 +11,10 @@ sizes_of map_size desc_size = record { map_size = map_size; desc_size = desc_siz
 -- The descriptor of these numbers.
 abbrev pub descriptor_of : UefiDescriptor → MemoryDescriptor
 descriptor_of seen = record {
-  ty = record { 0 = seen.ty };
+  ty = record { 0 = seen.memory_type };
   padding = seen.padding;
   phys_start = seen.phys_start;
   virt_start = seen.virt_start;
   page_count = seen.page_count;
-  att = record { 0 = seen.att };
+  att = record { 0 = seen.attribute };
 }

@@ -77,14 +77,16 @@ pub extern "C" fn uefi_file_info<'a>(
 {
     match FileInfo::from_uefi(buffer, written) {
         Ok(info) => {
-            out.name = name_bytes(buffer, FILE_NAME_OFFSET, info.file_name().len());
-            out.size = info.size();
-            out.file_size = info.file_size();
-            out.physical_size = info.physical_size();
-            out.attribute = info.attribute().bits();
-            out.create_time = seen(&info.create_time());
-            out.last_access_time = seen(&info.last_access_time());
-            out.modification_time = seen(&info.modification_time());
+            *out = UefiFileInfo {
+                name: name_bytes(buffer, FILE_NAME_OFFSET, info.file_name().len()),
+                size: info.size(),
+                file_size: info.file_size(),
+                physical_size: info.physical_size(),
+                attribute: info.attribute().bits(),
+                create_time: seen(&info.create_time()),
+                last_access_time: seen(&info.last_access_time()),
+                modification_time: seen(&info.modification_time()),
+            };
             true
         }
         Err(error) => {
@@ -116,12 +118,14 @@ pub extern "C" fn uefi_file_system_info<'a>(
 {
     match FileSystemInfo::from_uefi(buffer, written) {
         Ok(info) => {
-            out.label = name_bytes(buffer, LABEL_OFFSET, info.volume_label().len());
-            out.size = info.size();
-            out.volume_size = info.volume_size();
-            out.free_space = info.free_space();
-            out.block_size = info.block_size();
-            out.read_only = info.read_only();
+            *out = UefiFileSystemInfo {
+                label: name_bytes(buffer, LABEL_OFFSET, info.volume_label().len()),
+                size: info.size(),
+                volume_size: info.volume_size(),
+                free_space: info.free_space(),
+                block_size: info.block_size(),
+                read_only: info.read_only(),
+            };
             true
         }
         Err(error) => {

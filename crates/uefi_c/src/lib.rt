@@ -1,4 +1,4 @@
-//! The readers of UEFI's record formats, as functions for C (`c/uefi.h`).
+//! The readers of UEFI's record formats, as functions for C (`c/uefi_formats.h`).
 //!
 //! A function takes bytes by a pointer and a length, and most a cursor besides: an offset that the
 //! caller keeps. It reads at the cursor and moves it. Whatever the cursor holds, the contract says

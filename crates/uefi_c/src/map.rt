@@ -9,7 +9,7 @@ use uefi_map::{MemoryDescriptor, MemoryMap, MemoryMapKey, MemoryMapMeta, MemoryM
 #[repr(C)]
 pub struct UefiDescriptor {
     /// What the memory is used for.
-    pub ty: u32,
+    pub memory_type: u32,
     /// The four bytes after the type, without meaning.
     pub padding: u32,
     /// The first physical address.
@@ -19,7 +19,7 @@ pub struct UefiDescriptor {
     /// The count of pages, of 4096 bytes each.
     pub page_count: u64,
     /// What the memory can do, and what it is used for at run time.
-    pub att: u64,
+    pub attribute: u64,
 }
 
 /// Returns whether all the bytes are a map with this stride.
@@ -50,12 +50,14 @@ pub extern "C" fn uefi_map_entry(
     let Some(entry) = map.get(index) else {
         return false;
     };
-    out.ty = entry.ty.0;
-    out.padding = entry.padding;
-    out.phys_start = entry.phys_start;
-    out.virt_start = entry.virt_start;
-    out.page_count = entry.page_count;
-    out.att = entry.att.bits();
+    *out = UefiDescriptor {
+        memory_type: entry.ty.0,
+        padding: entry.padding,
+        phys_start: entry.phys_start,
+        virt_start: entry.virt_start,
+        page_count: entry.page_count,
+        attribute: entry.att.bits(),
+    };
     true
 }
 

@@ -54,9 +54,11 @@ pub extern "C" fn uefi_path_next_node<'a>(
     let Some((node, end)) = next_node(path, *offset) else {
         return false;
     };
-    out.data = node.data();
-    out.device_type = node.device_type().0;
-    out.sub_type = node.sub_type().0;
+    *out = UefiNode {
+        data: node.data(),
+        device_type: node.device_type().0,
+        sub_type: node.sub_type().0,
+    };
     *offset = end;
     true
 }

@@ -19,12 +19,12 @@ pub fn entries_by_steps<A: Allocator>(
     let mut views = Vec::new(alloc);
     let mut index = 0;
     let mut entry = UefiDescriptor {
-        ty: 0,
+        memory_type: 0,
         padding: 0,
         phys_start: 0,
         virt_start: 0,
         page_count: 0,
-        att: 0,
+        attribute: 0,
     };
     while uefi_map_entry(bytes, stride, index, &mut entry) {
         views.push(entry)?;

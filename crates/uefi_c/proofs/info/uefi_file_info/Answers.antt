@@ -4,12 +4,12 @@ use Rattle.uefi_records.specs.file.FileInfo.{file_info_verdict}
 use Rattle.uefi_c.proofs.NameBytes.{view_within, view_named, needs}
 use Rattle.uefi_c.proofs.info.uefi_file_info.Goals as goal
 
-pub name_bytes-out-requires : goal.name_bytes-out-requires
-name_bytes-out-requires c = view_within 80 8 _ _ _ c.in-Ok.ensures.verdict _ _ c.len.ensures c.file_name.ensures.units
+pub name_bytes-requires : goal.name_bytes-requires
+name_bytes-requires c = view_within 80 8 _ _ _ c.in-Ok.ensures.verdict _ _ c.len.ensures c.file_name.ensures.units
 
 pub returns-in-Ok-clause-name : goal.returns-in-Ok-clause-name
 returns-in-Ok-clause-name c = λ _. view_named 80 8 c.args.written c.args.buffer.now _ c.in-Ok.ensures.verdict _ _
-    c.len.ensures c.file_name.ensures.units _ c.name_bytes-out.ensures
+    c.len.ensures c.file_name.ensures.units _ c.name_bytes.ensures
 
 pub returns-in-Err-clause-none : goal.returns-in-Err-clause-none
 returns-in-Err-clause-none c = λ _.

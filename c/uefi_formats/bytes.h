@@ -1,0 +1,58 @@
+/* Bytes that are read, buffers that are written, and for which processors there are archives. */
+#ifndef UEFI_FORMATS_BYTES_H
+#define UEFI_FORMATS_BYTES_H
+
+#include <stdbool.h>
+#include <stddef.h>
+#include <stdint.h>
+
+#define UEFI_FORMATS_VERSION_MAJOR 0
+#define UEFI_FORMATS_VERSION_MINOR 1
+#define UEFI_FORMATS_VERSION_PATCH 0
+/* 0x010203 would be 1.2.3. */
+#define UEFI_FORMATS_VERSION                                                                        \
+    (UEFI_FORMATS_VERSION_MAJOR << 16 | UEFI_FORMATS_VERSION_MINOR << 8 | UEFI_FORMATS_VERSION_PATCH)
+
+#if defined(__x86_64__) || defined(_M_X64)
+/* For targets whose functions follow Microsoft's convention. */
+#if !defined(UEFI_CALL) && (defined(_WIN64) || defined(__UEFI__))
+#if defined(__GNUC__) || defined(__clang__)
+#define UEFI_CALL __attribute__((sysv_abi))
+#else
+#error "uefi_formats.h: this compiler can't call functions of the System V convention"
+#endif
+#endif
+#elif defined(__aarch64__) && defined(__AARCH64EL__)
+#elif defined(__i386__) && !defined(_WIN32)
+#else
+#error "uefi_formats.h: there is no archive for this target"
+#endif
+
+#ifndef UEFI_CALL
+#define UEFI_CALL
+#endif
+
+typedef struct {
+    const uint8_t *at;
+    size_t n;
+} UefiBytes;
+
+typedef struct {
+    uint8_t *at;
+    size_t n;
+} UefiBuffer;
+
+/* The `n` bytes at `at`; none if `at` is NULL. */
+static inline UefiBytes uefi_bytes(const void *at, size_t n) {
+    static const uint8_t none[1] = {0};
+    UefiBytes bytes = {at && n ? (const uint8_t *)at : none, at ? n : 0};
+    return bytes;
+}
+
+static inline UefiBuffer uefi_buffer(void *at, size_t n) {
+    static uint8_t none[1];
+    UefiBuffer buffer = {at && n ? (uint8_t *)at : none, at ? n : 0};
+    return buffer;
+}
+
+#endif

@@ -1,0 +1,33 @@
+/* HII configuration texts (UEFI 2.10, 35.2.1). */
+#ifndef UEFI_FORMATS_CONFIG_H
+#define UEFI_FORMATS_CONFIG_H
+
+#include "bytes.h"
+
+#ifdef __cplusplus
+extern "C" {
+#endif
+
+typedef struct {
+    UefiBytes key;
+    UefiBytes value; /* without meaning where there is none */
+    bool has_value;
+} UefiPair;
+
+/* The next pair of a text: the piece up to the next `&`, cut at its first
+ * `=`. An empty last piece is no pair. */
+UEFI_CALL bool uefi_config_next_pair(UefiBytes text, size_t *offset, UefiPair *out);
+
+/* Writes the bytes that a text in UTF-8 spells in hex to the beginning of the
+ * buffer, and sets `*size` to their number: one for each two bytes of the
+ * text, and one for an odd last one. Two digits spell a byte, as do a plus
+ * sign and a digit, and an odd last digit; all else spells 0. If it returns
+ * false, the buffer is as it was, and `*size` is the length that it needs, or 0
+ * if the text isn't UTF-8. */
+UEFI_CALL bool uefi_hex(UefiBytes text, UefiBuffer buffer, size_t *size);
+
+#ifdef __cplusplus
+}
+#endif
+
+#endif

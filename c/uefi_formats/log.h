@@ -1,0 +1,166 @@
+/* Event logs of measured boot (TCG EFI Protocol Specification). */
+#ifndef UEFI_FORMATS_LOG_H
+#define UEFI_FORMATS_LOG_H
+
+#include "bytes.h"
+
+#ifdef __cplusplus
+extern "C" {
+#endif
+
+/* What an event is about (TCG PC Client Platform Firmware Profile 1.06, 10.4.1 "Event Types"). */
+#define UEFI_EV_PREBOOT_CERT 0x00000000u
+#define UEFI_EV_POST_CODE 0x00000001u
+#define UEFI_EV_UNUSED 0x00000002u
+#define UEFI_EV_NO_ACTION 0x00000003u
+#define UEFI_EV_SEPARATOR 0x00000004u
+#define UEFI_EV_ACTION 0x00000005u
+#define UEFI_EV_EVENT_TAG 0x00000006u
+#define UEFI_EV_S_CRTM_CONTENTS 0x00000007u
+#define UEFI_EV_S_CRTM_VERSION 0x00000008u
+#define UEFI_EV_CPU_MICROCODE 0x00000009u
+#define UEFI_EV_PLATFORM_CONFIG_FLAGS 0x0000000au
+#define UEFI_EV_TABLE_OF_DEVICES 0x0000000bu
+#define UEFI_EV_COMPACT_HASH 0x0000000cu
+#define UEFI_EV_IPL 0x0000000du
+#define UEFI_EV_IPL_PARTITION_DATA 0x0000000eu
+#define UEFI_EV_NONHOST_CODE 0x0000000fu
+#define UEFI_EV_NONHOST_CONFIG 0x00000010u
+#define UEFI_EV_NONHOST_INFO 0x00000011u
+#define UEFI_EV_OMIT_BOOT_DEVICE_EVENTS 0x00000012u
+#define UEFI_EV_POST_CODE2 0x00000013u
+#define UEFI_EV_EFI_VARIABLE_DRIVER_CONFIG 0x80000001u
+#define UEFI_EV_EFI_VARIABLE_BOOT 0x80000002u
+#define UEFI_EV_EFI_BOOT_SERVICES_APPLICATION 0x80000003u
+#define UEFI_EV_EFI_BOOT_SERVICES_DRIVER 0x80000004u
+#define UEFI_EV_EFI_RUNTIME_SERVICES_DRIVER 0x80000005u
+#define UEFI_EV_EFI_GPT_EVENT 0x80000006u
+#define UEFI_EV_EFI_ACTION 0x80000007u
+#define UEFI_EV_EFI_PLATFORM_FIRMWARE_BLOB 0x80000008u
+#define UEFI_EV_EFI_HANDOFF_TABLES 0x80000009u
+#define UEFI_EV_EFI_PLATFORM_FIRMWARE_BLOB2 0x8000000au
+#define UEFI_EV_EFI_HANDOFF_TABLES2 0x8000000bu
+#define UEFI_EV_EFI_VARIABLE_BOOT2 0x8000000cu
+#define UEFI_EV_EFI_GPT_EVENT2 0x8000000du
+#define UEFI_EV_EFI_HCRTM_EVENT 0x80000010u
+#define UEFI_EV_EFI_VARIABLE_AUTHORITY 0x800000e0u
+#define UEFI_EV_EFI_SPDM_FIRMWARE_BLOB 0x800000e1u
+#define UEFI_EV_EFI_SPDM_FIRMWARE_CONFIG 0x800000e2u
+
+/* Algorithms of digests (TCG Algorithm Registry, TPM_ALG_ID), and how many bytes each digest has. */
+#define UEFI_TPM_ALG_SHA1 0x0004u    /* 20 */
+#define UEFI_TPM_ALG_SHA256 0x000bu  /* 32 */
+#define UEFI_TPM_ALG_SHA384 0x000cu  /* 48 */
+#define UEFI_TPM_ALG_SHA512 0x000du  /* 64 */
+#define UEFI_TPM_ALG_SM3_256 0x0012u /* 32 */
+
+/* `last_entry` is the offset at which the last event starts, firmware's
+ * EventLogLastEntry less EventLogLocation. An event that starts there may end
+ * at any later offset of the log's bytes; an event that starts before it also
+ * ends there or before; none starts after it. If it isn't known, pass the
+ * log's length: then each whole event is returned.
+ *
+ * Where a function for the next event has returned false, an offset past
+ * `last_entry`, or at the log's end, says that the last event was read. From
+ * another offset on the bytes are no whole event: the log is cut or damaged,
+ * or `last_entry` isn't its own.
+ *
+ * A log without events, for which firmware's EventLogLastEntry is 0, has the
+ * last entry UEFI_EMPTY_LOG. uefi_last_entry() makes either from what
+ * GetEventLog returned. */
+#define UEFI_EMPTY_LOG ((size_t)1)
+
+/* The last entry of the log at `location`, firmware's EventLogLocation, whose
+ * EventLogLastEntry is `last`. */
+static inline size_t uefi_last_entry(uint64_t location, uint64_t last) {
+    return last ? (size_t)(last - location) : UEFI_EMPTY_LOG;
+}
+
+typedef struct {
+    UefiBytes event_data;
+    uint32_t pcr_index;
+    uint32_t event_type;
+    uint8_t digest[20];
+} UefiEvent1;
+
+/* The next event of a version 1 log (TCG_PCR_EVENT). */
+UEFI_CALL bool uefi_log1_next(UefiBytes log, size_t last_entry, size_t *offset, UefiEvent1 *out);
+
+typedef struct {
+    UefiBytes rows;   /* of the table of algorithms: see below */
+    UefiBytes vendor; /* at most 255 bytes */
+    size_t events_start; /* where the header's own bytes end */
+    size_t event_end;    /* where the event ends that has the header: there, or later */
+    uint32_t platform_class;
+    uint8_t major;
+    uint8_t minor;
+    uint8_t errata;
+    uint8_t uintn_size;
+} UefiLogHeader;
+
+typedef struct {
+    UefiBytes digests; /* for uefi_digest_next */
+    UefiBytes event_data;
+    uint32_t digest_count;
+    uint32_t pcr_index;
+    uint32_t event_type;
+} UefiEvent2;
+
+typedef struct {
+    UefiBytes bytes;
+    uint16_t algorithm; /* such as UEFI_TPM_ALG_SHA256 */
+} UefiDigest;
+
+/* The table of a log's header says what size the digests of each algorithm
+ * have. It is kept as the bytes of its rows, four each: the algorithm in two
+ * bytes and the size in two, both little-endian. The first row of an algorithm
+ * decides, and bytes after the last whole row are no row.
+ *
+ * The table of a real log has one to five rows. One of many rows makes a log
+ * slow to read: a call for an event goes over them once, and once more for each
+ * of its digests; a call for a digest goes over them twice. So a log of E events
+ * with D digests each, under a table with R rows, takes up to
+ * E * (3 * D + 2) * R steps. To refuse a header of more rows before any event is
+ * read, write
+ *
+ *     if (header.rows.n / 4 > 8)
+ *         return refused;
+ */
+
+/* The header of a version 2 log, which stands in its first event, of type
+ * EV_NO_ACTION. False if the log doesn't begin with one: the log is of
+ * version 1, the header is cut or damaged, or its event doesn't end at
+ * `last_entry` or before, unless it starts there. */
+UEFI_CALL bool uefi_log2_header(UefiBytes log, size_t last_entry, UefiLogHeader *out);
+
+/* The next event of a version 2 log (TCG_PCR_EVENT2) under the header's table,
+ * whose rows these are. False under a table of 2^32 rows or more, which no
+ * header has.
+ *
+ * Read a version 2 log by `iter_after_header_event`, in C from `event_end`:
+ * these are the events that firmware writes, and that Linux, tpm2-tools and
+ * `uefi_audit` read; `iter`, in C from `events_start`, starts where the Rust
+ * crate `uefi` does. The two differ only where other bytes follow the header in
+ * its event. */
+UEFI_CALL bool uefi_log2_next(UefiBytes log, size_t last_entry, UefiBytes rows, size_t *offset,
+                              UefiEvent2 *out);
+
+/* The next digest of an event, under the same rows. */
+UEFI_CALL bool uefi_digest_next(UefiBytes digests, UefiBytes rows, size_t *offset, UefiDigest *out);
+
+/* Writes an event of a version 1 log to the beginning of the buffer, and sets
+ * `*size` to its length. If it returns false, the buffer is as it was, and
+ * `*size` is the length that it needs, or 0 if the data has 2^32 bytes or
+ * more. */
+UEFI_CALL bool uefi_write_event(UefiBuffer buffer, UefiBytes event_data, const uint8_t digest[20],
+                                uint32_t pcr_index, uint32_t event_type, size_t *size);
+
+/* The same of what firmware is handed to log an event (EFI_TCG2_EVENT). */
+UEFI_CALL bool uefi_write_event_inputs(UefiBuffer buffer, UefiBytes event_data, uint32_t pcr_index,
+                                       uint32_t event_type, size_t *size);
+
+#ifdef __cplusplus
+}
+#endif
+
+#endif

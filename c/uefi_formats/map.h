@@ -1,0 +1,54 @@
+/* Memory maps (UEFI 2.10, 7.2 GetMemoryMap). */
+#ifndef UEFI_FORMATS_MAP_H
+#define UEFI_FORMATS_MAP_H
+
+#include "bytes.h"
+
+#ifdef __cplusplus
+extern "C" {
+#endif
+
+/* What memory is used for (EFI_MEMORY_TYPE). */
+#define UEFI_EfiReservedMemoryType 0u
+#define UEFI_EfiLoaderCode 1u
+#define UEFI_EfiLoaderData 2u
+#define UEFI_EfiBootServicesCode 3u
+#define UEFI_EfiBootServicesData 4u
+#define UEFI_EfiRuntimeServicesCode 5u
+#define UEFI_EfiRuntimeServicesData 6u
+#define UEFI_EfiConventionalMemory 7u /* free memory */
+#define UEFI_EfiUnusableMemory 8u
+#define UEFI_EfiACPIReclaimMemory 9u
+#define UEFI_EfiACPIMemoryNVS 10u
+#define UEFI_EfiMemoryMappedIO 11u
+#define UEFI_EfiMemoryMappedIOPortSpace 12u
+#define UEFI_EfiPalCode 13u
+#define UEFI_EfiPersistentMemory 14u
+
+typedef struct {
+    uint32_t memory_type; /* what the memory is used for, such as UEFI_EfiConventionalMemory */
+    uint32_t padding;
+    uint64_t phys_start;
+    uint64_t virt_start;
+    uint64_t page_count; /* of 4096 bytes each */
+    uint64_t attribute;
+} UefiDescriptor;
+
+/* Whether all the bytes are a map whose descriptors are `stride` bytes apart,
+ * firmware's DescriptorSize: at least 40, a multiple of 8, and a divisor of
+ * their number. */
+UEFI_CALL bool uefi_map_check(UefiBytes map, size_t stride);
+
+/* Descriptor `index` of the map. False if the bytes are no map with this
+ * stride, or it has no such descriptor: so a loop over the index ends. */
+UEFI_CALL bool uefi_map_entry(UefiBytes map, size_t stride, size_t index, UefiDescriptor *out);
+
+/* Whether the bytes are a map in which no descriptor begins at a lower
+ * physical address than the one before it. */
+UEFI_CALL bool uefi_map_is_sorted(UefiBytes map, size_t stride);
+
+#ifdef __cplusplus
+}
+#endif
+
+#endif

@@ -1,0 +1,47 @@
+/* Device paths (UEFI 2.10, chapter 10). */
+#ifndef UEFI_FORMATS_PATH_H
+#define UEFI_FORMATS_PATH_H
+
+#include "bytes.h"
+
+#ifdef __cplusplus
+extern "C" {
+#endif
+
+/* Types of nodes, and the subtypes of the type that ends. */
+#define UEFI_HARDWARE_DEVICE_PATH 0x01u
+#define UEFI_ACPI_DEVICE_PATH 0x02u
+#define UEFI_MESSAGING_DEVICE_PATH 0x03u
+#define UEFI_MEDIA_DEVICE_PATH 0x04u
+#define UEFI_BBS_DEVICE_PATH 0x05u
+#define UEFI_END_DEVICE_PATH_TYPE 0x7fu
+#define UEFI_END_INSTANCE_DEVICE_PATH_SUBTYPE 0x01u
+#define UEFI_END_ENTIRE_DEVICE_PATH_SUBTYPE 0xffu
+
+typedef struct {
+    UefiBytes data;      /* what follows the four bytes of the node's header */
+    uint8_t device_type; /* 0x7f ends an instance or the path */
+    uint8_t sub_type;    /* with type 0x7f: 0xff ends the path */
+} UefiNode;
+
+/* Finds the path that the bytes begin with. No other prefix of them is a
+ * path. False if none is: a node is cut, states a length below 4, or no node
+ * ends the path. */
+UEFI_CALL bool uefi_path(UefiBytes bytes, UefiBytes *path);
+
+/* The next node of a path that uefi_path returned, or of an instance that
+ * uefi_path_next_instance returned. False at the node that ends it, which is
+ * not handed out. The nodes of a path are those of all its instances, with
+ * the nodes that end the others (type 0x7f, subtype 0x01). */
+UEFI_CALL bool uefi_path_next_node(UefiBytes path, size_t *offset, UefiNode *out);
+
+/* The next instance of a path: its bytes, with those of the node that ends
+ * it. False after the last. Two ends side by side have an empty instance
+ * between them, of the second end alone. */
+UEFI_CALL bool uefi_path_next_instance(UefiBytes path, size_t *offset, UefiBytes *instance);
+
+#ifdef __cplusplus
+}
+#endif
+
+#endif

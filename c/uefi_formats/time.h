@@ -1,0 +1,47 @@
+/* Times (UEFI 2.10, 8.3 GetTime). */
+#ifndef UEFI_FORMATS_TIME_H
+#define UEFI_FORMATS_TIME_H
+
+#include "bytes.h"
+
+#ifdef __cplusplus
+extern "C" {
+#endif
+
+typedef struct {
+    uint32_t nanosecond;
+    uint16_t year;
+    int16_t zone; /* minutes from UTC; 0x07ff: local time */
+    uint8_t month;
+    uint8_t day;
+    uint8_t hour;
+    uint8_t minute;
+    uint8_t second;
+    uint8_t daylight;
+} UefiTime;
+
+typedef struct {
+    bool year;       /* isn't 1900 to 9999 */
+    bool month;      /* isn't 1 to 12 */
+    bool day;        /* isn't 1 to 31 */
+    bool hour;       /* is above 23 */
+    bool minute;     /* is above 59 */
+    bool second;     /* is above 59 */
+    bool nanosecond; /* is above 999,999,999 */
+    bool zone;       /* is neither 0x07ff nor -1440 to 1440 */
+    bool daylight;   /* has a bit without a name; no other field is named then */
+} UefiTimeFaults;
+
+/* The time in the first sixteen bytes. False if there are fewer, or a field is
+ * at fault. */
+UEFI_CALL bool uefi_time(UefiBytes bytes, UefiTime *out);
+
+/* The fields at fault of the time in the first sixteen bytes. False if there
+ * are fewer, or no field is at fault. */
+UEFI_CALL bool uefi_time_faults(UefiBytes bytes, UefiTimeFaults *out);
+
+#ifdef __cplusplus
+}
+#endif
+
+#endif

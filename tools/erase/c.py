@@ -1,0 +1,137 @@
+"""The functions for C: slices cross as structures, and what is only written may be uninitialized."""
+import re
+
+from tokens import Rule, lex, rewrite
+
+# What C hands over for a slice, and a slice of what it hands over.
+PARAMETERS = {"[u8]": ("Bytes", "as_slice"), "mut [u8]": ("Buffer", "into_slice")}
+
+
+EXPORTS = [Rule('#[unsafe(no_mangle)]', ''), Rule('pub extern "C" fn', 'pub fn')]
+
+
+def exported(source):
+    """Takes from the functions for C what makes them so, and returns their names."""
+    names = {source.item_name(keyword + 2) for _, keyword, _ in source.items() if source.at(keyword) == 'extern'}
+    rewrite(source, EXPORTS)
+    return names
+
+
+def to_c(source, exports, structs):
+    """Writes the functions that C calls, and the structures that they fill. `structs` has the slices of each."""
+    for start, keyword, end in reversed(list(source.items())):
+        if source.at(keyword) == 'struct' and source.item_name(keyword) in structs:
+            fields_to_c(source, keyword, end)
+        elif source.at(keyword) == 'fn' and source.item_name(keyword) in exports:
+            function_to_c(source, keyword)
+            replace(source, keyword, keyword + 1, 'extern "C" fn')
+            inline = source.after(start + 1)
+            if source.code(start, inline) != '#[inline]':
+                source.refuse(start, 'attributes of a function for C')
+            replace(source, start, inline, '#[unsafe(no_mangle)]')
+    for i in range(len(source.tokens) - 1, -1, -1):
+        if source.at(i) in structs and source.at(i + 1) == '{' and source.at(i - 1) not in ('struct', '->'):
+            literal_to_c(source, i + 1, structs[source.at(i)])
+
+
+def text_of(source):
+    """The text, with the imports of what C hands over."""
+    names = set(source.names())
+    lines = ['use core::mem::MaybeUninit;'] * ('MaybeUninit' in names)
+    used = sorted(names & {'Buffer', 'Bytes'})
+    lines += [f'use crate::bytes::{used[0]};' if len(used) == 1 else 'use crate::bytes::{Buffer, Bytes};'] * bool(used)
+    text = source.text()
+    docs = re.match(r'(//![^\n]*\n)*', text)[0]
+    return '\n\n'.join(part for part in (docs.strip(), '\n'.join(lines), text[len(docs):].strip()) if part) + '\n'
+
+
+def slices_of(source):
+    """For each structure of a file for C the fields that are slices."""
+    found = {}
+    for start, keyword, end in source.items():
+        if source.at(keyword) == 'struct' and 'repr' in source.names(start, keyword):
+            opening = source.until(keyword, '{')
+            found[source.item_name(keyword)] = {source.at(i - 1) for i in range(opening, source.close(opening))
+                                                if source.at(i) == ':' and source.code(i + 1, i + 6) == "&'a [u8]"}
+    return found
+
+
+def split(source, opening):
+    """The parts of a list between its commas: (first token, index after the last)."""
+    close, start, i = source.close(opening), opening + 1, opening + 1
+    while i < close:
+        at = source.at(i)
+        if at == ',':
+            yield start, i
+            start = i + 1
+        i = source.angle(i) + 1 if at == '<' and source.angle(i) else source.after(i)
+    if start < close:
+        yield start, close
+
+
+def replace(source, first, end, text):
+    new = lex(text)[:-1]
+    new[0].space = source.tokens[first].space
+    source.tokens[first:end] = new
+
+
+def fields_to_c(source, keyword, end):
+    """A field that is a slice is `Bytes`."""
+    for i in range(end - 1, keyword, -1):
+        if source.at(i) == ':' and source.code(i + 1, i + 6) == "&'a [u8]":
+            replace(source, i + 1, i + 6, " Bytes<'a>")
+            source.tokens[i + 1].space = ' '
+
+
+def literal_to_c(source, opening, slices):
+    for first, end in reversed(list(split(source, opening))):
+        name = source.at(first)
+        if name in slices:
+            value = source.code(first + 2, end) if source.at(first + 1) == ':' else name
+            replace(source, first, end, f'{name}: Bytes::new({value})')
+
+
+def function_to_c(source, keyword):
+    """A function: `Bytes` for slices, and `MaybeUninit` for what is written and not read."""
+    opening = source.until(keyword, '(')
+    body = source.body(keyword)
+    before, outs = [], {}
+    for first, end in reversed(list(split(source, opening))):
+        colon = next(i for i in range(first, end) if source.at(i) == ':')
+        name, kind = source.at(first), source.code(colon + 1, end)
+        life = source.at(colon + 2) if source.at(colon + 2).startswith("'") else None
+        plain = kind.removeprefix('&').replace(f'{life} ', '', 1)
+        if plain in PARAMETERS:
+            of, call = PARAMETERS[plain]
+            before.insert(0, f"let {name} = {name}.{call}();")
+            replace(source, colon + 1, end, f"{of}<{life or chr(39) + '_'}>")
+        elif plain.startswith('mut ') and name != 'offset':
+            of = plain.removeprefix('mut ')
+            outs[name] = of.endswith('[u8]')
+            replace(source, colon + 1, end, f"&mut MaybeUninit<{'Bytes<' + chr(39) + 'a>' if outs[name] else of}>")
+        source.tokens[colon + 1].space = ' '
+    body = source.body(keyword)
+    writes_to_c(source, body, outs)
+    for text in reversed(before):
+        new = lex(text)[:-1]
+        new[0].space = '\n    '
+        source.tokens[body + 1:body + 1] = new
+
+
+def writes_to_c(source, body, outs):
+    """`*out = value;` becomes a write."""
+    i = source.close(body)
+    while i > body:
+        i -= 1
+        if source.at(i) not in outs or source.tokens[i].kind != 'name':
+            continue
+        if source.at(i - 1) != '*' or source.at(i + 1) != '=':
+            source.refuse(i, 'what C may leave uninitialized is read, or written in part')
+        end, name = source.until(i, ';'), source.at(i)
+        # The braces of a structure, of a block.
+        value = source.tokens[i + 2:end]
+        value[0].space = ''
+        call = lex(f'{name}.write(')[:-1] + (lex('Bytes::new(')[:-1] if outs[name] else [])
+        call[0].space = source.tokens[i - 1].space
+        source.tokens[i - 1:end] = call + value + lex('))' if outs[name] else ')')[:-1]
+        i -= 1
