@@ -62,11 +62,14 @@
 
 #include "uefi_formats/bytes.h"
 #include "uefi_formats/config.h"
+#include "uefi_formats/event_data.h"
 #include "uefi_formats/log.h"
 #include "uefi_formats/map.h"
 #include "uefi_formats/path.h"
 #include "uefi_formats/pci.h"
+#include "uefi_formats/pcr.h"
 #include "uefi_formats/record.h"
+#include "uefi_formats/text.h"
 #include "uefi_formats/time.h"
 
 #endif

@@ -26,6 +26,10 @@ UEFI_CALL bool uefi_config_next_pair(UefiBytes text, size_t *offset, UefiPair *o
  * if the text isn't UTF-8. */
 UEFI_CALL bool uefi_hex(UefiBytes text, UefiBuffer buffer, size_t *size);
 
+/* The number that a text in UTF-8 spells in hex, the highest byte first. False
+ * if it spells another count of bytes than 1, 2, 4 or 8, or isn't UTF-8. */
+UEFI_CALL bool uefi_config_number(UefiBytes text, uint64_t *out);
+
 #ifdef __cplusplus
 }
 #endif

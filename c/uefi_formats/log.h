@@ -63,7 +63,7 @@ extern "C" {
  * Where a function for the next event has returned false, an offset past
  * `last_entry`, or at the log's end, says that the last event was read. From
  * another offset on the bytes are no whole event: the log is cut or damaged,
- * or `last_entry` isn't its own.
+ * or `last_entry` isn't its own. uefi_log1_state says which.
  *
  * A log without events, for which firmware's EventLogLastEntry is 0, has the
  * last entry UEFI_EMPTY_LOG. uefi_last_entry() makes either from what
@@ -147,6 +147,20 @@ UEFI_CALL bool uefi_log2_next(UefiBytes log, size_t last_entry, UefiBytes rows, 
 
 /* The next digest of an event, under the same rows. */
 UEFI_CALL bool uefi_digest_next(UefiBytes digests, UefiBytes rows, size_t *offset, UefiDigest *out);
+
+/* The first digest of an algorithm in the event of a version 2 log that starts
+ * at the offset: where uefi_log2_next read it from, and not where it ended. */
+UEFI_CALL bool uefi_log2_digest(UefiBytes log, size_t last_entry, UefiBytes rows, size_t offset, uint16_t algorithm,
+                                UefiBytes *digest);
+
+#define UEFI_LOG_ENDED 0u /* the last event was read, or the log has none, or its bytes end here */
+#define UEFI_LOG_EVENT 1u /* an event */
+#define UEFI_LOG_CUT 2u   /* the bytes end inside the event that begins here */
+#define UEFI_LOG_CROSSES_LAST_ENTRY 3u /* the event starts before the last entry, and ends after it */
+
+/* What is at the offset where a walk over a version 1 log ended, as one of
+ * these numbers. */
+UEFI_CALL uint32_t uefi_log1_state(UefiBytes log, size_t last_entry, size_t offset);
 
 /* Writes an event of a version 1 log to the beginning of the buffer, and sets
  * `*size` to its length. If it returns false, the buffer is as it was, and

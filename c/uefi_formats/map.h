@@ -43,6 +43,10 @@ UEFI_CALL bool uefi_map_check(UefiBytes map, size_t stride);
  * stride, or it has no such descriptor: so a loop over the index ends. */
 UEFI_CALL bool uefi_map_entry(UefiBytes map, size_t stride, size_t index, UefiDescriptor *out);
 
+/* Writes descriptor `index` of the map that all of the buffer is: its forty
+ * bytes. False where uefi_map_entry returns false. */
+UEFI_CALL bool uefi_map_set(UefiBuffer map, size_t stride, size_t index, const UefiDescriptor *entry);
+
 /* Whether the bytes are a map in which no descriptor begins at a lower
  * physical address than the one before it. */
 UEFI_CALL bool uefi_map_is_sorted(UefiBytes map, size_t stride);

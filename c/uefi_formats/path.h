@@ -40,6 +40,40 @@ UEFI_CALL bool uefi_path_next_node(UefiBytes path, size_t *offset, UefiNode *out
  * between them, of the second end alone. */
 UEFI_CALL bool uefi_path_next_instance(UefiBytes path, size_t *offset, UefiBytes *instance);
 
+#define UEFI_PATH_ENDED 0u      /* the node that ends the walk */
+#define UEFI_PATH_NODE 1u       /* another node */
+#define UEFI_PATH_NO_END 2u     /* the bytes end here, and no node ended the walk */
+#define UEFI_PATH_CUT_NODE 3u   /* the bytes end inside the node that begins here */
+#define UEFI_PATH_SHORT_NODE 4u /* the node that begins here states a length below 4 */
+
+/* What is at the offset where a walk over nodes ended, as one of these
+ * numbers. */
+UEFI_CALL uint32_t uefi_path_state(UefiBytes path, size_t offset);
+
+/* ---- Load options (UEFI 2.10, 3.1.3): values of Boot0000 and others ---- */
+
+typedef struct {
+    UefiBytes description; /* units of two bytes, little-endian; the last alone is zero */
+    UefiBytes file_path;   /* the path to the image, with its end */
+    UefiBytes file_path_list;
+    UefiBytes optional_data;
+    uint32_t attributes;
+} UefiLoadOption;
+
+#define UEFI_LOAD_OPTION_ACTIVE 0x00000001u
+#define UEFI_LOAD_OPTION_FORCE_RECONNECT 0x00000002u
+#define UEFI_LOAD_OPTION_HIDDEN 0x00000008u
+#define UEFI_LOAD_OPTION_CATEGORY 0x00001f00u
+
+#define UEFI_LOAD_OPTION_READ 0u           /* *out has it */
+#define UEFI_LOAD_OPTION_TOO_SHORT 1u      /* fewer than six bytes */
+#define UEFI_LOAD_OPTION_NO_NUL 2u         /* no unit of the description is zero */
+#define UEFI_LOAD_OPTION_LIST_TOO_LONG 3u  /* fewer bytes follow than the file path list is stated to have */
+#define UEFI_LOAD_OPTION_NO_FILE_PATH 4u   /* the list begins with no device path */
+
+/* Reads the load option that all the bytes are. */
+UEFI_CALL uint32_t uefi_load_option(UefiBytes bytes, UefiLoadOption *out);
+
 #ifdef __cplusplus
 }
 #endif

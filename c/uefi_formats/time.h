@@ -40,6 +40,10 @@ UEFI_CALL bool uefi_time(UefiBytes bytes, UefiTime *out);
  * are fewer, or no field is at fault. */
 UEFI_CALL bool uefi_time_faults(UefiBytes bytes, UefiTimeFaults *out);
 
+/* Writes the sixteen bytes of a time, with zeros as padding. False if a field
+ * is out of its range; daylight may have any bits. */
+UEFI_CALL bool uefi_write_time(const UefiTime *time, uint8_t bytes[16]);
+
 #ifdef __cplusplus
 }
 #endif

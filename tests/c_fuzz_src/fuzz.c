@@ -83,6 +83,7 @@ static bool one1(UefiBytes log, size_t last, size_t *at) {
     UefiEvent1 out, untouched;
     memset(&out, 0xcc, sizeof out), memset(&untouched, 0xcc, sizeof out);
     size_t start = *at, end = plain1(log, last, start);
+    one_log1_state(log, last, start, end, plain1(log, log.n, start));
     bool found = uefi_log1_next(log, last, at, &out);
     NEED(found == (end != 0));
     if (!found) { NEED(*at == start); SAME(out); return false; }
@@ -92,12 +93,27 @@ static bool one1(UefiBytes log, size_t last, size_t *at) {
     return events1++, true;
 }
 
+/* The first digest of an algorithm in the event at an offset whose digests end there; 0 for no event. */
+static void one_algorithm(UefiBytes log, size_t last, UefiBytes rows, size_t at, size_t digests_end) {
+    UefiBytes out, untouched;
+    memset(&out, 0xcc, sizeof out), memset(&untouched, 0xcc, sizeof out);
+    uint16_t algorithm = any() & 1 && digests_end > at + 14 ? u16(log.at + at + 12) : any() & 7 ? below(14) : any();
+    size_t i = at + 12, n = 0;
+    for (; i < digests_end && u16(log.at + i) != algorithm; i += n) n = plain_digest(rows, log.at + i, digests_end - i);
+    bool wanted = i < digests_end;
+    NEED(uefi_log2_digest(log, last, rows, at, algorithm, &out) == wanted);
+    if (!wanted) { SAME(out); return; }
+    NEED(out.at == log.at + i + 2 && out.n == plain_digest(rows, log.at + i, digests_end - i) - 2);
+    calls[ONE_DIGEST]++;
+}
+
 static bool one2(UefiBytes log, size_t last, UefiBytes rows, size_t *at) {
     UefiEvent2 out, untouched;
     memset(&out, 0xcc, sizeof out), memset(&untouched, 0xcc, sizeof out);
-    size_t start = *at, digests_end, end = plain2(log, last, rows, start, &digests_end);
+    size_t start = *at, digests_end = 0, end = plain2(log, last, rows, start, &digests_end);
     bool found = uefi_log2_next(log, last, rows, at, &out);
     NEED(found == (end != 0));
+    one_algorithm(log, last, rows, start, found ? digests_end : 0);
     if (!found) { NEED(*at == start); SAME(out); return false; }
     const uint8_t *b = log.at + start;
     NEED(*at == end && out.pcr_index == u32(b) && out.event_type == u32(b + 4) && out.digest_count == u32(b + 8));
@@ -171,6 +187,7 @@ static void one_path(UefiBytes bytes, size_t at) {
         UefiNode out, untouched;
         memset(&out, 0xcc, sizeof out), memset(&untouched, 0xcc, sizeof out);
         size_t from = at, n = plain_node(bytes, at);
+        one_path_state(bytes, at, n);
         const uint8_t *b = bytes.at + (n ? from : 0);
         bool ends = n && b[0] == 0x7f && (b[1] == 0xff || from + n == bytes.n), found = uefi_path_next_node(bytes, &at, &out);
         NEED(found == (n && !ends));
@@ -275,9 +292,11 @@ int main(int argc, char **argv) {
         UefiBytes part = {log.at + cut, n - cut};
         at = any() & 1 ? 0 : any() & 3 ? below(part.n + 3) : (size_t)any();
         one_digest(rows, part, at), one_path(part, at), one_resource(part, at), one_pair(part, at), one_entry(part);
-        records_of(part);
+        records_of(part), calls_of(part);
     }
     printf("%zu inputs, 0 differences: %zu headers, %zu and %zu events, %zu digests, %zu nodes, %zu entries, %zu resources, "
            "%zu pairs, %zu records, %zu times, %zu texts, %zu events written\n",
            inputs, headers, events1, events2, digests, nodes, entries, resources, pairs, records, times, texts, written_events);
+    for (int i = 0; i < CALL_COUNT; i++) printf("%s%zu", i ? ", " : "calls: ", calls[i]);
+    puts("");
 }

@@ -26,4 +26,16 @@ void need(bool holds, const char *file, int line);
 void records_of(UefiBytes part);
 extern size_t records, times, texts, written_events;
 
+/* What is at an offset, and the other calls of these bytes. */
+void one_log1_state(UefiBytes log, size_t last, size_t at, size_t end, size_t end_anywhere);
+void one_path_state(UefiBytes path, size_t at, size_t node);
+void calls_of(UefiBytes part);
+
+/* How often each was right where most others aren't. */
+enum {
+    LOG1_STATE, PATH_STATE, ONE_DIGEST, LOAD_OPTIONS, VARIABLES, IMAGES, BLOBS, SIGNATURES,
+    NUMBERS, TIMES_WRITTEN, ENTRIES_WRITTEN, CALL_COUNT
+};
+extern size_t calls[CALL_COUNT];
+
 #endif

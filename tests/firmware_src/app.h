@@ -53,7 +53,7 @@ UefiBytes readable_from(const void *at);
 void read_paths(EfiHandle image);
 void read_log(void);
 
-/* Keeps what the TPM's registers hold. */
-void keep_registers(EfiTcg2 *tcg2);
+/* Keeps what the TPM's registers hold, and compares it with what a log leaves in them. */
+void keep_registers(EfiTcg2 *tcg2, UefiBytes bytes, size_t last_entry);
 
 #endif

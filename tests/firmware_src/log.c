@@ -145,6 +145,6 @@ void read_log(void) {
     text("last_entry ");
     decimal(log.last_entry);
     end_line();
-    keep_registers(tcg2);
+    keep_registers(tcg2, log.bytes, log.last_entry);
     expect(get_log(tcg2, &later) && later.last_entry == log.last_entry, "nothing was logged since");
 }

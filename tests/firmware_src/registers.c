@@ -1,5 +1,5 @@
-/* The TPM's registers, by TPM2_PCR_Read (TPM 2.0 Library, part 3, 22.4), for whoever compares them with the log.
- * They are kept as they are; no proved function reads them. */
+/* The TPM's registers, by TPM2_PCR_Read (TPM 2.0 Library, part 3, 22.4): those of a bank that can be replayed are what
+ * uefi_replay_pcr gives of the log. They are kept for whoever compares them again. */
 #include "app.h"
 
 #define REGISTERS 24
@@ -36,8 +36,23 @@ static bool ask(EfiTcg2 *tcg2, uint16_t algorithm, unsigned first, uint8_t *resp
     return true;
 }
 
+static UefiBytes log;
+static size_t log_last_entry, replayed;
+
+/* Compares a register with what the log leaves in it. */
+static void replay(uint16_t algorithm, unsigned index, UefiBytes value) {
+    UefiPcr pcr;
+    if (!uefi_replay_pcr(log, log_last_entry, algorithm, index, &pcr))
+        return;
+    bool same = pcr.fault == UEFI_PCR_DETERMINED && pcr.size == value.n;
+    for (size_t i = 0; same && i < value.n; i++)
+        same = pcr.value[i] == value.at[i];
+    expect(same, "a register is as the log leaves it");
+    replayed++;
+}
+
 /* Keeps the registers of a response, and returns how many there are: each is a length and its bytes. */
-static unsigned keep_response(const char *bank, unsigned first, const uint8_t *response) {
+static unsigned keep_response(const char *bank, uint16_t algorithm, unsigned first, const uint8_t *response) {
     uint32_t count = big_u32(response + 24);
     const uint8_t *at = response + 28;
     for (uint32_t k = 0; k < count; k++, at += 2 + big_u16(at)) {
@@ -49,6 +64,7 @@ static unsigned keep_response(const char *bank, unsigned first, const uint8_t *r
         name[n++] = (char)('0' + (first + k) / 10);
         name[n++] = (char)('0' + (first + k) % 10);
         keep_file(name, uefi_bytes(at + 2, big_u16(at)));
+        replay(algorithm, first + k, uefi_bytes(at + 2, big_u16(at)));
     }
     return count;
 }
@@ -56,13 +72,15 @@ static unsigned keep_response(const char *bank, unsigned first, const uint8_t *r
 static void keep_bank(EfiTcg2 *tcg2, uint16_t algorithm, const char *name) {
     static uint8_t response[4096];
     for (unsigned first = 0; first < REGISTERS;) {
-        unsigned count = ask(tcg2, algorithm, first, response, sizeof response) ? keep_response(name, first, response) : 0;
+        unsigned count = ask(tcg2, algorithm, first, response, sizeof response) ? keep_response(name, algorithm, first, response) : 0;
         expect(count != 0, "the TPM tells its registers");
         first += count ? count : REGISTERS;
     }
 }
 
-void keep_registers(EfiTcg2 *tcg2) {
+void keep_registers(EfiTcg2 *tcg2, UefiBytes bytes, size_t last_entry) {
+    log = bytes;
+    log_last_entry = last_entry;
     EfiTcg2Capability capability = {.size = sizeof capability};
     if (tcg2->get_capability(tcg2, &capability) != EFI_SUCCESS) {
         expect(false, "the TPM's banks");
@@ -78,5 +96,7 @@ void keep_registers(EfiTcg2 *tcg2) {
     }
     text(", register changes ");
     decimal(changes);
+    text(", replayed ");
+    decimal(replayed);
     end_line();
 }

@@ -7,6 +7,11 @@ from tokens import Rule, lex, rewrite
 PARAMETERS = {"[u8]": ("Bytes", "as_slice"), "mut [u8]": ("Buffer", "into_slice")}
 
 
+# What the hash functions and PCR replay have beside.
+BELOW = [Rule(before, after) for before, after in [
+    ('use std::convert::AsSlice;', ''), ('AsSlice<u8>', 'AsRef<[u8]>'), ('data.as_slice()', 'data.as_ref()'),
+    ('use std::alloc::AllocError;', ''), ('one_contents();', ''), ('#[cfg(test)] mod tests;', ''),
+]]
 EXPORTS = [Rule('#[unsafe(no_mangle)]', ''), Rule('pub extern "C" fn', 'pub fn')]
 
 
@@ -15,6 +20,19 @@ def exported(source):
     names = {source.item_name(keyword + 2) for _, keyword, _ in source.items() if source.at(keyword) == 'extern'}
     rewrite(source, EXPORTS)
     return names
+
+
+def below(source):
+    """Writes what is below the functions for C: `Clone`, which may run out of memory, `Debug`, which is
+    derived, and what a trait has that nothing calls are dropped."""
+    for start, keyword, end in reversed(list(source.items())):
+        if source.at(keyword) == 'impl' and source.code(keyword + 1, source.body(keyword)).startswith(('Clone for', 'fmt::Debug for')):
+            source.cut(start, end)
+        elif source.at(keyword) == 'trait':
+            for first, inner, after in reversed(list(source.items(source.body(keyword) + 1, end - 1))):
+                if source.at(inner) == 'final':
+                    source.cut(first, after)
+    rewrite(source, BELOW)
 
 
 def to_c(source, exports, structs):
@@ -43,6 +61,16 @@ def text_of(source):
     text = source.text()
     docs = re.match(r'(//![^\n]*\n)*', text)[0]
     return '\n\n'.join(part for part in (docs.strip(), '\n'.join(lines), text[len(docs):].strip()) if part) + '\n'
+
+
+def modules(names):
+    """The module of these crates."""
+    return f"""//! The functions for C, and the crates that the package `uefi-formats` hasn't.
+
+// Some fields and imports are those of the proofs, and a form is the one that is proved.
+#![allow(dead_code, unused_imports, unused_labels, clippy::complexity, clippy::style)]
+
+{''.join(f'pub(crate) mod {name};' + chr(10) for name in names)}"""
 
 
 def slices_of(source):

@@ -58,6 +58,13 @@ class Docs:
             return before + file.read().strip()
 
 
+def without_examples(source):
+    """Deletes the examples of a file: lines of docs from one with a fence to the next."""
+    for token in source.tokens:
+        if '```' in token.space:
+            token.space = re.sub(r'(?ms)^[ ]*//[/!] ?```.*?^[ ]*//[/!] ?```\n', '', token.space)
+
+
 def paragraph(text, width):
     """A paragraph without the sentences that speak of proofs."""
     if '```' in text or text.startswith(('|', '#')) or not PROOF.search(text):

@@ -49,7 +49,7 @@ ALLOCATOR = re.compile(
 EMPTY = rules([("use std::alloc::{};", ""), ("use std::alloc::Allocator;", ""), ("use std::alloc::Global;", ""),
                ("use std::alloc::{AllocError};", "use std::alloc::AllocError;")])
 # The modules of std that are in core, in this package's support, and in std.
-CORE, SUPPORT, STD = {'cell', 'cmp', 'error', 'fmt', 'iter', 'ops', 'str'}, {'alloc', 'simd', 'test'}, {'io'}
+CORE, SUPPORT, STD = {'cell', 'cmp', 'error', 'fmt', 'iter', 'mem', 'ops', 'str'}, {'alloc', 'simd', 'test'}, {'io'}
 # All that may be left.
 ATTRIBUTES = {'allow', 'cfg', 'derive', 'inline', 'must_use', 'repr', 'test'}
 MACROS = {'assert', 'bitflag_items', 'fallible_format', 'fallible_write', 'fallible_writeln', 'format_args', 'matches',

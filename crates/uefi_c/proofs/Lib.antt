@@ -7,3 +7,6 @@ pub mod MapSteps
 pub mod PciSteps
 pub mod PairSteps
 pub mod NameBytes
+pub mod UnitBytes
+pub mod LoadOptionParts
+pub mod VariableParts

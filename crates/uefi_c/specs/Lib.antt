@@ -1,5 +1,6 @@
 pub mod Cursor
 pub mod Path
+pub mod State
 pub mod Map
 pub mod Log1
 pub mod Log2
@@ -7,4 +8,7 @@ pub mod Pci
 pub mod Time
 pub mod Write
 pub mod Config
+pub mod LoadOption
+pub mod EventData
+pub mod Replay
 pub mod Info

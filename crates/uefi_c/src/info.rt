@@ -164,7 +164,7 @@ pub extern "C" fn uefi_volume_label<'a>(
 }
 
 /// Returns the bytes of this many units from the offset on.
-fn name_bytes(buffer: &[u8], offset: usize, units: usize) -> &[u8]
+pub(crate) fn name_bytes(buffer: &[u8], offset: usize, units: usize) -> &[u8]
     requires { offset + 2 * units ≤ length buffer.now }
     ensures { result.now ≡ take (2 * units) (drop offset buffer.now) }
 {

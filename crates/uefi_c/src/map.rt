@@ -1,8 +1,11 @@
 ghost use Rattle.std.specs.Prelude.{◌≡◌, ◌<◌, ◌↔◌, length, Some, IsTrue, IsFalse};
-ghost use Rattle.uefi_map.specs.memory.Map.{IsMap, AreSorted, count_of, entry_of};
+ghost use Rattle.uefi_map.specs.memory.Map.{IsMap, AreSorted, IsWithDescriptor, count_of, entry_of};
 ghost use Rattle.uefi_c.specs.Map.{sizes_of, descriptor_of};
 
-use uefi_map::{MemoryDescriptor, MemoryMap, MemoryMapKey, MemoryMapMeta, MemoryMapRef};
+use uefi_map::{
+    MemoryAttribute, MemoryDescriptor, MemoryMap, MemoryMapKey, MemoryMapMeta, MemoryMapMut,
+    MemoryMapRef, MemoryMapRefMut, MemoryType,
+};
 
 /// A descriptor of a memory map.
 #[derive(Clone, Copy)]
@@ -59,6 +62,45 @@ pub extern "C" fn uefi_map_entry(
         attribute: entry.att.bits(),
     };
     true
+}
+
+/// Writes the descriptor at an index of the map that all the bytes are: its forty bytes.
+#[unsafe(no_mangle)]
+pub extern "C" fn uefi_map_set(
+    map: &mut [u8],
+    stride: usize,
+    index: usize,
+    entry: &UefiDescriptor,
+) -> bool
+    ensures found { let sizes = sizes_of (length map.old) stride in
+        IsTrue result ↔ (IsMap (length map.old) sizes × (index < count_of sizes)) }
+    ensures written { let sizes = sizes_of (length map.old) stride in
+        IsTrue result → IsWithDescriptor map.old sizes index (descriptor_of entry.now) map.new }
+    ensures unchanged { IsFalse result → map.new ≡ map.old }
+{
+    let sizes = sizes_of(map.len(), stride);
+    if !sizes.is_map_within(map.len()) {
+        return false;
+    }
+    let mut map = MemoryMapRefMut::over(map, sizes);
+    match map.set(index, descriptor_of(entry)) {
+        Some(_) => true,
+        None => false,
+    }
+}
+
+/// Returns the descriptor of these numbers.
+fn descriptor_of(entry: &UefiDescriptor) -> MemoryDescriptor
+    ensures { result ≡ descriptor_of entry.now }
+{
+    MemoryDescriptor {
+        ty: MemoryType(entry.memory_type),
+        padding: entry.padding,
+        phys_start: entry.phys_start,
+        virt_start: entry.virt_start,
+        page_count: entry.page_count,
+        att: MemoryAttribute::from_bits_retain(entry.attribute),
+    }
 }
 
 /// Returns whether all the bytes are a map with this stride, and no descriptor begins at a lower

@@ -77,7 +77,7 @@ fn next_node(path: &[u8], offset: usize) -> Option<(DevicePathNode<'_>, usize)>
 }
 
 /// Returns whether the node ends the walk, by whether the bytes end after it.
-fn ends_walk(node: &DevicePathNode<'_>, is_at_end: bool) -> bool
+pub(crate) fn ends_walk(node: &DevicePathNode<'_>, is_at_end: bool) -> bool
     ensures { IsTrue result ↔ EndsWalk (node_of node.now) (IsTrue is_at_end) }
 {
     if !is_end(node) {
@@ -142,7 +142,7 @@ fn first_instance(bytes: &[u8]) -> Option<&[u8]>
 }
 
 /// Returns the node that the bytes begin with, and the bytes after it.
-fn split_node(bytes: &[u8]) -> Option<(DevicePathNode<'_>, &[u8])>
+pub(crate) fn split_node(bytes: &[u8]) -> Option<(DevicePathNode<'_>, &[u8])>
     ensures fits { IfSome result (λ split. Fits (node_of split.0)) }
     ensures split { IfSome result
         (λ split. bytes.now ≡ encoding (node_of split.0) ++ split.1.now) }

@@ -1,10 +1,10 @@
-ghost use Rattle.std.specs.Prelude.{◌≡◌, ◌≢◌, ◌⊎◌, ◌<◌, length, IsTrue, IsFalse};
-ghost use Rattle.uefi_records.specs.time.Faults.{reading_faults, no_fault};
-ghost use Rattle.uefi_records.specs.time.Fields.{TimeFields, StandsIn, time_length, without_pads};
+ghost use Rattle.std.specs.Prelude.{◌≡◌, ◌≢◌, ◌↔◌, ◌⊎◌, ◌<◌, length, IsTrue, IsFalse};
+ghost use Rattle.uefi_records.specs.time.Faults.{IsValid, reading_faults, no_fault};
+ghost use Rattle.uefi_records.specs.time.Fields.{TimeFields, StandsIn, time_bytes, time_length, without_pads};
 ghost use Rattle.uefi_records.specs.time.Views.{time_of};
 ghost use Rattle.uefi_c.specs.Time.{time_seen, faults_seen, HasTime, HasFaults};
 
-use uefi_records::{Time, TimeByteConversionError, TimeError};
+use uefi_records::{Daylight, Time, TimeByteConversionError, TimeError, TimeParams};
 
 /// The zone of local time.
 const UNSPECIFIED_ZONE: i16 = 0x07ff;
@@ -89,6 +89,31 @@ pub extern "C" fn uefi_time_faults(bytes: &[u8], out: &mut UefiTimeFaults) -> bo
             true
         }
     }
+}
+
+/// Writes the sixteen bytes of a time, if its fields are in their ranges. Any bits of daylight are.
+#[unsafe(no_mangle)]
+pub extern "C" fn uefi_write_time(time: &UefiTime, bytes: &mut [u8; 16]) -> bool
+    ensures valid { IsTrue result ↔ IsValid (time_seen time.now) }
+    ensures written { IsTrue result → bytes.new ≡ time_bytes (time_seen time.now) }
+    ensures unchanged { IsFalse result → bytes.new ≡ bytes.old }
+{
+    let params = TimeParams {
+        year: time.year,
+        month: time.month,
+        day: time.day,
+        hour: time.hour,
+        minute: time.minute,
+        second: time.second,
+        nanosecond: time.nanosecond,
+        time_zone: Some(time.zone),
+        daylight: Daylight::from_bits_retain(time.daylight),
+    };
+    let Ok(time) = Time::new(params) else {
+        return false;
+    };
+    *bytes = time.to_bytes();
+    true
 }
 
 /// Returns the fields of a time, without its padding.

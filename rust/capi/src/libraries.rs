@@ -1,5 +1,9 @@
 //! The libraries by the names of their crates, which the functions use.
 
+pub(crate) mod uefi_base {
+    pub(crate) use uefi_formats::little_endian;
+}
+
 pub(crate) mod uefi_path {
     pub(crate) use uefi_formats::proto::device_path::*;
 }

@@ -144,7 +144,7 @@ pub extern "C" fn uefi_volume_label<'a>(
 
 /// Returns the bytes of this many units from the offset on.
 #[inline]
-fn name_bytes(buffer: &[u8], offset: usize, units: usize) -> &[u8] {
+pub(crate) fn name_bytes(buffer: &[u8], offset: usize, units: usize) -> &[u8] {
     let (_, rest) = buffer.split_at(offset);
     let (name, _) = rest.split_at(2 * units);
     name

@@ -2,12 +2,21 @@
 
 mod config;
 mod cursor;
+mod digest;
+mod event_data;
+mod guid;
 mod hex;
 mod info;
+mod load_option;
 mod log1;
 mod log2;
+mod log_state;
 mod map;
+mod number;
 mod path;
+mod path_state;
 mod pci;
+mod replay;
+mod signature;
 mod time;
 mod write;

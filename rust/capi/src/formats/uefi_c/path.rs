@@ -65,7 +65,7 @@ fn next_node(path: &[u8], offset: usize) -> Option<(DevicePathNode<'_>, usize)> 
 
 /// Returns whether the node ends the walk, by whether the bytes end after it.
 #[inline]
-fn ends_walk(node: &DevicePathNode<'_>, is_at_end: bool) -> bool {
+pub(crate) fn ends_walk(node: &DevicePathNode<'_>, is_at_end: bool) -> bool {
     if !is_end(node) {
         return false;
     }
@@ -116,7 +116,7 @@ fn first_instance(bytes: &[u8]) -> Option<&[u8]> {
 
 /// Returns the node that the bytes begin with, and the bytes after it.
 #[inline]
-fn split_node(bytes: &[u8]) -> Option<(DevicePathNode<'_>, &[u8])> {
+pub(crate) fn split_node(bytes: &[u8]) -> Option<(DevicePathNode<'_>, &[u8])> {
     let node = DevicePathNode::try_from(bytes).ok()?;
     let (_, after) = bytes.split_at(node.as_bytes().len());
     Some((node, after))

@@ -3,7 +3,7 @@
 use core::mem::MaybeUninit;
 use crate::bytes::Bytes;
 
-use crate::libraries::uefi_records::{Time, TimeByteConversionError, TimeError};
+use crate::libraries::uefi_records::{Daylight, Time, TimeByteConversionError, TimeError, TimeParams};
 
 /// The zone of local time.
 const UNSPECIFIED_ZONE: i16 = 0x07ff;
@@ -83,6 +83,27 @@ pub extern "C" fn uefi_time_faults(bytes: Bytes<'_>, out: &mut MaybeUninit<UefiT
             true
         }
     }
+}
+
+/// Writes the sixteen bytes of a time, if its fields are in their ranges. Any bits of daylight are.
+#[unsafe(no_mangle)]
+pub extern "C" fn uefi_write_time(time: &UefiTime, bytes: &mut MaybeUninit<[u8; 16]>) -> bool {
+    let params = TimeParams {
+        year: time.year,
+        month: time.month,
+        day: time.day,
+        hour: time.hour,
+        minute: time.minute,
+        second: time.second,
+        nanosecond: time.nanosecond,
+        time_zone: Some(time.zone),
+        daylight: Daylight::from_bits_retain(time.daylight),
+    };
+    let Ok(time) = Time::new(params) else {
+        return false;
+    };
+    bytes.write(time.to_bytes());
+    true
 }
 
 /// Returns the fields of a time, without its padding.

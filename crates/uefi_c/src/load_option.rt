@@ -1,0 +1,84 @@
+ghost use Rattle.std.specs.Prelude.{◌≡◌, ◌≢◌, ◌≤◌};
+ghost use Rattle.uefi_base.specs.Unaligned.{unit_bytes};
+ghost use Rattle.uefi_path.specs.LoadOption.{EncodesLoadOption, HasFault, file_path_list, load_option_bytes, with_nul};
+ghost use Rattle.uefi_path.specs.Node.{joined};
+ghost use Rattle.uefi_path.specs.LoadOptionViews.{load_option_of};
+ghost use Rattle.uefi_path.specs.declared.load_option_error.LoadOptionError.{LoadOptionError};
+ghost use Rattle.uefi_c.specs.LoadOption.{IsSeenOf, error_number};
+
+use crate::info::name_bytes;
+use uefi_path::{LoadOption, LoadOptionError};
+
+/// The offset of the description.
+const DESCRIPTION_OFFSET: usize = 6;
+
+/// A load option.
+#[derive(Clone, Copy)]
+#[repr(C)]
+pub struct UefiLoadOption<'a> {
+    /// The bytes of the description: units of two bytes, little-endian, of which the last alone is
+    /// zero.
+    pub description: &'a [u8],
+    /// The bytes of the device path that leads to the image.
+    pub file_path: &'a [u8],
+    /// The bytes of the file path list, which start with those of that path.
+    pub file_path_list: &'a [u8],
+    /// The data that the image is given.
+    pub optional_data: &'a [u8],
+    /// The attributes.
+    pub attributes: u32,
+}
+
+/// Reads the load option that the bytes are.
+///
+/// It returns 0, or why they are none: 1 if there are fewer than six, 2 if no unit of the
+/// description is zero, 3 if fewer bytes follow than the file path list is stated to have, 4 if the
+/// list begins with no device path.
+#[unsafe(no_mangle)]
+pub extern "C" fn uefi_load_option<'a>(bytes: &'a [u8], out: &mut UefiLoadOption<'a>) -> u32
+    ensures option { result ≡ 0 → IsSeenOf bytes.now out.new }
+    ensures fault { result ≢ 0
+        → (error : LoadOptionError) × (result ≡ error_number error) × HasFault bytes.now error }
+    ensures none { result ≢ 0 → ¬ EncodesLoadOption bytes.now }
+    ensures unchanged { result ≢ 0 → out.new ≡ out.old }
+{
+    match LoadOption::try_from(bytes) {
+        Ok(option) => {
+            *out = seen(bytes, &option);
+            0
+        }
+        Err(error) => error_number(&error),
+    }
+}
+
+/// Returns the parts of the load option that the bytes are.
+fn seen<'a>(bytes: &'a [u8], option: &LoadOption<'a>) -> UefiLoadOption<'a>
+    requires { bytes.now ≡ load_option_bytes (load_option_of option.now) }
+    ensures attributes { result.attributes ≡ (load_option_of option.now).attributes }
+    ensures description { result.description.now
+        ≡ unit_bytes (with_nul (load_option_of option.now).description) }
+    ensures file_path { result.file_path.now ≡ joined (load_option_of option.now).file_path }
+    ensures list { result.file_path_list.now ≡ file_path_list (load_option_of option.now) }
+    ensures optional_data { result.optional_data.now ≡ (load_option_of option.now).optional_data }
+{
+    let units = option.description().len();
+    UefiLoadOption {
+        description: name_bytes(bytes, DESCRIPTION_OFFSET, units),
+        file_path: option.file_path().as_bytes(),
+        file_path_list: option.file_path_list(),
+        optional_data: option.optional_data(),
+        attributes: option.attributes().bits(),
+    }
+}
+
+/// Returns the number of an error.
+fn error_number(error: &LoadOptionError) -> u32
+    ensures { result ≡ error_number error.now }
+{
+    match error {
+        LoadOptionError::TooShort => 1,
+        LoadOptionError::NotNulTerminated => 2,
+        LoadOptionError::FilePathListTooLong => 3,
+        LoadOptionError::FilePath(_) => 4,
+    }
+}
