@@ -16,7 +16,7 @@
  *             while (uefi_digest_next(event.digests, header.rows, &next, &digest))
  *                 measure(event.pcr_index, digest.algorithm, digest.bytes);
  *         }
- *         if (at <= last_entry && at < size)
+ *         if (uefi_log2_state(log, last_entry, header.rows, at) != UEFI_LOG_ENDED)
  *             damaged(at); // what begins there is no whole event
  *     }
  *

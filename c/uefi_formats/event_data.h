@@ -15,9 +15,11 @@ extern "C" {
  *     UEFI_EV_EFI_RUNTIME_SERVICES_DRIVER                                   uefi_image
  *     UEFI_EV_EFI_PLATFORM_FIRMWARE_BLOB, UEFI_EV_POST_CODE                 uefi_blob
  *     UEFI_EV_EFI_PLATFORM_FIRMWARE_BLOB2, UEFI_EV_POST_CODE2               uefi_blob2
+ *     UEFI_EV_EVENT_TAG                                                     uefi_tagged_next
  *
- * The value of a variable may be a load option (uefi_load_option) or, of the type
- * UEFI_EV_EFI_VARIABLE_AUTHORITY, a signature (uefi_signature).
+ * The value of a variable may be a load option (uefi_load_option), an order of
+ * boot options (uefi_boot_order) or, of the type UEFI_EV_EFI_VARIABLE_AUTHORITY,
+ * a signature (uefi_signature).
  *
  * A function returns true if the data are that structure, whole and alone. */
 
@@ -51,6 +53,20 @@ typedef struct {
  * that with a description (UEFI_PLATFORM_FIRMWARE_BLOB2). */
 UEFI_CALL bool uefi_blob(UefiBytes event_data, UefiBlob *out);
 UEFI_CALL bool uefi_blob2(UefiBytes event_data, UefiBlob *out);
+
+typedef struct {
+    UefiBytes value;
+    uint32_t id; /* says what the value is */
+} UefiTaggedEvent;
+
+/* The next tagged event of the data (TCG_PCClientTaggedEvent). False where none
+ * begins: at the end, or where the bytes are cut. */
+UEFI_CALL bool uefi_tagged_next(UefiBytes event_data, size_t *offset, UefiTaggedEvent *out);
+
+/* The number at an index of an order of boot options, the value of BootOrder:
+ * 1 is that of Boot0001. False if the bytes are odd in number, or it has no such
+ * index. */
+UEFI_CALL bool uefi_boot_order(UefiBytes bytes, size_t index, uint16_t *out);
 
 typedef struct {
     UefiBytes value; /* a hash or a certificate */

@@ -60,10 +60,9 @@ extern "C" {
  * ends there or before; none starts after it. If it isn't known, pass the
  * log's length: then each whole event is returned.
  *
- * Where a function for the next event has returned false, an offset past
- * `last_entry`, or at the log's end, says that the last event was read. From
- * another offset on the bytes are no whole event: the log is cut or damaged,
- * or `last_entry` isn't its own. uefi_log1_state says which.
+ * Where a function for the next event has returned false, uefi_log1_state and
+ * uefi_log2_state say why: the last event was read, or the log is cut or
+ * damaged, or `last_entry` isn't its own.
  *
  * A log without events, for which firmware's EventLogLastEntry is 0, has the
  * last entry UEFI_EMPTY_LOG. uefi_last_entry() makes either from what
@@ -157,10 +156,13 @@ UEFI_CALL bool uefi_log2_digest(UefiBytes log, size_t last_entry, UefiBytes rows
 #define UEFI_LOG_EVENT 1u /* an event */
 #define UEFI_LOG_CUT 2u   /* the bytes end inside the event that begins here */
 #define UEFI_LOG_CROSSES_LAST_ENTRY 3u /* the event starts before the last entry, and ends after it */
+#define UEFI_LOG_UNKNOWN_ALGORITHM 4u  /* a digest of the event is of an algorithm that has no row */
+#define UEFI_LOG_TOO_MANY_DIGESTS 5u   /* the event states more digests than there are rows */
 
-/* What is at the offset where a walk over a version 1 log ended, as one of
- * these numbers. */
+/* What is at the offset where a walk over a log ended, as one of these numbers:
+ * of a version 1 log one of the first four. */
 UEFI_CALL uint32_t uefi_log1_state(UefiBytes log, size_t last_entry, size_t offset);
+UEFI_CALL uint32_t uefi_log2_state(UefiBytes log, size_t last_entry, UefiBytes rows, size_t offset);
 
 /* Writes an event of a version 1 log to the beginning of the buffer, and sets
  * `*size` to its length. If it returns false, the buffer is as it was, and

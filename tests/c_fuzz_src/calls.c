@@ -103,6 +103,28 @@ static void one_blob(UefiBytes bytes) {
     calls[BLOBS]++;
 }
 
+static void one_tagged(UefiBytes bytes) {
+    UefiTaggedEvent out, untouched;
+    memset(&out, 0xcc, sizeof out), memset(&untouched, 0xcc, sizeof out);
+    size_t at = any() & 3 ? below(bytes.n + 2) : (size_t)any(), start = at, left = at > bytes.n ? 0 : bytes.n - at;
+    uint8_t *b = (uint8_t *)bytes.at + (left ? at : 0);
+    if (left > 8 && any() & 1) b[4] = below(left < 250 ? left - 7 : 250), b[5] = b[6] = b[7] = 0;
+    bool wanted = left >= 8 && u32(b + 4) <= left - 8;
+    NEED(uefi_tagged_next(bytes, &at, &out) == wanted);
+    if (!wanted) { NEED(at == start); SAME(out); return; }
+    NEED(out.id == u32(b) && out.value.at == b + 8 && out.value.n == u32(b + 4) && at == start + 8 + out.value.n);
+    calls[TAGGED]++;
+}
+
+static void one_boot_order(UefiBytes bytes) {
+    uint16_t out = 7;
+    size_t index = any() & 7 ? below(bytes.n / 2 + 2) : (size_t)any();
+    bool wanted = bytes.n % 2 == 0 && index < bytes.n / 2;
+    NEED(uefi_boot_order(bytes, index, &out) == wanted);
+    NEED(out == (wanted ? u16(bytes.at + 2 * index) : 7));
+    calls[BOOT_ORDERS] += wanted;
+}
+
 static void one_signature(UefiBytes bytes) {
     UefiSignature out, untouched;
     memset(&out, 0xcc, sizeof out), memset(&untouched, 0xcc, sizeof out);
@@ -169,5 +191,5 @@ static void one_entry_written(UefiBytes bytes) {
 
 void calls_of(UefiBytes part) {
     one_load_option(part), one_variable(part), one_image(part), one_blob(part), one_guid(part), one_number(part);
-    one_time_written(part), one_entry_written(part), one_signature(part);
+    one_time_written(part), one_entry_written(part), one_tagged(part), one_boot_order(part), one_signature(part);
 }

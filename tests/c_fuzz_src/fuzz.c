@@ -93,6 +93,28 @@ static bool one1(UefiBytes log, size_t last, size_t *at) {
     return events1++, true;
 }
 
+/* What is at an offset of a version 2 log, where an event ends that keeps, and one that needn't; 0 for none. */
+static uint32_t plain_state2(UefiBytes log, size_t last, UefiBytes rows, size_t at, size_t end, size_t end_anywhere) {
+    if (at >= log.n || at > last || (last == UEFI_EMPTY_LOG && !at)) return UEFI_LOG_ENDED;
+    if (end || end_anywhere) return end ? UEFI_LOG_EVENT : UEFI_LOG_CROSSES_LAST_ENTRY;
+    if (log.n - at < 12) return UEFI_LOG_CUT;
+    size_t count = u32(log.at + at + 8), i = at + 12, size;
+    if (count > rows.n / 4) return UEFI_LOG_TOO_MANY_DIGESTS;
+    for (; count--; i += 2 + size) {
+        if (log.n - i < 2) return UEFI_LOG_CUT;
+        if (!size_of(rows, u16(log.at + i), &size)) return UEFI_LOG_UNKNOWN_ALGORITHM;
+        if (size > log.n - i - 2) return UEFI_LOG_CUT;
+    }
+    return UEFI_LOG_CUT;
+}
+
+static void one_log2_state(UefiBytes log, size_t last, UefiBytes rows, size_t at, size_t end) {
+    size_t unused;
+    uint32_t wanted = plain_state2(log, last, rows, at, end, plain2(log, log.n, rows, at, &unused));
+    NEED(uefi_log2_state(log, last, rows, at) == wanted);
+    calls[LOG2_STATE] += wanted == UEFI_LOG_UNKNOWN_ALGORITHM;
+}
+
 /* The first digest of an algorithm in the event at an offset whose digests end there; 0 for no event. */
 static void one_algorithm(UefiBytes log, size_t last, UefiBytes rows, size_t at, size_t digests_end) {
     UefiBytes out, untouched;
@@ -113,7 +135,7 @@ static bool one2(UefiBytes log, size_t last, UefiBytes rows, size_t *at) {
     size_t start = *at, digests_end = 0, end = plain2(log, last, rows, start, &digests_end);
     bool found = uefi_log2_next(log, last, rows, at, &out);
     NEED(found == (end != 0));
-    one_algorithm(log, last, rows, start, found ? digests_end : 0);
+    one_algorithm(log, last, rows, start, found ? digests_end : 0), one_log2_state(log, last, rows, start, end);
     if (!found) { NEED(*at == start); SAME(out); return false; }
     const uint8_t *b = log.at + start;
     NEED(*at == end && out.pcr_index == u32(b) && out.event_type == u32(b + 4) && out.digest_count == u32(b + 8));

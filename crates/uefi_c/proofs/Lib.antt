@@ -10,3 +10,6 @@ pub mod NameBytes
 pub mod UnitBytes
 pub mod LoadOptionParts
 pub mod VariableParts
+pub mod PassedDigests
+pub mod BootOrders
+pub mod TaggedSteps

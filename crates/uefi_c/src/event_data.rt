@@ -54,6 +54,16 @@ pub struct UefiBlob<'a> {
     pub length: u64,
 }
 
+/// A tagged event.
+#[derive(Clone, Copy)]
+#[repr(C)]
+pub struct UefiTaggedEvent<'a> {
+    /// The data.
+    pub value: &'a [u8],
+    /// The number that says what the data are.
+    pub id: u32,
+}
+
 /// Reads the variable that the data of an event are.
 #[unsafe(no_mangle)]
 pub extern "C" fn uefi_variable<'a>(event_data: &'a [u8], out: &mut UefiVariable<'a>) -> bool

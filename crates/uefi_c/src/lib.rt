@@ -8,6 +8,7 @@
 //! [`callers`] has a proved loop over the calls for each list that a library's iterator gives.
 #![tactic(auto)]
 
+mod boot_order;
 pub mod callers;
 mod config;
 mod cursor;
@@ -19,6 +20,7 @@ mod info;
 mod load_option;
 mod log1;
 mod log2;
+mod log2_state;
 mod log_state;
 mod map;
 mod number;
@@ -27,5 +29,6 @@ mod path_state;
 mod pci;
 mod replay;
 mod signature;
+mod tagged;
 mod time;
 mod write;

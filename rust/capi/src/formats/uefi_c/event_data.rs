@@ -57,6 +57,18 @@ pub struct UefiBlob<'a> {
     pub length: u64,
 }
 
+/// A tagged event.
+///
+/// Its contract: `crates/uefi_c/src/event_data.rt`.
+#[derive(Clone, Copy, Debug)]
+#[repr(C)]
+pub struct UefiTaggedEvent<'a> {
+    /// The data.
+    pub value: Bytes<'a>,
+    /// The number that says what the data are.
+    pub id: u32,
+}
+
 /// Reads the variable that the data of an event are.
 #[unsafe(no_mangle)]
 pub extern "C" fn uefi_variable<'a>(event_data: Bytes<'a>, out: &mut MaybeUninit<UefiVariable<'a>>) -> bool {
