@@ -9,3 +9,4 @@ pub mod Logs
 pub mod EachPcr
 pub mod ItsEvents
 pub mod Rules
+pub mod Rows

@@ -1,6 +1,7 @@
 //! Laws of the definitions. Each holds of every value of them, and takes nothing to run.
 
 ghost use Rattle.pcr_replay.specs.Laws.{FirstContradicts, FirstIsNamed, OneContents, ValueByItsEvents};
+ghost use Rattle.pcr_replay.specs.Rows.{RowsHold};
 
 use uefi_tcg::laws::{one_log_v1, one_log_v2};
 
@@ -29,4 +30,10 @@ pub fn value_by_its_events()
 /// one of another length, and PCR 0 if it contradicts how that starts.
 pub fn first_is_named()
     ensures { FirstIsNamed }
+{}
+
+/// States that the definitions give the values of worked rows: how PCR 0 starts, what PCRs start
+/// with, which events have no effect or no digest, and where padding starts. Each row is a theorem.
+pub fn worked_rows()
+    ensures { RowsHold }
 {}
