@@ -2,6 +2,8 @@
 import os
 import sys
 
+# The test, by its path in this folder without `run`.
+TEST = os.path.relpath(os.path.realpath(sys.argv[0]), os.path.dirname(os.path.realpath(__file__))).removesuffix("/run")
 # So much of what came out is printed where it is not as expected.
 SHOWN = 2000
 
@@ -10,7 +12,7 @@ def tells(name, got, expected=True):
     """Whether something came out as expected. Prints a line on it."""
     is_same = got == expected
     outcome = "as expected" if is_same else f"{str(got)[:SHOWN]}, where {str(expected)[:SHOWN]} was expected"
-    print(f"{os.path.basename(sys.argv[0])}: {name}: {outcome}", flush=True)
+    print(f"{TEST}: {name}: {outcome}", flush=True)
     return is_same
 
 

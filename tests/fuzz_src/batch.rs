@@ -55,6 +55,7 @@ pub struct Batch<'a> {
 struct Pool {
     command: &'static Command,
     inputs: Vec<Input>,
+    parts: Vec<Vec<u8>>,
     /// What was listed so far, by the first words of its lines.
     shapes: HashSet<u64>,
     counts: Counts,
@@ -62,7 +63,7 @@ struct Pool {
 
 /// The inputs of the samples of a command.
 fn samples(command: &Command, folder: &str) -> io::Result<Vec<Input>> {
-    let Some((extension, third_word)) = command.more.samples else {
+    let Some((extension, third_word)) = command.format.samples else {
         return Ok(Vec::new());
     };
     let paths: Result<Vec<PathBuf>, io::Error> =
@@ -83,7 +84,8 @@ impl Pool {
             let alone = inputs.iter_mut().filter(|input| input.other.is_empty());
             alone.for_each(|input| input.other = input.bytes.clone());
         }
-        Ok(Pool { command, inputs, shapes: HashSet::new(), counts: Counts::default() })
+        let parts = command.format.parts();
+        Ok(Pool { command, inputs, parts, shapes: HashSet::new(), counts: Counts::default() })
     }
 
     fn count(&mut self, ending: &Ending) {
@@ -180,7 +182,7 @@ impl Batch<'_> {
 
     /// Runs one input, and says whether the program differed.
     fn step(&self, pool: &mut Pool, random: &mut Random) -> io::Result<bool> {
-        let input = Mutator { command: pool.command, pool: &pool.inputs, random }.input();
+        let input = Mutator { command: pool.command, pool: &pool.inputs, parts: &pool.parts, random }.input();
         let file = FILES[random.below(FILES.len() as u64) as usize];
         let part = if random.below(8) == 0 { 1 + random.below(200) as usize } else { usize::MAX };
         if self.is_traced {
