@@ -9,7 +9,7 @@ use Rattle.std.proofs.lemmas.List.Sums.{AllPass-from_list_all, list_all-from_All
 use Rattle.std.proofs.Math.ListN.{drop_of_length-le}
 use Rattle.std.proofs.Math.Seq.{drop-cons}
 use Rattle.pcr_replay.specs.declared.bank.Bank.{Bank}
-use Rattle.pcr_replay.specs.declared.bank.Bank.TheVariants.{Sha1, Sha256, Sha384, Sha512}
+use Rattle.pcr_replay.specs.declared.bank.Bank.TheVariants.{Sha1, Sha256, Sha384, Sha512, Sm3}
 use Rattle.pcr_replay.specs.declared.start.Start.{Start}
 use Rattle.pcr_replay.specs.Banks.{algorithm_of}
 use Rattle.pcr_replay.specs.Entries.{Entry}
@@ -60,6 +60,7 @@ bank_by Sha1 = refl
 bank_by Sha256 = refl
 bank_by Sha384 = refl
 bank_by Sha512 = refl
+bank_by Sm3 = refl
 
 same_bank : (one other : Bank) → is_same_bank one other ≡ true → one ≡ other
 same_bank one other same =
@@ -104,6 +105,7 @@ among_all Sha1 = refl
 among_all Sha256 = refl
 among_all Sha384 = refl
 among_all Sha512 = refl
+among_all Sm3 = refl
 
 its_bank_is_held : (bank : Bank) (held : List HeldPcr) → is_held held bank ≡ true
     → list_any (λ one. is_same_bank one bank) (held_banks held) ≡ true
@@ -114,6 +116,7 @@ same_itself Sha1 = refl
 same_itself Sha256 = refl
 same_itself Sha384 = refl
 same_itself Sha512 = refl
+same_itself Sm3 = refl
 
 -- The verdict is agreement exactly if all agree.
 never_both : (value : List ℕ) (outcome : Option Outcome) → is_value value outcome ≡ true
