@@ -104,7 +104,7 @@ class Inside:
         crate = self.crates[name]
         with self.locked([*crate.below(), crate]), tempfile.TemporaryDirectory() as room:
             words, checked = [*crate.words(["--jobs", "1"], keeps=False), *options], f"{room}/checked"
-            status, lines = run(self.command("check", *words, "-o", checked))
+            status, lines = run(self.command("check", *words, "--progress", "-o", checked))
             for option in ("--logic-built", "--jobs"):
                 at = words.index(option)
                 del words[at : at + 2]

@@ -9,7 +9,6 @@
 mod audit;
 mod batch;
 mod commands;
-mod counts;
 mod expected;
 mod formats;
 mod input;
