@@ -181,6 +181,8 @@ def function_at(text, start):
     signature, clauses = None, []
     while True:
         stop = re.compile(r"\b(?:requires|ensures)\b|[{;]").search(text, i)
+        if not stop:
+            raise Unread(f"a function without an end: {text[start : start + 80]}")
         signature = signature or text[start : stop.start()]
         if stop[0] == ";":
             return signature, clauses, stop.end()
