@@ -1,5 +1,6 @@
 pub mod NoFloats
 pub mod NoFloatsInReplay
+pub mod NoFloatsInVerdict
 pub mod Controls
 pub mod EventLines
 pub mod ReplayLines

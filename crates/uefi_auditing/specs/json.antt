@@ -4,3 +4,4 @@ pub mod Content
 pub mod Event
 pub mod Events
 pub mod Replay
+pub mod Verdict

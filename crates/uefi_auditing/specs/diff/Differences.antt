@@ -27,8 +27,8 @@ numbered index (entry ∷ entries) = record { index = index; entry = entry } ∷
 abbrev pub is_of : ℕ → Entry → Bool
 is_of pcr entry = min entry.event.pcr_index 24 == pcr
 
-abbrev pub of_pcr : ℕ → List Entry → List Numbered
-of_pcr pcr entries = filter (λ found. is_of pcr found.entry) (numbered 0 entries)
+abbrev pub of_pcr : ℕ → List Numbered → List Numbered
+of_pcr pcr all = filter (λ found. is_of pcr found.entry) all
 
 -- Their PCRs, their types, their events, and the event at a place, if there is one.
 abbrev pub pcr_of : Numbered → ℕ
@@ -124,7 +124,7 @@ ShowsPcr old_name new_name old new text same =
     AreSame old new text same ⊎ Differ old_name new_name old new text same
 
 -- The same of all PCRs below a number, one after another; and whether the events of all are the same.
-abbrev pub ShowsBelow : ℕ → List ℕ → List ℕ → List Entry → List Entry → List ℕ → Bool → Type 0
+abbrev pub ShowsBelow : ℕ → List ℕ → List ℕ → List Numbered → List Numbered → List ℕ → Bool → Type 0
 ShowsBelow zero old_name new_name old new text same = (text ≡ []) × (same ≡ true)
 ShowsBelow (suc pcr) old_name new_name old new text same =
     (before : List ℕ) × (all_before : Bool) × (lines : List ℕ) × (is_same : Bool)
@@ -134,7 +134,8 @@ ShowsBelow (suc pcr) old_name new_name old new text same =
 
 -- What `diff` prints of the one log that each file is: of the PCRs 0 to 23, and of those above.
 abbrev pub IsDiff : List ℕ → List ℕ → Contents → Contents → List ℕ → Bool → Type 0
-IsDiff old_name new_name old new text same = ShowsBelow 25 old_name new_name old.entries new.entries text same
+IsDiff old_name new_name old new text same =
+    ShowsBelow 25 old_name new_name (numbered 0 old.entries) (numbered 0 new.entries) text same
 
 -- The string grew by it.
 abbrev pub AppendsDifferences : LogFile → LogFile → String Global → String Global → Bool → Type 0

@@ -14,7 +14,7 @@ use Rattle.pcr_replay.specs.Replay.{Outcome, outcomes}
 use Rattle.pcr_replay.specs.Views.{value_of}
 use Rattle.uefi_auditing.specs.Replay.{BankOutcomes, replayed}
 use Rattle.uefi_auditing.specs.text.Banks.{bank_name}
-use Rattle.uefi_auditing.specs.text.Faults.{fault_text}
+use Rattle.uefi_auditing.specs.text.Undetermined.{fault_text}
 use Rattle.uefi_auditing.specs.declared.verify.held.HeldPcr.{HeldPcr}
 use Rattle.uefi_auditing.specs.declared.verify.comparison.Verdict.{Verdict}
 use Rattle.uefi_auditing.specs.verify.Banks.{held_banks, is_same_bank}

@@ -30,7 +30,7 @@ pub(crate) fn push_only<'a>(
 }
 
 /// Returns the keys of the events of entries.
-fn keys_of<'a>(
+pub(crate) fn keys_of<'a>(
     alloc: Global,
     entries: &[NumberedEntry<'a>],
 ) -> Result<BTreeSet<EventKey<'a>>, AllocError>
