@@ -7,6 +7,7 @@ use std::collections::BTreeMap;
 /// The forms, in the order in which a summary names them.
 const FORMS: [&str; 6] =
     ["data", "variable value", "without NUL", "with NUL", "command", "narrowed"];
+const TAG: u32 = 0x06;
 const IPL: u32 = 0x0d;
 
 /// What an event may measure: the form, and the bytes.
@@ -37,6 +38,11 @@ fn command(data: &[u8]) -> Option<&[u8]> {
     let text = data.strip_suffix(&[0])?;
     let prefixes = [&b"grub_cmd: "[..], b"kernel_cmdline: ", b"module_cmdline: "];
     prefixes.iter().find_map(|prefix| text.strip_prefix(*prefix))
+}
+
+/// Whether an event may measure something that isn't in the log, though its type has forms.
+fn may_measure_another(event: &Event<'_>) -> bool {
+    event.kind == TAG || event.kind == IPL && command(event.data).is_none()
 }
 
 /// The value of the variable that data are.
@@ -70,7 +76,7 @@ pub fn lines(log: &Log<'_>, file: &str) -> (String, bool) {
         let matching = forms.iter().find(|form| are_hashes(event, &form.1));
         if let Some((form, _)) = matching {
             counts.by_form[FORMS.iter().position(|it| it == form).unwrap()] += 1;
-        } else if forms.is_empty() || event.kind == IPL && command(event.data).is_none() {
+        } else if forms.is_empty() || may_measure_another(event) {
             counts.outside += 1;
         } else {
             counts.none += 1;
