@@ -1,5 +1,5 @@
 -- Whether the log has what an event measures, by the tests of its type and its data.
-use Rattle.std.proofs.Common.{◌≡◌, ◌∙◌, ◌↔◌, IsTrue, List, [], ◌∷◌, length, ap, sym, refl, subst, inl, inr, arith}
+use Rattle.std.proofs.Common.{◌≡◌, ◌∙◌, ◌↔◌, IsTrue, List, [], ◌∷◌, length, ap, sym, refl, inl, inr, arith}
 use Rattle.std.specs.Prelude.{Bool, true, false, ◌==◌}
 use Rattle.std.proofs.lemmas.Bool.{eqb-true, true≢false}
 use Rattle.uefi_tcg.specs.v2.Event.{Event}

@@ -1,5 +1,5 @@
 -- What the digests of an event are the hash of, by the event's type (TCG PC Client Platform Firmware Profile 1.06, 10.4.1; for `EV_IPL` what GRUB, shim and systemd-stub measure).
-use Rattle.std.specs.Prelude.{ℕ, ◌≡◌, ◌⊎◌, ◌==◌, ◌||◌, ◌&&◌, not, Bool, true, false, List, [], ◌∷◌, ◌++◌, codes, flat_map, Option, None, Some, if◌then◌else◌}
+use Rattle.std.specs.Prelude.{ℕ, ◌≡◌, ◌⊎◌, ◌==◌, ◌||◌, ◌&&◌, not, Bool, true, List, [], ◌∷◌, ◌++◌, codes, flat_map, Some, if◌then◌else◌}
 use Rattle.std.specs.List.{All, Contains, list_all, list_any}
 use Rattle.uefi_tcg.specs.content.Variable.{Variable, ReadsVariable}
 use Rattle.uefi_tcg.specs.v2.Event.{Event}

@@ -5,3 +5,4 @@ pub mod Event
 pub mod Events
 pub mod Replay
 pub mod Verdict
+pub mod Diff

@@ -4,7 +4,7 @@ use Rattle.std.specs.Prelude.{◌↔◌, Bool, true, false}
 use Rattle.std.specs.declared.cmp.Ordering.{Ordering}
 use Rattle.std.specs.declared.cmp.Ordering.TheVariants.{Less, Equal, Greater}
 use Rattle.std.specs.Ordering.{is_eq, is_ne, nat_cmp, ordering_reverse, ordering_then}
-use Rattle.std.specs.Cmp.{IsTotalOrder, tied_itself}
+use Rattle.std.specs.Cmp.{tied_itself}
 use Rattle.std.specs.Cmp.Lexicographic.{lists_total, slice_cmp}
 use Rattle.std.proofs.lemmas.Cmp.{ranked}
 use Rattle.uefi_tcg.specs.v2.Event.{Digest, Event}

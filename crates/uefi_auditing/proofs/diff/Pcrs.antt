@@ -1,16 +1,15 @@
 -- The events of a PCR, and where two lists of them differ first.
-use Rattle.std.proofs.Common.{◌≡◌, ◌∙◌, ℕ, suc, zero, ◌+◌, ◌<◌, max, List, [], ◌∷◌, ◌++◌, length, map, take, ap, ap₂, sym, append-nil}
+use Rattle.std.proofs.Common.{◌≡◌, ◌∙◌, ℕ, suc, ◌+◌, ◌<◌, max, List, [], ◌∷◌, ◌++◌, length, map, take, ap, ap₂, sym, append-nil}
 use Rattle.std.proofs.Common.{get_or, arith, inl, inr, refl, subst}
-use Rattle.std.specs.Prelude.{◌↔◌, Bool, MatchBool, true, false, Option, None, Some, IfSome, is_some, nat_lt, option_map, slice_get}
+use Rattle.std.specs.Prelude.{Bool, true, false, Option, None, Some, IfSome, is_some, nat_lt, option_map, slice_get}
 use Rattle.std.specs.Borrow.{Bor}
-use Rattle.std.specs.List.{AllWithin, HoldsAt, filter}
+use Rattle.std.specs.List.{filter}
 use Rattle.std.proofs.lemmas.Bool.{cases_lt, ltb-false, ltb-true}
 use Rattle.std.proofs.lemmas.List.{map-append, map_more}
 use Rattle.std.proofs.lemmas.List.Elements.{filter-append}
 use Rattle.std.proofs.lemmas.Option.{slice_get-map, slice_get_past, slice_get_read}
 use Rattle.pcr_replay.specs.Views.{entry_of, event_of}
-use Rattle.uefi_tcg.specs.v2.Event.{Event}
-use Rattle.uefi_auditing.specs.diff.Differences.{IsAmong, Numbered, event_at, event_in, events_in, is_of, of_pcr}
+use Rattle.uefi_auditing.specs.diff.Differences.{Numbered, event_at, event_in, events_in, is_of, of_pcr}
 use Rattle.uefi_auditing.specs.private.diff.Views.{numbered_of}
 use Rattle.uefi_auditing.specs.declared.diff.pcr.NumberedEntry.{NumberedEntry}
 

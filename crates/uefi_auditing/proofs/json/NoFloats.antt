@@ -32,7 +32,7 @@ pub algorithm : (n : ℕ) → has_float (algorithm_json n) ≡ false
 unfolding algorithm_json
 algorithm n = named (algorithm_name n) n
 
-event_type : (n : ℕ) → has_float (type_json n) ≡ false
+pub event_type : (n : ℕ) → has_float (type_json n) ≡ false
 unfolding type_json
 event_type n = typed (type_name n) n
 

@@ -1,5 +1,5 @@
 ghost use Rattle.std.specs.Prelude.{◌≡◌, map, IfOk};
-ghost use Rattle.uefi_auditing.specs.diff.Differences.{AppendsDifferences, of_pcr};
+ghost use Rattle.uefi_auditing.specs.diff.Differences.{AppendsDifferences, ShowsPcr, of_pcr};
 ghost use Rattle.uefi_auditing.specs.private.diff.Appending.{AppendsBelow, AppendsCompared};
 ghost use Rattle.uefi_auditing.specs.private.diff.Views.{numbered_of};
 
@@ -56,8 +56,8 @@ fn push_each<'a>(
     new_name: &str,
     news: &[NumberedEntry<'a>],
 ) -> Result<bool, AllocError>
-    ensures { IfOk result (AppendsBelow old_name.now new_name.now (map numbered_of olds.now)
-        (map numbered_of news.now) 25 text.old text.new) }
+    ensures { IfOk result (AppendsBelow (λ pcr. ShowsPcr old_name.now new_name.now)
+        (map numbered_of olds.now) (map numbered_of news.now) 25 text.old text.new) }
 {
     let mut same = true;
     for pcr in 0..COMPARED {

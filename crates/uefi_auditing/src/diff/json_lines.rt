@@ -1,13 +1,16 @@
-//! How two logs differ, as JSON.
-//!
-//! There is no contract on the text that these calls append.
+ghost use Rattle.std.specs.Prelude.{◌≡◌, map, IfOk, option_map};
+ghost use Rattle.serde_json.specs.View.{view};
+ghost use Rattle.uefi_auditing.specs.diff.Differences.{of_pcr};
+ghost use Rattle.uefi_auditing.specs.json.Diff.{AppendsDifferencesJson, ShowsPcrJson, first_json, found_json, pcr_json, register_json, side_json};
+ghost use Rattle.uefi_auditing.specs.private.diff.Appending.{AppendsBelow, AppendsShown};
+ghost use Rattle.uefi_auditing.specs.private.diff.Views.{numbered_of};
 
 use crate::diff::differences::COMPARED;
-use crate::diff::only::keys_of;
-use crate::diff::order::EventKey;
+use crate::diff::only::those_only;
 use crate::diff::pcr::{ABOVE, NumberedEntry, entries_of, first_difference, numbered_entries};
 use crate::json::{line_of, type_json};
 use crate::text::LogFile;
+use pcr_replay::laws::one_contents;
 use serde_json::{Map, Value, put};
 use std::alloc::{AllocError, Global};
 
@@ -43,13 +46,37 @@ pub fn push_differences_json<'a>(
     alloc: Global,
     old: &LogFile<'a>,
     new: &LogFile<'a>,
-) -> Result<bool, AllocError> {
+) -> Result<bool, AllocError>
+    ensures { IfOk result (AppendsDifferencesJson old.now new.now text.old text.new) }
+{
+    one_contents();
     let olds = numbered_entries(alloc, old.log.entries())?;
     let news = numbered_entries(alloc, new.log.entries())?;
-    let (olds, news) = (olds.as_slice(), news.as_slice());
+    push_each(
+        text,
+        alloc,
+        old.name,
+        olds.as_slice(),
+        new.name,
+        news.as_slice(),
+    )
+}
+
+/// Appends the line of each PCR, and returns whether the events of all are the same.
+fn push_each<'a>(
+    text: &mut String,
+    alloc: Global,
+    old_name: &str,
+    olds: &[NumberedEntry<'a>],
+    new_name: &str,
+    news: &[NumberedEntry<'a>],
+) -> Result<bool, AllocError>
+    ensures { IfOk result (AppendsBelow (ShowsPcrJson old_name.now new_name.now)
+        (map numbered_of olds.now) (map numbered_of news.now) 25 text.old text.new) }
+{
     let mut same = true;
     for pcr in 0..COMPARED {
-        same &= push_pcr(text, alloc, old.name, olds, new.name, news, pcr)?;
+        same &= push_pcr(text, alloc, old_name, olds, new_name, news, pcr)?;
     }
     Ok(same)
 }
@@ -63,26 +90,67 @@ fn push_pcr<'a>(
     new_name: &str,
     news: &[NumberedEntry<'a>],
     pcr: u32,
-) -> Result<bool, AllocError> {
+) -> Result<bool, AllocError>
+    ensures { IfOk result (AppendsShown (ShowsPcrJson old_name.now new_name.now pcr
+        (of_pcr pcr (map numbered_of olds.now)) (of_pcr pcr (map numbered_of news.now)))
+        text.old text.new) }
+{
     let olds = entries_of(alloc, olds, pcr)?;
     let news = entries_of(alloc, news, pcr)?;
-    let (olds, news) = (olds.as_slice(), news.as_slice());
+    push_compared(
+        text,
+        alloc,
+        old_name,
+        olds.as_slice(),
+        new_name,
+        news.as_slice(),
+        pcr,
+    )
+}
+
+/// Appends the line of a PCR with these events, and returns whether they are the same.
+fn push_compared<'a>(
+    text: &mut String,
+    alloc: Global,
+    old_name: &str,
+    olds: &[NumberedEntry<'a>],
+    new_name: &str,
+    news: &[NumberedEntry<'a>],
+    pcr: u32,
+) -> Result<bool, AllocError>
+    ensures { IfOk result (AppendsShown (ShowsPcrJson old_name.now new_name.now pcr
+        (map numbered_of olds.now) (map numbered_of news.now)) text.old text.new) }
+{
     let Some(at) = first_difference(olds, news) else {
         return Ok(true);
     };
-    let mut members = Map::new(alloc);
-    let new_side = side_json(alloc, new_name, news, at, olds)?;
-    put(&mut members, alloc, "new", new_side)?;
-    let old_side = side_json(alloc, old_name, olds, at, news)?;
-    put(&mut members, alloc, "old", old_side)?;
-    put(&mut members, alloc, "register", register_json(pcr))?;
-    let line = line_of(alloc, &Value::Object(members))?;
+    let only_new = those_only(alloc, news, olds)?;
+    let only_old = those_only(alloc, olds, news)?;
+    let new_side = side_json(alloc, news.get(at), new_name, only_new.as_slice())?;
+    let old_side = side_json(alloc, olds.get(at), old_name, only_old.as_slice())?;
+    let value = pcr_json(alloc, new_side, old_side, pcr)?;
+    let line = line_of(alloc, &value)?;
     writeln!(text, "{line}")?;
     Ok(false)
 }
 
+/// Returns the object of a PCR, by what each log has.
+#[tactic(auto, unfolding(crate::specs::json::Diff::pcr_json))]
+fn pcr_json(alloc: Global, new: Value, old: Value, pcr: u32) -> Result<Value, AllocError>
+    ensures { IfOk result (λ value. view value ≡ pcr_json (view new) (view old) pcr) }
+{
+    let mut members = Map::new(alloc);
+    put(&mut members, alloc, "new", new)?;
+    put(&mut members, alloc, "old", old)?;
+    put(&mut members, alloc, "register", register_json(pcr))?;
+    Ok(Value::Object(members))
+}
+
 /// Returns the index of a PCR; `null` for those above 23.
-fn register_json(pcr: u32) -> Value {
+#[tactic(auto, unfolding(crate::specs::json::Diff::register_json))]
+fn register_json(pcr: u32) -> Value
+    ensures { view result ≡ register_json pcr }
+{
     if pcr == ABOVE {
         return Value::Null;
     }
@@ -90,50 +158,57 @@ fn register_json(pcr: u32) -> Value {
 }
 
 /// Returns what a log has of a PCR that the other hasn't.
-fn side_json<'a>(
+#[tactic(auto, unfolding(crate::specs::json::Diff::side_json))]
+fn side_json(
     alloc: Global,
+    first: Option<&NumberedEntry<'_>>,
     name: &str,
-    found: &[NumberedEntry<'a>],
-    at: usize,
-    others: &[NumberedEntry<'a>],
-) -> Result<Value, AllocError> {
+    only: &[NumberedEntry<'_>],
+) -> Result<Value, AllocError>
+    ensures { IfOk result (λ value. view value
+        ≡ side_json (option_map (λ found. numbered_of found.now) first.entry) name.now
+        (map numbered_of only.now)) }
+{
     let mut members = Map::new(alloc);
-    let first = first_json(alloc, found.get(at))?;
+    let first = first_json(alloc, first)?;
     put(&mut members, alloc, "first", first)?;
     let log = Value::try_from_str(alloc, name)?;
     put(&mut members, alloc, "log", log)?;
-    let only = only_json(alloc, found, others)?;
-    put(&mut members, alloc, "only", Value::Array(only))?;
+    let only = Value::Array(each_found(alloc, only)?);
+    put(&mut members, alloc, "only", only)?;
     Ok(Value::Object(members))
 }
 
 /// Returns the event where the logs differ first; `null` if there is none.
-fn first_json(alloc: Global, first: Option<&NumberedEntry<'_>>) -> Result<Value, AllocError> {
+#[tactic(auto, unfolding(crate::specs::json::Diff::first_json))]
+fn first_json(alloc: Global, first: Option<&NumberedEntry<'_>>) -> Result<Value, AllocError>
+    ensures { IfOk result (λ value. view value
+        ≡ first_json (option_map (λ found. numbered_of found.now) first.entry)) }
+{
     match first {
         Some(found) => found_json(alloc, found),
         None => Ok(Value::Null),
     }
 }
 
-/// Returns the events that aren't among the others.
-fn only_json<'a>(
-    alloc: Global,
-    found: &[NumberedEntry<'a>],
-    others: &[NumberedEntry<'a>],
-) -> Result<Vec<Value>, AllocError> {
-    let keys = keys_of(alloc, others)?;
+/// Returns each event.
+fn each_found(alloc: Global, all: &[NumberedEntry<'_>]) -> Result<Vec<Value>, AllocError>
+    ensures { IfOk result (λ values. map view values.items
+        ≡ map found_json (map numbered_of all.now)) }
+{
     let mut values = Vec::new(alloc);
-    for entry in found {
-        if !keys.contains(&EventKey::new(entry.entry.event)) {
-            let value = found_json(alloc, entry)?;
-            values.push(value)?;
-        }
+    for found in all {
+        let value = found_json(alloc, found)?;
+        values.push(value)?;
     }
     Ok(values)
 }
 
 /// Returns an event: its index, its offset, its PCR and its type.
-fn found_json(alloc: Global, found: &NumberedEntry<'_>) -> Result<Value, AllocError> {
+#[tactic(auto, unfolding(crate::specs::json::Diff::found_json))]
+fn found_json(alloc: Global, found: &NumberedEntry<'_>) -> Result<Value, AllocError>
+    ensures { IfOk result (λ value. view value ≡ found_json (numbered_of found.now)) }
+{
     let event = &found.entry.event;
     let mut members = Map::new(alloc);
     put(&mut members, alloc, "index", Value::from(found.index))?;

@@ -1,5 +1,4 @@
 -- An order of events, by which one is sought among others: by PCR, type, data and digests.
-use Rattle.std.specs.Prelude.{ℕ, ◌≡◌, List, refl}
 use Rattle.std.specs.declared.cmp.Ordering.{Ordering}
 use Rattle.std.specs.Ordering.{nat_cmp, on, then_cmp}
 use Rattle.std.specs.Cmp.{IsTotalOrder, nat_cmp_total, on_total, then_total}

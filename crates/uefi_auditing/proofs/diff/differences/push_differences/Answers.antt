@@ -3,6 +3,7 @@ use Rattle.std.proofs.lemmas.Result.{IfOk-weaker}
 use Rattle.pcr_replay.specs.Entries.{Contents}
 use Rattle.pcr_replay.specs.Views.{contents_left}
 use Rattle.uefi_auditing.specs.diff.Differences.{numbered}
+use Rattle.uefi_auditing.specs.diff.Differences.{ShowsPcr}
 use Rattle.uefi_auditing.specs.private.diff.Views.{numbered_of}
 use Rattle.uefi_auditing.proofs.diff.Below.{below_in}
 use Rattle.uefi_auditing.proofs.diff.differences.push_differences.Goals as goal
@@ -19,6 +20,6 @@ returns c =
     ap (map numbered_of) c.as_slice-2.ensures.value ∙ c.in_ok-news.ensures
     ∙ ap (λ (k : Contents). numbered 0 k.entries) (c.one_contents.ensures c.args.new.now.log
     (contents_left c.entries-2.result) news c.entries-2.ensures.contents also) in
-    below_in c.args.old.now.name.now c.args.new.now.name.now _ _ _ _ 25 c.args.text.now c.push_each.new.text same
+    below_in (λ pcr. ShowsPcr c.args.old.now.name.now c.args.new.now.name.now) _ _ _ _ 25 c.args.text.now c.push_each.new.text same
     old_is new_is shown)
     c.push_each.ensures

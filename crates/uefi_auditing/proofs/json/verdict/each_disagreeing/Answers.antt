@@ -1,4 +1,4 @@
-use Rattle.std.proofs.Common.{◌≡◌, ◌∙◌, ◌++◌, ap, map, arith}
+use Rattle.std.proofs.Common.{◌∙◌, ◌++◌, ap, map, arith}
 use Rattle.serde_json.specs.View.{view}
 use Rattle.uefi_auditing.specs.Replay.{bank_outcomes_of}
 use Rattle.uefi_auditing.specs.declared.verify.held.HeldPcr.{HeldPcr}

@@ -1,4 +1,4 @@
-use Rattle.std.proofs.Common.{◌≡◌, ◌∙◌, ◌++◌, ap, map, refl, string_bytes}
+use Rattle.std.proofs.Common.{◌∙◌, ◌++◌, ap, map, refl, string_bytes}
 use Rattle.std.specs.Prelude.{codes}
 use Rattle.serde_json.specs.Written.{has_float}
 use Rattle.uefi_auditing.specs.Replay.{bank_outcomes_of}
