@@ -28,11 +28,11 @@ pub differ_json : (old_name new_name : List ℕ) (pcr : ℕ) (olds news only_old
 differ_json old_name new_name pcr olds news only_old only_new at old_first new_first old_side new_side value line before after
     differ of_old of_new old_there new_there old_is new_is is written more =
     let news_are : new_side ≡ side_json (slice_get news at) new_name only_new =
-        new_is ∙ ap (λ it. side_json it new_name only_new) new_there in
+    new_is ∙ ap (λ it. side_json it new_name only_new) new_there in
     let olds_are : old_side ≡ side_json (slice_get olds at) old_name only_old =
-        old_is ∙ ap (λ it. side_json it old_name only_old) old_there in
+    old_is ∙ ap (λ it. side_json it old_name only_old) old_there in
     let object : value ≡ pcr_json (side_json (slice_get news at) new_name only_new)
-        (side_json (slice_get olds at) old_name only_old) pcr =
+    (side_json (slice_get olds at) old_name only_old) pcr =
     is ∙ (λ i. pcr_json (news_are i) (olds_are i) pcr) in
     let none = no_float (slice_get news at) (slice_get olds at) new_name old_name only_new only_old pcr in (
       line_of (pcr_json (side_json (slice_get news at) new_name only_new)

@@ -212,7 +212,12 @@ fn found_json(alloc: Global, found: &NumberedEntry<'_>) -> Result<Value, AllocEr
     let event = &found.entry.event;
     let mut members = Map::new(alloc);
     put(&mut members, alloc, "index", Value::from(found.index))?;
-    put(&mut members, alloc, "offset", Value::from(found.entry.offset))?;
+    put(
+        &mut members,
+        alloc,
+        "offset",
+        Value::from(found.entry.offset),
+    )?;
     let register = event.pcr_index().0;
     put(&mut members, alloc, "register", Value::from(register))?;
     let event_type = type_json(alloc, event.event_type())?;
