@@ -1,6 +1,6 @@
 use Rattle.std.proofs.Common.{append_assoc}
 use Rattle.std.proofs.lemmas.Result.{IfOk-weaker}
-use Rattle.uefi_audit.proofs.input.register_path.Goals as goal
+use Rattle.uefi_audit.proofs.input.pcr_path.Goals as goal
 
 pub returns : goal.returns
 returns c =
