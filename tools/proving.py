@@ -69,7 +69,7 @@ class Progress:
 
     def read(self, name, line):
         """Takes a line that the prover wrote while it worked on a crate."""
-        if far := re.match(r"so far: (\d+) of (\d+) functions", line):
+        if far := re.match(r"(?:so far:|checked \S+,) (\d+) of (\d+)\b", line):
             self.proved[name], self.totals[name] = int(far[1]), int(far[2])
         elif re.match(r"fn \S+: proved", line):
             self.proved[name] = min(self.proved[name] + 1, self.totals[name])
