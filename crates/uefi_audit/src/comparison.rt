@@ -7,7 +7,7 @@ use crate::request::{Format, Reading};
 use std::alloc::{AllocError, Global};
 use std::io;
 use std::rt::Files;
-use uefi_auditing::diff::push_differences;
+use uefi_auditing::diff::{push_differences, push_differences_json};
 use uefi_auditing::text::LogFile;
 
 /// Prints how the events of two logs differ.
@@ -44,7 +44,7 @@ fn show_differences<R: Print + AllocGlobal>(
     let mut text = String::new(rt.alloc());
     let are_same = match format {
         Format::Text => push_lines(&mut text, rt.alloc(), old, new)?,
-        Format::Json => push_lines(&mut text, rt.alloc(), old, new)?,
+        Format::Json => push_differences_json(&mut text, rt.alloc(), old, new)?,
     };
     print_text(&mut io::writer(rt), text.as_str())?;
     Ok(if are_same {

@@ -17,7 +17,7 @@ pub use self::selection::PcrSelection;
 pub use self::verdict::push_verdict;
 
 mod banks;
-mod comparison;
+pub(crate) mod comparison;
 mod held;
 pub mod laws;
 mod line;

@@ -1,7 +1,7 @@
 -- The verdict on PCRs is agreement exactly if the log leads to each of them.
-use Rattle.std.proofs.Common.{◌≡◌, ◌∙◌, ℕ, zero, suc, ◌+◌, List, [], ◌∷◌, ◌++◌, length, map, drop, get_or, ap, ap₂, zero-add, sym, refl, subst, arith}
+use Rattle.std.proofs.Common.{◌≡◌, ◌∙◌, ℕ, zero, suc, ◌+◌, List, [], ◌∷◌, length, map, drop, get_or, ap, ap₂, zero-add, sym, refl, arith}
 use Rattle.std.specs.Prelude.{◌↔◌, ◌==◌, ◌&&◌, ◌||◌, ◌<◌, ◌≤◌, count_by, not, Bool, true, false, cond, slice_get, Option, None, Some, Ok, Err}
-use Rattle.std.specs.List.{All, filter, list_all, list_any}
+use Rattle.std.specs.List.{filter, list_all, list_any}
 use Rattle.std.specs.Option.{option_and_then}
 use Rattle.std.specs.Cmp.Lexicographic.{bytes_decides}
 use Rattle.std.proofs.lemmas.Bool.{and_right, eqb-true, ne_eqb}
@@ -20,7 +20,7 @@ use Rattle.uefi_auditing.specs.declared.verify.held.HeldPcr.{HeldPcr}
 use Rattle.uefi_auditing.specs.Replay.{BankOutcomes, all_banks, bank_outcomes_of, replayed}
 use Rattle.uefi_auditing.specs.text.Banks.{bank_of}
 use Rattle.uefi_auditing.specs.verify.Banks.{held_banks, is_held, is_same_bank}
-use Rattle.uefi_auditing.specs.verify.Verdict.{Agree, AgreeByVerdict, agrees, differs, is_agreement, is_undetermined, is_value, led_to, outcomes_in, undetermined, verdict_of}
+use Rattle.uefi_auditing.specs.verify.Verdict.{AgreeByVerdict, agrees, differs, is_agreement, is_undetermined, is_value, led_to, outcomes_in, undetermined, verdict_of}
 
 -- One bank that isn't the one which is sought, and the one which is.
 one_then_rest : (replays : List BankPcrs) (index : ℕ) (item : BankPcrs) → index < length replays
