@@ -69,7 +69,7 @@ class Progress:
 
     def read(self, name, line):
         """Takes a line that the prover wrote while it worked on a crate."""
-        if far := re.match(r"so far: (\d+) of (\d+) functions", line):
+        if far := re.match(r"(?:so far:|checked \S+,) (\d+) of (\d+)\b", line):
             self.proved[name], self.totals[name] = int(far[1]), int(far[2])
         elif re.match(r"fn \S+: proved", line):
             self.proved[name] = min(self.proved[name] + 1, self.totals[name])
@@ -80,10 +80,21 @@ class Progress:
         outcome = "is proved" if is_proved else "is NOT proved"
         self.say(f"{name} {outcome}, {self.totals[name]} functions in {self.took[name]:.0f} seconds; {self.left()}")
 
+    def seconds_on(self, name):
+        """How long the proof of a crate took, or has run."""
+        return self.took.get(name, time.monotonic() - self.began.get(name, time.monotonic()))
+
+    def rate(self):
+        """The seconds that a function takes, by the crates of which some are proved; 0 if there are none."""
+        known = [name for name in self.totals if self.proved[name]]
+        work = sum(self.proved[name] + FUNCTIONS_A_START for name in known)
+        return sum(map(self.seconds_on, known)) / work if work else 0
+
     def open_work(self, name):
-        """How much of a crate is left, in functions."""
-        done = self.proved[name] + FUNCTIONS_A_START if self.proved[name] else 0
-        return 0 if name in self.took else self.totals[name] + FUNCTIONS_A_START - done
+        """How much of a crate is left, in functions. The prover doesn't always say: then the time that has passed does."""
+        whole, rate = self.totals[name] + FUNCTIONS_A_START, self.rate()
+        done = self.proved[name] + FUNCTIONS_A_START if self.proved[name] else rate and min(self.seconds_on(name) / rate, 0.9 * whole)
+        return 0 if name in self.took else whole - done
 
     def chain(self, name):
         """How much is left of a crate and, one after another, of those that wait for it."""
@@ -93,13 +104,11 @@ class Progress:
     def left(self):
         """The time that is left where it is known, else the crates that are."""
         names = [it for it in self.totals if it not in self.took]
-        whole = sum(self.totals.values()) + FUNCTIONS_A_START * len(self.totals)
-        open_work = sum(map(self.open_work, self.totals))
-        if not KNOWN_SHARES[0] <= 1 - open_work / whole <= KNOWN_SHARES[1]:
+        share = sum(self.proved.values()) / sum(self.totals.values())
+        if not KNOWN_SHARES[0] <= share <= KNOWN_SHARES[1]:
             return f"left: {' '.join(names) or 'none'}"
-        worked = sum(self.took.get(it, time.monotonic() - began) for it, began in self.began.items())
-        longest = max(open_work / self.at_once, *map(self.chain, self.totals))
-        return f"{shown_time(worked / (whole - open_work) * longest)} left"
+        longest = max(sum(map(self.open_work, names)) / self.at_once, *map(self.chain, self.totals))
+        return f"{shown_time(self.rate() * longest)} left"
 
     def tell(self):
         while not self.ended.wait(1 if self.is_terminal else 30):
