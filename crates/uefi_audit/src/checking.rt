@@ -1,3 +1,6 @@
+ghost use Rattle.std.specs.Prelude.{◌≡◌, IfOk, string_bytes};
+ghost use Rattle.uefi_auditing.specs.text.Names.{shown_name};
+
 use crate::commands::print_text;
 use crate::failure::{Failure, Status};
 use crate::judging::judge;
@@ -98,7 +101,9 @@ fn push_summary(
 }
 
 /// Returns a file's name as it is printed.
-pub(crate) fn shown(alloc: Global, name: &str) -> Result<String, AllocError> {
+pub(crate) fn shown(alloc: Global, name: &str) -> Result<String, AllocError>
+    ensures { IfOk result (λ text. string_bytes text ≡ shown_name name.now) }
+{
     let name = ShownName(name);
     format!(in alloc; "{name}")
 }

@@ -1,3 +1,6 @@
+ghost use Rattle.std.specs.Prelude.{◌≡◌};
+ghost use Rattle.uefi_audit.specs.Judging.{is_read, judged_status};
+
 use crate::failure::{Failure, Status};
 use crate::request::Reading;
 use pcr_replay::has_measured;
@@ -20,12 +23,16 @@ pub(crate) enum Judgement {
 impl Judgement {
     /// Returns whether the log's events are read: they are all that it has, and few algorithms are
     /// to be looked up.
-    pub(crate) fn is_read(self) -> bool {
+    pub(crate) fn is_read(self) -> bool
+        ensures { result ≡ is_read self }
+    {
         matches!(self, Judgement::Accepted | Judgement::NothingMeasured)
     }
 
     /// Returns the status of a run over the log, if nothing else is wrong.
-    pub(crate) fn status(self) -> Status {
+    pub(crate) fn status(self) -> Status
+        ensures { result ≡ judged_status self }
+    {
         match self {
             Judgement::Accepted => Status::Well,
             _ => Status::Unjudged,

@@ -1,3 +1,8 @@
+ghost use Rattle.std.specs.Prelude.{◌≡◌};
+ghost use Rattle.pcr_replay.specs.Entries.{Contents};
+ghost use Rattle.pcr_replay.specs.Logs.{HasContents};
+ghost use Rattle.uefi_audit.specs.Replaying.{is_stated, start_by};
+
 use crate::commands::print_text;
 use crate::failure::{Failure, Status};
 use crate::judging::{Judgement, judge, tell};
@@ -77,7 +82,12 @@ fn show_pcrs<R: Print + Eprint + AllocGlobal>(
 }
 
 /// Returns how PCR 0 starts: at the locality that was given, or else as the log says.
-pub(crate) fn start_of(file: &LogFile<'_>, locality: Option<u8>) -> Assumed {
+pub(crate) fn start_of(file: &LogFile<'_>, locality: Option<u8>) -> Assumed
+    ensures start { (contents : Contents) → HasContents file.now.log contents
+        → result.start ≡ start_by locality contents.entries }
+    ensures stated { (contents : Contents) → HasContents file.now.log contents
+        → result.is_stated ≡ is_stated locality contents.entries }
+{
     match locality {
         Some(locality) => Assumed {
             start: Start::at(locality),

@@ -1,3 +1,15 @@
+ghost use Rattle.std.specs.Prelude.{◌≡◌, false, filter, map, IfOk, OnOk};
+ghost use Rattle.uefi_base.specs.Appending.{AppendsText};
+ghost use Rattle.pcr_replay.specs.Entries.{Contents};
+ghost use Rattle.pcr_replay.specs.Logs.{HasContents};
+ghost use Rattle.pcr_replay.specs.Start.{start_at};
+ghost use Rattle.uefi_auditing.specs.Replay.{bank_outcomes_of, replayed};
+ghost use Rattle.uefi_auditing.specs.json.Verdict.{verdict_line};
+ghost use Rattle.uefi_auditing.specs.text.Names.{shown_name};
+ghost use Rattle.uefi_auditing.specs.verify.Verdict.{verdict_lines, verdict_of};
+ghost use Rattle.uefi_audit.specs.Judging.{verdict_status};
+ghost use Rattle.uefi_audit.specs.Replaying.{is_selected};
+
 use crate::checking::shown;
 use crate::commands::{log_file, print_text};
 use crate::failure::{Failure, Status};
@@ -63,7 +75,10 @@ fn selected(
     alloc: Global,
     held: &[HeldPcr],
     selection: &Option<PcrSelection>,
-) -> Result<Vec<HeldPcr>, AllocError> {
+) -> Result<Vec<HeldPcr>, AllocError>
+    ensures { IfOk result
+        (λ selected. selected.items ≡ filter (is_selected selection.now) held.now) }
+{
     let mut selected = Vec::new(alloc);
     for pcr in held {
         let is_selected = match selection {
@@ -157,7 +172,11 @@ fn nearest_replay(
     locality: Option<u8>,
     held: &[HeldPcr],
     banks: &[Bank],
-) -> Result<(Assumed, Vec<BankPcrs>), AllocError> {
+) -> Result<(Assumed, Vec<BankPcrs>), AllocError>
+    ensures { (contents : Contents) → HasContents file.now.log contents
+        → IfOk result (λ found. map bank_outcomes_of found.1.items
+        ≡ map (replayed found.0.start contents.entries) banks.now) }
+{
     let assumed = start_of(file, locality);
     if assumed.is_stated {
         let replays = replay_banks(alloc, &file.log, banks, &assumed.start)?;
@@ -179,12 +198,19 @@ fn replay_at(
     log: &Log<'_>,
     banks: &[Bank],
     locality: u8,
-) -> Result<Vec<BankPcrs>, AllocError> {
+) -> Result<Vec<BankPcrs>, AllocError>
+    ensures { (contents : Contents) → HasContents log.now contents
+        → IfOk result (λ found. map bank_outcomes_of found.items
+        ≡ map (replayed (start_at locality) contents.entries) banks.now) }
+{
     replay_banks(alloc, log, banks, &Start::at(locality))
 }
 
 /// Returns that PCR 0 starts at a locality that nobody states.
-fn assumed_at(locality: u8) -> Assumed {
+fn assumed_at(locality: u8) -> Assumed
+    ensures start { result.start ≡ start_at locality }
+    ensures stated { result.is_stated ≡ false }
+{
     Assumed {
         start: Start::at(locality),
         is_stated: false,
@@ -199,7 +225,12 @@ fn push_lines(
     held: &[HeldPcr],
     replays: &[BankPcrs],
     assumed: &Assumed,
-) -> Result<Verdict, AllocError> {
+) -> Result<Verdict, AllocError>
+    ensures verdict { IfOk result (λ verdict.
+        verdict ≡ verdict_of (map bank_outcomes_of replays.now) held.now) }
+    ensures lines { OnOk result (AppendsText text.old text.new (verdict_lines (shown_name file.now.name.now)
+        (map bank_outcomes_of replays.now) assumed.now.start.locality held.now)) }
+{
     let name = shown(alloc, file.name)?;
     let locality = assumed.start.locality;
     push_verdict(text, alloc, name.as_str(), held, replays, locality)
@@ -213,14 +244,21 @@ fn push_json(
     held: &[HeldPcr],
     replays: &[BankPcrs],
     assumed: &Assumed,
-) -> Result<Verdict, AllocError> {
+) -> Result<Verdict, AllocError>
+    ensures verdict { IfOk result (λ verdict.
+        verdict ≡ verdict_of (map bank_outcomes_of replays.now) held.now) }
+    ensures lines { OnOk result (AppendsText text.old text.new (verdict_line file.now.name.now
+        (map bank_outcomes_of replays.now) assumed.now.start.locality held.now)) }
+{
     let locality = assumed.start.locality;
     push_verdict_json(text, alloc, file.name, held, replays, locality)
 }
 
 /// Returns the status of a verdict: a log is unjudged if a PCR is undetermined, and it differs if one
 /// does, or an event should have extended a PCR that no TPM has.
-fn status_of(verdict: Verdict, is_ignored: bool) -> Status {
+fn status_of(verdict: Verdict, is_ignored: bool) -> Status
+    ensures { result ≡ verdict_status verdict is_ignored }
+{
     if verdict.undetermined > 0 {
         return Status::Unjudged;
     }
