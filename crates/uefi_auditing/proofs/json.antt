@@ -1,5 +1,7 @@
 pub mod NoFloats
 pub mod NoFloatsInReplay
+pub mod NoFloatsInVerdict
+pub mod NoFloatsInDiff
 pub mod Controls
 pub mod EventLines
 pub mod ReplayLines

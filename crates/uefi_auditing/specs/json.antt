@@ -4,3 +4,5 @@ pub mod Content
 pub mod Event
 pub mod Events
 pub mod Replay
+pub mod Verdict
+pub mod Diff

@@ -1,7 +1,7 @@
 -- Data of a form say one thing.
-use Rattle.std.proofs.Common.{◌≡◌, ℕ, List, [], ◌++◌, sym, ap, ◌∙◌, Option, Some, None, subst}
+use Rattle.std.proofs.Common.{◌≡◌, [], ◌++◌, sym, ap, ◌∙◌, Option, Some, None, subst}
 use Rattle.uefi_path.specs.Laws.{OneFront}
-use Rattle.uefi_path.specs.Node.{Node, joined}
+use Rattle.uefi_path.specs.Node.{joined}
 use Rattle.uefi_path.specs.Path.{IsPath}
 use Rattle.uefi_tcg.specs.content.Image.{Image, IsImage, image_bytes}
 use Rattle.uefi_tcg.specs.content.Laws.{OneEncoded, OneValue}
