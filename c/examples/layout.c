@@ -1,6 +1,7 @@
 /* A program without a C library, which ends with status 0: both sides lay out
  * structures alike, a slice comes back as it was handed over, NULL with length
- * 0 is empty bytes, and a log without events has none.
+ * 0 is empty bytes, a log without events has none, and the calls on the data of
+ * events and on PCRs fill what they are handed.
  */
 #include "uefi_formats.h"
 
@@ -22,10 +23,23 @@ HAS(UefiFileInfo, EITHER(96, 88), create_time, EITHER(48, 40), "a file");
 HAS(UefiFileSystemInfo, EITHER(48, 40), read_only, EITHER(44, 36), "a volume");
 HAS(UefiResource, EITHER(48, 44), general_flags, 41, "a resource");
 HAS(UefiPair, EITHER(40, 20), has_value, EITHER(32, 16), "a pair");
+HAS(UefiLoadOption, EITHER(72, 36), attributes, EITHER(64, 32), "a load option");
+HAS(UefiVariable, EITHER(48, 32), guid, EITHER(32, 16), "a variable");
+HAS(UefiImage, EITHER(56, 40), link_time_address, EITHER(48, 32), "an image");
+HAS(UefiBlob, EITHER(32, 24), length, EITHER(24, 16), "a blob");
+HAS(UefiTaggedEvent, EITHER(24, 12), id, EITHER(16, 8), "a tagged event");
+HAS(UefiEventText, EITHER(24, 12), has_nul, EITHER(17, 9), "a text");
+HAS(UefiCrtmVersion, EITHER(32, 16), form, EITHER(24, 12), "a version");
+HAS(UefiSignatureList, EITHER(56, 36), signature_type, EITHER(36, 20), "a list of signatures");
+HAS(UefiSignature, EITHER(32, 24), owner, EITHER(16, 8), "a signature");
+HAS(UefiGptHeader, EITHER(96, 92), disk_guid, 76, "the header of a partition table");
+HAS(UefiGptEntry, EITHER(144, 136), name, EITHER(72, 64), "a partition");
+HAS(UefiPcr, EITHER(96, 80), value, EITHER(28, 16), "a PCR");
 _Static_assert(UEFI_FORMATS_VERSION == 0x000100, "version 0.1.0");
 
 static const uint8_t path_bytes[] = {1, 2, 6, 0, 9, 8, 0x7f, 0xff, 4, 0};
 static const uint8_t digest[20] = {1, 2, 3};
+static const uint8_t guid[16] = {0x80, 1, 2, 3, 4, 5, 6, 7, 8, 9, 10, 11, 12, 13, 14, 15};
 
 static int paths(void) {
     UefiBytes whole = uefi_bytes(path_bytes, sizeof path_bytes), path;
@@ -99,6 +113,83 @@ static int records(void) {
     return uefi_pci_next(uefi_bytes(zeros, 82), &at, &range) != UEFI_PCI_UNKNOWN_TAG ? 16 : 0;
 }
 
+/* Texts, and versions, of which those of sixteen bytes are GUIDs. */
+static int event_texts(void) {
+    UefiEventText text;
+    UefiCrtmVersion version;
+    if (!uefi_event_text(uefi_bytes("ab", 3), &text) || text.is_utf16 || !text.has_nul || text.text.n != 2)
+        return 20;
+    if (!uefi_event_text(uefi_bytes("a\0b\0\0", 6), &text) || !text.is_utf16 || !text.has_nul || text.text.n != 4)
+        return 21;
+    if (uefi_event_text(uefi_bytes("\x80", 1), &text) || text.text.n != 4)
+        return 22;
+    if (!uefi_event_crtm_version(uefi_bytes("a\0b\0\0", 6), &version) || version.form != UEFI_CRTM_VERSION_UCS2)
+        return 23;
+    if (version.text.text.n != 4 || !version.text.is_utf16 || !version.text.has_nul)
+        return 24;
+    if (!uefi_event_crtm_version(uefi_bytes("ab", 3), &version) || version.form != UEFI_CRTM_VERSION_OTHER)
+        return 25;
+    if (!uefi_event_crtm_version(uefi_bytes(guid, 16), &version) || version.form != UEFI_CRTM_VERSION_GUID)
+        return 26;
+    return version.text.text.at != guid || version.text.text.n != 16 ? 27 : 0;
+}
+
+/* A database of one list, with a header of one byte and two signatures of eighteen, and a byte after it. */
+static int signatures(void) {
+    static const uint8_t bytes[66] = {[0] = 7, [16] = 65, [20] = 1, [24] = 18, [28] = 5, [29] = 6, [45] = 9, [47] = 8, [64] = 3};
+    UefiBytes lists = uefi_bytes(bytes, sizeof bytes);
+    UefiSignatureList list;
+    UefiSignature signature;
+    size_t at = 0, next = 0;
+    if (!uefi_signature_list_next(lists, &at, &list) || at != 65 || list.signature_type[0] != 7 || list.signature_size != 18)
+        return 28;
+    if (list.header.n != 1 || list.header.at != bytes + 28 || list.signatures.n != 36 || list.signatures.at != bytes + 29)
+        return 29;
+    if (uefi_signature_list_next(lists, &at, &list) || at != 65)
+        return 30;
+    if (!uefi_signature_next(list.signatures, list.signature_size, &next, &signature) || next != 18)
+        return 31;
+    if (signature.owner[0] != 6 || signature.value.n != 2 || signature.value.at[0] != 9 || uefi_signature_next(list.signatures, 15, &next, &signature))
+        return 32;
+    if (!uefi_signature_next(list.signatures, 18, &next, &signature) || signature.owner[0] != 8 || signature.value.at[1] != 3)
+        return 33;
+    return uefi_signature_next(list.signatures, 18, &next, &signature) || next != 36 ? 34 : 0;
+}
+
+/* A partition table with one entry, of 136 bytes. */
+static int partitions(void) {
+    static const uint8_t bytes[236] = {[24] = 1, [56] = 2, [84] = 136, [92] = 1, [100] = 3, [116] = 4, [132] = 5, [140] = 6, [148] = 7, [156] = 'E', [235] = 8};
+    UefiBytes data = uefi_bytes(bytes, sizeof bytes);
+    static UefiGptHeader header;
+    static UefiGptEntry entry;
+    if (!uefi_gpt_header(data, &header) || header.my_lba != 1 || header.disk_guid[0] != 2 || header.entry_size != 136)
+        return 35;
+    if (!uefi_gpt_entry(data, 0, &entry) || entry.type_guid[0] != 3 || entry.unique_guid[0] != 4 || entry.first_lba != 5)
+        return 36;
+    if (entry.last_lba != 6 || entry.attributes != 7 || entry.name[0] != 'E' || entry.name[1] || entry.rest.n != 8 || entry.rest.at[7] != 8)
+        return 37;
+    return uefi_gpt_entry(data, 1, &entry) || uefi_gpt_header(uefi_bytes(bytes, 235), &header) ? 38 : 0;
+}
+
+/* Of a log without events the PCRs are start values, and that of PCR 0 ends with the locality. */
+static int pcrs(void) {
+    UefiBytes log = uefi_bytes(NULL, 0);
+    static UefiPcr all[24], one;
+    uint8_t locality = 9;
+    if (!uefi_replay(log, UEFI_EMPTY_LOG, UEFI_TPM_ALG_SHA256, 3, all) || all[0].value[31] != 3 || all[16].value[31])
+        return 39;
+    for (int i = 0; i < 24; i++)
+        if (all[i].fault != UEFI_PCR_DETERMINED || all[i].size != 32 || all[i].value[0] != (i >= 17 && i <= 22 ? 0xff : 0))
+            return 40;
+    if (!uefi_replay_pcr(log, UEFI_EMPTY_LOG, UEFI_TPM_ALG_SM3_256, UEFI_LOCALITY_OF_LOG, 0, &one) || one.size != 32 || one.value[31])
+        return 41;
+    if (uefi_replay_pcr(log, UEFI_EMPTY_LOG, UEFI_TPM_ALG_SHA1, 0, 24, &one) || uefi_replay(log, UEFI_EMPTY_LOG, 0, 0, all))
+        return 42;
+    if (uefi_startup_locality(log, UEFI_EMPTY_LOG, &locality) || locality != 9)
+        return 43;
+    return uefi_bank_is_active(log, UEFI_EMPTY_LOG, UEFI_TPM_ALG_SHA256) ? 44 : 0;
+}
+
 __attribute__((noreturn)) static void end(long status) {
 #if defined(__x86_64__)
     __asm__ volatile("syscall" : : "a"(60L), "D"(status) : "memory");
@@ -116,7 +207,11 @@ __attribute__((used)) static void run(void) {
     status = status ? status : events();
     status = status ? status : empty_log();
     status = status ? status : texts();
-    end(status ? status : records());
+    status = status ? status : records();
+    status = status ? status : event_texts();
+    status = status ? status : signatures();
+    status = status ? status : partitions();
+    end(status ? status : pcrs());
 }
 
 #if defined(__x86_64__)

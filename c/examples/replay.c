@@ -13,7 +13,7 @@ static void put_pcr(uint32_t index, const UefiPcr *pcr) {
     printf("%2" PRIu32 " ", index);
     if (pcr->fault != UEFI_PCR_DETERMINED)
         printf("undetermined %zu %" PRIu32, pcr->offset, pcr->fault);
-    for (size_t i = 0; i < pcr->size; i++)
+    for (size_t i = 0; pcr->fault == UEFI_PCR_DETERMINED && i < pcr->size; i++)
         printf("%02x", pcr->value[i]);
     putchar('\n');
 }
@@ -31,8 +31,10 @@ int main(int argc, char **argv) {
     UefiBytes log = uefi_bytes(bytes, size);
     size_t last_entry = argc == 4 ? (size_t)strtoull(argv[3], NULL, 10) : size;
     uint16_t algorithm = (uint16_t)strtoull(argv[2], NULL, 10);
-    UefiPcr pcr;
-    for (uint32_t index = 0; uefi_replay_pcr(log, last_entry, algorithm, index, &pcr); index++)
-        put_pcr(index, &pcr);
-    return uefi_replay_pcr(log, last_entry, algorithm, 0, &pcr) ? 0 : 1;
+    UefiPcr pcrs[24];
+    if (!uefi_replay(log, last_entry, algorithm, UEFI_LOCALITY_OF_LOG, pcrs))
+        return 1;
+    for (uint32_t index = 0; index < 24; index++)
+        put_pcr(index, &pcrs[index]);
+    return 0;
 }

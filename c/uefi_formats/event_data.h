@@ -8,20 +8,26 @@
 extern "C" {
 #endif
 
-/* An event's type says what its data are:
+/* The type of an event says which function reads its data:
  *
  *     UEFI_EV_EFI_VARIABLE_DRIVER_CONFIG, .._BOOT, .._BOOT2, .._AUTHORITY    uefi_variable
  *     UEFI_EV_EFI_BOOT_SERVICES_APPLICATION, .._DRIVER                      uefi_image
  *     UEFI_EV_EFI_RUNTIME_SERVICES_DRIVER                                   uefi_image
  *     UEFI_EV_EFI_PLATFORM_FIRMWARE_BLOB, UEFI_EV_POST_CODE                 uefi_blob
  *     UEFI_EV_EFI_PLATFORM_FIRMWARE_BLOB2, UEFI_EV_POST_CODE2               uefi_blob2
+ *     UEFI_EV_IPL                                                           uefi_event_text
+ *     UEFI_EV_S_CRTM_VERSION                                                uefi_event_crtm_version
  *     UEFI_EV_EVENT_TAG                                                     uefi_tagged_next
+ *     UEFI_EV_EFI_GPT_EVENT                                                 uefi_gpt_header, uefi_gpt_entry
  *
  * The value of a variable may be a load option (uefi_load_option), an order of
- * boot options (uefi_boot_order) or, of the type UEFI_EV_EFI_VARIABLE_AUTHORITY,
- * a signature (uefi_signature).
+ * boot options (uefi_boot_order), a signature database
+ * (uefi_signature_list_next) or, of the type UEFI_EV_EFI_VARIABLE_AUTHORITY, a
+ * signature (uefi_signature).
  *
- * A function returns true if the data are that structure, whole and alone. */
+ * A function returns true if the data are that structure, whole and alone. A
+ * loop over uefi_tagged_next is done if it ends at the end of the data. The
+ * data of UEFI_EV_POST_CODE may also be a text. */
 
 typedef struct {
     UefiBytes name;  /* units of two bytes, little-endian, without a NUL */
@@ -34,7 +40,7 @@ UEFI_CALL bool uefi_variable(UefiBytes event_data, UefiVariable *out);
 
 typedef struct {
     UefiBytes device_path; /* as many bytes as are stated, which needn't be a path */
-    UefiBytes rest;        /* what follows; firmware that states too small a length has the path in it */
+    UefiBytes rest;        /* what follows; where firmware states a length of 0, the path is here */
     uint64_t location_in_memory;
     uint64_t length_in_memory;
     uint64_t link_time_address;
@@ -44,7 +50,7 @@ typedef struct {
 UEFI_CALL bool uefi_image(UefiBytes event_data, UefiImage *out);
 
 typedef struct {
-    UefiBytes description; /* ASCII as a rule; of uefi_blob no bytes */
+    UefiBytes description; /* ASCII as a rule, at most 255 bytes; of uefi_blob no bytes */
     uint64_t base;
     uint64_t length;
 } UefiBlob;
@@ -53,6 +59,29 @@ typedef struct {
  * that with a description (UEFI_PLATFORM_FIRMWARE_BLOB2). */
 UEFI_CALL bool uefi_blob(UefiBytes event_data, UefiBlob *out);
 UEFI_CALL bool uefi_blob2(UefiBytes event_data, UefiBlob *out);
+
+typedef struct {
+    UefiBytes text; /* without the NUL: ASCII, or units of two bytes, little-endian */
+    bool is_utf16;  /* surrogates needn't be pairs */
+    bool has_nul;   /* a NUL follows the text */
+} UefiEventText;
+
+/* The text that the data are (10.4.1 EV_IPL): ASCII, or else UTF-16, without a
+ * NUL but at its end. */
+UEFI_CALL bool uefi_event_text(UefiBytes event_data, UefiEventText *out);
+
+#define UEFI_CRTM_VERSION_UCS2 0u  /* units of two bytes, after which a NUL follows */
+#define UEFI_CRTM_VERSION_GUID 1u  /* text.text is the sixteen bytes of a GUID */
+#define UEFI_CRTM_VERSION_OTHER 2u /* another text, which the profile doesn't have */
+
+typedef struct {
+    UefiEventText text;
+    uint32_t form;
+} UefiCrtmVersion;
+
+/* The version of the root of trust for measurement that the data are (10.4.1
+ * EV_S_CRTM_VERSION). */
+UEFI_CALL bool uefi_event_crtm_version(UefiBytes event_data, UefiCrtmVersion *out);
 
 typedef struct {
     UefiBytes value;
@@ -68,14 +97,73 @@ UEFI_CALL bool uefi_tagged_next(UefiBytes event_data, size_t *offset, UefiTagged
  * index. */
 UEFI_CALL bool uefi_boot_order(UefiBytes bytes, size_t index, uint16_t *out);
 
+/* ---- Signature databases (UEFI 2.10, 32.4.1): the values of PK, KEK, db and dbx ----
+ *
+ * A database is lists, one after another, and is whole if the walk over them
+ * ends at the end of the bytes. */
+
 typedef struct {
-    UefiBytes value; /* a hash or a certificate */
+    UefiBytes header;     /* its meaning depends on the type; the types that have a name have none */
+    UefiBytes signatures; /* for uefi_signature_next */
+    uint32_t signature_size; /* of each, with the sixteen bytes of its owner */
+    uint8_t signature_type[16]; /* a GUID */
+} UefiSignatureList;
+
+/* The next list (EFI_SIGNATURE_LIST). */
+UEFI_CALL bool uefi_signature_list_next(UefiBytes lists, size_t *offset, UefiSignatureList *out);
+
+typedef struct {
+    UefiBytes value; /* a hash or a certificate, as the type of the list says */
     uint8_t owner[16];
 } UefiSignature;
 
-/* The signature that all the bytes are (EFI_SIGNATURE_DATA). False if they are
- * fewer than sixteen. */
+/* The signature that all the bytes are (EFI_SIGNATURE_DATA), such as the value
+ * of a variable that was measured as an authority. False if they are fewer than
+ * sixteen. */
 UEFI_CALL bool uefi_signature(UefiBytes bytes, UefiSignature *out);
+
+/* The next signature of a list, whose signatures and signature_size these are
+ * (EFI_SIGNATURE_DATA). False at a size below 16. */
+UEFI_CALL bool uefi_signature_next(UefiBytes signatures, uint32_t signature_size, size_t *offset,
+                                   UefiSignature *out);
+
+/* ---- Partition tables (10.4.1 UEFI_GPT_DATA; UEFI 2.10, 5.3) ---- */
+
+typedef struct {
+    uint64_t signature;
+    uint64_t my_lba;
+    uint64_t alternate_lba;
+    uint64_t first_usable_lba;
+    uint64_t last_usable_lba;
+    uint64_t partition_entry_lba;
+    uint32_t revision;
+    uint32_t header_size;
+    uint32_t header_crc32;
+    uint32_t reserved;
+    uint32_t entry_count; /* on the disk; firmware measures those that are used */
+    uint32_t entry_size;  /* at least 128 */
+    uint32_t entries_crc32;
+    uint8_t disk_guid[16];
+} UefiGptHeader;
+
+/* The header of the partition table that the data of an event are, of type
+ * UEFI_EV_EFI_GPT_EVENT. No CRC32 is compared. */
+UEFI_CALL bool uefi_gpt_header(UefiBytes event_data, UefiGptHeader *out);
+
+typedef struct {
+    UefiBytes rest; /* what an entry of more than 128 bytes has */
+    uint64_t first_lba;
+    uint64_t last_lba;
+    uint64_t attributes;
+    uint8_t type_guid[16];
+    uint8_t unique_guid[16];
+    uint16_t name[36]; /* with a NUL if it is shorter */
+} UefiGptEntry;
+
+/* The entry at an index of that table. False if the data are no table, or it
+ * has no such entry: a loop over the index ends. A call goes over the entries
+ * before it. */
+UEFI_CALL bool uefi_gpt_entry(UefiBytes event_data, size_t index, UefiGptEntry *out);
 
 #ifdef __cplusplus
 }

@@ -42,7 +42,7 @@ static size_t log_last_entry, replayed;
 /* Compares a register with what the log leaves in it. */
 static void replay(uint16_t algorithm, unsigned index, UefiBytes value) {
     UefiPcr pcr;
-    if (!uefi_replay_pcr(log, log_last_entry, algorithm, index, &pcr))
+    if (!uefi_replay_pcr(log, log_last_entry, algorithm, UEFI_LOCALITY_OF_LOG, index, &pcr))
         return;
     bool same = pcr.fault == UEFI_PCR_DETERMINED && pcr.size == value.n;
     for (size_t i = 0; same && i < value.n; i++)

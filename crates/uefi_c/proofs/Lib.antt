@@ -9,7 +9,11 @@ pub mod PairSteps
 pub mod NameBytes
 pub mod UnitBytes
 pub mod LoadOptionParts
-pub mod VariableParts
+pub mod EventBytes
+pub mod SignatureLists
+pub mod GptEntries
+pub mod PcrSteps
+pub mod WalkSteps
 pub mod PassedDigests
 pub mod BootOrders
-pub mod TaggedSteps
+

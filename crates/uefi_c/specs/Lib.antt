@@ -11,4 +11,6 @@ pub mod Config
 pub mod LoadOption
 pub mod EventData
 pub mod Replay
+pub mod Signatures
+pub mod Gpt
 pub mod Info

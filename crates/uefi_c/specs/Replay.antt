@@ -1,40 +1,41 @@
--- PCR replay: what a PCR holds after the events of a log, as a call gives it.
-use Rattle.std.specs.Prelude.{ℕ, ◌≡◌, ◌≢◌, ◌==◌, List, length, take, nat_le, Ok, Err, Some, slice_get, if◌then◌else◌}
-use Rattle.pcr_replay.specs.Banks.{algorithm_of}
-use Rattle.pcr_replay.specs.Entries.{Contents}
-use Rattle.pcr_replay.specs.Logs.{HasContents}
-use Rattle.pcr_replay.specs.Replay.{Outcome, outcomes}
-use Rattle.pcr_replay.specs.Start.{start_in}
-use Rattle.pcr_replay.specs.declared.bank.Bank.{Bank}
+-- Logs and PCRs (`pcr_replay`) of plain numbers.
+use Rattle.std.specs.Prelude.{ℕ, ◌==◌, List, Ok, Err, nat_le, nat_lt, length, take, if◌then◌else◌}
+use Rattle.std.specs.Borrow.{Bor}
 use Rattle.pcr_replay.specs.declared.fault.Fault.{Fault}
 use Rattle.pcr_replay.specs.declared.fault.Fault.TheVariants.{NoDigest, TwoDigests, OtherLength, UnknownLocality, OtherLocality, LateLocality}
 use Rattle.pcr_replay.specs.declared.log.LastEntry.{LastEntry}
 use Rattle.pcr_replay.specs.declared.log.LastEntry.TheVariants.{Unknown, Empty, At}
 use Rattle.pcr_replay.specs.declared.log.Log.{Log}
+use Rattle.pcr_replay.specs.declared.start.Start.{Start}
+use Rattle.pcr_replay.specs.Entries.{Entry}
+use Rattle.pcr_replay.specs.Replay.{Outcome}
+use Rattle.pcr_replay.specs.Start.{start_at, start_in}
 use Rattle.uefi_c.specs.declared.replay.UefiPcr.{UefiPcr}
 
--- The last entry that a number stands for: 1 for a log without events, the log's length or more where it isn't known.
+-- The last entry that a number stands for in a log of this length: 1 says that the log is empty, and the length or more that it isn't known.
 abbrev pub last_entry_given : ℕ → ℕ → LastEntry
-last_entry_given length last_entry =
-    if last_entry == 1 then Empty else (if nat_le length last_entry then Unknown else At last_entry)
+last_entry_given size offset = if offset == 1 then Empty else if nat_le size offset then Unknown else At offset
 
--- The number of each fault.
-abbrev pub fault_number : Fault → ℕ
-fault_number NoDigest = 1
-fault_number TwoDigests = 2
-fault_number OtherLength = 3
-fault_number UnknownLocality = 4
-fault_number OtherLocality = 5
-fault_number LateLocality = 6
+-- The log of these bytes with this last entry.
+abbrev pub log_given : Bor (List ℕ) → ℕ → Log
+log_given bytes last_entry = record { bytes = bytes; last_entry = last_entry_given (length bytes.now) last_entry }
 
--- What a call gives of a PCR: its bytes; or the first event by which it is undetermined.
-abbrev pub Shows : Outcome → UefiPcr → Type 0
-Shows (Ok value) seen = (seen.fault ≡ 0) × (take seen.size seen.value ≡ value)
-Shows (Err at) seen = (seen.fault ≡ fault_number at.fault) × (seen.index ≡ at.index) × (seen.offset ≡ at.offset)
+-- How PCR 0 starts: at this locality, which is below 256, or else as the log of these entries says.
+abbrev pub start_given : ℕ → List Entry → Start
+start_given locality entries = if nat_lt locality 256 then start_at locality else start_in entries
 
--- It is what the PCR of the algorithm's bank holds after the log's events.
-abbrev pub IsOutcome : Log → ℕ → ℕ → UefiPcr → Type 0
-IsOutcome log algorithm pcr seen = (bank : Bank) × (algorithm_of bank ≡ algorithm)
-    × ((contents : Contents) → HasContents log contents
-    → (outcome : Outcome) × (slice_get (outcomes bank (start_in contents.entries) contents.entries) pcr ≡ Some outcome)
-    × Shows outcome seen)
+-- The fault of a number from 1 to 6.
+abbrev pub fault_of : ℕ → Fault
+fault_of number =
+    if number == 1 then NoDigest
+    else if number == 2 then TwoDigests
+    else if number == 3 then OtherLength
+    else if number == 4 then UnknownLocality
+    else if number == 5 then OtherLocality
+    else LateLocality
+
+-- What a PCR holds: with the fault 0 a value, else the event by which it is undetermined.
+abbrev pub outcome_seen : UefiPcr → Outcome
+outcome_seen seen =
+    if seen.fault == 0 then Ok (take seen.size seen.value)
+    else Err (record { index = seen.index; offset = seen.offset; fault = fault_of seen.fault })

@@ -9,6 +9,8 @@ mod log2;
 mod map;
 mod nodes;
 mod pairs;
+mod signatures;
+mod tagged;
 
 pub use self::instances::instances_by_steps;
 pub use self::log1::log1_by_steps;
@@ -16,3 +18,5 @@ pub use self::log2::{digests_by_steps, log2_after_event_by_steps, log2_by_steps}
 pub use self::map::entries_by_steps;
 pub use self::nodes::nodes_by_steps;
 pub use self::pairs::pairs_by_steps;
+pub use self::signatures::signatures_by_steps;
+pub use self::tagged::tagged_by_steps;

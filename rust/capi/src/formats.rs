@@ -8,4 +8,5 @@
 pub(crate) mod pcr_replay;
 pub(crate) mod sha1;
 pub(crate) mod sha2;
+pub(crate) mod sm3;
 pub(crate) mod uefi_c;

@@ -4,6 +4,7 @@ use crate::formats::pcr_replay::bank::Bank;
 use crate::formats::pcr_replay::value::PcrValue;
 use crate::formats::sha1::Sha1;
 use crate::formats::sha2::{Digest, Sha256, Sha384, Sha512};
+use crate::formats::sm3::Sm3;
 
 /// Returns the bank's digest of two parts that follow one another.
 #[inline]
@@ -13,6 +14,7 @@ pub(crate) fn hash_joined(bank: Bank, first: &[u8], second: &[u8]) -> PcrValue {
         Bank::Sha256 => PcrValue::new(joined::<Sha256>(first, second).as_slice()),
         Bank::Sha384 => PcrValue::new(joined::<Sha384>(first, second).as_slice()),
         Bank::Sha512 => PcrValue::new(joined::<Sha512>(first, second).as_slice()),
+        Bank::Sm3 => PcrValue::new(joined::<Sm3>(first, second).as_slice()),
     }
 }
 
@@ -26,7 +28,7 @@ fn joined_sha1(first: &[u8], second: &[u8]) -> PcrValue {
     PcrValue::new(digest.as_slice())
 }
 
-/// Returns the SHA-2 digest of two parts that follow one another.
+/// Returns the digest of two parts that follow one another, of SHA-2 or SM3.
 #[inline]
 fn joined<D: Digest>(first: &[u8], second: &[u8]) -> D::Output {
     let mut hasher = D::new();

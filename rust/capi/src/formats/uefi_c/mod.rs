@@ -25,7 +25,5 @@ mod path;
 mod path_state;
 mod pci;
 mod replay;
-mod signature;
-mod tagged;
 mod time;
 mod write;

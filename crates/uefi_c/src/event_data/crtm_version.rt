@@ -1,0 +1,75 @@
+ghost use Rattle.std.specs.Prelude.{◌≡◌, ◌≤◌, ◌%◌, length, IsTrue, IsFalse};
+ghost use Rattle.uefi_tcg.specs.content.CrtmVersion.{ReadsCrtmVersion};
+ghost use Rattle.uefi_c.specs.EventData.{given, version_seen};
+
+use super::text::{UefiEventText, seen};
+use crate::cursor::units_at;
+use uefi_tcg::content::CrtmVersion;
+
+// The forms of a version.
+
+/// A string of UCS-2 that a NUL ends.
+const UCS2: u32 = 0;
+
+/// A GUID.
+const GUID: u32 = 1;
+
+/// Another text.
+const OTHER: u32 = 2;
+
+/// The version of the static root of trust for measurement (TCG PC Client Platform Firmware Profile
+/// 1.06, 10.4.1, `EV_S_CRTM_VERSION`).
+#[derive(Clone, Copy)]
+#[repr(C)]
+pub struct UefiCrtmVersion<'a> {
+    /// The text without its NUL. If the version is a GUID, its sixteen bytes.
+    pub text: UefiEventText<'a>,
+    /// The form: 0 for a string of UCS-2 that a NUL ends, 1 for a GUID, 2 for another text.
+    pub form: u32,
+}
+
+/// Reads the version that the data of an event are.
+#[unsafe(no_mangle)]
+pub extern "C" fn uefi_event_crtm_version<'a>(
+    event_data: &'a [u8],
+    out: &mut UefiCrtmVersion<'a>,
+) -> bool
+    ensures version { ReadsCrtmVersion event_data.now (given result (version_seen out.new)) }
+    ensures known { IsTrue result → out.new.form ≤ 2 }
+    ensures string { IsTrue result → out.new.form ≡ 0
+        → IsTrue out.new.text.is_utf16 × IsTrue out.new.text.has_nul }
+    ensures guid { IsTrue result → out.new.form ≡ 1
+        → IsFalse out.new.text.is_utf16 × IsFalse out.new.text.has_nul }
+    ensures whole_units { IsTrue result → IsTrue out.new.text.is_utf16
+        → length out.new.text.text.now % 2 ≡ 0 }
+    ensures unchanged { IsFalse result → out.new ≡ out.old }
+{
+    match CrtmVersion::read(event_data) {
+        None => false,
+        Some(CrtmVersion::Ucs2(units)) => {
+            let text = UefiEventText {
+                text: units_at(event_data, 0, units.len()),
+                is_utf16: true,
+                has_nul: true,
+            };
+            *out = UefiCrtmVersion { text, form: UCS2 };
+            true
+        }
+        Some(CrtmVersion::Guid(_)) => {
+            let text = UefiEventText {
+                text: event_data,
+                is_utf16: false,
+                has_nul: false,
+            };
+            *out = UefiCrtmVersion { text, form: GUID };
+            true
+        }
+        Some(CrtmVersion::Other(text)) => {
+            *out = UefiCrtmVersion {
+                text: seen(event_data, &text),
+                form: OTHER,
+            };
+            true
+        }
+    }
+}

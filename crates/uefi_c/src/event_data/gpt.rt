@@ -1,0 +1,165 @@
+ghost use Rattle.std.specs.Prelude.{◌≡◌, ◌≤◌, None, length, IsTrue, IsFalse, IfSome, IfNone};
+ghost use Rattle.uefi_base.specs.Views.{slice_units};
+ghost use Rattle.uefi_tcg.specs.content.Gpt.{GptData as Gpt, IsGptData, ReadsGptData, gpt_bytes};
+ghost use Rattle.uefi_tcg.specs.content.GptViews.{entry_of, header_of};
+ghost use Rattle.uefi_c.specs.Gpt.{HasEntry, HasHeader, entry_seen, header_seen};
+
+use uefi_base::UnalignedSlice;
+use uefi_tcg::content::{GptData, GptEntry, GptHeader};
+
+/// The number of units in a partition's name.
+const NAME_UNITS: usize = 36;
+
+/// The header of a partition table (UEFI 2.10, 5.3.2, `EFI_PARTITION_TABLE_HEADER`).
+#[derive(Clone, Copy)]
+#[repr(C)]
+pub struct UefiGptHeader {
+    /// The signature.
+    pub signature: u64,
+    /// The block of the header.
+    pub my_lba: u64,
+    /// The block of the other header.
+    pub alternate_lba: u64,
+    /// The first block that a partition may use.
+    pub first_usable_lba: u64,
+    /// The last block that a partition may use.
+    pub last_usable_lba: u64,
+    /// The first block of the entries.
+    pub partition_entry_lba: u64,
+    /// The revision.
+    pub revision: u32,
+    /// The size of the header in bytes.
+    pub header_size: u32,
+    /// The CRC32 of the header.
+    pub header_crc32: u32,
+    /// A reserved field.
+    pub reserved: u32,
+    /// The count of the entries on the disk.
+    pub entry_count: u32,
+    /// The size of each entry in bytes, at least 128.
+    pub entry_size: u32,
+    /// The CRC32 of the entries on the disk.
+    pub entries_crc32: u32,
+    /// The GUID of the disk.
+    pub disk_guid: [u8; 16],
+}
+
+/// A partition (UEFI 2.10, 5.3.3, `EFI_PARTITION_ENTRY`).
+#[derive(Clone, Copy)]
+#[repr(C)]
+pub struct UefiGptEntry<'a> {
+    /// The bytes after the name, in an entry of more than 128.
+    pub rest: &'a [u8],
+    /// The first block.
+    pub first_lba: u64,
+    /// The last block.
+    pub last_lba: u64,
+    /// The attributes.
+    pub attributes: u64,
+    /// The GUID of the type.
+    pub type_guid: [u8; 16],
+    /// The GUID of the partition.
+    pub unique_guid: [u8; 16],
+    /// The units of the name: what follows a NUL isn't part of the name.
+    pub name: [u16; NAME_UNITS],
+}
+
+/// Reads the header of the partition table that the data of an event are (TCG PC Client Platform
+/// Firmware Profile 1.06, 10.4.1, `UEFI_GPT_DATA`).
+#[unsafe(no_mangle)]
+pub extern "C" fn uefi_gpt_header(event_data: &[u8], out: &mut UefiGptHeader) -> bool
+    ensures header { IsTrue result → HasHeader event_data.now (header_seen out.new) }
+    ensures none { IsFalse result → ReadsGptData event_data.now None }
+    ensures unchanged { IsFalse result → out.new ≡ out.old }
+{
+    let Some(gpt) = GptData::read(event_data) else {
+        return false;
+    };
+    *out = seen_header(&gpt.header());
+    true
+}
+
+/// Reads the entry at an index of the partition table that the data of an event are. It goes over
+/// the entries before it.
+#[unsafe(no_mangle)]
+pub extern "C" fn uefi_gpt_entry<'a>(
+    event_data: &'a [u8],
+    index: usize,
+    out: &mut UefiGptEntry<'a>,
+) -> bool
+    ensures entry { IsTrue result → HasEntry event_data.now index (entry_seen out.new) }
+    ensures none { IsFalse result → (gpt : Gpt) → IsGptData gpt
+        → event_data.now ≡ gpt_bytes gpt → length gpt.entries ≤ index }
+    ensures unchanged { IsFalse result → out.new ≡ out.old }
+{
+    let Some(entry) = entry_at(event_data, index) else {
+        return false;
+    };
+    *out = seen_entry(&entry);
+    true
+}
+
+/// Returns the entry at an index of the table that the bytes are.
+fn entry_at(bytes: &[u8], index: usize) -> Option<GptEntry<'_>>
+    ensures entry { IfSome result (λ entry. HasEntry bytes.now index (entry_of entry)) }
+    ensures name { IfSome result (λ entry. length (slice_units entry.name) ≡ 36) }
+    ensures none { IfNone result ((gpt : Gpt) → IsGptData gpt
+        → bytes.now ≡ gpt_bytes gpt → length gpt.entries ≤ index) }
+{
+    let gpt = GptData::read(bytes)?;
+    gpt.iter().nth(index)
+}
+
+/// Returns the fields of a header.
+fn seen_header(header: &GptHeader) -> UefiGptHeader
+    ensures { header_seen result ≡ header_of header.now }
+{
+    let disk_guid = header.disk_guid.0;
+    UefiGptHeader {
+        signature: header.signature,
+        my_lba: header.my_lba,
+        alternate_lba: header.alternate_lba,
+        first_usable_lba: header.first_usable_lba,
+        last_usable_lba: header.last_usable_lba,
+        partition_entry_lba: header.partition_entry_lba,
+        revision: header.revision,
+        header_size: header.header_size,
+        header_crc32: header.header_crc32,
+        reserved: header.reserved,
+        entry_count: header.entry_count,
+        entry_size: header.entry_size,
+        entries_crc32: header.entries_crc32,
+        disk_guid,
+    }
+}
+
+/// Returns the fields of an entry.
+fn seen_entry<'a>(entry: &GptEntry<'a>) -> UefiGptEntry<'a>
+    requires { length (slice_units entry.now.name) ≡ 36 }
+    ensures { entry_seen result ≡ entry_of entry.now }
+{
+    let type_guid = entry.type_guid.0;
+    let unique_guid = entry.unique_guid.0;
+    let name = units_of(&entry.name);
+    UefiGptEntry {
+        rest: entry.rest,
+        first_lba: entry.first_lba,
+        last_lba: entry.last_lba,
+        attributes: entry.attributes,
+        type_guid,
+        unique_guid,
+        name,
+    }
+}
+
+/// Returns the units of a name.
+fn units_of(name: &UnalignedSlice<'_>) -> [u16; NAME_UNITS]
+    requires { length (slice_units name.now) ≡ 36 }
+    ensures { result ≡ slice_units name.now }
+{
+    let mut units = [0; NAME_UNITS];
+    for i in 0..NAME_UNITS {
+        units[i] = name.get(i).unwrap_or(0);
+    }
+    units
+}

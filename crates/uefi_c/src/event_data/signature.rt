@@ -1,0 +1,174 @@
+ghost use Rattle.std.specs.Prelude.{◌≡◌, ◌+◌, ◌≤◌, take, drop, length, IsTrue, IsFalse, IfSome, IfNone};
+ghost use Rattle.uefi_base.specs.LittleEndian.{u32_at};
+ghost use Rattle.uefi_base.specs.Prefix.{IsPrefix};
+ghost use Rattle.uefi_tcg.specs.content.Signature.{HasSize, IsSignatureList, ReadsSignature, Signature, list_bytes, signature_bytes};
+ghost use Rattle.uefi_tcg.specs.content.SignatureViews.{list_of, signature_of};
+ghost use Rattle.uefi_tcg.specs.private.content.Signatures.{HasSignatureList};
+ghost use Rattle.uefi_c.specs.Cursor.{Stands};
+ghost use Rattle.uefi_c.specs.EventData.{given};
+ghost use Rattle.uefi_c.specs.Signatures.{IsNextList, IsGivenAs, signature_seen};
+
+use crate::cursor::bytes_from;
+use uefi_base::little_endian::u32_at;
+use uefi_tcg::content::{SignatureData, SignatureList, SignatureLists};
+
+/// The offset of the length in a list, and the length of the fields before a list's own header.
+const LIST_SIZE_OFFSET: usize = 16;
+
+const FIELDS_LENGTH: usize = 28;
+
+/// A list of signatures of one type (UEFI 2.10, 32.4.1, `EFI_SIGNATURE_LIST`).
+#[derive(Clone, Copy)]
+#[repr(C)]
+pub struct UefiSignatureList<'a> {
+    /// The list's own header, whose meaning the type says.
+    pub header: &'a [u8],
+    /// The bytes of the signatures.
+    pub signatures: &'a [u8],
+    /// The size of each signature in bytes, with the sixteen of its owner.
+    pub signature_size: u32,
+    /// The GUID of the type.
+    pub signature_type: [u8; 16],
+}
+
+/// A signature (UEFI 2.10, 32.4.1, `EFI_SIGNATURE_DATA`).
+#[derive(Clone, Copy)]
+#[repr(C)]
+pub struct UefiSignature<'a> {
+    /// The data: a hash or a certificate, as the type of the list says.
+    pub value: &'a [u8],
+    /// The GUID of the owner.
+    pub owner: [u8; 16],
+}
+
+/// Reads the list at the offset of a signature database, and moves the offset to its end.
+#[unsafe(no_mangle)]
+pub extern "C" fn uefi_signature_list_next<'a>(
+    lists: &'a [u8],
+    offset: &mut usize,
+    out: &mut UefiSignatureList<'a>,
+) -> bool
+    ensures list { IsTrue result → IsNextList lists.now offset.old out.new offset.new }
+    ensures none { IsFalse result → ¬ HasSignatureList (drop offset.old lists.now) }
+    ensures offset_unchanged { IsFalse result → offset.new ≡ offset.old }
+    ensures out_unchanged { IsFalse result → out.new ≡ out.old }
+{
+    let Some((list, end)) = list_at(lists, *offset) else {
+        return false;
+    };
+    *out = list;
+    *offset = end;
+    true
+}
+
+/// Returns the list at the offset, and the offset of its end.
+fn list_at(lists: &[u8], offset: usize) -> Option<(UefiSignatureList<'_>, usize)>
+    ensures list { IfSome result (λ found. IsNextList lists.now offset found.0 found.1) }
+    ensures none { IfNone result (¬ HasSignatureList (drop offset lists.now)) }
+{
+    let rest = bytes_from(lists, offset)?;
+    let (list, bytes) = first_list(rest)?;
+    let end = offset + bytes.len();
+    Some((seen(bytes, &list), end))
+}
+
+/// Returns the list that the bytes begin with, and its bytes.
+fn first_list(bytes: &[u8]) -> Option<(SignatureList<'_>, &[u8])>
+    ensures list { IfSome result (λ found. IsSignatureList (list_of found.0)) }
+    ensures part { IfSome result (λ found. found.1.now ≡ list_bytes (list_of found.0)) }
+    ensures prefix { IfSome result (λ found. IsPrefix found.1.now bytes.now) }
+    ensures none { IfNone result (¬ HasSignatureList bytes.now) }
+{
+    let part = stated_part(bytes)?;
+    let list = SignatureLists::read(part)?.iter().next()?;
+    Some((list, part))
+}
+
+/// Returns as many of the bytes as a list that they begin with is stated to have.
+fn stated_part(bytes: &[u8]) -> Option<&[u8]>
+    ensures part { IfSome result (λ part. part.now ≡ take (u32_at bytes.now 16) bytes.now) }
+    ensures within { IfSome result (λ part. u32_at bytes.now 16 ≤ length bytes.now) }
+    ensures none { IfNone result (¬ HasSignatureList bytes.now) }
+{
+    if bytes.len() < FIELDS_LENGTH {
+        return None;
+    }
+    let size = u32_at(bytes, LIST_SIZE_OFFSET) as usize;
+    let (part, _) = bytes.split_at_checked(size)?;
+    Some(part)
+}
+
+/// Returns the parts of the list that the bytes are.
+fn seen<'a>(bytes: &'a [u8], list: &SignatureList<'a>) -> UefiSignatureList<'a>
+    requires is_list { IsSignatureList (list_of list.now) }
+    requires encoded { bytes.now ≡ list_bytes (list_of list.now) }
+    ensures { IsGivenAs (list_of list.now) result }
+{
+    let header = list.header();
+    let (_, body) = bytes.split_at(FIELDS_LENGTH);
+    let (_, signatures) = body.split_at(header.len());
+    let signature_type = list.signature_type().0.0;
+    UefiSignatureList {
+        header,
+        signatures,
+        signature_size: list.signature_size(),
+        signature_type,
+    }
+}
+
+/// Reads the signature that the bytes are: the value of a variable that was measured as an authority.
+#[unsafe(no_mangle)]
+pub extern "C" fn uefi_signature<'a>(bytes: &'a [u8], out: &mut UefiSignature<'a>) -> bool
+    ensures signature { ReadsSignature bytes.now (given result (signature_seen out.new)) }
+    ensures unchanged { IsFalse result → out.new ≡ out.old }
+{
+    let Some(signature) = SignatureData::read(bytes) else {
+        return false;
+    };
+    *out = UefiSignature {
+        value: signature.data,
+        owner: signature.owner.0,
+    };
+    true
+}
+
+/// Reads the signature of a size at the offset of a list's signatures, and moves the offset to its
+/// end.
+#[unsafe(no_mangle)]
+pub extern "C" fn uefi_signature_next<'a>(
+    signatures: &'a [u8],
+    signature_size: u32,
+    offset: &mut usize,
+    out: &mut UefiSignature<'a>,
+) -> bool
+    ensures signature { IsTrue result → HasSize signature_size (signature_seen out.new) }
+    ensures stands { IsTrue result → Stands (signature_bytes (signature_seen out.new))
+        signatures.now offset.old offset.new }
+    ensures none { IsFalse result → (signature : Signature) → HasSize signature_size signature
+        → IsPrefix (signature_bytes signature) (drop offset.old signatures.now) → ⊥ }
+    ensures offset_unchanged { IsFalse result → offset.new ≡ offset.old }
+    ensures out_unchanged { IsFalse result → out.new ≡ out.old }
+{
+    let Some(signature) = signature_at(signatures, signature_size as usize, *offset) else {
+        return false;
+    };
+    *out = UefiSignature {
+        value: signature.data,
+        owner: signature.owner.0,
+    };
+    *offset += signature_size as usize;
+    true
+}
+
+/// Returns the signature of a size at the offset.
+fn signature_at(signatures: &[u8], size: usize, offset: usize) -> Option<SignatureData<'_>>
+    ensures signature { IfSome result (λ signature. HasSize size (signature_of signature)) }
+    ensures prefix { IfSome result (λ signature.
+        IsPrefix (signature_bytes (signature_of signature)) (drop offset signatures.now)) }
+    ensures within { IfSome result (λ signature. offset + size ≤ length signatures.now) }
+    ensures none { IfNone result ((signature : Signature) → HasSize size signature
+        → IsPrefix (signature_bytes signature) (drop offset signatures.now) → ⊥) }
+{
+    let (bytes, _) = bytes_from(signatures, offset)?.split_at_checked(size)?;
+    SignatureData::read(bytes)
+}

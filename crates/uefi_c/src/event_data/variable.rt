@@ -1,0 +1,40 @@
+ghost use Rattle.std.specs.Prelude.{◌≡◌, ◌%◌, length, IsTrue, IsFalse};
+ghost use Rattle.uefi_tcg.specs.content.Variable.{ReadsVariable};
+ghost use Rattle.uefi_c.specs.EventData.{given, variable_seen};
+
+use crate::cursor::units_at;
+use uefi_tcg::content::VariableData;
+
+/// The offset of the name in a variable's data.
+const NAME_OFFSET: usize = 32;
+
+/// A variable that was measured (TCG PC Client Platform Firmware Profile 1.06, 10.2.6,
+/// `UEFI_VARIABLE_DATA`).
+#[derive(Clone, Copy)]
+#[repr(C)]
+pub struct UefiVariable<'a> {
+    /// The bytes of the name: units of two bytes, little-endian, without a NUL.
+    pub name: &'a [u8],
+    /// The variable's data.
+    pub value: &'a [u8],
+    /// The GUID of the vendor.
+    pub guid: [u8; 16],
+}
+
+/// Reads the variable that the data of an event are, whole and alone.
+#[unsafe(no_mangle)]
+pub extern "C" fn uefi_variable<'a>(event_data: &'a [u8], out: &mut UefiVariable<'a>) -> bool
+    ensures variable { ReadsVariable event_data.now (given result (variable_seen out.new)) }
+    ensures whole_units { IsTrue result → length out.new.name.now % 2 ≡ 0 }
+    ensures unchanged { IsFalse result → out.new ≡ out.old }
+{
+    let Some(variable) = VariableData::read(event_data) else {
+        return false;
+    };
+    *out = UefiVariable {
+        name: units_at(event_data, NAME_OFFSET, variable.name.len()),
+        value: variable.data,
+        guid: variable.guid.0,
+    };
+    true
+}
