@@ -1,5 +1,5 @@
-/* The names that rustc and LLVM call for copies and comparisons of memory, for the archives of rustc.
- * tools/build_c makes them names of the archive's own. */
+/* The names that rustc and LLVM call for copies and comparisons of memory. tools/build_c makes them names of the archive's
+ * own. With HAS_MEMMOVE, memmove is that of memmove.c. */
 #include <stddef.h>
 
 void *memcpy(void *to, const void *from, size_t n);
@@ -16,6 +16,7 @@ void *memcpy(void *to, const void *from, size_t n) {
     return to;
 }
 
+#ifndef HAS_MEMMOVE
 void *memmove(void *to, const void *from, size_t n) {
     unsigned char *a = to;
     const unsigned char *b = from;
@@ -25,6 +26,7 @@ void *memmove(void *to, const void *from, size_t n) {
         a[n] = b[n];
     return to;
 }
+#endif
 
 void *memset(void *to, int byte, size_t n) {
     unsigned char *a = to;
