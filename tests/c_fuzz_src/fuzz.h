@@ -30,11 +30,12 @@ extern size_t records, times, texts, written_events;
 void one_log1_state(UefiBytes log, size_t last, size_t at, size_t end, size_t end_anywhere);
 void one_path_state(UefiBytes path, size_t at, size_t node);
 void calls_of(UefiBytes part);
+void contents_of(UefiBytes part);
 
 /* How often each was right where most others aren't. */
 enum {
     LOG1_STATE, LOG2_STATE, PATH_STATE, ONE_DIGEST, LOAD_OPTIONS, VARIABLES, IMAGES, BLOBS, TAGGED, BOOT_ORDERS, SIGNATURES,
-    NUMBERS, TIMES_WRITTEN, ENTRIES_WRITTEN, CALL_COUNT
+    NUMBERS, TIMES_WRITTEN, ENTRIES_WRITTEN, TEXTS, LISTED, PARTITIONS, CALL_COUNT
 };
 extern size_t calls[CALL_COUNT];
 
