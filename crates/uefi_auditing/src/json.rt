@@ -12,10 +12,10 @@ pub use self::events::push_events;
 pub use self::replay::push_replay_json;
 
 mod bank;
-mod content;
+pub(crate) mod content;
 mod digests;
 mod event;
 mod events;
 mod line;
-mod names;
+pub(crate) mod names;
 mod replay;

@@ -1,5 +1,6 @@
 //! The lines of events.
 
+mod blocks;
 mod logs;
 mod machine_log;
 mod names;

@@ -9,7 +9,7 @@ use Rattle.uefi_path.specs.Node.{Node}
 use Rattle.uefi_path.specs.Path.{all_but_last}
 use Rattle.uefi_tcg.specs.content.Image.{Image}
 use Rattle.uefi_tcg.specs.content.Variable.{Variable}
-use Rattle.uefi_auditing.specs.content.Content.{Content, unread, text, separator, locality, variable, image}
+use Rattle.uefi_auditing.specs.content.Content.{Content, unread, text, separator, locality, header, loader_text, crtm_version, blob, described_blob, tagged, gpt, variable, image}
 
 -- An object with one key.
 abbrev pub only : List ℕ → Data → Data
@@ -55,5 +55,12 @@ content_json unread = null
 content_json (text bytes) = only (codes "text") (string bytes)
 content_json (separator n) = only (codes "separator") (number (unsigned n))
 content_json (locality n) = only (codes "locality") (number (unsigned n))
-content_json (variable read) = only (codes "variable") (variable_json read)
+content_json (header read) = null
+content_json (loader_text read) = null
+content_json (crtm_version read) = null
+content_json (blob read) = null
+content_json (described_blob read) = null
+content_json (tagged events rest) = null
+content_json (gpt read) = null
+content_json (variable read value) = only (codes "variable") (variable_json read)
 content_json (image read nodes) = only (codes "image") (image_json read nodes)

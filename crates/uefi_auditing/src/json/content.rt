@@ -26,7 +26,14 @@ pub(crate) fn content_json(alloc: Global, content: &Content<'_>) -> Result<Value
         Content::Text(text) => only(alloc, "text", Value::try_from_str(alloc, text)?),
         Content::Separator(number) => only(alloc, "separator", Value::from(*number)),
         Content::Locality(locality) => only(alloc, "locality", Value::from(*locality)),
-        Content::Variable(variable) => only(alloc, "variable", variable_json(alloc, variable)?),
+        Content::Variable(variable, _) => only(alloc, "variable", variable_json(alloc, variable)?),
+        Content::Header(_)
+        | Content::LoaderText(_)
+        | Content::CrtmVersion(_)
+        | Content::Blob(_)
+        | Content::DescribedBlob(_)
+        | Content::Tagged(_)
+        | Content::Gpt(_) => Ok(Value::Null),
         Content::Image(image, path) => only(alloc, "image", image_json(alloc, image, path)?),
     }
 }
@@ -56,7 +63,7 @@ fn variable_json(alloc: Global, variable: &VariableData<'_>) -> Result<Value, Al
 }
 
 /// Returns units as text, with U+FFFD for each surrogate.
-fn name_text(alloc: Global, units: &UnalignedSlice<'_>) -> Result<String, AllocError>
+pub(crate) fn name_text(alloc: Global, units: &UnalignedSlice<'_>) -> Result<String, AllocError>
     ensures { IfOk result
         (λ text. string_bytes text ≡ flat_map unit_text (slice_units units.now)) }
 {
@@ -68,7 +75,7 @@ fn name_text(alloc: Global, units: &UnalignedSlice<'_>) -> Result<String, AllocE
 }
 
 /// Returns the character of a unit: U+FFFD for a surrogate.
-fn character(unit: u16) -> char
+pub(crate) fn character(unit: u16) -> char
     ensures { encode_utf8 result ≡ unit_text unit }
 {
     match char::from_u32(u32::from(unit)) {
