@@ -48,10 +48,10 @@ is_boot_option_name name =
 unfoldable pub value_form : List ℕ → List ℕ → ValueForm
 value_form guid name =
     if bytes_eq guid global_variable then
-      (if is_boot_option_name name then OfBootOption
-      else if bytes_eq name (codes "BootOrder") then OfBootOrder
-      else if bytes_eq name (codes "PK") || bytes_eq name (codes "KEK") then OfSignatureLists
-      else OfNothing)
+    (if is_boot_option_name name then OfBootOption
+    else if bytes_eq name (codes "BootOrder") then OfBootOrder
+    else if bytes_eq name (codes "PK") || bytes_eq name (codes "KEK") then OfSignatureLists
+    else OfNothing)
     else if bytes_eq guid image_security_database && (bytes_eq name (codes "db") || bytes_eq name (codes "dbx")) then OfSignatureLists
     else OfNothing
 

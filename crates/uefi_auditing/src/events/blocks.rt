@@ -60,7 +60,10 @@ fn push_block(
 ) -> Result<(), AllocError> {
     let event = &entry.event;
     let (name, offset, pcr) = (ShownName(name), entry.offset, event.pcr_index().0);
-    write!(text, "{name}: event {index} at offset {offset}: PCR {pcr}, ")?;
+    write!(
+        text,
+        "{name}: event {index} at offset {offset}: PCR {pcr}, "
+    )?;
     push_type(text, event.event_type())?;
     text.push('\n')?;
     push_digests(text, alloc, event)?;
@@ -68,11 +71,7 @@ fn push_block(
 }
 
 /// Appends a line for each digest of an event.
-fn push_digests(
-    text: &mut String,
-    alloc: Global,
-    event: &LogEvent<'_>,
-) -> Result<(), AllocError> {
+fn push_digests(text: &mut String, alloc: Global, event: &LogEvent<'_>) -> Result<(), AllocError> {
     match event {
         LogEvent::V1(event) => push_digest(text, alloc, AlgorithmId::SHA1, &event.digest()),
         LogEvent::V2(event) => push_many_digests(text, alloc, event.digests()),

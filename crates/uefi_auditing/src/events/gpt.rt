@@ -1,5 +1,4 @@
-use crate::json::content::character;
-use crate::text::ShownName;
+use crate::events::names::push_before_nul;
 use std::alloc::{AllocError, Global};
 use uefi_tcg::content::{GptData, GptEntry};
 
@@ -10,7 +9,11 @@ pub(crate) fn push_gpt(
     gpt: &GptData<'_>,
 ) -> Result<(), AllocError> {
     let header = gpt.header();
-    let (guid, first, last) = (header.disk_guid, header.first_usable_lba, header.last_usable_lba);
+    let (guid, first, last) = (
+        header.disk_guid,
+        header.first_usable_lba,
+        header.last_usable_lba,
+    );
     writeln!(text, "  disk {guid}, blocks {first} to {last}")?;
     for entry in gpt.iter() {
         push_partition(text, alloc, &entry)?;
@@ -28,19 +31,6 @@ fn push_partition(
     write!(text, "  partition {guid}, blocks {first} to {last}")?;
     let (kind, attributes) = (entry.type_guid, entry.attributes);
     write!(text, ", type {kind}, attributes 0x{attributes:x}, name ")?;
-    push_name(text, alloc, entry)?;
+    push_before_nul(text, alloc, &entry.name)?;
     text.push('\n')
-}
-
-/// Appends the name of a partition: its units up to the first NUL.
-fn push_name(text: &mut String, alloc: Global, entry: &GptEntry<'_>) -> Result<(), AllocError> {
-    let mut name = String::new(alloc);
-    for unit in entry.name.iter() {
-        if unit == 0 {
-            break;
-        }
-        name.push(character(unit))?;
-    }
-    let name = ShownName(name.as_str());
-    write!(text, "{name}")
 }

@@ -1,4 +1,4 @@
-use crate::json::content::name_text;
+use crate::json::content::texts::{byte_text, name_text, text_before_nul};
 use crate::json::names::{algorithm_name, type_name};
 use crate::text::ShownName;
 use std::alloc::{AllocError, Global};
@@ -17,10 +17,7 @@ pub(crate) fn push_type(text: &mut String, event_type: EventType) -> Result<(), 
 }
 
 /// Appends the name of an algorithm, or its number.
-pub(crate) fn push_algorithm(
-    text: &mut String,
-    algorithm: AlgorithmId,
-) -> Result<(), AllocError> {
+pub(crate) fn push_algorithm(text: &mut String, algorithm: AlgorithmId) -> Result<(), AllocError> {
     match algorithm_name(algorithm) {
         Some(name) => text.push_str(name),
         None => {
@@ -41,16 +38,20 @@ pub(crate) fn push_units(
     write!(text, "{name}")
 }
 
-/// Appends bytes as characters of ASCII or Latin-1, as they are shown.
-pub(crate) fn push_bytes(
+/// Appends the units before the first NUL as they are shown.
+pub(crate) fn push_before_nul(
     text: &mut String,
     alloc: Global,
-    bytes: &[u8],
+    units: &UnalignedSlice<'_>,
 ) -> Result<(), AllocError> {
-    let mut name = String::new(alloc);
-    for byte in bytes {
-        name.push(char::from(*byte))?;
-    }
+    let name = text_before_nul(alloc, units)?;
+    let name = ShownName(name.as_str());
+    write!(text, "{name}")
+}
+
+/// Appends bytes as characters of ASCII or Latin-1, as they are shown.
+pub(crate) fn push_bytes(text: &mut String, alloc: Global, bytes: &[u8]) -> Result<(), AllocError> {
+    let name = byte_text(alloc, bytes)?;
     let name = ShownName(name.as_str());
     write!(text, "{name}")
 }

@@ -2,7 +2,7 @@ ghost use Rattle.std.specs.Prelude.{◌≡◌, length};
 
 use crate::events::hex_lines::push_hex;
 use crate::events::names::push_bytes;
-use crate::json::content::character;
+use crate::json::content::texts::character;
 use crate::text::is_control;
 use std::alloc::{AllocError, Global};
 use uefi_base::little_endian::{u16_at, u32_at, u64_at};
@@ -199,7 +199,10 @@ fn push_hard_drive(text: &mut String, data: &[u8]) -> Result<bool, AllocError> {
     }
     if format == 1 && kind == 1 {
         let signature = u32_at(data, 20);
-        write!(text, "HD({number},MBR,0x{signature:08x},0x{first:x},0x{count:x})")?;
+        write!(
+            text,
+            "HD({number},MBR,0x{signature:08x},0x{first:x},0x{count:x})"
+        )?;
         return Ok(true);
     }
     Ok(false)

@@ -50,7 +50,10 @@ fn push_header(
 ) -> Result<(), AllocError> {
     let (major, minor, errata) = header.spec_version();
     let class = header.platform_class();
-    writeln!(text, "  version {major}.{minor}, errata {errata}, platform class {class}")?;
+    writeln!(
+        text,
+        "  version {major}.{minor}, errata {errata}, platform class {class}"
+    )?;
     push_sizes(text, &header.algorithm_digest_sizes())?;
     push_hex_lines(text, alloc, "vendor's bytes", header.vendor_info())
 }
@@ -141,7 +144,10 @@ fn push_image(
 ) -> Result<(), AllocError> {
     let (address, length) = (image.location_in_memory, image.length_in_memory);
     let linked = image.link_time_address;
-    writeln!(text, "  image at 0x{address:x}, {length} bytes, linked for 0x{linked:x}")?;
+    writeln!(
+        text,
+        "  image at 0x{address:x}, {length} bytes, linked for 0x{linked:x}"
+    )?;
     match path {
         Some(path) => {
             text.push_str("  path ")?;

@@ -19,11 +19,7 @@ pub(crate) fn push_signature_lists(
 }
 
 /// Appends the line of a list, and one for each of its signatures.
-fn push_list(
-    text: &mut String,
-    alloc: Global,
-    list: &SignatureList<'_>,
-) -> Result<(), AllocError> {
+fn push_list(text: &mut String, alloc: Global, list: &SignatureList<'_>) -> Result<(), AllocError> {
     let kind = list.signature_type();
     match type_text(kind) {
         Some(name) => writeln!(text, "  list of {name}")?,

@@ -1,10 +1,8 @@
 use crate::content::VariableValue;
 use crate::events::hex_lines::push_hex_lines;
-use crate::events::names::push_units;
+use crate::events::names::{push_before_nul, push_units};
 use crate::events::path::push_path;
 use crate::events::signatures::{push_signature, push_signature_lists};
-use crate::json::content::character;
-use crate::text::ShownName;
 use std::alloc::{AllocError, Global};
 use uefi_path::LoadOption;
 use uefi_tcg::content::{BootOrder, VariableData};
@@ -37,7 +35,7 @@ fn push_boot_option(
 ) -> Result<(), AllocError> {
     let attributes = option.attributes().bits();
     write!(text, "  boot option with attributes 0x{attributes:x}: ")?;
-    push_description(text, alloc, option)?;
+    push_before_nul(text, alloc, &option.description())?;
     text.push_str("\n  path ")?;
     push_path(text, alloc, &option.file_path())?;
     text.push('\n')?;
@@ -52,20 +50,4 @@ fn push_boot_order(text: &mut String, order: &BootOrder<'_>) -> Result<(), Alloc
         write!(text, " Boot{high:02X}{low:02X}")?;
     }
     text.push('\n')
-}
-
-/// Appends the description of a boot option, without its NUL.
-fn push_description(
-    text: &mut String,
-    alloc: Global,
-    option: &LoadOption<'_>,
-) -> Result<(), AllocError> {
-    let mut description = String::new(alloc);
-    for unit in option.description().iter() {
-        if unit != 0 {
-            description.push(character(unit))?;
-        }
-    }
-    let description = ShownName(description.as_str());
-    write!(text, "{description}")
 }

@@ -1,8 +1,8 @@
 use Rattle.std.proofs.Common.{◌≡◌, ◌++◌, map}
 use Rattle.serde_json.specs.View.{view}
 use Rattle.uefi_path.specs.Views.{nodes_left}
-use Rattle.uefi_auditing.specs.json.Content.{node_json}
-use Rattle.uefi_auditing.proofs.json.content.nodes_json.Given as goal
+use Rattle.uefi_auditing.specs.json.Parts.{node_json}
+use Rattle.uefi_auditing.proofs.json.content.path.each_node.Given as goal
 
 -- The values so far and those of the nodes to come are those of all.
 abbrev pub invariant-loop-node : goal.invariant-loop-node
