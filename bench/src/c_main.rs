@@ -3,17 +3,12 @@
 
 #![allow(dead_code, reason = "the inputs alone are used of the files shared with `main.rs`")]
 
-mod log;
-mod log2;
-mod map;
+mod inputs;
 mod measure;
-#[path = "../../tests/rust_fuzz_src/readers.rs"]
-mod package;
-mod path;
 mod random;
 mod readers;
 
-use measure::{Case, Size, measure};
+use measure::{Input, Size, measure};
 
 unsafe extern "C" {
     fn user_walk(which: u32, bytes: *const u8, length: usize) -> u64;
@@ -45,52 +40,24 @@ fn plain<const WALK: u32>(bytes: &[u8]) -> u64 {
     unsafe { plain_walk(WALK, bytes.as_ptr(), bytes.len()) }
 }
 
-/// An input of a size, and the words for it.
-struct Input {
-    size: Size,
-    bytes: Vec<u8>,
-    words: &'static str,
-}
-
 /// Measures a walk over each archive.
 fn measure_walk<const WALK: u32>(calls: &str, input: &Input) {
-    let Input { size, bytes, words } = input;
-    for (archive, proved) in
-        [("libuefi.a", any::<WALK> as unsafe extern "C" fn(_, _) -> _), ("libuefi_user.a", user::<WALK>)]
-    {
-        let reader = &format!("{calls}, {archive}");
-        measure(&Case {
-            reader,
-            proved,
-            plain: plain::<WALK>,
-            package: None,
-            size: *size,
-            input: bytes,
-            words,
-        });
-    }
-}
-
-fn measure_logs(size: Size) {
-    let (events, words) = log::log_size(size);
-    measure_walk::<LOG1>("uefi_log1_next", &Input { size, bytes: log::make_log1(events), words });
-    for rows in [2, 4] {
-        let input = &Input { size, bytes: log2::make_log(events, rows), words };
-        measure_walk::<LOG2>(&format!("uefi_log2_next, {rows} digests"), input);
-        measure_walk::<LOG2_DIGESTS>(&format!("uefi_digest_next, {rows} digests"), input);
-    }
+    measure(&format!("{calls}, libuefi.a"), input, any::<WALK>, plain::<WALK>, None);
+    measure(&format!("{calls}, libuefi_user.a"), input, user::<WALK>, plain::<WALK>, None);
 }
 
 fn main() {
     for size in Size::ALL {
-        let (nodes, words) = path::path_size(size);
-        let input = &Input { size, bytes: path::make_path(nodes), words };
-        measure_walk::<PATH>("uefi_path", input);
-        measure_walk::<NODES>("uefi_path_next_node", input);
-        measure_walk::<INSTANCES>("uefi_path_next_instance", input);
-        let (descriptors, words) = map::map_size(size);
-        let bytes = map::make_map(descriptors);
-        measure_walk::<MAP>("uefi_map_entry", &Input { size, bytes, words });
-        measure_logs(size);
+        let path = &inputs::path(size);
+        measure_walk::<PATH>("uefi_path", path);
+        measure_walk::<NODES>("uefi_path_next_node", path);
+        measure_walk::<INSTANCES>("uefi_path_next_instance", path);
+        measure_walk::<MAP>("uefi_map_entry", &inputs::map(size));
+        measure_walk::<LOG1>("uefi_log1_next", &inputs::log1(size));
+        for rows in [2, 4] {
+            let log = &inputs::log2(size, rows);
+            measure_walk::<LOG2>(&format!("uefi_log2_next, {rows} digests"), log);
+            measure_walk::<LOG2_DIGESTS>(&format!("uefi_digest_next, {rows} digests"), log);
+        }
     }
 }

@@ -33,19 +33,16 @@ impl Size {
     }
 }
 
-/// A proved reader, the ones that it is compared with, and an input. Each reader returns a sum over
-/// what it read.
-pub struct Case<'a> {
-    pub reader: &'a str,
-    pub proved: unsafe extern "C" fn(*const u8, usize) -> u64,
-    pub plain: fn(&[u8]) -> u64,
-    /// The reader of the package in `rust/`, where it has one.
-    pub package: Option<fn(&[u8]) -> u64>,
+/// An input of a size, and the words for it, as `200 events`.
+pub struct Input {
     pub size: Size,
-    pub input: &'a [u8],
-    /// The input in words, as `200 events`.
-    pub words: &'a str,
+    pub words: &'static str,
+    pub bytes: Vec<u8>,
 }
+
+/// A proved reader, and one in Rust. Each returns a sum over what it read.
+pub type Proved = unsafe extern "C" fn(*const u8, usize) -> u64;
+pub type Read = fn(&[u8]) -> u64;
 
 /// Returns the seconds that a call takes, over this many of them.
 fn seconds_per_call(calls: usize, call: impl Fn() -> u64) -> f64 {
@@ -65,31 +62,30 @@ fn calls_of_round(call: impl Fn() -> u64) -> usize {
     calls
 }
 
-/// Measures a case and prints one line: reader, size, input, and the seconds that a call of the
-/// proved reader, of the plain one and, if there is one, of the package's took in its best round,
-/// with tabs between them.
+/// Measures a proved reader, a plain one and, if there is one, that of the package over an input. Prints
+/// one line: reader, size, input, and the seconds that a call of each took in its best round, with tabs
+/// between them.
 ///
 /// # Panics
 ///
 /// If the plain reader refuses the input, or two sums differ.
-pub fn measure(case: &Case<'_>) {
-    let (proved, plain, package) = black_box((case.proved, case.plain, case.package));
+pub fn measure(reader: &str, input: &Input, proved: Proved, plain: Read, package: Option<Read>) {
+    let (proved, plain, package) = black_box((proved, plain, package));
     let call_proved = || {
-        let input = black_box(case.input);
+        let bytes = black_box(input.bytes.as_slice());
         // SAFETY: the reader reads the bytes of the slice, and is done with them when it returns.
-        unsafe { proved(input.as_ptr(), input.len()) }
+        unsafe { proved(bytes.as_ptr(), bytes.len()) }
     };
-    let call_plain = || plain(black_box(case.input));
-    let call_package = package.map(|package| move || package(black_box(case.input)));
+    let call_plain = || plain(black_box(&input.bytes));
+    let call_package = package.map(|package| move || package(black_box(&input.bytes)));
     let sum = call_plain();
-    assert_ne!(sum, 0, "{}: the plain reader refuses the input", case.reader);
-    assert_eq!(call_proved(), sum, "{}: the sums differ", case.reader);
+    assert_ne!(sum, 0, "{reader}: the plain reader refuses the input");
+    assert_eq!(call_proved(), sum, "{reader}: the sums differ");
     let of_package = call_package.as_ref().map_or(sum, |call| call());
-    assert_eq!(of_package, sum, "{}: the package's sum differs", case.reader);
+    assert_eq!(of_package, sum, "{reader}: the package's sum differs");
     let calls = calls_of_round(call_plain);
     let [mut least_proved, mut least_plain, mut least_package] = [f64::INFINITY; 3];
-    let start = Instant::now();
-    let mut rounds = 0;
+    let (start, mut rounds) = (Instant::now(), 0);
     while rounds < LEAST_ROUNDS || start.elapsed() < LEAST_TIME {
         least_plain = least_plain.min(seconds_per_call(calls, call_plain));
         least_proved = least_proved.min(seconds_per_call(calls, call_proved));
@@ -98,9 +94,6 @@ pub fn measure(case: &Case<'_>) {
         }
         rounds += 1;
     }
-    print!("{}\t{}\t{}\t{least_proved:e}\t{least_plain:e}", case.reader, case.size.name(), case.words);
-    match call_package {
-        Some(_) => println!("\t{least_package:e}"),
-        None => println!(),
-    }
+    let of_package = call_package.map_or(String::new(), |_| format!("\t{least_package:e}"));
+    println!("{reader}\t{}\t{}\t{least_proved:e}\t{least_plain:e}{of_package}", input.size.name(), input.words);
 }

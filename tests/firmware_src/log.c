@@ -1,5 +1,6 @@
 /* The event log of EFI_TCG2_PROTOCOL.GetEventLog, with firmware's own last entry. */
 #include "app.h"
+#include "plain.h"
 
 /* How often the walk is repeated: firmware takes interrupts on the stack of the proved functions. */
 #define REPEATS 2000
@@ -45,42 +46,22 @@ static Tally proved_tally(const Log *log, size_t *digests, size_t *end) {
     return tally;
 }
 
-/* The size of an algorithm's digests, by the first row of the header that has it. */
-static size_t plain_size(const uint8_t *log, uint16_t algorithm) {
-    for (uint32_t row = 0; row < u32_at(log + 56); row++) {
-        if (u16_at(log + 60 + 4 * row) == algorithm)
-            return u16_at(log + 62 + 4 * row);
-    }
-    return 0;
-}
-
-/* Where the digests of the event at an offset end. */
-static size_t plain_digests_end(const uint8_t *log, size_t at) {
-    uint32_t count = u32_at(log + at + 8);
-    for (at += 12; count--;)
-        at += 2 + plain_size(log, u16_at(log + at));
-    return at;
-}
-
-/* Adds the event at an offset, and returns where it ends. */
-static size_t plain_event(Tally *tally, const uint8_t *log, size_t at) {
-    size_t end = plain_digests_end(log, at), next = at + 12;
-    add_event(tally, u32_at(log + at), u32_at(log + at + 4), uefi_bytes(log + end + 4, u32_at(log + end)));
-    while (next < end) {
-        UefiBytes digest = uefi_bytes(log + next + 2, plain_size(log, u16_at(log + next)));
-        add_digest(tally, u16_at(log + next), digest);
-        next += 2 + digest.n;
-    }
-    return end + 4 + u32_at(log + end);
-}
-
-/* The same by plain C: the events from the header event's end to the one that starts at the last entry. */
+/* The same by plain C. */
 static Tally plain_tally(const Log *log, size_t *digests, size_t *end) {
     Tally tally = {0};
-    const uint8_t *at = log->bytes.at;
-    *digests = 0;
-    for (*end = 32 + u32_at(at + 28); *end <= log->last_entry; *end = plain_event(&tally, at, *end))
-        *digests += u32_at(at + *end + 8);
+    UefiBytes rows;
+    UefiEvent2 event;
+    UefiDigest digest;
+    *digests = *end = 0;
+    if (!plain_log2_header(log->bytes, log->last_entry, &rows, end))
+        return tally;
+    /* Events begin where the header's event ends. */
+    *end = 32 + u32_at(log->bytes.at + 28);
+    while (plain_log2_next(log->bytes, log->last_entry, rows, end, &event)) {
+        add_event(&tally, event.pcr_index, event.event_type, event.event_data);
+        for (size_t at = 0; plain_digest_next(event.digests, rows, &at, &digest); ++*digests)
+            add_digest(&tally, digest.algorithm, digest.bytes);
+    }
     return tally;
 }
 

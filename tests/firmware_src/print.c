@@ -9,6 +9,7 @@ static size_t filled;
 /* clang makes calls of these, also where there is no library. */
 void *memset(void *to, int byte, size_t n);
 void *memcpy(void *to, const void *from, size_t n);
+int memcmp(const void *one, const void *other, size_t n);
 
 void *memset(void *to, int byte, size_t n) {
     for (volatile uint8_t *at = to; n--;)
@@ -21,6 +22,13 @@ void *memcpy(void *to, const void *from, size_t n) {
     for (const uint8_t *source = from; n--;)
         *at++ = *source++;
     return to;
+}
+
+int memcmp(const void *one, const void *other, size_t n) {
+    for (const uint8_t *a = one, *b = other; n--; a++, b++)
+        if (*a != *b)
+            return *a - *b;
+    return 0;
 }
 
 static void port(char c) {

@@ -1,7 +1,6 @@
 //! A batch: many inputs in one process.
 
 use crate::commands::{COMMANDS, Command};
-use crate::counts::Counts;
 use crate::expected;
 use crate::input::Input;
 use crate::mutate::{MAX_LENGTH, Mutator};
@@ -34,6 +33,15 @@ const SHAPE_LINES: usize = 40;
 /// The exit status after a hang.
 pub const HANGS: u8 = 3;
 
+/// What is counted of a command: the inputs by how they ended, the lines of all listings, and the
+/// inputs that went to the program in a process of its own too.
+pub const COUNTED: [&str; 6] = ["listed", "refused", "other words", "differed", "lines", "in a process"];
+pub const ENDINGS: usize = 4;
+pub const DIFFERED: usize = 3;
+const LINES: usize = 4;
+const PROCESSES: usize = 5;
+pub type Counts = [u64; COUNTED.len()];
+
 /// How many inputs are done.
 static DONE: AtomicU64 = AtomicU64::new(0);
 
@@ -55,6 +63,7 @@ pub struct Batch<'a> {
 struct Pool {
     command: &'static Command,
     inputs: Vec<Input>,
+    parts: Vec<Vec<u8>>,
     /// What was listed so far, by the first words of its lines.
     shapes: HashSet<u64>,
     counts: Counts,
@@ -62,7 +71,7 @@ struct Pool {
 
 /// The inputs of the samples of a command.
 fn samples(command: &Command, folder: &str) -> io::Result<Vec<Input>> {
-    let Some((extension, third_word)) = command.more.samples else {
+    let Some((extension, third_word)) = command.format.samples else {
         return Ok(Vec::new());
     };
     let paths: Result<Vec<PathBuf>, io::Error> =
@@ -83,16 +92,13 @@ impl Pool {
             let alone = inputs.iter_mut().filter(|input| input.other.is_empty());
             alone.for_each(|input| input.other = input.bytes.clone());
         }
-        Ok(Pool { command, inputs, shapes: HashSet::new(), counts: Counts::default() })
+        let parts = command.format.parts();
+        Ok(Pool { command, inputs, parts, shapes: HashSet::new(), counts: Counts::default() })
     }
 
     fn count(&mut self, ending: &Ending) {
-        match ending.status {
-            0 => self.counts.listed += 1,
-            1 => self.counts.refused += 1,
-            _ => self.counts.other_words += 1,
-        }
-        self.counts.lines += lines(&ending.output).count() as u64;
+        self.counts[usize::try_from(ending.status).unwrap_or(2).min(2)] += 1;
+        self.counts[LINES] += lines(&ending.output).count() as u64;
     }
 
     /// Takes up an input if its listing has another shape than those before. A command that takes two
@@ -173,14 +179,14 @@ impl Batch<'_> {
             DONE.fetch_add(1, Ordering::Relaxed);
         }
         for pool in &pools {
-            println!("{} {}", pool.command.name, pool.counts);
+            println!("{}", pool.counts.map(|n| n.to_string()).join(" "));
         }
         Ok(ExitCode::SUCCESS)
     }
 
     /// Runs one input, and says whether the program differed.
     fn step(&self, pool: &mut Pool, random: &mut Random) -> io::Result<bool> {
-        let input = Mutator { command: pool.command, pool: &pool.inputs, random }.input();
+        let input = Mutator { command: pool.command, pool: &pool.inputs, parts: &pool.parts, random }.input();
         let file = FILES[random.below(FILES.len() as u64) as usize];
         let part = if random.below(8) == 0 { 1 + random.below(200) as usize } else { usize::MAX };
         if self.is_traced {
@@ -192,14 +198,14 @@ impl Batch<'_> {
             let file = format!("{}/input-{}", self.room, self.index);
             expected = expected::ending(pool.command, &input, &file)?;
             ending = program::run_process(self.crates, pool.command, &file, &input)?;
-            pool.counts.processes += 1;
+            pool.counts[PROCESSES] += 1;
         }
         if ending == expected {
             pool.count(&ending);
             pool.keep(input, &ending);
             return Ok(false);
         }
-        pool.counts.differed += 1;
+        pool.counts[DIFFERED] += 1;
         let (rust, proved) = (show("plain Rust", &expected), show("the program", &ending));
         let report = format!("command: {}\n{input}{rust}{proved}", pool.command.name);
         fs::write(self.difference(), report)?;

@@ -42,10 +42,3 @@ fn show(f: &mut Formatter<'_>, name: &str, bytes: &[u8]) -> fmt::Result {
     bytes.iter().try_for_each(|byte| write!(f, "{byte:02x}"))?;
     writeln!(f)
 }
-
-/// The bytes that digits spell in hex, with any spaces between them.
-pub fn hex(text: &str) -> Vec<u8> {
-    let digits: Vec<u8> = text.bytes().filter(|c| !c.is_ascii_whitespace()).collect();
-    let byte = |pair: &[u8]| u8::from_str_radix(str::from_utf8(pair).ok()?, 16).ok();
-    digits.chunks(2).map(|pair| byte(pair).expect("two hex digits")).collect()
-}

@@ -9,12 +9,13 @@
 mod audit;
 mod batch;
 mod commands;
-mod counts;
 mod expected;
+mod formats;
 mod input;
 #[path = "../../bench/src/listings/mod.rs"]
 mod listings;
 mod mutate;
+mod mutations;
 mod program;
 #[allow(dead_code, reason = "the bench makes its inputs with them too")]
 #[path = "../../bench/src/random.rs"]

@@ -34,6 +34,8 @@ pub struct Mutator<'a> {
     pub command: &'a Command,
     /// The inputs of the command that another is spliced with.
     pub pool: &'a [Input],
+    /// The parts of the command's format.
+    pub parts: &'a [Vec<u8>],
     pub random: &'a mut Random,
 }
 
@@ -93,7 +95,7 @@ impl Mutator<'_> {
     }
 
     fn mutate(&mut self, input: &mut Input) {
-        if let Some(mutate) = self.command.more.mutate
+        if let Some(mutate) = self.command.format.mutate
             && self.below(4) == 0
         {
             return mutate(input, self.random);
@@ -135,7 +137,7 @@ impl Mutator<'_> {
         let near = self.below(9).wrapping_sub(4) as u64;
         let number = match self.below(5) {
             0 | 1 => self.one_of(&EDGES),
-            2 if !self.command.more.numbers.is_empty() => self.one_of(self.command.more.numbers),
+            2 if !self.command.format.numbers.is_empty() => self.one_of(self.command.format.numbers),
             3 => (bytes.len() as u64).wrapping_add(near),
             _ => ((bytes.len() - start - width) as u64).wrapping_add(near),
         };
@@ -162,10 +164,10 @@ impl Mutator<'_> {
 
     /// Inserts a part of the command's, or writes it over others.
     fn put_part(&mut self, bytes: &mut Vec<u8>) {
-        if self.command.more.parts.is_empty() {
+        if self.parts.is_empty() {
             return self.change_byte(bytes);
         }
-        let part = self.one_of(self.command.more.parts);
+        let part = self.parts[self.below(self.parts.len())].clone();
         let start = self.below(bytes.len() + 1);
         let end = if self.below(2) == 0 { start } else { (start + part.len()).min(bytes.len()) };
         drop(bytes.splice(start..end, part.iter().copied()));

@@ -1,8 +1,7 @@
 //! A whole run: batches on each thread until the time is over, and what they found.
 
-use crate::batch::{Batch, HANGS};
+use crate::batch::{Batch, COUNTED, Counts, DIFFERED, ENDINGS, HANGS};
 use crate::commands::COMMANDS;
-use crate::counts::Counts;
 use std::fs;
 use std::io;
 use std::path::Path;
@@ -31,19 +30,19 @@ struct Shared {
     reports: Mutex<Vec<String>>,
 }
 
+fn add(sum: &mut Counts, counts: &Counts) {
+    sum.iter_mut().zip(counts).for_each(|(sum, count)| *sum += count);
+}
+
 impl Shared {
-    /// Adds what a batch printed. `None` if that isn't a line for each command.
+    /// Adds what a batch printed. `None` if that isn't a line of counts for each command.
     fn add(&self, lines: &str) -> Option<()> {
-        let mut lines = lines.lines();
-        let mut counts = self.counts.lock().unwrap();
-        for (command, sum) in COMMANDS.iter().zip(counts.iter_mut()) {
-            let mut words = lines.next()?.split(' ');
-            if words.next()? != command.name {
-                return None;
-            }
-            *sum += Counts::from_words(words)?;
-        }
-        Some(())
+        let numbers = |line: &str| line.split(' ').map(|word| word.parse().ok()).collect::<Option<Vec<u64>>>();
+        let counts: Vec<Counts> =
+            lines.lines().map(|line| numbers(line)?.try_into().ok()).collect::<Option<_>>()?;
+        let mut sums = self.counts.lock().unwrap();
+        sums.iter_mut().zip(&counts).for_each(|(sum, counts)| add(sum, counts));
+        (counts.len() == sums.len()).then_some(())
     }
 
     fn report(&self, report: String) {
@@ -77,9 +76,7 @@ impl Run<'_> {
             }
             let batch = self.batch(shared.next_batch.fetch_add(1, Ordering::Relaxed), left, false);
             let ran = self.process(&batch)?;
-            let counted =
-                ran.status.success() && shared.add(&String::from_utf8_lossy(&ran.stdout)).is_some();
-            if !counted {
+            if !ran.status.success() || shared.add(&String::from_utf8_lossy(&ran.stdout)).is_none() {
                 shared.report(self.seek_crash(batch.index, &ran)?);
             } else if let Ok(report) = fs::read_to_string(batch.difference()) {
                 shared.report(report);
@@ -94,37 +91,26 @@ impl Run<'_> {
         let what = if ran.status.code() == Some(HANGS.into()) { "hangs" } else { "crashes" };
         let input = fs::read_to_string(batch.trace()).unwrap_or("no input was found\n".into());
         let messages = String::from_utf8_lossy(&ran.stderr);
-        Ok(format!(
-            "{what} in batch {index} ({}; again: {})\n{input}{messages}",
-            ran.status, again.status
-        ))
+        Ok(format!("{what} in batch {index} ({}; again: {})\n{input}{messages}", ran.status, again.status))
     }
 
     /// Prints the counts, and what differed.
     fn tell(&self, shared: &Shared, took: Duration) -> io::Result<ExitCode> {
-        let counts = shared.counts.lock().unwrap();
-        let reports = shared.reports.lock().unwrap();
         let mut all = Counts::default();
-        for (command, counts) in COMMANDS.iter().zip(counts.iter()) {
-            println!("fuzz: {:<10} {}", command.name, table_line(counts));
-            all += *counts;
+        for (command, counts) in COMMANDS.iter().zip(shared.counts.lock().unwrap().iter()) {
+            let shown: Vec<String> = counts.iter().zip(COUNTED).map(|(n, what)| format!("{n:>10} {what}")).collect();
+            println!("fuzz: {:<10} {}", command.name, shown.join(","));
+            add(&mut all, counts);
         }
+        let reports = shared.reports.lock().unwrap();
         for (i, report) in reports.iter().enumerate() {
             let file = Path::new(self.room).join(format!("report-{i}"));
             fs::write(&file, report)?;
             println!("fuzz: DIFFERENCE, in {}\n{report}", file.display());
         }
-        let (inputs, seconds) = (all.inputs(), took.as_secs());
-        println!(
-            "fuzz: {} of the inputs went to their program in a process of its own too",
-            all.processes
-        );
-        println!(
-            "fuzz: {inputs} inputs in {seconds} seconds, seed {}: {} differed",
-            self.seed,
-            reports.len()
-        );
-        Ok(ExitCode::from(u8::from(!reports.is_empty())))
+        let (inputs, seconds) = (all[..ENDINGS].iter().sum::<u64>(), took.as_secs());
+        println!("fuzz: {inputs} inputs in {seconds} seconds, seed {}: {} differed", self.seed, reports.len());
+        Ok(ExitCode::from(u8::from(all[DIFFERED] > 0 || !reports.is_empty())))
     }
 
     pub fn start(&self) -> io::Result<ExitCode> {
@@ -137,18 +123,9 @@ impl Run<'_> {
             reports: Mutex::default(),
         };
         thread::scope(|scope| {
-            let threads: Vec<_> =
-                (0..self.threads).map(|_| scope.spawn(|| self.work(&shared))).collect();
+            let threads: Vec<_> = (0..self.threads).map(|_| scope.spawn(|| self.work(&shared))).collect();
             threads.into_iter().try_for_each(|thread| thread.join().expect("a thread that ends"))
         })?;
         self.tell(&shared, start.elapsed())
     }
-}
-
-fn table_line(counts: &Counts) -> String {
-    let Counts { listed, refused, other_words, differed, lines, .. } = counts;
-    format!(
-        "{:>10} inputs: {listed:>10} listed ({lines:>11} lines), {refused:>10} refused, {other_words:>8} other words, {differed} differed",
-        counts.inputs()
-    )
 }

@@ -34,7 +34,7 @@ pub fn mutate(input: &mut Input, command: &Command, random: &mut Random) {
         ThirdWord::Number => true,
         ThirdWord::LastEntry => false,
     };
-    let (length, numbers) = (input.bytes.len() as u64, command.more.numbers);
+    let (length, numbers) = (input.bytes.len() as u64, command.format.numbers);
     let number = match random.below(20) {
         0..=4 => return,
         5..=7 => length,

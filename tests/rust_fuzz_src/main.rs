@@ -3,8 +3,12 @@
 //!
 //! An input of which the sums differ, or at which the package panics, is printed in hex.
 
+#[allow(dead_code, reason = "the bench makes its inputs with it too")]
+#[path = "../../bench/src/random.rs"]
+mod random;
 mod readers;
 
+use random::Random;
 use std::panic::catch_unwind;
 use std::process::ExitCode;
 use std::time::{Duration, Instant};
@@ -26,54 +30,43 @@ unsafe extern "C" {
     fn port_hex(bytes: *const u8, length: usize) -> u64;
 }
 
-/// A small generator of numbers (xorshift).
-struct Random(u64);
-
-impl Random {
-    fn next(&mut self) -> u64 {
-        self.0 ^= self.0 << 13;
-        self.0 ^= self.0 >> 7;
-        self.0 ^= self.0 << 17;
-        self.0
-    }
-
-    fn below(&mut self, limit: usize) -> usize {
-        (self.next() % limit.max(1) as u64) as usize
-    }
+/// A number below a limit, or 0.
+fn below(limit: usize, random: &mut Random) -> usize {
+    random.below(limit.max(1) as u64) as usize
 }
 
 const EDGES: [u64; 12] = [0, 1, 4, 0x7f, 0xff, 0x100, 0xffff, 0x1_0000, 0x7fff_ffff, 0xffff_ffff, 1 << 63, u64::MAX];
 const LONGEST: usize = 8192;
 
 fn mutate(bytes: &mut Vec<u8>, pool: &[Vec<u8>], random: &mut Random) {
-    let start = random.below(bytes.len() + 1);
-    let most = 1 << random.below(9);
-    let end = (start + random.below(most)).min(bytes.len());
-    match random.below(9) {
-        0 if start < bytes.len() => bytes[start] = random.next() as u8,
-        1 if start < bytes.len() => bytes[start] ^= 1 << random.below(8),
-        2 if start < bytes.len() => bytes[start] = EDGES[random.below(5)] as u8,
+    let start = below(bytes.len() + 1, random);
+    let most = 1 << below(9, random);
+    let end = (start + below(most, random)).min(bytes.len());
+    match below(9, random) {
+        0 if start < bytes.len() => bytes[start] = random.byte(),
+        1 if start < bytes.len() => bytes[start] ^= 1 << below(8, random),
+        2 if start < bytes.len() => bytes[start] = EDGES[below(5, random)] as u8,
         3 => {
-            let mut number = EDGES[random.below(EDGES.len())];
-            if random.below(2) == 0 {
-                number = (bytes.len() - start).wrapping_add(random.below(9)).wrapping_sub(4) as u64;
+            let mut number = EDGES[below(EDGES.len(), random)];
+            if below(2, random) == 0 {
+                number = (bytes.len() - start).wrapping_add(below(9, random)).wrapping_sub(4) as u64;
             }
-            let width = [1, 2, 4, 8][random.below(4)].min(bytes.len() - start);
+            let width = [1, 2, 4, 8][below(4, random)].min(bytes.len() - start);
             bytes[start..start + width].copy_from_slice(&number.to_le_bytes()[..width]);
         }
         4 => drop(bytes.drain(start..end)),
         5 => {
             let copy = bytes[start..end].to_vec();
-            let at = random.below(bytes.len() + 1);
+            let at = below(bytes.len() + 1, random);
             drop(bytes.splice(at..at, copy));
         }
         6 => {
-            let other = &pool[random.below(pool.len())];
+            let other = &pool[below(pool.len(), random)];
             bytes.truncate(start);
-            bytes.extend_from_slice(&other[random.below(other.len() + 1)..]);
+            bytes.extend_from_slice(&other[below(other.len() + 1, random)..]);
         }
         7 => bytes.truncate(start),
-        _ => drop(bytes.splice(start..end, [random.next() as u8])),
+        _ => drop(bytes.splice(start..end, [random.byte()])),
     }
     bytes.truncate(LONGEST);
 }
@@ -104,15 +97,15 @@ fn sums(bytes: &[u8], last_entry: usize, stride: usize) -> [(&'static str, u64, 
 
 /// The sums that were the same, and how many of them weren't 0; or a text with what differed.
 fn run(pool: &[Vec<u8>], seed: u64, end: Instant) -> Result<(u64, u64), String> {
-    let mut random = Random(seed.wrapping_mul(0x9e37_79b9_7f4a_7c15) | 1);
+    let mut random = Random::seeded(seed.wrapping_mul(0x9e37_79b9_7f4a_7c15) | 1);
     let (mut same, mut nonzero) = (0, 0);
     while Instant::now() < end {
-        let mut bytes = pool[random.below(pool.len())].clone();
-        for _ in 0..random.below(6) {
+        let mut bytes = pool[below(pool.len(), &mut random)].clone();
+        for _ in 0..below(6, &mut random) {
             mutate(&mut bytes, pool, &mut random);
         }
-        let last_entry = [bytes.len(), random.below(bytes.len() + 1), usize::MAX][random.below(3)];
-        let stride = [40, 48, 56, random.below(bytes.len() + 2)][random.below(4)];
+        let last_entry = [bytes.len(), below(bytes.len() + 1, &mut random), usize::MAX][below(3, &mut random)];
+        let stride = [40, 48, 56, below(bytes.len() + 2, &mut random)][below(4, &mut random)];
         let told = format!("last entry {last_entry}, stride {stride}");
         let hex = || bytes.iter().map(|byte| format!("{byte:02x}")).collect::<String>();
         let found = catch_unwind(|| {

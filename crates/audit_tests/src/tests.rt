@@ -1,4 +1,7 @@
+mod check;
+mod diff;
 mod events;
 mod json;
 mod replay;
 mod text;
+mod verify;

@@ -4,6 +4,9 @@ pub mod Digests
 pub mod Boundaries
 pub mod Stepping
 pub mod Starting
+pub mod Contradicting
 pub mod Logs
 pub mod EachPcr
 pub mod ItsEvents
+pub mod Rules
+pub mod Rows

@@ -5,4 +5,5 @@ pub mod Replay
 pub mod Measured
 pub mod Logs
 pub mod Laws
+pub mod Rows
 pub mod Views

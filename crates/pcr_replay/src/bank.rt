@@ -14,11 +14,19 @@ pub enum Bank {
     Sha384,
     /// SHA-512, with 64 bytes.
     Sha512,
+    /// SM3, with 32 bytes.
+    Sm3,
 }
 
 impl Bank {
     /// Each bank that can be replayed, in the order of their algorithms' numbers.
-    pub const ALL: [Bank; 4] = [Bank::Sha1, Bank::Sha256, Bank::Sha384, Bank::Sha512];
+    pub const ALL: [Bank; 5] = [
+        Bank::Sha1,
+        Bank::Sha256,
+        Bank::Sha384,
+        Bank::Sha512,
+        Bank::Sm3,
+    ];
 
     /// Returns the bank of an algorithm; `None` if it has another hash function than these, so
     /// that its PCRs can't be replayed.
@@ -31,6 +39,7 @@ impl Bank {
             AlgorithmId::SHA256 => Some(Bank::Sha256),
             AlgorithmId::SHA384 => Some(Bank::Sha384),
             AlgorithmId::SHA512 => Some(Bank::Sha512),
+            AlgorithmId::SM3_256 => Some(Bank::Sm3),
             _ => None,
         }
     }
@@ -44,6 +53,7 @@ impl Bank {
             Bank::Sha256 => AlgorithmId::SHA256,
             Bank::Sha384 => AlgorithmId::SHA384,
             Bank::Sha512 => AlgorithmId::SHA512,
+            Bank::Sm3 => AlgorithmId::SM3_256,
         }
     }
 
@@ -58,6 +68,7 @@ impl Bank {
             Bank::Sha256 => 32,
             Bank::Sha384 => 48,
             Bank::Sha512 => 64,
+            Bank::Sm3 => 32,
         }
     }
 }

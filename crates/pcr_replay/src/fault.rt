@@ -11,7 +11,7 @@ pub enum Fault {
     UnknownLocality,
     /// It states another locality than an event before it, or than the 4 of a hardware CRTM.
     OtherLocality,
-    /// It states the locality after PCR 0 was extended.
+    /// It states the locality after PCR 0 was extended, other than by a hardware CRTM.
     LateLocality,
 }
 

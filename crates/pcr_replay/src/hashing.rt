@@ -9,6 +9,7 @@ use crate::bank::Bank;
 use crate::value::PcrValue;
 use sha1::Sha1;
 use sha2::{Digest, Sha256, Sha384, Sha512};
+use sm3::Sm3;
 
 /// Returns the bank's digest of two parts that follow one another.
 pub(crate) fn hash_joined(bank: Bank, first: &[u8], second: &[u8]) -> PcrValue
@@ -19,6 +20,7 @@ pub(crate) fn hash_joined(bank: Bank, first: &[u8], second: &[u8]) -> PcrValue
         Bank::Sha256 => PcrValue::new(joined::<Sha256>(first, second).as_slice()),
         Bank::Sha384 => PcrValue::new(joined::<Sha384>(first, second).as_slice()),
         Bank::Sha512 => PcrValue::new(joined::<Sha512>(first, second).as_slice()),
+        Bank::Sm3 => PcrValue::new(joined::<Sm3>(first, second).as_slice()),
     }
 }
 
@@ -33,7 +35,7 @@ fn joined_sha1(first: &[u8], second: &[u8]) -> PcrValue
     PcrValue::new(digest.as_slice())
 }
 
-/// Returns the SHA-2 digest of two parts that follow one another.
+/// Returns the digest of two parts that follow one another, of SHA-2 or SM3.
 fn joined<D: Digest>(first: &[u8], second: &[u8]) -> D::Output
     ensures { D.digest_of (first.now ++ second.now) result }
 {

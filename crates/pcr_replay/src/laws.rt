@@ -1,6 +1,7 @@
 //! Laws of the definitions. Each holds of every value of them, and takes nothing to run.
 
-ghost use Rattle.pcr_replay.specs.Laws.{FirstIsNamed, OneContents, ValueByItsEvents};
+ghost use Rattle.pcr_replay.specs.Laws.{FirstContradicts, FirstIsNamed, OneContents, ValueByItsEvents};
+ghost use Rattle.pcr_replay.specs.Rows.{RowsHold};
 
 use uefi_tcg::laws::{one_log_v1, one_log_v2};
 
@@ -12,13 +13,27 @@ pub fn one_contents()
     one_log_v2();
 }
 
-/// States that the value of a PCR is what exactly the events of that PCR lead to, in their order.
+/// States that the event that contradicts how PCR 0 starts is the first one that does, and that
+/// without it none does.
+pub fn first_contradicts()
+    ensures { FirstContradicts }
+{}
+
+/// States that a PCR has a value only if no event makes it undetermined, and that the value is what
+/// extending exactly the events of that PCR leads to, in their order.
 pub fn value_by_its_events()
     ensures { ValueByItsEvents }
 {}
 
-/// States that the event by which a PCR is undetermined extends that PCR and has no digest of the
-/// bank, two, or one of another length; and that the events before it lead to a value.
+/// States that a PCR is undetermined only if an event makes it so, and that the first such event is
+/// named. An event makes a PCR undetermined that it extends if it has no digest of the bank, two, or
+/// one of another length, and PCR 0 if it contradicts how that starts.
 pub fn first_is_named()
     ensures { FirstIsNamed }
+{}
+
+/// States that the definitions give the values of worked rows: how PCR 0 starts, what PCRs start
+/// with, which events have no effect or no digest, and where padding starts. Each row is a theorem.
+pub fn worked_rows()
+    ensures { RowsHold }
 {}

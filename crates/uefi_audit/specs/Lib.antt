@@ -1,6 +1,5 @@
 pub mod Ends
-pub mod Accepted
-pub mod Shown
-pub mod Compared
+pub mod Judging
+pub mod Replaying
 pub mod Held
 pub mod CommandLine

@@ -72,7 +72,11 @@ fn args_of<'a>(alloc: Global, name: &str) -> Result<Vec<Arg<'a>>, AllocError> {
 fn args_of_events<'a>(alloc: Global) -> Result<Vec<Arg<'a>>, AllocError> {
     let args = vec![in alloc;
         logs(alloc),
-        flag(alloc, "text", "Prints a block for each event that a person reads, not JSON"),
+        flag(
+            alloc,
+            "text",
+            "Prints a block for each event that a person reads, not JSON"
+        ),
         last_entry(alloc),
         allow_left_over(alloc),
         max_rows(alloc),
@@ -95,7 +99,12 @@ fn args_of_replay<'a>(alloc: Global) -> Result<Vec<Arg<'a>>, AllocError> {
 
 fn args_of_verify<'a>(alloc: Global) -> Result<Vec<Arg<'a>>, AllocError> {
     let args = vec![in alloc;
-        file(alloc, "log", "LOG", "A file with an event log, - for standard input"),
+        file(
+            alloc,
+            "log",
+            "LOG",
+            "A file with an event log, - for standard input"
+        ),
         registers(alloc),
         pcrs(alloc),
         locality(alloc),
@@ -109,7 +118,12 @@ fn args_of_verify<'a>(alloc: Global) -> Result<Vec<Arg<'a>>, AllocError> {
 
 fn args_of_diff<'a>(alloc: Global) -> Result<Vec<Arg<'a>>, AllocError> {
     let args = vec![in alloc;
-        file(alloc, "old", "OLD", "A file with an event log, - for standard input"),
+        file(
+            alloc,
+            "old",
+            "OLD",
+            "A file with an event log, - for standard input"
+        ),
         file(
             alloc,
             "new",

@@ -36,7 +36,12 @@ pub(crate) fn perform<R: Files + Input + Print + Eprint + AllocGlobal>(
         Request::Events(logs, format) => each_log(rt, logs, reading, Task::Events(format)),
         Request::Replay(logs, bank, locality, format) => {
             let is_one_of_many = logs.len() > 1;
-            let asked = Asked { bank, locality, format, is_one_of_many };
+            let asked = Asked {
+                bank,
+                locality,
+                format,
+                is_one_of_many,
+            };
             each_log(rt, logs, reading, Task::Replay(asked))
         }
         Request::Verify(asked) => verify_log(rt, &asked, reading),
@@ -55,7 +60,12 @@ fn each_log<R: Files + Input + Print + Eprint + AllocGlobal>(
     let mut status = Status::Well;
     for name in logs {
         let of_log = match file_bytes(rt, name) {
-            Some(bytes) => do_task(rt, &log_file(*name, bytes.as_slice(), reading), reading, task)?,
+            Some(bytes) => do_task(
+                rt,
+                &log_file(*name, bytes.as_slice(), reading),
+                reading,
+                task,
+            )?,
             None => Status::Unread,
         };
         status = status.and(of_log);

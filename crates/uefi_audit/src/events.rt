@@ -1,7 +1,8 @@
 use crate::commands::print_text;
 use crate::failure::{Failure, Status};
-use crate::judging::is_accepted;
+use crate::judging::judge;
 use crate::request::{Format, Reading};
+use std::alloc::{AllocError, Global};
 use std::io;
 use uefi_auditing::json::push_events;
 use uefi_auditing::text::LogFile;
@@ -13,14 +14,23 @@ pub(crate) fn show_events<R: Print + Eprint + AllocGlobal>(
     reading: Reading,
     format: Format,
 ) -> Result<Status, Failure> {
-    if !is_accepted(rt, file, reading)? {
-        return Ok(Status::Unjudged);
+    let judgement = judge(rt, file, reading)?;
+    if judgement.is_read() {
+        let mut text = String::new(rt.alloc());
+        match format {
+            Format::Json => push_events(&mut text, rt.alloc(), file)?,
+            Format::Text => push_event_blocks(&mut text, rt.alloc(), file)?,
+        }
+        print_text(&mut io::writer(rt), text.as_str())?;
     }
-    let mut text = String::new(rt.alloc());
-    match format {
-        Format::Json => push_events(&mut text, rt.alloc(), file)?,
-        Format::Text => push_event_blocks(&mut text, rt.alloc(), file)?,
-    }
-    print_text(&mut io::writer(rt), text.as_str())?;
-    Ok(Status::Well)
+    Ok(judgement.status())
+}
+
+// A stand-in.
+fn push_event_blocks(
+    text: &mut String,
+    alloc: Global,
+    file: &LogFile<'_>,
+) -> Result<(), AllocError> {
+    push_events(text, alloc, file)
 }

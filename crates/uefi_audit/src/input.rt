@@ -1,24 +1,25 @@
 ghost use Rattle.std.specs.Prelude.{◌≡◌, ◌≢◌, [], IfOk, IfSome, Some, string_bytes};
-ghost use Rattle.uefi_audit.specs.Held.{fault_text, register_path};
+ghost use Rattle.uefi_audit.specs.Held.{fault_text, pcr_path};
 
 use pcr_replay::{Bank, PCR_COUNT};
 use std::alloc::{AllocError, Global};
 use std::io::{self, ErrorKind, Read};
 use std::rt::Files;
 use std::{fmt, fs};
-use uefi_auditing::text::bank_name;
-use uefi_auditing::verify::{HeldError, HeldPcr, held_in_file, held_in_text};
+use uefi_auditing::text::{ShownName, bank_name};
+use uefi_auditing::verify::{Held, HeldError, HeldPcr, held_in_file, held_in_text};
 
-/// Returns the bytes of a file; `None` if it wasn't read, which is told on standard error.
+/// Returns the bytes of a file, of standard input if its name is `-`; `None` if it wasn't read, which
+/// standard error is told.
 ///
-/// `/dev/stdin` is read by the handle of standard input, since a pipe that another user made can't
-/// be opened again by its name.
+/// `/dev/stdin` is read by the handle of standard input too, since a pipe that another user made
+/// can't be opened again by its name.
 pub(crate) fn file_bytes<R: Files + Input + Eprint + AllocGlobal>(
     rt: &R,
     path: &str,
 ) -> Option<Vec<u8>> {
     let mut bytes = Vec::new(rt.alloc());
-    let read = if path == "/dev/stdin" {
+    let read = if path == "-" || path == "/dev/stdin" {
         rt.reader().read_to_end(&mut bytes)
     } else {
         read_file(rt, path, &mut bytes)
@@ -26,7 +27,7 @@ pub(crate) fn file_bytes<R: Files + Input + Eprint + AllocGlobal>(
     match read {
         Ok(_) => Some(bytes),
         Err(error) => {
-            tell(rt, path, &error);
+            tell_unread(rt, path, &error);
             None
         }
     }
@@ -38,13 +39,14 @@ fn read_file<R: Files>(rt: &R, path: &str, bytes: &mut Vec<u8>) -> io::Result<us
 }
 
 /// Tells on standard error why a file wasn't read. If that is closed, the exit status still tells.
-fn tell<R: Eprint>(rt: &R, path: &str, error: &io::Error) {
-    let _ = eprintln!(rt; "uefi_audit: {path}: {error}");
+fn tell_unread<R: Eprint>(rt: &R, path: &str, error: &io::Error) {
+    let name = ShownName(path);
+    let _ = eprintln!(rt; "uefi_audit: {name}: {error}");
 }
 
-/// Returns the PCRs of a TPM in a file that `tpm2_pcrread` printed, or in a folder as Linux
-/// has it; `None` if there are none to be read, which is told on standard error.
-pub(crate) fn held_registers<R: Files + Input + Eprint + AllocGlobal>(
+/// Returns the PCRs of a TPM in a file that `tpm2_pcrread` printed or as TPM 1.2 has it, or in a
+/// folder as Linux has it; `None` if there are none to be read, which standard error is told.
+pub(crate) fn held_pcrs<R: Files + Input + Eprint + AllocGlobal>(
     rt: &R,
     path: &str,
 ) -> Option<Vec<HeldPcr>>
@@ -55,20 +57,25 @@ pub(crate) fn held_registers<R: Files + Input + Eprint + AllocGlobal>(
         _ => held_in_listing(rt, path)?,
     };
     if held.is_empty() {
-        let _ = eprintln!(rt; "uefi_audit: {path}: there are no registers");
+        let name = ShownName(path);
+        let _ = eprintln!(rt; "uefi_audit: {name}: there are no PCRs that can be compared");
         return None;
     }
     Some(held)
 }
 
-/// Returns the PCRs in a file that `tpm2_pcrread` printed.
+/// Returns the PCRs in a file, and tells standard error which banks of it aren't supported.
 fn held_in_listing<R: Files + Input + Eprint + AllocGlobal>(
     rt: &R,
     path: &str,
 ) -> Option<Vec<HeldPcr>> {
     let bytes = file_bytes(rt, path)?;
     match held_in_text(rt.alloc(), bytes.as_slice()) {
-        Ok(held) => Some(held),
+        Ok(held) => {
+            let Held { pcrs, unsupported } = held;
+            tell_unsupported(rt, path, unsupported);
+            Some(pcrs)
+        }
         Err(error) => {
             tell_held(rt, path, error);
             None
@@ -76,10 +83,23 @@ fn held_in_listing<R: Files + Input + Eprint + AllocGlobal>(
     }
 }
 
+/// Tells on standard error which banks aren't supported, each once.
+fn tell_unsupported<R: Eprint>(rt: &R, path: &str, mut names: Vec<&str>) {
+    if names.sort().is_err() {
+        return;
+    }
+    names.dedup();
+    let path = ShownName(path);
+    for name in &names {
+        let name = ShownName(name);
+        let _ = eprintln!(rt; "{path}: the bank {name} isn't supported");
+    }
+}
+
 /// Tells on standard error why a file has no PCRs that can be compared.
 fn tell_held<R: Eprint>(rt: &R, path: &str, error: HeldError) {
-    let fault = HeldFault(error);
-    let _ = eprintln!(rt; "uefi_audit: {path}: {fault}");
+    let (name, fault) = (ShownName(path), HeldFault(error));
+    let _ = eprintln!(rt; "uefi_audit: {name}: {fault}");
 }
 
 /// Why a file has no PCRs that can be compared, displayed as standard error is told it.
@@ -94,7 +114,7 @@ impl fmt::Display for HeldFault {
             HeldError::Memory => write!(f, "out of memory"),
             HeldError::Line(offset) => write!(
                 f,
-                "the line at offset {offset} states no register of a bank that can be replayed"
+                "the line at offset {offset} states no PCR, or one that a line before it states"
             ),
         }
     }
@@ -107,8 +127,8 @@ fn held_in_folder<R: Files + Input + Eprint + AllocGlobal>(
 ) -> Option<Vec<HeldPcr>> {
     let mut held = Vec::new(rt.alloc());
     for bank in Bank::ALL {
-        for register in 0..PCR_COUNT as u32 {
-            if let Some(found) = held_in_bank(rt, path, bank, register)? {
+        for pcr in 0..PCR_COUNT as u32 {
+            if let Some(found) = held_in_bank(rt, path, bank, pcr)? {
                 if held.push(found).is_err() {
                     tell_held(rt, path, HeldError::Memory);
                     return None;
@@ -124,12 +144,12 @@ fn held_in_bank<R: Files + Input + Eprint + AllocGlobal>(
     rt: &R,
     folder: &str,
     bank: Bank,
-    register: u32,
+    pcr: u32,
 ) -> Option<Option<HeldPcr>>
     ensures { IfSome result (λ found. IfSome found
-        (λ held. (held.bank ≡ bank) × (held.register ≡ register))) }
+        (λ held. (held.bank ≡ bank) × (held.pcr ≡ pcr))) }
 {
-    let Ok(path) = register_path(rt.alloc(), folder, bank, register) else {
+    let Ok(path) = pcr_path(rt.alloc(), folder, bank, pcr) else {
         tell_held(rt, folder, HeldError::Memory);
         return None;
     };
@@ -139,11 +159,7 @@ fn held_in_bank<R: Files + Input + Eprint + AllocGlobal>(
     }
     let bytes = file_bytes(rt, path.as_str())?;
     match held_in_file(rt.alloc(), bank, bytes.as_slice()) {
-        Ok(value) => Some(Some(HeldPcr {
-            bank,
-            register,
-            value,
-        })),
+        Ok(value) => Some(Some(HeldPcr { bank, pcr, value })),
         Err(error) => {
             tell_held(rt, path.as_str(), error);
             None
@@ -152,15 +168,10 @@ fn held_in_bank<R: Files + Input + Eprint + AllocGlobal>(
 }
 
 /// Returns the path of a PCR's file in the folder, as `pcr-sha256/0`.
-fn register_path(
-    alloc: Global,
-    folder: &str,
-    bank: Bank,
-    register: u32,
-) -> Result<String, AllocError>
+fn pcr_path(alloc: Global, folder: &str, bank: Bank, pcr: u32) -> Result<String, AllocError>
     ensures { IfOk result
-        (λ path. string_bytes path ≡ register_path folder.now bank register) }
+        (λ path. string_bytes path ≡ pcr_path folder.now bank pcr) }
 {
     let name = bank_name(bank);
-    format!(in alloc; "{folder}/pcr-{name}/{register}")
+    format!(in alloc; "{folder}/pcr-{name}/{pcr}")
 }

@@ -11,39 +11,39 @@ use std::process::ExitCode;
 use std::rt::{Env, Files};
 use std::{env, io};
 
-/// Returns the words, of which the first is the program's name.
-fn read_words<R: Env + Eprint + AllocGlobal>(rt: &R) -> Result<Vec<String>, Failure> {
+/// Returns the arguments, of which the first is the program's name.
+fn read_arguments<R: Env + Eprint + AllocGlobal>(rt: &R) -> Result<Vec<String>, Failure> {
     match env::args(rt) {
         Ok(args) => match args.collect(rt.alloc()) {
-            Ok(words) => Ok(words),
+            Ok(arguments) => Ok(arguments),
             Err(_) => Err(Failure::Memory),
         },
         Err(error) if error.kind() == io::ErrorKind::OutOfMemory => Err(Failure::Memory),
         Err(_) => {
-            let _ = eprintln!(rt; "uefi_audit: a word isn't UTF-8");
-            Err(Failure::Words)
+            let _ = eprintln!(rt; "uefi_audit: the command line isn't UTF-8");
+            Err(Failure::Arguments)
         }
     }
 }
 
-/// Judges the words, and does what they ask for.
+/// Reads the arguments, and does what they ask for.
 fn audit<R: Files + Env + Input + Print + Eprint + AllocGlobal>(rt: &R) -> Result<Status, Failure> {
-    let words = read_words(rt)?;
-    let matches = match matches_of(rt.alloc(), words.as_slice()) {
+    let arguments = read_arguments(rt)?;
+    let matches = match matches_of(rt.alloc(), arguments.as_slice()) {
         Ok(matches) => matches,
         Err(error) => return Err(told(rt, &error)),
     };
     let Some((name, of)) = matches.subcommand() else {
-        return Err(Failure::Words);
+        return Err(Failure::Arguments);
     };
     let Some((request, reading)) = request_of(name, of) else {
         let _ = eprintln!(rt; "uefi_audit: --last-entry takes a number or none");
-        return Err(Failure::Words);
+        return Err(Failure::Arguments);
     };
     perform(rt, &request, reading)
 }
 
-/// Prints what `clap` says of the words, and returns why the program ends.
+/// Prints what `clap` says of the arguments, and returns why the program ends.
 fn told<R: Print + Eprint>(rt: &R, error: &clap::Error) -> Failure
     ensures { (result ≡ failure_of (kind_of error.now)) ⊎ (result ≡ Output) }
 {

@@ -1,14 +1,19 @@
+ghost use Rattle.std.specs.Prelude.{◌≡◌};
+ghost use Rattle.pcr_replay.specs.Entries.{Contents};
+ghost use Rattle.pcr_replay.specs.Logs.{HasContents};
+ghost use Rattle.uefi_audit.specs.Replaying.{is_stated, start_by};
+
 use crate::commands::print_text;
 use crate::failure::{Failure, Status};
-use crate::judging::{is_accepted, tell};
-use crate::notes::{push_bank_notes, push_nothing_measured};
+use crate::judging::{Judgement, judge, tell};
+use crate::notes::{push_inactive, push_table_notes, push_without_effect};
 use crate::request::{Format, Reading};
 use pcr_replay::{Bank, Start, startup_locality};
 use std::alloc::{AllocError, Global};
 use std::io;
 use uefi_auditing::json::push_replay_json;
 use uefi_auditing::replay::{BankPcrs, asked_banks, replay_banks};
-use uefi_auditing::text::{LogFile, ShownName, push_banks, push_ignored, push_start, push_undetermined};
+use uefi_auditing::text::{LogFile, ShownName, push_banks, push_start, push_undetermined};
 
 /// What `replay` asks for.
 #[derive(Clone, Copy)]
@@ -19,8 +24,17 @@ pub(crate) struct Asked {
     pub locality: Option<u8>,
     /// How the PCRs are printed.
     pub format: Format,
-    /// Whether the log's name is printed above its PCRs.
+    /// Whether the log is one of many, so that its name is printed above its PCRs.
     pub is_one_of_many: bool,
+}
+
+/// How PCR 0 starts, and whether the log or the caller says so.
+#[derive(Clone, Copy)]
+pub(crate) struct Assumed {
+    /// How PCR 0 starts.
+    pub start: Start,
+    /// Whether the log or the caller says so.
+    pub is_stated: bool,
 }
 
 /// Prints the PCRs that a log leads to.
@@ -30,92 +44,118 @@ pub(crate) fn show_replay<R: Print + Eprint + AllocGlobal>(
     reading: Reading,
     asked: Asked,
 ) -> Result<Status, Failure> {
-    let accepted = is_accepted(rt, file, reading)?;
-    if !accepted && asked.format == Format::Text {
-        return Ok(Status::Unjudged);
+    let judgement = judge(rt, file, reading)?;
+    if judgement.is_read() {
+        let status = show_pcrs(rt, file, asked)?;
+        return Ok(judgement.status().and(status));
     }
-    let start = start_of(file, asked.locality);
-    let banks = banks_of(rt.alloc(), file, asked.bank, &start, accepted)?;
+    if judgement == Judgement::LeftOver && asked.format == Format::Json {
+        let assumed = start_of(file, asked.locality);
+        show_json(rt, file, &assumed, &[], false)?;
+    }
+    Ok(judgement.status())
+}
+
+/// Prints the PCRs that a log leads to, whose events are read.
+fn show_pcrs<R: Print + Eprint + AllocGlobal>(
+    rt: &R,
+    file: &LogFile<'_>,
+    asked: Asked,
+) -> Result<Status, Failure> {
+    let assumed = start_of(file, asked.locality);
+    let banks = asked_banks(rt.alloc(), &file.log, asked.bank)?;
+    let found = replay_banks(rt.alloc(), &file.log, banks.as_slice(), &assumed.start)?;
     let mut told = String::new(rt.alloc());
-    let judged = push_notes(&mut told, rt.alloc(), file, asked, &start, banks.as_slice())?;
+    push_start(&mut told, file.name, &assumed.start, assumed.is_stated)?;
+    match asked.bank {
+        Some(bank) => push_inactive(&mut told, file, &[bank])?,
+        None => push_table_notes(&mut told, rt.alloc(), file, banks.as_slice())?,
+    }
+    push_undetermined(&mut told, file.name, found.as_slice())?;
+    let is_ignored = push_without_effect(&mut told, file)?;
     tell(rt, told.as_str());
-    let mut text = String::new(rt.alloc());
-    push_pcrs(&mut text, rt.alloc(), file, asked, &start, banks.as_slice(), accepted)?;
-    print_text(&mut io::writer(rt), text.as_str())?;
-    Ok(if accepted { judged } else { Status::Unjudged })
+    match asked.format {
+        Format::Text => show_text(rt, file, asked, found.as_slice())?,
+        Format::Json => show_json(rt, file, &assumed, found.as_slice(), true)?,
+    }
+    Ok(status_of(found.as_slice(), is_ignored))
 }
 
 /// Returns how PCR 0 starts: at the locality that was given, or else as the log says.
-pub(crate) fn start_of(file: &LogFile<'_>, locality: Option<u8>) -> Start {
+pub(crate) fn start_of(file: &LogFile<'_>, locality: Option<u8>) -> Assumed
+    ensures start { (contents : Contents) → HasContents file.now.log contents
+        → result.start ≡ start_by locality contents.entries }
+    ensures stated { (contents : Contents) → HasContents file.now.log contents
+        → result.is_stated ≡ is_stated locality contents.entries }
+{
     match locality {
-        Some(locality) => Start::at(locality),
-        None => Start::of(&file.log),
+        Some(locality) => Assumed {
+            start: Start::at(locality),
+            is_stated: true,
+        },
+        None => Assumed {
+            start: Start::of(&file.log),
+            is_stated: startup_locality(&file.log).is_some(),
+        },
     }
 }
 
-/// Returns what the PCRs of the banks hold that are asked for; none if the log isn't accepted.
-fn banks_of(
-    alloc: Global,
-    file: &LogFile<'_>,
-    bank: Option<Bank>,
-    start: &Start,
-    accepted: bool,
-) -> Result<Vec<BankPcrs>, AllocError> {
-    if !accepted {
-        return Ok(Vec::new(alloc));
-    }
-    let banks = asked_banks(alloc, &file.log, bank)?;
-    replay_banks(alloc, &file.log, banks.as_slice(), start)
-}
-
-/// Appends what standard error is told of a log's replay, and returns the status that follows.
-fn push_notes(
-    told: &mut String,
-    alloc: Global,
+/// Prints the PCRs as text.
+fn show_text<R: Print + AllocGlobal>(
+    rt: &R,
     file: &LogFile<'_>,
     asked: Asked,
-    start: &Start,
-    banks: &[BankPcrs],
-) -> Result<Status, AllocError> {
-    let stated = is_stated(file, asked.locality);
-    push_start(told, file.name, start, stated)?;
-    push_bank_notes(told, alloc, file, asked.bank)?;
-    push_undetermined(told, file.name, banks)?;
-    let measured = push_nothing_measured(told, file, banks)?;
-    let taken = push_ignored(told, file.name, &file.log)?;
-    if !measured || banks.iter().any(|found| has_undetermined(found)) {
-        return Ok(Status::Unjudged);
+    found: &[BankPcrs],
+) -> Result<(), Failure> {
+    let mut text = String::new(rt.alloc());
+    if asked.is_one_of_many {
+        let name = ShownName(file.name);
+        writeln!(text, "{name}:")?;
     }
-    Ok(if taken { Status::Well } else { Status::Differs })
+    push_banks(&mut text, rt.alloc(), found)?;
+    print_text(&mut io::writer(rt), text.as_str())
 }
 
-/// Returns whether the locality is given, or the log states it.
-pub(crate) fn is_stated(file: &LogFile<'_>, locality: Option<u8>) -> bool {
-    locality.is_some() || startup_locality(&file.log).is_some()
+/// Prints the PCRs as JSON.
+fn show_json<R: Print + AllocGlobal>(
+    rt: &R,
+    file: &LogFile<'_>,
+    assumed: &Assumed,
+    found: &[BankPcrs],
+    is_accepted: bool,
+) -> Result<(), Failure> {
+    let mut text = String::new(rt.alloc());
+    push_json(&mut text, rt.alloc(), file, assumed, found, is_accepted)?;
+    print_text(&mut io::writer(rt), text.as_str())
+}
+
+/// Appends the PCRs as JSON.
+fn push_json(
+    text: &mut String,
+    alloc: Global,
+    file: &LogFile<'_>,
+    assumed: &Assumed,
+    found: &[BankPcrs],
+    is_accepted: bool,
+) -> Result<(), AllocError> {
+    let Assumed { start, is_stated } = *assumed;
+    push_replay_json(text, alloc, file, &start, is_stated, found, is_accepted)?;
+    Ok(())
+}
+
+/// Returns the status of a replay: a log is unjudged if no bank was replayed, or a PCR of one is
+/// undetermined, and it differs if an event should have extended a PCR that no TPM has.
+fn status_of(found: &[BankPcrs], is_ignored: bool) -> Status {
+    if found.is_empty() || found.iter().any(|bank| has_undetermined(bank)) {
+        return Status::Unjudged;
+    }
+    if is_ignored {
+        return Status::Differs;
+    }
+    Status::Well
 }
 
 /// Returns whether a PCR of a bank is undetermined.
 fn has_undetermined(found: &BankPcrs) -> bool {
     found.pcrs.outcomes().iter().any(|outcome| outcome.is_err())
-}
-
-/// Appends the PCRs of the banks in the format that is asked for.
-fn push_pcrs(
-    text: &mut String,
-    alloc: Global,
-    file: &LogFile<'_>,
-    asked: Asked,
-    start: &Start,
-    banks: &[BankPcrs],
-    accepted: bool,
-) -> Result<(), AllocError> {
-    if asked.format == Format::Json {
-        let stated = is_stated(file, asked.locality);
-        return push_replay_json(text, alloc, file, start, stated, banks, accepted);
-    }
-    if asked.is_one_of_many {
-        let name = ShownName(file.name);
-        writeln!(text, "{name}:")?;
-    }
-    push_banks(text, alloc, banks)
 }

@@ -100,7 +100,11 @@ fn events_of<'m, 'a>(matches: &'m ArgMatches<'a>) -> Option<Request<'m, 'a>>
     ensures nothing { IfNone result (AskForNoRequest (codes "events") (found_of matches.now)) }
 {
     let logs = matches.get_strs("logs")?;
-    let format = if matches.get_flag("text") { Format::Text } else { Format::Json };
+    let format = if matches.get_flag("text") {
+        Format::Text
+    } else {
+        Format::Json
+    };
     Some(Request::Events(logs, format))
 }
 

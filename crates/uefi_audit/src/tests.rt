@@ -1,40 +1,35 @@
-//! What the words of the command line ask for, as text, and which words are refused.
+//! What the arguments ask for, as text, and which arguments are wrong.
 
 use crate::command_line::matches_of;
-use crate::request::{Format, LastEntry, Reading, Request, request_of};
+use crate::request::{Format, Reading, Request, Verification, request_of};
+use pcr_replay::{Bank, LastEntry};
 use std::alloc::{AllocError, Global};
 use std::test::Fail;
 
-/// Words after the program's name, and what they ask for.
-const ASKED: [(&[&str], &str); 16] = [
-    (&["events", "a.log"], "events a.log, at its length"),
-    (
-        &["events", "a.log", "b.log"],
-        "events a.log b.log, at its length",
-    ),
+/// Arguments after the program's name, and what they ask for.
+const ASKED: [(&[&str], &str); 21] = [
+    (&["events", "a.log"], "events a.log, as JSON"),
+    (&["events", "a.log", "-"], "events a.log -, as JSON"),
+    (&["events", "a.log", "--text"], "events a.log, as text"),
     (
         &["replay", "a.log"],
-        "replay a.log, each bank, as text, at its length",
+        "replay a.log, active banks, locality as stated, as text",
     ),
     (
         &["replay", "a.log", "--json"],
-        "replay a.log, each bank, as JSON, at its length",
+        "replay a.log, active banks, locality as stated, as JSON",
     ),
     (
         &["replay", "a.log", "--bank", "sha1"],
-        "replay a.log, Sha1, as text, at its length",
+        "replay a.log, Sha1, locality as stated, as text",
     ),
     (
-        &["replay", "--bank=sha512", "a.log"],
-        "replay a.log, Sha512, as text, at its length",
+        &["replay", "--bank=sm3_256", "a.log", "--locality", "3"],
+        "replay a.log, Sm3, locality 3, as text",
     ),
     (
         &["verify", "a.log", "--registers", "pcrs"],
-        "verify a.log pcrs, any locality, at its length",
-    ),
-    (
-        &["verify", "a.log", "--registers", "pcrs", "--locality", "0"],
-        "verify a.log pcrs, locality 0, at its length",
+        "verify a.log pcrs, all PCRs, locality as stated, as text",
     ),
     (
         &[
@@ -42,67 +37,69 @@ const ASKED: [(&[&str], &str); 16] = [
             "a.log",
             "--registers",
             "pcrs",
-            "--locality",
-            "255",
+            "--pcrs",
+            "0-7,14",
+            "--locality=255",
+            "--json",
         ],
-        "verify a.log pcrs, locality 255, at its length",
+        "verify a.log pcrs, PCRs 0-7,14, locality 255, as JSON",
     ),
+    (&["diff", "a.log", "b.log"], "diff a.log b.log, as text"),
     (
-        &["diff", "a.log", "b.log"],
-        "diff a.log b.log, at its length",
+        &["diff", "a.log", "b.log", "--json"],
+        "diff a.log b.log, as JSON",
     ),
     (
         &["diff", "a.log", "b.log", "--allow-left-over"],
-        "diff a.log b.log, at its length, with bytes left over",
+        "diff a.log b.log, as text, with trailing bytes",
     ),
+    (&["check", "a.log"], "check a.log, as text"),
     (
-        &[
-            "replay",
-            "a.log",
-            "b.log",
-            "--allow-left-over",
-            "--bank",
-            "sha384",
-            "--json",
-        ],
-        "replay a.log b.log, Sha384, as JSON, at its length, with bytes left over",
-    ),
-    (
-        &["verify", "--last-entry=34", "--registers=pcrs", "a.log"],
-        "verify a.log pcrs, any locality, at 34",
+        &["check", "a.log", "b.log", "--json"],
+        "check a.log b.log, as JSON",
     ),
     (
         &["events", "a.log", "--last-entry", "none"],
-        "events a.log, without an entry",
+        "events a.log, as JSON, empty",
+    ),
+    (
+        &["events", "a.log", "--last-entry=34"],
+        "events a.log, as JSON, last entry 34",
     ),
     (
         &["events", "a.log", "--last-entry", "0"],
-        "events a.log, at 0",
+        "events a.log, as JSON, last entry 0",
     ),
     (
         &["events", "a.log", "--last-entry", "18446744073709551615"],
-        "events a.log, at 18446744073709551615",
+        "events a.log, as JSON, last entry 18446744073709551615",
+    ),
+    (
+        &["check", "a.log", "--max-rows", "0"],
+        "check a.log, as text, at most 0 rows",
+    ),
+    (
+        &["check", "a.log", "--max-rows", "4294967295"],
+        "check a.log, as text, at most 4294967295 rows",
+    ),
+    (
+        &["check", "a.log", "--max-rows", "256"],
+        "check a.log, as text",
     ),
 ];
 
-/// Words after the program's name that ask for nothing.
-const REFUSED: [&[&str]; 21] = [
+/// Arguments after the program's name that ask for nothing.
+const WRONG: [&[&str]; 24] = [
     &[],
     &["event", "a.log"],
     &["events"],
+    &["events", "a.log", "--json"],
     &["replay"],
     &["replay", "a.log", "--bank", "SHA1"],
-    &["replay", "a.log", "--bank", "sm3_256"],
-    &["replay", "a.log", "--locality", "0"],
+    &["replay", "a.log", "--bank", "sha3_256"],
+    &["replay", "a.log", "--locality", "256"],
+    &["replay", "a.log", "--text"],
     &["verify", "a.log"],
-    &[
-        "verify",
-        "a.log",
-        "--registers",
-        "pcrs",
-        "--locality",
-        "256",
-    ],
     &["verify", "a.log", "b.log", "--registers", "pcrs"],
     &["verify", "a.log", "--registers", "pcrs", "--locality", "-1"],
     &[
@@ -113,15 +110,17 @@ const REFUSED: [&[&str]; 21] = [
         "--locality",
         "three",
     ],
-    &["events", "a.log", "--json"],
-    &["diff", "a.log", "b.log", "--bank", "sha1"],
+    &["verify", "a.log", "--registers", "pcrs", "--bank", "sha1"],
     &["diff", "a.log"],
     &["diff", "a.log", "b.log", "c.log"],
+    &["diff", "a.log", "b.log", "--bank", "sha1"],
+    &["check"],
     &["events", "a.log", "--last-entry", ""],
     &["events", "a.log", "--last-entry", "+1"],
     &["events", "a.log", "--last-entry", "0x10"],
     &["events", "a.log", "--last-entry", "18446744073709551616"],
-    &["events", "a.log", "--last-entry", "-"],
+    &["events", "a.log", "--max-rows", "4294967296"],
+    &["events", "a.log", "--max-rows", "-1"],
 ];
 
 /// Appends a space and each name.
@@ -132,61 +131,99 @@ fn push_names(text: &mut String, names: &[&str]) -> Result<(), AllocError> {
     Ok(())
 }
 
-/// Appends what is asked for.
-fn push_request(text: &mut String, request: &Request<'_, '_>) -> Result<(), AllocError> {
-    match request {
-        Request::Events(logs) => {
-            text.push_str("events")?;
-            push_names(text, logs)
-        }
-        Request::Replay(logs, bank, format) => {
-            text.push_str("replay")?;
-            push_names(text, logs)?;
-            match bank {
-                Some(bank) => write!(text, ", {bank:?}")?,
-                None => text.push_str(", each bank")?,
-            }
-            text.push_str(match format {
-                Format::Text => ", as text",
-                Format::Json => ", as JSON",
-            })
-        }
-        Request::Verify(log, registers, locality) => {
-            write!(text, "verify {log} {registers}")?;
-            match locality {
-                Some(locality) => write!(text, ", locality {locality}"),
-                None => text.push_str(", any locality"),
-            }
-        }
-        Request::Diff(old, new) => write!(text, "diff {old} {new}"),
+/// Appends a format.
+fn push_format(text: &mut String, format: Format) -> Result<(), AllocError> {
+    text.push_str(match format {
+        Format::Text => ", as text",
+        Format::Json => ", as JSON",
+    })
+}
+
+/// Appends where PCR 0 starts.
+fn push_locality(text: &mut String, locality: Option<u8>) -> Result<(), AllocError> {
+    match locality {
+        Some(locality) => write!(text, ", locality {locality}"),
+        None => text.push_str(", locality as stated"),
     }
 }
 
-/// Appends how logs are read.
+/// Appends which banks are replayed.
+fn push_bank(text: &mut String, bank: Option<Bank>) -> Result<(), AllocError> {
+    match bank {
+        Some(bank) => write!(text, ", {bank:?}"),
+        None => text.push_str(", active banks"),
+    }
+}
+
+/// Appends what `verify` is asked for.
+fn push_verification(text: &mut String, asked: &Verification<'_>) -> Result<(), AllocError> {
+    let (log, registers) = (asked.log, asked.registers);
+    write!(text, "verify {log} {registers}")?;
+    match asked.pcrs {
+        Some(pcrs) => write!(text, ", PCRs {pcrs}")?,
+        None => text.push_str(", all PCRs")?,
+    }
+    push_locality(text, asked.locality)?;
+    push_format(text, asked.format)
+}
+
+/// Appends what is asked for.
+fn push_request(text: &mut String, request: &Request<'_, '_>) -> Result<(), AllocError> {
+    match request {
+        Request::Events(logs, format) => {
+            text.push_str("events")?;
+            push_names(text, logs)?;
+            push_format(text, *format)
+        }
+        Request::Replay(logs, bank, locality, format) => {
+            text.push_str("replay")?;
+            push_names(text, logs)?;
+            push_bank(text, *bank)?;
+            push_locality(text, *locality)?;
+            push_format(text, *format)
+        }
+        Request::Verify(asked) => push_verification(text, asked),
+        Request::Diff(old, new, format) => {
+            write!(text, "diff {old} {new}")?;
+            push_format(text, *format)
+        }
+        Request::Check(logs, format) => {
+            text.push_str("check")?;
+            push_names(text, logs)?;
+            push_format(text, *format)
+        }
+    }
+}
+
+/// Appends how logs are read, where it isn't as without the arguments for it.
 fn push_reading(text: &mut String, reading: &Reading) -> Result<(), AllocError> {
     match reading.last_entry {
-        LastEntry::Length => text.push_str(", at its length")?,
-        LastEntry::At(offset) => write!(text, ", at {offset}")?,
-        LastEntry::Empty => text.push_str(", without an entry")?,
+        LastEntry::Unknown => {}
+        LastEntry::At(offset) => write!(text, ", last entry {offset}")?,
+        LastEntry::Empty => text.push_str(", empty")?,
     }
     if reading.allow_left_over {
-        text.push_str(", with bytes left over")?;
+        text.push_str(", with trailing bytes")?;
+    }
+    let rows = reading.max_rows;
+    if rows != 256 {
+        write!(text, ", at most {rows} rows")?;
     }
     Ok(())
 }
 
-/// Returns the words, as the program is given them.
-fn given(alloc: Global, words: &[&str]) -> Result<Vec<String>, AllocError> {
+/// Returns the arguments, as the program is given them.
+fn given(alloc: Global, arguments: &[&str]) -> Result<Vec<String>, AllocError> {
     let mut given = vec![in alloc; String::from_str(alloc, "uefi_audit")?]?;
-    for word in words {
-        given.push(String::from_str(alloc, word)?)?;
+    for argument in arguments {
+        given.push(String::from_str(alloc, argument)?)?;
     }
     Ok(given)
 }
 
-/// Returns what the words ask for; `None` if they ask for nothing.
-fn asked(alloc: Global, words: &[&str]) -> Result<Option<String>, AllocError> {
-    let given = given(alloc, words)?;
+/// Returns what the arguments ask for; `None` if they ask for nothing.
+fn asked(alloc: Global, arguments: &[&str]) -> Result<Option<String>, AllocError> {
+    let given = given(alloc, arguments)?;
     let Ok(matches) = matches_of(alloc, given.as_slice()) else {
         return Ok(None);
     };
@@ -203,12 +240,12 @@ fn asked(alloc: Global, words: &[&str]) -> Result<Option<String>, AllocError> {
 }
 
 #[test]
-fn words_ask_for_a_command(rt: HostRuntime) -> Result<(), Fail> {
-    for (words, expected) in &ASKED {
-        let found = asked(rt.alloc(), words)?;
+fn arguments_ask_for_a_command(rt: HostRuntime) -> Result<(), Fail> {
+    for (arguments, expected) in &ASKED {
+        let found = asked(rt.alloc(), arguments)?;
         if found.as_deref() != Some(*expected) {
             return Err(Fail::new(format_args!(
-                "{words:?}: found {found:?}, expected {expected:?}"
+                "{arguments:?}: found {found:?}, expected {expected:?}"
             )));
         }
     }
@@ -216,11 +253,11 @@ fn words_ask_for_a_command(rt: HostRuntime) -> Result<(), Fail> {
 }
 
 #[test]
-fn other_words_ask_for_nothing(rt: HostRuntime) -> Result<(), Fail> {
-    for words in &REFUSED {
-        let found = asked(rt.alloc(), words)?;
+fn wrong_arguments_ask_for_nothing(rt: HostRuntime) -> Result<(), Fail> {
+    for arguments in &WRONG {
+        let found = asked(rt.alloc(), arguments)?;
         if found.is_some() {
-            return Err(Fail::new(format_args!("{words:?}: found {found:?}, expected nothing")));
+            return Err(Fail::new(format_args!("{arguments:?}: found {found:?}, expected nothing")));
         }
     }
     Ok(())

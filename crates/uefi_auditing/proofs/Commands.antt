@@ -1,5 +1,5 @@
 -- The commands in the data of events.
-use Rattle.std.proofs.Common.{IsTrue, ◌↔◌, ◌≡◌, ◌∙◌, ℕ, zero, suc, ◌<◌, List, [], ◌∷◌, ◌++◌, get_or, ap, sym, refl, subst, arith, Bor}
+use Rattle.std.proofs.Common.{IsTrue, ◌↔◌, ◌≡◌, ◌∙◌, ℕ, zero, suc, List, [], ◌∷◌, ◌++◌, get_or, ap, sym, refl, subst, arith, Bor}
 use Rattle.std.specs.Prelude.{Bool, true, false, not, is_some, ◌≢◌, ◌==◌, MatchOption, Option, None, Some, codes, if◌then◌else◌}
 use Rattle.std.specs.List.{Contains}
 use Rattle.std.proofs.lemmas.List.{append_cancel_left, append_cancel_right}

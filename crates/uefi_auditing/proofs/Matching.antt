@@ -1,9 +1,9 @@
 -- Whether an event matches in a form, by the bytes that its data measure in it.
-use Rattle.std.proofs.Common.{◌≡◌, ◌∙◌, ◌↔◌, ℕ, suc, ◌+◌, ◌<◌, ◌≤◌, List, [], ◌∷◌, ◌++◌, length, take, drop, get_or, append-nil, ap, sym, refl, subst, arith, IsTrue}
-use Rattle.std.specs.Prelude.{Bool, true, false, Some, None}
+use Rattle.std.proofs.Common.{◌≡◌, ◌∙◌, ◌↔◌, ℕ, suc, ◌+◌, ◌<◌, ◌≤◌, List, [], ◌∷◌, ◌++◌, length, take, drop, get_or, append-nil, ap, sym, refl, subst, IsTrue}
+use Rattle.std.specs.Prelude.{Bool, false, Some, None}
 use Rattle.std.proofs.lemmas.Bool.{true≢false}
-use Rattle.std.proofs.lemmas.List.{append_cancel_right, append_assoc, take-append-drop}
-use Rattle.std.proofs.Math.Seq.{drop-cons, take-suc}
+use Rattle.std.proofs.lemmas.List.{append_cancel_right, take-append-drop}
+use Rattle.std.proofs.Math.Seq.{drop-cons}
 use Rattle.std.proofs.lemmas.List.Elements.{All-more}
 use Rattle.uefi_tcg.specs.content.Laws.{OneEncoded}
 use Rattle.uefi_tcg.specs.content.Reading.{Reads}

@@ -1,6 +1,6 @@
 -- Bytes as units of UTF-16.
 use Rattle.std.proofs.Common.{◌≡◌, ◌∙◌, ℕ, List, [], ◌∷◌, ◌++◌, drop, length, append_assoc, append-nil, get_or, ap, sym, subst, refl, arith}
-use Rattle.std.specs.Prelude.{◌==◌, true, false}
+use Rattle.std.specs.Prelude.{◌==◌, false}
 use Rattle.std.proofs.lemmas.Bool.{true≢false}
 use Rattle.std.proofs.lemmas.Grind.{flat_map-append}
 use Rattle.uefi_auditing.specs.Check.{widened}

@@ -1,5 +1,5 @@
 -- What the digests of an event are the hash of, by the event's type (TCG PC Client Platform Firmware Profile 1.06, 10.4.1; for `EV_IPL` what GRUB, shim and systemd-stub measure).
-use Rattle.std.specs.Prelude.{ℕ, ◌≡◌, ◌⊎◌, ◌==◌, ◌||◌, ◌&&◌, not, Bool, true, false, List, [], ◌∷◌, ◌++◌, codes, flat_map, Option, None, Some, if◌then◌else◌}
+use Rattle.std.specs.Prelude.{ℕ, ◌≡◌, ◌⊎◌, ◌==◌, ◌||◌, ◌&&◌, not, Bool, true, List, [], ◌∷◌, ◌++◌, codes, flat_map, Some, if◌then◌else◌}
 use Rattle.std.specs.List.{All, Contains, list_all, list_any}
 use Rattle.uefi_tcg.specs.content.Variable.{Variable, ReadsVariable}
 use Rattle.uefi_tcg.specs.v2.Event.{Event}
@@ -23,6 +23,10 @@ measures_data = is_one_of (0x04 ∷ 0x05 ∷ 0x06 ∷ 0x08 ∷ 0x0a ∷ 0x0b ∷
 -- `EV_EFI_VARIABLE_BOOT` and `EV_EFI_VARIABLE_BOOT2`: firmware measures the variable's value, or the whole structure.
 abbrev pub measures_value : ℕ → Bool
 measures_value = is_one_of (0x80000002 ∷ 0x8000000c ∷ [])
+
+-- `EV_EVENT_TAG`, whose data are tagged.
+abbrev pub measures_tagged : ℕ → Bool
+measures_tagged event_type = event_type == 0x06
 
 -- `EV_IPL`, whose data are a text.
 abbrev pub measures_text : ℕ → Bool
@@ -83,9 +87,13 @@ IsFirstMatch event forms form = (before : List Form) × (after : List Form) × (
 abbrev pub MayNameFile : Event → Type 0
 MayNameFile event = (measures_text event.event_type ≡ true) × ((command : List ℕ) → IsCommand event.event_data command → ⊥)
 
--- The log doesn't have what was measured: the event's type has no forms, or the event may name a file.
+-- The data may name what was measured, which isn't in the log: Linux's stub and systemd-stub tag the options of a loaded image and the initial RAM disk by their names, and a text may name a file.
+abbrev pub MayMeasureOther : Event → Type 0
+MayMeasureOther event = (measures_tagged event.event_type ≡ true) ⊎ MayNameFile event
+
+-- The log doesn't have what was measured: the event's type has no forms, or the event may measure something else than its data.
 abbrev pub IsOutside : Event → Type 0
-IsOutside event = (forms_of event.event_type ≡ []) ⊎ MayNameFile event
+IsOutside event = (forms_of event.event_type ≡ []) ⊎ MayMeasureOther event
 
 -- What is said of an event.
 abbrev pub IsChecked : Event → Checked → Type 0

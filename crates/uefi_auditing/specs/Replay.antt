@@ -2,7 +2,7 @@
 use Rattle.std.specs.Prelude.{List, [], ◌∷◌, Option, None, Some}
 use Rattle.std.specs.List.{filter}
 use Rattle.pcr_replay.specs.declared.bank.Bank.{Bank}
-use Rattle.pcr_replay.specs.declared.bank.Bank.TheVariants.{Sha1, Sha256, Sha384, Sha512}
+use Rattle.pcr_replay.specs.declared.bank.Bank.TheVariants.{Sha1, Sha256, Sha384, Sha512, Sm3}
 use Rattle.pcr_replay.specs.declared.start.Start.{Start}
 use Rattle.pcr_replay.specs.Entries.{Entry}
 use Rattle.pcr_replay.specs.Replay.{Outcome, is_active, outcomes}
@@ -20,7 +20,7 @@ replayed start entries bank = record { bank = bank; outcomes = outcomes bank sta
 
 -- All banks that can be replayed, in the order of their algorithms' numbers.
 abbrev pub all_banks : List Bank
-all_banks = Sha1 ∷ Sha256 ∷ Sha384 ∷ Sha512 ∷ []
+all_banks = Sha1 ∷ Sha256 ∷ Sha384 ∷ Sha512 ∷ Sm3 ∷ []
 
 -- Those that are active in a log.
 abbrev pub active_banks : List Entry → List Bank

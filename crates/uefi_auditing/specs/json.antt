@@ -9,3 +9,5 @@ pub mod Content
 pub mod Event
 pub mod Events
 pub mod Replay
+pub mod Verdict
+pub mod Diff

@@ -5,4 +5,3 @@ pub mod Pcrs
 pub mod Undetermined
 pub mod Trailing
 pub mod Remarks
-pub mod Faults

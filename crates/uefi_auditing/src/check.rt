@@ -5,7 +5,7 @@
 ghost use Rattle.std.specs.Prelude.{◌≡◌, ◌↔◌, ◌++◌, IfOk, IsTrue, MatchOption};
 ghost use Rattle.std.specs.List.{list_all};
 ghost use Rattle.pcr_replay.specs.Views.{event_of};
-ghost use Rattle.uefi_auditing.specs.Check.{agrees, are_hashes, has_digests, IsChecked, IsFirstMatch, MatchesBy, MatchesNoneOf, MayNameFile};
+ghost use Rattle.uefi_auditing.specs.Check.{agrees, are_hashes, has_digests, IsChecked, IsFirstMatch, MatchesBy, MatchesNoneOf, MayMeasureOther, MayNameFile, measures_tagged};
 ghost use Rattle.uefi_auditing.specs.Replay.{all_banks};
 ghost use Rattle.uefi_auditing.specs.declared.check.form.Form.TheVariants.{Command, Narrowed, VariableValue, WithoutNul};
 
@@ -26,6 +26,9 @@ mod line;
 mod measured;
 mod summary;
 
+/// The number of the type `EV_EVENT_TAG`.
+const EVENT_TAG: u32 = 0x06;
+
 /// What the digests of an event say of its data.
 #[derive(Clone, Copy, PartialEq, Eq, Debug)]
 pub enum Checked {
@@ -42,6 +45,10 @@ pub enum Checked {
 /// the type's forms. An event matches if each of its digests does that is of a bank in
 /// [`Bank::ALL`], and it has one.
 ///
+/// An event that matches in none of the forms may measure something else than its data, which the
+/// log doesn't have: a file that a text of `EV_IPL` names, or what the data of `EV_EVENT_TAG` name,
+/// such as the initial RAM disk that Linux's stub measures.
+///
 /// # Errors
 ///
 /// [`AllocError`] if an allocation fails.
@@ -52,7 +59,7 @@ pub fn check(alloc: Global, event: &LogEvent<'_>) -> Result<Checked, AllocError>
     if let Some(form) = first_match(alloc, event, forms)? {
         return Ok(Checked::Matches(form));
     }
-    if forms.is_empty() || may_name_file(event) {
+    if forms.is_empty() || may_measure_other(event) {
         return Ok(Checked::NotInLog);
     }
     Ok(Checked::MatchesNone)
@@ -74,6 +81,21 @@ fn first_match(
         }
     }
     Ok(None)
+}
+
+/// Returns whether the data of an event may name what was measured: they are tagged, or a text that
+/// is no command.
+fn may_measure_other(event: &LogEvent<'_>) -> bool
+    ensures { IsTrue result ↔ MayMeasureOther (event_of event.now) }
+{
+    is_tagged(event) || may_name_file(event)
+}
+
+/// Returns whether an event has the type of tagged data.
+fn is_tagged(event: &LogEvent<'_>) -> bool
+    ensures { result ≡ measures_tagged (event_of event.now).event_type }
+{
+    event.event_type().0 == EVENT_TAG
 }
 
 /// Returns whether an event has the type of a text, and the text is no command.

@@ -2,14 +2,18 @@
 //!
 //! [`push_events`] appends the events of a log, a line each, and [`event_line`] returns the line of
 //! one event. [`push_replay_json`] appends one line for a log: the PCRs that it leads to, by
-//! banks, and why some are undetermined.
+//! banks, and why some are undetermined. [`push_verdict_json`] appends one line that says whether a
+//! log leads to the PCRs that a TPM held.
 //!
 //! A line is the text without spaces of a value, with each object's keys in order (`specs/json`).
 //! No control character is in it: in a string each is `\u` and four hex digits.
 
 pub use self::event::event_line;
+pub(crate) use self::event::type_json;
 pub use self::events::push_events;
+pub(crate) use self::line::line_of;
 pub use self::replay::push_replay_json;
+pub use self::verdict::push_verdict_json;
 
 mod bank;
 pub(crate) mod content;
@@ -19,3 +23,4 @@ mod events;
 mod line;
 pub(crate) mod names;
 mod replay;
+mod verdict;

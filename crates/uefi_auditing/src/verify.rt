@@ -2,8 +2,9 @@
 //!
 //! [`held_in_text`] reads PCRs from a text, [`held_in_file`] one PCR from its file in Linux's
 //! sysfs. [`PcrSelection`] says which of them are asked for. [`held_banks`] are the banks that have
-//! to be replayed, and [`push_verdict`] appends whether the PCRs are those that the log leads to.
-//! [`nearest`] serves a log that doesn't say how PCR 0 starts.
+//! to be replayed. [`push_verdict`] appends whether the PCRs are those that the log leads to, and
+//! [`push_verdict_json`](crate::json::push_verdict_json) appends it as JSON. [`nearest`] serves a
+//! log that doesn't say how PCR 0 starts.
 //!
 //! The contracts say what text is read as which PCRs, and where another text is wrong
 //! (`specs/verify/Reading.antt`); which text selects which PCRs (`specs/verify/Selection.antt`);
@@ -17,7 +18,7 @@ pub use self::selection::PcrSelection;
 pub use self::verdict::push_verdict;
 
 mod banks;
-mod comparison;
+pub(crate) mod comparison;
 mod held;
 pub mod laws;
 mod line;

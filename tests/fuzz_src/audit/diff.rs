@@ -1,6 +1,7 @@
-//! How the events of two logs differ, register by register (docs/AUDIT.md, docs/FORMATS.md).
+//! How the events of two logs differ, PCR by PCR (docs/AUDIT.md).
 
 use super::log::{Event, Log};
+use super::type_name;
 use std::collections::HashSet;
 
 /// The registers from 0 on; those from this one on are compared as one.
@@ -29,9 +30,18 @@ fn of_register<'a>(register: u32, log: &'a Log<'a>) -> Vec<Numbered<'a>> {
     events.filter(|(_, event)| event.register.min(REGISTERS) == register).collect()
 }
 
-/// Where an event stands.
-fn place((index, event): Numbered<'_>, name: &str) -> String {
-    format!("register {}: event {index} at offset {} of {name}", event.register, event.offset)
+/// The type of an event and where it is.
+fn named((index, event): Numbered<'_>, name: &str) -> String {
+    let kind = match type_name(event.kind) {
+        Some(kind) => format!("EV_{kind}"),
+        None => format!("type {:#x}", event.kind),
+    };
+    format!("{kind} (event {index} at offset {} of {name})", event.offset)
+}
+
+/// What a line begins with.
+fn place(event: Numbered<'_>, name: &str) -> String {
+    format!("PCR {}: {}", event.1.register, named(event, name))
 }
 
 /// The line of the first event in which lists of events differ, if they do.
@@ -43,9 +53,9 @@ fn first_line(
     let same = pairs.take_while(|(old, new)| identity(old) == identity(new)).count();
     match (old.get(same), new.get(same)) {
         (None, None) => None,
-        (Some(old), Some((index, event))) => {
-            let (place, offset) = (place(*old, old_name), event.offset);
-            Some(format!("{place} differs from event {index} at offset {offset} of {new_name}\n"))
+        (Some(old), Some(new)) => {
+            let (place, other) = (place(*old, old_name), named(*new, new_name));
+            Some(format!("{place} differs from {other}\n"))
         }
         (Some(old), None) => {
             Some(format!("{} comes after the last one of {new_name}\n", place(*old, old_name)))
@@ -57,13 +67,13 @@ fn first_line(
 }
 
 /// The lines of the events that the other log doesn't have.
-fn only_lines(name: &str, events: &[Numbered<'_>], others: &[Numbered<'_>]) -> String {
+fn only_lines(
+    (name, events): (&str, &[Numbered<'_>]),
+    (other, others): (&str, &[Numbered<'_>]),
+) -> String {
     let others: HashSet<Identity<'_>> = others.iter().map(identity).collect();
     let alone = events.iter().filter(|it| !others.contains(&identity(it)));
-    let line = |(index, event): &Numbered<'_>| {
-        let Event { register, offset, .. } = event;
-        format!("register {register}: only {name} has event {index} at offset {offset}\n")
-    };
+    let line = |event: &Numbered<'_>| format!("{} isn't in {other}\n", place(*event, name));
     alone.map(line).collect()
 }
 
@@ -74,7 +84,8 @@ pub fn lines(old: Named<'_>, new: Named<'_>) -> String {
         let Some(first) = first_line((old.name, &olds), (new.name, &news)) else {
             return String::new();
         };
-        first + &only_lines(old.name, &olds, &news) + &only_lines(new.name, &news, &olds)
+        let (olds, news) = ((old.name, olds.as_slice()), (new.name, news.as_slice()));
+        first + &only_lines(olds, news) + &only_lines(news, olds)
     };
     (0..=REGISTERS).map(of_one).collect()
 }

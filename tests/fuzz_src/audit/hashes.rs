@@ -1,4 +1,4 @@
-//! SHA-1 and SHA-2 (FIPS 180-4), as plainly as they are written there.
+//! SHA-1 and SHA-2 (FIPS 180-4) and SM3 (GB/T 32905-2016), as plainly as they are written there.
 
 /// The message in blocks: with a one bit, zeros, and its length in bits at the end.
 fn padded(message: &[u8], block: usize) -> Vec<u8> {
@@ -35,6 +35,43 @@ pub fn sha1(message: &[u8]) -> Vec<u8> {
         }
         for (value, more) in state.iter_mut().zip([a, b, c, d, e]) {
             *value = value.wrapping_add(more);
+        }
+    }
+    state.iter().flat_map(|word| word.to_be_bytes()).collect()
+}
+
+pub fn sm3(message: &[u8]) -> Vec<u8> {
+    let mut state = [
+        0x7380_166fu32, 0x4914_b2b9, 0x1724_42d7, 0xda8a_0600, 0xa96f_30bc, 0x1631_38aa, 0xe38d_ee4d,
+        0xb0fb_0e4e,
+    ];
+    for block in padded(message, 64).chunks_exact(64) {
+        let mut words: Vec<u32> =
+            block.chunks_exact(4).map(|it| u32::from_be_bytes(it.try_into().unwrap())).collect();
+        for j in 16..68 {
+            let mixed = words[j - 16] ^ words[j - 9] ^ words[j - 3].rotate_left(15);
+            let mixed = mixed ^ mixed.rotate_left(15) ^ mixed.rotate_left(23);
+            words.push(mixed ^ words[j - 13].rotate_left(7) ^ words[j - 6]);
+        }
+        let [mut a, mut b, mut c, mut d, mut e, mut f, mut g, mut h] = state;
+        for j in 0..64 {
+            let constant = if j < 16 { 0x79cc_4519u32 } else { 0x7a87_9d8a };
+            let sum = a.rotate_left(12).wrapping_add(e).wrapping_add(constant.rotate_left(j % 32));
+            let first = sum.rotate_left(7);
+            let second = first ^ a.rotate_left(12);
+            let (x, y) = if j < 16 {
+                (a ^ b ^ c, e ^ f ^ g)
+            } else {
+                ((a & b) | (a & c) | (b & c), (e & f) | (!e & g))
+            };
+            let (word, other) = (words[j as usize], words[j as usize + 4]);
+            let one = x.wrapping_add(d).wrapping_add(second).wrapping_add(word ^ other);
+            let two = y.wrapping_add(h).wrapping_add(first).wrapping_add(word);
+            (a, b, c, d) = (one, a, b.rotate_left(9), c);
+            (e, f, g, h) = (two ^ two.rotate_left(9) ^ two.rotate_left(17), e, f.rotate_left(19), g);
+        }
+        for (value, more) in state.iter_mut().zip([a, b, c, d, e, f, g, h]) {
+            *value ^= more;
         }
     }
     state.iter().flat_map(|word| word.to_be_bytes()).collect()

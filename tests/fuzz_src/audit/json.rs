@@ -14,7 +14,12 @@ pub fn text(text: &str) -> String {
         '\n' => "\\n".to_owned(),
         '\u{c}' => "\\f".to_owned(),
         '\r' => "\\r".to_owned(),
-        '\0'..' ' => format!("\\u{:04x}", u32::from(c)),
+        '\0'..' '
+        | '\u{7f}'..='\u{9f}'
+        | '\u{61c}'
+        | '\u{200e}'..='\u{200f}'
+        | '\u{2028}'..='\u{202e}'
+        | '\u{2066}'..='\u{2069}' => format!("\\u{:04x}", u32::from(c)),
         _ => c.to_string(),
     };
     let inner: String = text.chars().map(escaped).collect();

@@ -1,7 +1,8 @@
-//! What plain Rust expects a run of the program `uefi_audit` to end with: its registers, its events,
-//! its JSON and how two logs differ, over the plain [`readers`](crate::readers) of logs and hash
+//! What plain Rust expects a run of the program `uefi_audit` to end with: its PCRs, its events, its
+//! JSON, which digests are the hash of what was measured, and how two logs differ, over the plain [`readers`](crate::readers) of logs and hash
 //! functions of its own.
 
+mod check;
 mod content;
 mod diff;
 mod hashes;
@@ -13,18 +14,25 @@ use crate::program::{Ending, other_name};
 use diff::Named;
 use hashes::Sha2;
 use json::{hex, text};
-use log::{BANKS, Event, Log, hash, replay};
+use log::{BANKS, Event, LastEntry, Log, NO_ACTION, Outcome, hash, replay};
+use std::collections::BTreeSet;
 use std::sync::LazyLock;
 
 static SHA2: LazyLock<Sha2> = LazyLock::new(Sha2::new);
 
+/// How many rows a table may have.
+const MAX_ROWS: usize = 256;
+/// The status of a run over a log that can't be judged.
+const UNJUDGED: i32 = 4;
+
 /// The commands, each with its words. Without the second word of the first, most mutations would be
 /// refused for the bytes that they leave over.
-pub const COMMANDS: [(&str, &[&str]); 6] = [
+pub const COMMANDS: [(&str, &[&str]); 7] = [
     ("replay", &["replay", "--allow-left-over"]),
     ("whole", &["replay"]),
     ("json", &["replay", "--json", "--allow-left-over"]),
     ("events", &["events", "--allow-left-over"]),
+    ("check", &["check", "--allow-left-over"]),
     ("diff", &["diff", "--allow-left-over"]),
     ("whole_diff", &["diff"]),
 ];
@@ -49,79 +57,150 @@ pub fn words(command: &str, third_word: Option<&[u8]>, file: &str) -> Vec<Vec<u8
     words
 }
 
-/// What a run ends with, whose file has this name. The last entry of a log is the length of its file
-/// if none is given.
+/// What a run ends with, whose file has this name.
 pub fn ending(command: &str, input: &Input, given: Option<Option<usize>>, file: &str) -> Ending {
-    let bytes = input.bytes.as_slice();
-    let log = log::read(bytes, given.unwrap_or(Some(bytes.len())));
-    let (output, is_well) = match command {
-        "events" => (events(&log, file), true),
-        "json" => json_line(&log, bytes, file),
-        "whole" if log.end < bytes.len() => (left_over(&log, bytes, file), false),
-        "diff" | "whole_diff" => {
-            let other = log::read(&input.other, given.unwrap_or(Some(input.other.len())));
-            let lines = differences((&log, bytes), (&other, &input.other), file, command == "diff");
-            let is_same = lines.is_empty();
-            (lines, is_same)
-        }
-        _ => registers(&log, file),
+    let last_entry = match given {
+        None => LastEntry::Unknown,
+        Some(None) => LastEntry::Empty,
+        Some(Some(offset)) => LastEntry::At(offset),
     };
-    Ending { status: i32::from(!is_well), output: output.into_bytes(), message: Vec::new() }
+    let (_, words) = COMMANDS.iter().find(|it| it.0 == command).expect("a command of the program");
+    let allows = words.contains(&"--allow-left-over");
+    let log = log::read(&input.bytes, last_entry);
+    let (mut message, mut status) = judge(&log, file, allows);
+    let mut output = String::new();
+    if takes_two(command) {
+        let (name, other) = (other_name(file), log::read(&input.other, last_entry));
+        let (told, judged) = judge(&other, &name, allows);
+        message += &told;
+        status = status.max(judged);
+        if is_read(&log, allows) && is_read(&other, allows) {
+            output = diff::lines(Named { name: file, log: &log }, Named { name: &name, log: &other });
+            status = status.max(i32::from(!output.is_empty()));
+        }
+    } else if is_read(&log, allows) {
+        let (lines, told, found) = shown(words[0], words.contains(&"--json"), &log, file);
+        (output, status) = (lines, status.max(found));
+        message += &told;
+    }
+    Ending { status, output: output.into_bytes(), message: message.into_bytes() }
 }
 
-/// The line of the bytes that a log leaves over, if it does.
-fn left_over(log: &Log<'_>, bytes: &[u8], file: &str) -> String {
-    match bytes.len().checked_sub(log.end) {
-        None | Some(0) => String::new(),
-        Some(count) => format!("{file}: {count} bytes are left over at offset {}\n", log.end),
+/// Whether a log's events are read.
+fn is_read(log: &Log<'_>, allows_left_over: bool) -> bool {
+    log.algorithms.len() <= MAX_ROWS && (allows_left_over || log.left_over == 0)
+}
+
+/// What standard error is told of a log, and the status that follows.
+fn judge(log: &Log<'_>, file: &str, allows_left_over: bool) -> (String, i32) {
+    let (rows, end) = (log.algorithms.len(), log.end);
+    if rows > MAX_ROWS {
+        let most = format!("and at most {MAX_ROWS} are read (--max-rows)");
+        return (format!("{file}: its header has {rows} algorithms, {most}\n"), UNJUDGED);
+    }
+    let mut told = String::new();
+    if log.padding > 0 {
+        told += &format!("{file}: {} bytes of padding at offset {end}\n", log.padding);
+    }
+    if log.left_over > 0 {
+        told += &format!("{file}: {} bytes are left over at offset {end}\n", log.left_over);
+        if !allows_left_over {
+            return (told, UNJUDGED);
+        }
+    }
+    if log.events.iter().any(Event::is_measured) {
+        return (told, 0);
+    }
+    (told + &format!("{file}: nothing was measured\n"), UNJUDGED)
+}
+
+/// What a command prints of a log whose events are read, what standard error is told, and the status.
+fn shown(command: &str, is_json: bool, log: &Log<'_>, file: &str) -> (String, String, i32) {
+    match command {
+        "events" => (events(log, file), String::new(), 0),
+        "check" => {
+            let (lines, all_match) = check::lines(log, file);
+            (lines, String::new(), i32::from(!all_match))
+        }
+        _ => {
+            let found = replays(log);
+            let (told, status) = told_of(log, &found, file);
+            let lines = if is_json { json_line(log, &found, file) } else { listing(&found) };
+            (lines, told, status)
+        }
     }
 }
 
-/// How two logs differ, or what they leave over where that isn't allowed.
-fn differences<'a>(
-    (old, old_bytes): (&'a Log<'a>, &[u8]),
-    (new, new_bytes): (&'a Log<'a>, &[u8]),
-    file: &str,
-    allows_left_over: bool,
-) -> String {
-    let other = other_name(file);
-    let refusals = left_over(old, old_bytes, file) + &left_over(new, new_bytes, &other);
-    if allows_left_over || refusals.is_empty() {
-        diff::lines(Named { name: file, log: old }, Named { name: &other, log: new })
-    } else {
-        refusals
-    }
+/// The PCRs of each active bank.
+fn replays(log: &Log<'_>) -> Vec<(&'static str, Vec<Outcome>)> {
+    let active = BANKS.iter().filter(|bank| log.is_active(bank.1));
+    active.map(|bank| (bank.0, replay(log, &SHA2, *bank))).collect()
 }
 
-/// The registers of each bank as `tpm2_pcrread` prints them.
-fn registers(log: &Log<'_>, file: &str) -> (String, bool) {
-    let (mut lines, mut is_well) = (String::new(), true);
-    for algorithm in &log.algorithms {
-        let Some(bank) = BANKS.iter().find(|bank| bank.1 == *algorithm) else {
-            lines += &format!("{file}: the bank of algorithm {algorithm} can't be replayed\n");
-            is_well = false;
+/// What standard error is told of a replay, and the status that follows.
+fn told_of(log: &Log<'_>, found: &[(&str, Vec<Outcome>)], file: &str) -> (String, i32) {
+    let mut told = String::new();
+    if log.locality().is_none() {
+        told += &format!("{file}: states no locality; PCR 0 starts at locality 0\n");
+    }
+    for (bank, algorithm, _) in BANKS {
+        if log.algorithms.contains(&algorithm) && !log.is_active(algorithm) {
+            told += &format!("{file}: no event has a digest of the bank {bank}\n");
+        }
+    }
+    let is_known = |algorithm: &u16| BANKS.iter().any(|bank| bank.1 == *algorithm);
+    let others: BTreeSet<u16> = log.algorithms.iter().copied().filter(|it| !is_known(it)).collect();
+    if !others.is_empty() {
+        let others: Vec<String> = others.iter().map(|it| format!("{it:#04x}")).collect();
+        told += &format!("{file}: not supported: the bank of algorithm {}\n", others.join(", "));
+    }
+    let mut status = if found.is_empty() { UNJUDGED } else { 0 };
+    for (bank, outcomes) in found {
+        for (pcr, outcome) in outcomes.iter().enumerate() {
+            let Err((index, fault)) = outcome else { continue };
+            let at = format!("event {index} at offset {}", log.events[*index].offset);
+            told += &format!("{file}: {bank}: PCR {pcr} is undetermined: {at} {fault}\n");
+            status = UNJUDGED;
+        }
+    }
+    let (ignored, differs) = ignored(log, file);
+    (told + &ignored, status.max(i32::from(differs)))
+}
+
+/// The lines of events that have no effect and should have, and whether one is of a PCR that no TPM has.
+fn ignored(log: &Log<'_>, file: &str) -> (String, bool) {
+    let (mut lines, mut is_any_of_no_pcr) = (String::new(), false);
+    for (index, event) in log.events.iter().enumerate() {
+        let Event { offset, register, .. } = event;
+        let why = if event.kind != NO_ACTION && *register > 23 {
+            is_any_of_no_pcr = true;
+            format!("is of PCR {register}, which no TPM has")
+        } else if event.kind == NO_ACTION && *register != 0 && log::locality(event.data).is_some() {
+            "states the locality, and isn't of PCR 0".to_owned()
+        } else {
             continue;
         };
-        match replay(log, &SHA2, *bank) {
-            Ok(values) => {
-                lines += &format!("  {}:\n", bank.0);
-                for (number, value) in values.iter().enumerate() {
-                    lines += &format!("    {number:<2}: 0x{}\n", hex(value).to_uppercase());
-                }
-            }
-            Err((index, fault)) => {
-                let (name, offset) = (bank.0, log.events[index].offset);
-                lines += &format!("{file}: {name}: event {index} at offset {offset} {fault}\n");
-                is_well = false;
-            }
+        lines += &format!("{file}: event {index} at offset {offset} {why}\n");
+    }
+    (lines, is_any_of_no_pcr)
+}
+
+/// The PCRs of each bank as `tpm2_pcrread` prints them.
+fn listing(found: &[(&str, Vec<Outcome>)]) -> String {
+    let mut lines = String::new();
+    for (bank, outcomes) in found {
+        lines += &format!("  {bank}:\n");
+        for (number, outcome) in outcomes.iter().enumerate() {
+            let value = outcome.as_ref().map(|value| format!("0x{}", hex(value).to_uppercase()));
+            lines += &format!("    {number:<2}: {}\n", value.unwrap_or("undetermined".to_owned()));
         }
     }
-    (lines, is_well)
+    lines
 }
 
 /// The name of an algorithm between quotation marks, or its number.
 fn algorithm_json(algorithm: u16) -> String {
-    let others = [("sm3_256", 0x12), ("sha3_256", 0x27), ("sha3_384", 0x28), ("sha3_512", 0x29)];
+    let others = [("sha3_256", 0x27), ("sha3_384", 0x28), ("sha3_512", 0x29)];
     let mut named = BANKS.iter().map(|bank| (bank.0, bank.1)).chain(others);
     match named.find(|it| it.1 == algorithm) {
         Some((name, _)) => text(name),
@@ -129,36 +208,33 @@ fn algorithm_json(algorithm: u16) -> String {
     }
 }
 
-fn json_line(log: &Log<'_>, bytes: &[u8], file: &str) -> (String, bool) {
-    let (mut banks, mut is_well) = (Vec::new(), true);
-    for algorithm in &log.algorithms {
-        let outcome =
-            BANKS.iter().find(|bank| bank.1 == *algorithm).map(|bank| replay(log, &SHA2, *bank));
-        let (fault, values) = match &outcome {
-            Some(Ok(values)) => {
-                let values: Vec<String> = values.iter().map(|it| text(&hex(it))).collect();
-                ("null".to_owned(), format!("[{}]", values.join(",")))
-            }
-            Some(Err((index, reason))) => {
-                let (offset, reason) = (log.events[*index].offset, text(reason));
-                let fault =
-                    format!("{{\"index\":{index},\"offset\":{offset},\"reason\":{reason}}}");
-                (fault, "null".to_owned())
-            }
-            None => ("null".to_owned(), "null".to_owned()),
+fn json_line(log: &Log<'_>, found: &[(&str, Vec<Outcome>)], file: &str) -> String {
+    let bank = |(bank, outcomes): &(&str, Vec<Outcome>)| {
+        let value = |it: &Outcome| it.as_ref().map_or("null".to_owned(), |value| text(&hex(value)));
+        let values: Vec<String> = outcomes.iter().map(value).collect();
+        let undetermined = |(register, it): (usize, &Outcome)| {
+            let (index, reason) = it.as_ref().err()?;
+            let (offset, reason) = (log.events[*index].offset, text(reason));
+            let place = format!("\"index\":{index},\"offset\":{offset}");
+            Some(format!("{{{place},\"reason\":{reason},\"register\":{register}}}"))
         };
-        is_well &= matches!(outcome, Some(Ok(_)));
-        let algorithm = algorithm_json(*algorithm);
-        banks.push(format!(
-            "{{\"algorithm\":{algorithm},\"fault\":{fault},\"registers\":{values}}}"
-        ));
-    }
-    let left_over = match bytes.len().checked_sub(log.end) {
-        None | Some(0) => "null".to_owned(),
-        Some(count) => format!("{{\"count\":{count},\"offset\":{}}}", log.end),
+        let others: Vec<String> = outcomes.iter().enumerate().filter_map(undetermined).collect();
+        let (values, others) = (values.join(","), others.join(","));
+        format!("{{\"algorithm\":\"{bank}\",\"registers\":[{values}],\"undetermined\":[{others}]}}")
     };
-    let (banks, name) = (banks.join(","), text(file));
-    (format!("{{\"banks\":[{banks}],\"left_over\":{left_over},\"log\":{name}}}\n"), is_well)
+    let part = |count: usize| match count {
+        0 => "null".to_owned(),
+        _ => format!("{{\"count\":{count},\"offset\":{}}}", log.end),
+    };
+    let banks: Vec<String> = found.iter().map(bank).collect();
+    let (banks, left_over, padding) = (banks.join(","), part(log.left_over), part(log.padding));
+    let (locality, name) = (log.locality(), text(file));
+    let (number, stated) = (locality.unwrap_or(0), locality.is_some());
+    let locality = format!("{{\"number\":{number},\"stated\":{stated}}}");
+    format!(
+        "{{\"banks\":[{banks}],\"left_over\":{left_over},\"locality\":{locality},\"log\":{name},\
+         \"padding\":{padding}}}\n"
+    )
 }
 
 fn events(log: &Log<'_>, file: &str) -> String {
@@ -172,12 +248,7 @@ fn event_line(index: usize, event: &Event<'_>, file: &str) -> String {
         format!("{{\"algorithm\":{algorithm},\"digest\":\"{digest}\"}}")
     };
     let digests: Vec<String> = event.digests.iter().map(digest).collect();
-    let hashes = BANKS.iter().filter(|bank| {
-        let mut of_bank = event.digests.iter().filter(|it| it.0 == bank.1);
-        let digest = of_bank.next();
-        let is_alone = of_bank.next().is_none();
-        is_alone && digest.is_some_and(|it| it.1 == hash(&SHA2, bank.1, event.data))
-    });
+    let hashes = BANKS.iter().filter(|bank| is_hash(event, bank.1, event.data));
     let hashes: Vec<String> = hashes.map(|bank| text(bank.0)).collect();
     let name = type_name(event.kind).map(|name| format!("\"name\":\"EV_{name}\","));
     let (content, data, name) = (content::content(event), hex(event.data), name.unwrap_or_default());
@@ -190,8 +261,14 @@ fn event_line(index: usize, event: &Event<'_>, file: &str) -> String {
     )
 }
 
+/// Whether an event has one digest of an algorithm, which is the hash of this message.
+fn is_hash(event: &Event<'_>, algorithm: u16, message: &[u8]) -> bool {
+    let digests: Vec<_> = event.digests.iter().filter(|it| it.0 == algorithm).collect();
+    matches!(digests.as_slice(), [(_, digest)] if *digest == hash(&SHA2, algorithm, message))
+}
+
 /// The name of a type without `EV_` (TCG PC Client Platform Firmware Profile 1.06, 10.4.1).
-fn type_name(kind: u32) -> Option<&'static str> {
+pub fn type_name(kind: u32) -> Option<&'static str> {
     const TYPES: &str = "PREBOOT_CERT POST_CODE UNUSED NO_ACTION SEPARATOR ACTION EVENT_TAG \
         S_CRTM_CONTENTS S_CRTM_VERSION CPU_MICROCODE PLATFORM_CONFIG_FLAGS TABLE_OF_DEVICES \
         COMPACT_HASH IPL IPL_PARTITION_DATA NONHOST_CODE NONHOST_CONFIG NONHOST_INFO \

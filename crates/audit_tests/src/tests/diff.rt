@@ -5,6 +5,8 @@ use test_support::{bytes, same_text};
 use uefi_auditing::diff::push_differences;
 use uefi_auditing::text::LogFile;
 
+mod json_lines;
+
 /// Two logs, and the lines of how they differ.
 struct Row {
     old: &'static str,

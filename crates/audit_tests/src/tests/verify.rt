@@ -2,6 +2,7 @@ use std::alloc::Global;
 use std::test::Fail;
 use test_support::same_text;
 
+mod json;
 mod nearest;
 mod reading;
 mod selection;

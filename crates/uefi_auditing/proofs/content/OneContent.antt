@@ -1,7 +1,7 @@
 -- Data of a form say one thing.
 use Rattle.std.proofs.Common.{◌≡◌, ℕ, List, [], ◌++◌, sym, refl, ap, ◌∙◌, Bool, true, false, Option, Some, None, subst}
 use Rattle.uefi_path.specs.Laws.{OneFront}
-use Rattle.uefi_path.specs.Node.{Node, joined}
+use Rattle.uefi_path.specs.Node.{joined}
 use Rattle.uefi_path.specs.Path.{IsPath}
 use Rattle.uefi_tcg.specs.content.Blob.{IsBlob, IsDescribedBlob, blob_bytes, described_bytes}
 use Rattle.uefi_tcg.specs.content.CrtmVersion.{IsCrtmVersion, crtm_version_bytes}

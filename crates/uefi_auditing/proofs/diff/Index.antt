@@ -1,6 +1,6 @@
 -- The keys of the events of entries.
 use Rattle.std.proofs.Common.{◌≡◌, ◌∙◌, ℕ, zero, suc, ◌+◌, ◌<◌, List, [], ◌∷◌, ◌++◌, length, get_or, map, take, ap, inl, inr, refl, sym, subst}
-use Rattle.std.specs.Prelude.{◌↔◌, ◌⊎◌, Bool, true, false, cond, Option, None, Some, slice_get}
+use Rattle.std.specs.Prelude.{◌↔◌, ◌⊎◌, Bool, true, false, cond, Some}
 use Rattle.std.specs.BTreeSet.{BTreeSet, contains}
 use Rattle.std.specs.Ordering.{is_eq}
 use Rattle.std.proofs.lemmas.List.{map_more}
@@ -8,9 +8,8 @@ use Rattle.uefi_tcg.specs.v2.Event.{Event}
 use Rattle.pcr_replay.specs.Views.{event_of}
 use Rattle.uefi_auditing.specs.declared.diff.order.EventKey.{EventKey}
 use Rattle.uefi_auditing.specs.declared.diff.pcr.NumberedEntry.{NumberedEntry}
-use Rattle.uefi_auditing.specs.diff.Differences.{IsAmong, Numbered, event_at, event_in}
+use Rattle.uefi_auditing.specs.diff.Differences.{IsAmong, Numbered, event_in}
 use Rattle.uefi_auditing.specs.private.diff.Index.{AreKeysOf, key_cmp}
-use Rattle.uefi_auditing.specs.private.diff.Order.{event_cmp}
 use Rattle.uefi_auditing.specs.private.diff.Views.{keyed_event, numbered_of}
 use Rattle.uefi_auditing.proofs.diff.Orders.{equal_if_same}
 

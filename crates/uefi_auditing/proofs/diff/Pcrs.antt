@@ -1,20 +1,54 @@
 -- The events of a PCR, and where two lists of them differ first.
-use Rattle.std.proofs.Common.{◌≡◌, ◌∙◌, ℕ, suc, zero, ◌+◌, ◌<◌, max, List, [], ◌∷◌, length, map, ap, ap₂, sym}
+use Rattle.std.proofs.Common.{◌≡◌, ◌∙◌, ℕ, suc, ◌+◌, ◌<◌, max, List, [], ◌∷◌, ◌++◌, length, map, take, ap, ap₂, sym, append-nil}
 use Rattle.std.proofs.Common.{get_or, arith, inl, inr, refl, subst}
-use Rattle.std.specs.Prelude.{◌↔◌, Bool, MatchBool, true, false, Option, None, Some, IfSome, is_some, nat_lt, option_map, slice_get}
+use Rattle.std.specs.Prelude.{Bool, true, false, Option, None, Some, IfSome, is_some, nat_lt, option_map, slice_get}
 use Rattle.std.specs.Borrow.{Bor}
-use Rattle.std.specs.List.{AllWithin, HoldsAt, filter}
+use Rattle.std.specs.List.{filter}
 use Rattle.std.proofs.lemmas.Bool.{cases_lt, ltb-false, ltb-true}
+use Rattle.std.proofs.lemmas.List.{map-append, map_more}
+use Rattle.std.proofs.lemmas.List.Elements.{filter-append}
 use Rattle.std.proofs.lemmas.Option.{slice_get-map, slice_get_past, slice_get_read}
-use Rattle.pcr_replay.specs.Entries.{Entry}
-use Rattle.pcr_replay.specs.Views.{event_of}
-use Rattle.uefi_tcg.specs.v2.Event.{Event}
-use Rattle.uefi_auditing.specs.diff.Differences.{IsAmong, Numbered, event_at, event_in, events_in, is_of, numbered}
+use Rattle.pcr_replay.specs.Views.{entry_of, event_of}
+use Rattle.uefi_auditing.specs.diff.Differences.{Numbered, event_at, event_in, events_in, is_of, of_pcr}
 use Rattle.uefi_auditing.specs.private.diff.Views.{numbered_of}
 use Rattle.uefi_auditing.specs.declared.diff.pcr.NumberedEntry.{NumberedEntry}
 
-abbrev pub those_of : ℕ → ℕ → List Entry → List Numbered
-those_of pcr index entries = filter (λ found. is_of pcr found.entry) (numbered index entries)
+passing : (passes : Numbered → Bool) (item : Numbered) → passes item ≡ true → filter passes (item ∷ []) ≡ item ∷ []
+passing passes item pass = simp pass refl
+
+not_passing : (passes : Numbered → Bool) (item : Numbered) → passes item ≡ false → filter passes (item ∷ []) ≡ []
+not_passing passes item pass = simp pass refl
+
+-- One more of those of a PCR; and one that is of another.
+kept : {A B : Type 0} (f : A → B) (passes : B → Bool) (all : List A) (index : ℕ) (default : A) → index < length all
+    → filter passes (map f (take (index + 1) all))
+    ≡ filter passes (map f (take index all)) ++ filter passes (f (get_or all index default) ∷ [])
+kept f passes all index default within =
+    ap (filter passes) (map_more f all index default within)
+    ∙ filter-append passes (map f (take index all)) (f (get_or all index default) ∷ [])
+
+pub one_kept : (pcr : ℕ) (all found new : List NumberedEntry) (index : ℕ) (item : NumberedEntry) (is_its : Bool)
+    → index < length all → map numbered_of found ≡ of_pcr pcr (map numbered_of (take index all))
+    → item ≡ get_or all index item → is_its ≡ is_of pcr (entry_of item.entry) → is_its ≡ true → new ≡ found ++ item ∷ []
+    → map numbered_of new ≡ of_pcr pcr (map numbered_of (take (index + 1) all))
+one_kept pcr all found new index item is_its within before is test its pushed =
+    let of_it : is_of pcr (entry_of item.entry) ≡ true = sym test ∙ its in
+    ap (map numbered_of) pushed ∙ map-append numbered_of found (item ∷ [])
+    ∙ ap₂ (λ a b. a ++ b) before (sym (passing (λ (found : Numbered). is_of pcr found.entry) (numbered_of item) of_it)
+    ∙ ap (λ (it : NumberedEntry). of_pcr pcr (numbered_of it ∷ [])) is)
+    ∙ sym (kept numbered_of (λ (found : Numbered). is_of pcr found.entry) all index item within)
+
+pub none_kept : (pcr : ℕ) (all found : List NumberedEntry) (index : ℕ) (item : NumberedEntry) (is_its : Bool)
+    → index < length all → map numbered_of found ≡ of_pcr pcr (map numbered_of (take index all))
+    → item ≡ get_or all index item → is_its ≡ is_of pcr (entry_of item.entry) → is_its ≡ false
+    → map numbered_of found ≡ of_pcr pcr (map numbered_of (take (index + 1) all))
+none_kept pcr all found index item is_its within before is test other =
+    let of_other : is_of pcr (entry_of item.entry) ≡ false = sym test ∙ other in
+    before ∙ sym (append-nil (of_pcr pcr (map numbered_of (take index all))))
+    ∙ ap (λ b. of_pcr pcr (map numbered_of (take index all)) ++ b)
+    (sym (not_passing (λ (found : Numbered). is_of pcr found.entry) (numbered_of item) of_other)
+    ∙ ap (λ (it : NumberedEntry). of_pcr pcr (numbered_of it ∷ [])) is)
+    ∙ sym (kept numbered_of (λ (found : Numbered). is_of pcr found.entry) all index item within)
 
 -- What holds below a number and at it holds below the next one.
 pub below_more : (P : ℕ → Type 0) (n : ℕ) → ((k : ℕ) → k < n → P k) → P n → (k : ℕ) → k < n + 1 → P k

@@ -1,6 +1,6 @@
 -- Controls have four hex digits.
 use Rattle.std.proofs.Common.{◌≡◌, ℕ, ◌<◌, arith, refl}
-use Rattle.std.specs.Prelude.{◌==◌, ◌&&◌, ◌||◌, Bool, true, false, nat_le}
+use Rattle.std.specs.Prelude.{◌||◌, Bool, true, false}
 use Rattle.std.proofs.lemmas.Bool.{eqb-true}
 use Rattle.std.proofs.lemmas.Bool.Decides.{nat_tests}
 use Rattle.uefi_auditing.specs.text.Names.{is_between, is_control}

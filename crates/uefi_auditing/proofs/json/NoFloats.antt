@@ -1,6 +1,7 @@
 -- No number of an event's JSON is a float.
 use Rattle.std.proofs.Common.{◌≡◌, ℕ, List, [], ◌∷◌, ◌++◌, map, refl, Bool, false, true, cond, ◌||◌, Option, Some, None}
-use Rattle.serde_json.specs.Data.{Data, string}
+use Rattle.std.specs.Prelude.{codes}
+use Rattle.serde_json.specs.Data.{Data, Members, number, unsigned, string, object, member, no_members}
 use Rattle.serde_json.specs.View.{items_of}
 use Rattle.serde_json.specs.Written.{has_float, items_have_float}
 use Rattle.uefi_tcg.specs.v2.Event.{Digest, Event}
@@ -20,7 +21,7 @@ typed : (name : Option (List ℕ)) (n : ℕ) → has_float (named_number name n)
 typed (Some name) n = refl
 typed None n = refl
 
-event_type : (n : ℕ) → has_float (type_json n) ≡ false
+pub event_type : (n : ℕ) → has_float (type_json n) ≡ false
 unfolding type_json
 event_type n = typed (type_name n) n
 

@@ -1,7 +1,7 @@
 -- No number of a log's JSON is a float.
 use Rattle.std.proofs.Common.{◌≡◌, ℕ, ◌+◌, List, [], ◌∷◌, map, refl, Bool, false, true, ◌==◌, cond, length}
 use Rattle.std.specs.Prelude.{Ok, Err, codes}
-use Rattle.serde_json.specs.Data.{Data, null, number, unsigned, object, member, no_members}
+use Rattle.serde_json.specs.Data.{null, number, unsigned, object, member, no_members}
 use Rattle.serde_json.specs.View.{items_of}
 use Rattle.serde_json.specs.Written.{has_float, items_have_float}
 use Rattle.pcr_replay.specs.declared.start.Start.{Start}

@@ -1,5 +1,5 @@
 -- The object of a log, from its parts.
-use Rattle.std.proofs.Common.{◌≡◌, ◌∙◌, ℕ, ◌-◌, ◌<◌, List, [], ◌∷◌, ◌++◌, length, ap, arith, refl, sym}
+use Rattle.std.proofs.Common.{◌≡◌, ◌∙◌, ℕ, ◌-◌, ◌<◌, List, [], ◌∷◌, length, ap, arith, refl}
 use Rattle.std.specs.Prelude.{◌==◌, ◌||◌, Bool}
 use Rattle.serde_json.specs.Data.{Data}
 use Rattle.pcr_replay.specs.declared.log.Log.{Log}

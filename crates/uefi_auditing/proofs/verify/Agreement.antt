@@ -1,7 +1,7 @@
 -- The verdict on PCRs is agreement exactly if the log leads to each of them.
-use Rattle.std.proofs.Common.{◌≡◌, ◌∙◌, ℕ, zero, suc, ◌+◌, List, [], ◌∷◌, ◌++◌, length, map, drop, get_or, ap, ap₂, zero-add, sym, refl, subst, arith}
+use Rattle.std.proofs.Common.{◌≡◌, ◌∙◌, ℕ, zero, suc, ◌+◌, List, [], ◌∷◌, length, map, drop, get_or, ap, ap₂, zero-add, sym, refl, arith}
 use Rattle.std.specs.Prelude.{◌↔◌, ◌==◌, ◌&&◌, ◌||◌, ◌<◌, ◌≤◌, count_by, not, Bool, true, false, cond, slice_get, Option, None, Some, Ok, Err}
-use Rattle.std.specs.List.{All, filter, list_all, list_any}
+use Rattle.std.specs.List.{filter, list_all, list_any}
 use Rattle.std.specs.Option.{option_and_then}
 use Rattle.std.specs.Cmp.Lexicographic.{bytes_decides}
 use Rattle.std.proofs.lemmas.Bool.{and_right, eqb-true, ne_eqb}
@@ -9,7 +9,7 @@ use Rattle.std.proofs.lemmas.List.Sums.{AllPass-from_list_all, list_all-from_All
 use Rattle.std.proofs.Math.ListN.{drop_of_length-le}
 use Rattle.std.proofs.Math.Seq.{drop-cons}
 use Rattle.pcr_replay.specs.declared.bank.Bank.{Bank}
-use Rattle.pcr_replay.specs.declared.bank.Bank.TheVariants.{Sha1, Sha256, Sha384, Sha512}
+use Rattle.pcr_replay.specs.declared.bank.Bank.TheVariants.{Sha1, Sha256, Sha384, Sha512, Sm3}
 use Rattle.pcr_replay.specs.declared.start.Start.{Start}
 use Rattle.pcr_replay.specs.Banks.{algorithm_of}
 use Rattle.pcr_replay.specs.Entries.{Entry}
@@ -20,7 +20,7 @@ use Rattle.uefi_auditing.specs.declared.verify.held.HeldPcr.{HeldPcr}
 use Rattle.uefi_auditing.specs.Replay.{BankOutcomes, all_banks, bank_outcomes_of, replayed}
 use Rattle.uefi_auditing.specs.text.Banks.{bank_of}
 use Rattle.uefi_auditing.specs.verify.Banks.{held_banks, is_held, is_same_bank}
-use Rattle.uefi_auditing.specs.verify.Verdict.{Agree, AgreeByVerdict, agrees, differs, is_agreement, is_undetermined, is_value, led_to, outcomes_in, undetermined, verdict_of}
+use Rattle.uefi_auditing.specs.verify.Verdict.{AgreeByVerdict, agrees, differs, is_agreement, is_undetermined, is_value, led_to, outcomes_in, undetermined, verdict_of}
 
 -- One bank that isn't the one which is sought, and the one which is.
 one_then_rest : (replays : List BankPcrs) (index : ℕ) (item : BankPcrs) → index < length replays
@@ -60,6 +60,7 @@ bank_by Sha1 = refl
 bank_by Sha256 = refl
 bank_by Sha384 = refl
 bank_by Sha512 = refl
+bank_by Sm3 = refl
 
 same_bank : (one other : Bank) → is_same_bank one other ≡ true → one ≡ other
 same_bank one other same =
@@ -104,6 +105,7 @@ among_all Sha1 = refl
 among_all Sha256 = refl
 among_all Sha384 = refl
 among_all Sha512 = refl
+among_all Sm3 = refl
 
 its_bank_is_held : (bank : Bank) (held : List HeldPcr) → is_held held bank ≡ true
     → list_any (λ one. is_same_bank one bank) (held_banks held) ≡ true
@@ -114,6 +116,7 @@ same_itself Sha1 = refl
 same_itself Sha256 = refl
 same_itself Sha384 = refl
 same_itself Sha512 = refl
+same_itself Sm3 = refl
 
 -- The verdict is agreement exactly if all agree.
 never_both : (value : List ℕ) (outcome : Option Outcome) → is_value value outcome ≡ true

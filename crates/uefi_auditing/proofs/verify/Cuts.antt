@@ -1,5 +1,5 @@
 -- Where a text is cut.
-use Rattle.std.proofs.Common.{◌≡◌, ◌∙◌, ℕ, suc, ◌<◌, List, [], ◌∷◌, ◌++◌, length, ap, ap₂, arith, refl, sym, subst}
+use Rattle.std.proofs.Common.{◌≡◌, ◌∙◌, ℕ, suc, List, [], ◌∷◌, ◌++◌, ap₂, arith, refl, sym, subst}
 use Rattle.uefi_auditing.specs.verify.Reading.{Lacks}
 use Rattle.uefi_auditing.specs.verify.Selection.{IsCut}
 

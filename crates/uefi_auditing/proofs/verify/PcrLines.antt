@@ -1,8 +1,7 @@
 -- The lines of PCRs: each states one.
-use Rattle.std.proofs.Common.{◌≡◌, ◌∙◌, ℕ, List, [], ◌∷◌, ◌++◌, ap, sym, subst, inl, inr, true, false, arith, Bool, get_or}
-use Rattle.std.specs.Prelude.{Option, Some, None, MatchOption, codes, is_some, ◌↔◌}
+use Rattle.std.proofs.Common.{◌≡◌, ◌∙◌, ℕ, List, [], ◌∷◌, ◌++◌, ap, sym, inl, inr, true, false, Bool}
+use Rattle.std.specs.Prelude.{Option, Some, None, MatchOption, is_some, ◌↔◌}
 use Rattle.std.specs.Borrow.{Bor}
-use Rattle.std.specs.List.{All}
 use Rattle.pcr_replay.specs.declared.bank.Bank.{Bank}
 use Rattle.uefi_auditing.specs.declared.verify.held.HeldPcr.{HeldPcr}
 use Rattle.uefi_auditing.specs.declared.verify.held.Section.{Section}

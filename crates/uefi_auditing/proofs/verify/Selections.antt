@@ -1,14 +1,12 @@
 -- What a text selects.
-use Rattle.std.proofs.Common.{◌≡◌, ◌∙◌, ℕ, zero, suc, ◌≤◌, ◌<◌, ◌+◌, List, [], ◌∷◌, ◌++◌, length, ap, ap₂, arith, append_assoc, append-nil, get_or, inl, inr, refl, sym, subst}
-use Rattle.std.specs.Prelude.{Bool, true, false, ◌||◌, ◌&&◌, nat_le, nat_lt, Option, Some, None, MatchOption, IfNone, replicate}
-use Rattle.std.specs.List.{list_any}
-use Rattle.std.proofs.lemmas.Bool.Decides.{nat_tests}
+use Rattle.std.proofs.Common.{◌≡◌, ◌∙◌, ℕ, zero, suc, ◌≤◌, ◌<◌, List, [], ◌∷◌, ◌++◌, ap, ap₂, arith, append_assoc, get_or, inl, inr, refl, sym, subst}
+use Rattle.std.specs.Prelude.{Bool, true, false, ◌||◌, Option, Some, None, MatchOption, IfNone, replicate}
 use Rattle.std.proofs.lemmas.List.Folds.{list_any-append}
 use Rattle.pcr_replay.specs.declared.bank.Bank.{Bank}
 use Rattle.uefi_auditing.specs.text.Banks.{bank_name}
 use Rattle.uefi_auditing.specs.declared.verify.selection.Range.{Range}
 use Rattle.uefi_auditing.specs.verify.Reading.{Lacks}
-use Rattle.uefi_auditing.specs.verify.Selection.{AreFromTo, AreItems, AreNamed, IsCut, IsItem, IsPcrNumber, IsSelection, is_in, is_named}
+use Rattle.uefi_auditing.specs.verify.Selection.{AreItems, AreNamed, IsCut, IsItem, IsPcrNumber, IsSelection, is_in, is_named}
 use Rattle.uefi_auditing.proofs.verify.Cuts.{cuts_agree, no_cut}
 
 -- A text has one number.

@@ -1,5 +1,5 @@
 -- Device paths in the data of events.
-use Rattle.std.specs.Prelude.{ℕ, ◌≡◌, List, Option, Some, None}
+use Rattle.std.specs.Prelude.{ℕ, List, Option}
 use Rattle.uefi_path.specs.Node.{Node, joined}
 use Rattle.uefi_path.specs.Path.{IsPath}
 use Rattle.uefi_tcg.specs.content.Reading.{Reads}

@@ -27,8 +27,8 @@ numbered index (entry ∷ entries) = record { index = index; entry = entry } ∷
 abbrev pub is_of : ℕ → Entry → Bool
 is_of pcr entry = min entry.event.pcr_index 24 == pcr
 
-abbrev pub of_pcr : ℕ → List Entry → List Numbered
-of_pcr pcr entries = filter (λ found. is_of pcr found.entry) (numbered 0 entries)
+abbrev pub of_pcr : ℕ → List Numbered → List Numbered
+of_pcr pcr all = filter (λ found. is_of pcr found.entry) all
 
 -- Their PCRs, their types, their events, and the event at a place, if there is one.
 abbrev pub pcr_of : Numbered → ℕ
@@ -90,6 +90,15 @@ first_line old_name (Some old) new_name None = last_line old_name old new_name
 first_line old_name None new_name (Some new) = last_line new_name new old_name
 first_line old_name None new_name None = []
 
+-- Those entries, in order, whose events aren't among the others.
+abbrev pub WithIfOnly : List Numbered → Numbered → List Numbered → List Numbered → Type 0
+WithIfOnly others found rest only =
+    (IsAmong (event_in found) others × (only ≡ rest)) ⊎ ((IsAmong (event_in found) others → ⊥) × (only ≡ found ∷ rest))
+
+abbrev pub AreThoseOnly : List Numbered → List Numbered → List Numbered → Type 0
+AreThoseOnly others [] only = only ≡ []
+AreThoseOnly others (found ∷ more) only = (rest : List Numbered) × WithIfOnly others found rest only × AreThoseOnly others more rest
+
 -- The line of an entry, if its event isn't among the others, which are of the other log; and those of entries in order.
 abbrev pub IsOnlyLine : List ℕ → List ℕ → List Numbered → Numbered → List ℕ → Type 0
 IsOnlyLine name other_name others found line =
@@ -123,18 +132,22 @@ abbrev pub ShowsPcr : List ℕ → List ℕ → List Numbered → List Numbered 
 ShowsPcr old_name new_name old new text same =
     AreSame old new text same ⊎ Differ old_name new_name old new text same
 
--- The same of all PCRs below a number, one after another; and whether the events of all are the same.
-abbrev pub ShowsBelow : ℕ → List ℕ → List ℕ → List Entry → List Entry → List ℕ → Bool → Type 0
-ShowsBelow zero old_name new_name old new text same = (text ≡ []) × (same ≡ true)
-ShowsBelow (suc pcr) old_name new_name old new text same =
+-- What is shown of all PCRs below a number, one after another; and whether the events of all are the same.
+abbrev pub ShowsBelow : (ℕ → List Numbered → List Numbered → List ℕ → Bool → Type 0) → ℕ → List Numbered → List Numbered
+    → List ℕ → Bool → Type 0
+ShowsBelow Shows zero old new text same = (text ≡ []) × (same ≡ true)
+ShowsBelow Shows (suc pcr) old new text same =
     (before : List ℕ) × (all_before : Bool) × (lines : List ℕ) × (is_same : Bool)
-    × ShowsBelow pcr old_name new_name old new before all_before
-    × ShowsPcr old_name new_name (of_pcr pcr old) (of_pcr pcr new) lines is_same
+    × ShowsBelow Shows pcr old new before all_before × Shows pcr (of_pcr pcr old) (of_pcr pcr new) lines is_same
     × (text ≡ before ++ lines) × (same ≡ (all_before && is_same))
 
--- What `diff` prints of the one log that each file is: of the PCRs 0 to 23, and of those above.
+-- Of the one log that each file is: of the PCRs 0 to 23, and of those above.
+abbrev pub ShowsAll : (ℕ → List Numbered → List Numbered → List ℕ → Bool → Type 0) → Contents → Contents → List ℕ → Bool → Type 0
+ShowsAll Shows old new text same = ShowsBelow Shows 25 (numbered 0 old.entries) (numbered 0 new.entries) text same
+
+-- What `diff` prints.
 abbrev pub IsDiff : List ℕ → List ℕ → Contents → Contents → List ℕ → Bool → Type 0
-IsDiff old_name new_name old new text same = ShowsBelow 25 old_name new_name old.entries new.entries text same
+IsDiff old_name new_name = ShowsAll (λ pcr. ShowsPcr old_name new_name)
 
 -- The string grew by it.
 abbrev pub AppendsDifferences : LogFile → LogFile → String Global → String Global → Bool → Type 0

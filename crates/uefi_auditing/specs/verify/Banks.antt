@@ -1,5 +1,5 @@
 -- Banks that are compared.
-use Rattle.std.specs.Prelude.{ℕ, ◌==◌, Bool, List}
+use Rattle.std.specs.Prelude.{◌==◌, Bool, List}
 use Rattle.std.specs.List.{filter, list_any}
 use Rattle.pcr_replay.specs.declared.bank.Bank.{Bank}
 use Rattle.pcr_replay.specs.Banks.{algorithm_of}

@@ -1,7 +1,7 @@
 -- Which PCRs the option `--pcrs` selects: `0-7,14` in all banks, `sha256:0,7` in one.
-use Rattle.std.specs.Prelude.{ℕ, ◌≡◌, ◌≢◌, ◌⊎◌, ◌+◌, ◌-◌, ◌≤◌, ◌<◌, ◌&&◌, nat_le, Bool, true, false, if◌then◌else◌}
+use Rattle.std.specs.Prelude.{ℕ, ◌≡◌, ◌⊎◌, ◌-◌, ◌≤◌, ◌<◌, ◌&&◌, nat_le, Bool, true, false, if◌then◌else◌}
 use Rattle.std.specs.Prelude.{List, [], ◌∷◌, ◌++◌, slice_index_or, Option, None, Some}
-use Rattle.std.specs.List.{All, list_any}
+use Rattle.std.specs.List.{list_any}
 use Rattle.pcr_replay.specs.declared.bank.Bank.{Bank}
 use Rattle.pcr_replay.specs.Replay.{pcr_count}
 use Rattle.uefi_auditing.specs.text.Banks.{bank_name}

@@ -1,6 +1,6 @@
 -- Whether the PCRs that a TPM held are those that a log leads to, and what `uefi_audit verify` prints of it.
 use Rattle.std.specs.Prelude.{ℕ, zero, suc, ◌≡◌, ◌↔◌, ◌==◌, ◌&&◌, not, Bool, true, false, IsTrue, List, [], ◌∷◌, ◌++◌, length, map, slice_get, codes}
-use Rattle.std.specs.Prelude.{count_by, flat_map, nat_lt, Option, None, Some, Result, Ok, Err, if◌then◌else◌}
+use Rattle.std.specs.Prelude.{count_by, flat_map, nat_lt, Option, None, Some, Ok, Err, if◌then◌else◌}
 use Rattle.std.specs.List.{All, IsFirstBest}
 use Rattle.std.specs.Option.{option_and_then}
 use Rattle.std.specs.Str.{bytes_eq}
@@ -14,7 +14,7 @@ use Rattle.pcr_replay.specs.Replay.{Outcome, outcomes}
 use Rattle.pcr_replay.specs.Views.{value_of}
 use Rattle.uefi_auditing.specs.Replay.{BankOutcomes, replayed}
 use Rattle.uefi_auditing.specs.text.Banks.{bank_name}
-use Rattle.uefi_auditing.specs.text.Faults.{fault_text}
+use Rattle.uefi_auditing.specs.text.Undetermined.{fault_text}
 use Rattle.uefi_auditing.specs.declared.verify.held.HeldPcr.{HeldPcr}
 use Rattle.uefi_auditing.specs.declared.verify.comparison.Verdict.{Verdict}
 use Rattle.uefi_auditing.specs.verify.Banks.{held_banks, is_same_bank}

@@ -4,11 +4,10 @@
 
 use crate::check::Form;
 use crate::check::summary::{CheckSummary, TypeCounts};
-use crate::json::names::type_name;
+use crate::json::{line_of, type_json};
 use pcr_replay::LogEvent;
-use serde_json::{Map, Value, json, put};
+use serde_json::{Map, Value, put};
 use std::alloc::{AllocError, Global};
-use uefi_tcg::EventType;
 
 /// Returns an event that matches in none of its type's forms as one line of JSON, without a line's
 /// end.
@@ -40,7 +39,7 @@ pub fn mismatch_line(
     put(&mut members, alloc, "register", Value::from(register))?;
     let event_type = type_json(alloc, event.event_type())?;
     put(&mut members, alloc, "type", event_type)?;
-    Value::Object(members).to_string(alloc)
+    line_of(alloc, &Value::Object(members))
 }
 
 /// Returns the counts of each type as one line of JSON, without a line's end: an object with the
@@ -71,7 +70,7 @@ pub fn check_summary_line(
     put(&mut members, alloc, "checked", Value::Array(types))?;
     let log = Value::try_from_str(alloc, log)?;
     put(&mut members, alloc, "log", log)?;
-    Value::Object(members).to_string(alloc)
+    line_of(alloc, &Value::Object(members))
 }
 
 /// Returns the counts of a type.
@@ -105,13 +104,4 @@ fn forms_json(alloc: Global, counts: &TypeCounts) -> Result<Value, AllocError> {
         }
     }
     Ok(Value::Object(members))
-}
-
-/// Returns a type: its name, if it has one, and its number.
-fn type_json(alloc: Global, event_type: EventType) -> Result<Value, AllocError> {
-    let number = event_type.0;
-    match type_name(event_type) {
-        Some(name) => json!(in alloc; {"name": name, "number": number}),
-        None => json!(in alloc; {"number": number}),
-    }
 }

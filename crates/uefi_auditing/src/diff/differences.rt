@@ -1,17 +1,17 @@
 ghost use Rattle.std.specs.Prelude.{◌≡◌, map, IfOk};
-ghost use Rattle.uefi_auditing.specs.diff.Differences.{AppendsDifferences};
-ghost use Rattle.uefi_auditing.specs.private.diff.Appending.{AppendsCompared, AppendsPcr};
+ghost use Rattle.uefi_auditing.specs.diff.Differences.{AppendsDifferences, ShowsPcr, of_pcr};
+ghost use Rattle.uefi_auditing.specs.private.diff.Appending.{AppendsBelow, AppendsCompared};
 ghost use Rattle.uefi_auditing.specs.private.diff.Views.{numbered_of};
 
 use crate::diff::lines::push_first;
 use crate::diff::only::push_only;
-use crate::diff::pcr::{NumberedEntry, entries_of, first_difference};
+use crate::diff::pcr::{NumberedEntry, entries_of, first_difference, numbered_entries};
 use crate::text::LogFile;
 use pcr_replay::laws::one_contents;
 use std::alloc::{AllocError, Global};
 
 /// How many PCRs are compared: the 24 that a TPM has, and those above as one.
-const COMPARED: u32 = 25;
+pub(crate) const COMPARED: u32 = 25;
 
 /// Appends how the events of two logs differ, PCR by PCR, those above 23 together: a line
 /// for the first event in which they differ, one for each event that only the old log has, and one
@@ -34,9 +34,34 @@ pub fn push_differences<'a>(
 ) -> Result<bool, AllocError>
     ensures { IfOk result (AppendsDifferences old.now new.now text.old text.new) }
 {
+    one_contents();
+    let olds = numbered_entries(alloc, old.log.entries())?;
+    let news = numbered_entries(alloc, new.log.entries())?;
+    push_each(
+        text,
+        alloc,
+        old.name,
+        olds.as_slice(),
+        new.name,
+        news.as_slice(),
+    )
+}
+
+/// Appends how the events of each PCR differ, and returns whether those of all are the same.
+fn push_each<'a>(
+    text: &mut String,
+    alloc: Global,
+    old_name: &str,
+    olds: &[NumberedEntry<'a>],
+    new_name: &str,
+    news: &[NumberedEntry<'a>],
+) -> Result<bool, AllocError>
+    ensures { IfOk result (AppendsBelow (λ pcr. ShowsPcr old_name.now new_name.now)
+        (map numbered_of olds.now) (map numbered_of news.now) 25 text.old text.new) }
+{
     let mut same = true;
     for pcr in 0..COMPARED {
-        same &= push_pcr(text, alloc, old, new, pcr)?;
+        same &= push_pcr(text, alloc, old_name, olds, new_name, news, pcr)?;
     }
     Ok(same)
 }
@@ -45,21 +70,24 @@ pub fn push_differences<'a>(
 fn push_pcr<'a>(
     text: &mut String,
     alloc: Global,
-    old: &LogFile<'a>,
-    new: &LogFile<'a>,
+    old_name: &str,
+    olds: &[NumberedEntry<'a>],
+    new_name: &str,
+    news: &[NumberedEntry<'a>],
     pcr: u32,
 ) -> Result<bool, AllocError>
-    ensures { IfOk result (AppendsPcr old.now new.now pcr text.old text.new) }
+    ensures { IfOk result (AppendsCompared old_name.now new_name.now
+        (of_pcr pcr (map numbered_of olds.now)) (of_pcr pcr (map numbered_of news.now))
+        text.old text.new) }
 {
-    one_contents();
-    let olds = entries_of(alloc, old.log.entries(), pcr)?;
-    let news = entries_of(alloc, new.log.entries(), pcr)?;
+    let olds = entries_of(alloc, olds, pcr)?;
+    let news = entries_of(alloc, news, pcr)?;
     push_compared(
         text,
         alloc,
-        old.name,
+        old_name,
         olds.as_slice(),
-        new.name,
+        new_name,
         news.as_slice(),
     )
 }

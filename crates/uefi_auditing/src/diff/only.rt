@@ -1,6 +1,6 @@
 ghost use Rattle.std.specs.Prelude.{◌↔◌, [], ◌∷◌, List, map, IfOk, OnOk};
-ghost use Rattle.uefi_auditing.specs.diff.Differences.{Numbered};
-ghost use Rattle.uefi_auditing.specs.private.diff.Appending.{AppendsOnly};
+ghost use Rattle.uefi_auditing.specs.diff.Differences.{AreThoseOnly, Numbered};
+ghost use Rattle.uefi_auditing.specs.private.diff.Appending.{AddsIfOnly, AppendsOnly};
 ghost use Rattle.uefi_auditing.specs.private.diff.Index.{AreKeysOf};
 ghost use Rattle.uefi_auditing.specs.private.diff.Views.{numbered_of};
 
@@ -26,6 +26,40 @@ pub(crate) fn push_only<'a>(
     for entry in found {
         push_if_missing(text, name, entry, other_name, &keys)?;
     }
+    Ok(())
+}
+
+/// Returns the events of a log that the other log doesn't have, in order.
+pub(crate) fn those_only<'a>(
+    alloc: Global,
+    found: &[NumberedEntry<'a>],
+    others: &[NumberedEntry<'a>],
+) -> Result<Vec<NumberedEntry<'a>>, AllocError>
+    ensures { IfOk result (λ only. AreThoseOnly (map numbered_of others.now)
+        (map numbered_of found.now) (map numbered_of only.items)) }
+{
+    let keys = keys_of(alloc, others)?;
+    let mut only = Vec::new(alloc);
+    for entry in found {
+        push_if_only(&mut only, entry, &keys)?;
+    }
+    Ok(only)
+}
+
+/// Appends an event, if it isn't among the others, whose keys these are.
+fn push_if_only<'a>(
+    only: &mut Vec<NumberedEntry<'a>>,
+    found: &NumberedEntry<'a>,
+    keys: &BTreeSet<EventKey<'a>>,
+) -> Result<(), AllocError>
+    ensures { (others : List Numbered) → AreKeysOf keys.now others
+        → OnOk result (AddsIfOnly others (numbered_of found.now)
+        (map numbered_of only.old.items) (map numbered_of only.new.items)) }
+{
+    if keys.contains(&EventKey::new(found.entry.event)) {
+        return Ok(());
+    }
+    only.push(*found)?;
     Ok(())
 }
 

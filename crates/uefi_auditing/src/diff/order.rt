@@ -5,7 +5,7 @@ ghost use Rattle.std.specs.Cmp.Lexicographic.{slice_cmp};
 ghost use Rattle.uefi_tcg.specs.v2.Views.{digests_of};
 ghost use Rattle.pcr_replay.specs.Entries.{with_sha1};
 ghost use Rattle.pcr_replay.specs.Views.{event_of};
-ghost use Rattle.uefi_auditing.specs.private.diff.Order.{digest_cmp, event_cmp, event_cmp_total};
+ghost use Rattle.uefi_auditing.specs.private.diff.Order.{content_cmp, digest_cmp, event_cmp, event_cmp_total, kind_cmp};
 
 use pcr_replay::LogEvent;
 use std::cmp::Ordering;
@@ -89,12 +89,33 @@ pub fn is_same_event(one: &LogEvent<'_>, other: &LogEvent<'_>) -> bool
 fn compare(one: &LogEvent<'_>, other: &LogEvent<'_>) -> Ordering
     ensures { result ≡ event_cmp (event_of one.now) (event_of other.now) }
 {
-    one.pcr_index()
-        .0
-        .cmp(&other.pcr_index().0)
-        .then_with(|| one.event_type().0.cmp(&other.event_type().0))
-        .then_with(|| one.event_data().cmp(other.event_data()))
-        .then_with(|| compare_digests(one, other))
+    let order = compare_kinds(one, other);
+    if order.is_ne() {
+        return order;
+    }
+    compare_contents(one, other)
+}
+
+/// Compares two events by PCR and type.
+fn compare_kinds(one: &LogEvent<'_>, other: &LogEvent<'_>) -> Ordering
+    ensures { result ≡ kind_cmp (event_of one.now) (event_of other.now) }
+{
+    let order = one.pcr_index().0.cmp(&other.pcr_index().0);
+    if order.is_ne() {
+        return order;
+    }
+    one.event_type().0.cmp(&other.event_type().0)
+}
+
+/// Compares two events by data and digests.
+fn compare_contents(one: &LogEvent<'_>, other: &LogEvent<'_>) -> Ordering
+    ensures { result ≡ content_cmp (event_of one.now) (event_of other.now) }
+{
+    let order = one.event_data().cmp(other.event_data());
+    if order.is_ne() {
+        return order;
+    }
+    compare_digests(one, other)
 }
 
 /// Compares the digests of two events.
@@ -105,9 +126,7 @@ fn compare_digests(one: &LogEvent<'_>, other: &LogEvent<'_>) -> Ordering
     match one {
         LogEvent::V1(one) => compare_sha1(one.digest().as_slice(), other),
         LogEvent::V2(one) => match other {
-            LogEvent::V1(other) => {
-                compare_with(other.digest().as_slice(), one.digests()).reverse()
-            }
+            LogEvent::V1(other) => compare_to_sha1(one.digests(), other.digest().as_slice()),
             LogEvent::V2(other) => compare_all(one.digests(), other.digests()),
         },
     }
@@ -139,6 +158,13 @@ fn compare_with(digest: &[u8], others: PcrEventDigests<'_>) -> Ordering
         Some(_) => Ordering::Less,
         None => Ordering::Equal,
     }
+}
+
+/// Compares digests with a digest of SHA-1.
+fn compare_to_sha1(digests: PcrEventDigests<'_>, digest: &[u8]) -> Ordering
+    ensures { result ≡ slice_cmp digest_cmp (digests_of digests.entry) (with_sha1 digest.now) }
+{
+    compare_with(digest, digests).reverse()
 }
 
 /// Compares digests with others, in order.

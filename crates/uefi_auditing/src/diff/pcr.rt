@@ -1,6 +1,6 @@
 ghost use Rattle.std.specs.Prelude.{◌≡◌, ◌↔◌, ◌<◌, ◌^◌, length, map, IfOk, IsTrue, MatchOption, option_map};
 ghost use Rattle.pcr_replay.specs.Views.{entries_left, entry_of, event_of};
-ghost use Rattle.uefi_auditing.specs.diff.Differences.{DifferAt, events_in, of_pcr, is_of};
+ghost use Rattle.uefi_auditing.specs.diff.Differences.{DifferAt, events_in, is_of, numbered, of_pcr};
 ghost use Rattle.uefi_auditing.specs.private.diff.Views.{numbered_of};
 
 use crate::diff::order::is_same_event;
@@ -8,7 +8,7 @@ use pcr_replay::{LogEntries, LogEntry};
 use std::alloc::{AllocError, Global};
 
 /// The PCR as which those above 23 are taken together.
-const ABOVE: u32 = 24;
+pub(crate) const ABOVE: u32 = 24;
 
 /// An event of a log with its index.
 #[derive(Clone, Copy)]
@@ -19,23 +19,38 @@ pub(crate) struct NumberedEntry<'a> {
     pub(crate) entry: LogEntry<'a>,
 }
 
-/// Returns the events of a PCR, in order; for PCR 24, those of all above 23.
-pub(crate) fn entries_of<'a>(
+/// Returns the events of a log, each with its index.
+pub(crate) fn numbered_entries<'a>(
     alloc: Global,
     entries: LogEntries<'a>,
-    pcr: u32,
 ) -> Result<Vec<NumberedEntry<'a>>, AllocError>
     requires { length (entries_left entries) < 2 ^ 64 }
     ensures { IfOk result (λ found.
-        map numbered_of found.items ≡ of_pcr pcr (entries_left entries.entry)) }
+        map numbered_of found.items ≡ numbered 0 (entries_left entries.entry)) }
 {
     let mut found = Vec::new(alloc);
     let mut index = 0;
     for entry in entries {
-        if is_of(pcr, &entry) {
-            found.push(NumberedEntry { index, entry })?;
-        }
+        found.push(NumberedEntry { index, entry })?;
         index += 1;
+    }
+    Ok(found)
+}
+
+/// Returns the events of a PCR among these, in order; for PCR 24, those of all above 23.
+pub(crate) fn entries_of<'a>(
+    alloc: Global,
+    all: &[NumberedEntry<'a>],
+    pcr: u32,
+) -> Result<Vec<NumberedEntry<'a>>, AllocError>
+    ensures { IfOk result (λ found.
+        map numbered_of found.items ≡ of_pcr pcr (map numbered_of all.now)) }
+{
+    let mut found = Vec::new(alloc);
+    for entry in all {
+        if is_of(pcr, &entry.entry) {
+            found.push(*entry)?;
+        }
     }
     Ok(found)
 }

@@ -121,11 +121,7 @@ fn push_if_undetermined(
 
 /// Returns the event by which a PCR is undetermined: its index, its offset, and why.
 #[tactic(auto, unfolding(crate::specs::json::Replay::undetermined_json))]
-fn undetermined_json(
-    alloc: Global,
-    register: usize,
-    at: &Undetermined,
-) -> Result<Value, AllocError>
+fn undetermined_json(alloc: Global, register: usize, at: &Undetermined) -> Result<Value, AllocError>
     ensures { IfOk result (λ value. view value ≡ undetermined_json register at.now) }
 {
     let (index, offset) = (at.index, at.offset);

@@ -132,7 +132,7 @@ pub(crate) fn hex_json(alloc: Global, bytes: &[u8]) -> Result<Value, AllocError>
 
 /// Returns a type: its name, if it has one, and its number.
 #[tactic(auto, unfolding(crate::specs::json::Event::type_json))]
-fn type_json(alloc: Global, event_type: EventType) -> Result<Value, AllocError>
+pub(crate) fn type_json(alloc: Global, event_type: EventType) -> Result<Value, AllocError>
     ensures { IfOk result (λ value. view value ≡ type_json event_type.0) }
 {
     let number = event_type.0;

@@ -6,7 +6,7 @@ use pcr_replay::Bank;
 use uefi_tcg::AlgorithmId;
 
 /// The names of the banks that can be replayed, as tpm2-tools has them.
-pub const BANK_NAMES: [&str; 4] = ["sha1", "sha256", "sha384", "sha512"];
+pub const BANK_NAMES: [&str; 5] = ["sha1", "sha256", "sha384", "sha512", "sm3_256"];
 
 /// Returns the name of a bank, as tpm2-tools has it.
 pub fn bank_name(bank: Bank) -> &'static str
@@ -17,6 +17,7 @@ pub fn bank_name(bank: Bank) -> &'static str
         Bank::Sha256 => "sha256",
         Bank::Sha384 => "sha384",
         Bank::Sha512 => "sha512",
+        Bank::Sm3 => "sm3_256",
     }
 }
 
@@ -30,6 +31,7 @@ pub fn bank_named(name: &str) -> Option<Bank>
         "sha256" => Some(Bank::Sha256),
         "sha384" => Some(Bank::Sha384),
         "sha512" => Some(Bank::Sha512),
+        "sm3_256" => Some(Bank::Sm3),
         _ => None,
     }
 }

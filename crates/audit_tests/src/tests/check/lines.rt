@@ -26,10 +26,14 @@ EV_IPL: 2 match (1 command, 1 narrowed), 0 don't match, 1 not in the log
 0x80000011: 0 match, 0 don't match, 1 not in the log
 ";
 
-const JSON_LINES: &str =
-    "{\"index\":1,\"log\":\"LOG\",\"matches\":false,\"offset\":107,    \"register\":0,\"type\":{\"name\":\"EV_SEPARATOR\",\"number\":4}}
-{\"checked\":[{\"forms\":{\"data\":1},\"matches\":1,\"matches_none\":1,\"not_in_log\":0,    \"type\":{\"name\":\"EV_SEPARATOR\",\"number\":4}},    {\"forms\":{\"command\":1,\"narrowed\":1},\"matches\":2,\"matches_none\":0,\"not_in_log\":1,    \"type\":{\"name\":\"EV_IPL\",\"number\":13}},    {\"forms\":{},\"matches\":0,\"matches_none\":0,\"not_in_log\":1,    \"type\":{\"number\":2147483665}}],\"log\":\"LOG\"}
-";
+const JSON_LINES: &str = "{\"index\":1,\"log\":\"LOG\",\"matches\":false,\"offset\":107,\"regist\
+     er\":0,\"type\":{\"name\":\"EV_SEPARATOR\",\"number\":4}}\n{\"checked\"\
+     :[{\"forms\":{\"data\":1},\"matches\":1,\"matches_none\":1,\"not_in_lo\
+     g\":0,\"type\":{\"name\":\"EV_SEPARATOR\",\"number\":4}},{\"forms\":{\"\
+     command\":1,\"narrowed\":1},\"matches\":2,\"matches_none\":0,\"not_in_\
+     log\":1,\"type\":{\"name\":\"EV_IPL\",\"number\":13}},{\"forms\":{},\"\
+     matches\":0,\"matches_none\":0,\"not_in_log\":1,\"type\":{\"number\":2\
+     147483665}}],\"log\":\"LOG\"}\n";
 
 /// Returns the lines of a log's events and of their summary.
 fn lines(alloc: Global, input: &[u8]) -> Result<String, Fail> {

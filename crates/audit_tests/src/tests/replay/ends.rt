@@ -94,15 +94,9 @@ const ENDS: [[&str; 2]; 15] = [
         "0 events, 33 of padding, 0 left over",
     ],
     // 0xFF alone.
-    [
-        "ffffffff",
-        "0 events, 4 of padding, 0 left over",
-    ],
+    ["ffffffff", "0 events, 4 of padding, 0 left over"],
     // No bytes.
-    [
-        "",
-        "0 events, 0 of padding, 0 left over",
-    ],
+    ["", "0 events, 0 of padding, 0 left over"],
 ];
 
 /// Logs of version 1 with their last entry at offset 0: how many events they have, and how many bytes
@@ -140,14 +134,22 @@ fn a_log_ends_where_padding_starts(rt: HostRuntime) -> Result<(), Fail> {
 fn with_a_known_last_entry_there_is_no_padding(rt: HostRuntime) -> Result<(), Fail> {
     each_reads(rt.alloc(), &KNOWN, |bytes| {
         let log = Log::new(bytes, LastEntry::At(0));
-        (log.entries().count(), log.padding().len(), log.left_over().len())
+        (
+            log.entries().count(),
+            log.padding().len(),
+            log.left_over().len(),
+        )
     })
 }
 
 #[test]
 fn all_bytes_of_an_empty_log_are_left_over(rt: HostRuntime) -> Result<(), Fail> {
-    each_reads(rt.alloc(), &[("0102", 2usize), ("0000", 2), ("", 0)], |bytes| {
-        let log = Log::new(bytes, LastEntry::Empty);
-        log.left_over().len() + log.padding().len()
-    })
+    each_reads(
+        rt.alloc(),
+        &[("0102", 2usize), ("0000", 2), ("", 0)],
+        |bytes| {
+            let log = Log::new(bytes, LastEntry::Empty);
+            log.left_over().len() + log.padding().len()
+        },
+    )
 }

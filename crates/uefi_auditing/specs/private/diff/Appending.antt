@@ -1,12 +1,9 @@
 -- What the functions behind a comparison append to a text.
-use Rattle.std.specs.Prelude.{ℕ, Bool, List}
+use Rattle.std.specs.Prelude.{ℕ, Bool, List, ◌≡◌, ◌++◌, ◌∷◌, []}
 use Rattle.std.specs.declared.alloc.Global.{Global}
 use Rattle.std.specs.declared.string.String.{String}
 use Rattle.uefi_base.specs.Appending.{AppendsText}
-use Rattle.pcr_replay.specs.Entries.{Contents}
-use Rattle.pcr_replay.specs.Logs.{HasContents}
-use Rattle.uefi_auditing.specs.declared.text.LogFile.{LogFile}
-use Rattle.uefi_auditing.specs.diff.Differences.{AreOnly, Numbered, ShowsBelow, ShowsPcr, of_pcr}
+use Rattle.uefi_auditing.specs.diff.Differences.{AreOnly, AreThoseOnly, Numbered, ShowsBelow, ShowsPcr}
 
 -- The string grew by the lines of entries whose events aren't among the others.
 abbrev pub AppendsOnly : List ℕ → List ℕ → List Numbered → List Numbered → String Global → String Global → Type 0
@@ -19,18 +16,16 @@ abbrev pub AppendsCompared : List ℕ → List ℕ → List Numbered → List Nu
 AppendsCompared old_name new_name old new before after same =
     (text : List ℕ) × ShowsPcr old_name new_name old new text same × AppendsText before after text
 
--- It grew by the lines of a PCR, whatever the contents of the logs are.
-abbrev pub AppendsPcr : LogFile → LogFile → ℕ → String Global → String Global → Bool → Type 0
-AppendsPcr old new pcr before after same =
-    (olds : Contents) (news : Contents) → HasContents old.log olds
-    → HasContents new.log news
-    → AppendsCompared old.name.now new.name.now (of_pcr pcr olds.entries) (of_pcr pcr news.entries)
-    before after same
+-- It grew by what is shown of all PCRs below a number.
+abbrev pub AppendsBelow : (ℕ → List Numbered → List Numbered → List ℕ → Bool → Type 0) → List Numbered → List Numbered → ℕ
+    → String Global → String Global → Bool → Type 0
+AppendsBelow Shows old new pcr before after same =
+    (text : List ℕ) × ShowsBelow Shows pcr old new text same × AppendsText before after text
 
--- By those of all PCRs below a number.
-abbrev pub AppendsBelow : LogFile → LogFile → ℕ → String Global → String Global → Bool → Type 0
-AppendsBelow old new pcr before after same =
-    (olds : Contents) (news : Contents) → HasContents old.log olds
-    → HasContents new.log news
-    → (text : List ℕ) × ShowsBelow pcr old.name.now new.name.now olds.entries news.entries text same
-    × AppendsText before after text
+-- By what is shown of one.
+abbrev pub AppendsShown : (List ℕ → Bool → Type 0) → String Global → String Global → Bool → Type 0
+AppendsShown Shows before after same = (text : List ℕ) × Shows text same × AppendsText before after text
+
+-- Entries grew by this one, if its event isn't among the others.
+abbrev pub AddsIfOnly : List Numbered → Numbered → List Numbered → List Numbered → Type 0
+AddsIfOnly others found before after = (more : List Numbered) × AreThoseOnly others (found ∷ []) more × (after ≡ before ++ more)

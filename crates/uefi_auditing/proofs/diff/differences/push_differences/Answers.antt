@@ -1,25 +1,25 @@
-use Rattle.std.proofs.Common.{◌≡◌, ℕ, arith, subst}
-use Rattle.uefi_auditing.specs.private.diff.Appending.{AppendsBelow}
-use Rattle.uefi_auditing.proofs.diff.Below.{none_below, one_more}
+use Rattle.std.proofs.Common.{◌≡◌, ◌∙◌, ap, map}
+use Rattle.std.proofs.lemmas.Result.{IfOk-weaker}
+use Rattle.pcr_replay.specs.Entries.{Contents}
+use Rattle.pcr_replay.specs.Views.{contents_left}
+use Rattle.uefi_auditing.specs.diff.Differences.{numbered}
+use Rattle.uefi_auditing.specs.diff.Differences.{ShowsPcr}
+use Rattle.uefi_auditing.specs.private.diff.Views.{numbered_of}
+use Rattle.uefi_auditing.proofs.diff.Below.{below_in}
 use Rattle.uefi_auditing.proofs.diff.differences.push_differences.Goals as goal
-
-pub loop-pcr-init : goal.loop-pcr-init
-loop-pcr-init c = record {
-  below = none_below c.args.old.now c.args.new.now c.args.text.now;
-  within = omega arith;
-}
-
-pub loop-pcr-preserved : goal.loop-pcr-preserved
-loop-pcr-preserved c = record {
-  below = one_more c.args.old.now c.args.new.now c.loop-pcr.pcr c.args.text.now c.loop-pcr.text
-      c.push_pcr.new.text c.loop-pcr.same _ c.loop-pcr.invariant.below
-      c.in_ok-same.ensures;
-  within = omega arith;
-}
 
 pub returns : goal.returns
 returns c =
-    let all : c.loop-pcr.pcr ≡ 25 =
-    omega (arith, c.loop-pcr.invariant.within, c.loop-pcr-test.false) in
-    subst (λ (n : ℕ). AppendsBelow c.args.old.now c.args.new.now n c.args.text.now c.loop-pcr.text
-    c.loop-pcr.same) all c.loop-pcr.invariant.below
+    IfOk-weaker c.push_each.result _ _
+    (λ same shown. λ olds news is also.
+    let old_is : map numbered_of c.as_slice.result.now ≡ numbered 0 olds.entries =
+    ap (map numbered_of) c.as_slice.ensures.value ∙ c.in_ok-olds.ensures
+    ∙ ap (λ (k : Contents). numbered 0 k.entries) (c.one_contents.ensures c.args.old.now.log
+    (contents_left c.entries.result) olds c.entries.ensures.contents is) in
+    let new_is : map numbered_of c.as_slice-2.result.now ≡ numbered 0 news.entries =
+    ap (map numbered_of) c.as_slice-2.ensures.value ∙ c.in_ok-news.ensures
+    ∙ ap (λ (k : Contents). numbered 0 k.entries) (c.one_contents.ensures c.args.new.now.log
+    (contents_left c.entries-2.result) news c.entries-2.ensures.contents also) in
+    below_in (λ pcr. ShowsPcr c.args.old.now.name.now c.args.new.now.name.now) _ _ _ _ 25 c.args.text.now c.push_each.new.text same
+    old_is new_is shown)
+    c.push_each.ensures

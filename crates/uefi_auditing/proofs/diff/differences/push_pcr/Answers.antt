@@ -1,8 +1,5 @@
-use Rattle.std.proofs.Common.{◌≡◌, ◌∙◌, ap, map}
+use Rattle.std.proofs.Common.{◌∙◌, ap, map}
 use Rattle.std.proofs.lemmas.Result.{IfOk-weaker}
-use Rattle.pcr_replay.specs.Entries.{Contents}
-use Rattle.pcr_replay.specs.Views.{contents_left}
-use Rattle.uefi_auditing.specs.diff.Differences.{of_pcr}
 use Rattle.uefi_auditing.specs.private.diff.Views.{numbered_of}
 use Rattle.uefi_auditing.proofs.diff.Shown.{shown_in}
 use Rattle.uefi_auditing.proofs.diff.differences.push_pcr.Goals as goal
@@ -10,16 +7,8 @@ use Rattle.uefi_auditing.proofs.diff.differences.push_pcr.Goals as goal
 pub returns : goal.returns
 returns c =
     IfOk-weaker c.push_compared.result _ _
-    (λ same shown. λ olds news is also.
-    let pcr = c.args.pcr in
-    let old_is : map numbered_of c.as_slice.result.now ≡ of_pcr pcr olds.entries =
-    ap (map numbered_of) c.as_slice.ensures.value ∙ c.in_ok-olds.ensures
-    ∙ ap (λ (k : Contents). of_pcr pcr k.entries) (c.one_contents.ensures c.args.old.now.log
-    (contents_left c.entries.result) olds c.entries.ensures.contents is) in
-    let new_is : map numbered_of c.as_slice-2.result.now ≡ of_pcr pcr news.entries =
-    ap (map numbered_of) c.as_slice-2.ensures.value ∙ c.in_ok-news.ensures
-    ∙ ap (λ (k : Contents). of_pcr pcr k.entries) (c.one_contents.ensures c.args.new.now.log
-    (contents_left c.entries-2.result) news c.entries-2.ensures.contents also) in
-    shown_in c.args.old.now.name.now c.args.new.now.name.now _ _ _ _ c.args.text.now c.push_compared.new.text same
-    old_is new_is shown)
+    (λ same shown.
+    shown_in c.args.old_name.now c.args.new_name.now _ _ _ _ c.args.text.now c.push_compared.new.text same
+    (ap (map numbered_of) c.as_slice.ensures.value ∙ c.in_ok-olds.ensures)
+    (ap (map numbered_of) c.as_slice-2.ensures.value ∙ c.in_ok-news.ensures) shown)
     c.push_compared.ensures

@@ -1,12 +1,21 @@
-use Rattle.std.proofs.Common.{◌∙◌, ap}
+use Rattle.std.proofs.Common.{◌∙◌, List, ap, arith, map, subst}
 use Rattle.pcr_replay.specs.Views.{event_of}
 use Rattle.uefi_auditing.specs.declared.diff.pcr.NumberedEntry.{NumberedEntry}
+use Rattle.uefi_auditing.specs.private.diff.Index.{AreKeysOf}
+use Rattle.uefi_auditing.specs.private.diff.Views.{numbered_of}
+use Rattle.uefi_auditing.proofs.FirstOnes.{all_taken}
 use Rattle.uefi_auditing.proofs.diff.Index.{keys_upto}
 use Rattle.uefi_auditing.proofs.diff.only.keys_of.Goals as goal
 
 pub loop-entry-preserved : goal.loop-entry-preserved
 loop-entry-preserved c =
     keys_upto c.args.entries.now c.loop-entry.entry-index c.entry-item.result c.loop-entry.keys c.insert.new.self
-    c.new-in-loop-entry.result c.loop-entry-test.true
-    (ap event_of c.new-in-loop-entry.ensures ∙ ap (λ (found : NumberedEntry). event_of found.entry.event) c.entry-item.is)
+    c.new.result c.loop-entry-test.true
+    (ap event_of c.new.ensures ∙ ap (λ (found : NumberedEntry). event_of found.entry.event) c.entry-item.is)
     c.in_ok-insert.ensures.updates.0 c.loop-entry.invariant
+
+pub returns : goal.returns
+returns c =
+    subst (λ (entries : List NumberedEntry). AreKeysOf c.loop-entry.keys (map numbered_of entries))
+    (all_taken c.args.entries.now c.loop-entry.entry-index (omega (arith, c.loop-entry-test.false)))
+    c.loop-entry.invariant

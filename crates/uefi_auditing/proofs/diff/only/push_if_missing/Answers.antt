@@ -11,8 +11,11 @@ pub returns-then-contains : goal.returns-then-contains
 returns-then-contains c = λ others keys. (
   [],
   one_line c.args.name.now c.args.other_name.now others (numbered_of c.args.found.now) []
-      (inl (subst (λ (e : Event). IsAmong e others) (ap event_of c.new.ensures)
-      ((keys c.new.result).0 (sym c.contains.ensures ∙ c.if-contains.true)), refl)),
+      (inl (
+        subst (λ (e : Event). IsAmong e others) (ap event_of c.new.ensures)
+            ((keys c.new.result).0 (sym c.contains.ensures ∙ c.if-contains.true)),
+        refl,
+      )),
   sym (append-nil (string_bytes c.args.text.now)),
 )
 

@@ -1,4 +1,4 @@
-use Rattle.std.proofs.Common.{◌≡◌, arith}
+use Rattle.std.proofs.Common.{arith}
 use Rattle.pcr_replay.specs.Views.{event_of}
 use Rattle.uefi_auditing.specs.Replay.{all_banks}
 use Rattle.uefi_auditing.specs.json.Event.{hashed_bank}

@@ -1,11 +1,10 @@
-use Rattle.std.proofs.Common.{◌≡◌, ◌∙◌, ◌++◌, ap, map, string_bytes}
+use Rattle.std.proofs.Common.{◌∙◌, ◌++◌, ap, map, string_bytes}
 use Rattle.std.specs.Prelude.{codes}
-use Rattle.serde_json.specs.Data.{Data}
 use Rattle.serde_json.specs.Written.{has_float}
 use Rattle.pcr_replay.specs.Logs.{left_over, padding}
 use Rattle.uefi_auditing.specs.Replay.{bank_outcomes_of}
 use Rattle.uefi_auditing.specs.json.Line.{line_of}
-use Rattle.uefi_auditing.specs.json.Replay.{is_accepted, replay_json}
+use Rattle.uefi_auditing.specs.json.Replay.{is_accepted}
 use Rattle.uefi_auditing.proofs.json.NoFloatsInReplay.{no_float}
 use Rattle.uefi_auditing.proofs.json.ReplayLines.{object_is}
 use Rattle.uefi_auditing.proofs.json.replay.push_replay_json.Goals as goal

@@ -6,10 +6,10 @@ use Rattle.uefi_auditing.proofs.verify.verdict.push_value.Goals as goal
 
 pub returns-then-pcr-eq0 : goal.returns-then-pcr-eq0
 returns-then-pcr-eq0 g c =
-    on_ok_weaker c.writeln-then-pcr-eq0.result
+    on_ok_weaker c.writeln.result
     (λ more. first_value c.args.pcr c.args.locality (value_of c.args.value.now) (string_bytes c.args.text.now) _
     c.if-pcr-eq0.true more)
-    (simp (c.in_ok-digits.ensures, c.as_bytes.ensures) at c.writeln-then-pcr-eq0.ensures.bytes)
+    (simp (c.in_ok-digits.ensures, c.as_bytes.ensures) at c.writeln.ensures.bytes)
 
 pub returns : goal.returns
 returns g c =

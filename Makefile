@@ -1,0 +1,47 @@
+# The calls that one needs from day to day. `make help` prints them with what follows `##`.
+PREFIX = /usr/local
+DESTDIR =
+CRATE =
+SECONDS = 600
+PROGRAMS = uefi_list uefi_audit
+TO = $(DESTDIR)$(PREFIX)
+MADE = out/install
+TESTS = $(or $(shell python3 tools/crates.py tests '$(CRATE)'),$(error name a crate of crates.txt: make $@ CRATE=uefi_path))
+.PHONY: all check test try install fuzz plant bench rust help $(PROGRAMS:%=build-%)
+
+all: $(PROGRAMS:%=build-%)  ## both programs, proved and built
+
+$(PROGRAMS:%=build-%): build-%:
+	@tools/build_program $*
+
+check:  ## the one test command: every proof and test from scratch
+	@./check
+
+test:  ## CRATE=uefi_path: the tests of a crate, proved and run
+	@for it in $(TESTS); do (cd crates/$$it && rt test) || exit; done
+
+try:  ## CRATE=uefi_path: the same, run without a proof
+	@for it in $(TESTS); do (cd crates/$$it && rt try --test) || exit; done
+
+install: all  ## PREFIX=/usr/local DESTDIR=: programs, manual pages, completions, the library for C
+	@rm -rf $(MADE) && mkdir -p $(MADE)/bin
+	tools/build_c $(MADE)
+	sed -i 's|^prefix=.*|prefix=$(PREFIX)|' $(MADE)/lib/pkgconfig/*.pc
+	tools/manual $(MADE)/share
+	install -m 755 $(foreach it,$(PROGRAMS),crates/$(it)/out/$(it)) $(MADE)/bin
+	mkdir -p '$(TO)' && cp -R $(MADE)/. '$(TO)' && rm -rf $(MADE)
+
+fuzz:  ## SECONDS=600: mutated inputs, by the programs and by plain Rust
+	@tests/fuzz $(SECONDS)
+
+plant:  ## CRATE=: mutants of each function of a crate, or of all crates
+	@tests/plant $(CRATE)
+
+bench:  ## bench/RESULTS.md: the readers beside plain Rust
+	@bench/run
+
+rust:  ## the cargo package in rust/, written again and tested
+	@tools/erase/run && tests/rust_package
+
+help:  ## this list
+	@sed -n 's/^\([a-z]*\):.*  ## \(.*\)/make \1\t\2/p' Makefile | expand -t 16

@@ -1,0 +1,145 @@
+use pcr_replay::{LastEntry, Log};
+use std::alloc::Global;
+use std::test::Fail;
+use test_support::{bytes, same_text};
+use uefi_auditing::diff::push_differences_json;
+use uefi_auditing::text::LogFile;
+
+/// Two logs, and the lines of JSON of how they differ.
+struct Row {
+    old: &'static str,
+    new: &'static str,
+    lines: &'static str,
+}
+
+const ROWS: [Row; 8] = [
+    // The same events; those of other PCRs stand between them.
+    Row {
+        old: "0100000008000000aaaaaaaaaaaaaaaaaaaaaaaaaaaaaaaaaaaaaaaa00000000030000\
+              0008000000aaaaaaaaaaaaaaaaaaaaaaaaaaaaaaaaaaaaaaaa00000000010000000400\
+              0000bbbbbbbbbbbbbbbbbbbbbbbbbbbbbbbbbbbbbbbb0400000000000000",
+        new: "0300000008000000aaaaaaaaaaaaaaaaaaaaaaaaaaaaaaaaaaaaaaaa00000000010000\
+              0008000000aaaaaaaaaaaaaaaaaaaaaaaaaaaaaaaaaaaaaaaa00000000010000000400\
+              0000bbbbbbbbbbbbbbbbbbbbbbbbbbbbbbbbbbbbbbbb0400000000000000",
+        lines: "",
+    },
+    // No events.
+    Row {
+        old: "",
+        new: "",
+        lines: "",
+    },
+    // An event more.
+    Row {
+        old: "0100000008000000aaaaaaaaaaaaaaaaaaaaaaaaaaaaaaaaaaaaaaaa00000000",
+        new: "0100000008000000aaaaaaaaaaaaaaaaaaaaaaaaaaaaaaaaaaaaaaaa00000000010000\
+              0004000000bbbbbbbbbbbbbbbbbbbbbbbbbbbbbbbbbbbbbbbb0400000000000000",
+        lines: "{\"new\":{\"first\":{\"index\":1,\"offset\":32,\"register\":1,\"type\"\
+                :{\"name\":\"EV_SEPARATOR\",\"number\":4}},\"log\":\"new.log\",\"only\"\
+                :[{\"index\":1,\"offset\":32,\"register\":1,\"type\":{\"name\":\"EV_SE\
+                PARATOR\",\"number\":4}}]},\"old\":{\"first\":null,\"log\":\"old.log\"\
+                ,\"only\":[]},\"register\":1}\n",
+    },
+    // An event that the log has before stands twice in it.
+    Row {
+        old: "0100000008000000aaaaaaaaaaaaaaaaaaaaaaaaaaaaaaaaaaaaaaaa00000000",
+        new: "0100000008000000aaaaaaaaaaaaaaaaaaaaaaaaaaaaaaaaaaaaaaaa00000000010000\
+              0008000000aaaaaaaaaaaaaaaaaaaaaaaaaaaaaaaaaaaaaaaa00000000",
+        lines: "{\"new\":{\"first\":{\"index\":1,\"offset\":32,\"register\":1,\"type\"\
+                :{\"name\":\"EV_S_CRTM_VERSION\",\"number\":8}},\"log\":\"new.log\",\"\
+                only\":[]},\"old\":{\"first\":null,\"log\":\"old.log\",\"only\":[]},\"\
+                register\":1}\n",
+    },
+    // The order is another.
+    Row {
+        old: "0100000008000000aaaaaaaaaaaaaaaaaaaaaaaaaaaaaaaaaaaaaaaa00000000010000\
+              0004000000bbbbbbbbbbbbbbbbbbbbbbbbbbbbbbbbbbbbbbbb0400000000000000",
+        new: "0100000004000000bbbbbbbbbbbbbbbbbbbbbbbbbbbbbbbbbbbbbbbb04000000000000\
+              000100000008000000aaaaaaaaaaaaaaaaaaaaaaaaaaaaaaaaaaaaaaaa00000000",
+        lines: "{\"new\":{\"first\":{\"index\":0,\"offset\":0,\"register\":1,\"type\":\
+                {\"name\":\"EV_SEPARATOR\",\"number\":4}},\"log\":\"new.log\",\"only\"\
+                :[]},\"old\":{\"first\":{\"index\":0,\"offset\":0,\"register\":1,\"typ\
+                e\":{\"name\":\"EV_S_CRTM_VERSION\",\"number\":8}},\"log\":\"old.log\"\
+                ,\"only\":[]},\"register\":1}\n",
+    },
+    // A digest differs, and an event of another PCR is missing.
+    Row {
+        old: "0100000008000000aaaaaaaaaaaaaaaaaaaaaaaaaaaaaaaaaaaaaaaa00000000010000\
+              0004000000bbbbbbbbbbbbbbbbbbbbbbbbbbbbbbbbbbbbbbbb04000000000000000400\
+              000007000080aaaaaaaaaaaaaaaaaaaaaaaaaaaaaaaaaaaaaaaa00000000",
+        new: "0100000008000000aaaaaaaaaaaaaaaaaaaaaaaaaaaaaaaaaaaaaaaa00000000010000\
+              0004000000aaaaaaaaaaaaaaaaaaaaaaaaaaaaaaaaaaaaaaaa0400000000000000",
+        lines: "{\"new\":{\"first\":{\"index\":1,\"offset\":32,\"register\":1,\"type\"\
+                :{\"name\":\"EV_SEPARATOR\",\"number\":4}},\"log\":\"new.log\",\"only\"\
+                :[{\"index\":1,\"offset\":32,\"register\":1,\"type\":{\"name\":\"EV_SE\
+                PARATOR\",\"number\":4}}]},\"old\":{\"first\":{\"index\":1,\"offset\":\
+                32,\"register\":1,\"type\":{\"name\":\"EV_SEPARATOR\",\"number\":4}},\"\
+                log\":\"old.log\",\"only\":[{\"index\":1,\"offset\":32,\"register\":1,\
+                \"type\":{\"name\":\"EV_SEPARATOR\",\"number\":4}}]},\"register\":1}\n\
+                {\"new\":{\"first\":null,\"log\":\"new.log\",\"only\":[]},\"old\":{\"f\
+                irst\":{\"index\":2,\"offset\":68,\"register\":4,\"type\":{\"name\":\"\
+                EV_EFI_ACTION\",\"number\":2147483655}},\"log\":\"old.log\",\"only\":[\
+                {\"index\":2,\"offset\":68,\"register\":4,\"type\":{\"name\":\"EV_EFI_\
+                ACTION\",\"number\":2147483655}}]},\"register\":4}\n",
+    },
+    // PCRs above 23, and a type without a name.
+    Row {
+        old: "1e00000008000000aaaaaaaaaaaaaaaaaaaaaaaaaaaaaaaaaaaaaaaa000000001f0000\
+              0077000000aaaaaaaaaaaaaaaaaaaaaaaaaaaaaaaaaaaaaaaa00000000",
+        new: "1e00000008000000aaaaaaaaaaaaaaaaaaaaaaaaaaaaaaaaaaaaaaaa00000000280000\
+              0077000000aaaaaaaaaaaaaaaaaaaaaaaaaaaaaaaaaaaaaaaa00000000",
+        lines: "{\"new\":{\"first\":{\"index\":1,\"offset\":32,\"register\":40,\"type\"\
+                :{\"number\":119}},\"log\":\"new.log\",\"only\":[{\"index\":1,\"offset\
+                \":32,\"register\":40,\"type\":{\"number\":119}}]},\"old\":{\"first\":\
+                {\"index\":1,\"offset\":32,\"register\":31,\"type\":{\"number\":119}},\
+                \"log\":\"old.log\",\"only\":[{\"index\":1,\"offset\":32,\"register\":\
+                31,\"type\":{\"number\":119}}]},\"register\":null}\n",
+    },
+    // An event of version 1 and the same of version 2, which has another digest more.
+    Row {
+        old: "0100000008000000aaaaaaaaaaaaaaaaaaaaaaaaaaaaaaaaaaaaaaaa00000000020000\
+              0008000000aaaaaaaaaaaaaaaaaaaaaaaaaaaaaaaaaaaaaaaa00000000",
+        new: "0000000003000000000000000000000000000000000000000000000025000000537065\
+              63204944204576656e74303300000000000002000202000000040014000b0020000001\
+              00000008000000010000000400aaaaaaaaaaaaaaaaaaaaaaaaaaaaaaaaaaaaaaaa0000\
+              00000200000008000000020000000400aaaaaaaaaaaaaaaaaaaaaaaaaaaaaaaaaaaaaa\
+              aa0b00cccccccccccccccccccccccccccccccccccccccccccccccccccccccccccccccc\
+              00000000",
+        lines: "{\"new\":{\"first\":{\"index\":1,\"offset\":107,\"register\":2,\"type\"\
+                :{\"name\":\"EV_S_CRTM_VERSION\",\"number\":8}},\"log\":\"new.log\",\"\
+                only\":[{\"index\":1,\"offset\":107,\"register\":2,\"type\":{\"name\":\
+                \"EV_S_CRTM_VERSION\",\"number\":8}}]},\"old\":{\"first\":{\"index\":1\
+                ,\"offset\":32,\"register\":2,\"type\":{\"name\":\"EV_S_CRTM_VERSION\"\
+                ,\"number\":8}},\"log\":\"old.log\",\"only\":[{\"index\":1,\"offset\":\
+                32,\"register\":2,\"type\":{\"name\":\"EV_S_CRTM_VERSION\",\"number\":\
+                8}}]},\"register\":2}\n",
+    },
+];
+
+/// Checks a row: its lines, and that the logs are the same if there are none.
+fn check(alloc: Global, row: &Row) -> Result<(), Fail> {
+    let (old, new) = (bytes(alloc, row.old)?, bytes(alloc, row.new)?);
+    let old = LogFile {
+        name: "old.log",
+        log: Log::new(old.as_slice(), LastEntry::Unknown),
+    };
+    let new = LogFile {
+        name: "new.log",
+        log: Log::new(new.as_slice(), LastEntry::Unknown),
+    };
+    let mut text = String::new(alloc);
+    let same = push_differences_json(&mut text, alloc, &old, &new)?;
+    same_text(row.new, text.as_str(), row.lines)?;
+    if same != row.lines.is_empty() {
+        return Err(Fail::new(format_args!("the same: {same}; {}", row.lines)));
+    }
+    Ok(())
+}
+
+#[test]
+fn two_logs_differ_in_these_objects(rt: HostRuntime) -> Result<(), Fail> {
+    for row in &ROWS {
+        check(rt.alloc(), row)?;
+    }
+    Ok(())
+}

@@ -1,0 +1,109 @@
+ghost use Rattle.std.specs.Prelude.{◌≡◌, IfOk, string_bytes};
+ghost use Rattle.uefi_auditing.specs.text.Names.{shown_name};
+
+use crate::commands::print_text;
+use crate::failure::{Failure, Status};
+use crate::judging::judge;
+use crate::request::{Format, Reading};
+use pcr_replay::LogEntry;
+use std::alloc::{AllocError, Global};
+use std::io;
+use uefi_auditing::check::{
+    CheckSummary, Checked, check, check_summary_line, mismatch_line, push_check, push_check_summary,
+};
+use uefi_auditing::text::{LogFile, ShownName};
+
+/// Prints which events of a log have digests that aren't the hash of what their type measures.
+pub(crate) fn check_log<R: Print + Eprint + AllocGlobal>(
+    rt: &R,
+    file: &LogFile<'_>,
+    reading: Reading,
+    format: Format,
+) -> Result<Status, Failure> {
+    let judgement = judge(rt, file, reading)?;
+    if !judgement.is_read() {
+        return Ok(judgement.status());
+    }
+    let mut text = String::new(rt.alloc());
+    let mut summary = CheckSummary::new(rt.alloc());
+    let all_match = push_events(&mut text, rt.alloc(), file, format, &mut summary)?;
+    push_summary(&mut text, rt.alloc(), file, format, &summary)?;
+    print_text(&mut io::writer(rt), text.as_str())?;
+    let status = if all_match {
+        Status::Well
+    } else {
+        Status::Differs
+    };
+    Ok(judgement.status().and(status))
+}
+
+/// Appends a line for each event that matches in none of its type's forms, and counts each event.
+/// Returns whether there is no line.
+fn push_events(
+    text: &mut String,
+    alloc: Global,
+    file: &LogFile<'_>,
+    format: Format,
+    summary: &mut CheckSummary,
+) -> Result<bool, AllocError> {
+    let name = shown(alloc, file.name)?;
+    let mut all_match = true;
+    let mut index = 0;
+    for entry in file.log.entries() {
+        let checked = check(alloc, &entry.event)?;
+        summary.add(entry.event.event_type(), checked)?;
+        if checked == Checked::MatchesNone {
+            all_match = false;
+            match format {
+                Format::Text => push_check(
+                    text,
+                    name.as_str(),
+                    index,
+                    entry.offset,
+                    &entry.event,
+                    checked,
+                )?,
+                Format::Json => push_mismatch(text, alloc, file.name, index, &entry)?,
+            }
+        }
+        index += 1;
+    }
+    Ok(all_match)
+}
+
+/// Appends the object of an event that matches in none of its type's forms.
+fn push_mismatch(
+    text: &mut String,
+    alloc: Global,
+    name: &str,
+    index: usize,
+    entry: &LogEntry<'_>,
+) -> Result<(), AllocError> {
+    let line = mismatch_line(alloc, name, index, entry.offset, &entry.event)?;
+    writeln!(text, "{line}")
+}
+
+/// Appends the counts of each type.
+fn push_summary(
+    text: &mut String,
+    alloc: Global,
+    file: &LogFile<'_>,
+    format: Format,
+    summary: &CheckSummary,
+) -> Result<(), AllocError> {
+    match format {
+        Format::Text => push_check_summary(text, summary),
+        Format::Json => {
+            let line = check_summary_line(alloc, file.name, summary)?;
+            writeln!(text, "{line}")
+        }
+    }
+}
+
+/// Returns a file's name as it is printed.
+pub(crate) fn shown(alloc: Global, name: &str) -> Result<String, AllocError>
+    ensures { IfOk result (λ text. string_bytes text ≡ shown_name name.now) }
+{
+    let name = ShownName(name);
+    format!(in alloc; "{name}")
+}

@@ -1,0 +1,23 @@
+"""What the tests share: a line for each outcome, and the counts at the end."""
+import os
+import sys
+
+# The test, by its path in this folder without `run`.
+TEST = os.path.relpath(os.path.realpath(sys.argv[0]), os.path.dirname(os.path.realpath(__file__))).removesuffix("/run")
+# So much of what came out is printed where it is not as expected.
+SHOWN = 2000
+
+
+def tells(name, got, expected=True):
+    """Whether something came out as expected. Prints a line on it."""
+    is_same = got == expected
+    outcome = "as expected" if is_same else f"{str(got)[:SHOWN]}, where {str(expected)[:SHOWN]} was expected"
+    print(f"{TEST}: {name}: {outcome}", flush=True)
+    return is_same
+
+
+def counted(outcomes):
+    """Prints the last line that `./check` reads, and returns the exit status."""
+    outcomes = list(outcomes)
+    print(f"{sum(outcomes)} as expected, {len(outcomes) - sum(outcomes)} not")
+    return 0 if outcomes and all(outcomes) else 1

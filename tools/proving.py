@@ -1,0 +1,203 @@
+"""Proves the libraries that a program or an archive uses, side by side, and says on standard error how far it is.
+
+Libraries for which the most functions wait come first. How many run at a time follows from the processors and the
+free memory.
+"""
+import concurrent.futures
+import os
+import re
+import subprocess
+import sys
+import threading
+import time
+
+import crates
+
+TOP = crates.TOP
+# What a proof of one library is planned to take of memory, in bytes.
+MEMORY_OF_A_RUN = 3_500_000_000
+# To start a crate's proof takes about as long as so many functions.
+FUNCTIONS_A_START = 10
+# The time that is left is told once this share of the functions is proved, and up to that one.
+KNOWN_SHARES = (0.1, 0.95)
+# Lines of `rt` that only say how much of which library was read.
+READING = re.compile("(statements|library|logic|note:) ")
+
+
+def functions_in(name):
+    """About how many functions a crate has, those that are derived among them."""
+    count = 0
+    for folder, _, files in os.walk(f"{TOP}/crates/{name}/src"):
+        for file in files:
+            if "tests" in f"{folder}/{file}".split("/src/")[1]:
+                continue
+            with open(f"{folder}/{file}", encoding="utf-8") as text:
+                text = text.read()
+            count += len(re.findall(r"\bfn [a-z_0-9]+", text))
+            derived = " ".join(re.findall(r"derive\(([^)]*)\)", text))
+            count += len(re.findall(r"\b(PartialEq|PartialOrd|Ord|Debug|Default|Hash)\b", derived))
+    return count
+
+
+def free_memory():
+    """The bytes of memory that are free for new work."""
+    with open("/proc/meminfo", encoding="utf-8") as file:
+        return 1024 * int(re.search(r"MemAvailable:\s+(\d+)", file.read())[1])
+
+
+def shown_time(seconds):
+    return f"about {seconds / 60:.0f} minutes" if seconds > 90 else f"about {max(seconds, 10) / 10:.0f}0 seconds"
+
+
+class Progress:
+    """Which crates are proved, and how far the others are."""
+
+    def __init__(self, program, totals, uses, at_once):
+        self.program, self.totals, self.uses, self.at_once = program, totals, uses, at_once
+        self.proved, self.began, self.took = dict.fromkeys(totals, 0), {}, {}
+        self.ended, self.writing = threading.Event(), threading.Lock()
+        self.is_terminal = sys.stderr.isatty()
+
+    def say(self, text, end="\n"):
+        with self.writing:
+            clear = "\r\033[K" if self.is_terminal else ""
+            print(f"{clear}{self.program}: {text}", end=end, file=sys.stderr, flush=True)
+
+    def begin(self, name):
+        self.began[name] = time.monotonic()
+        self.say(f"proving {name}, {self.totals[name]} functions")
+
+    def read(self, name, line):
+        """Takes a line that the prover wrote while it worked on a crate."""
+        if far := re.match(r"(?:so far:|checked \S+,) (\d+) of (\d+)\b", line):
+            self.proved[name], self.totals[name] = int(far[1]), int(far[2])
+        elif re.match(r"fn \S+: proved", line):
+            self.proved[name] = min(self.proved[name] + 1, self.totals[name])
+
+    def finish(self, name, is_proved):
+        self.took[name] = time.monotonic() - self.began[name]
+        self.proved[name] = self.totals[name]
+        outcome = "is proved" if is_proved else "is NOT proved"
+        self.say(f"{name} {outcome}, {self.totals[name]} functions in {self.took[name]:.0f} seconds; {self.left()}")
+
+    def seconds_on(self, name):
+        """How long the proof of a crate took, or has run."""
+        return self.took.get(name, time.monotonic() - self.began.get(name, time.monotonic()))
+
+    def rate(self):
+        """The seconds that a function takes, by the crates of which some are proved; 0 if there are none."""
+        known = [name for name in self.totals if self.proved[name]]
+        work = sum(self.proved[name] + FUNCTIONS_A_START for name in known)
+        return sum(map(self.seconds_on, known)) / work if work else 0
+
+    def open_work(self, name):
+        """How much of a crate is left, in functions. The prover doesn't always say: then the time that has passed does."""
+        whole, rate = self.totals[name] + FUNCTIONS_A_START, self.rate()
+        done = self.proved[name] + FUNCTIONS_A_START if self.proved[name] else rate and min(self.seconds_on(name) / rate, 0.9 * whole)
+        return 0 if name in self.took else whole - done
+
+    def chain(self, name):
+        """How much is left of a crate and, one after another, of those that wait for it."""
+        waiting = [self.chain(it) for it in self.totals if name in self.uses[it]]
+        return self.open_work(name) + max(waiting, default=0)
+
+    def left(self):
+        """The time that is left where it is known, else the crates that are."""
+        names = [it for it in self.totals if it not in self.took]
+        share = sum(self.proved.values()) / sum(self.totals.values())
+        if not KNOWN_SHARES[0] <= share <= KNOWN_SHARES[1]:
+            return f"left: {' '.join(names) or 'none'}"
+        longest = max(sum(map(self.open_work, names)) / self.at_once, *map(self.chain, self.totals))
+        return f"{shown_time(self.rate() * longest)} left"
+
+    def tell(self):
+        while not self.ended.wait(1 if self.is_terminal else 30):
+            proved, total = sum(self.proved.values()), sum(self.totals.values())
+            self.say(f"{proved} of about {total} functions proved, {self.left()}", "" if self.is_terminal else "\n")
+        if self.is_terminal:
+            print("\r\033[K", end="", file=sys.stderr, flush=True)
+
+    def run(self, name, words, folder, given=b""):
+        """Runs a command of the toolchain in a crate's folder. Its status, and its lines but those on reading."""
+        streams = {"stdin": subprocess.PIPE, "stdout": subprocess.PIPE, "stderr": subprocess.STDOUT}
+        lines = []
+        with subprocess.Popen(words, cwd=folder, **streams) as ran:
+            ran.stdin.write(given)
+            ran.stdin.close()
+            for line in ran.stdout:
+                line = line.decode(errors="replace").rstrip("\n")
+                self.read(name, line)
+                if not READING.match(line):
+                    lines.append(line)
+        return ran.returncode, lines
+
+
+def prove_library(inside, library, jobs, progress):
+    """Proves a library over those that were proved before it."""
+    progress.begin(library.name)
+    status, lines = inside.prove_library(library, jobs, lambda words, folder: progress.run(library.name, words, folder))
+    progress.finish(library.name, status == 0)
+    return status, lines
+
+
+def prove_libraries(inside, libraries, progress):
+    """Proves libraries, each as soon as those that it uses are. The lines of one that failed, or none."""
+    waiting, running = sorted(libraries, key=lambda it: progress.chain(it.name), reverse=True), {}
+    with concurrent.futures.ThreadPoolExecutor(progress.at_once) as pool:
+        while waiting or running:
+            under_way = {*waiting, *(library for library, _ in running.values())}
+            free = progress.at_once - sum(jobs for _, jobs in running.values())
+            ready = [it for it in waiting if under_way.isdisjoint(it.below())][: max(free, 0)]
+            idle = free - len(ready)
+            later = [it for it in waiting if it not in ready]
+            for it in ready:
+                # A second job takes a third more processor time: it serves only where a processor has
+                # nothing else to do. A third serves only a library for which all that come later wait.
+                most = idle if all(it in other.below() for other in later) else 1
+                jobs = 1 + max(0, min(idle, most))
+                idle -= jobs - 1
+                waiting.remove(it)
+                running[pool.submit(prove_library, inside, it, jobs, progress)] = it, jobs
+            done, _ = concurrent.futures.wait(running, return_when=concurrent.futures.FIRST_COMPLETED)
+            for it in done:
+                (library, _), (status, lines) = running.pop(it), it.result()
+                if status:
+                    waiting.clear()
+                    return lines or [f"the proof of {library.name} ended with status {status}"]
+    return []
+
+
+def to_prove(libraries):
+    """Those of the libraries, each after what it uses, that aren't built, or use one that isn't."""
+    found = []
+    for it in libraries:
+        if not it.is_built() or not set(found).isdisjoint(it.below()):
+            found.append(it)
+    return found
+
+
+def prove(name, inside, finish):
+    """Proves the libraries of a crate, then calls `finish` with the progress. Returns the status, and the lines of what failed.
+
+    Without the toolchain's own functions, `finish` proves the libraries too.
+    """
+    uses = crates.read()
+    libraries = to_prove(inside.crates[name].below()) if inside else []
+    totals = {it.name: functions_in(it.name) for it in libraries}
+    totals[name] = functions_in(name) if inside else sum(map(functions_in, [*crates.below(uses, name), name]))
+    at_once = max(1, min(len(os.sched_getaffinity(0)), free_memory() // MEMORY_OF_A_RUN))
+    progress = Progress(name, totals, {it: uses[it].uses for it in totals}, at_once)
+    teller = threading.Thread(target=progress.tell)
+    teller.start()
+    try:
+        if libraries:
+            with inside.locked(inside.crates[name].below()):
+                if lines := prove_libraries(inside, libraries, progress):
+                    return 1, lines
+        progress.begin(name)
+        status, lines = finish(progress)
+        progress.finish(name, status == 0)
+        return status, lines
+    finally:
+        progress.ended.set()
+        teller.join()
