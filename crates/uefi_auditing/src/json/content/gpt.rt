@@ -52,25 +52,18 @@ fn partitions_json(alloc: Global, gpt: &GptData<'_>) -> Result<Vec<Value>, Alloc
 fn partition_json(alloc: Global, entry: &GptEntry<'_>) -> Result<Value, AllocError>
     ensures { IfOk result (λ value. view value ≡ partition_json (entry_of entry.now)) }
 {
-    let mut members = Map::new(alloc);
-    put(
-        &mut members,
-        alloc,
-        "attributes",
-        Value::from(entry.attributes),
-    )?;
-    put(
-        &mut members,
-        alloc,
-        "first_lba",
-        Value::from(entry.first_lba),
-    )?;
-    put(&mut members, alloc, "last_lba", Value::from(entry.last_lba))?;
     let name = text_before_nul(alloc, &entry.name)?;
-    put(&mut members, alloc, "name", Value::String(name))?;
     let type_guid = guid_json(alloc, entry.type_guid)?;
-    put(&mut members, alloc, "type_guid", type_guid)?;
     let unique_guid = guid_json(alloc, entry.unique_guid)?;
+    let mut members = Map::new(alloc);
+    let attributes = Value::from(entry.attributes);
+    put(&mut members, alloc, "attributes", attributes)?;
+    let first_lba = Value::from(entry.first_lba);
+    put(&mut members, alloc, "first_lba", first_lba)?;
+    let last_lba = Value::from(entry.last_lba);
+    put(&mut members, alloc, "last_lba", last_lba)?;
+    put(&mut members, alloc, "name", Value::String(name))?;
+    put(&mut members, alloc, "type_guid", type_guid)?;
     put(&mut members, alloc, "unique_guid", unique_guid)?;
     Ok(Value::Object(members))
 }
