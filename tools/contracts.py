@@ -208,6 +208,12 @@ class Code:
 
     def __init__(self, crate):
         self.crate, self.items, self.models, self.names = crate, [], [], set()
+        types = {True: set(), False: set()}
+        for _, text in sources(crate):
+            for pub, name in re.findall(r"^\s*(pub )?(?:pub\(\w+\) )?(?:enum|struct) (\w+)", text, re.M):
+                types[bool(pub)].add(name)
+        # What a trait's method promises of a type that no other crate sees is private.
+        self.hidden = types[False] - types[True]
         for path, text in sources(crate):
             self.names |= set(re.findall(r"\b(?:enum|struct|trait|type|const|ghost)\s+(\w+)", text))
             modules = [it for it in path.removesuffix(".rt").split("/")[3:] if it != "lib"]
@@ -259,7 +265,7 @@ class Code:
         it = Clauses(self.crate, modules, owner, trait, name, [text for _, text in clauses], imports)
         it.has_requires = any(kind == "requires" for kind, _ in clauses)
         is_named_public = re.search(r"\bpub\s+(?:(?:const|unsafe|extern)\s+)*$", text[max(0, at - 40) : at])
-        it.is_public = bool(is_named_public or trait or is_trait)
+        it.is_public = bool(is_named_public or trait and owner not in self.hidden or is_trait)
         it.types = set(re.findall(r"\b[A-Z]\w+", signature)) | ({owner} if owner else set())
         it.variables = {*re.findall(r"\b(\w+)\s*:", signature), *re.findall(r"\b[A-Z]\b", signature)}
         it.members = members

@@ -1,4 +1,4 @@
-ghost use Rattle.std.specs.Prelude.{◌≡◌, ◌<◌};
+ghost use Rattle.std.specs.Prelude.{◌≡◌, ◌<◌, slice_get};
 ghost use Rattle.uefi_auditing.specs.Check.{forms_of};
 
 use uefi_tcg::EventType;
@@ -61,7 +61,8 @@ impl Form {
 
     /// Returns the form's index in [`Form::ALL`].
     pub fn index(self) -> usize
-        ensures { result < 6 }
+        ensures within { result < 6 }
+        ensures place { slice_get Form.ALL result ≡ Some self }
     {
         match self {
             Form::Data => 0,

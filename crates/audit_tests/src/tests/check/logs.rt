@@ -197,11 +197,11 @@ fn word(checked: Checked) -> &'static str {
 fn words(alloc: Global, bytes: &[u8]) -> Result<String, Fail> {
     let mut text = String::new(alloc);
     let log = Log::new(bytes, LastEntry::Unknown);
-    let mut before = "";
     for entry in log.entries() {
-        let word = word(check(alloc, &entry.event)?);
-        write!(text, "{before}{word}")?;
-        before = " ";
+        if !text.is_empty() {
+            text.push(' ')?;
+        }
+        text.push_str(word(check(alloc, &entry.event)?))?;
     }
     Ok(text)
 }

@@ -158,12 +158,11 @@ const REFUSED: [[&str; 2]; 5] = [
 ];
 
 /// The same where bytes that are left over are allowed.
-const ALLOWED: [[&str; 2]; 1] = [
-    [
-        "00000000030000000000000000000000000000000000000000000000210000005370656320494420 \
+const ALLOWED: [[&str; 2]; 1] = [[
+    "00000000030000000000000000000000000000000000000000000000210000005370656320494420 \
         4576656e7430330000000000000200020100000004001400000000000008000000010000000400aa \
         aaaaaaaaaaaaaaaaaaaaaaaaaaaaaaaaaaaaaa000000000102",
-        "{\"banks\":[{\"algorithm\":\"sha1\",\
+    "{\"banks\":[{\"algorithm\":\"sha1\",\
          \"registers\":[\"d6ebc4e04e1612a1ae465c51c090608bc5e6e174\",\
          \"0000000000000000000000000000000000000000\",\
          \"0000000000000000000000000000000000000000\",\
@@ -190,8 +189,7 @@ const ALLOWED: [[&str; 2]; 1] = [
          \"0000000000000000000000000000000000000000\"],\"undetermined\":[]}],\
          \"left_over\":{\"count\":2,\"offset\":103},\"locality\":{\"number\":0,\
          \"stated\":false},\"log\":\"a log\",\"padding\":null}\n",
-    ],
-];
+]];
 
 /// The line of a log without events whose name has characters that are escaped.
 const NAMED: &str = "{\"banks\":[],\"left_over\":null,\"locality\":{\"number\":0,\"stated\":false},\
@@ -199,30 +197,41 @@ const NAMED: &str = "{\"banks\":[],\"left_over\":null,\"locality\":{\"number\":0
      \"padding\":null}\n";
 
 /// Returns the line of a log in a file of this name.
-fn line(
-    alloc: Global,
-    name: &str,
-    bytes: &[u8],
-    allow_left_over: bool,
-) -> Result<String, Fail> {
+fn line(alloc: Global, name: &str, bytes: &[u8], allow_left_over: bool) -> Result<String, Fail> {
     let log = Log::new(bytes, LastEntry::Unknown);
     let (start, stated) = (Start::of(&log), startup_locality(&log).is_some());
     let banks = asked_banks(alloc, &log, None)?;
     let banks = replay_banks(alloc, &log, banks.as_slice(), &start)?;
     let (mut text, file) = (String::new(alloc), LogFile { name, log });
     let banks = banks.as_slice();
-    push_replay_json(&mut text, alloc, &file, &start, stated, banks, allow_left_over)?;
+    push_replay_json(
+        &mut text,
+        alloc,
+        &file,
+        &start,
+        stated,
+        banks,
+        allow_left_over,
+    )?;
     Ok(text)
 }
 
 #[test]
 fn a_log_has_a_line_with_its_banks_or_is_refused(rt: HostRuntime) -> Result<(), Fail> {
-    each_shows(rt.alloc(), &REFUSED, |alloc, bytes| line(alloc, "a log", bytes, false))
+    each_shows(
+        rt.alloc(),
+        &REFUSED,
+        |alloc, bytes| line(alloc, "a log", bytes, false),
+    )
 }
 
 #[test]
 fn a_log_with_bytes_left_over_can_be_allowed(rt: HostRuntime) -> Result<(), Fail> {
-    each_shows(rt.alloc(), &ALLOWED, |alloc, bytes| line(alloc, "a log", bytes, true))
+    each_shows(
+        rt.alloc(),
+        &ALLOWED,
+        |alloc, bytes| line(alloc, "a log", bytes, true),
+    )
 }
 
 #[test]

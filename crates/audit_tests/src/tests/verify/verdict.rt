@@ -165,7 +165,7 @@ fn check(alloc: Global, row: &Row) -> Result<(), Fail> {
             row.lines
         )));
     }
-    if verdict.is_agreement() != (differing + undetermined == 0) {
+    if verdict.is_agreement() != (differing == 0 && undetermined == 0) {
         return Err(Fail::new("the verdict isn't what its counts say"));
     }
     Ok(())
