@@ -1,7 +1,8 @@
 """Golden cases: a folder for each, with the files that `rt` knows of a program.
 
 `args` has an argument a line; `stdin` what is read from standard input; `data/` the files of the folder that it runs
-in; `stdout`, `stderr` and `status` what it has to end with. Each but `args` may be missing: then it is empty, or 0.
+in, and `samples` the names of those of `samples/` that are there too; `stdout`, `stderr` and `status` what it has to
+end with. Each but `args` may be missing: then it is empty, or 0.
 """
 import os
 import shutil
@@ -10,6 +11,7 @@ import tempfile
 
 from telling import tells
 
+SAMPLES = f"{os.path.dirname(os.path.dirname(os.path.realpath(__file__)))}/samples"
 
 def read(path):
     """The bytes of a file, none if it isn't there."""
@@ -22,6 +24,7 @@ def read(path):
 class Case:
     def __init__(self, folder):
         self.name, self.data = os.path.basename(folder), f"{folder}/data"
+        self.samples = read(f"{folder}/samples").decode().split()
         self.args, self.stdin = read(f"{folder}/args").splitlines(), read(f"{folder}/stdin")
         self.expected = int(read(f"{folder}/status") or 0), read(f"{folder}/stdout"), read(f"{folder}/stderr")
 
@@ -42,4 +45,6 @@ def is_as_expected(program, case):
     with tempfile.TemporaryDirectory(prefix="golden-") as room:
         if os.path.isdir(case.data):
             shutil.copytree(case.data, room, dirs_exist_ok=True)
+        for name in case.samples:
+            shutil.copy(f"{SAMPLES}/{name}", room)
         return tells(case.name, end_of(program, case.args, case.stdin, cwd=room), case.expected)

@@ -10,8 +10,8 @@ import crates
 
 TOP = crates.TOP
 NAME = r"(?<![\w'])[^\W\d][\w'-]*"
-# Words of the language, tactics among them, which no file defines.
-KEYWORDS = set("abbrev data do else ghost hlevel if in let omega open pub record result self Self then tt Type Unit unfoldable where λ _ 𝓛".split())
+# Words of the language, tactics among them, which no file defines, and variants that a clause needs no import for.
+KEYWORDS = set("Err None Ok Some abbrev data do else ghost hlevel if in let omega open pub record result self Self then tt Type Unit unfoldable where λ _ 𝓛".split())
 
 
 class Unread(Exception):
@@ -212,8 +212,9 @@ class Code:
         for _, text in sources(crate):
             for pub, name in re.findall(r"^\s*(pub )?(?:pub\(\w+\) )?(?:enum|struct) (\w+)", text, re.M):
                 types[bool(pub)].add(name)
-        # What a trait's method promises of a type that no other crate sees is private.
-        self.hidden = types[False] - types[True]
+        # What a trait's method promises of a type of a library that no other crate sees is private.
+        is_library = os.path.isfile(f"{TOP}/crates/{crate}/src/lib.rt")
+        self.hidden = types[False] - types[True] if is_library else set()
         for path, text in sources(crate):
             self.names |= set(re.findall(r"\b(?:enum|struct|trait|type|const|ghost)\s+(\w+)", text))
             modules = [it for it in path.removesuffix(".rt").split("/")[3:] if it != "lib"]

@@ -1,5 +1,5 @@
 -- What the values that `clap` found ask for.
-use Rattle.std.specs.Prelude.{ℕ, ◌≡◌, ◌<◌, ◌^◌, List, map, codes, Bool, true, false, Option, None, Some}
+use Rattle.std.specs.Prelude.{ℕ, ◌≡◌, ◌<◌, ◌^◌, List, map, codes, Bool, true, false, Option, None, Some, unwrap_or}
 use Rattle.std.specs.Option.{option_map}
 use Rattle.std.specs.Borrow.{Bor}
 use Rattle.std.specs.Str.Parse.{IsNumeral, digits_value, without_leading_plus}
@@ -40,13 +40,15 @@ AsksFlag found id given = FlagIs (one_text found id) given
 abbrev pub IsNumberBelow : ℕ → List ℕ → ℕ → Type 0
 IsNumberBelow bound text n = let digits = without_leading_plus text in IsNumeral 10 digits × (digits_value 10 digits ≡ n) × (n < bound)
 
--- How many rows a table may have by the text of `--max-rows`: 256 without one.
-abbrev pub NamesMaxRows : Option (List ℕ) → ℕ → Type 0
-NamesMaxRows None rows = rows ≡ 256
-NamesMaxRows (Some text) rows = IsNumberBelow (2 ^ 32) text rows
+-- The number by the text of `--max-rows`: none without one, else the number that it is, below 2^32.
+abbrev pub NamesMaxRows : Option (List ℕ) → Option ℕ → Type 0
+NamesMaxRows None rows = rows ≡ None
+NamesMaxRows (Some text) (Some n) = IsNumberBelow (2 ^ 32) text n
+NamesMaxRows (Some text) None = (n : ℕ) → IsNumberBelow (2 ^ 32) text n → ⊥
 
+-- How many rows a table may have: 256 if no number is stated.
 abbrev pub AsksMaxRows : Found → ℕ → Type 0
-AsksMaxRows found rows = NamesMaxRows (one_text found (codes "max-rows")) rows
+AsksMaxRows found rows = (stated : Option ℕ) × NamesMaxRows (one_text found (codes "max-rows")) stated × (rows ≡ unwrap_or stated 256)
 
 -- How logs are read.
 abbrev pub AsksReading : Found → Reading → Type 0

@@ -1,8 +1,5 @@
 -- Whether a log can be judged, and which status follows from what was found.
-use Rattle.std.specs.Prelude.{Bool, true, false, ◌||◌, ◌==◌, not, List, Option, None, Some, nat_lt}
-use Rattle.std.specs.List.{list_any, is_empty}
-use Rattle.std.specs.Result.{is_err}
-use Rattle.uefi_auditing.specs.Replay.{BankOutcomes}
+use Rattle.std.specs.Prelude.{Bool, true, false, ◌||◌, not, nat_lt, if◌then◌else◌}
 use Rattle.uefi_auditing.specs.verify.Verdict.{is_agreement}
 use Rattle.uefi_auditing.specs.declared.verify.comparison.Verdict.{Verdict}
 use Rattle.uefi_audit.specs.declared.judging.Judgement.{Judgement}

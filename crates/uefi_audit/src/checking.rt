@@ -48,8 +48,7 @@ fn push_events(
 ) -> Result<bool, AllocError> {
     let name = shown(alloc, file.name)?;
     let mut all_match = true;
-    let mut index = 0;
-    for entry in file.log.entries() {
+    for (index, entry) in file.log.entries().enumerate() {
         let checked = check(alloc, &entry.event)?;
         summary.add(entry.event.event_type(), checked)?;
         if checked == Checked::MatchesNone {
@@ -66,7 +65,6 @@ fn push_events(
                 Format::Json => push_mismatch(text, alloc, file.name, index, &entry)?,
             }
         }
-        index += 1;
     }
     Ok(all_match)
 }

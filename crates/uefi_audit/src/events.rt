@@ -2,8 +2,8 @@ use crate::commands::print_text;
 use crate::failure::{Failure, Status};
 use crate::judging::judge;
 use crate::request::{Format, Reading};
-use std::alloc::{AllocError, Global};
 use std::io;
+use uefi_auditing::events::push_event_blocks;
 use uefi_auditing::json::push_events;
 use uefi_auditing::text::LogFile;
 
@@ -24,13 +24,4 @@ pub(crate) fn show_events<R: Print + Eprint + AllocGlobal>(
         print_text(&mut io::writer(rt), text.as_str())?;
     }
     Ok(judgement.status())
-}
-
-// A stand-in.
-fn push_event_blocks(
-    text: &mut String,
-    alloc: Global,
-    file: &LogFile<'_>,
-) -> Result<(), AllocError> {
-    push_events(text, alloc, file)
 }

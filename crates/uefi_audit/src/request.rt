@@ -1,8 +1,8 @@
 ghost use Rattle.std.specs.Prelude.{◌≡◌, ℕ, codes, IfSome, IfNone, MatchOption, Option};
-ghost use Rattle.clap.specs.Words.{found_of};
+ghost use Rattle.clap.specs.Words.{found_of, one_text};
 ghost use Rattle.pcr_replay.specs.declared.bank.Bank.{Bank};
 ghost use Rattle.pcr_replay.specs.declared.log.LastEntry.{LastEntry};
-ghost use Rattle.uefi_audit.specs.CommandLine.{Asks, AsksBank, AsksFormat, AsksLastEntry, AsksLocality, AsksReading, AskForNoRequest, AskForNothing, IsDecimal};
+ghost use Rattle.uefi_audit.specs.CommandLine.{Asks, AsksBank, AsksFormat, AsksLastEntry, AsksLocality, AsksMaxRows, AsksReading, AskForNoRequest, AskForNothing, IsDecimal, NamesMaxRows};
 
 use clap::ArgMatches;
 use pcr_replay::{Bank, LastEntry};
@@ -172,8 +172,22 @@ pub(crate) fn reading_of(matches: &ArgMatches<'_>) -> Option<Reading>
     Some(Reading {
         last_entry,
         allow_left_over,
-        max_rows: matches.get_one::<u32>("max-rows").unwrap_or(MAX_ROWS),
+        max_rows: max_rows_of(matches),
     })
+}
+
+/// Returns how many rows a command's matches allow a table.
+fn max_rows_of(matches: &ArgMatches<'_>) -> u32
+    ensures { AsksMaxRows (found_of matches.now) result }
+{
+    stated_max_rows(matches).unwrap_or(MAX_ROWS)
+}
+
+/// Returns the number that a command's matches state for `--max-rows`, if they state one.
+fn stated_max_rows(matches: &ArgMatches<'_>) -> Option<u32>
+    ensures { NamesMaxRows (one_text (found_of matches.now) (codes "max-rows")) result }
+{
+    matches.get_one::<u32>("max-rows")
 }
 
 /// Returns the last entry that a command's matches ask for; `None` if `--last-entry` has a word

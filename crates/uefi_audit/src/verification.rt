@@ -79,17 +79,20 @@ fn selected(
     ensures { IfOk result
         (λ selected. selected.items ≡ filter (is_selected selection.now) held.now) }
 {
-    let mut selected = Vec::new(alloc);
-    for pcr in held {
-        let is_selected = match selection {
-            Some(selection) => selection.is_selected(pcr.bank, pcr.pcr),
-            None => true,
-        };
-        if is_selected {
-            selected.push(*pcr)?;
-        }
+    held.iter()
+        .copied()
+        .filter(|pcr| is_selected(selection, pcr))
+        .collect(alloc)
+}
+
+/// Returns whether a PCR that the TPM held is selected. Without a selection each is.
+fn is_selected(selection: &Option<PcrSelection>, held: &HeldPcr) -> bool
+    ensures { result ≡ is_selected selection.now held.now }
+{
+    match selection {
+        Some(selection) => selection.is_selected(held.bank, held.pcr),
+        None => true,
     }
-    Ok(selected)
 }
 
 /// Appends a line for each PCR that is selected and that the TPM isn't said to have held. Returns

@@ -1,3 +1,6 @@
+pub mod BeforeNul
+pub mod SizeRows
+pub mod NoFloatsInContent
 pub mod NoFloats
 pub mod NoFloatsInReplay
 pub mod NoFloatsInVerdict

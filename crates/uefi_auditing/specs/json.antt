@@ -1,5 +1,10 @@
 pub mod Names
 pub mod Line
+pub mod Texts
+pub mod Algorithm
+pub mod Parts
+pub mod Values
+pub mod Firmware
 pub mod Content
 pub mod Event
 pub mod Events

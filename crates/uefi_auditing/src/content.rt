@@ -1,24 +1,38 @@
 //! What the data of an event say, where they are read.
 //!
-//! Begin with [`read_content`].
+//! Begin with [`read_content`], which returns a [`Content`]. What it holds are views of
+//! [`uefi_tcg::content`], of [`uefi_tcg::v2`] and of [`uefi_path`], which allocate nothing.
 
-ghost use Rattle.std.specs.Prelude.{◌≡◌};
+ghost use Rattle.std.specs.Prelude.{◌≡◌, option_map};
 ghost use Rattle.std.specs.List.{list_all};
 ghost use Rattle.pcr_replay.specs.Start.{locality_in};
 ghost use Rattle.pcr_replay.specs.Views.{event_of};
-ghost use Rattle.uefi_auditing.specs.content.Content.{Says, form_of, is_printed, locality_content, separator_content, text_content};
+ghost use Rattle.uefi_tcg.specs.v2.Views.{header_of};
+ghost use Rattle.uefi_auditing.specs.content.Content.{BlobContent, ImageContent, NoActionContent, PostCodeContent, Says, are_printed, form_of, is_printed, separator_content, text_content};
+ghost use Rattle.uefi_auditing.specs.content.Header.{ReadsHeader};
 ghost use Rattle.uefi_auditing.specs.content.Views.{content_of};
-ghost use Rattle.uefi_auditing.specs.declared.content.form.Form.TheVariants.{OfImage, OfVariable};
+ghost use Rattle.uefi_auditing.specs.declared.content.form.Form.TheVariants.{OfAuthority, OfCrtmVersion, OfDescribedBlob, OfGpt, OfImage, OfLoaderText, OfTagged, OfVariable};
 
+pub use self::tagged::TaggedData;
+pub use self::value::VariableValue;
 use crate::content::form::{Form, form_of};
 use crate::content::path::whole_path;
+use crate::content::value::read_value;
+use crate::content::value_form::{authority_form, value_form};
 use pcr_replay::{LogEvent, locality_in};
 use uefi_base::little_endian::u32_at;
 use uefi_path::DevicePath;
-use uefi_tcg::content::{ImageLoadEvent, VariableData};
+use uefi_tcg::content::{
+    CrtmVersion, EventText, GptData, ImageLoadEvent, PlatformFirmwareBlob, PlatformFirmwareBlob2,
+    VariableData,
+};
+use uefi_tcg::v2::EventLogHeader;
 
 mod form;
 mod path;
+mod tagged;
+mod value;
+mod value_form;
 
 /// What the data of an event say, where they are read.
 #[derive(Clone, Copy)]
@@ -31,8 +45,22 @@ pub enum Content<'a> {
     Separator(u32),
     /// The locality at which the TPM was started.
     Locality(u8),
-    /// A variable that was measured.
-    Variable(VariableData<'a>),
+    /// The header of a log.
+    Header(EventLogHeader<'a>),
+    /// What a boot loader says of what it measured.
+    LoaderText(EventText<'a>),
+    /// The version of the static root of trust for measurement.
+    CrtmVersion(CrtmVersion<'a>),
+    /// A blob of firmware.
+    Blob(PlatformFirmwareBlob),
+    /// A blob of firmware with a description.
+    DescribedBlob(PlatformFirmwareBlob2<'a>),
+    /// Tagged events, and the bytes after them.
+    Tagged(TaggedData<'a>),
+    /// The partition table of a disk.
+    Gpt(GptData<'a>),
+    /// A variable that was measured, and what its value says.
+    Variable(VariableData<'a>, VariableValue<'a>),
     /// An image that was loaded, and its device path, if its bytes are one.
     Image(ImageLoadEvent<'a>, Option<DevicePath<'a>>),
 }
@@ -45,23 +73,46 @@ pub fn read_content<'a>(event: &LogEvent<'a>) -> Content<'a>
 {
     let bytes = event.event_data();
     match form_of(event.event_type()) {
-        Form::OfLocality => locality_content(bytes),
+        Form::OfNoAction => no_action_content(bytes),
         Form::OfSeparator => separator_content(bytes),
         Form::OfText => text_content(bytes),
+        Form::OfPostCode => post_code_content(bytes),
+        Form::OfBlob => blob_content(bytes),
+        Form::OfDescribedBlob => described_blob_content(bytes),
+        Form::OfLoaderText => loader_text_content(bytes),
+        Form::OfCrtmVersion => crtm_version_content(bytes),
+        Form::OfTagged => Content::Tagged(TaggedData::new(bytes)),
+        Form::OfGpt => gpt_content(bytes),
         Form::OfVariable => variable_content(bytes),
+        Form::OfAuthority => authority_content(bytes),
         Form::OfImage => image_content(bytes),
         Form::Other => Content::Unread,
     }
 }
 
-/// Returns the locality that data state.
-fn locality_content(bytes: &[u8]) -> Content<'_>
-    ensures { content_of result ≡ locality_content (locality_in bytes.now) }
+/// Returns the locality that data state, or the header that they have.
+#[tactic(auto, unfolding(crate::specs::content::Content::NoActionContent))]
+fn no_action_content(bytes: &[u8]) -> Content<'_>
+    ensures { NoActionContent (locality_in bytes.now) bytes.now (content_of result) }
 {
-    match locality_in(bytes) {
-        Some(locality) => Content::Locality(locality),
+    if let Some(locality) = locality_in(bytes) {
+        return Content::Locality(locality);
+    }
+    match header_in(bytes) {
+        Some(header) => Content::Header(header),
         None => Content::Unread,
     }
+}
+
+/// Returns the header that data begin with.
+#[tactic(auto, unfolding(crate::specs::content::Header::ReadsHeader))]
+fn header_in(bytes: &[u8]) -> Option<EventLogHeader<'_>>
+    ensures { ReadsHeader bytes.now (option_map header_of result) }
+{
+    if bytes.len() > u32::MAX as usize {
+        return None;
+    }
+    EventLogHeader::read(bytes)
 }
 
 /// Returns the number of a separator.
@@ -88,6 +139,17 @@ fn text_content(bytes: &[u8]) -> Content<'_>
     }
 }
 
+/// Returns the text that data are, or the blob.
+#[tactic(auto, unfolding(crate::specs::content::Content::PostCodeContent))]
+fn post_code_content(bytes: &[u8]) -> Content<'_>
+    ensures { PostCodeContent (are_printed bytes.now) bytes.now (content_of result) }
+{
+    if are_printed(bytes) {
+        return text_content(bytes);
+    }
+    blob_content(bytes)
+}
+
 /// Returns whether each byte is a character of ASCII that prints, or a space.
 fn are_printed(bytes: &[u8]) -> bool
     ensures { result ≡ list_all is_printed bytes.now }
@@ -95,15 +157,84 @@ fn are_printed(bytes: &[u8]) -> bool
     bytes.iter().all(|byte| matches!(*byte, b' '..=b'~'))
 }
 
-/// Returns the variable that data are.
+/// Returns the blob that data are.
+#[tactic(auto, unfolding(crate::specs::content::Content::BlobContent))]
+fn blob_content(bytes: &[u8]) -> Content<'_>
+    ensures { BlobContent bytes.now (content_of result) }
+{
+    match PlatformFirmwareBlob::read(bytes) {
+        Some(blob) => Content::Blob(blob),
+        None => Content::Unread,
+    }
+}
+
+/// Returns the blob with a description that data are.
 #[tactic(auto, unfolding(crate::specs::content::Content::Says))]
+fn described_blob_content(bytes: &[u8]) -> Content<'_>
+    ensures { Says OfDescribedBlob bytes.now (content_of result) }
+{
+    match PlatformFirmwareBlob2::read(bytes) {
+        Some(blob) => Content::DescribedBlob(blob),
+        None => Content::Unread,
+    }
+}
+
+/// Returns the boot loader's text that data are.
+#[tactic(auto, unfolding(crate::specs::content::Content::Says))]
+fn loader_text_content(bytes: &[u8]) -> Content<'_>
+    ensures { Says OfLoaderText bytes.now (content_of result) }
+{
+    match EventText::read(bytes) {
+        Some(text) => Content::LoaderText(text),
+        None => Content::Unread,
+    }
+}
+
+/// Returns the version that data are.
+#[tactic(auto, unfolding(crate::specs::content::Content::Says))]
+fn crtm_version_content(bytes: &[u8]) -> Content<'_>
+    ensures { Says OfCrtmVersion bytes.now (content_of result) }
+{
+    match CrtmVersion::read(bytes) {
+        Some(version) => Content::CrtmVersion(version),
+        None => Content::Unread,
+    }
+}
+
+/// Returns the partition table that data are.
+#[tactic(auto, unfolding(crate::specs::content::Content::Says))]
+fn gpt_content(bytes: &[u8]) -> Content<'_>
+    ensures { Says OfGpt bytes.now (content_of result) }
+{
+    match GptData::read(bytes) {
+        Some(gpt) => Content::Gpt(gpt),
+        None => Content::Unread,
+    }
+}
+
+/// Returns the variable that data are, with what its value says.
+#[tactic(auto, unfolding(crate::specs::content::Content::Says, crate::specs::content::Content::VariableContent))]
 fn variable_content(bytes: &[u8]) -> Content<'_>
     ensures { Says OfVariable bytes.now (content_of result) }
 {
-    match VariableData::read(bytes) {
-        Some(variable) => Content::Variable(variable),
-        None => Content::Unread,
-    }
+    let Some(variable) = VariableData::read(bytes) else {
+        return Content::Unread;
+    };
+    let value = read_value(value_form(variable.guid, &variable.name), variable.data);
+    Content::Variable(variable, value)
+}
+
+/// Returns the variable that data are, with the signature that its value is.
+#[tactic(auto, unfolding(crate::specs::content::Content::Says, crate::specs::content::Content::VariableContent))]
+fn authority_content(bytes: &[u8]) -> Content<'_>
+    ensures { Says OfAuthority bytes.now (content_of result) }
+{
+    let Some(variable) = VariableData::read(bytes) else {
+        return Content::Unread;
+    };
+    let form = authority_form(variable.guid, &variable.name);
+    let value = read_value(form, variable.data);
+    Content::Variable(variable, value)
 }
 
 /// Returns the image that data are, with its device path.

@@ -16,7 +16,7 @@ pub use self::replay::push_replay_json;
 pub use self::verdict::push_verdict_json;
 
 mod bank;
-mod content;
+pub(crate) mod content;
 mod digests;
 mod event;
 mod events;

@@ -3,8 +3,8 @@
 
 ghost use Rattle.uefi_auditing.specs.Laws.{OneContent};
 
-use uefi_path::laws::one_front;
-use uefi_tcg::laws::one_value;
+use uefi_path::laws::{one_front, one_load_option};
+use uefi_tcg::laws::{one_boot_order, one_gpt_data, one_signature, one_value};
 
 /// States that the data of an event say one thing, by the form that its type gives them. So an
 /// event has one line, as [`event_line`](crate::event_line) promises it.
@@ -12,5 +12,9 @@ pub fn one_content()
     ensures { OneContent }
 {
     one_front();
+    one_load_option();
     one_value();
+    one_gpt_data();
+    one_boot_order();
+    one_signature();
 }

@@ -13,6 +13,7 @@
 pub mod check;
 pub mod content;
 pub mod diff;
+pub mod events;
 pub mod json;
 pub mod laws;
 pub mod replay;

@@ -1,5 +1,7 @@
 //! The lines of events.
 
+mod blocks;
+mod contents;
 mod logs;
 mod machine_log;
 mod names;

@@ -1,17 +1,83 @@
 -- Data of a form say one thing.
-use Rattle.std.proofs.Common.{◌≡◌, [], ◌++◌, sym, ap, ◌∙◌, Option, Some, None, subst}
+use Rattle.std.proofs.Common.{◌≡◌, ℕ, List, [], ◌++◌, sym, refl, ap, ◌∙◌, Bool, true, false, Option, Some, None, subst}
 use Rattle.uefi_path.specs.Laws.{OneFront}
 use Rattle.uefi_path.specs.Node.{joined}
 use Rattle.uefi_path.specs.Path.{IsPath}
+use Rattle.uefi_tcg.specs.content.Blob.{IsBlob, IsDescribedBlob, blob_bytes, described_bytes}
+use Rattle.uefi_tcg.specs.content.CrtmVersion.{IsCrtmVersion, crtm_version_bytes}
+use Rattle.uefi_tcg.specs.content.Gpt.{IsGptData, OneGptData, gpt_bytes}
 use Rattle.uefi_tcg.specs.content.Image.{Image, IsImage, image_bytes}
 use Rattle.uefi_tcg.specs.content.Laws.{OneEncoded, OneValue}
-use Rattle.uefi_tcg.specs.content.Variable.{IsVariable, variable_bytes}
+use Rattle.uefi_tcg.specs.content.Reading.{Reads}
+use Rattle.uefi_tcg.specs.content.Text.{IsEventText, text_bytes}
+use Rattle.uefi_tcg.specs.content.Variable.{IsVariable, Variable, variable_bytes}
+use Rattle.uefi_tcg.specs.v2.Header.{Header}
 use Rattle.uefi_tcg.proofs.content.OneValue.{one_read}
-use Rattle.uefi_auditing.specs.content.Content.{Content, Says, ImageContent, variable_content, image}
+use Rattle.uefi_tcg.proofs.v2.HeaderBytes.{one_prefix_header}
+use Rattle.pcr_replay.specs.Start.{locality_in}
+use Rattle.uefi_auditing.specs.content.Content.{BlobContent, Content, ImageContent, NoActionContent, PostCodeContent, Says, VariableContent}
+use Rattle.uefi_auditing.specs.content.Content.{are_printed, blob, crtm_version, described_blob, gpt, header, image, loader_text, or_unread, tagged, variable}
+use Rattle.uefi_auditing.specs.content.Header.{ReadsHeader}
 use Rattle.uefi_auditing.specs.content.Path.{ReadsNodes}
+use Rattle.uefi_auditing.specs.content.Value.{SaysValue, Value, authority_form, value_form}
 use Rattle.uefi_auditing.specs.Laws.{OneContent}
-use Rattle.uefi_auditing.specs.declared.content.form.Form.TheVariants.{OfLocality, OfSeparator, OfText, OfVariable, OfImage}
-use Rattle.uefi_auditing.specs.declared.content.form.Form.TheVariants.{Other}
+use Rattle.uefi_auditing.specs.declared.content.form.Form.TheVariants.{OfNoAction, OfSeparator, OfText, OfPostCode, OfBlob, OfDescribedBlob}
+use Rattle.uefi_auditing.specs.declared.content.form.Form.TheVariants.{OfLoaderText, OfCrtmVersion, OfTagged, OfGpt, OfVariable, OfAuthority, OfImage, Other}
+use Rattle.uefi_auditing.specs.declared.content.value_form.ValueForm.{ValueForm}
+use Rattle.uefi_auditing.proofs.content.OneValue.{OneOfEach, one_value}
+
+-- The laws that this rests on.
+pub record ReadersLaws : Type 0 where
+  pub front : OneFront
+  pub readers : OneValue
+  pub gpt : OneGptData
+  pub values : OneOfEach
+
+-- What is found under a law.
+one_found : {A : Type 0} (Is : A → Type 0) (encoding : A → List ℕ) (says : A → Content) → OneEncoded Is encoding
+    → (bytes : List ℕ) (a b : Content) → ((found : Option A) × Reads Is encoding bytes found × (a ≡ or_unread says found))
+    → ((found : Option A) × Reads Is encoding bytes found × (b ≡ or_unread says found)) → a ≡ b
+one_found Is encoding says one bytes a b (found, read, is) (also, other, that) =
+    is ∙ ap (or_unread says) (one_read Is encoding one bytes found also read other) ∙ sym that
+
+-- At most one header.
+same_header : (bytes : List ℕ) (found also : Option Header) → ReadsHeader bytes found → ReadsHeader bytes also → found ≡ also
+unfolding ReadsHeader
+same_header bytes (Some h) (Some k) read other =
+    ap Some (one_prefix_header h k bytes read.is_header other.is_header read.begins other.begins)
+same_header bytes (Some h) None read none = absurd (none h read)
+same_header bytes None (Some k) none other = absurd (none k other)
+same_header bytes None None none other = refl
+
+no_action : (stated : Option ℕ) (bytes : List ℕ) (a b : Content) → NoActionContent stated bytes a → NoActionContent stated bytes b
+    → a ≡ b
+unfolding NoActionContent
+no_action (Some number) bytes a b says other = says ∙ sym other
+no_action None bytes a b (found, read, is) (also, other, that) =
+    is ∙ ap (or_unread header) (same_header bytes found also read other) ∙ sym that
+
+one_blob : OneValue → (bytes : List ℕ) (a b : Content) → BlobContent bytes a → BlobContent bytes b → a ≡ b
+unfolding BlobContent
+one_blob values bytes a b says other = one_found IsBlob blob_bytes blob values.blob bytes a b says other
+
+post_code : OneValue → (printed : Bool) (bytes : List ℕ) (a b : Content) → PostCodeContent printed bytes a
+    → PostCodeContent printed bytes b → a ≡ b
+unfolding PostCodeContent
+post_code values true bytes a b says other = says ∙ sym other
+post_code values false bytes a b says other = one_blob values bytes a b says other
+
+-- One variable with one value.
+one_measured : OneOfEach → (form : List ℕ → List ℕ → ValueForm) (found also : Option Variable) (a b : Content)
+    → found ≡ also → VariableContent form found a → VariableContent form also b → a ≡ b
+unfolding VariableContent
+one_measured laws form (Some v) (Some w) a b same (value, says, is) (also, other, that) =
+    let read_same : v ≡ w = cc in
+    let value_same : value ≡ also = one_value laws (form w.guid w.name) w.payload value also
+    (subst (λ (x : Variable). SaysValue (form x.guid x.name) x.payload value) read_same says) other in
+    is ∙ ap (λ x. variable x value) read_same ∙ ap (variable w) value_same ∙ sym that
+one_measured laws form (Some v) None a b same says other = cc
+one_measured laws form None (Some w) a b same says other = cc
+one_measured laws form None None a b same says other = says ∙ sym other
 
 -- At most one path has these bytes.
 one_path : OneFront → OneEncoded IsPath joined
@@ -30,13 +96,30 @@ one_loaded law None (Some w) a b same says other = cc
 one_loaded law None None a b same says other = says ∙ sym other
 
 -- All of this, as the law states it.
-pub one_content : OneFront → OneValue → OneContent
+pub one_content : ReadersLaws → OneContent
 unfolding Says
-one_content law values OfLocality bytes a b says other = says ∙ sym other
-one_content law values OfSeparator bytes a b says other = says ∙ sym other
-one_content law values OfText bytes a b says other = says ∙ sym other
-one_content law values OfVariable bytes a b (found, read, is) (also, other, that) =
-    is ∙ ap variable_content (one_read IsVariable variable_bytes values.variable bytes found also read other) ∙ sym that
-one_content law values OfImage bytes a b (found, read, is) (also, other, that) =
-    one_loaded law found also a b (one_read IsImage image_bytes values.image bytes found also read other) is that
-one_content law values Other bytes a b says other = says ∙ sym other
+one_content laws OfNoAction bytes a b says other = no_action (locality_in bytes) bytes a b says other
+one_content laws OfSeparator bytes a b says other = says ∙ sym other
+one_content laws OfText bytes a b says other = says ∙ sym other
+one_content laws OfPostCode bytes a b says other = post_code laws.readers (are_printed bytes) bytes a b says other
+one_content laws OfBlob bytes a b says other = one_blob laws.readers bytes a b says other
+one_content laws OfDescribedBlob bytes a b says other =
+    one_found IsDescribedBlob described_bytes described_blob laws.readers.described_blob bytes a b says other
+one_content laws OfLoaderText bytes a b says other =
+    one_found IsEventText text_bytes loader_text laws.readers.text bytes a b says other
+one_content laws OfCrtmVersion bytes a b says other =
+    one_found IsCrtmVersion crtm_version_bytes crtm_version laws.readers.crtm_version bytes a b says other
+one_content laws OfTagged bytes a b (events, rest, are, is) (others, left, also, that) =
+    let both = laws.readers.tagged bytes events others rest left are also in
+    is ∙ (λ i. tagged (both.0 i) (both.1 i)) ∙ sym that
+one_content laws OfGpt bytes a b says other = one_found IsGptData gpt_bytes gpt laws.gpt bytes a b says other
+one_content laws OfVariable bytes a b (found, read, is) (also, other, that) =
+    one_measured laws.values value_form found also a b
+    (one_read IsVariable variable_bytes laws.readers.variable bytes found also read other) is that
+one_content laws OfAuthority bytes a b (found, read, is) (also, other, that) =
+    one_measured laws.values authority_form found also a b
+    (one_read IsVariable variable_bytes laws.readers.variable bytes found also read other) is that
+one_content laws OfImage bytes a b (found, read, is) (also, other, that) =
+    one_loaded laws.front found also a b (one_read IsImage image_bytes laws.readers.image bytes found also read other) is
+    that
+one_content laws Other bytes a b says other = says ∙ sym other

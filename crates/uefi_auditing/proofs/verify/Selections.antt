@@ -6,7 +6,8 @@ use Rattle.pcr_replay.specs.declared.bank.Bank.{Bank}
 use Rattle.uefi_auditing.specs.text.Banks.{bank_name}
 use Rattle.uefi_auditing.specs.declared.verify.selection.Range.{Range}
 use Rattle.uefi_auditing.specs.verify.Reading.{Lacks}
-use Rattle.uefi_auditing.specs.verify.Selection.{AreItems, AreNamed, IsCut, IsItem, IsPcrNumber, IsSelection, is_in, is_named}
+use Rattle.uefi_auditing.specs.private.verify.Selected.{AreNamed}
+use Rattle.uefi_auditing.specs.verify.Selection.{AreItems, IsCut, IsItem, IsPcrNumber, IsSelection, is_in, is_named}
 use Rattle.uefi_auditing.proofs.verify.Cuts.{cuts_agree, no_cut}
 
 -- A text has one number.

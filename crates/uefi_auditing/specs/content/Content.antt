@@ -1,38 +1,63 @@
 -- What the data of an event say, by the event's type (TCG PC Client Platform Firmware Profile 1.06, 10.4.1).
-use Rattle.std.specs.Prelude.{ℕ, ◌≡◌, ◌==◌, ◌&&◌, ◌||◌, nat_le, List, length, Option, Some, None, Bool, if◌then◌else◌}
+use Rattle.std.specs.Prelude.{ℕ, ◌≡◌, ◌==◌, ◌&&◌, ◌||◌, nat_le, List, length, Option, Some, None, Bool, true, false, if◌then◌else◌}
 use Rattle.std.specs.List.{list_all}
 use Rattle.uefi_base.specs.LittleEndian.{u32_at}
 use Rattle.uefi_path.specs.Node.{Node}
 use Rattle.pcr_replay.specs.Start.{locality_in}
+use Rattle.uefi_tcg.specs.content.Blob.{Blob, DescribedBlob, ReadsBlob, ReadsDescribedBlob}
+use Rattle.uefi_tcg.specs.content.CrtmVersion.{CrtmVersion, ReadsCrtmVersion}
+use Rattle.uefi_tcg.specs.content.Gpt.{GptData, ReadsGptData}
 use Rattle.uefi_tcg.specs.content.Image.{Image, ReadsImage}
+use Rattle.uefi_tcg.specs.content.Tagged.{Tagged, AreTagged}
+use Rattle.uefi_tcg.specs.content.Text.{EventText, ReadsText}
 use Rattle.uefi_tcg.specs.content.Variable.{Variable, ReadsVariable}
+use Rattle.uefi_tcg.specs.v2.Header.{Header}
+use Rattle.uefi_auditing.specs.content.Header.{ReadsHeader}
 use Rattle.uefi_auditing.specs.content.Path.{ReadsNodes}
+use Rattle.uefi_auditing.specs.content.Value.{Value, SaysValue, authority_form, value_form}
 use Rattle.uefi_auditing.specs.declared.content.form.Form.{Form}
-use Rattle.uefi_auditing.specs.declared.content.form.Form.TheVariants.{OfLocality, OfSeparator, OfText, OfVariable, OfImage, Other}
+use Rattle.uefi_auditing.specs.declared.content.form.Form.TheVariants.{OfNoAction, OfSeparator, OfText, OfPostCode, OfBlob, OfDescribedBlob}
+use Rattle.uefi_auditing.specs.declared.content.form.Form.TheVariants.{OfLoaderText, OfCrtmVersion, OfTagged, OfGpt, OfVariable, OfAuthority, OfImage, Other}
+use Rattle.uefi_auditing.specs.declared.content.value_form.ValueForm.{ValueForm}
 
--- What data say: a text, the number of a separator, the locality at which the TPM was started, a variable, an image with the nodes of its device path; or nothing that is read here.
+-- What data say: a text, the number of a separator, the locality at which the TPM was started, the header of a log, a boot loader's text, the version of the root of trust, a blob of firmware without a description and with one, tagged events and the bytes after them, a partition table, a variable with what its value says, an image with the nodes of its device path; or nothing that is read here.
 pub data Content : Type 0 where
   unread : Content
   text : List ℕ → Content
   separator : ℕ → Content
   locality : ℕ → Content
-  variable : Variable → Content
+  header : Header → Content
+  loader_text : EventText → Content
+  crtm_version : CrtmVersion → Content
+  blob : Blob → Content
+  described_blob : DescribedBlob → Content
+  tagged : List Tagged → List ℕ → Content
+  gpt : GptData → Content
+  variable : Variable → Value → Content
   image : Image → Option (List Node) → Content
 
 -- The form that data have in events of a type.
 unfoldable pub form_of : ℕ → Form
 form_of event_type =
-    if event_type == 0x03 then OfLocality
+    if event_type == 0x01 then OfPostCode
+    else if event_type == 0x03 then OfNoAction
     else if event_type == 0x04 then OfSeparator
     else if (event_type == 0x05) || (event_type == 0x12) || (event_type == 0x80000007) || (event_type == 0x80000010) then OfText
-    else if (event_type == 0x80000001) || (event_type == 0x80000002) || (event_type == 0x8000000c) || (event_type == 0x800000e0) then OfVariable
+    else if event_type == 0x06 then OfTagged
+    else if event_type == 0x08 then OfCrtmVersion
+    else if event_type == 0x0d then OfLoaderText
+    else if (event_type == 0x13) || (event_type == 0x8000000a) then OfDescribedBlob
+    else if (event_type == 0x80000001) || (event_type == 0x80000002) || (event_type == 0x8000000c) then OfVariable
     else if (event_type == 0x80000003) || (event_type == 0x80000004) || (event_type == 0x80000005) then OfImage
+    else if (event_type == 0x80000006) || (event_type == 0x8000000d) then OfGpt
+    else if event_type == 0x80000008 then OfBlob
+    else if event_type == 0x800000e0 then OfAuthority
     else Other
 
--- The locality that data state, which are `StartupLocality`, a zero byte and it.
-abbrev pub locality_content : Option ℕ → Content
-locality_content (Some number) = locality number
-locality_content None = unread
+-- What is found, or nothing.
+abbrev pub or_unread : {A : Type 0} → (A → Content) → Option A → Content
+or_unread says (Some found) = says found
+or_unread says None = unread
 
 -- The number of a separator: the four bytes, little-endian.
 abbrev pub separator_content : List ℕ → Content
@@ -42,12 +67,31 @@ separator_content bytes = if length bytes == 4 then separator (u32_at bytes 0) e
 abbrev pub is_printed : ℕ → Bool
 is_printed byte = nat_le 0x20 byte && nat_le byte 0x7e
 
-abbrev pub text_content : List ℕ → Content
-text_content bytes = if list_all is_printed bytes then text bytes else unread
+abbrev pub are_printed : List ℕ → Bool
+are_printed bytes = list_all is_printed bytes
 
-abbrev pub variable_content : Option Variable → Content
-variable_content (Some read) = variable read
-variable_content None = unread
+abbrev pub text_content : List ℕ → Content
+text_content bytes = if are_printed bytes then text bytes else unread
+
+-- An event that extends nothing states a locality, which data are that are `StartupLocality`, a zero byte and it; or it has the header of a log.
+unfoldable pub NoActionContent : Option ℕ → List ℕ → Content → Type 0
+NoActionContent (Some number) bytes content = content ≡ locality number
+NoActionContent None bytes content = (found : Option Header) × ReadsHeader bytes found × (content ≡ or_unread header found)
+
+-- A blob.
+unfoldable pub BlobContent : List ℕ → Content → Type 0
+BlobContent bytes content = (found : Option Blob) × ReadsBlob bytes found × (content ≡ or_unread blob found)
+
+-- What firmware measured as it started the platform: a text, or else a blob.
+unfoldable pub PostCodeContent : Bool → List ℕ → Content → Type 0
+PostCodeContent true bytes content = content ≡ text bytes
+PostCodeContent false bytes content = BlobContent bytes content
+
+-- A variable, with what its value says by its GUID and its name.
+unfoldable pub VariableContent : (List ℕ → List ℕ → ValueForm) → Option Variable → Content → Type 0
+VariableContent form (Some read) content =
+    (value : Value) × SaysValue (form read.guid read.name) read.payload value × (content ≡ variable read value)
+VariableContent form None content = content ≡ unread
 
 -- An image, with the nodes of its path.
 unfoldable pub ImageContent : Option Image → Content → Type 0
@@ -56,9 +100,23 @@ ImageContent None content = content ≡ unread
 
 -- What data of a form say.
 unfoldable pub Says : Form → List ℕ → Content → Type 0
-Says OfLocality bytes content = content ≡ locality_content (locality_in bytes)
+Says OfNoAction bytes content = NoActionContent (locality_in bytes) bytes content
 Says OfSeparator bytes content = content ≡ separator_content bytes
 Says OfText bytes content = content ≡ text_content bytes
-Says OfVariable bytes content = (found : Option Variable) × ReadsVariable bytes found × (content ≡ variable_content found)
+Says OfPostCode bytes content = PostCodeContent (are_printed bytes) bytes content
+Says OfBlob bytes content = BlobContent bytes content
+Says OfDescribedBlob bytes content =
+    (found : Option DescribedBlob) × ReadsDescribedBlob bytes found × (content ≡ or_unread described_blob found)
+Says OfLoaderText bytes content =
+    (found : Option EventText) × ReadsText bytes found × (content ≡ or_unread loader_text found)
+Says OfCrtmVersion bytes content =
+    (found : Option CrtmVersion) × ReadsCrtmVersion bytes found × (content ≡ or_unread crtm_version found)
+Says OfTagged bytes content =
+    (events : List Tagged) × (rest : List ℕ) × AreTagged bytes events rest × (content ≡ tagged events rest)
+Says OfGpt bytes content = (found : Option GptData) × ReadsGptData bytes found × (content ≡ or_unread gpt found)
+Says OfVariable bytes content =
+    (found : Option Variable) × ReadsVariable bytes found × VariableContent value_form found content
+Says OfAuthority bytes content =
+    (found : Option Variable) × ReadsVariable bytes found × VariableContent authority_form found content
 Says OfImage bytes content = (found : Option Image) × ReadsImage bytes found × ImageContent found content
 Says Other bytes content = content ≡ unread

@@ -9,18 +9,11 @@ use Rattle.pcr_replay.specs.Entries.{Entry}
 use Rattle.pcr_replay.specs.Measured.{is_hash_of_data}
 use Rattle.uefi_auditing.specs.Replay.{all_banks}
 use Rattle.uefi_auditing.specs.content.Content.{Content, Says, form_of}
+use Rattle.uefi_auditing.specs.json.Algorithm.{algorithm_json}
 use Rattle.uefi_auditing.specs.json.Content.{content_json}
 use Rattle.uefi_auditing.specs.json.Line.{line_of}
-use Rattle.uefi_auditing.specs.json.Names.{algorithm_name, type_name}
+use Rattle.uefi_auditing.specs.json.Names.{type_name}
 use Rattle.uefi_auditing.specs.text.Banks.{bank_name}
-
--- The name, or the number of what has none.
-abbrev pub name_or_number : Option (List ℕ) → ℕ → Data
-name_or_number (Some name) n = string name
-name_or_number None n = number (unsigned n)
-
-unfoldable pub algorithm_json : ℕ → Data
-algorithm_json algorithm = name_or_number (algorithm_name algorithm) algorithm
 
 -- A digest: its algorithm, and its bytes in hex.
 unfoldable pub digest_json : Digest → Data

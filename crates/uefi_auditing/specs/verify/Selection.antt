@@ -61,10 +61,6 @@ is_in pcr range = nat_le range.first pcr && nat_le pcr range.last
 abbrev pub is_named : List Range → ℕ → Bool
 is_named ranges pcr = list_any (is_in pcr) ranges
 
--- These are marked among all PCRs.
-abbrev pub AreNamed : List Range → List Bool → Type 0
-AreNamed ranges pcrs = (pcr : ℕ) → slice_index_or pcrs pcr false ≡ is_named ranges pcr
-
 -- Which PCRs a value of the code selects.
 abbrev pub selects : PcrSelection → Bank → ℕ → Bool
 selects selection bank pcr = is_of_bank selection.bank bank && slice_index_or selection.pcrs pcr false

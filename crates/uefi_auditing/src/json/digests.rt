@@ -3,7 +3,8 @@ ghost use Rattle.serde_json.specs.View.{view};
 ghost use Rattle.uefi_tcg.specs.v2.Views.{digests_of};
 ghost use Rattle.pcr_replay.specs.Entries.{with_sha1};
 ghost use Rattle.pcr_replay.specs.Views.{event_of};
-ghost use Rattle.uefi_auditing.specs.json.Event.{algorithm_json, digest_json, hashed_bank, hashed_banks};
+ghost use Rattle.uefi_auditing.specs.json.Algorithm.{algorithm_json};
+ghost use Rattle.uefi_auditing.specs.json.Event.{digest_json, hashed_bank, hashed_banks};
 
 use crate::json::names::algorithm_name;
 use crate::text::bank_name;
@@ -65,7 +66,7 @@ fn digest_json(alloc: Global, algorithm: AlgorithmId, digest: &[u8]) -> Result<V
 /// # Errors
 ///
 /// [`AllocError`] if an allocation fails.
-#[tactic(auto, unfolding(crate::specs::json::Event::algorithm_json))]
+#[tactic(auto, unfolding(crate::specs::json::Algorithm::algorithm_json))]
 pub(crate) fn algorithm_json(alloc: Global, algorithm: AlgorithmId) -> Result<Value, AllocError>
     ensures { IfOk result (λ value. view value ≡ algorithm_json algorithm.0) }
 {

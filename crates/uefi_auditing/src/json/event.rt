@@ -35,16 +35,42 @@ use uefi_tcg::EventType;
 ///
 /// | type of the event | `content` |
 /// |---|---|
-/// | `EV_NO_ACTION` | `locality`, if the data are `StartupLocality`, a zero byte and it |
+/// | `EV_NO_ACTION` | `locality`, if the data are `StartupLocality`, a zero byte and it; `header`, if they begin with the header of a log |
 /// | `EV_SEPARATOR` | `separator`, the number that four bytes of data are |
 /// | `EV_ACTION`, `EV_EFI_ACTION`, `EV_OMIT_BOOT_DEVICE_EVENTS`, `EV_EFI_HCRTM_EVENT` | `text` |
+/// | `EV_IPL` | `text`, in ASCII or UTF-16, without the NUL that may end it |
+/// | `EV_S_CRTM_VERSION` | `crtm_version`: a text, or a GUID |
+/// | `EV_EFI_PLATFORM_FIRMWARE_BLOB` | `blob`, with `address` and `length` |
+/// | `EV_EFI_PLATFORM_FIRMWARE_BLOB2`, `EV_POST_CODE2` | `blob`, with `description` as well |
+/// | `EV_POST_CODE` | `text`, if all bytes of the data print; else `blob` |
+/// | `EV_EVENT_TAG` | `tagged_events` |
+/// | `EV_EFI_GPT_EVENT`, `EV_EFI_GPT_EVENT2` | `gpt` |
 /// | `EV_EFI_VARIABLE_DRIVER_CONFIG`, `_BOOT`, `_BOOT2`, `_AUTHORITY` | `variable` |
 /// | `EV_EFI_BOOT_SERVICES_APPLICATION`, `_DRIVER`, `EV_EFI_RUNTIME_SERVICES_DRIVER` | `image` |
 ///
-/// A text is in characters of ASCII that print. A variable has `guid`, `name` and `data`; in its
-/// name U+FFFD stands for a surrogate. An image has `address`, `length`, `link_address` and `path`,
-/// the nodes of its device path but the one that ends it, each with `type`, `subtype` and `data`;
-/// the path is `null` if its bytes are none.
+/// The text of an action is in characters of ASCII that print. In other texts and in names U+FFFD
+/// stands for a surrogate. Bytes are in hex, and GUIDs are text.
+///
+/// | object | keys |
+/// |---|---|
+/// | `header` | `algorithms`, each with `algorithm` and `size`; `errata`, `major`, `minor`, `platform_class`, `uintn_size`, `vendor_info` |
+/// | `tagged_events` | `events`, each with `data` and `id`; `rest`, the bytes after them, if there are any |
+/// | `gpt` | `disk_guid`, `first_usable_lba`, `last_usable_lba`; `partitions`, each with `attributes`, `first_lba`, `last_lba`, `name`, `type_guid` and `unique_guid` |
+/// | `variable` | `data`, `guid`, `name`; `value`, if it is read: an object with one of the keys below |
+/// | `image` | `address`, `length`, `link_address`; `path`; `rest`, the bytes after it, if there are any |
+///
+/// A path is an array of the nodes of a device path but the one that ends it, each with `data`,
+/// `subtype` and `type`. The path of an image is its bytes in hex, if they are no device path.
+///
+/// | `value` | of |
+/// |---|---|
+/// | `boot_option`: `attributes`, `description`, `optional_data`, `path` | `Boot0000` and the like |
+/// | `boot_order`: an array of numbers | `BootOrder` |
+/// | `signature_lists`: each with `header`, `signatures` and `type`, a GUID | `PK`, `KEK`, `db`, `dbx` |
+/// | `signature` | in `EV_EFI_VARIABLE_AUTHORITY`: firmware's databases, shim's `MokList` |
+///
+/// A signature has `owner`, and `data`, if these are at most 80 bytes, as each hash is. A longer
+/// one, as a certificate, has `length` and `sha256`, those of its data.
 ///
 /// # Errors
 ///

@@ -3,7 +3,8 @@ ghost use Rattle.pcr_replay.specs.Replay.{pcr_count};
 ghost use Rattle.uefi_auditing.specs.text.Banks.{bank_name};
 ghost use Rattle.pcr_replay.specs.declared.bank.Bank.{Bank};
 ghost use Rattle.uefi_auditing.specs.verify.Selection.{is_of_bank, number_of, selects};
-ghost use Rattle.uefi_auditing.specs.verify.Selection.{AreItems, AreNamed, IsItem, IsPcrNumber, IsSelection, Selects};
+ghost use Rattle.uefi_auditing.specs.verify.Selection.{AreItems, IsItem, IsPcrNumber, IsSelection, Selects};
+ghost use Rattle.uefi_auditing.specs.private.verify.Selected.{AreNamed};
 ghost use Rattle.uefi_auditing.specs.declared.verify.selection.Range.{Range};
 
 use crate::text::bank_named;

@@ -34,7 +34,7 @@ const LOGS: [[&str; 2]; 12] = [
          53706563204944204576656e74303300 00000000 00020002 03000000 04001400 0b002000 99990200 00 \
          01000000 01000000 02000000 0400 da39a3ee5e6b4b0d3255bfef95601890afd80709 0400 \
          bbbbbbbbbbbbbbbbbbbbbbbbbbbbbbbbbbbbbbbb 00000000",
-        "{\"content\":null,\"data\":\"\",\
+        "{\"content\":{\"text\":\"\"},\"data\":\"\",\
          \"digests\":[{\"algorithm\":\"sha1\",\"digest\":\"da39a3ee5e6b4b0d3255bfef95601890afd80709\
          \"},{\
          \"algorithm\":\"sha1\",\"digest\":\"bbbbbbbbbbbbbbbbbbbbbbbbbbbbbbbbbbbbbbbb\"}],\"hashes_\
@@ -180,13 +180,13 @@ const LOGS: [[&str; 2]; 12] = [
          \"digest\":\"aaaaaaaaaaaaaaaaaaaaaaaaaaaaaaaaaaaaaaaa\"}],\"hashes_to\":[],\
          \"index\":0,\"log\":\"a log\",\"offset\":0,\"register\":4,\
          \"type\":{\"name\":\"EV_EFI_BOOT_SERVICES_APPLICATION\",\"number\":2147483651}}\n\
-         {\"content\":{\"image\":{\"address\":1,\"length\":2,\"link_address\":3,\"path\":null}},\
+         {\"content\":{\"image\":{\"address\":1,\"length\":2,\"link_address\":3,\"path\":\"\"}},\
          \"data\":\"0100000000000000020000000000000003000000000000000000000000000000\",\
          \"digests\":[{\"algorithm\":\"sha1\",\
          \"digest\":\"aaaaaaaaaaaaaaaaaaaaaaaaaaaaaaaaaaaaaaaa\"}],\"hashes_to\":[],\
          \"index\":1,\"log\":\"a log\",\"offset\":79,\"register\":2,\
          \"type\":{\"name\":\"EV_EFI_BOOT_SERVICES_DRIVER\",\"number\":2147483652}}\n\
-         {\"content\":{\"image\":{\"address\":1,\"length\":2,\"link_address\":3,\"path\":null}},\
+         {\"content\":{\"image\":{\"address\":1,\"length\":2,\"link_address\":3,\"path\":\"010206000a0b040504007fff0500ee00\"}},\
          \"data\":\"0100000000000000020000000000000003000000000000001000000000000000010206000a0b040\
          504007fff0500ee00\",\
          \"digests\":[{\"algorithm\":\"sha1\",\
@@ -199,7 +199,7 @@ const LOGS: [[&str; 2]; 12] = [
         "04000000 03000080 aaaaaaaaaaaaaaaaaaaaaaaaaaaaaaaaaaaaaaaa 2f000000 \
          0100000000000000020000000000000003000000000000000500000000000000010206000a0b040504007fff05\
          00ee",
-        "{\"content\":null,\
+        "{\"content\":{\"image\":{\"address\":1,\"length\":2,\"link_address\":3,\"path\":\"010206000a\",\"rest\":\"0b040504007fff0500ee\"}},\
          \"data\":\"0100000000000000020000000000000003000000000000000500000000000000010206000a0b040\
          504007fff0500ee\",\
          \"digests\":[{\"algorithm\":\"sha1\",\

@@ -10,7 +10,7 @@ use uefi_auditing::json::event_line;
 const MACHINE_LINES: [(usize, &str); 5] = [
     (
         0,
-        "{\"content\":null,\"data\":\"0000\",\"digests\":[{\"algorithm\":\"sha1\",\"digest\":\
+        "{\"content\":{\"crtm_version\":\"\"},\"data\":\"0000\",\"digests\":[{\"algorithm\":\"sha1\",\"digest\":\
          \"1489f923c4dca729178b3e3233458550d8dddf29\"},{\"algorithm\":\"sha256\",\"digest\":\
          \"96a296d224f285c67bee93c30f8a309157f0daa35dc5b87e410b78630a09cfc7\"},{\"algorithm\"\
          :\"sha384\",\"digest\":\"1dd6f7b457ad880d840d41c961283bab688e94e4b59359ea45686581e90\

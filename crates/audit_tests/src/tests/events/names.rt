@@ -35,7 +35,7 @@ const NAMES: [[&str; 2]; 2] = [
         "{\"content\":null,\"data\":\"\",\"digests\":[],\"hashes_to\":[],\"index\":0,\
          \"log\":\"a log\",\"offset\":65,\"register\":0,\
          \"type\":{\"name\":\"EV_PREBOOT_CERT\",\"number\":0}}\n\
-         {\"content\":null,\"data\":\"\",\"digests\":[],\"hashes_to\":[],\"index\":1,\
+         {\"content\":{\"text\":\"\"},\"data\":\"\",\"digests\":[],\"hashes_to\":[],\"index\":1,\
          \"log\":\"a log\",\"offset\":81,\"register\":0,\
          \"type\":{\"name\":\"EV_POST_CODE\",\"number\":1}}\n\
          {\"content\":null,\"data\":\"\",\"digests\":[],\"hashes_to\":[],\"index\":2,\
@@ -50,13 +50,13 @@ const NAMES: [[&str; 2]; 2] = [
          {\"content\":{\"text\":\"\"},\"data\":\"\",\"digests\":[],\"hashes_to\":[],\"index\":5,\
          \"log\":\"a log\",\"offset\":145,\"register\":0,\
          \"type\":{\"name\":\"EV_ACTION\",\"number\":5}}\n\
-         {\"content\":null,\"data\":\"\",\"digests\":[],\"hashes_to\":[],\"index\":6,\
+         {\"content\":{\"tagged_events\":{\"events\":[]}},\"data\":\"\",\"digests\":[],\"hashes_to\":[],\"index\":6,\
          \"log\":\"a log\",\"offset\":161,\"register\":0,\
          \"type\":{\"name\":\"EV_EVENT_TAG\",\"number\":6}}\n\
          {\"content\":null,\"data\":\"\",\"digests\":[],\"hashes_to\":[],\"index\":7,\
          \"log\":\"a log\",\"offset\":177,\"register\":0,\
          \"type\":{\"name\":\"EV_S_CRTM_CONTENTS\",\"number\":7}}\n\
-         {\"content\":null,\"data\":\"\",\"digests\":[],\"hashes_to\":[],\"index\":8,\
+         {\"content\":{\"crtm_version\":\"\"},\"data\":\"\",\"digests\":[],\"hashes_to\":[],\"index\":8,\
          \"log\":\"a log\",\"offset\":193,\"register\":0,\
          \"type\":{\"name\":\"EV_S_CRTM_VERSION\",\"number\":8}}\n\
          {\"content\":null,\"data\":\"\",\"digests\":[],\"hashes_to\":[],\"index\":9,\
@@ -71,7 +71,7 @@ const NAMES: [[&str; 2]; 2] = [
          {\"content\":null,\"data\":\"\",\"digests\":[],\"hashes_to\":[],\"index\":12,\
          \"log\":\"a log\",\"offset\":257,\"register\":0,\
          \"type\":{\"name\":\"EV_COMPACT_HASH\",\"number\":12}}\n\
-         {\"content\":null,\"data\":\"\",\"digests\":[],\"hashes_to\":[],\"index\":13,\
+         {\"content\":{\"text\":\"\"},\"data\":\"\",\"digests\":[],\"hashes_to\":[],\"index\":13,\
          \"log\":\"a log\",\"offset\":273,\"register\":0,\
          \"type\":{\"name\":\"EV_IPL\",\"number\":13}}\n\
          {\"content\":null,\"data\":\"\",\"digests\":[],\"hashes_to\":[],\"index\":14,\

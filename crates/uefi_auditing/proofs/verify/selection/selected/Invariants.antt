@@ -1,6 +1,6 @@
 use Rattle.std.proofs.Common.{List, length}
 use Rattle.uefi_auditing.specs.declared.verify.selection.Range.{Range}
-use Rattle.uefi_auditing.specs.verify.Selection.{AreNamed}
+use Rattle.uefi_auditing.specs.private.verify.Selected.{AreNamed}
 use Rattle.uefi_auditing.proofs.verify.Selections.{GoesOn}
 use Rattle.uefi_auditing.proofs.verify.selection.selected.Given as goal
 
