@@ -41,7 +41,12 @@ pub fn is_directory_in(buffer: &[u8], written: usize) -> Option<bool>
 
 /// Returns the sixteen bytes of the time at which a file was created, as they stand in its record.
 pub fn creation_bytes(buffer: &[u8], written: usize) -> Option<[u8; 16]>
-    ensures { IfSome result (λ bytes. bytes ≡ slice_range buffer.now 24 40) }
+    ensures bytes { IfSome result (λ bytes. bytes ≡ slice_range buffer.now 24 40) }
+    ensures found { (name : List ℕ) →
+        file_info_verdict (take written buffer.now) (length buffer.now) ≡ accepted name →
+        IsSome result }
+    ensures accepted { IsSome result → (name : List ℕ)
+        × (file_info_verdict (take written buffer.now) (length buffer.now) ≡ accepted name) }
 {
     times_read_back();
     let info = FileInfo::from_uefi(buffer, written).ok()?;

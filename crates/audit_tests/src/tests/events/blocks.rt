@@ -348,10 +348,7 @@ const LOGS: [[&str; 2]; 34] = [
          \x20 algorithm sha256, 32 bytes\n",
     ],
     // No events.
-    [
-        "",
-        "",
-    ],
+    ["", ""],
 ];
 
 /// Logs of one image, and the text of its device path.

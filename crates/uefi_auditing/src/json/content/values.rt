@@ -66,10 +66,18 @@ fn value_json(alloc: Global, value: &VariableValue<'_>) -> Result<Option<Value>,
             said(alloc, "boot_option", boot_option_json(alloc, option)?)
         }
         VariableValue::BootOrder(order) => {
-            said(alloc, "boot_order", Value::Array(numbers_json(alloc, order)?))
+            said(
+                alloc,
+                "boot_order",
+                Value::Array(numbers_json(alloc, order)?),
+            )
         }
         VariableValue::SignatureLists(lists) => {
-            said(alloc, "signature_lists", Value::Array(lists_json(alloc, lists)?))
+            said(
+                alloc,
+                "signature_lists",
+                Value::Array(lists_json(alloc, lists)?),
+            )
         }
         VariableValue::Signature(signature) => {
             said(alloc, "signature", signature_json(alloc, signature)?)

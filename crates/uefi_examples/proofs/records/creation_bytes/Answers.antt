@@ -8,6 +8,7 @@ use Rattle.uefi_records.specs.time.Fields.{TimeFields, time_bytes, time_in}
 use Rattle.uefi_records.specs.file.FileInfo.{file_info_verdict}
 use Rattle.uefi_records.specs.file.Name.{first_zero}
 use Rattle.uefi_records.specs.file.Verdict.{accepted, judged}
+use Rattle.uefi_examples.proofs.NamedRecords.{has_name, has_none}
 use Rattle.uefi_examples.proofs.Results.{ok_is}
 use Rattle.uefi_examples.proofs.records.creation_bytes.Goals as goal
 
@@ -46,8 +47,8 @@ length-range bytes offset n within = grind (arith, common_steps)
 AreBytes-range : (bytes : List ℕ) (offset n : ℕ) → AreBytes bytes → AreBytes (slice_range bytes offset n)
 AreBytes-range bytes offset n each k = grind (arith, common_steps, each)
 
-pub returns : goal.returns
-returns c =
+pub returns-clause-bytes : goal.returns-clause-bytes
+returns-clause-bytes c =
     let bytes : List ℕ = c.args.buffer.now in
     let part : List ℕ = slice_range bytes 24 40 in
     let read = ok_is c.from_uefi.result c.in_ok-info.info c.in_ok-info.ensures.value in
@@ -60,3 +61,11 @@ returns c =
     c.to_bytes.ensures.bytes ∙ ap time_bytes
     (c.create_time.ensures ∙ ap (λ all. all.create_time) fields)
     ∙ nothing_after part (time_bytes (time_in part)) stands.1.0 (length-time (time_in part) ∙ sym sized) stands.1.1
+
+pub returns-clause-accepted : goal.returns-clause-accepted
+returns-clause-accepted c = λ _. has_name _ _ c.from_uefi.result c.in_ok-info.info c.from_uefi.ensures.verdict
+    c.in_ok-info.ensures.value
+
+pub returns-in_err-info-clause-found : goal.returns-in_err-info-clause-found
+returns-in_err-info-clause-found c =
+    λ name is. absurd (has_none _ _ c.from_uefi.result name c.from_uefi.ensures.verdict c.in_err-info.ensures.value is)
