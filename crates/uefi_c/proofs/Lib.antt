@@ -16,4 +16,3 @@ pub mod PcrSteps
 pub mod WalkSteps
 pub mod PassedDigests
 pub mod BootOrders
-

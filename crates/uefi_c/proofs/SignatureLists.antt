@@ -11,8 +11,8 @@ use Rattle.std.specs.Option.{option_map}
 use Rattle.uefi_tcg.specs.content.Reading.{Reads}
 use Rattle.uefi_tcg.specs.content.SignatureViews.{signature_of}
 use Rattle.uefi_tcg.specs.declared.content.signature.signature_data.SignatureData.{SignatureData}
-use Rattle.uefi_tcg.specs.content.Signature.{AreSignatureLists, HasSize, IsSignatureList, ReadsSignature, ReadsSignatureLists, Signature, SignatureList, list_bytes, list_size, lists_bytes, signature_bytes, signatures_bytes}
-use Rattle.uefi_tcg.specs.private.content.Signatures.{HasSignatureList, bytes_and_rest, some_bytes}
+use Rattle.uefi_tcg.specs.content.Signature.{AreSignatureLists, HasSignatureList, HasSize, IsSignatureList, ReadsSignature, ReadsSignatureLists, Signature, SignatureList, list_bytes, list_size, lists_bytes, signature_bytes, signatures_bytes}
+use Rattle.uefi_tcg.specs.private.content.Signatures.{bytes_and_rest, some_bytes}
 use Rattle.uefi_tcg.proofs.content.SignatureBytes.{other_length, short_list}
 
 -- What follows the type of a list, and each of its sizes.

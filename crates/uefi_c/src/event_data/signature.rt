@@ -1,9 +1,8 @@
 ghost use Rattle.std.specs.Prelude.{◌≡◌, ◌+◌, ◌≤◌, take, drop, length, IsTrue, IsFalse, IfSome, IfNone};
 ghost use Rattle.uefi_base.specs.LittleEndian.{u32_at};
 ghost use Rattle.uefi_base.specs.Prefix.{IsPrefix};
-ghost use Rattle.uefi_tcg.specs.content.Signature.{HasSize, IsSignatureList, ReadsSignature, Signature, list_bytes, signature_bytes};
+ghost use Rattle.uefi_tcg.specs.content.Signature.{HasSignatureList, HasSize, IsSignatureList, ReadsSignature, Signature, list_bytes, signature_bytes};
 ghost use Rattle.uefi_tcg.specs.content.SignatureViews.{list_of, signature_of};
-ghost use Rattle.uefi_tcg.specs.private.content.Signatures.{HasSignatureList};
 ghost use Rattle.uefi_c.specs.Cursor.{Stands};
 ghost use Rattle.uefi_c.specs.EventData.{given};
 ghost use Rattle.uefi_c.specs.Signatures.{IsNextList, IsGivenAs, signature_seen};
