@@ -24,7 +24,7 @@ use std::io;
 use std::rt::Files;
 use uefi_auditing::json::push_verdict_json;
 use uefi_auditing::replay::{BankPcrs, replay_banks};
-use uefi_auditing::text::{LogFile, ShownName, push_start};
+use uefi_auditing::text::{LogFile, ShownName, bank_name, push_start};
 use uefi_auditing::verify::{HeldPcr, PcrSelection, Verdict, held_banks, nearest, push_verdict};
 
 /// The localities that are tried where neither the log nor the caller states one.
@@ -48,7 +48,7 @@ pub(crate) fn verify_log<R: Files + Input + Print + Eprint + AllocGlobal>(
     }
     let mut told = String::new(rt.alloc());
     let selected = selected(rt.alloc(), held.as_slice(), &selection)?;
-    let is_held = push_missing(&mut told, asked, selected.as_slice(), &selection)?;
+    let is_held = push_missing(&mut told, asked, held.as_slice(), &selection)?;
     if !is_held {
         tell(rt, told.as_str());
         return Ok(Status::Unjudged);
@@ -95,8 +95,8 @@ fn is_selected(selection: &Option<PcrSelection>, held: &HeldPcr) -> bool
     }
 }
 
-/// Appends a line for each PCR that is selected and that the TPM isn't said to have held. Returns
-/// whether there is none.
+/// Appends a line for each PCR that has to be among those that the TPM is said to have held, and
+/// isn't. Returns whether there is none.
 fn push_missing(
     told: &mut String,
     asked: &Verification<'_>,
@@ -107,21 +107,53 @@ fn push_missing(
         return Ok(true);
     };
     let mut is_held = true;
+    for bank in &Bank::ALL {
+        is_held &= push_missing_of(told, asked, held, selection, *bank)?;
+    }
+    Ok(is_held)
+}
+
+/// Appends the lines of a bank, and returns whether there are none.
+fn push_missing_of(
+    told: &mut String,
+    asked: &Verification<'_>,
+    held: &[HeldPcr],
+    selection: &PcrSelection,
+    bank: Bank,
+) -> Result<bool, AllocError> {
+    let mut is_held = true;
     for pcr in 0..PCR_COUNT as u32 {
-        if is_asked(selection, pcr) && !held.iter().any(|held| held.pcr == pcr) {
-            let name = ShownName(asked.registers);
-            writeln!(told, "{name}: states no PCR {pcr} that is asked for")?;
+        if is_asked(selection, held, bank, pcr) && !is_among(held, bank, pcr) {
+            let (name, bank) = (ShownName(asked.registers), bank_name(bank));
+            writeln!(
+                told,
+                "{name}: states no {bank} PCR {pcr}, which is asked for"
+            )?;
             is_held = false;
         }
     }
     Ok(is_held)
 }
 
-/// Returns whether a PCR is selected, of whichever bank.
-fn is_asked(selection: &PcrSelection, pcr: u32) -> bool {
+/// Returns whether a PCR has to be held: it is selected, and PCRs of its bank are held, or those of
+/// no other bank are selected.
+fn is_asked(selection: &PcrSelection, held: &[HeldPcr], bank: Bank, pcr: u32) -> bool {
+    selection.is_selected(bank, pcr)
+        && (held.iter().any(|held| held.bank == bank) || is_of_one_bank(selection, pcr))
+}
+
+/// Returns whether a PCR is selected of one bank alone.
+fn is_of_one_bank(selection: &PcrSelection, pcr: u32) -> bool {
     Bank::ALL
         .iter()
-        .any(|bank| selection.is_selected(*bank, pcr))
+        .filter(|bank| selection.is_selected(**bank, pcr))
+        .count()
+        == 1
+}
+
+/// Returns whether a PCR of a bank is among these.
+fn is_among(held: &[HeldPcr], bank: Bank, pcr: u32) -> bool {
+    held.iter().any(|held| held.bank == bank && held.pcr == pcr)
 }
 
 /// Prints whether a log leads to these PCRs.
