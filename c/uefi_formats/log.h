@@ -69,8 +69,9 @@ extern "C" {
  * last event was read if and only if `at > last_entry`: then the event that was
  * read last started at `last_entry`. If `at <= last_entry`, uefi_log1_state or
  * uefi_log2_state says what is at `at` instead. UEFI_LOG_ENDED: the log is empty,
- * or is cut between two events, since its bytes end there. Another number: it is
- * cut inside an event or damaged, or `last_entry` isn't its own.
+ * or its bytes end there, cut between two events. Another number: it is cut
+ * inside an event, or is damaged. Each can also mean that `last_entry` isn't the
+ * log's own.
  *
  * With the log's length as the last entry, `at` is never above it. UEFI_LOG_ENDED
  * then says that whole events fill the bytes, and a log that is cut between two
@@ -82,6 +83,8 @@ extern "C" {
  * as the last entry doesn't: it reads zeros as events whose fields are all 0. So
  * end it where all bytes from the offset on are 0, or all are 0xff: look before
  * each call. The functions in pcr.h do so themselves. */
+
+/* The last entry of a log without events. */
 #define UEFI_EMPTY_LOG ((size_t)1)
 
 /* The last entry of the log at `location`, firmware's EventLogLocation, whose

@@ -12,7 +12,8 @@ extern "C" {
  * whole events of a log, up to where it is cut or damaged, also with a known
  * last entry, and don't say that others are missing. They read a log whose
  * header is cut or damaged as one of version 1. So before you trust the PCRs,
- * walk the log, and ask for the state at the offset where the walk ended:
+ * walk the log, and ask for the state at the offset where the walk ended. With
+ * the log's own last entry:
  *
  *     size_t at = header.event_end; // uefi_log2_header has returned true
  *     while (uefi_log2_next(log, last_entry, header.rows, &at, &event)) {}
