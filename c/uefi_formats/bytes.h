@@ -13,6 +13,9 @@
 #define UEFI_FORMATS_VERSION                                                                        \
     (UEFI_FORMATS_VERSION_MAJOR << 16 | UEFI_FORMATS_VERSION_MINOR << 8 | UEFI_FORMATS_VERSION_PATCH)
 
+/* UEFI_CALL is the calling convention that the archives are compiled for: System
+ * V on x86-64, that of C elsewhere. Define it yourself only where the compiler has
+ * another word for the same convention: no compiler or linker sees a wrong one. */
 #if defined(__x86_64__) || defined(_M_X64)
 /* For targets whose functions follow Microsoft's convention. */
 #if !defined(UEFI_CALL) && (defined(_WIN64) || defined(__UEFI__))

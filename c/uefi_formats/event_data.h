@@ -30,7 +30,8 @@ extern "C" {
  * data of UEFI_EV_POST_CODE may also be a text. */
 
 typedef struct {
-    UefiBytes name;  /* units of two bytes, little-endian, without a NUL */
+    UefiBytes name;  /* units of two bytes, little-endian, without a NUL; the description of a
+                      * load option includes its own */
     UefiBytes value;
     uint8_t guid[16];
 } UefiVariable;

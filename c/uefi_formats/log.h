@@ -60,13 +60,31 @@ extern "C" {
  * ends there or before; none starts after it. If it isn't known, pass the
  * log's length: then each whole event is returned.
  *
- * Where a function for the next event has returned false, uefi_log1_state and
- * uefi_log2_state say why: the last event was read, or the log is cut or
- * damaged, or `last_entry` isn't its own.
- *
  * A log without events, for which firmware's EventLogLastEntry is 0, has the
  * last entry UEFI_EMPTY_LOG. uefi_last_entry() makes either from what
- * GetEventLog returned. */
+ * GetEventLog returned.
+ *
+ * Whether a walk read the last event. A walk calls the function for the next
+ * event, from the first event on, until it returns false at an offset `at`. The
+ * last event was read if and only if `at > last_entry`: then the event that was
+ * read last started at `last_entry`. If `at <= last_entry`, uefi_log1_state or
+ * uefi_log2_state says what is at `at` instead. UEFI_LOG_ENDED: the log is empty,
+ * or its bytes end there, cut between two events. Another number: it is cut
+ * inside an event, or is damaged. Each can also mean that `last_entry` isn't the
+ * log's own.
+ *
+ * With the log's length as the last entry, `at` is never above it. UEFI_LOG_ENDED
+ * then says that whole events fill the bytes, and a log that is cut between two
+ * events looks like a whole one.
+ *
+ * Padding. The area that has the log may be longer than the log. The bytes after
+ * the last event, which firmware never wrote, are then all 0, or all 0xff. A walk
+ * with the log's own last entry ends before them. A walk with the log's length
+ * as the last entry doesn't: it reads zeros as events whose fields are all 0. So
+ * end it where all bytes from the offset on are 0, or all are 0xff: look before
+ * each call. The functions in pcr.h do so themselves. */
+
+/* The last entry of a log without events. */
 #define UEFI_EMPTY_LOG ((size_t)1)
 
 /* The last entry of the log at `location`, firmware's EventLogLocation, whose
@@ -88,8 +106,8 @@ UEFI_CALL bool uefi_log1_next(UefiBytes log, size_t last_entry, size_t *offset, 
 typedef struct {
     UefiBytes rows;   /* of the table of algorithms: see below */
     UefiBytes vendor; /* at most 255 bytes */
-    size_t events_start; /* where the header's own bytes end */
-    size_t event_end;    /* where the event ends that has the header: there, or later */
+    size_t events_start; /* where the header's own bytes end: see uefi_log2_next */
+    size_t event_end;    /* where the event ends that has the header: start the walk here */
     uint32_t platform_class;
     uint8_t major;
     uint8_t minor;
@@ -126,21 +144,27 @@ typedef struct {
  *         return refused;
  */
 
-/* The header of a version 2 log, which stands in its first event, of type
- * EV_NO_ACTION. False if the log doesn't begin with one: the log is of
- * version 1, the header is cut or damaged, or its event doesn't end at
- * `last_entry` or before, unless it starts there. */
+/* The header of a version 2 log. It is in the log's first event, which is one of
+ * version 1, of type EV_NO_ACTION. False if the log has no such event, or no
+ * event at all. uefi_log1_state(log, last_entry, 0) says what it has instead:
+ *
+ *     UEFI_LOG_ENDED                 nothing: the log is empty
+ *     UEFI_LOG_EVENT                 a whole event without a whole header: the log
+ *                                    is of version 1, or its header is damaged
+ *     UEFI_LOG_CUT                   an event inside which the bytes end
+ *     UEFI_LOG_CROSSES_LAST_ENTRY    an event that starts before `last_entry`, and
+ *                                    ends after it
+ */
 UEFI_CALL bool uefi_log2_header(UefiBytes log, size_t last_entry, UefiLogHeader *out);
 
 /* The next event of a version 2 log (TCG_PCR_EVENT2) under the header's table,
  * whose rows these are. False under a table of 2^32 rows or more, which no
  * header has.
  *
- * Read a version 2 log by `iter_after_header_event`, in C from `event_end`:
- * these are the events that firmware writes, and that Linux, tpm2-tools and
- * `uefi_audit` read; `iter`, in C from `events_start`, starts where the Rust
- * crate `uefi` does. The two differ only where other bytes follow the header in
- * its event. */
+ * Start at the header's `event_end`. Firmware writes the first event there, and
+ * Linux and tpm2-tools read it there. `events_start` is for programs that must
+ * list what the Rust crate `uefi` lists, which starts there. The two differ only
+ * where other bytes follow the header in its event. */
 UEFI_CALL bool uefi_log2_next(UefiBytes log, size_t last_entry, UefiBytes rows, size_t *offset,
                               UefiEvent2 *out);
 
@@ -152,7 +176,9 @@ UEFI_CALL bool uefi_digest_next(UefiBytes digests, UefiBytes rows, size_t *offse
 UEFI_CALL bool uefi_log2_digest(UefiBytes log, size_t last_entry, UefiBytes rows, size_t offset, uint16_t algorithm,
                                 UefiBytes *digest);
 
-#define UEFI_LOG_ENDED 0u /* the last event was read, or the log has none, or its bytes end here */
+/* The last event was read, the log has none, or its bytes end here, also
+ * because it is cut between two events: compare the offset with `last_entry`. */
+#define UEFI_LOG_ENDED 0u
 #define UEFI_LOG_EVENT 1u /* an event */
 #define UEFI_LOG_CUT 2u   /* the bytes end inside the event that begins here */
 #define UEFI_LOG_CROSSES_LAST_ENTRY 3u /* the event starts before the last entry, and ends after it */

@@ -36,7 +36,7 @@ typedef struct {
 
 /* Whether all the bytes are a map whose descriptors are `stride` bytes apart,
  * firmware's DescriptorSize: at least 40, a multiple of 8, and a divisor of
- * their number. */
+ * their number. 0 bytes are a map too, without descriptors. */
 UEFI_CALL bool uefi_map_check(UefiBytes map, size_t stride);
 
 /* Descriptor `index` of the map. False if the bytes are no map with this

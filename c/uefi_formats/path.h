@@ -53,8 +53,8 @@ UEFI_CALL uint32_t uefi_path_state(UefiBytes path, size_t offset);
 /* ---- Load options (UEFI 2.10, 3.1.3): values of Boot0000 and others ---- */
 
 typedef struct {
-    UefiBytes description; /* units of two bytes, little-endian; the last alone is zero */
-    UefiBytes file_path;   /* the path to the image, with its end */
+    UefiBytes description; /* units of two bytes, little-endian, with the NUL: the last alone is zero */
+    UefiBytes file_path;   /* the path to the image, with its end: the first of the list */
     UefiBytes file_path_list;
     UefiBytes optional_data;
     uint32_t attributes;
@@ -71,7 +71,20 @@ typedef struct {
 #define UEFI_LOAD_OPTION_LIST_TOO_LONG 3u  /* fewer bytes follow than the file path list is stated to have */
 #define UEFI_LOAD_OPTION_NO_FILE_PATH 4u   /* the list begins with no device path */
 
-/* Reads the load option that all the bytes are. */
+/* Reads the load option that all the bytes are. It returns 0 if it succeeds, and
+ * not true as the readers that return a bool do:
+ *
+ *     if (uefi_load_option(bytes, &option) == UEFI_LOAD_OPTION_READ)
+ *
+ * `file_path_list` has the paths one after another. `file_path` is the first;
+ * others are the operating system's, and aren't checked. To go on, pass uefi_path
+ * the bytes that follow a path:
+ *
+ *     UefiBytes path = option.file_path, list = option.file_path_list;
+ *     for (size_t at = path.n; uefi_path(uefi_bytes(list.at + at, list.n - at), &path); at += path.n)
+ *         further_path(path);
+ *
+ * The description includes its NUL; the name in a UefiVariable has none. */
 UEFI_CALL uint32_t uefi_load_option(UefiBytes bytes, UefiLoadOption *out);
 
 #ifdef __cplusplus

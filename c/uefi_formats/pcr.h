@@ -8,7 +8,23 @@
 extern "C" {
 #endif
 
-/* The log is one of either version. `last_entry` is as for uefi_log2_next:
+/* A true result doesn't say that the log is whole. These functions take the
+ * whole events of a log, up to where it is cut or damaged, also with a known
+ * last entry, and don't say that others are missing. They read a log whose
+ * header is cut or damaged as one of version 1. So before you trust the PCRs,
+ * walk the log, and ask for the state at the offset where the walk ended. With
+ * the log's own last entry:
+ *
+ *     size_t at = header.event_end; // uefi_log2_header has returned true
+ *     while (uefi_log2_next(log, last_entry, header.rows, &at, &event)) {}
+ *     if (at <= last_entry) not_whole(uefi_log2_state(log, last_entry, header.rows, at));
+ *
+ * Walk a log of version 1 by uefi_log1_next from 0 on, and ask uefi_log1_state.
+ * If you don't know the last entry, the state must be UEFI_LOG_ENDED, or only
+ * padding may follow. A log that is cut between two events then looks whole.
+ * log.h has the reasons.
+ *
+ * The log is one of either version. `last_entry` is as for uefi_log2_next:
  * UEFI_EMPTY_LOG for a log without events, the log's length if it isn't known.
  * Then the log ends where padding starts, from where on all bytes are 0, or all
  * are 0xff, or else with the last whole event.
