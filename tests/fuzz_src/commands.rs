@@ -2,6 +2,7 @@
 //! they take after FILE come from the plain [`listings`](crate::listings).
 
 use crate::audit;
+use crate::contents;
 use crate::formats::{self, Format};
 use crate::input::Input;
 use crate::listings::{self, ThirdWord};
@@ -48,6 +49,7 @@ impl Command {
         if self.program == Program::Audit {
             seeds.extend(["log1", "log2"].into_iter().flat_map(|it| formats::named(it).seeds()));
             seeds.push(formats::same_events());
+            seeds.extend(contents::inputs());
         }
         seeds
     }

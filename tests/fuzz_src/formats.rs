@@ -3,6 +3,7 @@
 //! Bytes are in hex. `00*79` is a byte 79 times, `$name` what [`NAMES`] has for it, and a text stands
 //! after a quotation mark.
 
+use crate::contents;
 use crate::input::Input;
 use crate::mutations;
 use crate::random::Random;
@@ -23,7 +24,7 @@ pub struct Format {
     pub mutate: Option<fn(&mut Input, &mut Random)>,
 }
 
-const NAMES: [(&str, &str); 23] = [
+const NAMES: [(&str, &str); 30] = [
     ("end", "7fff0400"),
     ("next", "7f010400"),
     ("path", "a0b006000a0b a1b1080014151617 $next a2b206001e1f a3b3080028292a2b $end"),
@@ -48,6 +49,13 @@ const NAMES: [(&str, &str); 23] = [
     ("memory", "8a2b00000000 2000000000000000 0000008000000000 ffff0f8100000000 00*8 0000100100000000"),
     ("range", "8a2b0003 616e756e*10 0000"),
     ("file", "58 00*79 6100 6200 0000"),
+    ("disk", "4546492050415254 00000100 5c000000 00*8 01*8 02*8 22*8 de*8 88*16 03*8 80000000"),
+    ("partition", "66*16 77*16 22*8 41*8 01*8 4100 00d8 8500 0000 42*64"),
+    ("global", "61dfe48bca93d211aa0d00e098032b8c"),
+    ("security", "cbb219d73a3d9645a3bcdad00e67656f"),
+    ("shim", "50ab5d6046e00043abb63dd810dd8b23"),
+    ("hashes", "11*16 50000000 04000000 18000000 aabbccdd 22*24 33*24"),
+    ("certificate", "44*16 88000000 00000000 6c000000 55*108"),
 ];
 
 pub const FORMATS: [Format; 9] = [
@@ -113,7 +121,7 @@ pub const FORMATS: [Format; 9] = [
         parts: "04001400|0b002000|00000000 03000000 00000000 11000000 537461727475704c6f63616c69747900 03|\
             01000000 04000000 00000000 04000000 00000000|01000080|03000080|07000080|$end",
         numbers: &[3, 4, 5, 16, 20, 23, 24, 32, 48, 64, 0x8000_0001, 0x8000_0003, 0x8000_0007],
-        mutate: None,
+        mutate: Some(contents::give_event_all),
     },
     Format {
         names: &["config"],

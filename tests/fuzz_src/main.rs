@@ -9,6 +9,7 @@
 mod audit;
 mod batch;
 mod commands;
+mod contents;
 mod expected;
 mod formats;
 mod input;

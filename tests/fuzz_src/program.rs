@@ -160,10 +160,16 @@ fn words(command: &commands::Command, file: &str, input: &Input) -> (&'static st
     ("uefi_list", words.map(Vec::from).collect())
 }
 
-/// What a run is compared by: the message of other words is partly that of `clap`.
+/// What a run is compared by. Of the blocks of events these are the first lines. The message of other
+/// words is partly that of `clap`.
 fn compared(command: &commands::Command, mut ending: Ending) -> Ending {
     if command.program == Program::Audit && ending.status == 2 {
         ending.message.clear();
+    }
+    if command.name == "blocks" {
+        let lines = ending.output.split_inclusive(|c| *c == b'\n');
+        let is_head = |line: &&[u8]| !line.starts_with(b" ") && !line.ends_with(b": header at offset 0\n");
+        ending.output = lines.filter(is_head).flatten().copied().collect();
     }
     ending
 }

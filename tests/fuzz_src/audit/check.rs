@@ -90,7 +90,7 @@ pub fn lines(log: &Log<'_>, file: &str) -> (String, bool) {
     (lines + &summary, all_match)
 }
 
-fn shown(kind: u32) -> String {
+pub fn shown(kind: u32) -> String {
     type_name(kind).map_or(format!("{kind:#x}"), |name| format!("EV_{name}"))
 }
 

@@ -1,80 +1,81 @@
 //! What the data of an event say, as JSON.
 
-use super::json::{hex, text};
-use super::log::{Event, NO_ACTION, locality};
+mod firmware;
+mod reading;
+mod variable;
 
-fn u64_at(data: &[u8], offset: usize) -> Option<u64> {
-    Some(u64::from_le_bytes(*data.get(offset..)?.first_chunk()?))
-}
+use super::json::{array, hex_text, object, text};
+use super::log::{Event, NO_ACTION, locality};
+use reading::{Member, characters, counted, event_text, guid, number, units};
 
 pub fn content(event: &Event<'_>) -> String {
     let data = event.data;
     let said = match event.kind {
-        NO_ACTION => locality(data).map(|it| format!("{{\"locality\":{it}}}")),
+        0x01 => printed(data).or_else(|| firmware::blob(data)),
+        NO_ACTION => locality(data).map(|it| ("locality", it.to_string())).or_else(|| firmware::header(data)),
         0x04 => separator(data),
-        0x05 | 0x12 | 0x8000_0007 | 0x8000_0010 => action(data),
-        0x8000_0001 | 0x8000_0002 | 0x8000_000c | 0x8000_00e0 => variable(data),
+        0x05 | 0x12 | 0x8000_0007 | 0x8000_0010 => printed(data),
+        0x06 => Some(firmware::tagged_events(data)),
+        0x08 => crtm_version(data),
+        0x0d => event_text(data).map(|it| ("text", text(&it))),
+        0x13 | 0x8000_000a => firmware::described_blob(data),
+        0x8000_0001 | 0x8000_0002 | 0x8000_000c => variable::variable(data, variable::value),
         0x8000_0003..=0x8000_0005 => image(data),
+        0x8000_0006 | 0x8000_000d => firmware::gpt(data),
+        0x8000_0008 => firmware::blob(data),
+        0x8000_00e0 => variable::variable(data, variable::authority),
         _ => None,
     };
-    said.unwrap_or("null".to_owned())
+    said.map_or("null".to_owned(), |member| object(&[member]))
 }
 
-fn separator(data: &[u8]) -> Option<String> {
+fn separator(data: &[u8]) -> Option<Member> {
     let number = u32::from_le_bytes(data.try_into().ok()?);
-    Some(format!("{{\"separator\":{number}}}"))
+    Some(("separator", number.to_string()))
 }
 
-fn action(data: &[u8]) -> Option<String> {
+fn printed(data: &[u8]) -> Option<Member> {
     let is_printed = data.iter().all(|byte| (b' '..=b'~').contains(byte));
-    let said = is_printed.then(|| text(std::str::from_utf8(data).unwrap()))?;
-    Some(format!("{{\"text\":{said}}}"))
+    is_printed.then(|| ("text", text(std::str::from_utf8(data).unwrap())))
 }
 
-fn variable(data: &[u8]) -> Option<String> {
-    let (units, size) = (u64_at(data, 16)?, u64_at(data, 24)?);
-    let rest = &data[32..];
-    let (name, value) = rest.split_at_checked(usize::try_from(units).ok()?.checked_mul(2)?)?;
-    if value.len() as u64 != size {
-        return None;
-    }
-    let character = |unit: &[u8]| {
-        char::from_u32(u32::from(u16::from_le_bytes([unit[0], unit[1]]))).unwrap_or('\u{fffd}')
+/// Units that a NUL ends, or sixteen bytes that are a GUID, or another text.
+fn crtm_version(data: &[u8]) -> Option<Member> {
+    let version = match units(data).as_deref() {
+        Some([version @ .., 0]) if !version.contains(&0) => characters(version),
+        _ if data.len() == 16 => guid(data),
+        _ => event_text(data)?,
     };
-    let name: String = name.chunks_exact(2).map(character).collect();
-    let (value, guid, name) = (hex(value), guid(&data[..16]), text(&name));
-    Some(format!("{{\"variable\":{{\"data\":\"{value}\",\"guid\":\"{guid}\",\"name\":{name}}}}}"))
+    Some(("crtm_version", text(&version)))
 }
 
-fn guid(bytes: &[u8]) -> String {
-    let backwards = |part: &[u8]| hex(&part.iter().rev().copied().collect::<Vec<u8>>());
-    let (first, second) = (backwards(&bytes[..4]), backwards(&bytes[4..6]));
-    let (third, fourth) = (backwards(&bytes[6..8]), hex(&bytes[8..10]));
-    format!("{first}-{second}-{third}-{fourth}-{}", hex(&bytes[10..]))
+fn image(mut data: &[u8]) -> Option<Member> {
+    let (address, length) = (number(&mut data, 8)?, number(&mut data, 8)?);
+    let link_address = number(&mut data, 8)?;
+    let (path, rest) = (counted(&mut data, 8)?, data);
+    let nodes = first_path(path).filter(|it| it.1.is_empty());
+    let mut members = vec![
+        ("address", address.to_string()),
+        ("length", length.to_string()),
+        ("link_address", link_address.to_string()),
+        ("path", nodes.map_or_else(|| hex_text(path), |it| it.0)),
+    ];
+    if !rest.is_empty() {
+        members.push(("rest", hex_text(rest)));
+    }
+    Some(("image", object(&members)))
 }
 
-fn image(data: &[u8]) -> Option<String> {
-    let (address, size) = (u64_at(data, 0)?, u64_at(data, 8)?);
-    let (link, length) = (u64_at(data, 16)?, u64_at(data, 24)?);
-    let (path, rest) = data[32..].split_at_checked(usize::try_from(length).ok()?)?;
-    let path = nodes(path).unwrap_or_else(|| format!("\"{}\"", hex(path)));
-    let rest = if rest.is_empty() { String::new() } else { format!(",\"rest\":\"{}\"", hex(rest)) };
-    Some(format!(
-        "{{\"image\":{{\"address\":{address},\"length\":{size},\"link_address\":{link},\"path\":{path}{rest}}}}}"
-    ))
-}
-
-/// The nodes of a path before the one that ends it, if the bytes are one, whole and alone.
-fn nodes(mut rest: &[u8]) -> Option<String> {
-    let mut found = Vec::new();
+/// The nodes of the path that bytes begin with, before the one that ends it; and the bytes after it.
+fn first_path(mut rest: &[u8]) -> Option<(String, &[u8])> {
+    let mut nodes = Vec::new();
     loop {
         let [kind, sub_type, low, high] = *rest.first_chunk()?;
-        let (node, after) = rest.split_at_checked(usize::from(u16::from_le_bytes([low, high])))?;
-        let data = hex(node.get(4..)?);
+        let node = rest.split_off(..usize::from(u16::from_le_bytes([low, high])))?;
+        let data = hex_text(node.get(4..)?);
         if (kind, sub_type) == (0x7f, 0xff) {
-            return after.is_empty().then(|| format!("[{}]", found.join(",")));
+            return Some((array(nodes), rest));
         }
-        found.push(format!("{{\"data\":\"{data}\",\"subtype\":{sub_type},\"type\":{kind}}}"));
-        rest = after;
+        nodes.push(object(&[("data", data), ("subtype", sub_type.to_string()), ("type", kind.to_string())]));
     }
 }

@@ -25,3 +25,19 @@ pub fn text(text: &str) -> String {
     let inner: String = text.chars().map(escaped).collect();
     format!("\"{inner}\"")
 }
+
+/// An object. Its members come in the order of their keys.
+pub fn object(members: &[(&str, String)]) -> String {
+    let member = |(key, value): &(&str, String)| format!("{}:{value}", text(key));
+    let members: Vec<String> = members.iter().map(member).collect();
+    format!("{{{}}}", members.join(","))
+}
+
+pub fn array(items: impl IntoIterator<Item = String>) -> String {
+    format!("[{}]", items.into_iter().collect::<Vec<_>>().join(","))
+}
+
+/// Bytes in hex, between quotation marks.
+pub fn hex_text(bytes: &[u8]) -> String {
+    text(&hex(bytes))
+}

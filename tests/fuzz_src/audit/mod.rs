@@ -1,6 +1,6 @@
-//! What plain Rust expects a run of the program `uefi_audit` to end with: its PCRs, its events, its
-//! JSON, which digests are the hash of what was measured, and how two logs differ, over the plain [`readers`](crate::readers) of logs and hash
-//! functions of its own.
+//! What plain Rust expects a run of the program `uefi_audit` to end with: its PCRs, its events and what
+//! their data say, its JSON, which digests are the hash of what was measured, and how two logs differ,
+//! over the plain [`readers`](crate::readers) of logs and hash functions of its own.
 
 mod check;
 mod content;
@@ -27,11 +27,12 @@ const UNJUDGED: i32 = 4;
 
 /// The commands, each with its words. Without the second word of the first, most mutations would be
 /// refused for the bytes that they leave over.
-pub const COMMANDS: [(&str, &[&str]); 7] = [
+pub const COMMANDS: [(&str, &[&str]); 8] = [
     ("replay", &["replay", "--allow-left-over"]),
     ("whole", &["replay"]),
     ("json", &["replay", "--json", "--allow-left-over"]),
     ("events", &["events", "--allow-left-over"]),
+    ("blocks", &["events", "--text", "--allow-left-over"]),
     ("check", &["check", "--allow-left-over"]),
     ("diff", &["diff", "--allow-left-over"]),
     ("whole_diff", &["diff"]),
@@ -79,7 +80,7 @@ pub fn ending(command: &str, input: &Input, given: Option<Option<usize>>, file: 
             status = status.max(i32::from(!output.is_empty()));
         }
     } else if is_read(&log, allows) {
-        let (lines, told, found) = shown(words[0], words.contains(&"--json"), &log, file);
+        let (lines, told, found) = shown(words, &log, file);
         (output, status) = (lines, status.max(found));
         message += &told;
     }
@@ -115,8 +116,9 @@ fn judge(log: &Log<'_>, file: &str, allows_left_over: bool) -> (String, i32) {
 }
 
 /// What a command prints of a log whose events are read, what standard error is told, and the status.
-fn shown(command: &str, is_json: bool, log: &Log<'_>, file: &str) -> (String, String, i32) {
-    match command {
+fn shown(words: &[&str], log: &Log<'_>, file: &str) -> (String, String, i32) {
+    match words[0] {
+        "events" if words.contains(&"--text") => (heads(log, file), String::new(), 0),
         "events" => (events(log, file), String::new(), 0),
         "check" => {
             let (lines, all_match) = check::lines(log, file);
@@ -125,6 +127,7 @@ fn shown(command: &str, is_json: bool, log: &Log<'_>, file: &str) -> (String, St
         _ => {
             let found = replays(log);
             let (told, status) = told_of(log, &found, file);
+            let is_json = words.contains(&"--json");
             let lines = if is_json { json_line(log, &found, file) } else { listing(&found) };
             (lines, told, status)
         }
@@ -235,6 +238,15 @@ fn json_line(log: &Log<'_>, found: &[(&str, Vec<Outcome>)], file: &str) -> Strin
         "{{\"banks\":[{banks}],\"left_over\":{left_over},\"locality\":{locality},\"log\":{name},\
          \"padding\":{padding}}}\n"
     )
+}
+
+/// The first line of each event's block.
+fn heads(log: &Log<'_>, file: &str) -> String {
+    let head = |(index, event): (usize, &Event<'_>)| {
+        let (offset, pcr, kind) = (event.offset, event.register, check::shown(event.kind));
+        format!("{file}: event {index} at offset {offset}: PCR {pcr}, {kind}\n")
+    };
+    log.events.iter().enumerate().map(head).collect()
 }
 
 fn events(log: &Log<'_>, file: &str) -> String {
