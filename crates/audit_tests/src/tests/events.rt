@@ -5,3 +5,4 @@ mod contents;
 mod logs;
 mod machine_log;
 mod names;
+mod values;
