@@ -252,6 +252,11 @@ pub fn two_steps(bytes: &[u8], last_entry: usize) -> Option<(PcrEvent<'_>, PcrEv
         → IsHeaderEvent bytes.now last_entry found.event found.header
         → EventsKeep found.header.table (event_of two.1 ∷ [])
         (start_of after_event found + length (event_bytes (event_of two.0))) last_entry bytes.now) }
+    // They are the first two of the log; there are none only if it has fewer.
+    ensures log { (events : List Event)
+        × IsLogOf after_event (Some bytes.now) (Some last_entry) events
+        × MatchOption result (length events < 2)
+        (λ two. take 2 events ≡ event_of two.0 ∷ event_of two.1 ∷ []) }
 {
     let log = EventLog::new(Some(bytes), Some(last_entry), false);
     let mut events = log.iter_after_header_event();

@@ -155,6 +155,10 @@ pub fn two_steps(bytes: &[u8], last_entry: usize) -> Option<(PcrEvent<'_>, PcrEv
         (λ two. EventsKeep (event_of two.0 ∷ []) 0 last_entry bytes.now) }
     ensures second { IfSome result (λ two.
         EventsKeep (event_of two.1 ∷ []) (length (bytes_of_event two.0)) last_entry bytes.now) }
+    // They are the first two of the log; there are none only if it has fewer.
+    ensures log { (events : List Event) × IsLog bytes.now last_entry events
+        × MatchOption result (length events < 2)
+        (λ two. take 2 events ≡ event_of two.0 ∷ event_of two.1 ∷ []) }
 {
     let log = EventLog::new(Some(bytes), Some(last_entry), false);
     let mut events = log.iter();
