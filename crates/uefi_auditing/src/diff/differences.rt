@@ -107,7 +107,7 @@ fn push_compared<'a>(
     let Some(at) = first_difference(olds, news) else {
         return Ok(true);
     };
-    push_first(text, old_name, olds.get(at), new_name, news.get(at))?;
+    push_first(text, alloc, old_name, olds.get(at), new_name, news.get(at))?;
     push_only(text, alloc, old_name, olds, new_name, news)?;
     push_only(text, alloc, new_name, news, old_name, olds)?;
     Ok(false)
