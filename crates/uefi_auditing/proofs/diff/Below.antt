@@ -1,5 +1,5 @@
 -- What is shown of PCRs, one after another.
-use Rattle.std.proofs.Common.{◌≡◌, ◌∙◌, ℕ, ◌+◌, List, [], ◌++◌, add-one, ap, sym, refl, append_assoc, append-nil}
+use Rattle.std.proofs.Common.{◌∙◌, ℕ, ◌+◌, List, [], ◌++◌, add-one, ap, sym, refl, append_assoc, append-nil}
 use Rattle.std.proofs.Common.{string_bytes, subst}
 use Rattle.std.specs.Prelude.{Bool, true, ◌&&◌}
 use Rattle.std.specs.declared.alloc.Global.{Global}
