@@ -30,9 +30,22 @@ const SHOWN_LENGTH: usize = 80;
 /// image /EFI/BOOT/BOOTX64.EFI
 /// ```
 ///
-/// A text or a name is shown as [`ShownName`] displays it, at most 80 characters of it. An image is
-/// shown by the last file path of its device path, with `/` for each backslash; by the bytes of the
-/// device path in hex, at most 80, if it has none; as `image` alone, if it has no device path.
+/// | data | words |
+/// |---|---|
+/// | a text, a version | it |
+/// | a separator | `separator` and its number |
+/// | a locality | `locality` and its number |
+/// | the header of a log | `header` |
+/// | tagged events | `tagged events` |
+/// | a blob | `blob at` and its address |
+/// | a blob with a description | `blob` and the description |
+/// | a partition table | `disk` and the GUID of the disk |
+/// | a variable | `variable` and its name |
+/// | an image | `image` and its device path, if it has one |
+///
+/// A text, a description or a name is shown as [`ShownName`] displays it, at most 80 characters of
+/// it. A device path is shown by its last file path, with `/` for each backslash, without NULs, and
+/// at most 80 units of it. If it has none, its bytes are in hex, at most 80 of them.
 ///
 /// # Errors
 ///

@@ -15,7 +15,9 @@ pub(crate) const COMPARED: u32 = 25;
 
 /// Appends how the events of two logs differ, PCR by PCR, those above 23 together: a line
 /// for the first event in which they differ, one for each event that only the old log has, and one
-/// for each that only the new log has. For a PCR whose events are the same there is none.
+/// for each that only the new log has. For a PCR whose events are the same there is none. An event is
+/// named by its type, what its data say ([`push_said`](crate::content::push_said)), its index and its
+/// offset.
 ///
 /// Events are the same if they have the same PCR, type, digests and data, wherever they stand
 /// in the log. An event is sought among those of its PCR in the other log by their order, so that the
