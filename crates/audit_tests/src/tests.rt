@@ -1,4 +1,5 @@
 mod check;
+mod content;
 mod diff;
 mod events;
 mod json;

@@ -3,3 +3,4 @@ pub mod Printed
 pub mod TaggedSteps
 pub mod OneValue
 pub mod OneContent
+pub mod FirstItems

@@ -6,3 +6,4 @@ pub mod ThoseOnly
 pub mod Below
 pub mod Shown
 pub mod JsonLines
+pub mod Numbering

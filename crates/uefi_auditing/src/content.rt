@@ -13,6 +13,7 @@ ghost use Rattle.uefi_auditing.specs.content.Header.{ReadsHeader};
 ghost use Rattle.uefi_auditing.specs.content.Views.{content_of};
 ghost use Rattle.uefi_auditing.specs.declared.content.form.Form.TheVariants.{OfAuthority, OfCrtmVersion, OfDescribedBlob, OfGpt, OfImage, OfLoaderText, OfTagged, OfVariable};
 
+pub use self::said::push_said;
 pub use self::tagged::TaggedData;
 pub use self::value::VariableValue;
 use crate::content::form::{Form, form_of};
@@ -30,6 +31,7 @@ use uefi_tcg::v2::EventLogHeader;
 
 mod form;
 mod path;
+mod said;
 mod tagged;
 mod value;
 mod value_form;

@@ -2,7 +2,10 @@
 
 mod firmware;
 mod reading;
+mod said;
 mod variable;
+
+pub use said::said;
 
 use super::json::{array, hex_text, object, text};
 use super::log::{Event, NO_ACTION, locality};
@@ -39,14 +42,17 @@ fn printed(data: &[u8]) -> Option<Member> {
     is_printed.then(|| ("text", text(std::str::from_utf8(data).unwrap())))
 }
 
-/// Units that a NUL ends, or sixteen bytes that are a GUID, or another text.
 fn crtm_version(data: &[u8]) -> Option<Member> {
-    let version = match units(data).as_deref() {
+    version(data).map(|it| ("crtm_version", text(&it)))
+}
+
+/// Units that a NUL ends, or sixteen bytes that are a GUID, or another text.
+fn version(data: &[u8]) -> Option<String> {
+    Some(match units(data).as_deref() {
         Some([version @ .., 0]) if !version.contains(&0) => characters(version),
         _ if data.len() == 16 => guid(data),
         _ => event_text(data)?,
-    };
-    Some(("crtm_version", text(&version)))
+    })
 }
 
 fn image(mut data: &[u8]) -> Option<Member> {
@@ -66,16 +72,29 @@ fn image(mut data: &[u8]) -> Option<Member> {
     Some(("image", object(&members)))
 }
 
+/// A node of a device path: its type, its subtype and its data.
+type Node<'a> = (u8, u8, &'a [u8]);
+
 /// The nodes of the path that bytes begin with, before the one that ends it; and the bytes after it.
-fn first_path(mut rest: &[u8]) -> Option<(String, &[u8])> {
+fn nodes(mut rest: &[u8]) -> Option<(Vec<Node<'_>>, &[u8])> {
     let mut nodes = Vec::new();
     loop {
         let [kind, sub_type, low, high] = *rest.first_chunk()?;
         let node = rest.split_off(..usize::from(u16::from_le_bytes([low, high])))?;
-        let data = hex_text(node.get(4..)?);
+        let data = node.get(4..)?;
         if (kind, sub_type) == (0x7f, 0xff) {
-            return Some((array(nodes), rest));
+            return Some((nodes, rest));
         }
-        nodes.push(object(&[("data", data), ("subtype", sub_type.to_string()), ("type", kind.to_string())]));
+        nodes.push((kind, sub_type, data));
     }
+}
+
+/// The path that bytes begin with, and the bytes after it.
+fn first_path(bytes: &[u8]) -> Option<(String, &[u8])> {
+    let (nodes, rest) = nodes(bytes)?;
+    let node = |(kind, sub_type, data): Node<'_>| {
+        let (data, sub_type, kind) = (hex_text(data), sub_type.to_string(), kind.to_string());
+        object(&[("data", data), ("subtype", sub_type), ("type", kind)])
+    };
+    Some((array(nodes.into_iter().map(node)), rest))
 }

@@ -1,5 +1,6 @@
 //! How the events of two logs differ, PCR by PCR (docs/AUDIT.md).
 
+use super::content::said;
 use super::log::{Event, Log};
 use super::type_name;
 use std::collections::HashSet;
@@ -30,13 +31,17 @@ fn of_register<'a>(register: u32, log: &'a Log<'a>) -> Vec<Numbered<'a>> {
     events.filter(|(_, event)| event.register.min(REGISTERS) == register).collect()
 }
 
-/// The type of an event and where it is.
+/// The type of an event, what its data say, and where it is.
 fn named((index, event): Numbered<'_>, name: &str) -> String {
     let kind = match type_name(event.kind) {
         Some(kind) => format!("EV_{kind}"),
         None => format!("type {:#x}", event.kind),
     };
-    format!("{kind} (event {index} at offset {} of {name})", event.offset)
+    let words = match said(event) {
+        words if words.is_empty() => words,
+        words => format!(", {words}"),
+    };
+    format!("{kind}{words} (event {index} at offset {} of {name})", event.offset)
 }
 
 /// What a line begins with.

@@ -4,6 +4,19 @@ pub fn hex(bytes: &[u8]) -> String {
     bytes.iter().map(|byte| format!("{byte:02x}")).collect()
 }
 
+/// Whether a character is a control, of which a text shows only the number.
+pub fn is_control(c: char) -> bool {
+    matches!(
+        c,
+        '\0'..' '
+            | '\u{7f}'..='\u{9f}'
+            | '\u{61c}'
+            | '\u{200e}'..='\u{200f}'
+            | '\u{2028}'..='\u{202e}'
+            | '\u{2066}'..='\u{2069}'
+    )
+}
+
 /// A text between quotation marks.
 pub fn text(text: &str) -> String {
     let escaped = |c: char| match c {
@@ -14,12 +27,7 @@ pub fn text(text: &str) -> String {
         '\n' => "\\n".to_owned(),
         '\u{c}' => "\\f".to_owned(),
         '\r' => "\\r".to_owned(),
-        '\0'..' '
-        | '\u{7f}'..='\u{9f}'
-        | '\u{61c}'
-        | '\u{200e}'..='\u{200f}'
-        | '\u{2028}'..='\u{202e}'
-        | '\u{2066}'..='\u{2069}' => format!("\\u{:04x}", u32::from(c)),
+        c if is_control(c) => format!("\\u{:04x}", u32::from(c)),
         _ => c.to_string(),
     };
     let inner: String = text.chars().map(escaped).collect();

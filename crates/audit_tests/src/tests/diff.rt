@@ -14,7 +14,7 @@ struct Row {
     lines: &'static str,
 }
 
-const ROWS: [Row; 17] = [
+const ROWS: [Row; 19] = [
     // The same events.
     Row {
         old: "0100000008000000aaaaaaaaaaaaaaaaaaaaaaaaaaaaaaaaaaaaaaaa00000000010000\
@@ -45,7 +45,7 @@ const ROWS: [Row; 17] = [
         new: "0100000008000000aaaaaaaaaaaaaaaaaaaaaaaaaaaaaaaaaaaaaaaa00000000010000\
          0004000000bbbbbbbbbbbbbbbbbbbbbbbbbbbbbbbbbbbbbbbb0400000000000000",
         lines: "PCR 1: EV_S_CRTM_VERSION (event 1 at offset 32 of old.log) differs fro\
-         m EV_SEPARATOR (event 1 at offset 32 of new.log)\n",
+         m EV_SEPARATOR, separator 0 (event 1 at offset 32 of new.log)\n",
     },
     // The order is another.
     Row {
@@ -54,7 +54,7 @@ const ROWS: [Row; 17] = [
         new: "0100000004000000bbbbbbbbbbbbbbbbbbbbbbbbbbbbbbbbbbbbbbbb04000000000000\
          000100000008000000aaaaaaaaaaaaaaaaaaaaaaaaaaaaaaaaaaaaaaaa00000000",
         lines: "PCR 1: EV_S_CRTM_VERSION (event 0 at offset 0 of old.log) differs from \
-         EV_SEPARATOR (event 0 at offset 0 of new.log)\n",
+         EV_SEPARATOR, separator 0 (event 0 at offset 0 of new.log)\n",
     },
     // A digest differs.
     Row {
@@ -71,10 +71,11 @@ const ROWS: [Row; 17] = [
          0004000000bbbbbbbbbbbbbbbbbbbbbbbbbbbbbbbbbbbbbbbb0400000000000000",
         new: "0100000008000000aaaaaaaaaaaaaaaaaaaaaaaaaaaaaaaaaaaaaaaa00000000010000\
          0004000000bbbbbbbbbbbbbbbbbbbbbbbbbbbbbbbbbbbbbbbb0400000000000001",
-        lines: "PCR 1: EV_SEPARATOR (event 1 at offset 32 of old.log) differs from EV_\
-         SEPARATOR (event 1 at offset 32 of new.log)\nPCR 1: EV_SEPARATOR (even\
-         t 1 at offset 32 of old.log) isn't in new.log\nPCR 1: EV_SEPARATOR (ev\
-         ent 1 at offset 32 of new.log) isn't in old.log\n",
+        lines: "PCR 1: EV_SEPARATOR, separator 0 (event 1 at offset 32 of old.log) dif\
+         fers from EV_SEPARATOR, separator 16777216 (event 1 at offset 32 of ne\
+         w.log)\nPCR 1: EV_SEPARATOR, separator 0 (event 1 at offset 32 of old.\
+         log) isn't in new.log\nPCR 1: EV_SEPARATOR, separator 16777216 (event \
+         1 at offset 32 of new.log) isn't in old.log\n",
     },
     // The PCR differs.
     Row {
@@ -205,6 +206,34 @@ const ROWS: [Row; 17] = [
          EFI_ACTION (event 0 at offset 0 of new.log)\nPCR 4: EV_EFI_ACTION (eve\
          nt 4 at offset 144 of old.log) isn't in new.log\nPCR 4: EV_EFI_ACTION (\
          event 4 at offset 144 of new.log) isn't in old.log\n",
+    },
+    // The value of a variable differs.
+    Row {
+        old: "0700000001000080aaaaaaaaaaaaaaaaaaaaaaaaaaaaaaaaaaaaaaaa3500000061dfe4\
+         8bca93d211aa0d00e098032b8c0a000000000000000100000000000000530065006300\
+         75007200650042006f006f00740001",
+        new: "0700000001000080aaaaaaaaaaaaaaaaaaaaaaaaaaaaaaaaaaaaaaaa3500000061dfe4\
+         8bca93d211aa0d00e098032b8c0a000000000000000100000000000000530065006300\
+         75007200650042006f006f00740000",
+        lines: "PCR 7: EV_EFI_VARIABLE_DRIVER_CONFIG, variable SecureBoot (event 0 at \
+         offset 0 of old.log) differs from EV_EFI_VARIABLE_DRIVER_CONFIG, varia\
+         ble SecureBoot (event 0 at offset 0 of new.log)\nPCR 7: EV_EFI_VARIABL\
+         E_DRIVER_CONFIG, variable SecureBoot (event 0 at offset 0 of old.log) \
+         isn't in new.log\nPCR 7: EV_EFI_VARIABLE_DRIVER_CONFIG, variable Secur\
+         eBoot (event 0 at offset 0 of new.log) isn't in old.log\n",
+    },
+    // Texts with controls of the terminal, of lines and of the writing direction.
+    Row {
+        old: "080000000d000000aaaaaaaaaaaaaaaaaaaaaaaaaaaaaaaaaaaaaaaa09000000611b5b\
+         33316d0a6200",
+        new: "080000000d000000aaaaaaaaaaaaaaaaaaaaaaaaaaaaaaaaaaaaaaaa0c00000061009b\
+         002e20282062005c00",
+        lines: "PCR 8: EV_IPL, a\\x1b[31m\\x0ab (event 0 at offset 0 of old.log) diffe\
+         rs from EV_IPL, a\\xc2\\x9b\\xe2\\x80\\xae\\xe2\\x80\\xa8b\\x5c (event \
+         0 at offset 0 of new.log)\nPCR 8: EV_IPL, a\\x1b[31m\\x0ab (event 0 at \
+         offset 0 of old.log) isn't in new.log\nPCR 8: EV_IPL, a\\xc2\\x9b\\xe2\
+         \\x80\\xae\\xe2\\x80\\xa8b\\x5c (event 0 at offset 0 of new.log) isn't \
+         in old.log\n",
     },
 ];
 

@@ -5,4 +5,5 @@ mod contents;
 mod logs;
 mod machine_log;
 mod names;
+mod paths;
 mod values;

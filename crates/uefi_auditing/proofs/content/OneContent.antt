@@ -19,7 +19,7 @@ use Rattle.uefi_auditing.specs.content.Content.{BlobContent, Content, ImageConte
 use Rattle.uefi_auditing.specs.content.Content.{are_printed, blob, crtm_version, described_blob, gpt, header, image, loader_text, or_unread, tagged, variable}
 use Rattle.uefi_auditing.specs.content.Header.{ReadsHeader}
 use Rattle.uefi_auditing.specs.content.Path.{ReadsNodes}
-use Rattle.uefi_auditing.specs.content.Value.{SaysValue, Value, authority_form, value_form}
+use Rattle.uefi_auditing.specs.content.Value.{SaysValue, authority_form, value_form}
 use Rattle.uefi_auditing.specs.Laws.{OneContent}
 use Rattle.uefi_auditing.specs.declared.content.form.Form.TheVariants.{OfNoAction, OfSeparator, OfText, OfPostCode, OfBlob, OfDescribedBlob}
 use Rattle.uefi_auditing.specs.declared.content.form.Form.TheVariants.{OfLoaderText, OfCrtmVersion, OfTagged, OfGpt, OfVariable, OfAuthority, OfImage, Other}

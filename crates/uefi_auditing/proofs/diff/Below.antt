@@ -1,5 +1,5 @@
 -- What is shown of PCRs, one after another.
-use Rattle.std.proofs.Common.{◌≡◌, ◌∙◌, ℕ, ◌+◌, List, [], ◌++◌, add-one, ap, sym, refl, append_assoc, append-nil}
+use Rattle.std.proofs.Common.{◌∙◌, ℕ, ◌+◌, List, [], ◌++◌, add-one, ap, sym, refl, append_assoc, append-nil}
 use Rattle.std.proofs.Common.{string_bytes, subst}
 use Rattle.std.specs.Prelude.{Bool, true, ◌&&◌}
 use Rattle.std.specs.declared.alloc.Global.{Global}
@@ -21,11 +21,3 @@ one_more Shows old new pcr before now next all_before is_same a b = (
       (a.0, all_before, b.0, is_same, a.1, b.1, refl, refl),
   b.2 ∙ ap (λ t. t ++ b.0) a.2 ∙ append_assoc (string_bytes before) a.0 b.0,
 )
-
--- The same of what the entries are.
-pub below_in : (Shows : ℕ → List Numbered → List Numbered → List ℕ → Bool → Type 0) (old new old_in new_in : List Numbered)
-    (pcr : ℕ) (before after : String Global) (same : Bool) → old ≡ old_in → new ≡ new_in
-    → AppendsBelow Shows old new pcr before after same → AppendsBelow Shows old_in new_in pcr before after same
-below_in Shows old new old_in new_in pcr before after same is also shown =
-    subst (λ o. AppendsBelow Shows o new_in pcr before after same) is
-    (subst (λ n. AppendsBelow Shows old n pcr before after same) also shown)

@@ -1,7 +1,7 @@
 -- Units with a NUL after them.
 use Rattle.std.proofs.Common.{◌≡◌, ◌∙◌, ℕ, List, [], ◌∷◌, ◌++◌, ap, sym, refl, append_assoc, append-nil, eq-eqb, ne_eqb}
 use Rattle.std.specs.List.{flat_map}
-use Rattle.std.specs.Prelude.{◌==◌, Bool, true, false, cond}
+use Rattle.std.specs.Prelude.{◌==◌, cond}
 use Rattle.uefi_path.specs.LoadOption.{with_nul}
 use Rattle.uefi_auditing.specs.json.Texts.{before_nul, unit_text}
 

@@ -1,7 +1,6 @@
 -- No number of an event's JSON is a float.
 use Rattle.std.proofs.Common.{◌≡◌, ℕ, List, [], ◌∷◌, ◌++◌, map, refl, Bool, false, true, cond, ◌||◌, Option, Some, None}
-use Rattle.std.specs.Prelude.{codes}
-use Rattle.serde_json.specs.Data.{Data, Members, number, unsigned, string, object, member, no_members}
+use Rattle.serde_json.specs.Data.{Data, string}
 use Rattle.serde_json.specs.View.{items_of}
 use Rattle.serde_json.specs.Written.{has_float, items_have_float}
 use Rattle.uefi_tcg.specs.v2.Event.{Digest, Event}

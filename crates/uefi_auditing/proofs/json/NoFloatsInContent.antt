@@ -1,7 +1,7 @@
 -- No number of what data say is a float.
 use Rattle.std.proofs.Common.{◌≡◌, ℕ, List, [], ◌∷◌, map, refl, Bool, false, true, cond, Option, Some, None}
 use Rattle.std.specs.Prelude.{codes, length, nat_le}
-use Rattle.serde_json.specs.Data.{Data, Members, number, unsigned, string, array, object, member, no_members}
+use Rattle.serde_json.specs.Data.{Data, Members, number, unsigned, string, object, member, no_members}
 use Rattle.serde_json.specs.View.{items_of}
 use Rattle.serde_json.specs.Written.{has_float, items_have_float}
 use Rattle.uefi_path.specs.LoadOption.{LoadOption}

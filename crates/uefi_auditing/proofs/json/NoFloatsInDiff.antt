@@ -1,16 +1,25 @@
 -- No number of the JSON of how two logs differ is a float.
-use Rattle.std.proofs.Common.{◌≡◌, ℕ, List, [], ◌∷◌, map, refl}
+use Rattle.std.proofs.Common.{◌≡◌, ℕ, List, [], ◌∷◌, length, map, refl}
 use Rattle.std.specs.Prelude.{Bool, true, false, cond, ◌==◌, Option, None, Some}
-use Rattle.serde_json.specs.Data.{null, number, unsigned}
+use Rattle.serde_json.specs.Data.{null, number, string, unsigned}
 use Rattle.serde_json.specs.View.{items_of}
 use Rattle.serde_json.specs.Written.{has_float, items_have_float}
+use Rattle.uefi_auditing.specs.content.Said.{said}
 use Rattle.uefi_auditing.specs.diff.Differences.{Numbered, type_of}
-use Rattle.uefi_auditing.specs.json.Diff.{first_json, found_json, pcr_json, register_json, side_json}
+use Rattle.uefi_auditing.specs.json.Diff.{first_json, found_json, pcr_json, register_json, says_json, side_json}
 use Rattle.uefi_auditing.proofs.json.NoFloats.{event_type}
+
+says_has : (words : List ℕ) → has_float (says_json words) ≡ false
+unfolding says_json
+says_has words = either (length words == 0)
+  where
+    either : (none : Bool) → has_float (cond none null (string words)) ≡ false
+    either true = refl
+    either false = refl
 
 found_has : (found : Numbered) → has_float (found_json found) ≡ false
 unfolding found_json
-found_has found = rw (event_type (type_of found)) refl
+found_has found = rw (says_has (said found.content)) (rw (event_type (type_of found)) refl)
 
 all_have : (all : List Numbered) → items_have_float (items_of (map found_json all)) ≡ false
 all_have [] = refl

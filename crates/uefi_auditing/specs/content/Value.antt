@@ -2,12 +2,10 @@
 use Rattle.std.specs.Prelude.{ℕ, ◌≡◌, ◌==◌, ◌&&◌, ◌||◌, nat_le, List, [], ◌∷◌, length, slice_get, codes, Option, Some, None, Bool, false, if◌then◌else◌}
 use Rattle.std.specs.Option.{option_map_or}
 use Rattle.std.specs.Str.{bytes_eq}
-use Rattle.uefi_base.specs.Unaligned.{AreUnits, unit_bytes}
 use Rattle.uefi_path.specs.LoadOption.{LoadOption, IsLoadOption, load_option_bytes}
 use Rattle.uefi_tcg.specs.content.BootOrder.{ReadsBootOrder}
 use Rattle.uefi_tcg.specs.content.Reading.{Reads}
 use Rattle.uefi_tcg.specs.content.Signature.{Signature, SignatureList, ReadsSignature, ReadsSignatureLists}
-use Rattle.uefi_tcg.specs.content.Variable.{Variable}
 use Rattle.uefi_auditing.specs.declared.content.value_form.ValueForm.{ValueForm}
 use Rattle.uefi_auditing.specs.declared.content.value_form.ValueForm.TheVariants.{OfBootOption, OfBootOrder, OfSignatureLists, OfSignature, OfNothing}
 

@@ -1,6 +1,6 @@
 -- How the events of two logs differ, by PCRs, and what `uefi_audit diff` prints of it. Events are the same if they
 -- are equal: PCR, type, digests and data. Where they stand in the log is nothing of theirs.
-use Rattle.std.specs.Prelude.{ℕ, zero, suc, ◌≡◌, ◌≢◌, ◌⊎◌, ◌+◌, ◌<◌, ◌==◌, ◌&&◌, min, Bool, true, false, codes}
+use Rattle.std.specs.Prelude.{ℕ, zero, suc, ◌≡◌, ◌≢◌, ◌⊎◌, ◌+◌, ◌<◌, ◌==◌, ◌&&◌, min, length, Bool, true, false, codes, if◌then◌else◌}
 use Rattle.std.specs.Prelude.{List, [], ◌∷◌, ◌++◌, map, slice_get, Option, None, Some, option_map}
 use Rattle.std.specs.List.{filter}
 use Rattle.std.specs.Fmt.{decimal, digits}
@@ -10,17 +10,23 @@ use Rattle.uefi_base.specs.Appending.{AppendsText}
 use Rattle.uefi_tcg.specs.v2.Event.{Event}
 use Rattle.pcr_replay.specs.Entries.{Contents, Entry}
 use Rattle.pcr_replay.specs.Logs.{HasContents}
+use Rattle.uefi_auditing.specs.content.Content.{Content, Says, form_of}
+use Rattle.uefi_auditing.specs.content.Said.{said}
 use Rattle.uefi_auditing.specs.declared.text.LogFile.{LogFile}
 use Rattle.uefi_auditing.specs.json.Names.{type_name}
 
--- An entry of a log with its index.
+-- An entry of a log with its index, and what its data say.
 pub record Numbered : Type 0 where
   pub index : ℕ
   pub entry : Entry
+  pub content : Content
 
-abbrev pub numbered : ℕ → List Entry → List Numbered
-numbered index [] = []
-numbered index (entry ∷ entries) = record { index = index; entry = entry } ∷ numbered (index + 1) entries
+-- These are the entries, of which the first has this index.
+abbrev pub AreNumbered : ℕ → List Entry → List Numbered → Type 0
+AreNumbered index [] all = all ≡ []
+AreNumbered index (entry ∷ entries) all =
+    (content : Content) × (rest : List Numbered) × Says (form_of entry.event.event_type) entry.event.event_data content
+    × AreNumbered (index + 1) entries rest × (all ≡ record { index = index; entry = entry; content = content } ∷ rest)
 
 -- Those of a PCR. The PCRs above 23, which a PC's TPM doesn't have, are taken together as one, PCR
 -- 24.
@@ -60,11 +66,16 @@ unfoldable pub type_text : ℕ → Option (List ℕ) → List ℕ
 type_text number (Some name) = name
 type_text number None = codes "type 0x" ++ digits 16 false number
 
--- An event of a log: its type, its index and its offset.
+-- What data say, after a comma; nothing if they say nothing.
+unfoldable pub words_text : List ℕ → List ℕ
+words_text words = if length words == 0 then [] else codes ", " ++ words
+
+-- An event of a log: its type, what its data say, its index and its offset.
 unfoldable pub event_text : List ℕ → Numbered → List ℕ
 event_text name found =
-    type_text (type_of found) (type_name (type_of found)) ++ (codes " (event " ++ (decimal found.index
-    ++ (codes " at offset " ++ (decimal found.entry.offset ++ (codes " of " ++ (name ++ codes ")"))))))
+    type_text (type_of found) (type_name (type_of found)) ++ (words_text (said found.content)
+    ++ (codes " (event " ++ (decimal found.index
+    ++ (codes " at offset " ++ (decimal found.entry.offset ++ (codes " of " ++ (name ++ codes ")")))))))
 
 -- What a line begins with: the PCR and the event.
 unfoldable pub place_text : List ℕ → Numbered → List ℕ
@@ -143,7 +154,9 @@ ShowsBelow Shows (suc pcr) old new text same =
 
 -- Of the one log that each file is: of the PCRs 0 to 23, and of those above.
 abbrev pub ShowsAll : (ℕ → List Numbered → List Numbered → List ℕ → Bool → Type 0) → Contents → Contents → List ℕ → Bool → Type 0
-ShowsAll Shows old new text same = ShowsBelow Shows 25 (numbered 0 old.entries) (numbered 0 new.entries) text same
+ShowsAll Shows old new text same =
+    (olds : List Numbered) × (news : List Numbered) × AreNumbered 0 old.entries olds × AreNumbered 0 new.entries news
+    × ShowsBelow Shows 25 olds news text same
 
 -- What `diff` prints.
 abbrev pub IsDiff : List ℕ → List ℕ → Contents → Contents → List ℕ → Bool → Type 0

@@ -1,5 +1,5 @@
 -- What data say as JSON: an object with one key. The keys of an object come in order.
-use Rattle.std.specs.Prelude.{ℕ, List, Option, codes}
+use Rattle.std.specs.Prelude.{List, Option, codes}
 use Rattle.serde_json.specs.Data.{Data, null, number, unsigned, string, object, member, no_members}
 use Rattle.uefi_path.specs.Node.{Node}
 use Rattle.uefi_tcg.specs.content.Image.{Image}

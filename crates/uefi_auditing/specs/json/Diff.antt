@@ -1,5 +1,5 @@
 -- What `uefi_audit diff --json` prints of two logs: an object for each PCR whose events differ. The keys of an object come in order.
-use Rattle.std.specs.Prelude.{ℕ, ◌≡◌, ◌⊎◌, ◌==◌, Bool, true, false, List, [], ◌++◌, map, slice_get, codes, Option, None, Some, if◌then◌else◌}
+use Rattle.std.specs.Prelude.{ℕ, ◌≡◌, ◌⊎◌, ◌==◌, Bool, true, false, List, [], ◌++◌, length, map, slice_get, codes, Option, None, Some, if◌then◌else◌}
 use Rattle.std.specs.declared.alloc.Global.{Global}
 use Rattle.std.specs.declared.string.String.{String}
 use Rattle.serde_json.specs.Data.{Data, null, number, unsigned, string, array, object, member, no_members}
@@ -7,18 +7,24 @@ use Rattle.serde_json.specs.View.{items_of}
 use Rattle.uefi_base.specs.Appending.{AppendsText}
 use Rattle.pcr_replay.specs.Entries.{Contents}
 use Rattle.pcr_replay.specs.Logs.{HasContents}
+use Rattle.uefi_auditing.specs.content.Said.{said}
 use Rattle.uefi_auditing.specs.declared.text.LogFile.{LogFile}
 use Rattle.uefi_auditing.specs.diff.Differences.{AreThoseOnly, DifferAt, Numbered, ShowsAll, events_in, pcr_of, type_of}
 use Rattle.uefi_auditing.specs.json.Event.{type_json}
 use Rattle.uefi_auditing.specs.json.Line.{line_of}
 
--- An event: its index, its offset, its PCR and its type.
+-- What data say; `null` if they say nothing.
+unfoldable pub says_json : List ℕ → Data
+says_json words = if length words == 0 then null else string words
+
+-- An event: its index, its offset, its PCR, what its data say and its type.
 unfoldable pub found_json : Numbered → Data
 found_json found =
     object (member (codes "index") (number (unsigned found.index))
     (member (codes "offset") (number (unsigned found.entry.offset))
     (member (codes "register") (number (unsigned (pcr_of found)))
-    (member (codes "type") (type_json (type_of found)) no_members))))
+    (member (codes "says") (says_json (said found.content))
+    (member (codes "type") (type_json (type_of found)) no_members)))))
 
 -- The event where the logs differ first; `null` if the log has none there.
 unfoldable pub first_json : Option Numbered → Data

@@ -1,5 +1,5 @@
 -- What data say of firmware as JSON. The keys of an object come in order.
-use Rattle.std.specs.Prelude.{ℕ, List, length, map, codes, encode_utf8}
+use Rattle.std.specs.Prelude.{ℕ, List, map, codes, encode_utf8}
 use Rattle.std.specs.List.{flat_map}
 use Rattle.hex.specs.Hex.{encode_lower}
 use Rattle.serde_json.specs.Data.{Data, number, unsigned, string, array, object, member, no_members}

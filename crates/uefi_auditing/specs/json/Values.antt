@@ -1,5 +1,5 @@
 -- What the value of a variable says as JSON. The keys of an object come in order.
-use Rattle.std.specs.Prelude.{ℕ, nat_le, List, length, map, codes, Option, Some, None, if◌then◌else◌}
+use Rattle.std.specs.Prelude.{ℕ, nat_le, length, map, codes, Option, Some, None, if◌then◌else◌}
 use Rattle.std.specs.List.{flat_map}
 use Rattle.hex.specs.Hex.{encode_lower}
 use Rattle.serde_json.specs.Data.{Data, Members, number, unsigned, string, array, object, member, no_members, put}

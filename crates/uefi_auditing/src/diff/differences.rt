@@ -15,7 +15,9 @@ pub(crate) const COMPARED: u32 = 25;
 
 /// Appends how the events of two logs differ, PCR by PCR, those above 23 together: a line
 /// for the first event in which they differ, one for each event that only the old log has, and one
-/// for each that only the new log has. For a PCR whose events are the same there is none.
+/// for each that only the new log has. For a PCR whose events are the same there is none. An event is
+/// named by its type, what its data say ([`push_said`](crate::content::push_said)), its index and its
+/// offset.
 ///
 /// Events are the same if they have the same PCR, type, digests and data, wherever they stand
 /// in the log. An event is sought among those of its PCR in the other log by their order, so that the
@@ -107,7 +109,7 @@ fn push_compared<'a>(
     let Some(at) = first_difference(olds, news) else {
         return Ok(true);
     };
-    push_first(text, old_name, olds.get(at), new_name, news.get(at))?;
+    push_first(text, alloc, old_name, olds.get(at), new_name, news.get(at))?;
     push_only(text, alloc, old_name, olds, new_name, news)?;
     push_only(text, alloc, new_name, news, old_name, olds)?;
     Ok(false)

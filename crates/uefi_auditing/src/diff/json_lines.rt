@@ -1,10 +1,13 @@
 ghost use Rattle.std.specs.Prelude.{◌≡◌, map, IfOk, option_map};
 ghost use Rattle.serde_json.specs.View.{view};
+ghost use Rattle.uefi_auditing.specs.content.Said.{said};
+ghost use Rattle.uefi_auditing.specs.content.Views.{content_of};
 ghost use Rattle.uefi_auditing.specs.diff.Differences.{of_pcr};
-ghost use Rattle.uefi_auditing.specs.json.Diff.{AppendsDifferencesJson, ShowsPcrJson, first_json, found_json, pcr_json, register_json, side_json};
+ghost use Rattle.uefi_auditing.specs.json.Diff.{AppendsDifferencesJson, ShowsPcrJson, first_json, found_json, pcr_json, register_json, says_json, side_json};
 ghost use Rattle.uefi_auditing.specs.private.diff.Appending.{AppendsBelow, AppendsShown};
 ghost use Rattle.uefi_auditing.specs.private.diff.Views.{numbered_of};
 
+use crate::content::{Content, push_said};
 use crate::diff::differences::COMPARED;
 use crate::diff::only::those_only;
 use crate::diff::pcr::{ABOVE, NumberedEntry, entries_of, first_difference, numbered_entries};
@@ -33,6 +36,7 @@ use std::alloc::{AllocError, Global};
 /// | `index` | its index in the log |
 /// | `offset` | where it starts in the log's bytes |
 /// | `register` | the index of its PCR |
+/// | `says` | what its data say, as [`push_said`] has it; `null` if that is nothing |
 /// | `type` | an object with `name`, if the type has one, and `number` |
 ///
 /// Events are the same as [`push_differences`](crate::diff::push_differences) has it. Returns
@@ -204,7 +208,7 @@ fn each_found(alloc: Global, all: &[NumberedEntry<'_>]) -> Result<Vec<Value>, Al
     Ok(values)
 }
 
-/// Returns an event: its index, its offset, its PCR and its type.
+/// Returns an event: its index, its offset, its PCR, what its data say and its type.
 #[tactic(auto, unfolding(crate::specs::json::Diff::found_json))]
 fn found_json(alloc: Global, found: &NumberedEntry<'_>) -> Result<Value, AllocError>
     ensures { IfOk result (λ value. view value ≡ found_json (numbered_of found.now)) }
@@ -220,7 +224,22 @@ fn found_json(alloc: Global, found: &NumberedEntry<'_>) -> Result<Value, AllocEr
     )?;
     let register = event.pcr_index().0;
     put(&mut members, alloc, "register", Value::from(register))?;
+    let says = says_json(alloc, &found.content)?;
+    put(&mut members, alloc, "says", says)?;
     let event_type = type_json(alloc, event.event_type())?;
     put(&mut members, alloc, "type", event_type)?;
     Ok(Value::Object(members))
+}
+
+/// Returns what data say; `null` if they say nothing.
+#[tactic(auto, unfolding(crate::specs::json::Diff::says_json))]
+fn says_json(alloc: Global, content: &Content<'_>) -> Result<Value, AllocError>
+    ensures { IfOk result (λ value. view value ≡ says_json (said (content_of content.now))) }
+{
+    let mut words = String::new(alloc);
+    push_said(&mut words, content)?;
+    if words.is_empty() {
+        return Ok(Value::Null);
+    }
+    Ok(Value::String(words))
 }

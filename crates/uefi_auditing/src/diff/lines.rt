@@ -1,18 +1,22 @@
 ghost use Rattle.std.specs.Prelude.{OnOk, option_map};
 ghost use Rattle.uefi_base.specs.Appending.{AppendsText};
-ghost use Rattle.uefi_auditing.specs.diff.Differences.{event_text, first_line, last_line, only_line, other_line, place_text, type_text};
+ghost use Rattle.uefi_auditing.specs.content.Said.{said};
+ghost use Rattle.uefi_auditing.specs.content.Views.{content_of};
+ghost use Rattle.uefi_auditing.specs.diff.Differences.{event_text, first_line, last_line, only_line, other_line, place_text, type_text, words_text};
 ghost use Rattle.uefi_auditing.specs.json.Names.{type_name};
 ghost use Rattle.uefi_auditing.specs.private.diff.Views.{numbered_of};
 
+use crate::content::{Content, push_said};
 use crate::diff::pcr::NumberedEntry;
 use crate::json::names::type_name;
-use std::alloc::AllocError;
+use std::alloc::{AllocError, Global};
 use uefi_tcg::EventType;
 
 /// Appends the line of the first event in which two logs differ; nothing if neither has one there.
 #[tactic(auto, unfolding(crate::specs::diff::Differences::first_line))]
 pub(crate) fn push_first(
     text: &mut String,
+    alloc: Global,
     old_name: &str,
     old: Option<&NumberedEntry<'_>>,
     new_name: &str,
@@ -24,11 +28,11 @@ pub(crate) fn push_first(
 {
     match old {
         Some(old) => match new {
-            Some(new) => push_other(text, old_name, old, new_name, new),
-            None => push_last(text, old_name, old, new_name),
+            Some(new) => push_other(text, alloc, old_name, old, new_name, new),
+            None => push_last(text, alloc, old_name, old, new_name),
         },
         None => match new {
-            Some(new) => push_last(text, new_name, new, old_name),
+            Some(new) => push_last(text, alloc, new_name, new, old_name),
             None => Ok(()),
         },
     }
@@ -38,6 +42,7 @@ pub(crate) fn push_first(
 #[tactic(auto, unfolding(crate::specs::diff::Differences::other_line))]
 fn push_other(
     text: &mut String,
+    alloc: Global,
     old_name: &str,
     old: &NumberedEntry<'_>,
     new_name: &str,
@@ -46,9 +51,9 @@ fn push_other(
     ensures { OnOk result (AppendsText text.old text.new
         (other_line old_name.now (numbered_of old.now) new_name.now (numbered_of new.now))) }
 {
-    push_place(text, old_name, old)?;
+    push_place(text, alloc, old_name, old)?;
     text.push_str(" differs from ")?;
-    push_event(text, new_name, new)?;
+    push_event(text, alloc, new_name, new)?;
     text.push_str("\n")
 }
 
@@ -56,6 +61,7 @@ fn push_other(
 #[tactic(auto, unfolding(crate::specs::diff::Differences::last_line))]
 fn push_last(
     text: &mut String,
+    alloc: Global,
     name: &str,
     found: &NumberedEntry<'_>,
     other_name: &str,
@@ -63,7 +69,7 @@ fn push_last(
     ensures { OnOk result (AppendsText text.old text.new
         (last_line name.now (numbered_of found.now) other_name.now)) }
 {
-    push_place(text, name, found)?;
+    push_place(text, alloc, name, found)?;
     writeln!(text, " comes after the last one of {other_name}")
 }
 
@@ -71,6 +77,7 @@ fn push_last(
 #[tactic(auto, unfolding(crate::specs::diff::Differences::only_line))]
 pub(crate) fn push_only_line(
     text: &mut String,
+    alloc: Global,
     name: &str,
     found: &NumberedEntry<'_>,
     other_name: &str,
@@ -78,30 +85,55 @@ pub(crate) fn push_only_line(
     ensures { OnOk result (AppendsText text.old text.new
         (only_line name.now (numbered_of found.now) other_name.now)) }
 {
-    push_place(text, name, found)?;
+    push_place(text, alloc, name, found)?;
     writeln!(text, " isn't in {other_name}")
 }
 
 /// Appends what a line begins with: the PCR and an event of a log.
 #[tactic(auto, unfolding(crate::specs::diff::Differences::place_text))]
-fn push_place(text: &mut String, name: &str, found: &NumberedEntry<'_>) -> Result<(), AllocError>
+fn push_place(
+    text: &mut String,
+    alloc: Global,
+    name: &str,
+    found: &NumberedEntry<'_>,
+) -> Result<(), AllocError>
     ensures { OnOk result
         (AppendsText text.old text.new (place_text name.now (numbered_of found.now))) }
 {
     let pcr = found.entry.event.pcr_index().0;
     write!(text, "PCR {pcr}: ")?;
-    push_event(text, name, found)
+    push_event(text, alloc, name, found)
 }
 
-/// Appends the type, the index and the offset of an event of a log.
+/// Appends the type of an event, what its data say, its index and its offset in the log.
 #[tactic(auto, unfolding(crate::specs::diff::Differences::event_text))]
-fn push_event(text: &mut String, name: &str, found: &NumberedEntry<'_>) -> Result<(), AllocError>
+fn push_event(
+    text: &mut String,
+    alloc: Global,
+    name: &str,
+    found: &NumberedEntry<'_>,
+) -> Result<(), AllocError>
     ensures { OnOk result
         (AppendsText text.old text.new (event_text name.now (numbered_of found.now))) }
 {
     push_type(text, found.entry.event.event_type())?;
+    push_words(text, alloc, &found.content)?;
     let (index, offset) = (found.index, found.entry.offset);
     write!(text, " (event {index} at offset {offset} of {name})")
+}
+
+/// Appends what data say, after a comma; nothing if they say nothing.
+#[tactic(auto, unfolding(crate::specs::diff::Differences::words_text))]
+fn push_words(text: &mut String, alloc: Global, content: &Content<'_>) -> Result<(), AllocError>
+    ensures { OnOk result
+        (AppendsText text.old text.new (words_text (said (content_of content.now)))) }
+{
+    let mut words = String::new(alloc);
+    push_said(&mut words, content)?;
+    if words.is_empty() {
+        return Ok(());
+    }
+    write!(text, ", {words}")
 }
 
 /// Appends the name of a type, or its number.

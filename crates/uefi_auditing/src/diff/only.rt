@@ -24,7 +24,7 @@ pub(crate) fn push_only<'a>(
 {
     let keys = keys_of(alloc, others)?;
     for entry in found {
-        push_if_missing(text, name, entry, other_name, &keys)?;
+        push_if_missing(text, alloc, name, entry, other_name, &keys)?;
     }
     Ok(())
 }
@@ -80,6 +80,7 @@ fn keys_of<'a>(
 /// Appends the line of an event, if it isn't among the others, whose keys these are.
 fn push_if_missing<'a>(
     text: &mut String,
+    alloc: Global,
     name: &str,
     found: &NumberedEntry<'a>,
     other_name: &str,
@@ -92,5 +93,5 @@ fn push_if_missing<'a>(
     if keys.contains(&EventKey::new(found.entry.event)) {
         return Ok(());
     }
-    push_only_line(text, name, found, other_name)
+    push_only_line(text, alloc, name, found, other_name)
 }

@@ -1,8 +1,9 @@
 ghost use Rattle.std.specs.Prelude.{◌≡◌, ◌↔◌, ◌<◌, ◌^◌, length, map, IfOk, IsTrue, MatchOption, option_map};
 ghost use Rattle.pcr_replay.specs.Views.{entries_left, entry_of, event_of};
-ghost use Rattle.uefi_auditing.specs.diff.Differences.{DifferAt, events_in, is_of, numbered, of_pcr};
+ghost use Rattle.uefi_auditing.specs.diff.Differences.{AreNumbered, DifferAt, events_in, is_of, of_pcr};
 ghost use Rattle.uefi_auditing.specs.private.diff.Views.{numbered_of};
 
+use crate::content::{Content, read_content};
 use crate::diff::order::is_same_event;
 use pcr_replay::{LogEntries, LogEntry};
 use std::alloc::{AllocError, Global};
@@ -10,28 +11,35 @@ use std::alloc::{AllocError, Global};
 /// The PCR as which those above 23 are taken together.
 pub(crate) const ABOVE: u32 = 24;
 
-/// An event of a log with its index.
+/// An event of a log with its index, and what its data say.
 #[derive(Clone, Copy)]
 pub(crate) struct NumberedEntry<'a> {
     /// Its index in the log: 0 for the first one.
     pub(crate) index: usize,
     /// The event with its offset.
     pub(crate) entry: LogEntry<'a>,
+    /// What the event's data say.
+    pub(crate) content: Content<'a>,
 }
 
-/// Returns the events of a log, each with its index.
+/// Returns the events of a log, each with its index and what its data say.
 pub(crate) fn numbered_entries<'a>(
     alloc: Global,
     entries: LogEntries<'a>,
 ) -> Result<Vec<NumberedEntry<'a>>, AllocError>
     requires { length (entries_left entries) < 2 ^ 64 }
     ensures { IfOk result (λ found.
-        map numbered_of found.items ≡ numbered 0 (entries_left entries.entry)) }
+        AreNumbered 0 (entries_left entries.entry) (map numbered_of found.items)) }
 {
     let mut found = Vec::new(alloc);
     let mut index = 0;
     for entry in entries {
-        found.push(NumberedEntry { index, entry })?;
+        let content = read_content(&entry.event);
+        found.push(NumberedEntry {
+            index,
+            entry,
+            content,
+        })?;
         index += 1;
     }
     Ok(found)

@@ -1,25 +1,24 @@
-use Rattle.std.proofs.Common.{◌≡◌, ◌∙◌, ap, map}
+use Rattle.std.proofs.Common.{map, subst, sym}
 use Rattle.std.proofs.lemmas.Result.{IfOk-weaker}
 use Rattle.pcr_replay.specs.Entries.{Contents}
-use Rattle.pcr_replay.specs.Views.{contents_left}
-use Rattle.uefi_auditing.specs.diff.Differences.{numbered}
-use Rattle.uefi_auditing.specs.json.Diff.{ShowsPcrJson}
+use Rattle.pcr_replay.specs.Views.{contents_left, entries_left}
+use Rattle.uefi_auditing.specs.diff.Differences.{AreNumbered}
 use Rattle.uefi_auditing.specs.private.diff.Views.{numbered_of}
-use Rattle.uefi_auditing.proofs.diff.Below.{below_in}
 use Rattle.uefi_auditing.proofs.diff.json_lines.push_differences_json.Goals as goal
 
 pub returns : goal.returns
 returns c =
     IfOk-weaker c.push_each.result _ _
     (λ same shown. λ olds news is also.
-    let old_is : map numbered_of c.as_slice.result.now ≡ numbered 0 olds.entries =
-    ap (map numbered_of) c.as_slice.ensures.value ∙ c.in_ok-olds.ensures
-    ∙ ap (λ (k : Contents). numbered 0 k.entries) (c.one_contents.ensures c.args.old.now.log
-    (contents_left c.entries.result) olds c.entries.ensures.contents is) in
-    let new_is : map numbered_of c.as_slice-2.result.now ≡ numbered 0 news.entries =
-    ap (map numbered_of) c.as_slice-2.ensures.value ∙ c.in_ok-news.ensures
-    ∙ ap (λ (k : Contents). numbered 0 k.entries) (c.one_contents.ensures c.args.new.now.log
-    (contents_left c.entries-2.result) news c.entries-2.ensures.contents also) in
-    below_in (ShowsPcrJson c.args.old.now.name.now c.args.new.now.name.now) _ _ _ _ 25 c.args.text.now c.push_each.new.text same
-    old_is new_is shown)
+    let old_are : AreNumbered 0 olds.entries (map numbered_of c.as_slice.result.now) =
+    subst (λ (k : Contents). AreNumbered 0 k.entries (map numbered_of c.as_slice.result.now))
+    (c.one_contents.ensures c.args.old.now.log (contents_left c.entries.result) olds c.entries.ensures.contents is)
+    (subst (λ it. AreNumbered 0 (entries_left c.entries.result) (map numbered_of it)) (sym c.as_slice.ensures.value)
+    c.in_ok-olds.ensures) in
+    let new_are : AreNumbered 0 news.entries (map numbered_of c.as_slice-2.result.now) =
+    subst (λ (k : Contents). AreNumbered 0 k.entries (map numbered_of c.as_slice-2.result.now))
+    (c.one_contents.ensures c.args.new.now.log (contents_left c.entries-2.result) news c.entries-2.ensures.contents also)
+    (subst (λ it. AreNumbered 0 (entries_left c.entries-2.result) (map numbered_of it)) (sym c.as_slice-2.ensures.value)
+    c.in_ok-news.ensures) in
+    (shown.0, (map numbered_of c.as_slice.result.now, map numbered_of c.as_slice-2.result.now, old_are, new_are, shown.1), shown.2))
     c.push_each.ensures

@@ -1,4 +1,4 @@
-use Rattle.std.proofs.Common.{◌≡◌, ◌+◌, ◌-◌, length, map, take}
+use Rattle.std.proofs.Common.{◌≡◌, map, take}
 use Rattle.serde_json.specs.View.{view}
 use Rattle.uefi_tcg.specs.v2.Views.{table_of}
 use Rattle.uefi_auditing.specs.json.Firmware.{size_json}

@@ -1,0 +1,3 @@
+//! What data say.
+
+mod said;

@@ -1,0 +1,32 @@
+use Rattle.std.proofs.Common.{◌≡◌, [], List, ap, arith, length, map, rules, subst}
+use Rattle.pcr_replay.specs.Entries.{Entry}
+use Rattle.pcr_replay.specs.Views.{entries_left, entry_of}
+use Rattle.uefi_auditing.specs.content.Views.{content_of}
+use Rattle.uefi_auditing.specs.diff.Differences.{AreNumbered}
+use Rattle.uefi_auditing.specs.private.diff.Views.{numbered_of}
+use Rattle.uefi_auditing.proofs.diff.Numbering.{all_numbered, none_yet, one_more, one_pushed}
+use Rattle.uefi_auditing.proofs.diff.pcr.numbered_entries.Goals as goal
+
+pub loop-entry-init : goal.loop-entry-init
+loop-entry-init c =
+    let none : c.new-found.result.items ≡ [] = search rules in record {
+      found = none_yet _ _ (ap (map numbered_of) none);
+      count = omega arith;
+    }
+
+pub loop-entry-preserved : goal.loop-entry-preserved
+loop-entry-preserved c =
+    let before = c.loop-entry.invariant in
+    let next = c.in-Some.ensures.steps in record {
+      found = one_more (map numbered_of c.loop-entry.found.items) _ c.loop-entry.index
+          (entry_of c.in-Some.entry) (content_of c.read_content-content.result) _ _ _ next
+          (one_pushed c.loop-entry.found.items c.push.new.self.items _ c.in_ok-push.ensures.items)
+          c.read_content-content.ensures before.found;
+      count = omega (arith, before.count, ap length next);
+    }
+
+pub returns : goal.returns
+returns c =
+    subst (λ (entries : List Entry). AreNumbered 0 entries (map numbered_of c.loop-entry.found.items))
+    (ap entries_left c.into_iter-entry-iterator.ensures.into_iter_gives)
+    (all_numbered _ c.loop-entry.index _ _ c.in-None.ensures.steps.0 c.loop-entry.invariant.found)

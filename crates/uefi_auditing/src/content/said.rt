@@ -1,0 +1,264 @@
+ghost use Rattle.std.specs.Prelude.{◌≡◌, ◌++◌, [], codes, encode_utf8, take, OnOk, option_map};
+ghost use Rattle.std.specs.List.{flat_map};
+ghost use Rattle.uefi_base.specs.Appending.{AppendsText};
+ghost use Rattle.uefi_base.specs.GuidText.{hex_byte};
+ghost use Rattle.uefi_base.specs.Views.{slice_units};
+ghost use Rattle.uefi_path.specs.Path.{all_but_last};
+ghost use Rattle.uefi_path.specs.Views.{node_of, path_nodes};
+ghost use Rattle.uefi_tcg.specs.content.Views.{blob_of, image_of, text_of, variable_of, version_of};
+ghost use Rattle.uefi_auditing.specs.content.Said.{blob_text, event_text, image_text, is_file_path, last_file, path_text, said, shown_bytes, shown_file, shown_length, shown_path_unit, shown_units, version_text};
+ghost use Rattle.uefi_auditing.specs.content.Views.{content_of};
+ghost use Rattle.uefi_auditing.specs.text.Names.{shown_name};
+
+use crate::content::Content;
+use crate::json::content::texts::character;
+use crate::text::ShownName;
+use std::alloc::AllocError;
+use uefi_base::UnalignedSlice;
+use uefi_path::{DevicePath, DevicePathNode};
+use uefi_tcg::content::{
+    CrtmVersion, EventText, ImageLoadEvent, PlatformFirmwareBlob, VariableData,
+};
+
+/// The most characters of a text or of a name that are shown.
+const SHOWN_LENGTH: usize = 80;
+
+/// Appends in a few words what data say; nothing if they aren't read.
+///
+/// ```text
+/// variable SecureBoot
+/// image /EFI/BOOT/BOOTX64.EFI
+/// ```
+///
+/// | data | words |
+/// |---|---|
+/// | a text, a version | it |
+/// | a separator | `separator` and its number |
+/// | a locality | `locality` and its number |
+/// | the header of a log | `header` |
+/// | tagged events | `tagged events` |
+/// | a blob | `blob at` and its address |
+/// | a blob with a description | `blob` and the description |
+/// | a partition table | `disk` and the GUID of the disk |
+/// | a variable | `variable` and its name |
+/// | an image | `image` and its device path, if it has one |
+///
+/// A text, a description or a name is shown as [`ShownName`] displays it, at most 80 characters of
+/// it. A device path is shown by its last file path, with `/` for each backslash, without NULs, and
+/// at most 80 units of it. If it has none, its bytes are in hex, at most 80 of them.
+///
+/// # Errors
+///
+/// [`AllocError`] if an allocation fails. The text may have grown then.
+#[tactic(auto, unfolding(crate::specs::content::Said::said))]
+pub fn push_said(text: &mut String, content: &Content<'_>) -> Result<(), AllocError>
+    ensures { OnOk result (AppendsText text.old text.new (said (content_of content.now))) }
+{
+    match content {
+        Content::Unread => Ok(()),
+        Content::Text(said) => push_bytes(text, said.as_bytes()),
+        Content::Separator(number) => write!(text, "separator {number}"),
+        Content::Locality(number) => write!(text, "locality {number}"),
+        Content::Header(_) => text.push_str("header"),
+        Content::LoaderText(said) => push_event_text(text, said),
+        Content::CrtmVersion(version) => push_version(text, version),
+        Content::Blob(blob) => push_blob(text, blob),
+        Content::DescribedBlob(described) => {
+            text.push_str("blob ")?;
+            push_bytes(text, described.description)
+        }
+        Content::Tagged(_) => text.push_str("tagged events"),
+        Content::Gpt(gpt) => {
+            let guid = gpt.header().disk_guid;
+            write!(text, "disk {guid}")
+        }
+        Content::Variable(variable, _) => push_variable(text, variable),
+        Content::Image(image, path) => push_image(text, image, path),
+    }
+}
+
+/// Appends the first bytes, each as the character of its number.
+fn push_bytes(text: &mut String, bytes: &[u8]) -> Result<(), AllocError>
+    ensures { OnOk result (AppendsText text.old text.new (shown_bytes bytes.now)) }
+{
+    let (shown, _) = bytes.split_at(SHOWN_LENGTH.min(bytes.len()));
+    for byte in shown {
+        push_character(text, char::from(*byte))?;
+    }
+    Ok(())
+}
+
+/// Appends a character as that of a file's name is shown.
+fn push_character(text: &mut String, character: char) -> Result<(), AllocError>
+    ensures { OnOk result (AppendsText text.old text.new (shown_name (encode_utf8 character))) }
+{
+    let mut room = [0; 4];
+    let shown = ShownName(character.encode_utf8(&mut room));
+    write!(text, "{shown}")
+}
+
+/// Appends the first units.
+#[tactic(auto, using(crate::proofs::content::FirstItems::is_there))]
+fn push_units(text: &mut String, units: &UnalignedSlice<'_>) -> Result<(), AllocError>
+    ensures { OnOk result (AppendsText text.old text.new (shown_units (slice_units units.now))) }
+{
+    for index in 0..SHOWN_LENGTH.min(units.len()) {
+        let Some(unit) = units.get(index) else {
+            return Ok(());
+        };
+        push_character(text, character(unit))?;
+    }
+    Ok(())
+}
+
+/// Appends the text of an event.
+#[tactic(auto, unfolding(crate::specs::content::Said::event_text))]
+fn push_event_text(text: &mut String, said: &EventText<'_>) -> Result<(), AllocError>
+    ensures { OnOk result (AppendsText text.old text.new (event_text (text_of said.now))) }
+{
+    match said {
+        EventText::Ascii { text: said, .. } => push_bytes(text, said),
+        EventText::Utf16 { units, .. } => push_units(text, units),
+    }
+}
+
+/// Appends a version.
+#[tactic(auto, unfolding(crate::specs::content::Said::version_text))]
+fn push_version(text: &mut String, version: &CrtmVersion<'_>) -> Result<(), AllocError>
+    ensures { OnOk result (AppendsText text.old text.new (version_text (version_of version.now))) }
+{
+    match version {
+        CrtmVersion::Ucs2(units) => push_units(text, units),
+        CrtmVersion::Guid(guid) => write!(text, "{guid}"),
+        CrtmVersion::Other(said) => push_event_text(text, said),
+    }
+}
+
+/// Appends where a blob is.
+#[tactic(auto, unfolding(crate::specs::content::Said::blob_text))]
+fn push_blob(text: &mut String, blob: &PlatformFirmwareBlob) -> Result<(), AllocError>
+    ensures { OnOk result (AppendsText text.old text.new (blob_text (blob_of blob.now))) }
+{
+    let address = blob.base;
+    write!(text, "blob at 0x{address:x}")
+}
+
+/// Appends `variable` and the name of a variable.
+fn push_variable(text: &mut String, variable: &VariableData<'_>) -> Result<(), AllocError>
+    ensures { OnOk result (AppendsText text.old text.new
+        (codes "variable " ++ shown_units (variable_of variable.now).name)) }
+{
+    text.push_str("variable ")?;
+    push_units(text, &variable.name)
+}
+
+/// Appends `image` and its device path, if it has one.
+#[tactic(auto, unfolding(crate::specs::content::Said::image_text))]
+fn push_image(
+    text: &mut String,
+    image: &ImageLoadEvent<'_>,
+    path: &Option<DevicePath<'_>>,
+) -> Result<(), AllocError>
+    ensures { OnOk result (AppendsText text.old text.new
+        (image_text (image_of image.now) (option_map path_nodes path.now))) }
+{
+    if image.device_path.is_empty() {
+        return text.push_str("image");
+    }
+    text.push_str("image ")?;
+    push_path(text, image.device_path, path)
+}
+
+/// Appends the last file path of a device path; these bytes in hex, if it has none.
+#[tactic(auto, unfolding(crate::specs::content::Said::path_text))]
+fn push_path(
+    text: &mut String,
+    bytes: &[u8],
+    path: &Option<DevicePath<'_>>,
+) -> Result<(), AllocError>
+    ensures { OnOk result (AppendsText text.old text.new
+        (path_text bytes.now (option_map path_nodes path.now))) }
+{
+    match path {
+        Some(path) => push_file(text, last_file(path), bytes),
+        None => push_file(text, &[], bytes),
+    }
+}
+
+/// Returns the data of the last node that is a file path; no bytes, if none is.
+#[tactic(auto, unfolding(crate::specs::content::Said::last_file))]
+fn last_file<'a>(path: &DevicePath<'a>) -> &'a [u8]
+    ensures { result.now ≡ last_file [] (all_but_last (path_nodes path.now)) }
+{
+    let mut found: &'a [u8] = &[];
+    for node in path.node_iter() {
+        if is_file_path(&node) {
+            found = node.data();
+        }
+    }
+    found
+}
+
+/// Returns whether a node is a file path.
+fn is_file_path(node: &DevicePathNode<'_>) -> bool
+    ensures { result ≡ is_file_path (node_of node.now) }
+{
+    node.device_type().0 == 4 && node.sub_type().0 == 4
+}
+
+/// Appends a file path of whole units; the other bytes in hex, if there is none.
+#[tactic(auto, unfolding(crate::specs::content::Said::shown_file))]
+fn push_file(text: &mut String, file: &[u8], bytes: &[u8]) -> Result<(), AllocError>
+    ensures { OnOk result (AppendsText text.old text.new (shown_file file.now bytes.now)) }
+{
+    if file.is_empty() || file.len() % 2 != 0 {
+        return push_hex(text, bytes);
+    }
+    push_path_units(text, &UnalignedSlice::new(file))
+}
+
+/// Appends the first bytes in hex.
+fn push_hex(text: &mut String, bytes: &[u8]) -> Result<(), AllocError>
+    ensures { OnOk result (AppendsText text.old text.new
+        (flat_map hex_byte (take shown_length bytes.now))) }
+{
+    let (shown, _) = bytes.split_at(SHOWN_LENGTH.min(bytes.len()));
+    for byte in shown {
+        push_hex_byte(text, *byte)?;
+    }
+    Ok(())
+}
+
+/// Appends two hex digits.
+fn push_hex_byte(text: &mut String, byte: u8) -> Result<(), AllocError>
+    ensures { OnOk result (AppendsText text.old text.new (hex_byte byte)) }
+{
+    write!(text, "{byte:02x}")
+}
+
+/// Appends the first units of a file path.
+#[tactic(auto, using(crate::proofs::content::FirstItems::is_there))]
+fn push_path_units(text: &mut String, units: &UnalignedSlice<'_>) -> Result<(), AllocError>
+    ensures { OnOk result (AppendsText text.old text.new
+        (flat_map shown_path_unit (take shown_length (slice_units units.now)))) }
+{
+    for index in 0..SHOWN_LENGTH.min(units.len()) {
+        let Some(unit) = units.get(index) else {
+            return Ok(());
+        };
+        push_path_unit(text, unit)?;
+    }
+    Ok(())
+}
+
+/// Appends a unit of a file path: `/` for a backslash, nothing for the NUL.
+#[tactic(auto, unfolding(crate::specs::content::Said::shown_path_unit))]
+fn push_path_unit(text: &mut String, unit: u16) -> Result<(), AllocError>
+    ensures { OnOk result (AppendsText text.old text.new (shown_path_unit unit)) }
+{
+    match unit {
+        0 => Ok(()),
+        0x5c => text.push('/'),
+        _ => push_character(text, character(unit)),
+    }
+}
