@@ -14,3 +14,4 @@ pub mod Replay
 pub mod Signatures
 pub mod Gpt
 pub mod Info
+pub mod Ucs2
