@@ -11,7 +11,8 @@ use Rattle.uefi_base.specs.Unaligned.{units_of}
 use Rattle.uefi_base.proofs.Characters.{encodes_more}
 use Rattle.uefi_base.proofs.UnitsOfBytes.{half_as_many_units, unit_at}
 use Rattle.uefi_records.specs.file.FileSystemInfo.{volume_label_size}
-use Rattle.uefi_c.specs.Ucs2.{IsUcs2, HasNul, utf8_of}
+use Rattle.uefi_c.specs.Ucs2.{IsUcs2, utf8_of}
+use Rattle.uefi_c.specs.private.Ucs2.{HasNul}
 use Rattle.uefi_c.proofs.Utf8Puts.{HasText, fewer_characters, more_text, same_length}
 
 -- How many bytes text has.

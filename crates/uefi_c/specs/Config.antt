@@ -7,10 +7,11 @@ use Rattle.uefi_c.specs.declared.config.UefiPair.{UefiPair}
 abbrev pub pair_seen : UefiPair → Pair
 pair_seen seen = record { key = seen.key.now; value = if seen.has_value then Some seen.value.now else None }
 
--- The bytes are a text in UTF-8 that spells a name, and that name.
-pub record HasName (text : List ℕ) : Type 0 where
-  pub utf8 : IsUtf8 text
-  pub named : IsSome (name text)
+-- The value is a text in UTF-8 that spells a name.
+pub record HasName (value : List ℕ) : Type 0 where
+  pub utf8 : IsUtf8 value
+  pub named : IsSome (name value)
 
+-- The name, in UTF-8.
 abbrev pub name_of : List ℕ → List ℕ
-name_of text = unwrap_or (name text) []
+name_of value = unwrap_or (name value) []

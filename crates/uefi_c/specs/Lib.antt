@@ -15,3 +15,4 @@ pub mod Signatures
 pub mod Gpt
 pub mod Info
 pub mod Ucs2
+pub mod private

@@ -1,19 +1,13 @@
 -- UCS-2 text (UEFI 2.10, 2.3.1 "Data Types", CHAR16) in bytes, two a unit, little-endian, and in UTF-8.
-use Rattle.std.specs.Prelude.{ℕ, ◌≡◌, ◌+◌, ◌*◌, ◌%◌, ◌<◌, List, [], ◌∷◌, ◌++◌, length, slice_index, encode_utf8_all, IsUtf8}
+use Rattle.std.specs.Prelude.{ℕ, ◌≡◌, ◌%◌, List, [], ◌∷◌, ◌++◌, length, encode_utf8_all, IsUtf8}
 use Rattle.std.specs.Str.{chars}
-use Rattle.uefi_base.specs.Ucs2.{IsUcs2Text, MakeUcs2Text, characters_of, max_units}
+use Rattle.uefi_base.specs.Ucs2.{IsUcs2Text, MakeUcs2Text, characters_of}
 use Rattle.uefi_base.specs.Unaligned.{units_of, unit_bytes}
 
 -- The bytes are whole units, and all of these are text with its NUL.
 pub record IsUcs2 (bytes : List ℕ) : Type 0 where
   pub even : length bytes % 2 ≡ 0
   pub text : IsUcs2Text (units_of bytes)
-
--- The bytes are this many units and a zero one, not too many.
-pub record HasNul (bytes : List ℕ) (count : ℕ) : Type 0 where
-  pub sized : length bytes ≡ 2 * (count + 1)
-  pub short : count < max_units
-  pub nul : slice_index (units_of bytes) count ≡ 0
 
 -- The characters of the text in the bytes, without the NUL, in UTF-8.
 abbrev pub utf8_of : List ℕ → List ℕ

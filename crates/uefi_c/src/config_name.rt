@@ -15,17 +15,17 @@ use uefi_hii::ConfigurationString;
 /// surrogate. An odd last byte is 0, and no unit. A name may be empty.
 ///
 /// If it returns false, all bytes stay as they were, and `size` is the length that the buffer
-/// needs, or 0 if the text spells no name.
+/// needs, or 0 if the value spells no name.
 #[unsafe(no_mangle)]
-pub extern "C" fn uefi_config_name(text: &[u8], buffer: &mut [u8], size: &mut usize) -> bool
+pub extern "C" fn uefi_config_name(value: &[u8], buffer: &mut [u8], size: &mut usize) -> bool
     ensures fits { IsTrue result
-        ↔ HasName text.now × (length (name_of text.now) ≤ length buffer.old) }
-    ensures written { IsTrue result → buffer.new ≡ put_prefix (name_of text.now) buffer.old }
-    ensures size { HasName text.now → size.new ≡ length (name_of text.now) }
-    ensures no_name { ¬ HasName text.now → size.new ≡ 0 }
+        ↔ HasName value.now × (length (name_of value.now) ≤ length buffer.old) }
+    ensures written { IsTrue result → buffer.new ≡ put_prefix (name_of value.now) buffer.old }
+    ensures size { HasName value.now → size.new ≡ length (name_of value.now) }
+    ensures no_name { ¬ HasName value.now → size.new ≡ 0 }
     ensures unchanged { IsFalse result → buffer.new ≡ buffer.old }
 {
-    let Ok(text) = str::from_utf8(text) else {
+    let Ok(text) = str::from_utf8(value) else {
         *size = 0;
         return false;
     };

@@ -5,7 +5,8 @@ ghost use Rattle.std.specs.Str.{chars};
 ghost use Rattle.uefi_base.specs.Buffer.{put_prefix};
 ghost use Rattle.uefi_base.specs.Ucs2.{HasUnit, MakeUcs2Text};
 ghost use Rattle.uefi_base.specs.private.Search.{IsFirstWithoutUnit};
-ghost use Rattle.uefi_c.specs.Ucs2.{IsUcs2, HasNul, utf8_of, MakesUcs2, ucs2_of};
+ghost use Rattle.uefi_c.specs.Ucs2.{IsUcs2, utf8_of, MakesUcs2, ucs2_of};
+ghost use Rattle.uefi_c.specs.private.Ucs2.{HasNul};
 
 use crate::character::{character_of, put_character};
 use uefi_base::buffer::put;

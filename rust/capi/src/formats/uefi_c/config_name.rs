@@ -15,12 +15,12 @@ use crate::libraries::uefi_hii::ConfigurationString;
 /// surrogate. An odd last byte is 0, and no unit. A name may be empty.
 ///
 /// If it returns false, all bytes stay as they were, and `size` is the length that the buffer
-/// needs, or 0 if the text spells no name.
+/// needs, or 0 if the value spells no name.
 #[unsafe(no_mangle)]
-pub extern "C" fn uefi_config_name(text: Bytes<'_>, buffer: Buffer<'_>, size: &mut MaybeUninit<usize>) -> bool {
-    let text = text.as_slice();
+pub extern "C" fn uefi_config_name(value: Bytes<'_>, buffer: Buffer<'_>, size: &mut MaybeUninit<usize>) -> bool {
+    let value = value.as_slice();
     let buffer = buffer.into_slice();
-    let Ok(text) = core::str::from_utf8(text) else {
+    let Ok(text) = core::str::from_utf8(value) else {
         size.write(0);
         return false;
     };
