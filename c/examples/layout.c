@@ -1,7 +1,8 @@
 /* A program without a C library, which ends with status 0: both sides lay out
  * structures alike, a slice comes back as it was handed over, NULL with length
- * 0 is empty bytes, a log without events has none, and the calls on the data of
- * events and on PCRs fill what they are handed.
+ * 0 is empty bytes, a log without events has none, the calls on the data of
+ * events and on PCRs fill what they are handed, and names and records are
+ * written where there is room.
  */
 #include "uefi_formats.h"
 
