@@ -1,7 +1,8 @@
 /* A program without a C library, which ends with status 0: both sides lay out
  * structures alike, a slice comes back as it was handed over, NULL with length
- * 0 is empty bytes, a log without events has none, and the calls on the data of
- * events and on PCRs fill what they are handed.
+ * 0 is empty bytes, a log without events has none, the calls on the data of
+ * events and on PCRs fill what they are handed, and names and records are
+ * written where there is room.
  */
 #include "uefi_formats.h"
 
@@ -113,6 +114,83 @@ static int records(void) {
     return uefi_pci_next(uefi_bytes(zeros, 82), &at, &range) != UEFI_PCI_UNKNOWN_TAG ? 16 : 0;
 }
 
+static bool are_same(const uint8_t *bytes, const void *others, size_t n) {
+    for (size_t i = 0; i < n; i++)
+        if (bytes[i] != ((const uint8_t *)others)[i])
+            return false;
+    return true;
+}
+
+/* Three characters, of one, two and three bytes in UTF-8: units with a NUL, the text, and the value of a pair. */
+static const uint8_t name_units[8] = {'A', 0, 0xe9, 0, 0xac, 0x20, 0, 0};
+static const char name_text[] = "A\xc3\xa9\xe2\x82\xac";
+
+static int names(void) {
+    static const uint8_t surrogate[4] = {0, 0xd8, 0, 0};
+    static uint8_t room[9];
+    UefiBytes units = uefi_bytes(name_units, 8), text = uefi_bytes(name_text, 6), value = uefi_bytes("004100e920AC", 12);
+    size_t size = 9;
+    room[6] = room[8] = 0xcc;
+    if (!uefi_ucs2_text(units, uefi_buffer(room, 7), &size) || size != 6 || !are_same(room, name_text, 6) || room[6] != 0xcc)
+        return 45;
+    if (uefi_ucs2_text(units, uefi_buffer(room, 5), &size) || size != 6 || uefi_ucs2_text(uefi_bytes(surrogate, 4), uefi_buffer(room, 9), &size) || size)
+        return 46;
+    if (!uefi_ucs2_text(uefi_bytes(surrogate + 2, 2), uefi_buffer(NULL, 0), &size) || size || uefi_ucs2_text(uefi_bytes(name_units, 7), uefi_buffer(room, 9), &size))
+        return 47;
+    if (!uefi_ucs2_units(text, uefi_buffer(room, 9), &size) || size != 8 || !are_same(room, name_units, 8) || room[8] != 0xcc)
+        return 48;
+    if (uefi_ucs2_units(text, uefi_buffer(room, 7), &size) || size != 8 || uefi_ucs2_units(uefi_bytes("\xf0\x9f\x92\xa9", 4), uefi_buffer(room, 9), &size) || size)
+        return 49;
+    if (!uefi_ucs2_units(uefi_bytes(NULL, 0), uefi_buffer(room, 2), &size) || size != 2 || uefi_ucs2_units(uefi_bytes("", 1), uefi_buffer(room, 9), &size) || size)
+        return 50;
+    room[6] = 0xcc;
+    if (!uefi_config_name(value, uefi_buffer(room, 7), &size) || size != 6 || !are_same(room, name_text, 6) || room[6] != 0xcc)
+        return 51;
+    if (uefi_config_name(value, uefi_buffer(room, 5), &size) || size != 6 || uefi_config_name(uefi_bytes("d800", 4), uefi_buffer(room, 9), &size) || size)
+        return 52;
+    /* An odd last byte that is zero, one that isn't, and no character. */
+    if (!uefi_config_name(uefi_bytes("004200", 6), uefi_buffer(room, 1), &size) || size != 1 || room[0] != 'B' || uefi_config_name(uefi_bytes("004201", 6), uefi_buffer(room, 1), &size))
+        return 53;
+    return !uefi_config_name(uefi_bytes(NULL, 0), uefi_buffer(NULL, 0), &size) || size ? 54 : 0;
+}
+
+/* Records with a name of one character, whose bytes beside the fields stay as they were. */
+static int written_records(void) {
+    static uint8_t room[89];
+    static UefiFileInfo file = {.size = 1, .file_size = 2, .physical_size = 3, .attribute = 0x10};
+    static UefiFileSystemInfo volume = {.size = 1, .volume_size = 2, .free_space = 3, .block_size = 512, .read_only = true};
+    static const uint8_t name[4] = {'A'}, short_name[2] = {'A'};
+    size_t size = 0;
+    file.name = volume.label = uefi_bytes(name, 4);
+    file.create_time.year = 2024, file.create_time.zone = -1, file.last_access_time.nanosecond = 0x01020304, file.modification_time.daylight = 0xff;
+    for (size_t i = 0; i < 89; i++)
+        room[i] = 0xcc;
+    if (uefi_write_file_info(&file, uefi_buffer(room, 87), &size) || size != 88 || room[0] != 0xcc)
+        return 55;
+    if (!uefi_write_file_info(&file, uefi_buffer(room, 89), &size) || size != 88 || room[0] != 88 || room[8] != 2 || room[16] != 3 || room[24] != 0xe8)
+        return 56;
+    if (room[25] != 7 || room[36] != 0xff || room[37] != 0xff || room[48] != 4 || room[51] != 1 || room[70] != 0xff || room[71] || room[72] != 0x10)
+        return 57;
+    if (!are_same(room + 80, name, 4) || room[84] != 0xcc || room[87] != 0xcc || room[88] != 0xcc)
+        return 58;
+    for (size_t i = 0; i < 89; i++)
+        room[i] = 0xcc;
+    if (uefi_write_file_system_info(&volume, uefi_buffer(room, 39), &size) || size != 40 || room[0] != 0xcc)
+        return 59;
+    if (!uefi_write_file_system_info(&volume, uefi_buffer(room, 89), &size) || size != 40 || room[0] != 40 || room[8] != 1 || room[9] != 0xcc)
+        return 60;
+    if (room[15] != 0xcc || room[16] != 2 || room[24] != 3 || room[32] || room[33] != 2 || !are_same(room + 36, name, 4) || room[40] != 0xcc)
+        return 61;
+    if (!uefi_write_volume_label(volume.label, uefi_buffer(room, 5), &size) || size != 4 || !are_same(room, name, 4) || room[4])
+        return 62;
+    if (uefi_write_volume_label(volume.label, uefi_buffer(room, 3), &size) || size != 4)
+        return 63;
+    file.name = volume.label = uefi_bytes(short_name, 2);
+    if (uefi_write_file_info(&file, uefi_buffer(room, 89), &size) || size || uefi_write_file_system_info(&volume, uefi_buffer(room, 89), &size) || size)
+        return 64;
+    return uefi_write_volume_label(volume.label, uefi_buffer(room, 89), &size) || size ? 65 : 0;
+}
+
 /* Texts, and versions, of which those of sixteen bytes are GUIDs. */
 static int event_texts(void) {
     UefiEventText text;
@@ -208,6 +286,8 @@ __attribute__((used)) static void run(void) {
     status = status ? status : empty_log();
     status = status ? status : texts();
     status = status ? status : records();
+    status = status ? status : names();
+    status = status ? status : written_records();
     status = status ? status : event_texts();
     status = status ? status : signatures();
     status = status ? status : partitions();

@@ -26,6 +26,16 @@ UEFI_CALL bool uefi_config_next_pair(UefiBytes text, size_t *offset, UefiPair *o
  * if the text isn't UTF-8. */
 UEFI_CALL bool uefi_hex(UefiBytes text, UefiBuffer buffer, size_t *size);
 
+/* Writes the name that the value of a pair with the key `NAME` spells, in UTF-8
+ * and without a NUL, to the beginning of the buffer, and sets `*size` to its
+ * length. The value is a text in UTF-8, of an even number of bytes, that spells
+ * bytes as for uefi_hex. Two of them are a character, the high byte first: not
+ * zero, and not 0xd800 to 0xdfff. An odd last one is 0, and no character. If it
+ * returns false, the buffer is as it was, and `*size` is the length that it
+ * needs, or 0 if the value spells no name. Of an empty name, whose length is 0
+ * too, it returns true. */
+UEFI_CALL bool uefi_config_name(UefiBytes value, UefiBuffer buffer, size_t *size);
+
 /* The number that a text in UTF-8 spells in hex, the highest byte first. False
  * if it spells another count of bytes than 1, 2, 4 or 8, or isn't UTF-8. */
 UEFI_CALL bool uefi_config_number(UefiBytes text, uint64_t *out);

@@ -314,7 +314,7 @@ int main(int argc, char **argv) {
         UefiBytes part = {log.at + cut, n - cut};
         at = any() & 1 ? 0 : any() & 3 ? below(part.n + 3) : (size_t)any();
         one_digest(rows, part, at), one_path(part, at), one_resource(part, at), one_pair(part, at), one_entry(part);
-        records_of(part), calls_of(part), contents_of(part);
+        records_of(part), calls_of(part), contents_of(part), names_of(part);
     }
     printf("%zu inputs, 0 differences: %zu headers, %zu and %zu events, %zu digests, %zu nodes, %zu entries, %zu resources, "
            "%zu pairs, %zu records, %zu times, %zu texts, %zu events written\n",

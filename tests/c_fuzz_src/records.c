@@ -95,7 +95,7 @@ static void one_label(UefiBytes buffer, size_t written) {
 }
 
 /* The length of the character that UTF-8 has there (RFC 3629); 0 for none. */
-static size_t character(const uint8_t *b, size_t n) {
+size_t character(const uint8_t *b, size_t n) {
     size_t length = b[0] < 0x80 ? 1 : b[0] < 0xc2 ? 0 : b[0] < 0xe0 ? 2 : b[0] < 0xf0 ? 3 : b[0] < 0xf5 ? 4 : 0;
     if (!length || length > n) return 0;
     for (size_t i = 1; i < length; i++)
@@ -104,7 +104,7 @@ static size_t character(const uint8_t *b, size_t n) {
     return length;
 }
 
-static bool is_utf8(UefiBytes text) {
+bool is_utf8(UefiBytes text) {
     for (size_t i = 0, length; i < text.n; i += length)
         if (!(length = character(text.at + i, text.n - i))) return false;
     return true;
@@ -115,7 +115,7 @@ static int digit(uint8_t c) {
 }
 
 /* The byte of two bytes of a text, or of the last one. */
-static uint8_t plain_byte(const uint8_t *b, size_t n) {
+uint8_t plain_byte(const uint8_t *b, size_t n) {
     int high = digit(b[0]), low = n > 1 ? digit(b[1]) : -1;
     if (n == 1) return high < 0 ? 0 : high;
     return low < 0 ? 0 : b[0] == '+' ? low : high < 0 ? 0 : 16 * high + low;

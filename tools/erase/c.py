@@ -41,7 +41,7 @@ def to_c(source, exports, structs):
         if source.at(keyword) == 'struct' and source.item_name(keyword) in structs:
             fields_to_c(source, keyword, end)
         elif source.at(keyword) == 'fn' and source.item_name(keyword) in exports:
-            function_to_c(source, keyword)
+            function_to_c(source, keyword, structs)
             replace(source, keyword, keyword + 1, 'extern "C" fn')
             inline = source.after(start + 1)
             if source.code(start, inline) != '#[inline]':
@@ -119,11 +119,11 @@ def literal_to_c(source, opening, slices):
             replace(source, first, end, f'{name}: Bytes::new({value})')
 
 
-def function_to_c(source, keyword):
+def function_to_c(source, keyword, structs):
     """A function: `Bytes` for slices, and `MaybeUninit` for what is written and not read."""
     opening = source.until(keyword, '(')
     body = source.body(keyword)
-    before, outs = [], {}
+    before, outs, inputs = [], {}, {}
     for first, end in reversed(list(split(source, opening))):
         colon = next(i for i in range(first, end) if source.at(i) == ':')
         name, kind = source.at(first), source.code(colon + 1, end)
@@ -137,13 +137,23 @@ def function_to_c(source, keyword):
             of = plain.removeprefix('mut ')
             outs[name] = of.endswith('[u8]')
             replace(source, colon + 1, end, f"&mut MaybeUninit<{'Bytes<' + chr(39) + 'a>' if outs[name] else of}>")
+        elif plain.split('<')[0] in structs:
+            inputs[name] = structs[plain.split('<')[0]]
         source.tokens[colon + 1].space = ' '
     body = source.body(keyword)
     writes_to_c(source, body, outs)
+    reads_to_c(source, body, inputs)
     for text in reversed(before):
         new = lex(text)[:-1]
         new[0].space = '\n    '
         source.tokens[body + 1:body + 1] = new
+
+
+def reads_to_c(source, body, inputs):
+    """A field that is `Bytes`, of a structure that C hands over, is read as a slice."""
+    for i in range(source.close(body), body, -1):
+        if source.at(i) in inputs and source.at(i + 1) == '.' and source.at(i + 2) in inputs[source.at(i)]:
+            source.tokens[i + 3:i + 3] = lex('.as_slice()')[:-1]
 
 
 def writes_to_c(source, body, outs):

@@ -16,3 +16,7 @@ pub mod PcrSteps
 pub mod WalkSteps
 pub mod PassedDigests
 pub mod BootOrders
+pub mod Utf8Puts
+pub mod Ucs2Units
+pub mod NameUnits
+pub mod Ucs2Puts

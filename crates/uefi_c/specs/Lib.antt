@@ -14,3 +14,5 @@ pub mod Replay
 pub mod Signatures
 pub mod Gpt
 pub mod Info
+pub mod Ucs2
+pub mod private

@@ -9,10 +9,10 @@ use crate::time::{UefiTime, seen};
 use uefi_records::{FileInfo, FileSystemInfo, FileSystemVolumeLabel};
 
 /// The offset of the name in a file information record.
-const FILE_NAME_OFFSET: usize = 80;
+pub(crate) const FILE_NAME_OFFSET: usize = 80;
 
 /// The offset of the label in a file system information record.
-const LABEL_OFFSET: usize = 36;
+pub(crate) const LABEL_OFFSET: usize = 36;
 
 /// A file information record.
 #[derive(Clone, Copy)]

@@ -10,7 +10,9 @@
 
 mod boot_order;
 pub mod callers;
+mod character;
 mod config;
+mod config_name;
 mod cursor;
 mod digest;
 mod event_data;
@@ -29,4 +31,6 @@ mod path_state;
 mod pci;
 mod replay;
 mod time;
+mod ucs2;
 mod write;
+mod write_info;

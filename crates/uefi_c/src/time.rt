@@ -133,6 +133,35 @@ pub(crate) fn seen(time: &Time) -> UefiTime
     }
 }
 
+/// Returns the sixteen bytes of a time, whatever its fields are, with zeros as padding.
+#[tactic(auto, unfolding(uefi_records::specs::time::Fields::time_bytes))]
+pub(crate) fn bytes_of(time: &UefiTime) -> [u8; 16]
+    ensures { result ≡ time_bytes (time_seen time.now) }
+{
+    let time = *time;
+    let [year_low, year_high] = time.year.to_le_bytes();
+    let [nano_0, nano_1, nano_2, nano_3] = time.nanosecond.to_le_bytes();
+    let [zone_low, zone_high] = time.zone.to_le_bytes();
+    [
+        year_low,
+        year_high,
+        time.month,
+        time.day,
+        time.hour,
+        time.minute,
+        time.second,
+        0,
+        nano_0,
+        nano_1,
+        nano_2,
+        nano_3,
+        zone_low,
+        zone_high,
+        time.daylight,
+        0,
+    ]
+}
+
 /// Returns the fields at fault.
 fn seen_faults(faults: &TimeError) -> UefiTimeFaults
     ensures { faults_seen result ≡ faults.now }

@@ -1,6 +1,7 @@
 //! The libraries by the names of their crates, which the functions use.
 
 pub(crate) mod uefi_base {
+    pub(crate) use uefi_formats::buffer;
     pub(crate) use uefi_formats::data_types::UnalignedSlice;
     pub(crate) use uefi_formats::little_endian;
 }

@@ -7,10 +7,10 @@ use crate::formats::uefi_c::time::{UefiTime, seen};
 use crate::libraries::uefi_records::{FileInfo, FileSystemInfo, FileSystemVolumeLabel};
 
 /// The offset of the name in a file information record.
-const FILE_NAME_OFFSET: usize = 80;
+pub(crate) const FILE_NAME_OFFSET: usize = 80;
 
 /// The offset of the label in a file system information record.
-const LABEL_OFFSET: usize = 36;
+pub(crate) const LABEL_OFFSET: usize = 36;
 
 /// A file information record.
 ///

@@ -7,7 +7,9 @@
 //! fails to return.
 
 mod boot_order;
+mod character;
 mod config;
+mod config_name;
 mod cursor;
 mod digest;
 mod event_data;
@@ -26,4 +28,6 @@ mod path_state;
 mod pci;
 mod replay;
 mod time;
+mod ucs2;
 mod write;
+mod write_info;

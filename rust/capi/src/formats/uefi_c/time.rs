@@ -122,6 +122,33 @@ pub(crate) fn seen(time: &Time) -> UefiTime {
     }
 }
 
+/// Returns the sixteen bytes of a time, whatever its fields are, with zeros as padding.
+#[inline]
+pub(crate) fn bytes_of(time: &UefiTime) -> [u8; 16] {
+    let time = *time;
+    let [year_low, year_high] = time.year.to_le_bytes();
+    let [nano_0, nano_1, nano_2, nano_3] = time.nanosecond.to_le_bytes();
+    let [zone_low, zone_high] = time.zone.to_le_bytes();
+    [
+        year_low,
+        year_high,
+        time.month,
+        time.day,
+        time.hour,
+        time.minute,
+        time.second,
+        0,
+        nano_0,
+        nano_1,
+        nano_2,
+        nano_3,
+        zone_low,
+        zone_high,
+        time.daylight,
+        0,
+    ]
+}
+
 /// Returns the fields at fault.
 #[inline]
 fn seen_faults(faults: &TimeError) -> UefiTimeFaults {
