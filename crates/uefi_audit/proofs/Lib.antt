@@ -1,1 +1,5 @@
+pub mod Algorithms
+pub mod Choosing
+pub mod Growing
+pub mod Reporting
 pub mod Requests

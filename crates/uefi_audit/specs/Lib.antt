@@ -1,5 +1,13 @@
 pub mod Ends
 pub mod Judging
+pub mod Notes
 pub mod Replaying
+pub mod Reports
+pub mod ReplayReport
+pub mod EventsReport
+pub mod Comparison
+pub mod Missing
+pub mod Verification
+pub mod CheckReport
 pub mod Held
 pub mod CommandLine

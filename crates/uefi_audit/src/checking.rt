@@ -1,40 +1,74 @@
-ghost use Rattle.std.specs.Prelude.{◌≡◌, IfOk, string_bytes};
+ghost use Rattle.std.specs.Prelude.{◌≡◌, ◌<◌, ◌^◌, [], length, not, IfOk, string_bytes};
+ghost use Rattle.uefi_tcg.specs.v2.Event.{Table};
+ghost use Rattle.pcr_replay.specs.Entries.{Contents};
+ghost use Rattle.pcr_replay.specs.Logs.{HasContents};
+ghost use Rattle.pcr_replay.specs.Views.{entries_left, entry_of};
+ghost use Rattle.uefi_auditing.specs.Check.{IsChecked};
+ghost use Rattle.uefi_auditing.specs.declared.check.Checked.{Checked};
 ghost use Rattle.uefi_auditing.specs.text.Names.{shown_name};
+ghost use Rattle.uefi_audit.specs.CheckReport.{AreMatching, IsCheckReport, IsCheckedIf, is_mismatch};
+ghost use Rattle.uefi_audit.specs.Judging.{HasTable};
 
-use crate::commands::print_text;
-use crate::failure::{Failure, Status};
-use crate::judging::judge;
+use crate::failure::Status;
+use crate::judging::push_judgement;
+use crate::report::Report;
 use crate::request::{Format, Reading};
-use pcr_replay::LogEntry;
+use pcr_replay::laws::one_contents;
+use pcr_replay::{LogEntries, LogEntry};
 use std::alloc::{AllocError, Global};
-use std::io;
 use uefi_auditing::check::{
     CheckSummary, Checked, check, check_summary_line, mismatch_line, push_check, push_check_summary,
 };
 use uefi_auditing::text::{LogFile, ShownName};
 
-/// Prints which events of a log have digests that aren't the hash of what their type measures.
-pub(crate) fn check_log<R: Print + Eprint + AllocGlobal>(
-    rt: &R,
+/// Returns what is printed of the events of a log whose digests aren't the hash of what their type
+/// measures.
+///
+/// # Errors
+///
+/// [`AllocError`] if an allocation fails.
+pub(crate) fn check_report(
+    alloc: Global,
     file: &LogFile<'_>,
     reading: Reading,
     format: Format,
-) -> Result<Status, Failure> {
-    let judgement = judge(rt, file, reading)?;
-    if !judgement.is_read() {
-        return Ok(judgement.status());
+) -> Result<Report, AllocError>
+    ensures { (table : Table) (contents : Contents) → HasTable file.now.log table
+        → HasContents file.now.log contents
+        → IfOk result (IsCheckReport file.now reading table contents) }
+{
+    let mut told = String::new(alloc);
+    let mut text = String::new(alloc);
+    let judgement = push_judgement(&mut told, file, reading)?;
+    let checked = push_if_read(&mut text, alloc, file, format, judgement.is_read())?;
+    let status = judgement.status().and(checked);
+    Ok(Report { told, text, status })
+}
+
+/// Appends what is printed of the events of a log, if they are read. Returns the status: whether
+/// each matches.
+fn push_if_read(
+    text: &mut String,
+    alloc: Global,
+    file: &LogFile<'_>,
+    format: Format,
+    is_read: bool,
+) -> Result<Status, AllocError>
+    ensures { (contents : Contents) → HasContents file.now.log contents
+        → string_bytes text.old ≡ [] → IfOk result
+        (IsCheckedIf is_read contents.entries (string_bytes text.new)) }
+{
+    if !is_read {
+        return Ok(Status::Well);
     }
-    let mut text = String::new(rt.alloc());
-    let mut summary = CheckSummary::new(rt.alloc());
-    let all_match = push_events(&mut text, rt.alloc(), file, format, &mut summary)?;
-    push_summary(&mut text, rt.alloc(), file, format, &summary)?;
-    print_text(&mut io::writer(rt), text.as_str())?;
-    let status = if all_match {
+    let mut summary = CheckSummary::new(alloc);
+    let all_match = push_events(text, alloc, file, format, &mut summary)?;
+    push_summary(text, alloc, file, format, &summary)?;
+    Ok(if all_match {
         Status::Well
     } else {
         Status::Differs
-    };
-    Ok(judgement.status().and(status))
+    })
 }
 
 /// Appends a line for each event that matches in none of its type's forms, and counts each event.
@@ -45,28 +79,63 @@ fn push_events(
     file: &LogFile<'_>,
     format: Format,
     summary: &mut CheckSummary,
-) -> Result<bool, AllocError> {
-    let name = shown(alloc, file.name)?;
+) -> Result<bool, AllocError>
+    ensures { (contents : Contents) → HasContents file.now.log contents
+        → IfOk result (AreMatching contents.entries) }
+{
+    one_contents();
+    push_entries(text, alloc, file.name, format, summary, file.log.entries())
+}
+
+/// Appends the lines of entries.
+fn push_entries(
+    text: &mut String,
+    alloc: Global,
+    name: &str,
+    format: Format,
+    summary: &mut CheckSummary,
+    entries: LogEntries<'_>,
+) -> Result<bool, AllocError>
+    requires { length (entries_left entries) < 2 ^ 64 }
+    ensures { IfOk result (AreMatching (entries_left entries.entry)) }
+{
     let mut all_match = true;
-    for (index, entry) in file.log.entries().enumerate() {
-        let checked = check(alloc, &entry.event)?;
-        summary.add(entry.event.event_type(), checked)?;
-        if checked == Checked::MatchesNone {
-            all_match = false;
-            match format {
-                Format::Text => push_check(
-                    text,
-                    name.as_str(),
-                    index,
-                    entry.offset,
-                    &entry.event,
-                    checked,
-                )?,
-                Format::Json => push_mismatch(text, alloc, file.name, index, &entry)?,
-            }
-        }
+    let mut index = 0;
+    for entry in entries {
+        let matches = push_entry(text, alloc, name, format, summary, index, &entry)?;
+        all_match = all_match && matches;
+        index += 1;
     }
     Ok(all_match)
+}
+
+/// Appends the line of an entry, if it matches in none of its type's forms, and counts it. Returns
+/// whether there is no line.
+fn push_entry(
+    text: &mut String,
+    alloc: Global,
+    name: &str,
+    format: Format,
+    summary: &mut CheckSummary,
+    index: usize,
+    entry: &LogEntry<'_>,
+) -> Result<bool, AllocError>
+    ensures { IfOk result (λ matches. (checked : Checked)
+        × IsChecked (entry_of entry.now).event checked × (matches ≡ not (is_mismatch checked))) }
+{
+    let checked = check(alloc, &entry.event)?;
+    summary.add(entry.event.event_type(), checked)?;
+    if checked != Checked::MatchesNone {
+        return Ok(true);
+    }
+    match format {
+        Format::Text => {
+            let name = shown(alloc, name)?;
+            push_check(text, name.as_str(), index, entry.offset, &entry.event, checked)?;
+        }
+        Format::Json => push_mismatch(text, alloc, name, index, entry)?,
+    }
+    Ok(false)
 }
 
 /// Appends the object of an event that matches in none of its type's forms.
