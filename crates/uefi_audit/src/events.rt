@@ -2,7 +2,7 @@ ghost use Rattle.std.specs.Prelude.{◌≡◌, [], string_bytes, IfOk, OnOk};
 ghost use Rattle.uefi_tcg.specs.v2.Event.{Table};
 ghost use Rattle.pcr_replay.specs.Entries.{Contents};
 ghost use Rattle.pcr_replay.specs.Logs.{HasContents};
-ghost use Rattle.uefi_audit.specs.EventsReport.{AreEventsIf, IsEventsReport};
+ghost use Rattle.uefi_audit.specs.EventsReport.{AreEvents, AreEventsIf, IsEventsReport};
 ghost use Rattle.uefi_audit.specs.Judging.{HasTable};
 
 use crate::judging::push_judgement;
@@ -48,11 +48,28 @@ fn push_if_read(
         → string_bytes text.old ≡ [] → OnOk result (AreEventsIf is_read format file.now.name.now
         contents.entries (string_bytes text.new)) }
 {
-    if !is_read {
-        return Ok(());
+    if is_read {
+        return push_formatted(text, alloc, file, format);
     }
+    Ok(())
+}
+
+/// Appends the events of a log in a format.
+fn push_formatted(
+    text: &mut String,
+    alloc: Global,
+    file: &LogFile<'_>,
+    format: Format,
+) -> Result<(), AllocError>
+    ensures { (contents : Contents) → HasContents file.now.log contents
+        → string_bytes text.old ≡ [] → OnOk result (AreEvents format file.now.name.now
+        contents.entries (string_bytes text.new)) }
+{
     match format {
         Format::Json => push_events(text, alloc, file),
-        Format::Text => push_event_blocks(text, alloc, file),
+        Format::Text => {
+            push_event_blocks(text, alloc, file)?;
+            Ok(())
+        }
     }
 }
