@@ -39,12 +39,13 @@ pub are_algorithms : (table : Table) (algorithms sorted kept : List ℕ) → alg
 are_algorithms table algorithms sorted kept is permuted in_order filtered =
     let deduped : kept ≡ dedup eqb sorted = dedup_is eqb sorted kept filtered in record {
       ascending = subst IsStrictlyIncreasing (sym deduped) (IsStrictlyIncreasing-dedup sorted in_order);
-      same = λ algorithm.
-          (λ kept_one. subst (λ all. Contains all algorithm) is (Contains-permutation sorted algorithms algorithm
-          (IsPermutation-sym algorithms sorted permuted) (Contains-from_dedup eqb sorted algorithm
-          (subst (λ all. Contains all algorithm) deduped kept_one))),
-          λ in_table. subst (λ all. Contains all algorithm) (sym deduped) (Contains-dedup_nat sorted algorithm
-          (Contains-permutation algorithms sorted algorithm permuted (subst (λ all. Contains all algorithm) (sym is) in_table))));
+      same = λ algorithm. (
+        λ kept_one. subst (λ all. Contains all algorithm) is (Contains-permutation sorted algorithms algorithm
+            (IsPermutation-sym algorithms sorted permuted) (Contains-from_dedup eqb sorted algorithm
+            (subst (λ all. Contains all algorithm) deduped kept_one))),
+        λ in_table. subst (λ all. Contains all algorithm) (sym deduped) (Contains-dedup_nat sorted algorithm
+            (Contains-permutation algorithms sorted algorithm permuted (subst (λ all. Contains all algorithm) (sym is) in_table))),
+      );
     }
 
 -- What is said of the banks in a table.
@@ -52,13 +53,14 @@ pub table_notes : (name : List ℕ) (table : Table) (entries : List Entry) (algo
     (others old now new : List ℕ) → AreAlgorithmsIn table algorithms → banks ≡ banks_among algorithms
     → others ≡ unsupported_among algorithms → now ≡ old ++ inactive_lines name entries banks
     → new ≡ now ++ unsupported_line name others → (text : List ℕ) × AreTableNotes name table entries text × (new ≡ old ++ text)
-table_notes name table entries algorithms banks others old now new are of_banks of_others first then =
-    (inactive_lines name entries (banks_among algorithms) ++ unsupported_line name (unsupported_among algorithms),
-    (algorithms, are, refl),
-    then ∙ ap (λ t. t ++ unsupported_line name others) first
-    ∙ append_assoc old (inactive_lines name entries banks) (unsupported_line name others)
-    ∙ ap (λ it. old ++ (inactive_lines name entries it ++ unsupported_line name others)) of_banks
-    ∙ ap (λ it. old ++ (inactive_lines name entries (banks_among algorithms) ++ unsupported_line name it)) of_others)
+table_notes name table entries algorithms banks others old now new are of_banks of_others first then = (
+  inactive_lines name entries (banks_among algorithms) ++ unsupported_line name (unsupported_among algorithms),
+  (algorithms, are, refl),
+  then ∙ ap (λ t. t ++ unsupported_line name others) first
+      ∙ append_assoc old (inactive_lines name entries banks) (unsupported_line name others)
+      ∙ ap (λ it. old ++ (inactive_lines name entries it ++ unsupported_line name others)) of_banks
+      ∙ ap (λ it. old ++ (inactive_lines name entries (banks_among algorithms) ++ unsupported_line name it)) of_others,
+)
 
 -- The algorithm of one more row.
 pub one_more_row : (table : Table) (index : ℕ) (row : ℕ × ℕ) (found new : List ℕ) → slice_get table index ≡ Some row

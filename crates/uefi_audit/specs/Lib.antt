@@ -6,8 +6,6 @@ pub mod Reports
 pub mod ReplayReport
 pub mod EventsReport
 pub mod Comparison
-pub mod Missing
 pub mod Verification
-pub mod CheckReport
 pub mod Held
 pub mod CommandLine

@@ -1,20 +1,11 @@
-ghost use Rattle.std.specs.Prelude.{◌≡◌, ◌<◌, ◌^◌, [], length, not, IfOk, string_bytes};
-ghost use Rattle.uefi_tcg.specs.v2.Event.{Table};
-ghost use Rattle.pcr_replay.specs.Entries.{Contents};
-ghost use Rattle.pcr_replay.specs.Logs.{HasContents};
-ghost use Rattle.pcr_replay.specs.Views.{entries_left, entry_of};
-ghost use Rattle.uefi_auditing.specs.Check.{IsChecked};
-ghost use Rattle.uefi_auditing.specs.declared.check.Checked.{Checked};
+ghost use Rattle.std.specs.Prelude.{◌≡◌, IfOk, string_bytes};
 ghost use Rattle.uefi_auditing.specs.text.Names.{shown_name};
-ghost use Rattle.uefi_audit.specs.CheckReport.{AreMatching, IsCheckReport, IsCheckedIf, is_mismatch};
-ghost use Rattle.uefi_audit.specs.Judging.{HasTable};
 
 use crate::failure::Status;
 use crate::judging::push_judgement;
 use crate::report::Report;
 use crate::request::{Format, Reading};
-use pcr_replay::laws::one_contents;
-use pcr_replay::{LogEntries, LogEntry};
+use pcr_replay::LogEntry;
 use std::alloc::{AllocError, Global};
 use uefi_auditing::check::{
     CheckSummary, Checked, check, check_summary_line, mismatch_line, push_check, push_check_summary,
@@ -32,11 +23,7 @@ pub(crate) fn check_report(
     file: &LogFile<'_>,
     reading: Reading,
     format: Format,
-) -> Result<Report, AllocError>
-    ensures { (table : Table) (contents : Contents) → HasTable file.now.log table
-        → HasContents file.now.log contents
-        → IfOk result (IsCheckReport file.now reading table contents) }
-{
+) -> Result<Report, AllocError> {
     let mut told = String::new(alloc);
     let mut text = String::new(alloc);
     let judgement = push_judgement(&mut told, file, reading)?;
@@ -53,11 +40,7 @@ fn push_if_read(
     file: &LogFile<'_>,
     format: Format,
     is_read: bool,
-) -> Result<Status, AllocError>
-    ensures { (contents : Contents) → HasContents file.now.log contents
-        → string_bytes text.old ≡ [] → IfOk result
-        (IsCheckedIf is_read contents.entries (string_bytes text.new)) }
-{
+) -> Result<Status, AllocError> {
     if !is_read {
         return Ok(Status::Well);
     }
@@ -79,63 +62,28 @@ fn push_events(
     file: &LogFile<'_>,
     format: Format,
     summary: &mut CheckSummary,
-) -> Result<bool, AllocError>
-    ensures { (contents : Contents) → HasContents file.now.log contents
-        → IfOk result (AreMatching contents.entries) }
-{
-    one_contents();
-    push_entries(text, alloc, file.name, format, summary, file.log.entries())
-}
-
-/// Appends the lines of entries.
-fn push_entries(
-    text: &mut String,
-    alloc: Global,
-    name: &str,
-    format: Format,
-    summary: &mut CheckSummary,
-    entries: LogEntries<'_>,
-) -> Result<bool, AllocError>
-    requires { length (entries_left entries) < 2 ^ 64 }
-    ensures { IfOk result (AreMatching (entries_left entries.entry)) }
-{
+) -> Result<bool, AllocError> {
+    let name = shown(alloc, file.name)?;
     let mut all_match = true;
-    let mut index = 0;
-    for entry in entries {
-        let matches = push_entry(text, alloc, name, format, summary, index, &entry)?;
-        all_match = all_match && matches;
-        index += 1;
+    for (index, entry) in file.log.entries().enumerate() {
+        let checked = check(alloc, &entry.event)?;
+        summary.add(entry.event.event_type(), checked)?;
+        if checked == Checked::MatchesNone {
+            all_match = false;
+            match format {
+                Format::Text => push_check(
+                    text,
+                    name.as_str(),
+                    index,
+                    entry.offset,
+                    &entry.event,
+                    checked,
+                )?,
+                Format::Json => push_mismatch(text, alloc, file.name, index, &entry)?,
+            }
+        }
     }
     Ok(all_match)
-}
-
-/// Appends the line of an entry, if it matches in none of its type's forms, and counts it. Returns
-/// whether there is no line.
-fn push_entry(
-    text: &mut String,
-    alloc: Global,
-    name: &str,
-    format: Format,
-    summary: &mut CheckSummary,
-    index: usize,
-    entry: &LogEntry<'_>,
-) -> Result<bool, AllocError>
-    ensures { IfOk result (λ matches. (checked : Checked)
-        × IsChecked (entry_of entry.now).event checked × (matches ≡ not (is_mismatch checked))) }
-{
-    let checked = check(alloc, &entry.event)?;
-    summary.add(entry.event.event_type(), checked)?;
-    if checked != Checked::MatchesNone {
-        return Ok(true);
-    }
-    match format {
-        Format::Text => {
-            let name = shown(alloc, name)?;
-            push_check(text, name.as_str(), index, entry.offset, &entry.event, checked)?;
-        }
-        Format::Json => push_mismatch(text, alloc, name, index, entry)?,
-    }
-    Ok(false)
 }
 
 /// Appends the object of an event that matches in none of its type's forms.
