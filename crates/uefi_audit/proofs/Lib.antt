@@ -1,1 +1,6 @@
+pub mod Algorithms
+pub mod Choosing
+pub mod Comparing
+pub mod Growing
+pub mod Reporting
 pub mod Requests

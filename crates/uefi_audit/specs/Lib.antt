@@ -1,5 +1,11 @@
 pub mod Ends
 pub mod Judging
+pub mod Notes
 pub mod Replaying
+pub mod Reports
+pub mod ReplayReport
+pub mod EventsReport
+pub mod Comparison
+pub mod Verification
 pub mod Held
 pub mod CommandLine

@@ -1,40 +1,57 @@
 ghost use Rattle.std.specs.Prelude.{◌≡◌, IfOk, string_bytes};
 ghost use Rattle.uefi_auditing.specs.text.Names.{shown_name};
 
-use crate::commands::print_text;
-use crate::failure::{Failure, Status};
-use crate::judging::judge;
+use crate::failure::Status;
+use crate::judging::push_judgement;
+use crate::report::Report;
 use crate::request::{Format, Reading};
 use pcr_replay::LogEntry;
 use std::alloc::{AllocError, Global};
-use std::io;
 use uefi_auditing::check::{
     CheckSummary, Checked, check, check_summary_line, mismatch_line, push_check, push_check_summary,
 };
 use uefi_auditing::text::{LogFile, ShownName};
 
-/// Prints which events of a log have digests that aren't the hash of what their type measures.
-pub(crate) fn check_log<R: Print + Eprint + AllocGlobal>(
-    rt: &R,
+/// Returns what is printed of the events of a log whose digests aren't the hash of what their type
+/// measures.
+///
+/// # Errors
+///
+/// [`AllocError`] if an allocation fails.
+pub(crate) fn check_report(
+    alloc: Global,
     file: &LogFile<'_>,
     reading: Reading,
     format: Format,
-) -> Result<Status, Failure> {
-    let judgement = judge(rt, file, reading)?;
-    if !judgement.is_read() {
-        return Ok(judgement.status());
+) -> Result<Report, AllocError> {
+    let mut told = String::new(alloc);
+    let mut text = String::new(alloc);
+    let judgement = push_judgement(&mut told, file, reading)?;
+    let checked = push_if_read(&mut text, alloc, file, format, judgement.is_read())?;
+    let status = judgement.status().and(checked);
+    Ok(Report { told, text, status })
+}
+
+/// Appends what is printed of the events of a log, if they are read. Returns the status: whether
+/// each matches.
+fn push_if_read(
+    text: &mut String,
+    alloc: Global,
+    file: &LogFile<'_>,
+    format: Format,
+    is_read: bool,
+) -> Result<Status, AllocError> {
+    if !is_read {
+        return Ok(Status::Well);
     }
-    let mut text = String::new(rt.alloc());
-    let mut summary = CheckSummary::new(rt.alloc());
-    let all_match = push_events(&mut text, rt.alloc(), file, format, &mut summary)?;
-    push_summary(&mut text, rt.alloc(), file, format, &summary)?;
-    print_text(&mut io::writer(rt), text.as_str())?;
-    let status = if all_match {
+    let mut summary = CheckSummary::new(alloc);
+    let all_match = push_events(text, alloc, file, format, &mut summary)?;
+    push_summary(text, alloc, file, format, &summary)?;
+    Ok(if all_match {
         Status::Well
     } else {
         Status::Differs
-    };
-    Ok(judgement.status().and(status))
+    })
 }
 
 /// Appends a line for each event that matches in none of its type's forms, and counts each event.

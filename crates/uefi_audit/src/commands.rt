@@ -2,18 +2,21 @@ ghost use Rattle.std.specs.Prelude.{◌≡◌, OnOk, IfErr};
 ghost use Rattle.std.specs.Io.KnownBytes.{Appends};
 ghost use Rattle.uefi_audit.specs.declared.failure.Failure.TheVariants.{Output};
 
-use crate::checking::check_log;
-use crate::comparison::compare_logs;
-use crate::events::show_events;
+use crate::checking::check_report;
+use crate::comparison::comparison_report;
+use crate::events::events_report;
 use crate::failure::{Failure, Status};
-use crate::input::file_bytes;
-use crate::replay::{Asked, show_replay};
-use crate::request::{Format, Reading, Request};
-use crate::verification::verify_log;
+use crate::input::{file_bytes, held_pcrs};
+use crate::replay::{Asked, replay_report};
+use crate::report::Report;
+use crate::request::{Format, Reading, Request, Verification};
+use crate::verification::verification_report;
 use pcr_replay::Log;
+use std::alloc::{AllocError, Global};
 use std::io::Write;
 use std::rt::Files;
 use uefi_auditing::text::LogFile;
+use uefi_auditing::verify::PcrSelection;
 
 /// What is done with each of many logs.
 #[derive(Clone, Copy)]
@@ -59,32 +62,93 @@ fn each_log<R: Files + Input + Print + Eprint + AllocGlobal>(
 ) -> Result<Status, Failure> {
     let mut status = Status::Well;
     for name in logs {
-        let of_log = match file_bytes(rt, name) {
-            Some(bytes) => do_task(
-                rt,
-                &log_file(*name, bytes.as_slice(), reading),
-                reading,
-                task,
-            )?,
-            None => Status::Unread,
-        };
-        status = status.and(of_log);
+        status = status.and(do_task(rt, *name, reading, task)?);
     }
     Ok(status)
 }
 
-/// Does a task with a log.
-fn do_task<R: Print + Eprint + AllocGlobal>(
+/// Does a task with the log in a file.
+fn do_task<R: Files + Input + Print + Eprint + AllocGlobal>(
     rt: &R,
-    file: &LogFile<'_>,
+    name: &str,
     reading: Reading,
     task: Task,
 ) -> Result<Status, Failure> {
+    let Some(bytes) = file_bytes(rt, name) else {
+        return Ok(Status::Unread);
+    };
+    let file = log_file(name, bytes.as_slice(), reading);
+    report_of(rt.alloc(), &file, reading, task)?.print(rt)
+}
+
+/// Returns what a task prints of a log.
+fn report_of(
+    alloc: Global,
+    file: &LogFile<'_>,
+    reading: Reading,
+    task: Task,
+) -> Result<Report, AllocError> {
     match task {
-        Task::Events(format) => show_events(rt, file, reading, format),
-        Task::Replay(asked) => show_replay(rt, file, reading, asked),
-        Task::Check(format) => check_log(rt, file, reading, format),
+        Task::Events(format) => events_report(alloc, file, reading, format),
+        Task::Replay(asked) => replay_report(alloc, file, reading, asked),
+        Task::Check(format) => check_report(alloc, file, reading, format),
     }
+}
+
+/// Does `diff` with the logs in two files.
+fn compare_logs<R: Files + Input + Print + Eprint + AllocGlobal>(
+    rt: &R,
+    old: &str,
+    new: &str,
+    format: Format,
+    reading: Reading,
+) -> Result<Status, Failure> {
+    let old_bytes = file_bytes(rt, old);
+    let new_bytes = file_bytes(rt, new);
+    let (Some(old_bytes), Some(new_bytes)) = (old_bytes, new_bytes) else {
+        return Ok(Status::Unread);
+    };
+    let old = log_file(old, old_bytes.as_slice(), reading);
+    let new = log_file(new, new_bytes.as_slice(), reading);
+    comparison_report(rt.alloc(), &old, &new, format, reading)?.print(rt)
+}
+
+/// Does `verify` with the log in a file, and the PCRs in another or in a folder.
+fn verify_log<R: Files + Input + Print + Eprint + AllocGlobal>(
+    rt: &R,
+    asked: &Verification<'_>,
+    reading: Reading,
+) -> Result<Status, Failure> {
+    let selection = selection_of(rt, asked.pcrs)?;
+    let bytes = file_bytes(rt, asked.log);
+    let held = held_pcrs(rt, asked.registers);
+    let (Some(bytes), Some(held)) = (bytes, held) else {
+        return Ok(Status::Unread);
+    };
+    let file = log_file(asked.log, bytes.as_slice(), reading);
+    verification_report(
+        rt.alloc(),
+        &file,
+        reading,
+        asked,
+        held.as_slice(),
+        &selection,
+    )?
+    .print(rt)
+}
+
+/// Returns the PCRs that `--pcrs` selects, or `None` without it.
+fn selection_of<R: Eprint>(rt: &R, pcrs: Option<&str>) -> Result<Option<PcrSelection>, Failure> {
+    let Some(text) = pcrs else {
+        return Ok(None);
+    };
+    let Some(selection) = PcrSelection::parse(text) else {
+        let _ = eprintln!(rt;
+            "uefi_audit: --pcrs takes PCRs from 0 to 23, such as 0-7,14 or sha256:0,7"
+        );
+        return Err(Failure::Arguments);
+    };
+    Ok(Some(selection))
 }
 
 /// Returns the log in a file of this name.

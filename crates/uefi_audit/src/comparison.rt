@@ -1,57 +1,88 @@
+ghost use Rattle.std.specs.Prelude.{IfOk};
+ghost use Rattle.uefi_tcg.specs.v2.Event.{Table};
+ghost use Rattle.pcr_replay.specs.Entries.{Contents};
+ghost use Rattle.pcr_replay.specs.Logs.{HasContents};
+ghost use Rattle.uefi_audit.specs.Comparison.{AppendsCompared, AppendsIfRead, IsComparison};
+ghost use Rattle.uefi_audit.specs.Judging.{HasTable};
+ghost use Rattle.uefi_audit.specs.declared.request.Format.TheVariants.{Text};
+
 use crate::checking::shown;
-use crate::commands::{log_file, print_text};
-use crate::failure::{Failure, Status};
-use crate::input::file_bytes;
-use crate::judging::judge;
+use crate::failure::Status;
+use crate::judging::push_judgement;
+use crate::report::Report;
 use crate::request::{Format, Reading};
 use std::alloc::{AllocError, Global};
-use std::io;
-use std::rt::Files;
 use uefi_auditing::diff::{push_differences, push_differences_json};
 use uefi_auditing::text::LogFile;
 
-/// Prints how the events of two logs differ.
-pub(crate) fn compare_logs<R: Files + Input + Print + Eprint + AllocGlobal>(
-    rt: &R,
-    old: &str,
-    new: &str,
-    format: Format,
-    reading: Reading,
-) -> Result<Status, Failure> {
-    let old_bytes = file_bytes(rt, old);
-    let new_bytes = file_bytes(rt, new);
-    let (Some(old_bytes), Some(new_bytes)) = (old_bytes, new_bytes) else {
-        return Ok(Status::Unread);
-    };
-    let old = log_file(old, old_bytes.as_slice(), reading);
-    let new = log_file(new, new_bytes.as_slice(), reading);
-    let (old_judgement, new_judgement) = (judge(rt, &old, reading)?, judge(rt, &new, reading)?);
-    let status = old_judgement.status().and(new_judgement.status());
-    if !old_judgement.is_read() || !new_judgement.is_read() {
-        return Ok(status);
-    }
-    let compared = show_differences(rt, &old, &new, format)?;
-    Ok(status.and(compared))
-}
-
-/// Prints how the events of two logs differ, which are read.
-fn show_differences<R: Print + AllocGlobal>(
-    rt: &R,
+/// Returns what is printed of how the events of two logs differ.
+///
+/// # Errors
+///
+/// [`AllocError`] if an allocation fails.
+pub(crate) fn comparison_report(
+    alloc: Global,
     old: &LogFile<'_>,
     new: &LogFile<'_>,
     format: Format,
-) -> Result<Status, Failure> {
-    let mut text = String::new(rt.alloc());
-    let are_same = match format {
-        Format::Text => push_lines(&mut text, rt.alloc(), old, new)?,
-        Format::Json => push_differences_json(&mut text, rt.alloc(), old, new)?,
-    };
-    print_text(&mut io::writer(rt), text.as_str())?;
+    reading: Reading,
+) -> Result<Report, AllocError>
+    ensures { (old_table new_table : Table) (olds news : Contents) → HasTable old.now.log old_table
+        → HasTable new.now.log new_table → HasContents old.now.log olds
+        → HasContents new.now.log news → IfOk result
+        (IsComparison old.now new.now reading format old_table new_table olds news) }
+{
+    let mut told = String::new(alloc);
+    let mut text = String::new(alloc);
+    let of_old = push_judgement(&mut told, old, reading)?;
+    let of_new = push_judgement(&mut told, new, reading)?;
+    let are_read = of_old.is_read() && of_new.is_read();
+    let compared = push_if_read(&mut text, alloc, old, new, format, are_read)?;
+    let status = of_old.status().and(of_new.status()).and(compared);
+    Ok(Report { told, text, status })
+}
+
+/// Appends how the events of two logs differ, if they are read. Returns the status: whether they
+/// differ.
+#[tactic(auto, unfolding(crate::specs::Comparison::AppendsIfRead))]
+fn push_if_read(
+    text: &mut String,
+    alloc: Global,
+    old: &LogFile<'_>,
+    new: &LogFile<'_>,
+    format: Format,
+    are_read: bool,
+) -> Result<Status, AllocError>
+    ensures { IfOk result
+        (AppendsIfRead are_read format old.now new.now text.old text.new) }
+{
+    if !are_read {
+        return Ok(Status::Well);
+    }
+    let are_same = push_differing(text, alloc, old, new, format)?;
     Ok(if are_same {
         Status::Well
     } else {
         Status::Differs
     })
+}
+
+/// Appends how the events of two logs differ. Returns whether they don't.
+#[tactic(auto, unfolding(crate::specs::Comparison::AppendsCompared))]
+fn push_differing(
+    text: &mut String,
+    alloc: Global,
+    old: &LogFile<'_>,
+    new: &LogFile<'_>,
+    format: Format,
+) -> Result<bool, AllocError>
+    ensures { IfOk result
+        (AppendsCompared format old.now new.now text.old text.new) }
+{
+    match format {
+        Format::Text => push_lines(text, alloc, old, new),
+        Format::Json => push_differences_json(text, alloc, old, new),
+    }
 }
 
 /// Appends the lines of how two logs differ, which name the files as they are printed.
@@ -60,7 +91,9 @@ fn push_lines(
     alloc: Global,
     old: &LogFile<'_>,
     new: &LogFile<'_>,
-) -> Result<bool, AllocError> {
+) -> Result<bool, AllocError>
+    ensures { IfOk result (AppendsCompared Text old.now new.now text.old text.new) }
+{
     let (old_name, new_name) = (shown(alloc, old.name)?, shown(alloc, new.name)?);
     let old = LogFile {
         name: old_name.as_str(),

@@ -1,27 +1,75 @@
-use crate::commands::print_text;
-use crate::failure::{Failure, Status};
-use crate::judging::judge;
+ghost use Rattle.std.specs.Prelude.{◌≡◌, [], string_bytes, IfOk, OnOk};
+ghost use Rattle.uefi_tcg.specs.v2.Event.{Table};
+ghost use Rattle.pcr_replay.specs.Entries.{Contents};
+ghost use Rattle.pcr_replay.specs.Logs.{HasContents};
+ghost use Rattle.uefi_audit.specs.EventsReport.{AreEvents, AreEventsIf, IsEventsReport};
+ghost use Rattle.uefi_audit.specs.Judging.{HasTable};
+
+use crate::judging::push_judgement;
+use crate::report::Report;
 use crate::request::{Format, Reading};
-use std::io;
+use std::alloc::{AllocError, Global};
 use uefi_auditing::events::push_event_blocks;
 use uefi_auditing::json::push_events;
 use uefi_auditing::text::LogFile;
 
-/// Prints the events of a log.
-pub(crate) fn show_events<R: Print + Eprint + AllocGlobal>(
-    rt: &R,
+/// Returns what is printed of the events of a log.
+///
+/// # Errors
+///
+/// [`AllocError`] if an allocation fails.
+pub(crate) fn events_report(
+    alloc: Global,
     file: &LogFile<'_>,
     reading: Reading,
     format: Format,
-) -> Result<Status, Failure> {
-    let judgement = judge(rt, file, reading)?;
-    if judgement.is_read() {
-        let mut text = String::new(rt.alloc());
-        match format {
-            Format::Json => push_events(&mut text, rt.alloc(), file)?,
-            Format::Text => push_event_blocks(&mut text, rt.alloc(), file)?,
-        }
-        print_text(&mut io::writer(rt), text.as_str())?;
+) -> Result<Report, AllocError>
+    ensures { (table : Table) (contents : Contents) → HasTable file.now.log table
+        → HasContents file.now.log contents
+        → IfOk result (IsEventsReport file.now reading format table contents) }
+{
+    let mut told = String::new(alloc);
+    let mut text = String::new(alloc);
+    let judgement = push_judgement(&mut told, file, reading)?;
+    push_if_read(&mut text, alloc, file, format, judgement.is_read())?;
+    let status = judgement.status();
+    Ok(Report { told, text, status })
+}
+
+/// Appends the events of a log, if they are read.
+fn push_if_read(
+    text: &mut String,
+    alloc: Global,
+    file: &LogFile<'_>,
+    format: Format,
+    is_read: bool,
+) -> Result<(), AllocError>
+    ensures { (contents : Contents) → HasContents file.now.log contents
+        → string_bytes text.old ≡ [] → OnOk result (AreEventsIf is_read format file.now.name.now
+        contents.entries (string_bytes text.new)) }
+{
+    if is_read {
+        return push_formatted(text, alloc, file, format);
     }
-    Ok(judgement.status())
+    Ok(())
+}
+
+/// Appends the events of a log in a format.
+fn push_formatted(
+    text: &mut String,
+    alloc: Global,
+    file: &LogFile<'_>,
+    format: Format,
+) -> Result<(), AllocError>
+    ensures { (contents : Contents) → HasContents file.now.log contents
+        → string_bytes text.old ≡ [] → OnOk result (AreEvents format file.now.name.now
+        contents.entries (string_bytes text.new)) }
+{
+    match format {
+        Format::Json => push_events(text, alloc, file),
+        Format::Text => {
+            push_event_blocks(text, alloc, file)?;
+            Ok(())
+        }
+    }
 }

@@ -21,9 +21,11 @@ mod events;
 mod failure;
 mod input;
 mod judging;
+mod missing;
 mod notes;
 mod program;
 mod replay;
+mod report;
 mod request;
 #[cfg(test)]
 mod tests;

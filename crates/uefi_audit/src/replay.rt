@@ -1,16 +1,28 @@
-ghost use Rattle.std.specs.Prelude.{◌≡◌};
+ghost use Rattle.std.specs.Prelude.{◌≡◌, ◌==◌, ◌||◌, ◌++◌, ℕ, List, flat_map, is_err, length, map, IfOk, OnOk};
+ghost use Rattle.std.specs.List.{list_any};
+ghost use Rattle.uefi_base.specs.Appending.{AppendsText};
+ghost use Rattle.uefi_tcg.specs.v2.Event.{Table};
 ghost use Rattle.pcr_replay.specs.Entries.{Contents};
 ghost use Rattle.pcr_replay.specs.Logs.{HasContents};
-ghost use Rattle.uefi_audit.specs.Replaying.{is_stated, start_by};
+ghost use Rattle.pcr_replay.specs.Views.{outcome_of};
+ghost use Rattle.uefi_auditing.specs.Replay.{bank_outcomes_of};
+ghost use Rattle.uefi_auditing.specs.json.Replay.{replay_line};
+ghost use Rattle.uefi_auditing.specs.text.Pcrs.{bank_lines};
+ghost use Rattle.uefi_auditing.specs.text.Remarks.{ignored_lines, start_lines};
+ghost use Rattle.uefi_auditing.specs.text.Undetermined.{undetermined_lines};
+ghost use Rattle.uefi_audit.specs.Judging.{HasTable};
+ghost use Rattle.uefi_audit.specs.Notes.{has_no_pcr};
+ghost use Rattle.uefi_audit.specs.Replaying.{AreBankNotes, has_undetermined, is_stated, left_over_text, name_line, replay_status, start_by, text_of};
+ghost use Rattle.uefi_audit.specs.ReplayReport.{IsPcrReport, IsReplayReport, IsReportBy};
+ghost use Rattle.uefi_audit.specs.Reports.{GrowBy};
 
-use crate::commands::print_text;
-use crate::failure::{Failure, Status};
-use crate::judging::{Judgement, judge, tell};
+use crate::failure::Status;
+use crate::judging::{Judgement, push_judgement};
 use crate::notes::{push_inactive, push_table_notes, push_without_effect};
+use crate::report::Report;
 use crate::request::{Format, Reading};
-use pcr_replay::{Bank, Start, startup_locality};
+use pcr_replay::{Bank, PcrValue, Start, Undetermined, startup_locality};
 use std::alloc::{AllocError, Global};
-use std::io;
 use uefi_auditing::json::push_replay_json;
 use uefi_auditing::replay::{BankPcrs, asked_banks, replay_banks};
 use uefi_auditing::text::{LogFile, ShownName, push_banks, push_start, push_undetermined};
@@ -37,48 +49,120 @@ pub(crate) struct Assumed {
     pub is_stated: bool,
 }
 
-/// Prints the PCRs that a log leads to.
-pub(crate) fn show_replay<R: Print + Eprint + AllocGlobal>(
-    rt: &R,
+/// Returns what is printed of the PCRs that a log leads to.
+///
+/// # Errors
+///
+/// [`AllocError`] if an allocation fails.
+pub(crate) fn replay_report(
+    alloc: Global,
     file: &LogFile<'_>,
     reading: Reading,
     asked: Asked,
-) -> Result<Status, Failure> {
-    let judgement = judge(rt, file, reading)?;
-    if judgement.is_read() {
-        let status = show_pcrs(rt, file, asked)?;
-        return Ok(judgement.status().and(status));
-    }
-    if judgement == Judgement::LeftOver && asked.format == Format::Json {
-        let assumed = start_of(file, asked.locality);
-        show_json(rt, file, &assumed, &[], false)?;
-    }
-    Ok(judgement.status())
+) -> Result<Report, AllocError>
+    ensures { (table : Table) (contents : Contents) → HasTable file.now.log table
+        → HasContents file.now.log contents
+        → IfOk result (IsReplayReport file.now reading asked table contents) }
+{
+    let mut told = String::new(alloc);
+    let mut text = String::new(alloc);
+    let judgement = push_judgement(&mut told, file, reading)?;
+    let of_pcrs = push_by_judgement(&mut told, &mut text, alloc, file, asked, judgement)?;
+    let status = judgement.status().and(of_pcrs);
+    Ok(Report { told, text, status })
 }
 
-/// Prints the PCRs that a log leads to, whose events are read.
-fn show_pcrs<R: Print + Eprint + AllocGlobal>(
-    rt: &R,
+/// Appends what is printed of the PCRs of a log with this judgement. Returns their status.
+#[tactic(auto, unfolding(crate::specs::ReplayReport::IsReportBy))]
+fn push_by_judgement(
+    told: &mut String,
+    text: &mut String,
+    alloc: Global,
     file: &LogFile<'_>,
     asked: Asked,
-) -> Result<Status, Failure> {
+    judgement: Judgement,
+) -> Result<Status, AllocError>
+    ensures { (table : Table) (contents : Contents) → HasTable file.now.log table
+        → HasContents file.now.log contents → IfOk result (GrowBy told.old told.new
+        text.old text.new (IsReportBy judgement file.now asked table contents)) }
+{
+    match judgement {
+        Judgement::Accepted | Judgement::NothingMeasured => {
+            push_pcrs(told, text, alloc, file, asked)
+        }
+        Judgement::LeftOver => {
+            push_left_over(text, alloc, file, asked)?;
+            Ok(Status::Well)
+        }
+        Judgement::ManyAlgorithms => Ok(Status::Well),
+    }
+}
+
+/// Appends the PCRs that a log leads to, and what standard error is told of them. Returns their
+/// status.
+fn push_pcrs(
+    told: &mut String,
+    text: &mut String,
+    alloc: Global,
+    file: &LogFile<'_>,
+    asked: Asked,
+) -> Result<Status, AllocError>
+    ensures { (table : Table) (contents : Contents) → HasTable file.now.log table
+        → HasContents file.now.log contents → IfOk result (GrowBy told.old told.new
+        text.old text.new (IsPcrReport file.now asked table contents)) }
+{
     let assumed = start_of(file, asked.locality);
-    let banks = asked_banks(rt.alloc(), &file.log, asked.bank)?;
-    let found = replay_banks(rt.alloc(), &file.log, banks.as_slice(), &assumed.start)?;
-    let mut told = String::new(rt.alloc());
-    push_start(&mut told, file.name, &assumed.start, assumed.is_stated)?;
-    match asked.bank {
-        Some(bank) => push_inactive(&mut told, file, &[bank])?,
-        None => push_table_notes(&mut told, rt.alloc(), file, banks.as_slice())?,
+    let banks = asked_banks(alloc, &file.log, asked.bank)?;
+    let replayed = replay_banks(alloc, &file.log, banks.as_slice(), &assumed.start)?;
+    let found = replayed.as_slice();
+    let is_ignored = push_notes(told, alloc, file, asked.bank, &assumed, found)?;
+    push_found(text, alloc, file, asked, &assumed, found)?;
+    Ok(status_of(found, is_ignored))
+}
+
+/// Appends what standard error is told of a replay. Returns whether an event should extend a PCR
+/// that no TPM has.
+fn push_notes(
+    told: &mut String,
+    alloc: Global,
+    file: &LogFile<'_>,
+    bank: Option<Bank>,
+    assumed: &Assumed,
+    found: &[BankPcrs],
+) -> Result<bool, AllocError>
+    ensures notes { (table : Table) (contents : Contents) → HasTable file.now.log table
+        → HasContents file.now.log contents → OnOk result ((banks : List ℕ)
+        × AreBankNotes bank file.now.name.now table contents.entries banks
+        × AppendsText told.old told.new
+        (start_lines file.now.name.now assumed.now.start assumed.now.is_stated ++ banks
+        ++ flat_map (undetermined_lines file.now.name.now) (map bank_outcomes_of found.now)
+        ++ ignored_lines file.now.name.now contents.entries)) }
+    ensures ignored { (contents : Contents) → HasContents file.now.log contents
+        → IfOk result (λ ignored. ignored ≡ has_no_pcr contents.entries) }
+{
+    push_start(told, file.name, &assumed.start, assumed.is_stated)?;
+    push_bank_notes(told, alloc, file, bank)?;
+    push_undetermined(told, file.name, found)?;
+    push_without_effect(told, file)
+}
+
+/// Appends what standard error is told of banks: of one, or of those in the log's table.
+#[tactic(auto, unfolding(crate::specs::Replaying::AreBankNotes))]
+fn push_bank_notes(
+    told: &mut String,
+    alloc: Global,
+    file: &LogFile<'_>,
+    bank: Option<Bank>,
+) -> Result<(), AllocError>
+    ensures { (table : Table) (contents : Contents) → HasTable file.now.log table
+        → HasContents file.now.log contents → OnOk result ((text : List ℕ)
+        × AreBankNotes bank file.now.name.now table contents.entries text
+        × AppendsText told.old told.new text) }
+{
+    match bank {
+        Some(bank) => push_inactive(told, file, &[bank]),
+        None => push_table_notes(told, alloc, file),
     }
-    push_undetermined(&mut told, file.name, found.as_slice())?;
-    let is_ignored = push_without_effect(&mut told, file)?;
-    tell(rt, told.as_str());
-    match asked.format {
-        Format::Text => show_text(rt, file, asked, found.as_slice())?,
-        Format::Json => show_json(rt, file, &assumed, found.as_slice(), true)?,
-    }
-    Ok(status_of(found.as_slice(), is_ignored))
 }
 
 /// Returns how PCR 0 starts: at the locality that was given, or else as the log says.
@@ -100,36 +184,55 @@ pub(crate) fn start_of(file: &LogFile<'_>, locality: Option<u8>) -> Assumed
     }
 }
 
-/// Prints the PCRs as text.
-fn show_text<R: Print + AllocGlobal>(
-    rt: &R,
+/// Appends PCRs in the format that is asked for.
+#[tactic(auto, unfolding(crate::specs::Replaying::text_of))]
+fn push_found(
+    text: &mut String,
+    alloc: Global,
     file: &LogFile<'_>,
     asked: Asked,
-    found: &[BankPcrs],
-) -> Result<(), Failure> {
-    let mut text = String::new(rt.alloc());
-    if asked.is_one_of_many {
-        let name = ShownName(file.name);
-        writeln!(text, "{name}:")?;
-    }
-    push_banks(&mut text, rt.alloc(), found)?;
-    print_text(&mut io::writer(rt), text.as_str())
-}
-
-/// Prints the PCRs as JSON.
-fn show_json<R: Print + AllocGlobal>(
-    rt: &R,
-    file: &LogFile<'_>,
     assumed: &Assumed,
     found: &[BankPcrs],
-    is_accepted: bool,
-) -> Result<(), Failure> {
-    let mut text = String::new(rt.alloc());
-    push_json(&mut text, rt.alloc(), file, assumed, found, is_accepted)?;
-    print_text(&mut io::writer(rt), text.as_str())
+) -> Result<(), AllocError>
+    ensures { (contents : Contents) → HasContents file.now.log contents → OnOk result
+        (AppendsText text.old text.new (text_of asked.format file.now asked.is_one_of_many contents
+        assumed.now.start assumed.now.is_stated (map bank_outcomes_of found.now))) }
+{
+    match asked.format {
+        Format::Text => push_text(text, alloc, file.name, asked.is_one_of_many, found),
+        Format::Json => push_json(text, alloc, file, assumed, found, true),
+    }
 }
 
-/// Appends the PCRs as JSON.
+/// Appends PCRs as text.
+fn push_text(
+    text: &mut String,
+    alloc: Global,
+    name: &str,
+    is_one_of_many: bool,
+    found: &[BankPcrs],
+) -> Result<(), AllocError>
+    ensures { OnOk result (AppendsText text.old text.new (name_line is_one_of_many name.now
+        ++ flat_map bank_lines (map bank_outcomes_of found.now))) }
+{
+    push_name(text, name, is_one_of_many)?;
+    push_banks(text, alloc, found)
+}
+
+/// Appends the line with a log's name, if it is one of many.
+#[tactic(auto, unfolding(crate::specs::Replaying::name_line))]
+fn push_name(text: &mut String, name: &str, is_one_of_many: bool) -> Result<(), AllocError>
+    ensures { OnOk result
+        (AppendsText text.old text.new (name_line is_one_of_many name.now)) }
+{
+    if !is_one_of_many {
+        return Ok(());
+    }
+    let name = ShownName(name);
+    writeln!(text, "{name}:")
+}
+
+/// Appends PCRs as JSON.
 fn push_json(
     text: &mut String,
     alloc: Global,
@@ -137,16 +240,43 @@ fn push_json(
     assumed: &Assumed,
     found: &[BankPcrs],
     is_accepted: bool,
-) -> Result<(), AllocError> {
+) -> Result<(), AllocError>
+    ensures { (contents : Contents) → HasContents file.now.log contents → OnOk result
+        (AppendsText text.old text.new (replay_line file.now.name.now file.now.log contents
+        assumed.now.start assumed.now.is_stated (map bank_outcomes_of found.now) is_accepted)) }
+{
     let Assumed { start, is_stated } = *assumed;
     push_replay_json(text, alloc, file, &start, is_stated, found, is_accepted)?;
     Ok(())
 }
 
+/// Appends the object of a log with trailing bytes, if JSON is asked for.
+#[tactic(auto, unfolding(crate::specs::Replaying::left_over_text))]
+fn push_left_over(
+    text: &mut String,
+    alloc: Global,
+    file: &LogFile<'_>,
+    asked: Asked,
+) -> Result<(), AllocError>
+    ensures { (contents : Contents) → HasContents file.now.log contents → OnOk result
+        (AppendsText text.old text.new
+        (left_over_text asked.format file.now asked.locality contents)) }
+{
+    match asked.format {
+        Format::Text => Ok(()),
+        Format::Json => {
+            let assumed = start_of(file, asked.locality);
+            push_json(text, alloc, file, &assumed, &[], false)
+        }
+    }
+}
+
 /// Returns the status of a replay: a log is unjudged if no bank was replayed, or a PCR of one is
 /// undetermined, and it differs if an event should have extended a PCR that no TPM has.
-fn status_of(found: &[BankPcrs], is_ignored: bool) -> Status {
-    if found.is_empty() || found.iter().any(|bank| has_undetermined(bank)) {
+fn status_of(found: &[BankPcrs], is_ignored: bool) -> Status
+    ensures { result ≡ replay_status (map bank_outcomes_of found.now) is_ignored }
+{
+    if is_unjudged(found) {
         return Status::Unjudged;
     }
     if is_ignored {
@@ -155,7 +285,38 @@ fn status_of(found: &[BankPcrs], is_ignored: bool) -> Status {
     Status::Well
 }
 
+/// Returns whether no bank was replayed, or a PCR of one is undetermined.
+fn is_unjudged(found: &[BankPcrs]) -> bool
+    ensures { result ≡ ((length found.now == 0)
+        || list_any (λ bank. has_undetermined (bank_outcomes_of bank)) found.now) }
+{
+    found.is_empty() || some_undetermined(found)
+}
+
+/// Returns whether a PCR of one of these banks is undetermined.
+fn some_undetermined(found: &[BankPcrs]) -> bool
+    ensures { result ≡ list_any (λ bank. has_undetermined (bank_outcomes_of bank)) found.now }
+{
+    found.iter().any(|bank| has_undetermined(bank))
+}
+
 /// Returns whether a PCR of a bank is undetermined.
-fn has_undetermined(found: &BankPcrs) -> bool {
-    found.pcrs.outcomes().iter().any(|outcome| outcome.is_err())
+fn has_undetermined(found: &BankPcrs) -> bool
+    ensures { result ≡ has_undetermined (bank_outcomes_of found.now) }
+{
+    is_any_undetermined(found.pcrs.outcomes())
+}
+
+/// Returns whether one of these outcomes isn't a value.
+fn is_any_undetermined(outcomes: &[Result<PcrValue, Undetermined>]) -> bool
+    ensures { result ≡ list_any (λ outcome. is_err (outcome_of outcome)) outcomes.now }
+{
+    outcomes.iter().any(|outcome| is_undetermined(outcome))
+}
+
+/// Returns whether an outcome isn't a value.
+fn is_undetermined(outcome: &Result<PcrValue, Undetermined>) -> bool
+    ensures { result ≡ is_err (outcome_of outcome.now) }
+{
+    matches!(outcome, Err(_))
 }

@@ -8,66 +8,84 @@ ghost use Rattle.uefi_auditing.specs.json.Verdict.{verdict_line};
 ghost use Rattle.uefi_auditing.specs.text.Names.{shown_name};
 ghost use Rattle.uefi_auditing.specs.verify.Verdict.{verdict_lines, verdict_of};
 ghost use Rattle.uefi_audit.specs.Judging.{verdict_status};
-ghost use Rattle.uefi_audit.specs.Replaying.{is_selected};
+ghost use Rattle.uefi_audit.specs.Replaying.{is_selected, is_stated};
+ghost use Rattle.uefi_audit.specs.Verification.{verdict_text};
 
 use crate::checking::shown;
-use crate::commands::{log_file, print_text};
-use crate::failure::{Failure, Status};
-use crate::input::{file_bytes, held_pcrs};
-use crate::judging::{Judgement, judge, tell};
+use crate::failure::Status;
+use crate::judging::{Judgement, push_judgement};
+use crate::missing::missing_lines;
 use crate::notes::{push_inactive, push_without_effect};
 use crate::replay::{Assumed, start_of};
+use crate::report::Report;
 use crate::request::{Format, Reading, Verification};
-use pcr_replay::{Bank, Log, PCR_COUNT, Start};
+use pcr_replay::{Bank, Log, Start};
 use std::alloc::{AllocError, Global};
-use std::io;
-use std::rt::Files;
 use uefi_auditing::json::push_verdict_json;
 use uefi_auditing::replay::{BankPcrs, replay_banks};
-use uefi_auditing::text::{LogFile, ShownName, bank_name, push_start};
+use uefi_auditing::text::{LogFile, push_start};
 use uefi_auditing::verify::{HeldPcr, PcrSelection, Verdict, held_banks, nearest, push_verdict};
 
 /// The localities that are tried where neither the log nor the caller states one.
 const LOCALITIES: [u8; 3] = [0, 3, 4];
 
-/// Prints whether a log leads to the PCRs that a TPM held.
-pub(crate) fn verify_log<R: Files + Input + Print + Eprint + AllocGlobal>(
-    rt: &R,
-    asked: &Verification<'_>,
+/// Returns what is printed of whether a log leads to the PCRs that a TPM held.
+///
+/// # Errors
+///
+/// [`AllocError`] if an allocation fails.
+pub(crate) fn verification_report(
+    alloc: Global,
+    file: &LogFile<'_>,
     reading: Reading,
-) -> Result<Status, Failure> {
-    let selection = selection_of(rt, asked.pcrs)?;
-    let bytes = file_bytes(rt, asked.log);
-    let held = held_pcrs(rt, asked.registers);
-    let (Some(bytes), Some(held)) = (bytes, held) else {
-        return Ok(Status::Unread);
-    };
-    let file = log_file(asked.log, bytes.as_slice(), reading);
-    if judge(rt, &file, reading)? != Judgement::Accepted {
-        return Ok(Status::Unjudged);
-    }
-    let mut told = String::new(rt.alloc());
-    let selected = selected(rt.alloc(), held.as_slice(), &selection)?;
-    let is_held = push_missing(&mut told, asked, held.as_slice(), &selection)?;
-    if !is_held {
-        tell(rt, told.as_str());
-        return Ok(Status::Unjudged);
-    }
-    compare(rt, asked, &file, selected.as_slice())
+    asked: &Verification<'_>,
+    held: &[HeldPcr],
+    selection: &Option<PcrSelection>,
+) -> Result<Report, AllocError> {
+    let mut told = String::new(alloc);
+    let mut text = String::new(alloc);
+    let judgement = push_judgement(&mut told, file, reading)?;
+    let status = push_by_judgement(
+        &mut told, &mut text, alloc, file, asked, held, selection, judgement,
+    )?;
+    Ok(Report { told, text, status })
 }
 
-/// Returns the PCRs that `--pcrs` selects, or `None` without it.
-fn selection_of<R: Eprint>(rt: &R, pcrs: Option<&str>) -> Result<Option<PcrSelection>, Failure> {
-    let Some(text) = pcrs else {
-        return Ok(None);
-    };
-    let Some(selection) = PcrSelection::parse(text) else {
-        let _ = eprintln!(rt;
-            "uefi_audit: --pcrs takes PCRs from 0 to 23, such as 0-7,14 or sha256:0,7"
-        );
-        return Err(Failure::Arguments);
-    };
-    Ok(Some(selection))
+/// Appends what is printed of a log with this judgement. Returns the status.
+fn push_by_judgement(
+    told: &mut String,
+    text: &mut String,
+    alloc: Global,
+    file: &LogFile<'_>,
+    asked: &Verification<'_>,
+    held: &[HeldPcr],
+    selection: &Option<PcrSelection>,
+    judgement: Judgement,
+) -> Result<Status, AllocError> {
+    match judgement {
+        Judgement::Accepted => push_verification(told, text, alloc, file, asked, held, selection),
+        _ => Ok(Status::Unjudged),
+    }
+}
+
+/// Appends whether a log leads to the PCRs that are selected, if all of them are stated. Returns the
+/// status.
+fn push_verification(
+    told: &mut String,
+    text: &mut String,
+    alloc: Global,
+    file: &LogFile<'_>,
+    asked: &Verification<'_>,
+    held: &[HeldPcr],
+    selection: &Option<PcrSelection>,
+) -> Result<Status, AllocError> {
+    let missing = missing_lines(alloc, asked.registers, held, selection)?;
+    if !missing.is_empty() {
+        told.push_str(missing.as_str())?;
+        return Ok(Status::Unjudged);
+    }
+    let selected = selected(alloc, held, selection)?;
+    push_compared(told, text, alloc, file, asked, selected.as_slice())
 }
 
 /// Returns the PCRs that are selected.
@@ -95,108 +113,63 @@ fn is_selected(selection: &Option<PcrSelection>, held: &HeldPcr) -> bool
     }
 }
 
-/// Appends a line for each PCR that has to be among those that the TPM is said to have held, and
-/// isn't. Returns whether there is none.
-fn push_missing(
+/// Appends whether a log leads to these PCRs. Returns the status.
+fn push_compared(
     told: &mut String,
+    text: &mut String,
+    alloc: Global,
+    file: &LogFile<'_>,
     asked: &Verification<'_>,
     held: &[HeldPcr],
-    selection: &Option<PcrSelection>,
-) -> Result<bool, AllocError> {
-    let Some(selection) = selection else {
-        return Ok(true);
-    };
-    let mut is_held = true;
-    for bank in &Bank::ALL {
-        is_held &= push_missing_of(told, asked, held, selection, *bank)?;
-    }
-    Ok(is_held)
+) -> Result<Status, AllocError> {
+    let banks = held_banks(alloc, held)?;
+    let (assumed, replays) = nearest_replay(alloc, file, asked.locality, held, banks.as_slice())?;
+    let is_ignored = push_notes(told, file, banks.as_slice(), &assumed)?;
+    let verdict = push_formatted(
+        text,
+        alloc,
+        file,
+        held,
+        replays.as_slice(),
+        &assumed,
+        asked.format,
+    )?;
+    Ok(status_of(verdict, is_ignored))
 }
 
-/// Appends the lines of a bank, and returns whether there are none.
-fn push_missing_of(
+/// Appends what standard error is told of these banks. Returns whether an event should extend a PCR
+/// that no TPM has.
+fn push_notes(
     told: &mut String,
-    asked: &Verification<'_>,
-    held: &[HeldPcr],
-    selection: &PcrSelection,
-    bank: Bank,
+    file: &LogFile<'_>,
+    banks: &[Bank],
+    assumed: &Assumed,
 ) -> Result<bool, AllocError> {
-    let mut is_held = true;
-    for pcr in 0..PCR_COUNT as u32 {
-        if is_asked(selection, held, bank, pcr) && !is_among(held, bank, pcr) {
-            let (name, bank) = (ShownName(asked.registers), bank_name(bank));
-            writeln!(
-                told,
-                "{name}: states no {bank} PCR {pcr}, which is asked for"
-            )?;
-            is_held = false;
-        }
-    }
-    Ok(is_held)
+    push_start(told, file.name, &assumed.start, assumed.is_stated)?;
+    push_inactive(told, file, banks)?;
+    push_without_effect(told, file)
 }
 
-/// Returns whether a PCR has to be held: it is selected, and PCRs of its bank are held, or those of
-/// no other bank are selected.
-fn is_asked(selection: &PcrSelection, held: &[HeldPcr], bank: Bank, pcr: u32) -> bool {
-    selection.is_selected(bank, pcr)
-        && (held.iter().any(|held| held.bank == bank) || is_of_one_bank(selection, pcr))
-}
-
-/// Returns whether a PCR is selected of one bank alone.
-fn is_of_one_bank(selection: &PcrSelection, pcr: u32) -> bool {
-    Bank::ALL
-        .iter()
-        .filter(|bank| selection.is_selected(**bank, pcr))
-        .count()
-        == 1
-}
-
-/// Returns whether a PCR of a bank is among these.
-fn is_among(held: &[HeldPcr], bank: Bank, pcr: u32) -> bool {
-    held.iter().any(|held| held.bank == bank && held.pcr == pcr)
-}
-
-/// Prints whether a log leads to these PCRs.
-fn compare<R: Print + Eprint + AllocGlobal>(
-    rt: &R,
-    asked: &Verification<'_>,
+/// Appends the verdict on these PCRs in a format.
+#[tactic(auto, unfolding(crate::specs::Verification::verdict_text))]
+fn push_formatted(
+    text: &mut String,
+    alloc: Global,
     file: &LogFile<'_>,
     held: &[HeldPcr],
-) -> Result<Status, Failure> {
-    let banks = held_banks(rt.alloc(), held)?;
-    let (assumed, replays) = nearest_replay(
-        rt.alloc(),
-        file,
-        asked.locality,
-        held,
-        banks.as_slice(),
-    )?;
-    let mut told = String::new(rt.alloc());
-    push_start(&mut told, file.name, &assumed.start, assumed.is_stated)?;
-    push_inactive(&mut told, file, banks.as_slice())?;
-    let is_ignored = push_without_effect(&mut told, file)?;
-    tell(rt, told.as_str());
-    let mut text = String::new(rt.alloc());
-    let verdict = match asked.format {
-        Format::Text => push_lines(
-            &mut text,
-            rt.alloc(),
-            file,
-            held,
-            replays.as_slice(),
-            &assumed,
-        )?,
-        Format::Json => push_json(
-            &mut text,
-            rt.alloc(),
-            file,
-            held,
-            replays.as_slice(),
-            &assumed,
-        )?,
-    };
-    print_text(&mut io::writer(rt), text.as_str())?;
-    Ok(status_of(verdict, is_ignored))
+    replays: &[BankPcrs],
+    assumed: &Assumed,
+    format: Format,
+) -> Result<Verdict, AllocError>
+    ensures verdict { IfOk result (λ verdict.
+        verdict ≡ verdict_of (map bank_outcomes_of replays.now) held.now) }
+    ensures lines { OnOk result (AppendsText text.old text.new (verdict_text format file.now.name.now
+        (map bank_outcomes_of replays.now) assumed.now.start.locality held.now)) }
+{
+    match format {
+        Format::Text => push_lines(text, alloc, file, held, replays, assumed),
+        Format::Json => push_json(text, alloc, file, held, replays, assumed),
+    }
 }
 
 /// Returns how PCR 0 starts, and what the PCRs of these banks hold then. Where neither the log nor
@@ -208,9 +181,11 @@ fn nearest_replay(
     held: &[HeldPcr],
     banks: &[Bank],
 ) -> Result<(Assumed, Vec<BankPcrs>), AllocError>
-    ensures { (contents : Contents) → HasContents file.now.log contents
+    ensures found { (contents : Contents) → HasContents file.now.log contents
         → IfOk result (λ found. map bank_outcomes_of found.1.items
         ≡ map (replayed found.0.start contents.entries) banks.now) }
+    ensures stated { (contents : Contents) → HasContents file.now.log contents
+        → IfOk result (λ found. found.0.is_stated ≡ is_stated locality contents.entries) }
 {
     let assumed = start_of(file, locality);
     if assumed.is_stated {

@@ -1,0 +1,15 @@
+use Rattle.std.proofs.Common.{◌∙◌, ap, refl, rules, tests}
+use Rattle.std.proofs.lemmas.Iterator.Consumers.{YieldsList-from_first}
+use Rattle.std.proofs.lemmas.Iterator.Search.{any_from_yields_List}
+use Rattle.pcr_replay.specs.Entries.{Contents, Entry}
+use Rattle.pcr_replay.specs.Views.{contents_left, entries_left, entry_of}
+use Rattle.uefi_audit.specs.Notes.{extends_no_pcr, has_no_pcr}
+use Rattle.uefi_audit.proofs.notes.has_no_pcr.Goals as goal
+
+pub returns : goal.returns
+returns c = λ contents is.
+    any_from_yields_List (λ (entry : Entry). extends_no_pcr entry.event)
+    _ _ c.any.result c.any.ensures.ran (YieldsList-from_first entry_of entries_left _ refl)
+    (λ x b q k. search (rules, tests))
+    ∙ ap (λ (it : Contents). has_no_pcr it.entries)
+    (c.one_contents.ensures c.args.log.now (contents_left c.entries.result) contents c.entries.ensures.contents is)

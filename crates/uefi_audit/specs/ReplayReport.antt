@@ -1,0 +1,47 @@
+-- What `replay` prints of a log.
+use Rattle.std.specs.Prelude.{◌≡◌, ℕ, List, [], ◌++◌, string_bytes}
+use Rattle.uefi_tcg.specs.v2.Event.{Table}
+use Rattle.pcr_replay.specs.Entries.{Contents}
+use Rattle.uefi_auditing.specs.declared.text.LogFile.{LogFile}
+use Rattle.uefi_audit.specs.Ends.{worse}
+use Rattle.uefi_audit.specs.Judging.{judged_status, judgement_lines, judgement_of}
+use Rattle.uefi_audit.specs.Notes.{has_no_pcr}
+use Rattle.uefi_audit.specs.Replaying.{AreReplayNotes, asked_pcrs, left_over_text, pcrs_text, replay_status}
+use Rattle.uefi_audit.specs.declared.failure.Status.{Status}
+use Rattle.uefi_audit.specs.declared.failure.Status.TheVariants.{Well}
+use Rattle.uefi_audit.specs.declared.judging.Judgement.{Judgement}
+use Rattle.uefi_audit.specs.declared.judging.Judgement.TheVariants.{Accepted, NothingMeasured, LeftOver, ManyAlgorithms}
+use Rattle.uefi_audit.specs.declared.replay.Asked.{Asked}
+use Rattle.uefi_audit.specs.declared.report.Report.{Report}
+use Rattle.uefi_audit.specs.declared.request.Reading.{Reading}
+
+-- Of a log whose events are read: the notes, the PCRs and their status.
+pub record IsPcrReport (file : LogFile) (asked : Asked) (table : Table) (contents : Contents)
+    (told text : List ℕ) (status : Status) : Type 0 where
+  pub notes : AreReplayNotes file.name.now asked table contents.entries told
+  pub pcrs : text ≡ pcrs_text file asked contents
+  pub of_pcrs : status ≡ replay_status (asked_pcrs asked contents.entries) (has_no_pcr contents.entries)
+
+-- Of another log: no more is told, and there is at most an object without PCRs.
+pub record IsUnreadReport (without_pcrs told text : List ℕ) (status : Status) : Type 0 where
+  pub no_notes : told ≡ []
+  pub no_pcrs : text ≡ without_pcrs
+  pub no_more : status ≡ Well
+
+-- What follows from the judgement.
+unfoldable pub IsReportBy : Judgement → LogFile → Asked → Table → Contents → List ℕ → List ℕ → Status → Type 0
+IsReportBy Accepted file asked table contents = IsPcrReport file asked table contents
+IsReportBy NothingMeasured file asked table contents = IsPcrReport file asked table contents
+IsReportBy LeftOver file asked table contents = IsUnreadReport (left_over_text asked.format file asked.locality contents)
+IsReportBy ManyAlgorithms file asked table contents = IsUnreadReport []
+
+-- What is printed of a log: what is told of its judgement comes first, and the worse status counts.
+pub record IsReplayReport (file : LogFile) (reading : Reading) (asked : Asked) (table : Table) (contents : Contents)
+    (report : Report) : Type 0 where
+  pub judgement : Judgement
+  pub judged : judgement ≡ judgement_of reading file.log table contents
+  pub notes : List ℕ
+  pub of_pcrs : Status
+  pub by_judgement : IsReportBy judgement file asked table contents notes (string_bytes report.text) of_pcrs
+  pub told : string_bytes report.told ≡ judgement_lines reading file table contents judgement ++ notes
+  pub status : report.status ≡ worse (judged_status judgement) of_pcrs
