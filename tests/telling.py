@@ -2,8 +2,9 @@
 import os
 import sys
 
-# The test, by its path in this folder without `run`.
-TEST = os.path.relpath(os.path.realpath(sys.argv[0]), os.path.dirname(os.path.realpath(__file__))).removesuffix("/run")
+# The test, by its path in the repository without `tests/` and `run`.
+TOP = os.path.dirname(os.path.dirname(os.path.realpath(__file__)))
+TEST = os.path.relpath(os.path.realpath(sys.argv[0]), TOP).removeprefix("tests/").removesuffix("/run")
 # So much of what came out is printed where it is not as expected.
 SHOWN = 2000
 

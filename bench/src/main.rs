@@ -6,7 +6,7 @@
 
 mod inputs;
 mod measure;
-#[path = "../../tests/rust_fuzz_src/readers.rs"]
+#[path = "../../rust/checks/fuzz_src/readers.rs"]
 #[allow(dead_code, reason = "the fuzzing run calls one more")]
 mod package;
 mod plain;

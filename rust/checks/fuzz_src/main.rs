@@ -4,7 +4,7 @@
 //! An input of which the sums differ, or at which the package panics, is printed in hex.
 
 #[allow(dead_code, reason = "the bench makes its inputs with it too")]
-#[path = "../../bench/src/random.rs"]
+#[path = "../../../bench/src/random.rs"]
 mod random;
 mod readers;
 
