@@ -24,7 +24,7 @@ fn push_numbers(bytes: &mut Vec<u8>, numbers: impl IntoIterator<Item = u32>) {
 }
 
 fn push_digits(text: &mut Vec<u8>, count: usize, random: &mut Random) {
-    text.extend((0..count).map(|_| b"0123456789abcdef"[random.below(16) as usize]));
+    text.extend((0..count).map(|_| random.one_of(b"0123456789abcdef")));
 }
 
 /// A path of nodes with data of 0 to 24 bytes. Each 50th ends an instance.

@@ -6,8 +6,6 @@
 
 mod inputs;
 mod measure;
-#[path = "../../rust/checks/fuzz_src/readers.rs"]
-#[allow(dead_code, reason = "the fuzzing run calls one more")]
 mod package;
 mod plain;
 mod random;

@@ -2,7 +2,6 @@
 //! sum over what it gave.
 
 use std::hint::black_box;
-use uefi_formats::UnalignedSlice;
 use uefi_formats::mem::memory_map::{MemoryDescriptor, MemoryMap, MemoryMapKey, MemoryMapMeta, MemoryMapRef};
 use uefi_formats::proto::device_path::{DevicePath, DevicePathNodeIterator};
 use uefi_formats::proto::hii::config_str::{
@@ -136,11 +135,4 @@ pub fn hex(bytes: &[u8]) -> u64 {
     let mut filled = vec![0; ConfigurationString::parse_bytes_from_hex(text).len()];
     fill_from_hex(text, &mut filled);
     (filled.len() as u64).wrapping_add(first_of(black_box(&filled)))
-}
-
-/// What the archive has no function for: it has only to end.
-pub fn others(bytes: &[u8]) -> u64 {
-    let even = &bytes[..bytes.len() / 2 * 2];
-    let text = UnalignedSlice::new(even).to_cstring16().map_or(0, |text| text.as_cstr16().num_chars() as u64);
-    text.wrapping_add(format!("{:?}", DevicePath::try_from(even)).len() as u64)
 }
