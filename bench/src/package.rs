@@ -1,8 +1,9 @@
 //! The readers of the package, as `crates/uefi_bench` has those of the proved archive: each returns a
 //! sum over what it gave.
 
+use crate::inputs::STRIDE;
 use std::hint::black_box;
-use uefi_formats::mem::memory_map::{MemoryDescriptor, MemoryMap, MemoryMapKey, MemoryMapMeta, MemoryMapRef};
+use uefi_formats::mem::memory_map::{MemoryMap, MemoryMapMeta, MemoryMapRef};
 use uefi_formats::proto::device_path::{DevicePath, DevicePathNodeIterator};
 use uefi_formats::proto::hii::config_str::{
     ConfigurationString, ConfigurationStringElement, ConfigurationStringIter, MultiConfigurationStringIter,
@@ -10,7 +11,7 @@ use uefi_formats::proto::hii::config_str::{
 };
 use uefi_formats::proto::media::file::FileInfo;
 use uefi_formats::proto::pci;
-use uefi_formats::proto::tcg::{v1, v2};
+use uefi_formats::proto::tcg::{AlgorithmId, v1, v2};
 use uefi_formats::runtime::Time;
 
 fn sum(numbers: impl IntoIterator<Item = u64>) -> u64 {
@@ -36,51 +37,44 @@ pub fn instances(bytes: &[u8]) -> u64 {
     sum(path.instance_iter().map(|it| node_sum(it.node_iter()).wrapping_add(it.as_bytes().len() as u64)))
 }
 
-pub fn log1(bytes: &[u8], last_entry: usize) -> u64 {
-    let log = v1::EventLog::new(Some(bytes), Some(last_entry), false);
-    let mut sum = 0u64;
-    for event in log.iter() {
-        sum = sum
-            .wrapping_add(u64::from(event.pcr_index().0))
-            .wrapping_add(u64::from(event.event_type().0))
-            .wrapping_add(u64::from(event.digest()[0]))
-            .wrapping_add(event.event_data().len() as u64);
-    }
-    sum
+pub fn events1(bytes: &[u8]) -> u64 {
+    let log = v1::EventLog::new(Some(bytes), Some(black_box(bytes.len())), false);
+    sum(log.iter().map(|event| {
+        let (pcr_index, event_type) = (event.pcr_index().0.into(), event.event_type().0.into());
+        sum([pcr_index, event_type, event.digest()[0].into(), event.event_data().len() as u64])
+    }))
 }
 
-pub fn log2(bytes: &[u8], last_entry: usize, digests: bool) -> u64 {
-    let log = v2::EventLog::new(Some(bytes), Some(last_entry), false);
-    let mut sum = 0u64;
-    for event in log.iter() {
-        sum = sum
-            .wrapping_add(u64::from(event.pcr_index().0))
-            .wrapping_add(u64::from(event.event_type().0))
-            .wrapping_add(event.event_data().len() as u64);
-        if digests {
-            for (algorithm, digest) in event.digests() {
-                let first = digest.first().map_or(0, |byte| u64::from(*byte));
-                sum = sum.wrapping_add(u64::from(algorithm.0)).wrapping_add(first);
-            }
-        }
-    }
-    sum
+fn log2_sum(bytes: &[u8], with_digests: bool) -> u64 {
+    let log = v2::EventLog::new(Some(bytes), Some(black_box(bytes.len())), false);
+    let digest_sum = |(algorithm, digest): (AlgorithmId, &[u8])| sum([algorithm.0.into(), first_of(digest)]);
+    sum(log.iter().map(|event| {
+        let digests = if with_digests { sum(event.digests().into_iter().map(digest_sum)) } else { 0 };
+        let (pcr_index, event_type) = (event.pcr_index().0.into(), event.event_type().0.into());
+        sum([pcr_index, event_type, event.event_data().len() as u64, digests])
+    }))
 }
 
-fn map_of(bytes: &[u8], desc_size: usize) -> Option<MemoryMapRef<'_>> {
-    let (map_size, desc_version) = (bytes.len(), MemoryDescriptor::VERSION);
-    MemoryMapRef::new(bytes, MemoryMapMeta { map_size, desc_size, map_key: MemoryMapKey::default(), desc_version }).ok()
+pub fn events2(bytes: &[u8]) -> u64 {
+    log2_sum(bytes, black_box(false))
 }
 
-pub fn map(bytes: &[u8], desc_size: usize) -> u64 {
-    let Some(map) = map_of(bytes, desc_size) else {
-        return 0;
-    };
-    sum(map.entries().map(|it| u64::from(it.ty.0).wrapping_add(it.phys_start).wrapping_add(it.page_count)))
+pub fn digests2(bytes: &[u8]) -> u64 {
+    log2_sum(bytes, black_box(true))
 }
 
-pub fn sorted(bytes: &[u8], desc_size: usize) -> u64 {
-    map_of(bytes, desc_size).map_or(0, |map| u64::from(map.is_sorted()))
+fn map_of(bytes: &[u8]) -> Option<MemoryMapRef<'_>> {
+    MemoryMapRef::new(bytes, MemoryMapMeta::of(bytes.len(), black_box(STRIDE))).ok()
+}
+
+pub fn entries(bytes: &[u8]) -> u64 {
+    map_of(bytes).map_or(0, |map| {
+        sum(map.entries().map(|it| sum([it.ty.0.into(), it.phys_start, it.page_count])))
+    })
+}
+
+pub fn order(bytes: &[u8]) -> u64 {
+    map_of(bytes).map_or(0, |map| u64::from(map.is_sorted()))
 }
 
 pub fn info(bytes: &[u8]) -> u64 {
