@@ -1,5 +1,6 @@
 """What the tests share: a line for each outcome, and the counts at the end."""
 import os
+import subprocess
 import sys
 
 # The test, by its path in the repository without `tests/` and `run`.
@@ -15,6 +16,13 @@ def tells(name, got, expected=True):
     outcome = "as expected" if is_same else f"{str(got)[:SHOWN]}, where {str(expected)[:SHOWN]} was expected"
     print(f"{TEST}: {name}: {outcome}", flush=True)
     return is_same
+
+
+def call(folder, *words):
+    """Runs a command in a folder. Whether it ended well, and all that it printed."""
+    how = {"stdin": subprocess.DEVNULL, "stdout": subprocess.PIPE, "stderr": subprocess.STDOUT, "text": True}
+    ran = subprocess.run(words, cwd=folder, check=False, **how)
+    return ran.returncode == 0, ran.stdout
 
 
 def counted(outcomes):
