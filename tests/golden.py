@@ -1,9 +1,10 @@
 """Golden cases: a folder for each, with the files that `rt` knows of a program.
 
-`args` has an argument a line, `args0` one before each zero byte; `stdin` is what is read from standard input; `data/`
-has the files of the folder that it runs in, in whose names `%` and two hex digits are a byte, and `samples` the names of
-those of `samples/` that are there too; `stdout`, `stderr` and `status` are what it has to end with, where the text `*`
-is any but none. Each may be missing: then it is empty, or 0.
+`args` has an argument a line, `args0` one before each zero byte; `stdin` is what is read from
+standard input; `data/` has the files of the folder that it runs in, in whose names `%` and two hex
+digits are a byte, and `samples` the names of those of `samples/` that are there too; `stdout`,
+`stderr` and `status` are what it has to end with, where the text `*` is any but none. Each may be
+missing: then it is empty, or 0.
 """
 import shutil
 import subprocess
@@ -32,10 +33,13 @@ def read(path):
 
 class Case:
     def __init__(self, folder):
-        self.name, self.data, self.samples = folder.name, folder / "data", read(folder / "samples").decode().split()
+        self.name, self.data = folder.name, folder / "data"
+        self.samples = read(folder / "samples").decode().split()
         self.args = read(folder / "args").splitlines() or read(folder / "args0").split(b"\0")[:-1]
-        self.stdin, streams = read(folder / "stdin"), [read(folder / "stdout"), read(folder / "stderr")]
-        self.expected = int(read(folder / "status") or 0), *(Any() if it == b"*\n" else it for it in streams)
+        self.stdin = read(folder / "stdin")
+        streams = (read(folder / name) for name in ("stdout", "stderr"))
+        out, err = (Any() if it == b"*\n" else it for it in streams)
+        self.expected = int(read(folder / "status") or 0), out, err
 
 
 def cases(folder):
@@ -45,8 +49,8 @@ def cases(folder):
 
 def end_of(program, args, stdin=b"", **how):
     """The status and the streams that a program ends with."""
-    streams = {"input": stdin, "stdout": subprocess.PIPE, "stderr": subprocess.PIPE, "timeout": SECONDS}
-    ran = subprocess.run([program, *args], **{**streams, **how}, check=False)
+    streams = {"input": stdin, "stdout": subprocess.PIPE, "stderr": subprocess.PIPE}
+    ran = subprocess.run([program, *args], check=False, timeout=SECONDS, **{**streams, **how})
     return ran.returncode, ran.stdout, ran.stderr
 
 
@@ -63,8 +67,9 @@ def is_as_expected(program, case):
 
 
 def chosen(program, folder):
-    """The outcomes of a folder's cases, or of those that the command line names, and whether these are all."""
-    # The first call proves and builds the program where that isn't done yet, and says so.
+    """The outcomes of a folder's cases, or of those that the command line names, and whether these
+    are all."""
+    # The first call proves and builds the program where that isn't done yet.
     subprocess.run([program, "--version"], capture_output=True, check=False)
     found, names = cases(folder), sys.argv[1:]
     return [is_as_expected(program, found[it]) for it in names or found], not names

@@ -71,7 +71,8 @@ fn measure_logs(size: Size) {
 
 fn main() {
     for size in Size::ALL {
-        let (map, path, text) = (&inputs::map(size), &inputs::path(size), &inputs::configurations(size));
+        let (map, path, text) =
+            (&inputs::map(size), &inputs::path(size), &inputs::configurations(size));
         measure_all!("long values", &inputs::value(size), values, port_config_value);
         measure_all!("hex", &inputs::digits(size), hex, port_hex);
         measure_all!("pairs of configurations", text, pairs, port_config_pairs);

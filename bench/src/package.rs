@@ -1,13 +1,13 @@
-//! The readers of the package, as `crates/uefi_bench` has those of the proved archive: each returns a
-//! sum over what it gave.
+//! The readers of the package, as `crates/uefi_bench` has those of the proved archive: each returns
+//! a sum over what it gave.
 
 use crate::inputs::STRIDE;
 use std::hint::black_box;
 use uefi_formats::mem::memory_map::{MemoryMap, MemoryMapMeta, MemoryMapRef};
 use uefi_formats::proto::device_path::{DevicePath, DevicePathNodeIterator};
 use uefi_formats::proto::hii::config_str::{
-    ConfigurationString, ConfigurationStringElement, ConfigurationStringIter, MultiConfigurationStringIter,
-    fill_from_hex,
+    ConfigurationString, ConfigurationStringElement, ConfigurationStringIter,
+    MultiConfigurationStringIter, fill_from_hex,
 };
 use uefi_formats::proto::media::file::FileInfo;
 use uefi_formats::proto::pci;
@@ -34,7 +34,9 @@ pub fn instances(bytes: &[u8]) -> u64 {
     let Ok(path) = DevicePath::try_from(bytes) else {
         return 0;
     };
-    sum(path.instance_iter().map(|it| node_sum(it.node_iter()).wrapping_add(it.as_bytes().len() as u64)))
+    sum(path
+        .instance_iter()
+        .map(|it| node_sum(it.node_iter()).wrapping_add(it.as_bytes().len() as u64)))
 }
 
 pub fn events1(bytes: &[u8]) -> u64 {
@@ -47,9 +49,11 @@ pub fn events1(bytes: &[u8]) -> u64 {
 
 fn log2_sum(bytes: &[u8], with_digests: bool) -> u64 {
     let log = v2::EventLog::new(Some(bytes), Some(black_box(bytes.len())), false);
-    let digest_sum = |(algorithm, digest): (AlgorithmId, &[u8])| sum([algorithm.0.into(), first_of(digest)]);
+    let digest_sum =
+        |(algorithm, digest): (AlgorithmId, &[u8])| sum([algorithm.0.into(), first_of(digest)]);
     sum(log.iter().map(|event| {
-        let digests = if with_digests { sum(event.digests().into_iter().map(digest_sum)) } else { 0 };
+        let digests =
+            if with_digests { sum(event.digests().into_iter().map(digest_sum)) } else { 0 };
         let (pcr_index, event_type) = (event.pcr_index().0.into(), event.event_type().0.into());
         sum([pcr_index, event_type, event.event_data().len() as u64, digests])
     }))
@@ -78,7 +82,8 @@ pub fn order(bytes: &[u8]) -> u64 {
 }
 
 pub fn info(bytes: &[u8]) -> u64 {
-    FileInfo::from_uefi(bytes, bytes.len()).map_or(0, |info| info.file_name().len().saturating_sub(1) as u64)
+    FileInfo::from_uefi(bytes, bytes.len())
+        .map_or(0, |info| info.file_name().len().saturating_sub(1) as u64)
 }
 
 pub fn times(bytes: &[u8]) -> u64 {

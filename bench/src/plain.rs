@@ -24,7 +24,8 @@ pub fn path(bytes: &[u8]) -> u64 {
 }
 
 fn node_sum(rest: &[u8], stop: Stop) -> u64 {
-    sum(Nodes { rest, stop }.map(|node| u64::from(node.device_type()).wrapping_add(node.data().len() as u64)))
+    sum(Nodes { rest, stop }
+        .map(|node| u64::from(node.device_type()).wrapping_add(node.data().len() as u64)))
 }
 
 pub fn nodes(bytes: &[u8]) -> u64 {
@@ -39,7 +40,12 @@ pub fn instances(bytes: &[u8]) -> u64 {
 pub fn events1(bytes: &[u8]) -> u64 {
     let last_entry = black_box(bytes.len());
     sum(log1::Events { bytes, last_entry, offset: 0 }.map(|event| {
-        sum([event.pcr_index.into(), event.event_type.into(), event.digest[0].into(), event.data.len() as u64])
+        sum([
+            event.pcr_index.into(),
+            event.event_type.into(),
+            event.digest[0].into(),
+            event.data.len() as u64,
+        ])
     }))
 }
 
@@ -107,7 +113,8 @@ fn text_of(bytes: &[u8]) -> &str {
 }
 
 pub fn pairs(bytes: &[u8]) -> u64 {
-    let pair_sum = |(key, value): (&str, Option<&str>)| key.len() as u64 + value.map_or(0, str::len) as u64;
+    let pair_sum =
+        |(key, value): (&str, Option<&str>)| key.len() as u64 + value.map_or(0, str::len) as u64;
     sum(Pairs { rest: text_of(bytes) }.map(pair_sum))
 }
 

@@ -62,7 +62,8 @@ fn samples(command: &Command, top: &str) -> io::Result<Vec<Input>> {
     let mut paths = entries.map(|it| Ok(it?.path())).collect::<io::Result<Vec<_>>>()?;
     paths.retain(|path| path.extension().is_some_and(|it| it == extension));
     paths.sort();
-    let input = |path| Ok(Input { third_word: third_word.map(Vec::from), ..Input::new(fs::read(path)?) });
+    let input =
+        |path| Ok(Input { third_word: third_word.map(Vec::from), ..Input::new(fs::read(path)?) });
     paths.into_iter().map(input).collect()
 }
 
@@ -77,8 +78,8 @@ impl Pool {
         Ok(Pool { command, inputs, shapes: HashSet::new(), counts: Counts::default() })
     }
 
-    /// Counts an input, and takes it up if its listing has another shape than those before. A command
-    /// that takes two files lists where they differ, with status 1.
+    /// Counts an input, and takes it up if its listing has another shape than those before. A
+    /// command that takes two files lists where they differ, with status 1.
     fn keep(&mut self, input: Input, ending: &Ending) {
         self.counts[usize::try_from(ending.status).unwrap_or(2).min(2)] += 1;
         self.counts[LINES] += lines(&ending.output).count() as u64;
@@ -97,7 +98,8 @@ fn lines(listing: &[u8]) -> impl Iterator<Item = &[u8]> {
 
 /// A number for the first words of the first lines of a listing.
 fn shape(listing: &[u8]) -> u64 {
-    let words = |line: &'_ [u8]| line.split(|c| *c == b' ').find(|it| !it.is_empty()).map(Vec::from);
+    let words =
+        |line: &'_ [u8]| line.split(|c| *c == b' ').find(|it| !it.is_empty()).map(Vec::from);
     hash(&lines(listing).take(SHAPE_LINES).map(words).collect::<Vec<_>>())
 }
 
@@ -141,7 +143,9 @@ impl Batch<'_> {
             fs::write(format!("{}/trace-{}", self.room, self.seed), text)?;
         }
         let report = |name: &str, ending: &Ending, expected: &Ending| {
-            let text = || format!("command: {}\n{input}plain Rust: {expected}{name}: {ending}", command.name);
+            let text = || {
+                format!("command: {}\n{input}plain Rust: {expected}{name}: {ending}", command.name)
+            };
             (ending != expected).then(text)
         };
         let expected = expected::ending(command, &input, file)?;
@@ -153,7 +157,11 @@ impl Batch<'_> {
         if found.is_none() && random.below(PROCESS_SHARE) == 0 {
             let file = format!("{}/input-{}", self.room, self.seed);
             let ending = program::run_process(self.top, command, &file, &input)?;
-            found = report("the program in a process", &ending, &expected::ending(command, &input, &file)?);
+            found = report(
+                "the program in a process",
+                &ending,
+                &expected::ending(command, &input, &file)?,
+            );
             pool.counts[PROCESSES] += 1;
         }
         if found.is_none() {

@@ -1,10 +1,11 @@
-//! Mutates rows and samples, gives each to a proved program, to plain Rust and, of `uefi_list`, to the
-//! package in rust/, and compares what is printed, the messages and the exit statuses.
+//! Mutates rows and samples, gives each to a proved program, to plain Rust and, of `uefi_list`, to
+//! the package in rust/, and compares what is printed, the messages and the exit statuses.
 //!
-//! `fuzz TOP ROOM SEED SECONDS [trace]` runs one batch of inputs, which follow from SEED alone: at most
-//! 200,000, or those of so many seconds. TOP is the folder of the repository, ROOM one for files. It
-//! prints the counts of each command. A difference is in ROOM/report-SEED, and the exit status is 1. A
-//! crash or a hang ends the process; `trace` has each input in ROOM/trace-SEED while it runs.
+//! `fuzz TOP ROOM SEED SECONDS [trace]` runs one batch of inputs, which follow from SEED alone: at
+//! most 200,000, or those of so many seconds. TOP is the folder of the repository, ROOM one for
+//! files. It prints the counts of each command. A difference is in ROOM/report-SEED, and the exit
+//! status is 1. A crash or a hang ends the process; `trace` has each input in ROOM/trace-SEED while
+//! it runs.
 
 mod audit;
 mod batch;

@@ -11,14 +11,16 @@ const MANY_BYTES: usize = 70_000;
 
 /// Bytes and numbers at the edge of many formats.
 const EDGE_BYTES: [u8; 8] = [0, 1, 2, 0x7f, 0x80, 0x81, 0xfe, 0xff];
+#[rustfmt::skip]
 const EDGES: [u64; 16] = [
-    0, 1, 2, 0x7f, 0x80, 0xff, 0x100, 0x7fff, 0x8000, 0xffff, 0x10000, 0x7fffffff, 0xffffffff, 1 << 32,
-    1 << 63, !0,
+    0, 1, 2, 0x7f, 0x80, 0xff, 0x100, 0x7fff, 0x8000, 0xffff, 0x1_0000, 0x7fff_ffff, 0xffff_ffff,
+    1 << 32, 1 << 63, u64::MAX,
 ];
 /// Words that are no number.
+#[rustfmt::skip]
 const NO_NUMBERS: [&[u8]; 12] = [
-    b"", b"-", b"--", b"-1", b"+1", b"1 ", b" 1", b"0x10", b"1_0", b"18446744073709551616", b"\xd9\xa3",
-    b"\xff",
+    b"", b"-", b"--", b"-1", b"+1", b"1 ", b" 1", b"0x10", b"1_0", b"18446744073709551616",
+    b"\xd9\xa3", b"\xff",
 ];
 
 pub struct Mutator<'a> {
@@ -100,7 +102,8 @@ impl Mutator<'_> {
             8 => {
                 let copy = bytes[start..end].to_vec();
                 let at = if self.below(2) == 0 { end } else { self.below(bytes.len() + 1) };
-                let until = if self.below(3) == 0 { (at + copy.len()).min(bytes.len()) } else { at };
+                let until =
+                    if self.below(3) == 0 { (at + copy.len()).min(bytes.len()) } else { at };
                 drop(bytes.splice(at..until, copy));
             }
             _ => bytes.truncate(start),

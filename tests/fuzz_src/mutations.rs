@@ -8,7 +8,8 @@ const RECORD_LENGTH: usize = 46;
 const NAME_OFFSET: usize = 80;
 /// The length of an event of a version 1 log before its data.
 const DATA_OFFSET: usize = 32;
-const KEYS: [&[u8]; 8] = [b"GUID", b"NAME", b"PATH", b"ALTCFG", b"OFFSET", b"WIDTH", b"VALUE", b"x"];
+const KEYS: [&[u8]; 8] =
+    [b"GUID", b"NAME", b"PATH", b"ALTCFG", b"OFFSET", b"WIDTH", b"VALUE", b"x"];
 const DIGITS: &[u8] = b"0123456789abcdefABCDEF+g=\n";
 
 /// Offset, width and edges of each field of a time.

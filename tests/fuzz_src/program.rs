@@ -155,7 +155,8 @@ fn compared(command: &commands::Command, mut ending: Ending) -> Ending {
     }
     if command.name == "blocks" {
         let lines = ending.output.split_inclusive(|c| *c == b'\n');
-        let is_head = |line: &&[u8]| !line.starts_with(b" ") && !line.ends_with(b": header at offset 0\n");
+        let is_head =
+            |line: &&[u8]| !line.starts_with(b" ") && !line.ends_with(b": header at offset 0\n");
         ending.output = lines.filter(is_head).flatten().copied().collect();
     }
     ending
@@ -176,7 +177,12 @@ pub fn run(command: &commands::Command, file: &str, input: &Input, part: usize) 
 }
 
 /// Runs the program in a process of its own, with the input in this file.
-pub fn run_process(top: &str, command: &commands::Command, file: &str, input: &Input) -> io::Result<Ending> {
+pub fn run_process(
+    top: &str,
+    command: &commands::Command,
+    file: &str,
+    input: &Input,
+) -> io::Result<Ending> {
     fs::write(file, &input.bytes)?;
     if command.takes_two {
         fs::write(other_name(file), &input.other)?;

@@ -32,7 +32,8 @@ impl<'a> FileInfo<'a> {
         if size > buffer.len() {
             return Err(Fault::NoRoom(size));
         }
-        let u64_at = |offset: usize| u64::from_le_bytes(buffer[offset..offset + 8].try_into().unwrap());
+        let u64_at =
+            |offset: usize| u64::from_le_bytes(buffer[offset..offset + 8].try_into().unwrap());
         let time_at = |offset: usize| &buffer[offset..offset + 16];
         Ok(FileInfo {
             size: u64_at(0),

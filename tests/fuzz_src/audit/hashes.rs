@@ -42,7 +42,13 @@ pub fn sha1(message: &[u8]) -> Vec<u8> {
 
 pub fn sm3(message: &[u8]) -> Vec<u8> {
     let mut state = [
-        0x7380_166fu32, 0x4914_b2b9, 0x1724_42d7, 0xda8a_0600, 0xa96f_30bc, 0x1631_38aa, 0xe38d_ee4d,
+        0x7380_166fu32,
+        0x4914_b2b9,
+        0x1724_42d7,
+        0xda8a_0600,
+        0xa96f_30bc,
+        0x1631_38aa,
+        0xe38d_ee4d,
         0xb0fb_0e4e,
     ];
     for block in padded(message, 64).chunks_exact(64) {
@@ -68,7 +74,8 @@ pub fn sm3(message: &[u8]) -> Vec<u8> {
             let one = x.wrapping_add(d).wrapping_add(second).wrapping_add(word ^ other);
             let two = y.wrapping_add(h).wrapping_add(first).wrapping_add(word);
             (a, b, c, d) = (one, a, b.rotate_left(9), c);
-            (e, f, g, h) = (two ^ two.rotate_left(9) ^ two.rotate_left(17), e, f.rotate_left(19), g);
+            (e, f, g, h) =
+                (two ^ two.rotate_left(9) ^ two.rotate_left(17), e, f.rotate_left(19), g);
         }
         for (value, more) in state.iter_mut().zip([a, b, c, d, e, f, g, h]) {
             *value ^= more;
@@ -77,8 +84,8 @@ pub fn sm3(message: &[u8]) -> Vec<u8> {
     state.iter().flat_map(|word| word.to_be_bytes()).collect()
 }
 
-/// The first 64 bits of the fractions of the square roots of the first sixteen primes, and of the cube roots
-/// of the first eighty (FIPS 180-4, 4.2.3, 5.3.4, 5.3.5).
+/// The first 64 bits of the fractions of the square roots of the first sixteen primes, and of the
+/// cube roots of the first eighty (FIPS 180-4, 4.2.3, 5.3.4, 5.3.5).
 #[rustfmt::skip]
 const SQUARE_ROOTS: [u64; 16] = [
     0x6a09e667f3bcc908, 0xbb67ae8584caa73b, 0x3c6ef372fe94f82b, 0xa54ff53a5f1d36f1,
@@ -110,22 +117,26 @@ const CUBE_ROOTS: [u64; 80] = [
     0x4cc5d4becb3e42b6, 0x597f299cfc657e2a, 0x5fcb6fab3ad6faec, 0x6c44198c4a475817,
 ];
 
-/// A function of SHA-2 over words of one size, from a first state on: by the count of rounds and the
-/// rotations of its functions, of which those of the schedule end in a shift.
+/// A function of SHA-2 over words of one size, from a first state on: by the count of rounds and
+/// the rotations of its functions, of which those of the schedule end in a shift.
 macro_rules! sha2 {
     ($name:ident, $word:ident, $rounds:literal, $early:expr, $late:expr, $low:expr, $high:expr) => {
         fn $name(first: &[u64], message: &[u8]) -> Vec<u8> {
             const WIDTH: usize = size_of::<$word>();
             let cut = |number: &u64| (number >> (64 - 8 * WIDTH)) as $word;
-            let sum = |words: &[$word]| words.iter().fold(0, |sum: $word, word| sum.wrapping_add(*word));
-            let turned = |word: $word, by: [u32; 3]| by.iter().fold(0, |all, it| all ^ word.rotate_right(*it));
+            let sum =
+                |words: &[$word]| words.iter().fold(0, |sum: $word, word| sum.wrapping_add(*word));
+            let turned = |word: $word, by: [u32; 3]| {
+                by.iter().fold(0, |all, it| all ^ word.rotate_right(*it))
+            };
             let mixed = |word: $word, [one, two, shift]: [u32; 3]| {
                 word.rotate_right(one) ^ word.rotate_right(two) ^ (word >> shift)
             };
             let mut state: Vec<$word> = first.iter().map(cut).collect();
             for block in padded(message, 16 * WIDTH).chunks_exact(16 * WIDTH) {
                 let words = block.chunks_exact(WIDTH);
-                let mut words: Vec<_> = words.map(|it| $word::from_be_bytes(it.try_into().unwrap())).collect();
+                let mut words: Vec<_> =
+                    words.map(|it| $word::from_be_bytes(it.try_into().unwrap())).collect();
                 for i in 16..$rounds {
                     let (early, late) = (mixed(words[i - 15], $early), mixed(words[i - 2], $late));
                     words.push(sum(&[words[i - 16], early, words[i - 7], late]));

@@ -72,7 +72,8 @@ pub fn ending(command: &str, input: &Input, given: Option<Option<usize>>, file: 
         message += &told;
         status = status.max(judged);
         if is_read(&log, allows) && is_read(&other, allows) {
-            output = diff::lines(Named { name: file, log: &log }, Named { name: &name, log: &other });
+            output =
+                diff::lines(Named { name: file, log: &log }, Named { name: &name, log: &other });
             status = status.max(i32::from(!output.is_empty()));
         }
     } else if is_read(&log, allows) {
