@@ -41,7 +41,7 @@ bench:  ## bench/RESULTS.md: the readers beside plain Rust
 	@bench/run
 
 rust:  ## the cargo package in rust/, written again and tested
-	@tools/erase/run && tests/rust_package
+	@rust/tools/erase/run && rust/checks/package
 
 help:  ## this list
 	@sed -n 's/^\([a-z]*\):.*  ## \(.*\)/make \1\t\2/p' Makefile | expand -t 16

@@ -1,50 +1,75 @@
 """Golden cases: a folder for each, with the files that `rt` knows of a program.
 
-`args` has an argument a line; `stdin` what is read from standard input; `data/` the files of the folder that it runs
-in, and `samples` the names of those of `samples/` that are there too; `stdout`, `stderr` and `status` what it has to
-end with. Each but `args` may be missing: then it is empty, or 0.
+`args` has an argument a line, `args0` one before each zero byte; `stdin` is what is read from
+standard input; `data/` has the files of the folder that it runs in, in whose names `%` and two hex
+digits are a byte, and `samples` the names of those of `samples/` that are there too; `stdout`,
+`stderr` and `status` are what it has to end with, where the text `*` is any but none. Each may be
+missing: then it is empty, or 0.
 """
-import os
 import shutil
 import subprocess
+import sys
 import tempfile
+from pathlib import Path
+from urllib.parse import unquote
 
-from telling import tells
+from telling import TOP, tells
 
-SAMPLES = f"{os.path.dirname(os.path.dirname(os.path.realpath(__file__)))}/samples"
+# A run that takes more seconds hangs.
+SECONDS = 600
+
+
+class Any:
+    """Equals any bytes but none."""
+
+    def __eq__(self, other):
+        return bool(other)
+
 
 def read(path):
     """The bytes of a file, none if it isn't there."""
-    if not os.path.isfile(path):
-        return b""
-    with open(path, "rb") as file:
-        return file.read()
+    return path.read_bytes() if path.is_file() else b""
 
 
 class Case:
     def __init__(self, folder):
-        self.name, self.data = os.path.basename(folder), f"{folder}/data"
-        self.samples = read(f"{folder}/samples").decode().split()
-        self.args, self.stdin = read(f"{folder}/args").splitlines(), read(f"{folder}/stdin")
-        self.expected = int(read(f"{folder}/status") or 0), read(f"{folder}/stdout"), read(f"{folder}/stderr")
+        self.name, self.data = folder.name, folder / "data"
+        self.samples = read(folder / "samples").decode().split()
+        self.args = read(folder / "args").splitlines() or read(folder / "args0").split(b"\0")[:-1]
+        self.stdin = read(folder / "stdin")
+        streams = (read(folder / name) for name in ("stdout", "stderr"))
+        out, err = (Any() if it == b"*\n" else it for it in streams)
+        self.expected = int(read(folder / "status") or 0), out, err
 
 
 def cases(folder):
     """The cases of a folder by their names, in order."""
-    return {name: Case(f"{folder}/{name}") for name in sorted(os.listdir(folder)) if os.path.isdir(f"{folder}/{name}")}
+    return {it.name: Case(it) for it in sorted(Path(folder).iterdir()) if it.is_dir()}
 
 
 def end_of(program, args, stdin=b"", **how):
     """The status and the streams that a program ends with."""
-    ran = subprocess.run([program, *args], **{"input": stdin, "stdout": subprocess.PIPE, "stderr": subprocess.PIPE, **how})
+    streams = {"input": stdin, "stdout": subprocess.PIPE, "stderr": subprocess.PIPE}
+    ran = subprocess.run([program, *args], check=False, timeout=SECONDS, **{**streams, **how})
     return ran.returncode, ran.stdout, ran.stderr
 
 
 def is_as_expected(program, case):
     """Whether a program ends as a case says, in a folder with the case's files."""
     with tempfile.TemporaryDirectory(prefix="golden-") as room:
-        if os.path.isdir(case.data):
+        if case.data.is_dir():
             shutil.copytree(case.data, room, dirs_exist_ok=True)
+        for path in Path(room).iterdir():
+            path.rename(path.with_name(unquote(path.name)))
         for name in case.samples:
-            shutil.copy(f"{SAMPLES}/{name}", room)
+            shutil.copy(f"{TOP}/samples/{name}", room)
         return tells(case.name, end_of(program, case.args, case.stdin, cwd=room), case.expected)
+
+
+def chosen(program, folder):
+    """The outcomes of a folder's cases, or of those that the command line names, and whether these
+    are all."""
+    # The first call proves and builds the program where that isn't done yet.
+    subprocess.run([program, "--version"], capture_output=True, check=False)
+    found, names = cases(folder), sys.argv[1:]
+    return [is_as_expected(program, found[it]) for it in names or found], not names

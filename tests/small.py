@@ -2,7 +2,8 @@
 import os
 import shutil
 
-TOP = os.path.dirname(os.path.dirname(os.path.realpath(__file__)))
+from telling import TOP
+
 FILES = {
     "crates.txt": "low:\nuefi_list: low\nuefi_c staticlib: low\n",
     "crates/low/src/lib.rt": """#![tactic(auto)]

@@ -11,8 +11,8 @@ mod readers;
 use measure::{Input, Size, measure};
 
 unsafe extern "C" {
-    fn user_walk(which: u32, bytes: *const u8, length: usize) -> u64;
-    fn any_walk(which: u32, bytes: *const u8, length: usize) -> u64;
+    fn user_uefi_walk(which: u32, bytes: *const u8, length: usize) -> u64;
+    fn any_uefi_walk(which: u32, bytes: *const u8, length: usize) -> u64;
     fn plain_walk(which: u32, bytes: *const u8, length: usize) -> u64;
 }
 
@@ -27,12 +27,12 @@ const LOG2_DIGESTS: u32 = 6;
 
 /// A walk over libuefi_formats_user.a.
 unsafe extern "C" fn user<const WALK: u32>(bytes: *const u8, length: usize) -> u64 {
-    unsafe { user_walk(WALK, bytes, length) }
+    unsafe { user_uefi_walk(WALK, bytes, length) }
 }
 
 /// A walk over libuefi_formats.a.
 unsafe extern "C" fn any<const WALK: u32>(bytes: *const u8, length: usize) -> u64 {
-    unsafe { any_walk(WALK, bytes, length) }
+    unsafe { any_uefi_walk(WALK, bytes, length) }
 }
 
 /// A walk by plain C.

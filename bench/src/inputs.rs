@@ -24,12 +24,13 @@ fn push_numbers(bytes: &mut Vec<u8>, numbers: impl IntoIterator<Item = u32>) {
 }
 
 fn push_digits(text: &mut Vec<u8>, count: usize, random: &mut Random) {
-    text.extend((0..count).map(|_| b"0123456789abcdef"[random.below(16) as usize]));
+    text.extend((0..count).map(|_| random.one_of(b"0123456789abcdef")));
 }
 
 /// A path of nodes with data of 0 to 24 bytes. Each 50th ends an instance.
 pub fn path(size: Size) -> Input {
-    let (nodes, words) = size.pick((5, "5 nodes"), (1_000_000, "1,000,000 nodes, an instance each 50"));
+    let (nodes, words) =
+        size.pick((5, "5 nodes"), (1_000_000, "1,000,000 nodes, an instance each 50"));
     let (mut random, mut bytes) = (Random::new(), Vec::new());
     for i in 1..nodes {
         if i % 50 == 0 {
@@ -72,7 +73,9 @@ fn log2_header(rows: usize) -> Vec<u8> {
     bytes.extend(SIGNATURE);
     bytes.extend([0, 0, 0, 0, 0, 2, 0, 2]);
     push_numbers(&mut bytes, [rows as u32]);
-    bytes.extend(ALGORITHMS[..rows].iter().flat_map(|row| [row.0, row.1]).flat_map(u16::to_le_bytes));
+    bytes.extend(
+        ALGORITHMS[..rows].iter().flat_map(|row| [row.0, row.1]).flat_map(u16::to_le_bytes),
+    );
     bytes.push(0);
     bytes
 }
@@ -165,7 +168,8 @@ pub fn configurations(size: Size) -> Input {
 /// A configuration of one element with a long value.
 pub fn value(size: Size) -> Input {
     let (digits, words) = size.pick((4096, "4,096 digits"), (64_000_000, "64,000,000 digits"));
-    let mut bytes = format!("{CONFIG_HEADER}&OFFSET=00&WIDTH={:08x}&VALUE=", digits / 2).into_bytes();
+    let mut bytes =
+        format!("{CONFIG_HEADER}&OFFSET=00&WIDTH={:08x}&VALUE=", digits / 2).into_bytes();
     push_digits(&mut bytes, digits, &mut Random::new());
     Input { size, words, bytes }
 }

@@ -6,8 +6,6 @@
 
 mod inputs;
 mod measure;
-#[path = "../../tests/rust_fuzz_src/readers.rs"]
-#[allow(dead_code, reason = "the fuzzing run calls one more")]
 mod package;
 mod plain;
 mod random;
@@ -16,7 +14,6 @@ mod readers;
 
 use inputs::STRIDE;
 use measure::{Size, measure};
-use std::hint::black_box;
 
 unsafe extern "C" {
     fn port_path(bytes: *const u8, length: usize) -> u64;
@@ -56,56 +53,38 @@ unsafe extern "C" fn port_order(bytes: *const u8, length: usize) -> u64 {
     unsafe { port_sorted(bytes, length, STRIDE) }
 }
 
-fn package_events1(bytes: &[u8]) -> u64 {
-    package::log1(bytes, black_box(bytes.len()))
-}
-
-fn package_events2(bytes: &[u8]) -> u64 {
-    package::log2(bytes, black_box(bytes.len()), black_box(false))
-}
-
-fn package_digests2(bytes: &[u8]) -> u64 {
-    package::log2(bytes, black_box(bytes.len()), black_box(true))
-}
-
-fn package_entries(bytes: &[u8]) -> u64 {
-    package::map(bytes, black_box(STRIDE))
-}
-
-fn package_order(bytes: &[u8]) -> u64 {
-    package::sorted(bytes, black_box(STRIDE))
+/// Measures the readers of one name over an input.
+macro_rules! measure_all {
+    ($reader:expr, $input:expr, $name:ident, $port:ident) => {
+        measure($reader, $input, $port, plain::$name, Some(package::$name))
+    };
 }
 
 fn measure_logs(size: Size) {
-    measure("logs: version 1", &inputs::log1(size), port_events1, plain::events1, Some(package_events1));
+    measure_all!("logs: version 1", &inputs::log1(size), events1, port_events1);
     for (rows, words) in [(2, "two digests"), (4, "four digests")] {
         let input = &inputs::log2(size, rows);
-        let (reader, each) = (&format!("logs: version 2, {words}"), &format!("logs: version 2, each of {words}"));
-        measure(reader, input, port_events2, plain::events2, Some(package_events2));
-        measure(each, input, port_digests2, plain::digests2, Some(package_digests2));
+        measure_all!(&format!("logs: version 2, {words}"), input, events2, port_events2);
+        measure_all!(&format!("logs: version 2, each of {words}"), input, digests2, port_digests2);
     }
-}
-
-fn measure_configurations(size: Size) {
-    let (value, text) = (&inputs::value(size), &inputs::configurations(size));
-    measure("long values", value, port_config_value, plain::values, Some(package::values));
-    measure("hex", &inputs::digits(size), port_hex, plain::hex, Some(package::hex));
-    measure("pairs of configurations", text, port_config_pairs, plain::pairs, Some(package::pairs));
-    measure("configurations", text, port_config, plain::configurations, Some(package::configurations));
 }
 
 fn main() {
     for size in Size::ALL {
-        let (map, path) = (&inputs::map(size), &inputs::path(size));
-        measure_configurations(size);
-        measure("names", &inputs::info(size), port_info, plain::info, Some(package::info));
-        measure("maps: entries", map, port_entries, plain::entries, Some(package_entries));
-        measure("maps: `is_sorted`", map, port_order, plain::order, Some(package_order));
+        let (map, path, text) =
+            (&inputs::map(size), &inputs::path(size), &inputs::configurations(size));
+        measure_all!("long values", &inputs::value(size), values, port_config_value);
+        measure_all!("hex", &inputs::digits(size), hex, port_hex);
+        measure_all!("pairs of configurations", text, pairs, port_config_pairs);
+        measure_all!("configurations", text, configurations, port_config);
+        measure_all!("names", &inputs::info(size), info, port_info);
+        measure_all!("maps: entries", map, entries, port_entries);
+        measure_all!("maps: `is_sorted`", map, order, port_order);
         measure_logs(size);
-        measure("PCI resources", &inputs::resources(size), port_pci, plain::resources, Some(package::resources));
-        measure("times", &inputs::times(size), port_times, plain::times, Some(package::times));
-        measure("paths: `try_from`", path, port_path, plain::path, Some(package::path));
-        measure("paths: nodes", path, port_nodes, plain::nodes, Some(package::nodes));
-        measure("paths: instances", path, port_instances, plain::instances, Some(package::instances));
+        measure_all!("PCI resources", &inputs::resources(size), resources, port_pci);
+        measure_all!("times", &inputs::times(size), times, port_times);
+        measure_all!("paths: `try_from`", path, path, port_path);
+        measure_all!("paths: nodes", path, nodes, port_nodes);
+        measure_all!("paths: instances", path, instances, port_instances);
     }
 }

@@ -24,7 +24,8 @@ pub fn path(bytes: &[u8]) -> u64 {
 }
 
 fn node_sum(rest: &[u8], stop: Stop) -> u64 {
-    sum(Nodes { rest, stop }.map(|node| u64::from(node.device_type()).wrapping_add(node.data().len() as u64)))
+    sum(Nodes { rest, stop }
+        .map(|node| u64::from(node.device_type()).wrapping_add(node.data().len() as u64)))
 }
 
 pub fn nodes(bytes: &[u8]) -> u64 {
@@ -39,8 +40,12 @@ pub fn instances(bytes: &[u8]) -> u64 {
 pub fn events1(bytes: &[u8]) -> u64 {
     let last_entry = black_box(bytes.len());
     sum(log1::Events { bytes, last_entry, offset: 0 }.map(|event| {
-        let (pcr_index, event_type) = (event.pcr_index().into(), event.event_type().into());
-        sum([pcr_index, event_type, event.digest()[0].into(), event.data.len() as u64])
+        sum([
+            event.pcr_index.into(),
+            event.event_type.into(),
+            event.digest[0].into(),
+            event.data.len() as u64,
+        ])
     }))
 }
 
@@ -69,17 +74,17 @@ pub fn digests2(bytes: &[u8]) -> u64 {
 
 pub fn entries(bytes: &[u8]) -> u64 {
     Map::new(bytes, black_box(STRIDE)).map_or(0, |map| {
-        sum(map.entries().map(|it| sum([it.ty().into(), it.phys_start(), it.page_count()])))
+        sum(map.entries().map(|it| sum([it.ty.into(), it.phys_start, it.page_count])))
     })
 }
 
 pub fn order(bytes: &[u8]) -> u64 {
     Map::new(bytes, black_box(STRIDE))
-        .map_or(0, |map| u64::from(map.entries().is_sorted_by_key(|entry| entry.phys_start())))
+        .map_or(0, |map| u64::from(map.entries().is_sorted_by_key(|entry| entry.phys_start)))
 }
 
 pub fn info(bytes: &[u8]) -> u64 {
-    FileInfo::read(bytes, bytes.len()).map_or(0, |info| (info.name().len() / 2 - 1) as u64)
+    FileInfo::read(bytes, bytes.len()).map_or(0, |info| (info.name.len() / 2 - 1) as u64)
 }
 
 pub fn times(bytes: &[u8]) -> u64 {
@@ -108,7 +113,8 @@ fn text_of(bytes: &[u8]) -> &str {
 }
 
 pub fn pairs(bytes: &[u8]) -> u64 {
-    let pair_sum = |(key, value): (&str, Option<&str>)| key.len() as u64 + value.map_or(0, str::len) as u64;
+    let pair_sum =
+        |(key, value): (&str, Option<&str>)| key.len() as u64 + value.map_or(0, str::len) as u64;
     sum(Pairs { rest: text_of(bytes) }.map(pair_sum))
 }
 

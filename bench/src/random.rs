@@ -25,6 +25,15 @@ impl Random {
         (self.next() >> 32) % limit
     }
 
+    /// An index below a length, which isn't 0.
+    pub fn index(&mut self, length: usize) -> usize {
+        self.below(length as u64) as usize
+    }
+
+    pub fn one_of<T: Copy>(&mut self, items: &[T]) -> T {
+        items[self.index(items.len())]
+    }
+
     pub fn byte(&mut self) -> u8 {
         self.next() as u8
     }

@@ -1,4 +1,4 @@
-//! The libraries, a module each. Their files are written by `tools/erase`.
+//! The libraries, a module each. Their files are written by `rust/tools/erase`.
 
 // Some fields and imports are those of the proofs, and a form is the one that is proved.
 #![allow(dead_code, unused_imports, clippy::complexity, clippy::style)]

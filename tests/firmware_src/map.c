@@ -2,19 +2,20 @@
 #include "app.h"
 
 static UefiBytes map;
-static size_t stride;
+static UINTN stride;
 
 static bool get_map(void) {
-    size_t size = 0, key;
-    uint32_t version;
+    EFI_BOOT_SERVICES *boot = firmware->BootServices;
+    UINTN size = 0, key;
+    UINT32 version;
     void *room = NULL;
-    if (firmware->boot->get_memory_map(&size, NULL, &key, &stride, &version) != EFI_BUFFER_TOO_SMALL)
+    if (boot->GetMemoryMap(&size, NULL, &key, &stride, &version) != EFI_BUFFER_TOO_SMALL)
         return false;
     /* The allocation may itself add descriptors. */
     size += 8 * stride;
-    if (firmware->boot->allocate_pool(EFI_LOADER_DATA, size, &room) != EFI_SUCCESS)
+    if (boot->AllocatePool(EfiLoaderData, size, &room) != EFI_SUCCESS)
         return false;
-    if (firmware->boot->get_memory_map(&size, room, &key, &stride, &version) != EFI_SUCCESS)
+    if (boot->GetMemoryMap(&size, room, &key, &stride, &version) != EFI_SUCCESS)
         return false;
     map = uefi_bytes(room, size);
     return true;
@@ -27,12 +28,13 @@ static void add_descriptor(Tally *tally, const UefiDescriptor *entry) {
     add_number(tally, entry->virt_start);
     add_number(tally, entry->page_count);
     add_number(tally, entry->attribute);
+    tally->count++;
 }
 
 static Tally proved_tally(void) {
     Tally tally = {0};
     UefiDescriptor entry;
-    for (; uefi_map_entry(map, stride, tally.count, &entry); tally.count++) {
+    while (uefi_map_entry(map, stride, tally.count, &entry)) {
 #ifdef PLANT
         entry.memory_type ^= tally.count == 3;
 #endif
@@ -44,34 +46,27 @@ static Tally proved_tally(void) {
 
 static Tally plain_tally(void) {
     Tally tally = {0};
+    UefiDescriptor entry;
     bool is_sorted = true;
-    for (const uint8_t *at = map.at; at < map.at + map.n; at += stride, tally.count++) {
-        UefiDescriptor entry = {u32_at(at), u32_at(at + 4), u64_at(at + 8), u64_at(at + 16), u64_at(at + 24), u64_at(at + 32)};
+    for (uint64_t last = 0; plain_map_entry(map, stride, tally.count, &entry); last = entry.phys_start) {
         add_descriptor(&tally, &entry);
-        is_sorted &= at == map.at || u64_at(at + 8 - stride) <= u64_at(at + 8);
+        is_sorted &= last <= entry.phys_start;
     }
     add_number(&tally, is_sorted);
     return tally;
 }
 
-static void try_refusals(void) {
+bool read_map(void) {
     UefiDescriptor entry = {.memory_type = 77};
+    if (!get_map())
+        return false;
     expect(uefi_map_check(map, stride), "the map is one");
     expect(!uefi_map_check(uefi_bytes(map.at, map.n - 1), stride), "a cut map");
     expect(!uefi_map_entry(map, stride, (size_t)-1, &entry) && entry.memory_type == 77, "no last descriptor");
     expect(!uefi_map_entry(map, 39, 0, &entry) && entry.memory_type == 77, "a stride of 39");
-}
-
-bool read_map(void) {
-    if (!get_map())
-        return false;
-    try_refusals();
-    text("memory map, ");
-    decimal(map.n);
-    text(" bytes, stride ");
-    decimal(stride);
-    end_tally(" descriptors", proved_tally(), plain_tally());
-    keep_file("memory.map", map);
+    print("memory map, %u bytes, stride %u", map.n, stride);
+    end_tally("descriptors", proved_tally(), plain_tally());
+    print("file memory.map %b\n", &map);
     return true;
 }
 

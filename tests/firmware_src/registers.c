@@ -4,7 +4,7 @@
 
 #define REGISTERS 24
 
-/* Each bank that firmware may use: its bit in `active_banks`, its algorithm, and the name of its files. */
+/* Each bank that firmware may use: its bit in `active_banks`, its algorithm, and the name of its lines. */
 static const struct {
     uint32_t bit;
     uint16_t algorithm;
@@ -37,7 +37,8 @@ static bool ask(EfiTcg2 *tcg2, uint16_t algorithm, unsigned first, uint8_t *resp
 }
 
 static UefiBytes log;
-static size_t log_last_entry, replayed;
+static size_t log_last_entry;
+static uint64_t replayed;
 
 /* Compares a register with what the log leaves in it. */
 static void replay(uint16_t algorithm, unsigned index, UefiBytes value) {
@@ -56,15 +57,9 @@ static unsigned keep_response(const char *bank, uint16_t algorithm, unsigned fir
     uint32_t count = big_u32(response + 24);
     const uint8_t *at = response + 28;
     for (uint32_t k = 0; k < count; k++, at += 2 + big_u16(at)) {
-        char name[16] = {0};
-        size_t n = 0;
-        for (; bank[n]; n++)
-            name[n] = bank[n];
-        name[n++] = '.';
-        name[n++] = (char)('0' + (first + k) / 10);
-        name[n++] = (char)('0' + (first + k) % 10);
-        keep_file(name, uefi_bytes(at + 2, big_u16(at)));
-        replay(algorithm, first + k, uefi_bytes(at + 2, big_u16(at)));
+        UefiBytes value = uefi_bytes(at + 2, big_u16(at));
+        print("file %s.%u %b\n", bank, (uint64_t)(first + k), &value);
+        replay(algorithm, first + k, value);
     }
     return count;
 }
@@ -86,17 +81,11 @@ void keep_registers(EfiTcg2 *tcg2, UefiBytes bytes, size_t last_entry) {
         expect(false, "the TPM's banks");
         return;
     }
-    text("banks");
     for (size_t i = 0; i < sizeof banks / sizeof *banks; i++) {
         if (!(capability.active_banks & banks[i].bit))
             continue;
-        text(" ");
-        text(banks[i].name);
+        print("bank %s\n", banks[i].name);
         keep_bank(tcg2, banks[i].algorithm, banks[i].name);
     }
-    text(", register changes ");
-    decimal(changes);
-    text(", replayed ");
-    decimal(replayed);
-    end_line();
+    print("register changes %u, replayed %u\n", (uint64_t)changes, replayed);
 }

@@ -2,7 +2,6 @@
 //! they take after FILE come from the plain [`listings`](crate::listings).
 
 use crate::audit;
-use crate::contents;
 use crate::formats::{self, Format};
 use crate::input::Input;
 use crate::listings::{self, ThirdWord};
@@ -25,19 +24,14 @@ pub struct Command {
 }
 
 pub static COMMANDS: LazyLock<Vec<Command>> = LazyLock::new(|| {
-    let list = |(name, third_word): &(&'static str, ThirdWord)| Command {
-        program: Program::List,
-        name,
-        third_word: *third_word,
-        takes_two: false,
-        format: formats::named(name),
+    let list = |&(name, third_word): &(&'static str, ThirdWord)| {
+        let (program, format) = (Program::List, formats::named(name));
+        Command { program, name, third_word, takes_two: false, format }
     };
-    let audit = |(name, _): &(&'static str, &[&str])| Command {
-        program: Program::Audit,
-        name,
-        third_word: ThirdWord::LastEntry,
-        takes_two: audit::takes_two(name),
-        format: formats::named("audit"),
+    let audit = |&(name, _): &(&'static str, &[&str])| {
+        let (program, third_word) = (Program::Audit, ThirdWord::LastEntry);
+        let (takes_two, format) = (audit::takes_two(name), formats::named("audit"));
+        Command { program, name, third_word, takes_two, format }
     };
     listings::COMMANDS.iter().map(list).chain(audit::COMMANDS.iter().map(audit)).collect()
 });
@@ -45,12 +39,8 @@ pub static COMMANDS: LazyLock<Vec<Command>> = LazyLock::new(|| {
 impl Command {
     /// The inputs that mutations begin with, those of an audit those of logs too.
     pub fn seeds(&self) -> Vec<Input> {
-        let mut seeds = self.format.seeds();
-        if self.program == Program::Audit {
-            seeds.extend(["log1", "log2"].into_iter().flat_map(|it| formats::named(it).seeds()));
-            seeds.push(formats::same_events());
-            seeds.extend(contents::inputs());
-        }
-        seeds
+        let logs: &[&str] = if self.program == Program::Audit { &["log1", "log2"] } else { &[] };
+        let formats = logs.iter().map(|log| formats::named(log)).chain([self.format]);
+        formats.flat_map(|format| format.seeds.clone()).collect()
     }
 }

@@ -7,15 +7,13 @@ use crate::listings::{self, Outcome, ThirdWord};
 use crate::program::Ending;
 use std::io;
 
-const USAGE: &[u8] = b"usage: uefi_list COMMAND FILE [ARG]\n";
-const OTHER_WORDS: i32 = 2;
+pub const USAGE: &[u8] = b"usage: uefi_list COMMAND FILE [ARG]\n";
+pub const OTHER_WORDS: i32 = 2;
 
 /// The number that a word is: digits alone, and at most 2^64 - 1.
 fn decimal(word: &[u8]) -> Option<usize> {
-    if word.is_empty() || !word.iter().all(u8::is_ascii_digit) {
-        return None;
-    }
-    word.iter().try_fold(0usize, |number, c| number.checked_mul(10)?.checked_add(usize::from(c - b'0')))
+    let is_number = !word.is_empty() && word.iter().all(u8::is_ascii_digit);
+    if is_number { str::from_utf8(word).ok()?.parse().ok() } else { None }
 }
 
 /// The number that the third word is, if it is a word that the command takes.
@@ -29,21 +27,17 @@ fn argument(kind: ThirdWord, word: Option<&[u8]>) -> Option<Option<usize>> {
 
 /// What a run ends with, whose file has this name.
 pub fn ending(command: &Command, input: &Input, file: &str) -> io::Result<Ending> {
+    let is_audit = command.program == Program::Audit;
     let word = input.third_word.as_deref();
-    if command.program == Program::Audit && word.is_none() {
-        return Ok(audit::ending(command.name, input, None, file));
+    let argument = argument(command.third_word, word);
+    if is_audit && (word.is_none() || argument.is_some()) {
+        return Ok(audit::ending(command.name, input, argument, file));
     }
-    let Some(argument) = argument(command.third_word, word) else {
-        let message = if command.program == Program::Audit { Vec::new() } else { USAGE.to_vec() };
+    let Some(argument) = argument else {
+        let message = if is_audit { Vec::new() } else { USAGE.to_vec() };
         return Ok(Ending { status: OTHER_WORDS, output: Vec::new(), message });
     };
-    if command.program == Program::Audit {
-        return Ok(audit::ending(command.name, input, Some(argument), file));
-    }
     let mut output = Vec::new();
-    let status = match listings::list(&mut output, command.name, &input.bytes, argument)? {
-        Outcome::Listed => 0,
-        Outcome::Refused => 1,
-    };
-    Ok(Ending { status, output, message: Vec::new() })
+    let outcome = listings::list(&mut output, command.name, &input.bytes, argument)?;
+    Ok(Ending { status: (outcome == Outcome::Refused).into(), output, message: Vec::new() })
 }

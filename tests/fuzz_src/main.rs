@@ -1,15 +1,15 @@
-//! Mutates rows and samples, gives each to a proved program and to plain Rust, and compares what is
-//! printed, the messages and the exit statuses.
+//! Mutates rows and samples, gives each to a proved program, to plain Rust and, of `uefi_list`, to
+//! the package in rust/, and compares what is printed, the messages and the exit statuses.
 //!
-//! `fuzz run CRATES SAMPLES ROOM SECONDS SEED THREADS` runs for that time, with its files in the
-//! folder ROOM; CRATES is the folder of the programs' crates. It starts processes `fuzz batch ..`, one
-//! after another for each thread, each of which runs many inputs; so a crash or a hang ends a batch
-//! alone.
+//! `fuzz TOP ROOM SEED SECONDS [trace]` runs one batch of inputs, which follow from SEED alone: at
+//! most 200,000, or those of so many seconds. TOP is the folder of the repository, ROOM one for
+//! files. It prints the counts of each command. A difference is in ROOM/report-SEED, and the exit
+//! status is 1. A crash or a hang ends the process; `trace` has each input in ROOM/trace-SEED while
+//! it runs.
 
 mod audit;
 mod batch;
 mod commands;
-mod contents;
 mod expected;
 mod formats;
 mod input;
@@ -17,6 +17,7 @@ mod input;
 mod listings;
 mod mutate;
 mod mutations;
+mod package;
 mod program;
 #[allow(dead_code, reason = "the bench makes its inputs with them too")]
 #[path = "../../bench/src/random.rs"]
@@ -24,31 +25,16 @@ mod random;
 #[allow(dead_code, reason = "the bench makes its inputs with them too")]
 #[path = "../../bench/src/readers/mod.rs"]
 mod readers;
-mod run;
-mod third_word;
 
 use batch::Batch;
-use run::Run;
 use std::io;
 use std::process::ExitCode;
 
-fn number(word: &str) -> io::Result<u64> {
-    word.parse().map_err(|_| io::Error::other(format!("{word} is no number")))
-}
-
 fn main() -> io::Result<ExitCode> {
     let words: Vec<String> = std::env::args().skip(1).collect();
-    let words: Vec<&str> = words.iter().map(String::as_str).collect();
-    match words.as_slice() {
-        ["run", crates, samples, room, seconds, seed, threads] => {
-            let (seconds, seed, threads) = (number(seconds)?, number(seed)?, number(threads)?);
-            Run { crates, samples, room, seconds, seed, threads }.start()
-        }
-        ["batch", crates, samples, room, seed, index, milliseconds, trace @ ..] => {
-            let (seed, index, milliseconds) = (number(seed)?, number(index)?, number(milliseconds)?);
-            let is_traced = !trace.is_empty();
-            Batch { crates, samples, room, seed, index, milliseconds, is_traced }.start()
-        }
-        _ => Err(io::Error::other("usage: fuzz run CRATES SAMPLES ROOM SECONDS SEED THREADS")),
-    }
+    let [top, room, seed, seconds, trace @ ..] = words.as_slice() else {
+        return Err(io::Error::other("usage: fuzz TOP ROOM SEED SECONDS [trace]"));
+    };
+    let seconds = seconds.parse().map_err(io::Error::other)?;
+    Batch { top, room, seed, seconds, is_traced: !trace.is_empty() }.start()
 }

@@ -9,8 +9,9 @@ use crate::commands::{self, Program};
 use crate::input::Input;
 use std::cell::RefCell;
 use std::ffi::{CStr, OsStr, c_char, c_int};
+use std::fmt::{self, Display, Formatter};
 use std::fs;
-use std::io;
+use std::io::{self, Cursor, Read};
 use std::os::unix::ffi::OsStrExt;
 use std::process::{Command, Stdio};
 
@@ -22,16 +23,22 @@ pub struct Ending {
     pub message: Vec<u8>,
 }
 
+impl Display for Ending {
+    fn fmt(&self, f: &mut Formatter<'_>) -> fmt::Result {
+        let [output, message] = [&self.output, &self.message].map(|it| String::from_utf8_lossy(it));
+        write!(f, "status {}\n{output}{message}", self.status)
+    }
+}
+
 unsafe extern "C" {
     fn uefi_list_main(count: c_int, words: *const *const c_char) -> c_int;
     fn uefi_audit_main(count: c_int, words: *const *const c_char) -> c_int;
-    fn rattle_set_errno(error: c_int);
+    safe fn rattle_set_errno(error: c_int);
 }
 
 /// The names by which the program is asked for a file. The first is read by the handle of standard
 /// input, the second is opened.
 pub const FILES: [&str; 2] = ["/dev/stdin", "input"];
-const OPENED: &CStr = c"input";
 const OTHER: &str = "-other";
 
 const STANDARD_INPUT: c_int = 0;
@@ -49,26 +56,13 @@ pub fn other_name(file: &str) -> String {
     format!("{file}{OTHER}")
 }
 
-#[derive(Default)]
-struct File {
-    bytes: Vec<u8>,
-    /// How many of them were read.
-    taken: usize,
-}
-
-impl File {
-    fn new(bytes: &[u8]) -> File {
-        File { bytes: bytes.to_vec(), taken: 0 }
-    }
-}
-
 /// What the program is given, and what it wrote.
 #[derive(Default)]
 struct Streams {
     words: Vec<Vec<u8>>,
-    input: File,
+    input: Cursor<Vec<u8>>,
     /// The other file, where the command takes two.
-    other: File,
+    other: Cursor<Vec<u8>>,
     /// How many bytes a read or a write takes at most.
     part: usize,
     output: Vec<u8>,
@@ -80,7 +74,7 @@ thread_local! {
 }
 
 fn fail(error: c_int) -> isize {
-    unsafe { rattle_set_errno(error) };
+    rattle_set_errno(error);
     -1
 }
 
@@ -99,13 +93,10 @@ extern "C" fn rattle_arg(index: usize, room: *mut u8, length: usize) -> isize {
 
 #[unsafe(no_mangle)]
 extern "C" fn fuzz_open(path: *const c_char, _flags: c_int) -> c_int {
-    let path = unsafe { CStr::from_ptr(path) };
-    if path == OPENED {
-        OPENED_FILE
-    } else if path.to_bytes().ends_with(OTHER.as_bytes()) {
-        OTHER_FILE
-    } else {
-        fail(NO_SUCH_FILE) as c_int
+    match unsafe { CStr::from_ptr(path) }.to_bytes() {
+        path if path == FILES[1].as_bytes() => OPENED_FILE,
+        path if path.ends_with(OTHER.as_bytes()) => OTHER_FILE,
+        _ => fail(NO_SUCH_FILE) as c_int,
     }
 }
 
@@ -128,25 +119,21 @@ extern "C" fn fuzz_read(handle: c_int, room: *mut u8, length: usize) -> isize {
             OTHER_FILE => &mut streams.other,
             _ => return fail(BAD_HANDLE),
         };
-        let rest = &file.bytes[file.taken..];
-        let count = rest.len().min(length).min(streams.part);
-        unsafe { room.copy_from_nonoverlapping(rest.as_ptr(), count) };
-        file.taken += count;
-        count as isize
+        let room = unsafe { std::slice::from_raw_parts_mut(room, length.min(streams.part)) };
+        file.read(room).expect("bytes in memory") as isize
     })
 }
 
 #[unsafe(no_mangle)]
 extern "C" fn fuzz_write(handle: c_int, bytes: *const u8, length: usize) -> isize {
     STREAMS.with_borrow_mut(|streams| {
-        let count = length.min(streams.part);
-        let bytes = unsafe { std::slice::from_raw_parts(bytes, count) };
+        let bytes = unsafe { std::slice::from_raw_parts(bytes, length.min(streams.part)) };
         match handle {
             STANDARD_OUTPUT => streams.output.extend_from_slice(bytes),
             STANDARD_ERROR => streams.message.extend_from_slice(bytes),
             _ => return fail(BAD_HANDLE),
         }
-        count as isize
+        bytes.len() as isize
     })
 }
 
@@ -168,7 +155,8 @@ fn compared(command: &commands::Command, mut ending: Ending) -> Ending {
     }
     if command.name == "blocks" {
         let lines = ending.output.split_inclusive(|c| *c == b'\n');
-        let is_head = |line: &&[u8]| !line.starts_with(b" ") && !line.ends_with(b": header at offset 0\n");
+        let is_head =
+            |line: &&[u8]| !line.starts_with(b" ") && !line.ends_with(b": header at offset 0\n");
         ending.output = lines.filter(is_head).flatten().copied().collect();
     }
     ending
@@ -178,19 +166,19 @@ fn compared(command: &commands::Command, mut ending: Ending) -> Ending {
 pub fn run(command: &commands::Command, file: &str, input: &Input, part: usize) -> Ending {
     let (name, mut words) = words(command, file, input);
     words.insert(0, Vec::from(name));
-    let (other, input) = (File::new(&input.other), File::new(&input.bytes));
+    let [input, other] = [&input.bytes, &input.other].map(|bytes| Cursor::new(bytes.clone()));
     STREAMS.set(Streams { words, input, other, part, ..Streams::default() });
     let status = match command.program {
         Program::List => unsafe { uefi_list_main(0, std::ptr::null()) },
         Program::Audit => unsafe { uefi_audit_main(0, std::ptr::null()) },
     };
-    let streams = STREAMS.take();
-    compared(command, Ending { status, output: streams.output, message: streams.message })
+    let Streams { output, message, .. } = STREAMS.take();
+    compared(command, Ending { status, output, message })
 }
 
 /// Runs the program in a process of its own, with the input in this file.
 pub fn run_process(
-    crates: &str,
+    top: &str,
     command: &commands::Command,
     file: &str,
     input: &Input,
@@ -201,7 +189,7 @@ pub fn run_process(
     }
     let (name, words) = words(command, file, input);
     let words = words.iter().map(|word| OsStr::from_bytes(word));
-    let program = format!("{crates}/{name}/out/{name}");
+    let program = format!("{top}/crates/{name}/out/{name}");
     let ran = Command::new(program).args(words).stdin(Stdio::null()).output()?;
     // A signal isn't a status of the program.
     let status = ran.status.code().unwrap_or(-1);

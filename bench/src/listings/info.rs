@@ -22,13 +22,13 @@ pub fn list(out: &mut impl Write, bytes: &[u8], written: usize) -> io::Result<Ou
 }
 
 fn list_info(out: &mut impl Write, info: &FileInfo<'_>) -> io::Result<()> {
-    let (size, file, physical) = (info.size(), info.file_size(), info.physical_size());
-    writeln!(out, "size {size}\nfile {file}\nphysical {physical}")?;
-    writeln!(out, "created {}", Hex(info.create_time()))?;
-    writeln!(out, "accessed {}", Hex(info.last_access_time()))?;
-    writeln!(out, "modified {}", Hex(info.modification_time()))?;
-    write!(out, "attribute {:#x}\nname", info.attribute())?;
-    let (units, _) = info.name().as_chunks::<2>();
+    let FileInfo { size, file_size, physical_size, attribute, .. } = info;
+    writeln!(out, "size {size}\nfile {file_size}\nphysical {physical_size}")?;
+    writeln!(out, "created {}", Hex(info.create_time))?;
+    writeln!(out, "accessed {}", Hex(info.last_access_time))?;
+    writeln!(out, "modified {}", Hex(info.modification_time))?;
+    write!(out, "attribute {attribute:#x}\nname")?;
+    let (units, _) = info.name.as_chunks::<2>();
     let (_nul, units) = units.split_last().unwrap();
     if !units.is_empty() {
         write!(out, " ")?;

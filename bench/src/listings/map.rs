@@ -1,7 +1,7 @@
 //! The listing of a memory map.
 
 use super::Outcome;
-use crate::readers::map::Map;
+use crate::readers::map::{Descriptor, Map};
 use std::io::{self, Write};
 
 pub fn list(out: &mut impl Write, bytes: &[u8], stride: usize) -> io::Result<Outcome> {
@@ -11,11 +11,10 @@ pub fn list(out: &mut impl Write, bytes: &[u8], stride: usize) -> io::Result<Out
     };
     let (mut sorted, mut count, mut last) = (true, 0, 0);
     for entry in map.entries() {
-        let (ty, start, pages) = (entry.ty(), entry.phys_start(), entry.page_count());
-        let (virt_start, attributes) = (entry.virt_start(), entry.attributes());
-        writeln!(out, "entry {ty} {start:#x} {virt_start:#x} {pages} {attributes:#x}")?;
-        sorted &= last <= start;
-        last = start;
+        let Descriptor { ty, phys_start, virt_start, page_count, attributes } = entry;
+        writeln!(out, "entry {ty} {phys_start:#x} {virt_start:#x} {page_count} {attributes:#x}")?;
+        sorted &= last <= phys_start;
+        last = phys_start;
         count += 1;
     }
     writeln!(out, "sorted {}\nentries {count}", if sorted { "yes" } else { "no" })?;

@@ -12,7 +12,15 @@ pub enum Fault {
 }
 
 pub struct FileInfo<'a> {
-    bytes: &'a [u8],
+    pub size: u64,
+    pub file_size: u64,
+    pub physical_size: u64,
+    pub create_time: &'a [u8],
+    pub last_access_time: &'a [u8],
+    pub modification_time: &'a [u8],
+    pub attribute: u64,
+    /// The bytes of the name with its NUL.
+    pub name: &'a [u8],
 }
 
 impl<'a> FileInfo<'a> {
@@ -24,48 +32,19 @@ impl<'a> FileInfo<'a> {
         if size > buffer.len() {
             return Err(Fault::NoRoom(size));
         }
-        Ok(FileInfo { bytes: &buffer[..end] })
-    }
-
-    fn u64_at(&self, offset: usize) -> u64 {
-        u64::from_le_bytes(self.bytes[offset..offset + 8].try_into().unwrap())
-    }
-
-    fn time_at(&self, offset: usize) -> &'a [u8] {
-        &self.bytes[offset..offset + 16]
-    }
-
-    pub fn size(&self) -> u64 {
-        self.u64_at(0)
-    }
-
-    pub fn file_size(&self) -> u64 {
-        self.u64_at(8)
-    }
-
-    pub fn physical_size(&self) -> u64 {
-        self.u64_at(16)
-    }
-
-    pub fn create_time(&self) -> &'a [u8] {
-        self.time_at(24)
-    }
-
-    pub fn last_access_time(&self) -> &'a [u8] {
-        self.time_at(40)
-    }
-
-    pub fn modification_time(&self) -> &'a [u8] {
-        self.time_at(56)
-    }
-
-    pub fn attribute(&self) -> u64 {
-        self.u64_at(72)
-    }
-
-    /// The bytes of the name with its NUL.
-    pub fn name(&self) -> &'a [u8] {
-        &self.bytes[NAME_OFFSET..]
+        let u64_at =
+            |offset: usize| u64::from_le_bytes(buffer[offset..offset + 8].try_into().unwrap());
+        let time_at = |offset: usize| &buffer[offset..offset + 16];
+        Ok(FileInfo {
+            size: u64_at(0),
+            file_size: u64_at(8),
+            physical_size: u64_at(16),
+            create_time: time_at(24),
+            last_access_time: time_at(40),
+            modification_time: time_at(56),
+            attribute: u64_at(72),
+            name: &buffer[NAME_OFFSET..end],
+        })
     }
 }
 

@@ -3,33 +3,19 @@
 const LENGTH: usize = 40;
 
 #[derive(Clone, Copy)]
-pub struct Descriptor<'a> {
-    bytes: &'a [u8; LENGTH],
+pub struct Descriptor {
+    pub ty: u32,
+    pub phys_start: u64,
+    pub virt_start: u64,
+    pub page_count: u64,
+    pub attributes: u64,
 }
 
-impl Descriptor<'_> {
-    fn u64_at(&self, offset: usize) -> u64 {
-        u64::from_le_bytes(self.bytes[offset..offset + 8].try_into().unwrap())
-    }
-
-    pub fn ty(&self) -> u32 {
-        u32::from_le_bytes(self.bytes[..4].try_into().unwrap())
-    }
-
-    pub fn phys_start(&self) -> u64 {
-        self.u64_at(8)
-    }
-
-    pub fn virt_start(&self) -> u64 {
-        self.u64_at(16)
-    }
-
-    pub fn page_count(&self) -> u64 {
-        self.u64_at(24)
-    }
-
-    pub fn attributes(&self) -> u64 {
-        self.u64_at(32)
+impl Descriptor {
+    fn read(bytes: &[u8; LENGTH]) -> Descriptor {
+        let number = |i: usize| u64::from_le_bytes(bytes.as_chunks().0[i]);
+        let [ty, phys_start, virt_start, page_count, attributes] = std::array::from_fn(number);
+        Descriptor { ty: ty as u32, phys_start, virt_start, page_count, attributes }
     }
 }
 
@@ -48,12 +34,11 @@ impl<'a> Map<'a> {
         Some(Map { buffer, stride, length: buffer.len() / stride })
     }
 
-    fn get(&self, i: usize) -> Option<Descriptor<'a>> {
+    fn get(&self, i: usize) -> Option<Descriptor> {
         if i >= self.length {
             return None;
         }
-        let bytes = self.buffer.get(i * self.stride..)?.first_chunk()?;
-        Some(Descriptor { bytes })
+        self.buffer.get(i * self.stride..)?.first_chunk().map(Descriptor::read)
     }
 
     pub fn entries(&self) -> Entries<'a> {
@@ -67,10 +52,10 @@ pub struct Entries<'a> {
     index: usize,
 }
 
-impl<'a> Iterator for Entries<'a> {
-    type Item = Descriptor<'a>;
+impl Iterator for Entries<'_> {
+    type Item = Descriptor;
 
-    fn next(&mut self) -> Option<Descriptor<'a>> {
+    fn next(&mut self) -> Option<Descriptor> {
         let entry = self.map.get(self.index)?;
         self.index += 1;
         Some(entry)

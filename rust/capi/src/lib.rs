@@ -1,7 +1,7 @@
 //! The functions of `uefi_formats.h`, for each target of rustc.
 //!
 //! `tools/build_c PREFIX --target TARGET` makes a static library of this package. The functions are
-//! written by `tools/erase` from proved source, over the package `uefi-formats`. The module `bytes` is
+//! written by `rust/tools/erase` from proved source, over the package `uefi-formats`. The module `bytes` is
 //! written by hand, and has the only `unsafe` blocks.
 #![no_std]
 #![deny(unsafe_op_in_unsafe_fn, improper_ctypes_definitions)]

@@ -7,7 +7,7 @@ extern crate alloc;
 mod text;
 mod hex;
 #[allow(dead_code, unused_imports, clippy::complexity, clippy::style)]
-mod uefi_listing;
+pub mod uefi_listing;
 
 mod support;
 

@@ -12,13 +12,9 @@ mod log;
 use crate::input::Input;
 use crate::program::{Ending, other_name};
 use diff::Named;
-use hashes::Sha2;
-use json::{hex, text};
+use json::{array, hex, hex_text, object, text};
 use log::{BANKS, Event, LastEntry, Log, NO_ACTION, Outcome, hash, replay};
 use std::collections::BTreeSet;
-use std::sync::LazyLock;
-
-static SHA2: LazyLock<Sha2> = LazyLock::new(Sha2::new);
 
 /// How many rows a table may have.
 const MAX_ROWS: usize = 256;
@@ -76,7 +72,8 @@ pub fn ending(command: &str, input: &Input, given: Option<Option<usize>>, file: 
         message += &told;
         status = status.max(judged);
         if is_read(&log, allows) && is_read(&other, allows) {
-            output = diff::lines(Named { name: file, log: &log }, Named { name: &name, log: &other });
+            output =
+                diff::lines(Named { name: file, log: &log }, Named { name: &name, log: &other });
             status = status.max(i32::from(!output.is_empty()));
         }
     } else if is_read(&log, allows) {
@@ -137,7 +134,7 @@ fn shown(words: &[&str], log: &Log<'_>, file: &str) -> (String, String, i32) {
 /// The PCRs of each active bank.
 fn replays(log: &Log<'_>) -> Vec<(&'static str, Vec<Outcome>)> {
     let active = BANKS.iter().filter(|bank| log.is_active(bank.1));
-    active.map(|bank| (bank.0, replay(log, &SHA2, *bank))).collect()
+    active.map(|bank| (bank.0, replay(log, *bank))).collect()
 }
 
 /// What standard error is told of a replay, and the status that follows.
@@ -212,32 +209,28 @@ fn algorithm_json(algorithm: u16) -> String {
 }
 
 fn json_line(log: &Log<'_>, found: &[(&str, Vec<Outcome>)], file: &str) -> String {
+    let undetermined = |(register, it): (usize, &Outcome)| {
+        let (index, reason) = it.as_ref().err()?;
+        let (offset, register) = (log.events[*index].offset, register.to_string());
+        let (index, offset) = (("index", index.to_string()), ("offset", offset.to_string()));
+        Some(object(&[index, offset, ("reason", text(reason)), ("register", register)]))
+    };
     let bank = |(bank, outcomes): &(&str, Vec<Outcome>)| {
-        let value = |it: &Outcome| it.as_ref().map_or("null".to_owned(), |value| text(&hex(value)));
-        let values: Vec<String> = outcomes.iter().map(value).collect();
-        let undetermined = |(register, it): (usize, &Outcome)| {
-            let (index, reason) = it.as_ref().err()?;
-            let (offset, reason) = (log.events[*index].offset, text(reason));
-            let place = format!("\"index\":{index},\"offset\":{offset}");
-            Some(format!("{{{place},\"reason\":{reason},\"register\":{register}}}"))
-        };
-        let others: Vec<String> = outcomes.iter().enumerate().filter_map(undetermined).collect();
-        let (values, others) = (values.join(","), others.join(","));
-        format!("{{\"algorithm\":\"{bank}\",\"registers\":[{values}],\"undetermined\":[{others}]}}")
+        let value = |it: &Outcome| it.as_ref().map_or("null".to_owned(), |value| hex_text(value));
+        let (registers, others) = (outcomes.iter().map(value), outcomes.iter().enumerate());
+        let (registers, others) = (array(registers), array(others.filter_map(undetermined)));
+        object(&[("algorithm", text(bank)), ("registers", registers), ("undetermined", others)])
     };
     let part = |count: usize| match count {
         0 => "null".to_owned(),
-        _ => format!("{{\"count\":{count},\"offset\":{}}}", log.end),
+        _ => object(&[("count", count.to_string()), ("offset", log.end.to_string())]),
     };
-    let banks: Vec<String> = found.iter().map(bank).collect();
-    let (banks, left_over, padding) = (banks.join(","), part(log.left_over), part(log.padding));
-    let (locality, name) = (log.locality(), text(file));
-    let (number, stated) = (locality.unwrap_or(0), locality.is_some());
-    let locality = format!("{{\"number\":{number},\"stated\":{stated}}}");
-    format!(
-        "{{\"banks\":[{banks}],\"left_over\":{left_over},\"locality\":{locality},\"log\":{name},\
-         \"padding\":{padding}}}\n"
-    )
+    let (locality, banks) = (log.locality(), array(found.iter().map(bank)));
+    let (number, stated) = (locality.unwrap_or(0).to_string(), locality.is_some().to_string());
+    let locality = object(&[("number", number), ("stated", stated)]);
+    let (left_over, padding) = (("left_over", part(log.left_over)), ("padding", part(log.padding)));
+    let log = ("log", text(file));
+    object(&[("banks", banks), left_over, ("locality", locality), log, padding]) + "\n"
 }
 
 /// The first line of each event's block.
@@ -256,27 +249,28 @@ fn events(log: &Log<'_>, file: &str) -> String {
 
 fn event_line(index: usize, event: &Event<'_>, file: &str) -> String {
     let digest = |(algorithm, digest): &(u16, &[u8])| {
-        let (algorithm, digest) = (algorithm_json(*algorithm), hex(digest));
-        format!("{{\"algorithm\":{algorithm},\"digest\":\"{digest}\"}}")
+        object(&[("algorithm", algorithm_json(*algorithm)), ("digest", hex_text(digest))])
     };
-    let digests: Vec<String> = event.digests.iter().map(digest).collect();
     let hashes = BANKS.iter().filter(|bank| is_hash(event, bank.1, event.data));
-    let hashes: Vec<String> = hashes.map(|bank| text(bank.0)).collect();
-    let name = type_name(event.kind).map(|name| format!("\"name\":\"EV_{name}\","));
-    let (content, data, name) = (content::content(event), hex(event.data), name.unwrap_or_default());
-    let (digests, hashes, log) = (digests.join(","), hashes.join(","), text(file));
-    let Event { offset, register, kind, .. } = event;
-    format!(
-        "{{\"content\":{content},\"data\":\"{data}\",\"digests\":[{digests}],\"hashes_to\":[{hashes}],\
-         \"index\":{index},\"log\":{log},\"offset\":{offset},\"register\":{register},\
-         \"type\":{{{name}\"number\":{kind}}}}}\n"
-    )
+    let name = type_name(event.kind).map(|name| ("name", text(&format!("EV_{name}"))));
+    let kind: Vec<_> = name.into_iter().chain([("number", event.kind.to_string())]).collect();
+    object(&[
+        ("content", content::content(event)),
+        ("data", hex_text(event.data)),
+        ("digests", array(event.digests.iter().map(digest))),
+        ("hashes_to", array(hashes.map(|bank| text(bank.0)))),
+        ("index", index.to_string()),
+        ("log", text(file)),
+        ("offset", event.offset.to_string()),
+        ("register", event.register.to_string()),
+        ("type", object(&kind)),
+    ]) + "\n"
 }
 
 /// Whether an event has one digest of an algorithm, which is the hash of this message.
 fn is_hash(event: &Event<'_>, algorithm: u16, message: &[u8]) -> bool {
     let digests: Vec<_> = event.digests.iter().filter(|it| it.0 == algorithm).collect();
-    matches!(digests.as_slice(), [(_, digest)] if *digest == hash(&SHA2, algorithm, message))
+    matches!(digests.as_slice(), [(_, digest)] if *digest == hash(algorithm, message))
 }
 
 /// The name of a type without `EV_` (TCG PC Client Platform Firmware Profile 1.06, 10.4.1).

@@ -1,6 +1,6 @@
 //! Variables, and what their values say by GUID and name.
 
-use super::super::SHA2;
+use super::super::hashes::sha256;
 use super::super::json::{array, hex_text, object, text};
 use super::first_path;
 use super::reading::{Member, characters, guid, number, units};
@@ -96,6 +96,6 @@ fn signature(bytes: &[u8]) -> Option<String> {
     if data.len() <= LONGEST_HASH {
         return Some(object(&[("data", hex_text(data)), owner]));
     }
-    let sha256 = ("sha256", hex_text(&SHA2.sha256(data)));
+    let sha256 = ("sha256", hex_text(&sha256(data)));
     Some(object(&[("length", data.len().to_string()), owner, sha256]))
 }

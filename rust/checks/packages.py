@@ -11,6 +11,9 @@ TARGETS = {
     "s390x-unknown-linux-gnu": ("s390x", "s390x-linux-gnu", "s390x"),
     "i686-unknown-linux-gnu": ("i386", "i686-linux-gnu", None),
 }
+# The packages for a prefix of tools and an architecture, beside the standard library.
+TOOLS = ["gcc-{0}", "gcc-12-{0}", "binutils-{0}", "libc6-dev-{1}-cross", "libc6-{1}-cross", "libgcc-12-dev-{1}-cross",
+         "libgcc-s1-{1}-cross"]
 COMPILER = ["rustc-web", f"libstd-rust-web-{VERSION}", "libllvm19"]
 
 

@@ -2,12 +2,14 @@
 import os
 import random
 import subprocess
+import sys
 from concurrent.futures import ThreadPoolExecutor
 
+TOP = os.path.dirname(os.path.dirname(os.path.dirname(os.path.realpath(__file__))))
+sys.path.insert(0, f"{TOP}/tests")
 from golden import cases
 from telling import tells
 
-TOP = os.path.dirname(os.path.dirname(os.path.realpath(__file__)))
 # The program without the script that builds it first.
 PROGRAM = f"{TOP}/crates/uefi_list/out/uefi_list"
 # The words after FILE that each command is tried with, over files of any kind.
