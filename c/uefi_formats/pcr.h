@@ -55,7 +55,8 @@ typedef struct {
 #define UEFI_PCR_UNKNOWN_LOCALITY 4u /* it states a locality at which no TPM is started: not 0, 3 or 4 */
 #define UEFI_PCR_OTHER_LOCALITY 5u   /* it states another locality than an event before it, or than the 4 of
                                       * a hardware CRTM */
-#define UEFI_PCR_LATE_LOCALITY 6u    /* it states the locality after PCR 0 was extended */
+#define UEFI_PCR_LATE_LOCALITY 6u    /* it states the locality after PCR 0 was extended, but not by a
+                                      * hardware CRTM */
 
 /* Replays a log: writes what each of the 24 PCRs holds, a value, or the first
  * event by which it is undetermined. False if the bank of the algorithm can't
