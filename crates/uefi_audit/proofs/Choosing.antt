@@ -1,5 +1,5 @@
 -- A text that grows by a line, or by nothing.
-use Rattle.std.proofs.Common.{◌≡◌, ℕ, List, [], ◌++◌, append-nil, refl, sym}
+use Rattle.std.proofs.Common.{◌≡◌, ℕ, List, [], ◌++◌, append-nil, sym}
 use Rattle.std.specs.Prelude.{Bool, true, false, if◌then◌else◌}
 
 pub grows_by_none : (none : Bool) (line old : List ℕ) → none ≡ true → old ≡ old ++ (if none then [] else line)

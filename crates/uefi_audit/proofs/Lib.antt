@@ -4,3 +4,4 @@ pub mod Comparing
 pub mod Growing
 pub mod Reporting
 pub mod Requests
+pub mod Verifying

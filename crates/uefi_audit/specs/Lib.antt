@@ -6,6 +6,7 @@ pub mod Reports
 pub mod ReplayReport
 pub mod EventsReport
 pub mod Comparison
+pub mod Missing
 pub mod Verification
 pub mod Held
 pub mod CommandLine

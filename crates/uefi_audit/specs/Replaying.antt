@@ -1,5 +1,5 @@
 -- How PCR 0 starts by the command line and the log, and what `replay` says of the PCRs that a log leads to.
-use Rattle.std.specs.Prelude.{◌≡◌, ℕ, Bool, true, false, ◌||◌, ◌==◌, List, [], ◌∷◌, ◌++◌, length, codes, flat_map, map, is_err, string_bytes, Option, None, Some, is_some, if◌then◌else◌}
+use Rattle.std.specs.Prelude.{◌≡◌, ℕ, Bool, true, false, ◌||◌, ◌==◌, List, [], ◌∷◌, ◌++◌, length, codes, flat_map, map, is_err, Option, None, Some, is_some, if◌then◌else◌}
 use Rattle.std.specs.List.{list_any}
 use Rattle.uefi_tcg.specs.v2.Event.{Table}
 use Rattle.pcr_replay.specs.Entries.{Contents, Entry}

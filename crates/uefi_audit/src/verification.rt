@@ -1,15 +1,20 @@
-ghost use Rattle.std.specs.Prelude.{◌≡◌, false, filter, map, IfOk, OnOk};
+ghost use Rattle.std.specs.Prelude.{◌≡◌, ◌++◌, false, filter, map, IfOk, OnOk};
 ghost use Rattle.uefi_base.specs.Appending.{AppendsText};
+ghost use Rattle.uefi_tcg.specs.v2.Event.{Table};
 ghost use Rattle.pcr_replay.specs.Entries.{Contents};
 ghost use Rattle.pcr_replay.specs.Logs.{HasContents};
 ghost use Rattle.pcr_replay.specs.Start.{start_at};
 ghost use Rattle.uefi_auditing.specs.Replay.{bank_outcomes_of, replayed};
 ghost use Rattle.uefi_auditing.specs.json.Verdict.{verdict_line};
 ghost use Rattle.uefi_auditing.specs.text.Names.{shown_name};
+ghost use Rattle.uefi_auditing.specs.text.Remarks.{ignored_lines, start_lines};
 ghost use Rattle.uefi_auditing.specs.verify.Verdict.{verdict_lines, verdict_of};
-ghost use Rattle.uefi_audit.specs.Judging.{verdict_status};
+ghost use Rattle.uefi_audit.specs.Judging.{HasTable, verdict_status};
+ghost use Rattle.uefi_audit.specs.Missing.{missing_lines};
+ghost use Rattle.uefi_audit.specs.Notes.{has_no_pcr, inactive_lines};
 ghost use Rattle.uefi_audit.specs.Replaying.{is_selected, is_stated};
-ghost use Rattle.uefi_audit.specs.Verification.{verdict_text};
+ghost use Rattle.uefi_audit.specs.Reports.{GrowBy};
+ghost use Rattle.uefi_audit.specs.Verification.{IsVerdict, IsVerdictUnless, IsVerification, IsVerificationBy, StartsBy, verdict_text};
 
 use crate::checking::shown;
 use crate::failure::Status;
@@ -41,7 +46,11 @@ pub(crate) fn verification_report(
     asked: &Verification<'_>,
     held: &[HeldPcr],
     selection: &Option<PcrSelection>,
-) -> Result<Report, AllocError> {
+) -> Result<Report, AllocError>
+    ensures { (table : Table) (contents : Contents) → HasTable file.now.log table
+        → HasContents file.now.log contents → IfOk result
+        (IsVerification file.now reading asked.now selection.now held.now table contents) }
+{
     let mut told = String::new(alloc);
     let mut text = String::new(alloc);
     let judgement = push_judgement(&mut told, file, reading)?;
@@ -52,6 +61,7 @@ pub(crate) fn verification_report(
 }
 
 /// Appends what is printed of a log with this judgement. Returns the status.
+#[tactic(auto, unfolding(crate::specs::Verification::IsVerificationBy))]
 fn push_by_judgement(
     told: &mut String,
     text: &mut String,
@@ -61,7 +71,11 @@ fn push_by_judgement(
     held: &[HeldPcr],
     selection: &Option<PcrSelection>,
     judgement: Judgement,
-) -> Result<Status, AllocError> {
+) -> Result<Status, AllocError>
+    ensures { (contents : Contents) → HasContents file.now.log contents → IfOk result
+        (GrowBy told.old told.new text.old text.new
+        (IsVerificationBy judgement file.now asked.now selection.now held.now contents)) }
+{
     match judgement {
         Judgement::Accepted => push_verification(told, text, alloc, file, asked, held, selection),
         _ => Ok(Status::Unjudged),
@@ -78,7 +92,12 @@ fn push_verification(
     asked: &Verification<'_>,
     held: &[HeldPcr],
     selection: &Option<PcrSelection>,
-) -> Result<Status, AllocError> {
+) -> Result<Status, AllocError>
+    ensures { (contents : Contents) → HasContents file.now.log contents → IfOk result
+        (GrowBy told.old told.new text.old text.new (IsVerdictUnless
+        (missing_lines asked.now.registers.now selection.now held.now) file.now asked.now contents
+        (filter (is_selected selection.now) held.now))) }
+{
     let missing = missing_lines(alloc, asked.registers, held, selection)?;
     if !missing.is_empty() {
         told.push_str(missing.as_str())?;
@@ -121,10 +140,15 @@ fn push_compared(
     file: &LogFile<'_>,
     asked: &Verification<'_>,
     held: &[HeldPcr],
-) -> Result<Status, AllocError> {
-    let banks = held_banks(alloc, held)?;
-    let (assumed, replays) = nearest_replay(alloc, file, asked.locality, held, banks.as_slice())?;
-    let is_ignored = push_notes(told, file, banks.as_slice(), &assumed)?;
+) -> Result<Status, AllocError>
+    ensures { (contents : Contents) → HasContents file.now.log contents → IfOk result
+        (GrowBy told.old told.new text.old text.new
+        (IsVerdict file.now asked.now contents held.now)) }
+{
+    let compared = held_banks(alloc, held)?;
+    let banks = compared.as_slice();
+    let (assumed, replays) = nearest_replay(alloc, file, asked.locality, held, banks)?;
+    let is_ignored = push_notes(told, file, banks, &assumed)?;
     let verdict = push_formatted(
         text,
         alloc,
@@ -144,7 +168,15 @@ fn push_notes(
     file: &LogFile<'_>,
     banks: &[Bank],
     assumed: &Assumed,
-) -> Result<bool, AllocError> {
+) -> Result<bool, AllocError>
+    ensures notes { (contents : Contents) → HasContents file.now.log contents → OnOk result
+        (AppendsText told.old told.new
+        (start_lines file.now.name.now assumed.now.start assumed.now.is_stated
+        ++ inactive_lines file.now.name.now contents.entries banks.now
+        ++ ignored_lines file.now.name.now contents.entries)) }
+    ensures ignored { (contents : Contents) → HasContents file.now.log contents
+        → IfOk result (λ ignored. ignored ≡ has_no_pcr contents.entries) }
+{
     push_start(told, file.name, &assumed.start, assumed.is_stated)?;
     push_inactive(told, file, banks)?;
     push_without_effect(told, file)
@@ -186,6 +218,9 @@ fn nearest_replay(
         ≡ map (replayed found.0.start contents.entries) banks.now) }
     ensures stated { (contents : Contents) → HasContents file.now.log contents
         → IfOk result (λ found. found.0.is_stated ≡ is_stated locality contents.entries) }
+    ensures start { (contents : Contents) → HasContents file.now.log contents
+        → IfOk result (λ found. StartsBy (is_stated locality contents.entries) locality
+        contents.entries held.now banks.now found.0.start) }
 {
     let assumed = start_of(file, locality);
     if assumed.is_stated {
@@ -195,11 +230,14 @@ fn nearest_replay(
     let first = replay_at(alloc, &file.log, banks, LOCALITIES[0])?;
     let second = replay_at(alloc, &file.log, banks, LOCALITIES[1])?;
     let third = replay_at(alloc, &file.log, banks, LOCALITIES[2])?;
-    match nearest(held, first.as_slice(), second.as_slice(), third.as_slice()) {
-        0 => Ok((assumed_at(LOCALITIES[0]), first)),
-        1 => Ok((assumed_at(LOCALITIES[1]), second)),
-        _ => Ok((assumed_at(LOCALITIES[2]), third)),
+    let index = nearest(held, first.as_slice(), second.as_slice(), third.as_slice());
+    if index == 0 {
+        return Ok((assumed_at(LOCALITIES[0]), first));
     }
+    if index == 1 {
+        return Ok((assumed_at(LOCALITIES[1]), second));
+    }
+    Ok((assumed_at(LOCALITIES[2]), third))
 }
 
 /// Returns what the PCRs of these banks hold in a TPM that was started at a locality.
