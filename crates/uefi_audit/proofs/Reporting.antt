@@ -19,7 +19,7 @@ use Rattle.uefi_audit.specs.Judging.{judged_status, judgement_lines, judgement_o
 use Rattle.uefi_audit.specs.Notes.{has_no_pcr}
 use Rattle.uefi_audit.specs.Replaying.{AreBankNotes, asked_pcrs, has_undetermined, is_stated, is_unjudged, replay_status, start_by, text_of}
 use Rattle.uefi_audit.specs.ReplayReport.{IsPcrReport, IsReplayReport, IsReportBy, IsUnreadReport}
-use Rattle.uefi_audit.specs.Reports.{GrowBy}
+use Rattle.uefi_audit.specs.private.Reports.{GrowBy}
 use Rattle.uefi_audit.specs.declared.failure.Status.{Status}
 use Rattle.uefi_audit.specs.declared.failure.Status.TheVariants.{Well}
 use Rattle.uefi_audit.specs.declared.judging.Judgement.{Judgement}

@@ -23,7 +23,7 @@ use Rattle.uefi_auditing.specs.declared.verify.selection.PcrSelection.{PcrSelect
 use Rattle.uefi_audit.specs.Judging.{judgement_lines, judgement_of, verdict_status}
 use Rattle.uefi_audit.specs.Notes.{has_no_pcr, inactive_lines}
 use Rattle.uefi_audit.specs.Replaying.{is_stated, start_by}
-use Rattle.uefi_audit.specs.Reports.{GrowBy}
+use Rattle.uefi_audit.specs.private.Reports.{GrowBy}
 use Rattle.uefi_audit.specs.Verification.{IsRefusal, IsVerdict, IsVerdictUnless, IsVerification, IsVerificationBy, StartsBy, localities, replayed_at, verdict_text}
 use Rattle.uefi_audit.specs.declared.failure.Status.{Status}
 use Rattle.uefi_audit.specs.declared.failure.Status.TheVariants.{Unjudged}

@@ -2,7 +2,7 @@ pub mod Ends
 pub mod Judging
 pub mod Notes
 pub mod Replaying
-pub mod Reports
+pub mod private
 pub mod ReplayReport
 pub mod EventsReport
 pub mod Comparison

@@ -14,7 +14,7 @@ ghost use Rattle.uefi_audit.specs.Judging.{HasTable};
 ghost use Rattle.uefi_audit.specs.Notes.{has_no_pcr};
 ghost use Rattle.uefi_audit.specs.Replaying.{AreBankNotes, has_undetermined, is_stated, left_over_text, name_line, replay_status, start_by, text_of};
 ghost use Rattle.uefi_audit.specs.ReplayReport.{IsPcrReport, IsReplayReport, IsReportBy};
-ghost use Rattle.uefi_audit.specs.Reports.{GrowBy};
+ghost use Rattle.uefi_audit.specs.private.Reports.{GrowBy};
 
 use crate::failure::Status;
 use crate::judging::{Judgement, push_judgement};

@@ -13,7 +13,7 @@ ghost use Rattle.uefi_audit.specs.Judging.{HasTable, verdict_status};
 ghost use Rattle.uefi_audit.specs.Missing.{missing_lines};
 ghost use Rattle.uefi_audit.specs.Notes.{has_no_pcr, inactive_lines};
 ghost use Rattle.uefi_audit.specs.Replaying.{is_selected, is_stated};
-ghost use Rattle.uefi_audit.specs.Reports.{GrowBy};
+ghost use Rattle.uefi_audit.specs.private.Reports.{GrowBy};
 ghost use Rattle.uefi_audit.specs.Verification.{IsVerdict, IsVerdictUnless, IsVerification, IsVerificationBy, StartsBy, verdict_text};
 
 use crate::checking::shown;

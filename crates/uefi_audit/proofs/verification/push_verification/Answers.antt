@@ -1,6 +1,6 @@
 use Rattle.std.proofs.Common.{◌∙◌, ◌++◌, ap, string_bytes, subst, sym}
 use Rattle.std.proofs.lemmas.Result.{IfOk-weaker}
-use Rattle.uefi_audit.specs.Reports.{GrowBy}
+use Rattle.uefi_audit.specs.private.Reports.{GrowBy}
 use Rattle.uefi_audit.specs.Verification.{IsVerdict}
 use Rattle.uefi_audit.proofs.Verifying.{missing_report, no_lines, some_lines, whole_report}
 use Rattle.uefi_audit.proofs.verification.push_verification.Goals as goal
