@@ -5,8 +5,7 @@
 //! Begin with [`Log::new`], which takes a log's bytes and what is known of its last entry, and with
 //! [`replay`], which returns what the 24 PCRs of a [`Bank`] hold: each a value, or the first event
 //! by which it is undetermined. [`Log::entries`] returns the events, each with its offset,
-//! [`Log::padding`] the padding after the last one, and [`Log::left_over`] other bytes after it: a
-//! log is whole if there are none.
+//! [`Log::padding`] the padding after the last one, and [`Log::left_over`] other bytes after it.
 //!
 //! Nothing here allocates memory.
 
