@@ -4,6 +4,7 @@ Libraries for which the most functions wait come first. How many run at a time f
 free memory.
 """
 import concurrent.futures
+import math
 import os
 import re
 import subprocess
@@ -16,10 +17,6 @@ import crates
 TOP = crates.TOP
 # What a proof of one library is planned to take of memory, in bytes.
 MEMORY_OF_A_RUN = 3_500_000_000
-# To start a crate's proof takes about as long as so many functions.
-FUNCTIONS_A_START = 10
-# The time that is left is told once this share of the functions is proved, and up to that one.
-KNOWN_SHARES = (0.1, 0.95)
 # Lines of `rt` that only say how much of which library was read.
 READING = re.compile("(statements|library|logic|note:) ")
 
@@ -43,10 +40,6 @@ def free_memory():
     """The bytes of memory that are free for new work."""
     with open("/proc/meminfo", encoding="utf-8") as file:
         return 1024 * int(re.search(r"MemAvailable:\s+(\d+)", file.read())[1])
-
-
-def shown_time(seconds):
-    return f"about {seconds / 60:.0f} minutes" if seconds > 90 else f"about {max(seconds, 10) / 10:.0f}0 seconds"
 
 
 class Progress:
@@ -80,35 +73,17 @@ class Progress:
         outcome = "is proved" if is_proved else "is NOT proved"
         self.say(f"{name} {outcome}, {self.totals[name]} functions in {self.took[name]:.0f} seconds; {self.left()}")
 
-    def seconds_on(self, name):
-        """How long the proof of a crate took, or has run."""
-        return self.took.get(name, time.monotonic() - self.began.get(name, time.monotonic()))
-
-    def rate(self):
-        """The seconds that a function takes, by the crates of which some are proved; 0 if there are none."""
-        known = [name for name in self.totals if self.proved[name]]
-        work = sum(self.proved[name] + FUNCTIONS_A_START for name in known)
-        return sum(map(self.seconds_on, known)) / work if work else 0
-
-    def open_work(self, name):
-        """How much of a crate is left, in functions. The prover doesn't always say: then the time that has passed does."""
-        whole, rate = self.totals[name] + FUNCTIONS_A_START, self.rate()
-        done = self.proved[name] + FUNCTIONS_A_START if self.proved[name] else rate and min(self.seconds_on(name) / rate, 0.9 * whole)
-        return 0 if name in self.took else whole - done
-
     def chain(self, name):
-        """How much is left of a crate and, one after another, of those that wait for it."""
+        """How many functions are left of a crate and, one after another, of those that wait for it."""
         waiting = [self.chain(it) for it in self.totals if name in self.uses[it]]
-        return self.open_work(name) + max(waiting, default=0)
+        return self.totals[name] - self.proved[name] + max(waiting, default=0)
 
     def left(self):
-        """The time that is left where it is known, else the crates that are."""
+        """The minutes that are left at the pace so far; where they are few or unknown, the crates that are."""
         names = [it for it in self.totals if it not in self.took]
-        share = sum(self.proved.values()) / sum(self.totals.values())
-        if not KNOWN_SHARES[0] <= share <= KNOWN_SHARES[1]:
-            return f"left: {' '.join(names) or 'none'}"
-        longest = max(sum(map(self.open_work, names)) / self.at_once, *map(self.chain, self.totals))
-        return f"{shown_time(self.rate() * longest)} left"
+        pace = sum(self.took.values()) / sum(map(self.totals.get, self.took)) if self.took else 0
+        minutes = math.ceil(pace * max(map(self.chain, names), default=0) / 60)
+        return f"about {minutes} minutes left" if minutes > 1 else f"left: {' '.join(names) or 'none'}"
 
     def tell(self):
         while not self.ended.wait(1 if self.is_terminal else 30):
@@ -147,15 +122,10 @@ def prove_libraries(inside, libraries, progress):
         while waiting or running:
             under_way = {*waiting, *(library for library, _ in running.values())}
             free = progress.at_once - sum(jobs for _, jobs in running.values())
-            ready = [it for it in waiting if under_way.isdisjoint(it.below())][: max(free, 0)]
-            idle = free - len(ready)
-            later = [it for it in waiting if it not in ready]
+            ready = [it for it in waiting if under_way.isdisjoint(it.below())][:free]
             for it in ready:
-                # A second job takes a third more processor time: it serves only where a processor has
-                # nothing else to do. A third serves only a library for which all that come later wait.
-                most = idle if all(it in other.below() for other in later) else 1
-                jobs = 1 + max(0, min(idle, most))
-                idle -= jobs - 1
+                # Processors that have nothing else to do help with a library.
+                jobs = free // len(ready)
                 waiting.remove(it)
                 running[pool.submit(prove_library, inside, it, jobs, progress)] = it, jobs
             done, _ = concurrent.futures.wait(running, return_when=concurrent.futures.FIRST_COMPLETED)
