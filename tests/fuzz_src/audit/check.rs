@@ -1,8 +1,8 @@
 //! Which digests are the hash of what an event's type measures (docs/AUDIT.md).
 
-use super::events::variable;
-use super::hashes::BANKS;
+use super::events::variable_parts;
 use super::log::{Event, Log, kind_name};
+use super::replay::{BANKS, Bank};
 use crate::program::Ending;
 use std::collections::BTreeMap;
 
@@ -23,7 +23,7 @@ fn measured(event: &Event<'_>, form: &str) -> Option<Vec<u8>> {
         (0x04..=0x06 | 0x08 | 0x0a | 0x0b | IPL | 0x12, "data") => Some(data.to_vec()),
         (0x8000_0001 | 0x8000_0002 | 0x8000_0006 | 0x8000_0007, "data") => Some(data.to_vec()),
         (0x8000_000c | 0x8000_00e0, "data") => Some(data.to_vec()),
-        (0x8000_0002 | 0x8000_000c, "variable value") => Some(variable::parts(data)?.2.to_vec()),
+        (0x8000_0002 | 0x8000_000c, "variable value") => Some(variable_parts(data)?.2.to_vec()),
         (IPL, "without NUL") => data.strip_suffix(&[0]).map(Vec::from),
         (IPL, "with NUL") => Some([data, &[0]].concat()),
         (IPL, "command") => {
@@ -42,8 +42,8 @@ fn measured(event: &Event<'_>, form: &str) -> Option<Vec<u8>> {
 /// Whether an event has digests of known banks, and each is the hash of what it measures in a form.
 fn matches(event: &Event<'_>, form: &str) -> bool {
     let Some(message) = measured(event, form) else { return false };
-    let has = |algorithm| !event.digests_of(algorithm).is_empty();
-    let mut banks = BANKS.iter().filter(|bank| has(bank.algorithm)).peekable();
+    let has = |bank: &&Bank| !event.digests_of(bank).is_empty();
+    let mut banks = BANKS.iter().filter(has).peekable();
     banks.peek().is_some() && banks.all(|bank| event.is_hash(bank, &message))
 }
 

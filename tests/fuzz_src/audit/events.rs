@@ -1,12 +1,17 @@
 //! The events of a log in JSON and in lines, and what their data say.
 
-pub mod variable;
-
-use super::hashes::BANKS;
 use super::json::{LONGEST, array, hex, hex_text, object, shown, text};
-use super::log::{Event, NO_ACTION, kind_name, locality, type_name};
-use crate::readers::log2;
+use super::log::{Event, NO_ACTION, kind_name, type_name};
+use super::replay::{BANKS, SHA256};
+use crate::readers::log2::Header;
 use crate::readers::path::{Node, Nodes, Stop, split};
+
+const AUTHORITY: u32 = 0x8000_00e0;
+const GLOBAL: &str = "8be4df61-93ca-11d2-aa0d-00e098032b8c";
+const IMAGE_SECURITY: &str = "d719b2cb-3d3a-4596-a3bc-dad00e67656f";
+const SHIM: &str = "605dab50-e046-4300-abb6-3dd810dd8b23";
+/// The longest data of a signature that are shown whole.
+const LONGEST_HASH: usize = 80;
 
 /// The first line of an event's block.
 pub fn head(event: &Event<'_>) -> String {
@@ -41,14 +46,14 @@ pub fn said(event: &Event<'_>) -> Option<Said> {
     let mut data = event.data;
     match event.kind {
         0x01 => printed(data).or_else(|| blob(None, data)),
-        NO_ACTION => locality(data).map(|it| numbered("locality", it)).or_else(|| header(data)),
+        NO_ACTION => event.stated().map(|it| numbered("locality", it)).or_else(|| header(data)),
         0x04 => data.try_into().ok().map(|it| numbered("separator", u32::from_le_bytes(it))),
         0x05 | 0x12 | 0x8000_0007 | 0x8000_0010 => printed(data),
         0x06 => Some(tagged_events(data)),
         0x08 => version(data).map(|it| text_said("crtm_version", &it)),
         0x0d => any_text(data).map(|it| text_said("text", &it)),
         0x13 | 0x8000_000a => counted(&mut data, 1).and_then(|it| blob(Some(it), data)),
-        0x8000_0001 | 0x8000_0002 | 0x8000_000c | 0x8000_00e0 => variable::said(event),
+        0x8000_0001 | 0x8000_0002 | 0x8000_000c | 0x8000_00e0 => variable(event),
         0x8000_0003..=0x8000_0005 => image(data),
         0x8000_0006 | 0x8000_000d => partition_table(data),
         0x8000_0008 => blob(None, data),
@@ -72,11 +77,10 @@ fn printed(data: &[u8]) -> Option<Said> {
 
 /// A text in ASCII, or else in UTF-16, without the NUL that may end it.
 fn any_text(data: &[u8]) -> Option<String> {
-    let ascii = data.strip_suffix(&[0]).unwrap_or(data);
-    if ascii.iter().all(|byte| (1..0x80).contains(byte)) {
-        return Some(str::from_utf8(ascii).unwrap().to_owned());
-    }
-    let units = units(data)?;
+    let mut ascii = data.strip_suffix(&[0]).unwrap_or(data).iter();
+    let is_ascii = ascii.all(|byte| (1..0x80).contains(byte));
+    let bytes = data.iter().copied().map(u16::from);
+    let units = if is_ascii { bytes.collect() } else { units(data)? };
     let text = units.strip_suffix(&[0]).unwrap_or(&units);
     (!text.contains(&0)).then(|| characters(text))
 }
@@ -114,11 +118,10 @@ fn tagged_events(mut rest: &[u8]) -> Said {
 fn header(data: &[u8]) -> Option<Said> {
     let length = (data.len() as u32).to_le_bytes();
     let event = [&[0, 0, 0, 0, 3, 0, 0, 0], &[0; 20][..], &length, data].concat();
-    let header = log2::Header::read(&event, 0)?;
+    let Header { platform_class, version: [major, minor, errata], uintn_size, rows, vendor, .. } =
+        Header::read(&event, 0)?;
     let row = |(number, size): (u16, u16)| object!(algorithm: algorithm(number), size);
-    let algorithms = array(header.rows.iter().map(row));
-    let ([major, minor, errata], vendor_info) = (header.version, hex_text(header.vendor));
-    let (platform_class, uintn_size) = (header.platform_class, header.uintn_size);
+    let (algorithms, vendor_info) = (array(rows.iter().map(row)), hex_text(vendor));
     let json = object!(algorithms, errata, major, minor, platform_class, uintn_size, vendor_info);
     Some(Said("header", json, "header".to_owned()))
 }
@@ -176,6 +179,78 @@ fn last_file(nodes: &[Node<'_>]) -> Option<String> {
     let units = units(file.data()).filter(|units| !units.is_empty())?;
     let name = characters(&units[..units.len().min(LONGEST)]);
     Some(shown(&name.replace('\\', "/").replace('\0', "")))
+}
+
+/// The GUID of a variable, its name and its value.
+pub fn variable_parts(mut data: &[u8]) -> Option<(String, String, &[u8])> {
+    let owner = guid(&mut data)?;
+    let (count, size) = (number(&mut data, 8)?, number(&mut data, 8)?);
+    let name = units(data.split_off(..(count as usize).checked_mul(2)?)?)?;
+    (data.len() as u64 == size).then(|| (owner, characters(&name), data))
+}
+
+fn variable(event: &Event<'_>) -> Option<Said> {
+    let (guid, name, data) = variable_parts(event.data)?;
+    let value = variable_value(event.kind, &guid, &name, data).unwrap_or_default();
+    let json = object!(data: hex_text(data), guid: text(&guid), name: text(&name), value);
+    Some(Said("variable", json, format!("variable {}", shown(&name))))
+}
+
+/// What a value says, if it is read. In an event of an authority it is one signature.
+fn variable_value(kind: u32, guid: &str, name: &str, data: &[u8]) -> Option<String> {
+    let number = name.strip_prefix("Boot").and_then(|it| u16::from_str_radix(it, 16).ok());
+    match (kind, guid, name) {
+        (AUTHORITY, IMAGE_SECURITY, _) | (AUTHORITY, SHIM, "MokList") => {
+            Some(object!(signature: signature(data)?))
+        }
+        (AUTHORITY, ..) => None,
+        (_, GLOBAL, "BootOrder") => Some(object!(boot_order: array(units(data)?))),
+        (_, GLOBAL, "PK" | "KEK") | (_, IMAGE_SECURITY, "db" | "dbx") => {
+            Some(object!(signature_lists: signature_lists(data)?))
+        }
+        (_, GLOBAL, name) if number.is_some_and(|it| name == format!("Boot{it:04X}")) => {
+            Some(object!(boot_option: boot_option(data)?))
+        }
+        _ => None,
+    }
+}
+
+/// A load option (UEFI 2.10, 3.1.3).
+fn boot_option(mut data: &[u8]) -> Option<String> {
+    let (attributes, length) = (number(&mut data, 4)?, number(&mut data, 2)?);
+    let count = data.chunks_exact(2).position(|unit| unit == [0, 0])?;
+    let description = text(&characters(&units(data.split_off(..2 * count)?)?));
+    let (paths, rest) = data[2..].split_at_checked(length as usize)?;
+    let (optional_data, path) = (hex_text(rest), path_json(&first_path(paths)?.0));
+    Some(object!(attributes, description, optional_data, path))
+}
+
+/// The lists of a database (UEFI 2.10, 32.4.1).
+fn signature_lists(mut data: &[u8]) -> Option<String> {
+    let next = || (!data.is_empty()).then(|| signature_list(&mut data));
+    std::iter::from_fn(next).collect::<Option<Vec<_>>>().map(array)
+}
+
+fn signature_list(data: &mut &[u8]) -> Option<String> {
+    let length = number(&mut data.get(16..)?, 4)?;
+    let mut list = data.split_off(..length as usize)?;
+    let (kind, _length) = (text(&guid(&mut list)?), number(&mut list, 4)?);
+    let (header_length, size) = (number(&mut list, 4)?, number(&mut list, 4)? as usize);
+    let header = hex_text(list.split_off(..header_length as usize)?);
+    if size < 16 || list.len() % size != 0 {
+        return None;
+    }
+    let signatures: Option<Vec<_>> = list.chunks_exact(size).map(signature).collect();
+    Some(object!(header, signatures: array(signatures?), type: kind))
+}
+
+/// The owner of a signature, and its data: whole, or their hash.
+fn signature(mut data: &[u8]) -> Option<String> {
+    let owner = text(&guid(&mut data)?);
+    if data.len() <= LONGEST_HASH {
+        return Some(object!(data: hex_text(data), owner));
+    }
+    Some(object!(length: data.len(), owner, sha256: hex_text(&SHA256.hash(data))))
 }
 
 /// The number that bytes begin with, which are taken away.

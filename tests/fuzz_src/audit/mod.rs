@@ -7,7 +7,6 @@ mod json;
 mod check;
 mod diff;
 mod events;
-mod hashes;
 mod log;
 mod replay;
 
@@ -50,24 +49,24 @@ pub fn words(command: &str, third_word: Option<&[u8]>, file: &str) -> Vec<Vec<u8
 
 /// What a run ends with, whose file has this name.
 pub fn ending(command: &str, input: &Input, given: Option<Option<usize>>, file: &str) -> Ending {
-    let (mut end, other) = (Ending::default(), other_name(file));
-    let mut logs = vec![Log::read(file, &input.bytes, given)];
-    if takes_two(command) {
-        logs.push(Log::read(&other, &input.other, given));
-    }
-    let allows_left_over = !command.starts_with("whole");
-    let are_read = logs.iter().map(|log| is_read(log, allows_left_over, &mut end));
-    if are_read.collect::<Vec<_>>().contains(&false) {
+    let (mut end, other_name) = (Ending::default(), other_name(file));
+    let log = Log::read(file, &input.bytes, given);
+    let other = Log::read(&other_name, &input.other, given);
+    let mut is_read = |log| is_read(log, !command.starts_with("whole"), &mut end);
+    if [is_read(&log), !takes_two(command) || is_read(&other)].contains(&false) {
         return end;
     }
-    let output = match (command, logs.as_slice()) {
-        ("events", [log]) => log.events.iter().map(events::json_line).collect(),
-        ("blocks", [log]) => log.events.iter().map(events::head).collect(),
-        ("check", [log]) => check::lines(log, &mut end),
-        ("json", [log]) => replay::json_line(log, &replay::replays(log, &mut end)),
-        (_, [log]) => replay::listing(&replay::replays(log, &mut end)),
-        (_, logs) => diff::lines(&logs[0], &logs[1], &mut end),
+    let output = match command {
+        "events" => log.events.iter().map(events::json_line).collect(),
+        "blocks" => log.events.iter().map(events::head).collect(),
+        "check" => check::lines(&log, &mut end),
+        "json" => replay::json_line(&log, &replay::replays(&log, &mut end)),
+        "diff" | "whole_diff" => diff::lines(&log, &other),
+        _ => replay::listing(&replay::replays(&log, &mut end)),
     };
+    if takes_two(command) && !output.is_empty() {
+        end.status = end.status.max(1);
+    }
     Ending { output: output.into_bytes(), ..end }
 }
 

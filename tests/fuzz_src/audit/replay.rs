@@ -1,60 +1,86 @@
-//! The PCRs that a log leads to.
+//! The banks, with their hash functions by the system's OpenSSL, and the PCRs that a log leads to.
 
-use super::hashes::{BANKS, Bank};
 use super::json::{array, hex, hex_text, text};
-use super::log::{Event, HCRTM, Log, NO_ACTION, REGISTERS, locality};
+use super::log::{Event, HCRTM, Log, NO_ACTION, REGISTERS};
 use super::{UNJUDGED, tell};
 use crate::program::Ending;
 use std::collections::BTreeSet;
+use std::ffi::{CStr, c_char, c_int, c_void};
+use std::ptr::{null, null_mut};
+
+/// A bank that can be replayed.
+pub struct Bank {
+    pub name: &'static str,
+    pub algorithm: u16,
+    /// The length of a digest.
+    pub size: usize,
+    /// The name of the hash function in OpenSSL.
+    function: &'static CStr,
+}
+
+#[rustfmt::skip]
+pub const BANKS: &[Bank] = &[
+    Bank { name: "sha1", algorithm: 0x04, size: 20, function: c"SHA1" },
+    SHA256,
+    Bank { name: "sha384", algorithm: 0x0c, size: 48, function: c"SHA384" },
+    Bank { name: "sha512", algorithm: 0x0d, size: 64, function: c"SHA512" },
+    Bank { name: "sm3_256", algorithm: 0x12, size: 32, function: c"SM3" },
+];
+pub const SHA256: Bank = Bank { name: "sha256", algorithm: 0x0b, size: 32, function: c"SHA256" };
+
+#[rustfmt::skip]
+unsafe extern "C" {
+    fn EVP_Q_digest(
+        library: *const c_void, function: *const c_char, properties: *const c_char,
+        message: *const u8, length: usize, digest: *mut u8, digest_length: *mut usize,
+    ) -> c_int;
+}
+
+impl Bank {
+    pub fn hash(&self, message: &[u8]) -> Vec<u8> {
+        let mut digest = vec![0; self.size];
+        let (name, room) = (self.function.as_ptr(), digest.as_mut_ptr());
+        let (start, length) = (message.as_ptr(), message.len());
+        let done = unsafe { EVP_Q_digest(null(), name, null(), start, length, room, null_mut()) };
+        assert_eq!(done, 1, "OpenSSL has no {:?}", self.function);
+        digest
+    }
+}
 
 /// What a PCR holds; or the first event by which it is undetermined, and why.
 type Outcome<'a> = Result<Vec<u8>, (&'a Event<'a>, &'static str)>;
 
-/// A bank with what its PCRs hold.
-type Replayed<'a> = (&'static Bank, Vec<Outcome<'a>>);
+/// A bank, the number of a PCR, and what that holds.
+type Replayed<'a> = (&'static Bank, u32, Outcome<'a>);
 
-/// Why an event contradicts the locality at which the TPM was started.
-fn contradiction(log: &Log<'_>, event: &Event<'_>) -> Option<&'static str> {
-    let stated = event.stated()?;
-    let extends = |it: &Event<'_>| it.register == 0 && it.is_measured() && it.kind != HCRTM;
-    if ![0, 3, 4].contains(&stated) {
-        Some("states a locality other than 0, 3 and 4")
-    } else if Some(stated) != log.locality() {
-        Some("states another locality than PCR 0 starts at")
-    } else {
-        let is_extended = log.events[..event.index].iter().any(extends);
-        is_extended.then_some("states the locality after PCR 0 was extended")
+/// What the events of a log lead to in a PCR.
+fn replay<'a>(log: &'a Log<'a>, bank: &Bank, pcr: u32) -> Outcome<'a> {
+    let is_launched = log.measured().any(|event| (17..23).contains(&event.register));
+    let start = if (17..23).contains(&pcr) && !is_launched { 0xff } else { 0 };
+    let (mut value, locality) = (vec![start; bank.size], log.locality().unwrap_or(0));
+    if pcr == 0 {
+        value[bank.size - 1] = locality;
     }
-}
-
-/// What a PCR of this value holds after an event, or why that is undetermined.
-fn extended(value: &[u8], event: &Event<'_>, bank: &Bank) -> Result<Vec<u8>, &'static str> {
-    match event.digests_of(bank.algorithm).as_slice() {
-        [] => Err("has no digest of the bank"),
-        [digest] if digest.len() == bank.size => Ok(bank.hash(&[value, digest].concat())),
-        [_] => Err("has a digest of another length"),
-        _ => Err("has two digests of the bank or more"),
-    }
-}
-
-fn replay<'a>(log: &'a Log<'a>, bank: &'static Bank) -> Replayed<'a> {
-    let mut values = vec![vec![0; bank.size]; REGISTERS as usize];
-    if !log.measured().any(|event| (17..23).contains(&event.register)) {
-        values[17..23].fill(vec![0xff; bank.size]);
-    }
-    values[0][bank.size - 1] = log.locality().unwrap_or(0);
-    let mut outcomes: Vec<Outcome<'_>> = values.into_iter().map(Ok).collect();
-    for event in log.events.iter().filter(|event| event.register < REGISTERS) {
-        let outcome = &mut outcomes[event.register as usize];
-        let Ok(value) = outcome else { continue };
-        let next = match contradiction(log, event) {
-            Some(fault) => Err(fault),
-            None if event.is_measured() => extended(value, event, bank),
-            None => continue,
+    let mut is_extended = false;
+    for event in log.events.iter().filter(|event| event.register == pcr) {
+        let stated = event.stated().filter(|_| pcr == 0);
+        let fault = match (stated, event.digests_of(bank).as_slice()) {
+            (Some(it), _) if ![0, 3, 4].contains(&it) => "states a locality other than 0, 3 and 4",
+            (Some(it), _) if it != locality => "states another locality than PCR 0 starts at",
+            (Some(_), _) if is_extended => "states the locality after PCR 0 was extended",
+            _ if event.kind == NO_ACTION => continue,
+            (_, []) => "has no digest of the bank",
+            (_, [digest]) if digest.len() == bank.size => {
+                value = bank.hash(&[&value, *digest].concat());
+                is_extended |= event.kind != HCRTM;
+                continue;
+            }
+            (_, [_]) => "has a digest of another length",
+            _ => "has two digests of the bank or more",
         };
-        *outcome = next.map_err(|fault| (event, fault));
+        return Err((event, fault));
     }
-    (bank, outcomes)
+    Ok(value)
 }
 
 /// The PCRs of each active bank, about which standard error is told.
@@ -62,10 +88,10 @@ pub fn replays<'a>(log: &'a Log<'a>, end: &mut Ending) -> Vec<Replayed<'a>> {
     if log.locality().is_none() {
         tell(end, log, 0, "states no locality; PCR 0 starts at locality 0");
     }
-    let mut found = Vec::new();
+    let mut found: Vec<Replayed<'_>> = Vec::new();
     for bank in BANKS {
-        if log.measured().any(|event| !event.digests_of(bank.algorithm).is_empty()) {
-            found.push(replay(log, bank));
+        if log.measured().any(|event| !event.digests_of(bank).is_empty()) {
+            found.extend((0..REGISTERS).map(|pcr| (bank, pcr, replay(log, bank, pcr))));
         } else if log.algorithms.contains(&bank.algorithm) {
             tell(end, log, 0, &format!("no event has a digest of the bank {}", bank.name));
         }
@@ -79,12 +105,10 @@ pub fn replays<'a>(log: &'a Log<'a>, end: &mut Ending) -> Vec<Replayed<'a>> {
     if found.is_empty() {
         end.status = UNJUDGED;
     }
-    for (Bank { name, .. }, outcomes) in &found {
-        for (pcr, outcome) in outcomes.iter().enumerate() {
-            let Err((event, fault)) = outcome else { continue };
-            let what = format!("{name}: PCR {pcr} is undetermined: {} {fault}", event.place());
-            tell(end, log, UNJUDGED, &what);
-        }
+    for (Bank { name, .. }, pcr, outcome) in &found {
+        let Err((event, fault)) = outcome else { continue };
+        let what = format!("{name}: PCR {pcr} is undetermined: {} {fault}", event.place());
+        tell(end, log, UNJUDGED, &what);
     }
     tell_of_ignored(log, end);
     found
@@ -96,7 +120,7 @@ fn tell_of_ignored(log: &Log<'_>, end: &mut Ending) {
         let (place, pcr) = (event.place(), event.register);
         if event.kind != NO_ACTION && pcr >= REGISTERS {
             tell(end, log, 1, &format!("{place} is of PCR {pcr}, which no TPM has"));
-        } else if event.kind == NO_ACTION && pcr != 0 && locality(event.data).is_some() {
+        } else if pcr != 0 && event.stated().is_some() {
             tell(end, log, 0, &format!("{place} states the locality, and isn't of PCR 0"));
         }
     }
@@ -104,34 +128,31 @@ fn tell_of_ignored(log: &Log<'_>, end: &mut Ending) {
 
 /// The PCRs of each bank as `tpm2_pcrread` prints them.
 pub fn listing(found: &[Replayed<'_>]) -> String {
-    let mut lines = String::new();
-    for (bank, outcomes) in found {
-        lines += &format!("  {}:\n", bank.name);
-        for (number, outcome) in outcomes.iter().enumerate() {
-            let value = outcome.as_ref().map(|value| format!("0x{}", hex(value).to_uppercase()));
-            lines += &format!("    {number:<2}: {}\n", value.unwrap_or("undetermined".to_owned()));
-        }
-    }
-    lines
+    let line = |(bank, pcr, outcome): &Replayed<'_>| {
+        let head = if *pcr == 0 { format!("  {}:\n", bank.name) } else { String::new() };
+        let value = outcome.as_ref().map(|value| format!("0x{}", hex(value).to_uppercase()));
+        format!("{head}    {pcr:<2}: {}\n", value.unwrap_or("undetermined".to_owned()))
+    };
+    found.iter().map(line).collect()
 }
 
 pub fn json_line(log: &Log<'_>, found: &[Replayed<'_>]) -> String {
-    let undetermined = |(register, outcome): (usize, &Outcome<'_>)| {
+    let undetermined = |(_, register, outcome): &Replayed<'_>| {
         let (Event { index, offset, .. }, fault) = outcome.as_ref().err()?;
         Some(object!(index, offset, reason: text(fault), register))
     };
-    let value = |it: &Outcome<'_>| it.as_ref().map_or("null".to_owned(), |value| hex_text(value));
-    let bank = |(bank, outcomes): &Replayed<'_>| {
-        let registers = array(outcomes.iter().map(value));
-        let undetermined = array(outcomes.iter().enumerate().filter_map(undetermined));
-        object!(algorithm: text(bank.name), registers, undetermined)
+    let value = |it: &Replayed<'_>| it.2.as_ref().map_or("null".to_owned(), |it| hex_text(it));
+    let bank = |bank: &[Replayed<'_>]| {
+        let (algorithm, registers) = (text(bank[0].0.name), array(bank.iter().map(value)));
+        object!(algorithm, registers, undetermined: array(bank.iter().filter_map(undetermined)))
     };
     let part = |is_it: bool| match log.rest {
         count @ 1.. if is_it => object!(count, offset: log.end),
         _ => "null".to_owned(),
     };
     let (left_over, padding) = (part(!log.is_padded), part(log.is_padded));
-    let (banks, locality) = (array(found.iter().map(bank)), log.locality());
-    let locality = object!(number: locality.unwrap_or(0), stated: locality.is_some());
+    let banks = array(found.chunks(REGISTERS as usize).map(bank));
+    let (number, stated) = (log.locality().unwrap_or(0), log.locality().is_some());
+    let locality = object!(number, stated);
     object!(banks, left_over, locality, log: text(log.name), padding) + "\n"
 }
