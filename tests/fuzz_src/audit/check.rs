@@ -2,7 +2,7 @@
 
 use super::events::variable_parts;
 use super::log::{Event, Log, kind_name};
-use super::replay::{BANKS, Bank};
+use super::replay::BANKS;
 use crate::program::Ending;
 use std::collections::BTreeMap;
 
@@ -42,8 +42,7 @@ fn measured(event: &Event<'_>, form: &str) -> Option<Vec<u8>> {
 /// Whether an event has digests of known banks, and each is the hash of what it measures in a form.
 fn matches(event: &Event<'_>, form: &str) -> bool {
     let Some(message) = measured(event, form) else { return false };
-    let has = |bank: &&Bank| !event.digests_of(bank).is_empty();
-    let mut banks = BANKS.iter().filter(has).peekable();
+    let mut banks = BANKS.iter().filter(|bank| !event.digests_of(bank).is_empty()).peekable();
     banks.peek().is_some() && banks.all(|bank| event.is_hash(bank, &message))
 }
 
@@ -52,10 +51,12 @@ pub fn lines(log: &Log<'_>, end: &mut Ending) -> String {
     let (mut lines, mut types) = (String::new(), BTreeMap::<u32, Vec<&str>>::new());
     for event in &log.events {
         let kind = event.kind;
-        let has_none = |form| measured(event, form).is_none();
-        let may_be_outside = has_none("data") || kind == TAG || kind == IPL && has_none("command");
-        let other = if may_be_outside { OUTSIDE } else { NONE };
-        let form = FORMS.into_iter().find(|form| matches(event, form)).unwrap_or(other);
+        let lacks = |form| measured(event, form).is_none();
+        let form = match FORMS.into_iter().find(|form| matches(event, form)) {
+            Some(form) => form,
+            None if lacks("data") || kind == TAG || kind == IPL && lacks("command") => OUTSIDE,
+            None => NONE,
+        };
         types.entry(kind).or_default().push(form);
         if form == NONE {
             let place = format!("{} ({}, PCR {})", event.place(), kind_name(kind), event.register);

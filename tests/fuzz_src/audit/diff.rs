@@ -11,9 +11,8 @@ fn identity<'a>(event: &'a Event<'a>) -> (u32, u32, &'a [(u16, &'a [u8])], &'a [
 /// The type of an event, what its data say, and where it is.
 fn named(event: &Event<'_>) -> String {
     let kind = type_name(event.kind).unwrap_or_else(|| format!("type {:#x}", event.kind));
-    let words = said(event).map(|it| it.2).filter(|words| !words.is_empty());
-    let words = words.map(|words| format!(", {words}")).unwrap_or_default();
-    format!("{kind}{words} ({} of {})", event.place(), event.log)
+    let words = said(event).map(|it| it.2).filter(|it| !it.is_empty()).map(|it| format!(", {it}"));
+    format!("{kind}{} ({} of {})", words.unwrap_or_default(), event.place(), event.log)
 }
 
 fn line(event: &Event<'_>, what: &str) -> String {
@@ -29,10 +28,9 @@ fn only_lines(events: &[&Event<'_>], others: &[&Event<'_>], log: &Log<'_>) -> St
 
 /// The lines of the events of a register; none if all are the same. Those of registers that no TPM
 /// has are compared as one's.
-fn register_lines(old: &Log<'_>, new: &Log<'_>, register: u32) -> String {
-    let of_register = |event: &&Event<'_>| event.register.min(REGISTERS) == register;
-    let [olds, news] =
-        [old, new].map(|log| log.events.iter().filter(of_register).collect::<Vec<_>>());
+pub fn lines(old: &Log<'_>, new: &Log<'_>, register: u32) -> String {
+    let is_its = |event: &&Event<'_>| event.register.min(REGISTERS) == register;
+    let [olds, news] = [old, new].map(|log| log.events.iter().filter(is_its).collect::<Vec<_>>());
     let pairs = olds.iter().zip(&news);
     let same = pairs.take_while(|(old, new)| identity(old) == identity(new)).count();
     let first = match (olds.get(same), news.get(same)) {
@@ -42,8 +40,4 @@ fn register_lines(old: &Log<'_>, new: &Log<'_>, register: u32) -> String {
         (None, Some(event)) => line(event, &format!("comes after the last one of {}", old.name)),
     };
     first + &only_lines(&olds, &news, new) + &only_lines(&news, &olds, old)
-}
-
-pub fn lines(old: &Log<'_>, new: &Log<'_>) -> String {
-    (0..=REGISTERS).map(|register| register_lines(old, new, register)).collect()
 }

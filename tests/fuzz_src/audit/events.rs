@@ -10,13 +10,10 @@ const AUTHORITY: u32 = 0x8000_00e0;
 const GLOBAL: &str = "8be4df61-93ca-11d2-aa0d-00e098032b8c";
 const IMAGE_SECURITY: &str = "d719b2cb-3d3a-4596-a3bc-dad00e67656f";
 const SHIM: &str = "605dab50-e046-4300-abb6-3dd810dd8b23";
-/// The longest data of a signature that are shown whole.
-const LONGEST_HASH: usize = 80;
 
 /// The first line of an event's block.
 pub fn head(event: &Event<'_>) -> String {
-    let (place, kind) = (event.place(), kind_name(event.kind));
-    format!("{}: {place}: PCR {}, {kind}\n", event.log, event.register)
+    format!("{}: {}: PCR {}, {}\n", event.log, event.place(), event.register, kind_name(event.kind))
 }
 
 pub fn json_line(event: &Event<'_>) -> String {
@@ -24,11 +21,9 @@ pub fn json_line(event: &Event<'_>) -> String {
     let content = said(event).map_or("null".to_owned(), |it| object(&[(it.0, &it.1)]));
     let (data, log) = (hex_text(event.data), text(event.log));
     let digest = |it: &(u16, &[u8])| object!(algorithm: algorithm(it.0), digest: hex_text(it.1));
-    let digests = array(event.digests.iter().map(digest));
-    let hashes = BANKS.iter().filter(|bank| event.is_hash(bank, event.data));
-    let hashes_to = array(hashes.map(|bank| text(bank.name)));
-    let name = type_name(event.kind).map(|name| text(&name)).unwrap_or_default();
-    let kind = object!(name, number);
+    let hashes = BANKS.iter().filter(|it| event.is_hash(it, event.data)).map(|it| text(it.name));
+    let (digests, hashes_to) = (array(event.digests.iter().map(digest)), array(hashes));
+    let kind = object!(name: type_name(event.kind).map_or(String::new(), |it| text(&it)), number);
     object!(content, data, digests, hashes_to, index, log, offset, register, type: kind) + "\n"
 }
 
@@ -77,8 +72,8 @@ fn printed(data: &[u8]) -> Option<Said> {
 
 /// A text in ASCII, or else in UTF-16, without the NUL that may end it.
 fn any_text(data: &[u8]) -> Option<String> {
-    let mut ascii = data.strip_suffix(&[0]).unwrap_or(data).iter();
-    let is_ascii = ascii.all(|byte| (1..0x80).contains(byte));
+    let ascii = data.strip_suffix(&[0]).unwrap_or(data);
+    let is_ascii = ascii.iter().all(|byte| (1..0x80).contains(byte));
     let bytes = data.iter().copied().map(u16::from);
     let units = if is_ascii { bytes.collect() } else { units(data)? };
     let text = units.strip_suffix(&[0]).unwrap_or(&units);
@@ -117,7 +112,7 @@ fn tagged_events(mut rest: &[u8]) -> Said {
 /// The header that a log of one event with these data has.
 fn header(data: &[u8]) -> Option<Said> {
     let length = (data.len() as u32).to_le_bytes();
-    let event = [&[0, 0, 0, 0, 3, 0, 0, 0], &[0; 20][..], &length, data].concat();
+    let event = [&[0; 4][..], &NO_ACTION.to_le_bytes(), &[0; 20], &length, data].concat();
     let Header { platform_class, version: [major, minor, errata], uintn_size, rows, vendor, .. } =
         Header::read(&event, 0)?;
     let row = |(number, size): (u16, u16)| object!(algorithm: algorithm(number), size);
@@ -161,7 +156,7 @@ fn image(mut data: &[u8]) -> Option<Said> {
     Some(Said("image", json, words))
 }
 
-/// The nodes of the path that bytes begin with, before the one that ends it; and the bytes after it.
+/// The nodes of the path that bytes begin with, but for its end node, and the bytes after it.
 fn first_path(bytes: &[u8]) -> Option<(Vec<Node<'_>>, &[u8])> {
     let (path, rest) = split(bytes, Stop::EndEntire)?;
     Some((Nodes { rest: path, stop: Stop::EndEntire }.collect(), rest))
@@ -247,7 +242,7 @@ fn signature_list(data: &mut &[u8]) -> Option<String> {
 /// The owner of a signature, and its data: whole, or their hash.
 fn signature(mut data: &[u8]) -> Option<String> {
     let owner = text(&guid(&mut data)?);
-    if data.len() <= LONGEST_HASH {
+    if data.len() <= LONGEST {
         return Some(object!(data: hex_text(data), owner));
     }
     Some(object!(length: data.len(), owner, sha256: hex_text(&SHA256.hash(data))))

@@ -2,7 +2,7 @@
 
 use std::fmt::Display;
 
-/// How many characters of a text, or bytes, a line shows.
+/// How many characters of a text, or bytes, are shown.
 pub const LONGEST: usize = 80;
 
 /// An object of members, each `key: value`, or the name of a variable that has the value.
@@ -16,9 +16,8 @@ macro_rules! object {
 
 /// An object of those members that have a value, in this order.
 pub fn object(members: &[(&str, &dyn Display)]) -> String {
-    let members = members.iter().map(|(key, value)| (key, value.to_string()));
-    let members = members.filter(|(_, value)| !value.is_empty());
-    let members: Vec<_> = members.map(|(key, value)| format!("\"{key}\":{value}")).collect();
+    let members = members.iter().map(|(key, value)| format!("\"{key}\":{value}"));
+    let members: Vec<_> = members.filter(|member| !member.ends_with(':')).collect();
     format!("{{{}}}", members.join(","))
 }
 
@@ -57,7 +56,6 @@ pub fn hex_text(bytes: &[u8]) -> String {
 /// The first characters of a text on a line, with the bytes of a control and of a backslash in hex.
 pub fn shown(text: &str) -> String {
     let escaped = |c: char| c.to_string().bytes().map(|byte| format!("\\x{byte:02x}")).collect();
-    let is_escaped = |c| c == '\\' || is_control(c);
-    let character = |c| if is_escaped(c) { escaped(c) } else { String::from(c) };
-    text.chars().take(LONGEST).map(character).collect()
+    let shown = |c| if c == '\\' || is_control(c) { escaped(c) } else { String::from(c) };
+    text.chars().take(LONGEST).map(shown).collect()
 }

@@ -12,7 +12,7 @@ mod replay;
 
 use crate::input::Input;
 use crate::program::{Ending, other_name};
-use log::Log;
+use log::{Log, REGISTERS};
 
 /// How many rows a table may have.
 const MAX_ROWS: usize = 256;
@@ -20,7 +20,7 @@ const MAX_ROWS: usize = 256;
 const UNJUDGED: i32 = 4;
 
 /// The commands, each with its words. Without the second word of the first, most mutations would be
-/// refused for the bytes that they leave over.
+/// refused for the bytes that they leave over. Those whose names begin with `whole` are without.
 pub const COMMANDS: [(&str, &[&str]); 8] = [
     ("replay", &["replay", "--allow-left-over"]),
     ("whole", &["replay"]),
@@ -40,10 +40,10 @@ pub fn takes_two(command: &str) -> bool {
 /// The words of a run, after the program's name; the third word of the input is the last entry.
 pub fn words(command: &str, third_word: Option<&[u8]>, file: &str) -> Vec<Vec<u8>> {
     let (_, first) = COMMANDS.iter().find(|it| it.0 == command).expect("a command of the program");
-    let first = first.iter().map(|word| Vec::from(*word));
     let last_entry = third_word.map(|word| if word == b"-" { b"none" } else { word });
     let last_entry = last_entry.map(|word| [b"--last-entry=", word].concat());
     let other = takes_two(command).then(|| other_name(file).into_bytes());
+    let first = first.iter().map(|word| Vec::from(*word));
     first.chain(last_entry).chain([Vec::from(file)]).chain(other).collect()
 }
 
@@ -61,12 +61,11 @@ pub fn ending(command: &str, input: &Input, given: Option<Option<usize>>, file: 
         "blocks" => log.events.iter().map(events::head).collect(),
         "check" => check::lines(&log, &mut end),
         "json" => replay::json_line(&log, &replay::replays(&log, &mut end)),
-        "diff" | "whole_diff" => diff::lines(&log, &other),
+        "diff" | "whole_diff" => (0..=REGISTERS).map(|it| diff::lines(&log, &other, it)).collect(),
         _ => replay::listing(&replay::replays(&log, &mut end)),
     };
-    if takes_two(command) && !output.is_empty() {
-        end.status = end.status.max(1);
-    }
+    let is_difference = takes_two(command) && !output.is_empty();
+    end.status = end.status.max(is_difference.into());
     Ending { output: output.into_bytes(), ..end }
 }
 

@@ -18,7 +18,6 @@ pub struct Bank {
     function: &'static CStr,
 }
 
-#[rustfmt::skip]
 pub const BANKS: &[Bank] = &[
     Bank { name: "sha1", algorithm: 0x04, size: 20, function: c"SHA1" },
     SHA256,
@@ -63,8 +62,7 @@ fn replay<'a>(log: &'a Log<'a>, bank: &Bank, pcr: u32) -> Outcome<'a> {
     }
     let mut is_extended = false;
     for event in log.events.iter().filter(|event| event.register == pcr) {
-        let stated = event.stated().filter(|_| pcr == 0);
-        let fault = match (stated, event.digests_of(bank).as_slice()) {
+        let fault = match (event.stated().filter(|_| pcr == 0), &event.digests_of(bank)[..]) {
             (Some(it), _) if ![0, 3, 4].contains(&it) => "states a locality other than 0, 3 and 4",
             (Some(it), _) if it != locality => "states another locality than PCR 0 starts at",
             (Some(_), _) if is_extended => "states the locality after PCR 0 was extended",
@@ -146,13 +144,10 @@ pub fn json_line(log: &Log<'_>, found: &[Replayed<'_>]) -> String {
         let (algorithm, registers) = (text(bank[0].0.name), array(bank.iter().map(value)));
         object!(algorithm, registers, undetermined: array(bank.iter().filter_map(undetermined)))
     };
-    let part = |is_it: bool| match log.rest {
-        count @ 1.. if is_it => object!(count, offset: log.end),
-        _ => "null".to_owned(),
-    };
+    let rest = object!(count: log.rest, offset: log.end);
+    let part = |is_it: bool| if is_it && log.rest > 0 { &rest } else { "null" };
     let (left_over, padding) = (part(!log.is_padded), part(log.is_padded));
     let banks = array(found.chunks(REGISTERS as usize).map(bank));
-    let (number, stated) = (log.locality().unwrap_or(0), log.locality().is_some());
-    let locality = object!(number, stated);
+    let locality = object!(number: log.locality().unwrap_or(0), stated: log.locality().is_some());
     object!(banks, left_over, locality, log: text(log.name), padding) + "\n"
 }
