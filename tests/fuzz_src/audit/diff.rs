@@ -29,8 +29,8 @@ fn only_lines(events: &[&Event<'_>], others: &[&Event<'_>], log: &Log<'_>) -> St
 /// The lines of the events of a register; none if all are the same. Those of registers that no TPM
 /// has are compared as one's.
 pub fn lines(old: &Log<'_>, new: &Log<'_>, register: u32) -> String {
-    let is_its = |event: &&Event<'_>| event.register.min(REGISTERS) == register;
-    let [olds, news] = [old, new].map(|log| log.events.iter().filter(is_its).collect::<Vec<_>>());
+    let belongs = |event: &&Event<'_>| event.register.min(REGISTERS) == register;
+    let [olds, news] = [old, new].map(|log| log.events.iter().filter(belongs).collect::<Vec<_>>());
     let pairs = olds.iter().zip(&news);
     let same = pairs.take_while(|(old, new)| identity(old) == identity(new)).count();
     let first = match (olds.get(same), news.get(same)) {

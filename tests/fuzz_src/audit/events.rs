@@ -168,7 +168,7 @@ fn path_json(nodes: &[Node<'_>]) -> String {
     }))
 }
 
-/// The first units of the last file that nodes name: `/` for a backslash, nothing for a NUL.
+/// The last file path (4, 4) of nodes, by its first units: `/` for a backslash, nothing for a NUL.
 fn last_file(nodes: &[Node<'_>]) -> Option<String> {
     let file = nodes.iter().rfind(|node| (node.device_type(), node.sub_type()) == (4, 4))?;
     let units = units(file.data()).filter(|units| !units.is_empty())?;
