@@ -19,7 +19,10 @@ static void one_load_option(UefiBytes bytes) {
     size_t n = bytes.n;
     /* A description, and a list that may be as long as is stated. */
     if (n > 20 && any() & 1) b[6] = 'a', b[7] = 0, b[8] = b[9] = 0, b[4] = below(n - 9), b[5] = 0;
-    if (n > 20 && any() & 1) b[10] = 4, b[11] = 1, b[12] = 4 + 2 * below(2), b[13] = 0, memcpy(b + 10 + b[12], "\x7f\xff\4\0", 4);
+    if (n > 20 && any() & 1) {
+        b[10] = 4, b[11] = 1, b[12] = 4 + 2 * below(2), b[13] = 0;
+        memcpy(b + 10 + b[12], "\x7f\xff\4\0", 4);
+    }
     READ(UefiLoadOption, load_option, bytes);
 }
 

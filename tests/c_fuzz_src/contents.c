@@ -75,7 +75,8 @@ static bool plain_gpt_entry(UefiBytes bytes, size_t index, UefiGptEntry *out) {
     UefiGptHeader header;
     if (!plain_gpt_header(bytes, &header) || index >= (bytes.n - 100) / header.entry_size) return false;
     const uint8_t *b = bytes.at + 100 + index * header.entry_size;
-    *out = (UefiGptEntry){slice(b + 128, header.entry_size - 128), u64_at(b + 32), u64_at(b + 40), u64_at(b + 48), {0}, {0}, {0}};
+    *out = (UefiGptEntry){.rest = slice(b + 128, header.entry_size - 128), .first_lba = u64_at(b + 32),
+                          .last_lba = u64_at(b + 40), .attributes = u64_at(b + 48)};
     memcpy(out->type_guid, b, 16), memcpy(out->unique_guid, b + 16, 16), memcpy(out->name, b + 56, 72);
     return true;
 }

@@ -31,7 +31,8 @@ bool is_same(const void *found, const void *wanted, size_t n) {
     for (size_t i = 0; i < n; i += 8) {
         size_t length = n - i < 8 ? n - i : 8;
         const uint8_t *word = (const uint8_t *)wanted + i;
-        if (memcmp((const uint8_t *)found + i, word, length) && (length < 8 || memcmp(word, &any_word, 8))) return false;
+        bool is_any = length == 8 && !memcmp(word, &any_word, 8);
+        if (!is_any && memcmp((const uint8_t *)found + i, word, length)) return false;
     }
     return true;
 }
@@ -74,7 +75,8 @@ static uint32_t plain_log2_state(UefiBytes log, size_t last, UefiBytes rows, siz
     return is_unknown ? UEFI_LOG_UNKNOWN_ALGORITHM : UEFI_LOG_CUT;
 }
 
-static bool plain_log2_digest(UefiBytes log, size_t last, UefiBytes rows, size_t at, uint16_t algorithm, UefiBytes *out) {
+static bool plain_log2_digest(UefiBytes log, size_t last, UefiBytes rows, size_t at, uint16_t algorithm,
+                              UefiBytes *out) {
     UefiEvent2 event = {0};
     UefiDigest digest;
     plain_log2_next(log, last, rows, &at, &event);
@@ -130,7 +132,8 @@ static uint32_t plain_pci_next(UefiBytes list, size_t *at, UefiResource *out) {
     if (*b == 0x79) return UEFI_PCI_END;
     if (*b != 0x8a) return UEFI_PCI_UNKNOWN_TAG;
     if (left.n < 46) return UEFI_PCI_CUT_RECORD;
-    *out = (UefiResource){u64_at(b + 6), u64_at(b + 14), u64_at(b + 22), u64_at(b + 30), u64_at(b + 38), b[3], b[4], b[5]};
+    *out = (UefiResource){u64_at(b + 6), u64_at(b + 14), u64_at(b + 22), u64_at(b + 30), u64_at(b + 38),
+                          b[3], b[4], b[5]};
     *at += 46;
     return UEFI_PCI_RESOURCE;
 }
@@ -148,7 +151,9 @@ static bool plain_config_next_pair(UefiBytes text, size_t *at, UefiPair *out) {
     return true;
 }
 
-static bool plain_map_check(UefiBytes map, size_t stride) { return stride >= 40 && stride % 8 == 0 && map.n % stride == 0; }
+static bool plain_map_check(UefiBytes map, size_t stride) {
+    return stride >= 40 && stride % 8 == 0 && map.n % stride == 0;
+}
 
 static bool plain_map_is_sorted(UefiBytes map, size_t stride) {
     bool sorted = plain_map_check(map, stride);
@@ -174,7 +179,9 @@ static void make_rows(uint8_t *b, size_t n) {
 }
 
 /* The beginning of a walk over this many bytes: mostly this offset. */
-static size_t start_of(size_t offset, size_t n) { return any() & 1 ? offset : any() & 3 ? below(n + 3) : (size_t)any(); }
+static size_t start_of(size_t offset, size_t n) {
+    return any() & 1 ? offset : any() & 3 ? below(n + 3) : any();
+}
 
 /* What is at the end of an area, and the rows at the end of another. */
 static void one_input(UefiBytes log, size_t whole, uint8_t *rows_end) {

@@ -92,7 +92,8 @@ static bool plain_file_system_info(UefiBytes buffer, size_t written, UefiFileSys
     const uint8_t *b = buffer.at;
     size_t end = plain_name(buffer, written, 36);
     if (!is_within(buffer, end, needed)) return false;
-    *out = (UefiFileSystemInfo){{b + 36, end - 36}, u64_at(b), u64_at(b + 16), u64_at(b + 24), u32_at(b + 32), b[8] != 0};
+    *out = (UefiFileSystemInfo){{b + 36, end - 36}, u64_at(b), u64_at(b + 16), u64_at(b + 24),
+                                u32_at(b + 32), b[8] != 0};
     return true;
 }
 
@@ -156,7 +157,8 @@ static void one_text(UefiBytes text) {
     WRITE(hex, text, buffer, &size);
 }
 
-static bool plain_write_event(UefiBuffer buffer, UefiBytes data, const uint8_t *digest, uint32_t pcr, uint32_t type, size_t *size) {
+static bool plain_write_event(UefiBuffer buffer, UefiBytes data, const uint8_t *digest, uint32_t pcr,
+                              uint32_t type, size_t *size) {
     uint8_t *b = buffer.at;
     uint32_t length = data.n;
     *size = 32 + data.n;

@@ -32,7 +32,8 @@ typedef struct {
     const char *name;
 } Bank;
 
-static const Bank banks[] = {{1, 0x4, "sha1"}, {2, 0xb, "sha256"}, {4, 0xc, "sha384"}, {8, 0xd, "sha512"}, {16, 0x12, "sm3_256"}};
+static const Bank banks[] = {{1, 0x4, "sha1"}, {2, 0xb, "sha256"}, {4, 0xc, "sha384"}, {8, 0xd, "sha512"},
+                             {16, 0x12, "sm3_256"}};
 
 static EfiTcg2 *tcg2;
 static UefiBytes log;
@@ -88,7 +89,8 @@ static size_t replayed;
 
 /* Asks the TPM for a register, and compares it with what the log leaves in it. */
 static void read_register(const Bank *bank, unsigned index) {
-    uint8_t response[128] = {0}, command[20] = {0x80, 0x01, 0, 0, 0, 20, 0, 0, 0x01, 0x7e, 0, 0, 0, 1, 0, (uint8_t)bank->algorithm, 3};
+    uint8_t response[128] = {0}, command[20] = {0x80, 0x01, [5] = 20, [8] = 0x01, 0x7e, [13] = 1};
+    command[15] = (uint8_t)bank->algorithm, command[16] = 3;
     command[17 + index / 8] = (uint8_t)(1 << index % 8);
     bool is_read = tcg2->submit_command(tcg2, sizeof command, command, sizeof response, response) == EFI_SUCCESS;
     if (!expect(is_read && !big_u32(response + 6) && big_u32(response + 24) == 1, "the TPM tells its registers"))
