@@ -26,6 +26,8 @@ bool plain_map_entry(UefiBytes map, size_t stride, size_t index, UefiDescriptor 
 bool plain_log1_next(UefiBytes log, size_t last_entry, size_t *offset, UefiEvent1 *out);
 bool plain_log2_header(UefiBytes log, size_t last_entry, UefiLogHeader *out);
 bool plain_log2_next(UefiBytes log, size_t last_entry, UefiBytes rows, size_t *offset, UefiEvent2 *out);
+/* The size of an algorithm's digests, by its first row; -1 for none. */
+long plain_size_of(UefiBytes rows, uint16_t algorithm);
 bool plain_digest_next(UefiBytes digests, UefiBytes rows, size_t *offset, UefiDigest *out);
 
 #endif

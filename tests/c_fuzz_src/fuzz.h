@@ -6,45 +6,91 @@
 #include <stdlib.h>
 #include <string.h>
 
-#include "uefi_formats.h"
+#include "plain.h"
 
-enum { AREA = 1 << 14 };
+/* The most bytes of an input, and of what is written of it. */
+enum { AREA = 1 << 14, ROOM = 2 * AREA + 128 };
 
 /* Numbers from the seed: any, and one below a limit (0 for the limit 0). */
 uint64_t any(void);
 size_t below(size_t n);
 
-uint32_t u16(const uint8_t *b);
-uint32_t u32(const uint8_t *b);
-
 /* Ends the program where this is false. */
-void need(bool holds, const char *file, int line);
-#define NEED(holds) need(holds, __FILE__, __LINE__)
-#define SAME(out) NEED(!memcmp(&out, &untouched, sizeof out))
+void need(bool holds, const char *what, const char *file, int line);
+#define NEED(holds) need(holds, #holds, __FILE__, __LINE__)
 
-/* Times, records, texts in hex and written events, of these bytes. */
-void records_of(UefiBytes part);
-extern size_t records, times, texts, written_events;
+/* How often a call returned each result. */
+typedef struct Count {
+    const char *name;
+    size_t results[8];
+    bool is_known;
+    struct Count *next;
+} Count;
 
-/* Whether a text is UTF-8, and the byte that hex spells there. */
+uint32_t counted(Count *calls, uint32_t result);
+
+/* Whether the bytes are the same, but for words that are ANY in what plain C wrote. */
+bool is_same(const void *found, const void *wanted, size_t n);
+#define ANY 0xa5a5a5a5a5a5a5a5
+
+/* The bytes from an offset on; and a slice of a structure that may be anywhere if it has no byte. */
+UefiBytes from(UefiBytes bytes, size_t at);
+UefiBytes slice(const uint8_t *at, size_t n);
+
+/* Calls uefi_NAME, and plain_NAME with the same arguments, which may name `&at` and `&out`. Both return the same,
+ * leave the same number in `at`, and write the same to `out`, whose bytes are 0xcc before. The value is the result. */
+#define BOTH(out, at, call, ...)                                                                    \
+    ({                                                                                              \
+        static Count calls = {.name = #call};                                                       \
+        __typeof__(out) found;                                                                      \
+        size_t start = (at), end;                                                                   \
+        memset(&(out), 0xcc, sizeof(out));                                                          \
+        uint32_t result = uefi_##call(__VA_ARGS__);                                                 \
+        memcpy(&found, &(out), sizeof(out)), end = (at);                                            \
+        memset(&(out), 0xcc, sizeof(out)), (at) = start;                                            \
+        NEED(plain_##call(__VA_ARGS__) == result && (at) == end);                                   \
+        __builtin_clear_padding(&found), __builtin_clear_padding(&(out));                           \
+        NEED(is_same(&found, &(out), sizeof(out)));                                                 \
+        counted(&calls, result);                                                                    \
+    })
+#define READ(type, call, ...) ({ type out; size_t none = 0; BOTH(out, none, call, __VA_ARGS__, &out); })
+#define NEXT(type, at, call, ...) ({ type out; BOTH(out, at, call, __VA_ARGS__, &(at), &out); })
+#define SAME(call, ...) ({ size_t none = 0, out; BOTH(out, none, call, __VA_ARGS__); })
+
+/* The same of a call that writes to a `buffer`, of a length near to the `size` that it states. */
+#define WRITE(call, ...)                                                                            \
+    ({                                                                                              \
+        static uint8_t large[ROOM];                                                                 \
+        UefiBuffer buffer = {large, ROOM};                                                          \
+        size_t size = 0;                                                                            \
+        plain_##call(__VA_ARGS__);                                                                  \
+        WRITE_TO(any() & 3 ? size + below(9) : below(size + 1), call, __VA_ARGS__);                 \
+    })
+#define WRITE_TO(n, call, ...)                                                                      \
+    ({                                                                                              \
+        uint8_t bytes[(n) + 8];                                                                     \
+        UefiBuffer buffer = uefi_buffer(bytes, sizeof bytes - 8);                                   \
+        size_t size = 7;                                                                            \
+        BOTH(bytes, size, call, __VA_ARGS__);                                                       \
+    })
+
+/* Puts bytes into a buffer that has room for them, and states their count. */
+bool put(const uint8_t *bytes, size_t n, UefiBuffer buffer, size_t *size);
+
+/* The length of the character that UTF-8 has there, and the byte that hex spells there. */
 size_t character(const uint8_t *b, size_t n);
 bool is_utf8(UefiBytes text);
 uint8_t plain_byte(const uint8_t *b, size_t n);
+bool plain_hex(UefiBytes text, UefiBuffer buffer, size_t *size);
 
-/* What is at an offset, and the other calls of these bytes. */
-void one_log1_state(UefiBytes log, size_t last, size_t at, size_t end, size_t end_anywhere);
-void one_path_state(UefiBytes path, size_t at, size_t node);
+/* The fields of sixteen bytes, and the bytes of fields. */
+UefiTime time_at(const uint8_t *b);
+void put_time(const UefiTime *time, uint8_t *b);
+
+/* What is read of these bytes, and written. */
+void records_of(UefiBytes part);
 void calls_of(UefiBytes part);
 void contents_of(UefiBytes part);
-
-/* Names of these bytes, and records that have them. */
 void names_of(UefiBytes part);
-
-/* How often each was right where most others aren't. */
-enum {
-    LOG1_STATE, LOG2_STATE, PATH_STATE, ONE_DIGEST, LOAD_OPTIONS, VARIABLES, IMAGES, BLOBS, TAGGED, BOOT_ORDERS, SIGNATURES,
-    NUMBERS, TIMES_WRITTEN, ENTRIES_WRITTEN, TEXTS, LISTED, PARTITIONS, UCS2_TEXTS, UCS2_UNITS, CONFIG_NAMES, RECORDS_WRITTEN, CALL_COUNT
-};
-extern size_t calls[CALL_COUNT];
 
 #endif

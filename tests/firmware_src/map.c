@@ -6,66 +6,41 @@ static UINTN stride;
 
 static bool get_map(void) {
     EFI_BOOT_SERVICES *boot = firmware->BootServices;
-    UINTN size = 0, key;
+    static uint8_t room[1 << 16];
+    UINTN size = sizeof room, key;
     UINT32 version;
-    void *room = NULL;
-    if (boot->GetMemoryMap(&size, NULL, &key, &stride, &version) != EFI_BUFFER_TOO_SMALL)
-        return false;
-    /* The allocation may itself add descriptors. */
-    size += 8 * stride;
-    if (boot->AllocatePool(EfiLoaderData, size, &room) != EFI_SUCCESS)
-        return false;
-    if (boot->GetMemoryMap(&size, room, &key, &stride, &version) != EFI_SUCCESS)
+    if (boot->GetMemoryMap(&size, (void *)room, &key, &stride, &version) != EFI_SUCCESS)
         return false;
     map = uefi_bytes(room, size);
     return true;
 }
 
-static void add_descriptor(Tally *tally, const UefiDescriptor *entry) {
-    add_number(tally, entry->memory_type);
-    add_number(tally, entry->padding);
-    add_number(tally, entry->phys_start);
-    add_number(tally, entry->virt_start);
-    add_number(tally, entry->page_count);
-    add_number(tally, entry->attribute);
-    tally->count++;
-}
-
-static Tally proved_tally(void) {
-    Tally tally = {0};
-    UefiDescriptor entry;
-    while (uefi_map_entry(map, stride, tally.count, &entry)) {
 #ifdef PLANT
-        entry.memory_type ^= tally.count == 3;
+/* Turns a bit of one descriptor. */
+static bool turned(UefiBytes bytes, size_t size, size_t index, UefiDescriptor *out) {
+    bool found = uefi_map_entry(bytes, size, index, out);
+    out->memory_type ^= index == 3;
+    return found;
+}
+#define uefi_map_entry turned
 #endif
-        add_descriptor(&tally, &entry);
-    }
-    add_number(&tally, uefi_map_is_sorted(map, stride));
-    return tally;
-}
-
-static Tally plain_tally(void) {
-    Tally tally = {0};
-    UefiDescriptor entry;
-    bool is_sorted = true;
-    for (uint64_t last = 0; plain_map_entry(map, stride, tally.count, &entry); last = entry.phys_start) {
-        add_descriptor(&tally, &entry);
-        is_sorted &= last <= entry.phys_start;
-    }
-    add_number(&tally, is_sorted);
-    return tally;
-}
 
 bool read_map(void) {
     UefiDescriptor entry = {.memory_type = 77};
+    size_t count = 0, none = 0;
+    bool is_sorted = true;
     if (!get_map())
         return false;
     expect(uefi_map_check(map, stride), "the map is one");
     expect(!uefi_map_check(uefi_bytes(map.at, map.n - 1), stride), "a cut map");
     expect(!uefi_map_entry(map, stride, (size_t)-1, &entry) && entry.memory_type == 77, "no last descriptor");
     expect(!uefi_map_entry(map, 39, 0, &entry) && entry.memory_type == 77, "a stride of 39");
-    print("memory map, %u bytes, stride %u", map.n, stride);
-    end_tally("descriptors", proved_tally(), plain_tally());
+    for (uint64_t last = 0; BOTH(entry, attribute, none, map_entry, map, stride, count, &entry); count++) {
+        is_sorted &= last <= entry.phys_start;
+        last = entry.phys_start;
+    }
+    expect(uefi_map_is_sorted(map, stride) == is_sorted, "whether the map is sorted");
+    print("memory map, %u bytes, stride %u: %u descriptors\n", map.n, stride, count);
     print("file memory.map %b\n", &map);
     return true;
 }

@@ -2,37 +2,6 @@
  * that a handle has. */
 #include "app.h"
 
-typedef struct {
-    bool (*next_instance)(UefiBytes path, size_t *offset, UefiBytes *instance) UEFI_CALL;
-    bool (*next_node)(UefiBytes path, size_t *offset, UefiNode *out) UEFI_CALL;
-} Reader;
-
-static UEFI_CALL bool plain_instance(UefiBytes path, size_t *offset, UefiBytes *instance) {
-    return plain_path_next_instance(path, offset, instance);
-}
-
-static UEFI_CALL bool plain_node(UefiBytes path, size_t *offset, UefiNode *out) {
-    return plain_path_next_node(path, offset, out);
-}
-
-/* The nodes of each instance, and its length. */
-static Tally tally_of(Reader reader, UefiBytes path) {
-    Tally tally = {0};
-    UefiBytes instance;
-    UefiNode node;
-    for (size_t next = 0; reader.next_instance(path, &next, &instance);) {
-        for (size_t at = 0; reader.next_node(instance, &at, &node); tally.count++) {
-            add_number(&tally, node.device_type);
-            add_number(&tally, node.sub_type);
-            add_bytes(&tally, node.data);
-        }
-        add_number(&tally, instance.n);
-    }
-    return tally;
-}
-
-static const Reader proved = {uefi_path_next_instance, uefi_path_next_node}, plain = {plain_instance, plain_node};
-
 static size_t length_by_firmware(const uint8_t *path) {
     static EFI_GUID guid = EFI_DEVICE_PATH_UTILITIES_PROTOCOL_GUID;
     EFI_DEVICE_PATH_UTILITIES_PROTOCOL *utilities = NULL;
@@ -40,26 +9,21 @@ static size_t length_by_firmware(const uint8_t *path) {
     return utilities ? utilities->GetDevicePathSize((const EFI_DEVICE_PATH_PROTOCOL *)path) : 0;
 }
 
-/* Finds the path that begins there, and compares its length. */
-static bool find_path(UefiBytes bytes, UefiBytes *path) {
-    UefiBytes none, other;
-    bool found = uefi_path(bytes, path);
-    expect(found, "a path");
-    if (!found)
-        return false;
-    expect(plain_path(bytes, &other) && path->at == other.at && path->n == other.n, "a path by plain C");
-    expect(path->n == length_by_firmware(bytes.at), "a path's length by firmware");
-    expect(!uefi_path(uefi_bytes(path->at, path->n - 1), &none), "a cut path");
-    return true;
-}
-
-static void show_path(const char *what, const char *file, UefiBytes bytes) {
-    UefiBytes path;
-    if (!find_path(bytes, &path))
-        return;
-    print("%s, %u bytes", what, path.n);
-    end_tally("nodes", tally_of(proved, path), tally_of(plain, path));
-    print("file %s %b\n", file, &path);
+/* Reads the path that begins there, and returns the count of its nodes. With a file, it is shown. */
+static size_t read_path(const char *file, UefiBytes bytes) {
+    UefiBytes path, cut, instance;
+    UefiNode node;
+    size_t none = 0, count = 0;
+    if (!expect(BOTH(path, n, none, path, bytes, &path), "a path"))
+        return 0;
+    expect(path.n == length_by_firmware(bytes.at), "a path's length by firmware");
+    expect(!uefi_path(uefi_bytes(path.at, path.n - 1), &cut), "a cut path");
+    for (size_t next = 0; BOTH(instance, n, next, path_next_instance, path, &next, &instance);)
+        for (size_t at = 0; BOTH(node, sub_type, at, path_next_node, instance, &at, &node);)
+            count++;
+    if (file)
+        print("%s, %u bytes: %u nodes\nfile %s %b\n", file, path.n, count, file, &path);
+    return count;
 }
 
 static void read_console(void) {
@@ -67,40 +31,35 @@ static void read_console(void) {
     static CHAR16 name[] = {'C', 'o', 'n', 'O', 'u', 't', 0};
     static uint8_t room[1024];
     UINTN size = sizeof room;
-    if (firmware->RuntimeServices->GetVariable(name, &guid, NULL, &size, room) == EFI_SUCCESS)
-        show_path("ConOut", "con-out.dp", uefi_bytes(room, size));
-    else
-        expect(false, "there is a variable ConOut");
+    EFI_STATUS status = firmware->RuntimeServices->GetVariable(name, &guid, NULL, &size, room);
+    if (expect(status == EFI_SUCCESS, "there is a variable ConOut"))
+        read_path("con-out.dp", uefi_bytes(room, size));
+}
+
+/* The path that a handle has by a protocol; NULL for none. */
+static void *path_of(EFI_HANDLE handle, EFI_GUID protocol) {
+    void *path = NULL;
+    return firmware->BootServices->HandleProtocol(handle, &protocol, &path) == EFI_SUCCESS ? path : NULL;
 }
 
 static void read_all_handles(void) {
     static EFI_GUID guid = EFI_DEVICE_PATH_PROTOCOL_GUID;
     UINTN n = 0;
-    uint64_t paths = 0, nodes = 0;
+    size_t paths = 0, nodes = 0;
     EFI_HANDLE *handles = NULL;
     firmware->BootServices->LocateHandleBuffer(ByProtocol, &guid, NULL, &n, &handles);
     for (size_t i = 0; i < n; i++) {
-        void *at = NULL;
-        UefiBytes path;
-        if (firmware->BootServices->HandleProtocol(handles[i], &guid, &at) != EFI_SUCCESS || !at)
-            continue;
-        if (!find_path(readable_from(at), &path))
-            continue;
-        Tally one = tally_of(proved, path), other = tally_of(plain, path);
-        expect(one.count == other.count && one.sum == other.sum, "a handle's path");
-        nodes += one.count;
-        paths++;
+        void *path = path_of(handles[i], guid);
+        paths += path != NULL;
+        nodes += path ? read_path(NULL, readable_from(path)) : 0;
     }
     print("paths of all handles: %u paths, %u nodes\n", paths, nodes);
 }
 
 void read_paths(EFI_HANDLE image) {
-    static EFI_GUID guid = EFI_LOADED_IMAGE_DEVICE_PATH_PROTOCOL_GUID;
-    void *path = NULL;
-    if (firmware->BootServices->HandleProtocol(image, &guid, &path) == EFI_SUCCESS && path)
-        show_path("path of the image", "image.dp", readable_from(path));
-    else
-        expect(false, "the image has a path");
+    void *path = path_of(image, (EFI_GUID)EFI_LOADED_IMAGE_DEVICE_PATH_PROTOCOL_GUID);
+    if (expect(path != NULL, "the image has a path"))
+        read_path("image.dp", readable_from(path));
     read_console();
     read_all_handles();
 }
