@@ -23,17 +23,10 @@ READING = re.compile("(statements|library|logic|note:) ")
 
 def functions_in(name):
     """About how many functions a crate has, those that are derived among them."""
-    count = 0
-    for folder, _, files in os.walk(f"{TOP}/crates/{name}/src"):
-        for file in files:
-            if "tests" in f"{folder}/{file}".split("/src/")[1]:
-                continue
-            with open(f"{folder}/{file}", encoding="utf-8") as text:
-                text = text.read()
-            count += len(re.findall(r"\bfn [a-z_0-9]+", text))
-            derived = " ".join(re.findall(r"derive\(([^)]*)\)", text))
-            count += len(re.findall(r"\b(PartialEq|PartialOrd|Ord|Debug|Default|Hash)\b", derived))
-    return count
+    text = "".join(text for _, text in crates.sources(name))
+    derived = " ".join(re.findall(r"derive\(([^)]*)\)", text))
+    written = re.findall(r"\bfn [a-z_0-9]+", text)
+    return len(written) + len(re.findall(r"\b(PartialEq|PartialOrd|Ord|Debug|Default|Hash)\b", derived))
 
 
 def at_once():
