@@ -133,7 +133,8 @@ class SpecFile:
                     current = Definition(self, begins[1] or begins[2], number, bool(begins[1]))
                     self.definitions[current.name] = current
                 # An equation has each part of its word's name, which may be an operator.
-                elif current is None or line[0] not in " })" and not all(it in line for it in current.name.split("◌")):
+                elif current is None or line[0] not in " })" and not all(
+                        part in line for part in current.name.split("◌")):
                     raise Unread(f"{self.shown}:{number}: {line.strip()}")
                 current.text.append(line)
 
@@ -316,7 +317,8 @@ class Repository:
                     self.judge_variable(name, variables, reason)
                 elif meaning not in found:
                     found[meaning] = reason
-                    waiting.append((meaning.names(), meaning.file.imports, meaning.file.words, meaning.variables(), meaning.path))
+                    file, path = meaning.file, meaning.path
+                    waiting.append((meaning.names(), file.imports, file.words, meaning.variables(), path))
         return found, others - {""}
 
     def judge_variable(self, name, variables, reason):
