@@ -3,6 +3,7 @@
 It follows each name to its definition, and each definition to the names that it is made of. A text that it can't
 read, or a name that is no variable and has no meaning, raises `Unread`: nothing is left out of what is counted.
 """
+import glob
 import os
 import re
 
@@ -24,15 +25,12 @@ CHAIN = "◌>>=◌"
 
 def imported(line):
     """The names that a `use` line brings in, each with its module and its name there."""
-    line = line.strip()
-    several = re.match(r"(?:(?:unfoldable|pub|open|ghost) )*use\s+(\S+?)\.\{(.*)\}", line)
-    if several:
-        items = [it.strip().partition(" as ") for it in several[2].split(",") if it.strip()]
-        return {(other or name).strip(): (several[1], name.strip()) for name, _, other in items}
-    one = re.match(r"(?:(?:unfoldable|pub|open|ghost) )*use\s+(\S+?)\.([^.\s]+)(?:\s+as\s+(\S+))?$", line)
-    if not one:
+    use = r"(?:(?:unfoldable|pub|open|ghost) )*use\s+(\S+?)\.(?:\{(.*)\}|([^.\s]+(?:\s+as\s+\S+)?)$)"
+    found = re.match(use, line.strip())
+    if not found:
         raise Unread(line)
-    return {one[3] or one[2]: (one[1], one[2])}
+    items = [it.strip().partition(" as ") for it in (found[2] or found[3]).split(",") if it.strip()]
+    return {(other or name).strip(): (found[1], name.strip()) for name, _, other in items}
 
 
 def bound_in(text):
@@ -78,23 +76,24 @@ class Definition:
         if self.is_type:
             fields = re.findall(r"^\s+(?:pub )?([^\s:(){}]+)\s*:", "\n".join(self.text[1:]), re.M)
             return free_names("\n".join(self.text), fields) - {self.name}
-        parts = []
-        for line in self.text:
-            if parts and (line.startswith(" ") or line[0] in "})"):
-                parts[-1] += "\n" + line
-            else:
-                parts.append(line)
-        found = free_names(parts[0])
-        for equation in parts[1:]:
-            left = re.split(r"\s=(?:\s|$)", equation, maxsplit=1)[0]
+        head, *equations = self.parts()
+        found = free_names(head)
+        for equation in equations:
             # A constructor that the left side names, as the file's other words do, begins with a capital.
-            found |= free_names(equation, {it for it in re.findall(NAME, left) if it[0].islower()})
+            found |= free_names(equation, {it for it in left_side(equation) if it[0].islower()})
         return found - {self.name}
+
+    def parts(self):
+        """The text of its type, and that of each equation."""
+        return re.split(r"\n(?=[^\s})])", "\n".join(self.text))
 
     def variables(self):
         """The names that the left sides of its equations may bind."""
-        equations = re.split(r"\n(?=\S)", "\n".join(self.text))[1:]
-        return {it for text in equations for it in re.findall(NAME, re.split(r"\s=(?:\s|$)", text, maxsplit=1)[0])}
+        return {it for equation in self.parts()[1:] for it in left_side(equation)}
+
+
+def left_side(equation):
+    return re.findall(NAME, re.split(r"\s=(?:\s|$)", equation, maxsplit=1)[0])
 
 
 class SpecFile:
@@ -133,14 +132,11 @@ class SpecFile:
                 if begins:
                     current = Definition(self, begins[1] or begins[2], number, bool(begins[1]))
                     self.definitions[current.name] = current
-                elif current is None or not (line.startswith((" ", "}", ")")) or self.is_equation(current.name, line)):
+                # An equation has each part of its word's name, which may be an operator.
+                elif current is None or line[0] not in " })" and not all(
+                        part in line for part in current.name.split("◌")):
                     raise Unread(f"{self.shown}:{number}: {line.strip()}")
                 current.text.append(line)
-
-    @staticmethod
-    def is_equation(name, line):
-        """Whether a line may be an equation of a word, which may be an operator."""
-        return all(part in line for part in name.split("◌"))
 
 
 class Clauses:
@@ -195,12 +191,8 @@ def function_at(text, start):
 
 def sources(crate):
     """The files of a crate's code, tests aside, each with its text without comments."""
-    top = f"{TOP}/crates/{crate}/src"
-    for folder, _, names in sorted(os.walk(top)):
-        for name in sorted(names):
-            if name.endswith(".rt") and "tests" not in os.path.relpath(f"{folder}/{name}", top):
-                with open(f"{folder}/{name}", encoding="utf-8") as file:
-                    yield os.path.relpath(f"{folder}/{name}", TOP), without_comments(file.read())
+    for path, text in crates.sources(crate):
+        yield path, without_comments(text)
 
 
 class Code:
@@ -282,13 +274,10 @@ class Repository:
         for crate in self.crates:
             self.code[crate] = Code(crate)
             self.rust_names |= self.code[crate].names
-            top = f"{TOP}/crates/{crate}/specs"
-            for folder, _, names in os.walk(top):
-                for name in names:
-                    if name.endswith(".antt"):
-                        file = SpecFile(crate, f"{folder}/{name}")
-                        self.files[file.module] = file
-            self.put_in_order(crate, f"{top}/Lib.antt", [])
+            for path in sorted(glob.glob(f"{TOP}/crates/{crate}/specs/**/*.antt", recursive=True)):
+                file = SpecFile(crate, path)
+                self.files[file.module] = file
+            self.put_in_order(crate, f"{TOP}/crates/{crate}/specs/Lib.antt", [])
 
     def put_in_order(self, crate, path, parents):
         """Numbers the files in the order of the `pub mod` lines."""
@@ -316,29 +305,24 @@ class Repository:
 
     def reach(self, cited):
         """What texts with their imports reach: the definitions, each with what cites it first, and other paths."""
-        found, others, waiting = {}, set(), []
-
-        def take(meaning, reason):
-            if isinstance(meaning, str):
-                others.update([meaning] if meaning else [])
-            elif meaning and meaning not in found:
-                found[meaning] = reason
-                waiting.append(meaning)
-
-        for text, imports, reason, variables in cited:
-            for name in free_names(text):
-                meaning = self.meaning(imports, name)
-                take(self.variable(name, variables, reason) if meaning is None else meaning, reason)
+        found, others = {}, set()
+        waiting = [(free_names(text), imports, {}, variables, reason) for text, imports, reason, variables in cited]
         while waiting:
-            word = waiting.pop()
-            variables = word.variables()
-            for name in word.names():
-                meaning = word.file.words.get(name.partition(".")[0]) or self.meaning(word.file.imports, name)
-                take(self.variable(name, variables, word.path) if meaning is None else meaning, word.path)
-        return found, others
+            names, imports, words, variables, reason = waiting.pop()
+            for name in names:
+                meaning = words.get(name.partition(".")[0]) or self.meaning(imports, name)
+                if isinstance(meaning, str):
+                    others.add(meaning)
+                elif meaning is None:
+                    self.judge_variable(name, variables, reason)
+                elif meaning not in found:
+                    found[meaning] = reason
+                    file, path = meaning.file, meaning.path
+                    waiting.append((meaning.names(), file.imports, file.words, meaning.variables(), path))
+        return found, others - {""}
 
-    def variable(self, name, variables, reason):
-        """Nothing, if a name without a meaning is a variable, a word of the language or of Rust."""
+    def judge_variable(self, name, variables, reason):
+        """Keeps a name without a meaning that is no variable, and no word of the language or of Rust."""
         first = name.partition(".")[0]
         if first not in KEYWORDS and first not in variables and first not in self.rust_names:
             self.unread.add(f"{reason}: {name}")

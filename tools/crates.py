@@ -2,6 +2,7 @@
 
 `python3 tools/crates.py tests NAME` prints the crates that test a crate.
 """
+import glob
 import os
 import sys
 import typing
@@ -42,6 +43,14 @@ def below(lines, name):
 def is_for_users(name):
     """Whether a crate is no crate of tests, examples or measures."""
     return not name.endswith(("_tests", "_examples", "_bench")) and not name.startswith("test_")
+
+
+def sources(name):
+    """Gives the paths and texts of the files of a crate's code, but its tests."""
+    for path in sorted(glob.glob(f"{TOP}/crates/{name}/src/**/*.rt", recursive=True)):
+        if "tests" not in path.removeprefix(f"{TOP}/crates/{name}/"):
+            with open(path, encoding="utf-8") as file:
+                yield os.path.relpath(path, TOP), file.read()
 
 
 def tests_of(lines, name):

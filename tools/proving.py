@@ -15,31 +15,25 @@ import time
 import crates
 
 TOP = crates.TOP
-# What a proof of one library is planned to take of memory, in bytes.
-MEMORY_OF_A_RUN = 3_500_000_000
+# What one proof is planned to take of memory, in bytes.
+MEMORY_OF_A_PROOF = 4_000_000_000
 # Lines of `rt` that only say how much of which library was read.
 READING = re.compile("(statements|library|logic|note:) ")
 
 
 def functions_in(name):
     """About how many functions a crate has, those that are derived among them."""
-    count = 0
-    for folder, _, files in os.walk(f"{TOP}/crates/{name}/src"):
-        for file in files:
-            if "tests" in f"{folder}/{file}".split("/src/")[1]:
-                continue
-            with open(f"{folder}/{file}", encoding="utf-8") as text:
-                text = text.read()
-            count += len(re.findall(r"\bfn [a-z_0-9]+", text))
-            derived = " ".join(re.findall(r"derive\(([^)]*)\)", text))
-            count += len(re.findall(r"\b(PartialEq|PartialOrd|Ord|Debug|Default|Hash)\b", derived))
-    return count
+    text = "".join(text for _, text in crates.sources(name))
+    derived = " ".join(re.findall(r"derive\(([^)]*)\)", text))
+    written = re.findall(r"\bfn [a-z_0-9]+", text)
+    return len(written) + len(re.findall(r"\b(PartialEq|PartialOrd|Ord|Debug|Default|Hash)\b", derived))
 
 
-def free_memory():
-    """The bytes of memory that are free for new work."""
+def at_once():
+    """How many proofs the processors and the free memory have room for."""
     with open("/proc/meminfo", encoding="utf-8") as file:
-        return 1024 * int(re.search(r"MemAvailable:\s+(\d+)", file.read())[1])
+        free = 1024 * int(re.search(r"MemAvailable:\s+(\d+)", file.read())[1])
+    return max(1, min(len(os.sched_getaffinity(0)), free // MEMORY_OF_A_PROOF))
 
 
 class Progress:
@@ -155,8 +149,7 @@ def prove(name, inside, finish):
     libraries = to_prove(inside.crates[name].below()) if inside else []
     totals = {it.name: functions_in(it.name) for it in libraries}
     totals[name] = functions_in(name) if inside else sum(map(functions_in, [*crates.below(uses, name), name]))
-    at_once = max(1, min(len(os.sched_getaffinity(0)), free_memory() // MEMORY_OF_A_RUN))
-    progress = Progress(name, totals, {it: uses[it].uses for it in totals}, at_once)
+    progress = Progress(name, totals, {it: uses[it].uses for it in totals}, at_once())
     teller = threading.Thread(target=progress.tell)
     teller.start()
     try:

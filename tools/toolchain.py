@@ -8,7 +8,7 @@
   tools/toolchain.py TOOL ARGUMENT..   runs a tool of LLVM, as `clang`, `ld.lld` or `llvm-objdump`
 """
 import contextlib
-import importlib.util
+import importlib
 import os
 import shutil
 import subprocess
@@ -33,16 +33,11 @@ def say(text):
 
 def load():
     """Returns the module that `rt` is made of, or None if there is none."""
-    path = f"{os.path.dirname(os.path.realpath(shutil.which('rt') or ''))}/rtlib.py"
-    if not os.path.isfile(path):
-        return None
-    spec = importlib.util.spec_from_file_location("rtlib", path)
-    module = importlib.util.module_from_spec(spec)
+    sys.path.append(os.path.dirname(os.path.realpath(shutil.which("rt") or "")))
     try:
-        spec.loader.exec_module(module)
+        return importlib.import_module("rtlib")
     except Exception:
         return None
-    return module
 
 
 def inside(instead, top=crates.TOP):
