@@ -14,6 +14,8 @@ mod path;
 mod pci;
 mod time;
 
+pub use hex::Hex;
+
 /// Whether the bytes were what the command lists. If not, the listing is one line `refused NAME`.
 #[derive(Clone, Copy, PartialEq, Eq)]
 pub enum Outcome {
