@@ -154,7 +154,7 @@ fn main() -> io::Result<ExitCode> {
     let limit = Duration::from_secs(seconds.parse().map_err(io::Error::other)?);
     let pools = COMMANDS.iter().map(|command| Pool::new(command, top));
     let mut pools = pools.collect::<io::Result<Vec<_>>>()?;
-    let (mut random, start) = (Random::seeded(hash(seed) | 1), Instant::now());
+    let (mut random, start) = (Random(hash(seed) | 1), Instant::now());
     let report = File::create(room.join("report"))?;
     let (mut done, mut differs) = (0, false);
     while done < INPUTS && start.elapsed() < limit && !differs {

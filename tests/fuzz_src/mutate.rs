@@ -75,10 +75,12 @@ impl<'a> Mutator<'a> {
         input
     }
 
-    /// An offset, half of the time the next at which a part of the format's may start.
+    /// An offset, often one near the start, or the next at which a part of the format's may start.
     fn offset(&mut self, bytes: &[u8]) -> usize {
-        let (offset, parts) = (self.below(bytes.len() + 1), &self.command.format.parts);
-        if parts.is_empty() || self.below(2) == 0 {
+        let (kind, parts) = (self.below(3), &self.command.format.parts);
+        let offset =
+            if kind == 0 { self.length(bytes.len()) } else { self.below(bytes.len() + 1) };
+        if kind < 2 || parts.is_empty() {
             return offset;
         }
         let first = parts[self.below(parts.len())][0];
@@ -88,21 +90,21 @@ impl<'a> Mutator<'a> {
     /// Replaces bytes by others: by as many, by none, or by any number.
     fn replace(&mut self, bytes: &mut Vec<u8>) {
         let (start, parts) = (self.offset(bytes), &self.command.format.parts);
-        let new = match self.below(9) {
-            0 | 1 => self.number(&bytes[start..], bytes.len()),
-            2 | 3 if !parts.is_empty() => parts[self.below(parts.len())].clone(),
-            4 | 5 => {
+        let new = match self.below(10) {
+            0..=3 => self.number(&bytes[start..], bytes.len()),
+            4 | 5 if !parts.is_empty() => parts[self.below(parts.len())].clone(),
+            6 | 7 => {
                 let from = if self.below(2) == 0 { &*bytes } else { &self.member().bytes };
                 let first = self.offset(from);
                 from[first..first + self.length(from.len() - first)].to_vec()
             }
-            6 => vec![self.random.byte(); self.length(64)],
-            7 => (0..self.length(64)).map(|_| self.random.byte()).collect(),
+            8 if self.below(2) == 0 => vec![self.random.byte(); self.length(64)],
+            8 => (0..self.length(64)).map(|_| self.random.byte()).collect(),
             _ => Vec::new(),
         };
         let end = match self.below(8) {
-            0..=3 => start + new.len(),
-            4 | 5 => start,
+            0..=4 => start + new.len(),
+            5 => start,
             6 => start + self.length(bytes.len() - start),
             _ => bytes.len(),
         };
