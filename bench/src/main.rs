@@ -38,7 +38,7 @@ unsafe extern "C" {
 ///
 /// SAFETY: a proved reader reads the bytes of the slice, and is done with them when it returns.
 macro_rules! all {
-    ($name:ident, $port:ident $(, $bytes:ident, $($number:expr),+)?) => {
+    ($name:ident, $port:ident $(, $bytes:pat, $($number:expr),+)?) => {
         [
             |it| {
                 $(let $bytes = it;)?
@@ -67,31 +67,25 @@ const PATHS: Counts = [(5, "5 nodes"), (1_000_000, "1,000,000 nodes, an instance
 type Make = fn(usize) -> Vec<u8>;
 
 // The last entry that each reader of logs is told is the log's length: every whole event is read.
+const EVENTS2: [Read; 3] = all!(events2, port_log2, log, log.len(), 0);
+const DIGESTS2: [Read; 3] = all!(digests2, port_log2, log, log.len(), 1);
+
+/// The readers in the order of the page.
 const READERS: [(&str, Counts, Make, [Read; 3]); 17] = [
-    ("long values", VALUES, value, all!(values, port_config_value)),
     ("hex", DIGITS, digits, all!(hex, port_hex)),
-    ("pairs of configurations", TEXTS, configurations, all!(pairs, port_config_pairs)),
-    ("configurations", TEXTS, configurations, all!(configurations, port_config)),
+    ("long values", VALUES, value, all!(values, port_config_value)),
     ("names", NAMES, info, all!(info, port_info)),
-    ("maps: entries", MAPS, map, all!(entries, port_map, _bytes, STRIDE)),
-    ("maps: `is_sorted`", MAPS, map, all!(order, port_sorted, _bytes, STRIDE)),
+    ("pairs of configurations", TEXTS, configurations, all!(pairs, port_config_pairs)),
+    ("maps: entries", MAPS, map, all!(entries, port_map, _, STRIDE)),
+    ("maps: `is_sorted`", MAPS, map, all!(order, port_sorted, _, STRIDE)),
     ("logs: version 1", LOGS, log1, all!(events1, port_log1, log, log.len())),
-    ("logs: version 2, two digests", LOGS, log2::<2>, all!(events2, port_log2, log, log.len(), 0)),
-    (
-        "logs: version 2, each of two digests",
-        LOGS,
-        log2::<2>,
-        all!(digests2, port_log2, log, log.len(), 1),
-    ),
-    ("logs: version 2, four digests", LOGS, log2::<4>, all!(events2, port_log2, log, log.len(), 0)),
-    (
-        "logs: version 2, each of four digests",
-        LOGS,
-        log2::<4>,
-        all!(digests2, port_log2, log, log.len(), 1),
-    ),
+    ("logs: version 2, two digests", LOGS, log2::<2>, EVENTS2),
+    ("logs: version 2, each of two digests", LOGS, log2::<2>, DIGESTS2),
+    ("logs: version 2, four digests", LOGS, log2::<4>, EVENTS2),
+    ("logs: version 2, each of four digests", LOGS, log2::<4>, DIGESTS2),
     ("PCI resources", RESOURCES, resources, all!(resources, port_pci)),
     ("times", TIMES, times, all!(times, port_times)),
+    ("configurations", TEXTS, configurations, all!(configurations, port_config)),
     ("paths: `try_from`", PATHS, path, all!(path, port_path)),
     ("paths: nodes", PATHS, path, all!(nodes, port_nodes)),
     ("paths: instances", PATHS, path, all!(instances, port_instances)),
