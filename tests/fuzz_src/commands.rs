@@ -5,9 +5,8 @@
 use crate::audit;
 use crate::formats::{self, Format};
 use crate::input::Input;
-use crate::listings::{self, ThirdWord};
+use crate::listings::{self, List, ThirdWord};
 use crate::program::Ending;
-use std::io;
 use std::sync::LazyLock;
 use uefi_list::uefi_listing::command::Command as Asked;
 use uefi_list::uefi_listing::listing::Outcome;
@@ -33,7 +32,7 @@ pub struct Command {
 }
 
 pub static COMMANDS: LazyLock<Vec<Command>> = LazyLock::new(|| {
-    let list = |&(name, third_word): &(&'static str, ThirdWord)| {
+    let list = |&(name, third_word, _): &(&'static str, ThirdWord, List)| {
         let (program, format) = (Program::List, formats::named(name));
         Command { program, name, third_word, takes_two: false, format }
     };
@@ -63,19 +62,21 @@ impl Command {
     }
 
     /// What plain Rust expects a run to end with, whose file has this name.
-    pub fn expected(&self, input: &Input, file: &str) -> io::Result<Ending> {
+    pub fn expected(&self, input: &Input, file: &str) -> Ending {
         let word = input.third_word.as_deref();
         let argument = self.argument(word);
         if self.program == Program::Audit && (word.is_none() || argument.is_some()) {
-            return Ok(audit::ending(self.name, input, argument, file));
+            return audit::ending(self.name, input, argument, file);
         }
         let Some(argument) = argument else {
             let usage = if self.program == Program::List { USAGE } else { b"" };
-            return Ok(Ending { status: OTHER_WORDS, message: usage.into(), output: Vec::new() });
+            return Ending { status: OTHER_WORDS, message: usage.into(), output: Vec::new() };
         };
-        let mut output = Vec::new();
-        let outcome = listings::list(&mut output, self.name, &input.bytes, argument)?;
-        Ok(listed(outcome == listings::Outcome::Refused, output))
+        let mut commands = listings::COMMANDS.iter();
+        let (_, _, list) = commands.find(|it| it.0 == self.name).expect("a command of the program");
+        let listing = list(&input.bytes, argument);
+        let is_refused = listing.is_err();
+        listed(is_refused, listing.unwrap_or_else(|name| format!("refused {name}\n")).into())
     }
 
     /// What a run by the modules of the package's example `uefi_list` ends with.

@@ -66,6 +66,7 @@ fn name(text: &str) -> Option<String> {
 }
 
 /// The parts of a header.
+#[derive(Debug)]
 pub enum Section {
     Guid,
     Name,
@@ -74,6 +75,7 @@ pub enum Section {
 }
 
 /// What is wrong with a group of pairs.
+#[derive(Debug)]
 pub enum Fault {
     ConfigHdr(Section),
     BlockName,

@@ -5,13 +5,14 @@ pub const RECORD_LENGTH: usize = 46;
 pub const END_TAG: u8 = 0x79;
 
 /// What stands where neither a whole record nor the end tag does.
+#[derive(Debug)]
 pub enum Fault {
     NoEndTag,
     CutRecord,
     UnknownTag(u8),
 }
 
-#[derive(Clone, Copy)]
+#[derive(Clone, Copy, Debug)]
 pub enum RangeType {
     Memory,
     Io,
