@@ -17,16 +17,12 @@ const CONFIG_HEADER: &str = "GUID=16d6474bd6a852459d44ccad2e0f4cf9&NAME=0041&PAT
 /// Algorithms, each with the size of its digests: SHA-1, SHA-256, SHA-384 and SHA-512.
 const ALGORITHMS: [(u16, u16); 4] = [(0x04, 20), (0x0b, 32), (0x0c, 48), (0x0d, 64)];
 
-fn push_bytes(bytes: &mut Vec<u8>, count: u64, random: &mut Random) {
-    bytes.extend((0..count).map(|_| random.byte()));
-}
-
 fn push_numbers(bytes: &mut Vec<u8>, numbers: impl IntoIterator<Item = u32>) {
     bytes.extend(numbers.into_iter().flat_map(u32::to_le_bytes));
 }
 
-fn push_digits(text: &mut Vec<u8>, count: usize, random: &mut Random) {
-    text.extend((0..count).map(|_| random.one_of(b"0123456789abcdef")));
+fn hex_digits(count: usize, random: &mut Random) -> Vec<u8> {
+    (0..count).map(|_| random.one_of(b"0123456789abcdef")).collect()
 }
 
 /// A path of nodes with data of 0 to 24 bytes. Each 50th ends an instance.
@@ -40,7 +36,7 @@ pub fn path(count: usize) -> Vec<u8> {
         let length = random.below(25);
         bytes.extend([random.below(6) as u8, random.byte()]);
         bytes.extend((length as u16 + HEADER as u16).to_le_bytes());
-        push_bytes(&mut bytes, length, &mut random);
+        bytes.extend(random.bytes(length));
     }
     bytes.extend([END, END_ENTIRE, 4, 0]);
     bytes
@@ -51,11 +47,10 @@ pub fn log1(count: usize) -> Vec<u8> {
     let (mut random, mut bytes) = (Random(SEED), Vec::new());
     for _ in 0..count {
         let length = random.below(41);
-        let numbers = [random.below(24) as u32, random.below(14) as u32];
-        push_numbers(&mut bytes, numbers);
-        push_bytes(&mut bytes, 20, &mut random);
+        push_numbers(&mut bytes, [random.below(24) as u32, random.below(14) as u32]);
+        bytes.extend(random.bytes(20));
         push_numbers(&mut bytes, [length as u32]);
-        push_bytes(&mut bytes, length, &mut random);
+        bytes.extend(random.bytes(length));
     }
     bytes
 }
@@ -80,14 +75,13 @@ pub fn log2<const ROWS: usize>(count: usize) -> Vec<u8> {
     let (mut random, mut bytes) = (Random(SEED), log2_header(ROWS));
     for _ in 0..count {
         let length = random.below(41);
-        let numbers = [random.below(24) as u32, random.below(14) as u32, ROWS as u32];
-        push_numbers(&mut bytes, numbers);
+        push_numbers(&mut bytes, [random.below(24) as u32, random.below(14) as u32, ROWS as u32]);
         for (algorithm, digest) in &ALGORITHMS[..ROWS] {
             bytes.extend(algorithm.to_le_bytes());
-            push_bytes(&mut bytes, (*digest).into(), &mut random);
+            bytes.extend(random.bytes((*digest).into()));
         }
         push_numbers(&mut bytes, [length as u32]);
-        push_bytes(&mut bytes, length, &mut random);
+        bytes.extend(random.bytes(length));
     }
     bytes
 }
@@ -118,7 +112,7 @@ pub fn resources(count: usize) -> Vec<u8> {
     let (mut random, mut bytes) = (Random(SEED), Vec::new());
     for _ in 0..count {
         bytes.extend([pci::RECORD_TAG, 0x2b, 0, random.below(4) as u8]);
-        push_bytes(&mut bytes, 42, &mut random);
+        bytes.extend(random.bytes(42));
     }
     bytes.extend([pci::END_TAG, 0]);
     bytes
@@ -148,7 +142,7 @@ pub fn configurations(length: usize) -> Vec<u8> {
         bytes.extend(format!("{between}{CONFIG_HEADER}&ALTCFG=0001").bytes());
         for offset in 0..42 {
             bytes.extend(format!("&OFFSET={:04x}&WIDTH=0020&VALUE=", 32 * offset).bytes());
-            push_digits(&mut bytes, 64, &mut random);
+            bytes.extend(hex_digits(64, &mut random));
         }
     }
     bytes
@@ -156,15 +150,11 @@ pub fn configurations(length: usize) -> Vec<u8> {
 
 /// A configuration of one element with a long value.
 pub fn value(digits: usize) -> Vec<u8> {
-    let mut bytes =
-        format!("{CONFIG_HEADER}&OFFSET=00&WIDTH={:08x}&VALUE=", digits / 2).into_bytes();
-    push_digits(&mut bytes, digits, &mut Random(SEED));
-    bytes
+    let start = format!("{CONFIG_HEADER}&OFFSET=00&WIDTH={:08x}&VALUE=", digits / 2);
+    [start.into_bytes(), self::digits(digits)].concat()
 }
 
 /// Digits alone.
 pub fn digits(count: usize) -> Vec<u8> {
-    let mut bytes = Vec::new();
-    push_digits(&mut bytes, count, &mut Random(SEED));
-    bytes
+    hex_digits(count, &mut Random(SEED))
 }

@@ -2,11 +2,11 @@
 //! std alone. A command has a line in [`COMMANDS`].
 
 use crate::readers::config::{Configuration, Configurations};
-use crate::readers::info::{Fault, FileInfo};
+use crate::readers::info::FileInfo;
 use crate::readers::log1;
 use crate::readers::log2::{self, Header};
 use crate::readers::map::{Descriptor, Map};
-use crate::readers::path::{Instances, Nodes, Stop, split};
+use crate::readers::path::{Nodes, Stop, instances, split};
 use crate::readers::pci::{RECORD_LENGTH, Range, records};
 use crate::readers::time::Time;
 use std::fmt::{self, Display, Formatter};
@@ -59,7 +59,7 @@ fn spaced(bytes: &[u8]) -> String {
 fn path(bytes: &[u8], _: Option<usize>) -> Listing {
     let (path, _) = split(bytes, Stop::EndEntire).ok_or("InvalidLength")?;
     let mut lines = String::new();
-    for instance in (Instances { rest: path }) {
+    for instance in instances(path) {
         lines += &format!("instance {}\n", instance.len());
         for node in (Nodes { rest: instance, stop: Stop::AnyEnd }) {
             let (device_type, sub_type) = (node.device_type(), node.sub_type());
@@ -109,7 +109,7 @@ fn config(bytes: &[u8], _: Option<usize>) -> Listing {
     let text = str::from_utf8(bytes).map_err(|_| "NotUtf8")?;
     let (mut lines, mut count) = (String::new(), 0);
     for item in Configurations::new(text) {
-        lines += &item.map_or_else(|fault| format!("fault {fault:?}\n"), |it| configuration(&it));
+        lines += &item.map_or_else(|fault| format!("fault {fault}\n"), |it| configuration(&it));
         count += 1;
     }
     Ok(format!("{lines}items {count}\n"))
@@ -157,8 +157,7 @@ fn map(bytes: &[u8], stride: Option<usize>) -> Listing {
 }
 
 fn pci(bytes: &[u8], _: Option<usize>) -> Listing {
-    let records = records(bytes).map_err(|fault| format!("{fault:?}"))?;
-    let (records, _) = records.as_chunks::<RECORD_LENGTH>();
+    let (records, _) = records(bytes)?.as_chunks::<RECORD_LENGTH>();
     let line = |record| {
         let range = Range::read(record);
         let (kind, general) = (range.range_type, range.general_flags);
@@ -173,7 +172,7 @@ fn pci(bytes: &[u8], _: Option<usize>) -> Listing {
 }
 
 fn time(bytes: &[u8], _: Option<usize>) -> Listing {
-    let time = Time::read(bytes).map_err(|fault| format!("{fault:?}"))?;
+    let time = Time::read(bytes)?;
     let zone = time.zone().map_or("local".to_owned(), |minutes| minutes.to_string());
     let Time { year, month, day, hour, minute, second, nanosecond, daylight, .. } = time;
     let date = format!("{year:04}-{month:02}-{day:02}");
@@ -182,10 +181,7 @@ fn time(bytes: &[u8], _: Option<usize>) -> Listing {
 }
 
 fn info(bytes: &[u8], written: Option<usize>) -> Listing {
-    let info = FileInfo::read(bytes, written.unwrap_or(0)).map_err(|fault| match fault {
-        Fault::NoName => "BAD_BUFFER_SIZE".to_owned(),
-        Fault::NoRoom(size) => format!("BUFFER_TOO_SMALL({size})"),
-    })?;
+    let info = FileInfo::read(bytes, written.unwrap_or(0))?;
     let FileInfo { size, file_size, physical_size, attribute, name, .. } = info;
     let times = [info.create_time, info.last_access_time, info.modification_time];
     let [created, accessed, modified] = times.map(Hex);

@@ -28,4 +28,8 @@ impl Random {
     pub fn byte(&mut self) -> u8 {
         self.next() as u8
     }
+
+    pub fn bytes(&mut self, count: u64) -> Vec<u8> {
+        (0..count).map(|_| self.byte()).collect()
+    }
 }

@@ -80,12 +80,6 @@ fn number(text: &str, radix: u32) -> u64 {
     u64::from_str_radix(text, radix).expect("a number of the table")
 }
 
-/// The types of the table's events.
-pub static TYPES: LazyLock<Vec<u32>> = LazyLock::new(|| {
-    let events = lines().filter(|line| line.0 == "event");
-    events.map(|(_, rest)| number(&rest[..8], 16) as u32).collect()
-});
-
 /// A log with an event of this type.
 fn event(kind: &str, data: &[u8]) -> Input {
     let (kind, length) = ((number(kind, 16) as u32).to_le_bytes(), data.len() as u32);

@@ -1,7 +1,6 @@
 //! Mutations of an input.
 
 use crate::commands::{Command, Program};
-use crate::formats::TYPES;
 use crate::input::Input;
 use crate::listings::ThirdWord;
 use crate::random::Random;
@@ -91,7 +90,7 @@ impl<'a> Mutator<'a> {
     fn replace(&mut self, bytes: &mut Vec<u8>) {
         let (start, parts) = (self.offset(bytes), &self.command.format.parts);
         let new = match self.below(10) {
-            0..=3 => self.number(&bytes[start..], bytes.len()),
+            0..=3 => self.number_bytes(&bytes[start..], bytes.len()),
             4 | 5 if !parts.is_empty() => parts[self.below(parts.len())].clone(),
             6 | 7 => {
                 let from = if self.below(2) == 0 { &*bytes } else { &self.member().bytes };
@@ -111,32 +110,35 @@ impl<'a> Mutator<'a> {
         drop(bytes.splice(start..end.min(bytes.len()), new));
     }
 
-    /// The bytes of a number to take the place of the first: one at an edge, one near the length of
-    /// the whole or of the rest, or the number there with a bit flipped or something added.
-    fn number(&mut self, rest: &[u8], length: usize) -> Vec<u8> {
+    /// The bytes of a number to take the place of the first.
+    fn number_bytes(&mut self, rest: &[u8], length: usize) -> Vec<u8> {
         let width = self.random.one_of(&[1, 2, 4, 8]);
-        let near = self.below(65).wrapping_sub(32) as u64;
         let mut found = [0; 8];
         rest.iter().zip(&mut found[..width]).for_each(|(byte, copy)| *copy = *byte);
-        let (found, numbers) = (u64::from_le_bytes(found), &self.command.format.numbers);
-        let number = match self.below(8) {
-            0 | 1 => self.random.one_of(&EDGES),
-            2 | 3 if !numbers.is_empty() => self.random.one_of(numbers),
-            4 => (length as u64).wrapping_add(near / 8),
-            5 => (rest.len() as u64).wrapping_sub(width as u64).wrapping_add(near / 8),
-            6 => found ^ 1 << self.below(8 * width),
-            _ => found.wrapping_add(near),
-        };
+        let lengths = [length, rest.len().saturating_sub(width)];
+        let number = self.number(u64::from_le_bytes(found), lengths);
         number.to_le_bytes()[..width].to_vec()
     }
 
-    /// Makes a version 1 log one event, sometimes of another type. Sometimes the value of its
+    /// A number at an edge, one near a length, or one near another in sum or in bits.
+    fn number(&mut self, other: u64, lengths: [usize; 2]) -> u64 {
+        let (near, numbers) = (self.below(65) as u64, &self.command.format.numbers);
+        match self.below(8) {
+            0 | 1 => self.random.one_of(&EDGES),
+            2 | 3 if !numbers.is_empty() => self.random.one_of(numbers),
+            4 | 5 => (self.random.one_of(&lengths) as u64 + near / 8).wrapping_sub(4),
+            6 => other ^ 1 << (self.below(8) + 8 * self.length(7)),
+            _ => other.wrapping_add(near).wrapping_sub(32),
+        }
+    }
+
+    /// Makes a version 1 log one event, sometimes of another log's type. Sometimes the value of its
     /// variable, or the path of its image, is stated to reach to the end.
     fn give_event_all(&mut self, bytes: &mut [u8]) {
         let Some((head, data)) = bytes.split_at_mut_checked(DATA_OFFSET) else { return };
         head[28..].copy_from_slice(&(data.len() as u32).to_le_bytes());
-        if self.below(8) == 0 {
-            head[4..8].copy_from_slice(&self.random.one_of(&TYPES).to_le_bytes());
+        if let Some(kind) = self.member().bytes.get(4..8).filter(|_| self.below(8) == 0) {
+            head[4..8].copy_from_slice(kind);
         }
         if self.below(2) == 0 && data.len() >= 32 {
             let name_end = 32 + 2 * usize::from(data[16]);
@@ -166,19 +168,16 @@ impl<'a> Mutator<'a> {
 
     /// A word for a file of this length.
     fn word(&mut self, length: usize) -> Vec<u8> {
-        let numbers = &self.command.format.numbers;
         let is_number = self.command.third_word == ThirdWord::Number;
-        let number = match self.below(14) {
-            0..=2 => length as u64,
-            3 | 4 => (length + self.below(17)).wrapping_sub(8) as u64,
-            5 | 6 => self.below(length + 2) as u64,
-            7 => self.random.one_of(&EDGES),
-            8 if !numbers.is_empty() => self.random.one_of(numbers),
-            9 => (length / (1 + self.below(12))) as u64,
-            10 | 11 if is_number => 8 * self.below(16) as u64,
-            10 | 11 => return b"-".to_vec(),
-            12 => return self.random.one_of(&NO_NUMBERS).to_vec(),
-            _ => return format!("00{}", self.below(length + 2)).into(),
+        let number = match self.below(10) {
+            0 | 1 => length,
+            2 | 3 => self.below(length + 2),
+            4 => length / (1 + self.below(12)),
+            5 if is_number => 8 * self.below(16),
+            5 => return b"-".to_vec(),
+            6 => return self.random.one_of(&NO_NUMBERS).to_vec(),
+            7 => return format!("00{}", self.below(length + 2)).into(),
+            _ => return self.number(length as u64, [length; 2]).to_string().into(),
         };
         number.to_string().into()
     }
