@@ -5,7 +5,7 @@ use crate::inputs::STRIDE;
 use crate::plain::{first_of, sum, text_of};
 use std::hint::black_box;
 use uefi_formats::mem::memory_map::{MemoryMap, MemoryMapMeta, MemoryMapRef};
-use uefi_formats::proto::device_path::{DevicePath, DevicePathNodeIterator};
+use uefi_formats::proto::device_path::{DevicePath, DevicePathInstance, DevicePathNodeIterator};
 use uefi_formats::proto::hii::config_str::{
     ConfigurationString, ConfigurationStringElement, ConfigurationStringIter,
     MultiConfigurationStringIter, fill_from_hex,
@@ -28,12 +28,9 @@ pub fn nodes(bytes: &[u8]) -> u64 {
 }
 
 pub fn instances(bytes: &[u8]) -> u64 {
-    let Ok(path) = DevicePath::try_from(bytes) else {
-        return 0;
-    };
-    sum(path
-        .instance_iter()
-        .map(|it| node_sum(it.node_iter()).wrapping_add(it.as_bytes().len() as u64)))
+    let instance_sum =
+        |it: DevicePathInstance<'_>| sum([node_sum(it.node_iter()), it.as_bytes().len() as u64]);
+    DevicePath::try_from(bytes).map_or(0, |path| sum(path.instance_iter().map(instance_sum)))
 }
 
 pub fn events1(bytes: &[u8]) -> u64 {
