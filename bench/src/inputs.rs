@@ -1,10 +1,12 @@
 //! The inputs of the readers that are measured, made from a fixed seed: as machines have them, and large.
 
-use crate::measure::{Input, Size};
 use crate::random::Random;
 use crate::readers::log2::{NO_ACTION, ROW_LENGTH, SIGNATURE};
 use crate::readers::path::{END, END_ENTIRE, END_INSTANCE, HEADER};
 use crate::readers::{info, pci};
+
+/// What the numbers of each input follow from, so that each run has the same.
+const SEED: u64 = 0x9e37_79b9_7f4a_7c15;
 
 /// The stride of a map.
 pub const STRIDE: usize = 48;
@@ -15,24 +17,18 @@ const CONFIG_HEADER: &str = "GUID=16d6474bd6a852459d44ccad2e0f4cf9&NAME=0041&PAT
 /// Algorithms, each with the size of its digests: SHA-1, SHA-256, SHA-384 and SHA-512.
 const ALGORITHMS: [(u16, u16); 4] = [(0x04, 20), (0x0b, 32), (0x0c, 48), (0x0d, 64)];
 
-fn push_bytes(bytes: &mut Vec<u8>, count: u64, random: &mut Random) {
-    bytes.extend((0..count).map(|_| random.byte()));
-}
-
 fn push_numbers(bytes: &mut Vec<u8>, numbers: impl IntoIterator<Item = u32>) {
     bytes.extend(numbers.into_iter().flat_map(u32::to_le_bytes));
 }
 
-fn push_digits(text: &mut Vec<u8>, count: usize, random: &mut Random) {
-    text.extend((0..count).map(|_| random.one_of(b"0123456789abcdef")));
+fn hex_digits(count: usize, random: &mut Random) -> Vec<u8> {
+    (0..count).map(|_| random.one_of(b"0123456789abcdef")).collect()
 }
 
 /// A path of nodes with data of 0 to 24 bytes. Each 50th ends an instance.
-pub fn path(size: Size) -> Input {
-    let (nodes, words) =
-        size.pick((5, "5 nodes"), (1_000_000, "1,000,000 nodes, an instance each 50"));
-    let (mut random, mut bytes) = (Random::new(), Vec::new());
-    for i in 1..nodes {
+pub fn path(count: usize) -> Vec<u8> {
+    let (mut random, mut bytes) = (Random(SEED), Vec::new());
+    for i in 1..count {
         if i % 50 == 0 {
             bytes.extend([END, END_INSTANCE, 4, 0]);
             continue;
@@ -40,29 +36,23 @@ pub fn path(size: Size) -> Input {
         let length = random.below(25);
         bytes.extend([random.below(6) as u8, random.byte()]);
         bytes.extend((length as u16 + HEADER as u16).to_le_bytes());
-        push_bytes(&mut bytes, length, &mut random);
+        bytes.extend(random.bytes(length));
     }
     bytes.extend([END, END_ENTIRE, 4, 0]);
-    Input { size, words, bytes }
-}
-
-fn log_size(size: Size) -> (usize, &'static str) {
-    size.pick((200, "200 events"), (1_000_000, "1,000,000 events"))
+    bytes
 }
 
 /// Events of version 1 with data of 0 to 40 bytes.
-pub fn log1(size: Size) -> Input {
-    let (count, words) = log_size(size);
-    let (mut random, mut bytes) = (Random::new(), Vec::new());
+pub fn log1(count: usize) -> Vec<u8> {
+    let (mut random, mut bytes) = (Random(SEED), Vec::new());
     for _ in 0..count {
         let length = random.below(41);
-        let numbers = [random.below(24) as u32, random.below(14) as u32];
-        push_numbers(&mut bytes, numbers);
-        push_bytes(&mut bytes, 20, &mut random);
+        push_numbers(&mut bytes, [random.below(24) as u32, random.below(14) as u32]);
+        bytes.extend(random.bytes(20));
         push_numbers(&mut bytes, [length as u32]);
-        push_bytes(&mut bytes, length, &mut random);
+        bytes.extend(random.bytes(length));
     }
-    Input { size, words, bytes }
+    bytes
 }
 
 /// The event with the header of a log under this many rows.
@@ -81,62 +71,56 @@ fn log2_header(rows: usize) -> Vec<u8> {
 }
 
 /// Events of version 2 with data of 0 to 40 bytes, and with a digest for each row.
-pub fn log2(size: Size, rows: usize) -> Input {
-    let (count, words) = log_size(size);
-    let (mut random, mut bytes) = (Random::new(), log2_header(rows));
+pub fn log2<const ROWS: usize>(count: usize) -> Vec<u8> {
+    let (mut random, mut bytes) = (Random(SEED), log2_header(ROWS));
     for _ in 0..count {
         let length = random.below(41);
-        let numbers = [random.below(24) as u32, random.below(14) as u32, rows as u32];
-        push_numbers(&mut bytes, numbers);
-        for (algorithm, digest) in &ALGORITHMS[..rows] {
+        push_numbers(&mut bytes, [random.below(24) as u32, random.below(14) as u32, ROWS as u32]);
+        for (algorithm, digest) in &ALGORITHMS[..ROWS] {
             bytes.extend(algorithm.to_le_bytes());
-            push_bytes(&mut bytes, (*digest).into(), &mut random);
+            bytes.extend(random.bytes((*digest).into()));
         }
         push_numbers(&mut bytes, [length as u32]);
-        push_bytes(&mut bytes, length, &mut random);
+        bytes.extend(random.bytes(length));
     }
-    Input { size, words, bytes }
+    bytes
 }
 
 /// Descriptors in order.
-pub fn map(size: Size) -> Input {
-    let (count, words) = size.pick((100, "100 descriptors"), (1_000_000, "1,000,000 descriptors"));
-    let (mut random, mut bytes, mut start) = (Random::new(), Vec::new(), 0u64);
+pub fn map(count: usize) -> Vec<u8> {
+    let (mut random, mut bytes, mut start) = (Random(SEED), Vec::new(), 0u64);
     for _ in 0..count {
         let pages = 1 + random.below(64);
         let numbers = [random.below(15), start, 0, pages, 0xf, 0];
         bytes.extend(numbers.into_iter().flat_map(u64::to_le_bytes));
         start += pages * 4096;
     }
-    Input { size, words, bytes }
+    bytes
 }
 
 /// A file information record with a name of so many units and the NUL.
-pub fn info(size: Size) -> Input {
-    let (units, words) = size.pick((12, "12 units"), (32_000_000, "32,000,000 units"));
-    let (mut random, mut bytes) = (Random::new(), vec![0; info::NAME_OFFSET]);
-    bytes.extend((0..units).flat_map(|_| (1 + random.below(0xd7ff) as u16).to_le_bytes()));
+pub fn info(count: usize) -> Vec<u8> {
+    let (mut random, mut bytes) = (Random(SEED), vec![0; info::NAME_OFFSET]);
+    bytes.extend((0..count).flat_map(|_| (1 + random.below(0xd7ff) as u16).to_le_bytes()));
     bytes.extend([0, 0]);
     bytes.resize(bytes.len().next_multiple_of(info::ALIGNMENT), 0);
-    Input { size, words, bytes }
+    bytes
 }
 
 /// Ranges of all types, and the end tag.
-pub fn resources(size: Size) -> Input {
-    let (count, words) = size.pick((4, "4 resources"), (1_000_000, "1,000,000 resources"));
-    let (mut random, mut bytes) = (Random::new(), Vec::new());
+pub fn resources(count: usize) -> Vec<u8> {
+    let (mut random, mut bytes) = (Random(SEED), Vec::new());
     for _ in 0..count {
         bytes.extend([pci::RECORD_TAG, 0x2b, 0, random.below(4) as u8]);
-        push_bytes(&mut bytes, 42, &mut random);
+        bytes.extend(random.bytes(42));
     }
     bytes.extend([pci::END_TAG, 0]);
-    Input { size, words, bytes }
+    bytes
 }
 
 /// Times with fields within their ranges. Each 50th has a month that is none.
-pub fn times(size: Size) -> Input {
-    let (count, words) = size.pick((1, "1 time"), (1_000_000, "1,000,000 times"));
-    let (mut random, mut bytes) = (Random::new(), Vec::new());
+pub fn times(count: usize) -> Vec<u8> {
+    let (mut random, mut bytes) = (Random(SEED), Vec::new());
     for i in 0..count {
         let month = if i % 50 == 49 { 13 } else { 1 + random.below(12) as u8 };
         bytes.extend((1900 + random.below(8100) as u16).to_le_bytes());
@@ -146,38 +130,31 @@ pub fn times(size: Size) -> Input {
         bytes.extend((random.below(2881) as i16 - 1440).to_le_bytes());
         bytes.extend([random.below(4) as u8, 0]);
     }
-    Input { size, words, bytes }
+    bytes
 }
 
 /// Configurations of 42 elements, each with a value of 32 bytes. With the header and the number of
 /// the alternative, each configuration has 130 pairs and 4 KB.
-pub fn configurations(size: Size) -> Input {
-    let (length, words) = size.pick((1, "130 pairs, 4 KB"), (64_000_000, "2,000,000 pairs, 64 MB"));
-    let (mut random, mut bytes) = (Random::new(), Vec::new());
+pub fn configurations(length: usize) -> Vec<u8> {
+    let (mut random, mut bytes) = (Random(SEED), Vec::new());
     while bytes.len() < length {
         let between = if bytes.is_empty() { "" } else { "&" };
         bytes.extend(format!("{between}{CONFIG_HEADER}&ALTCFG=0001").bytes());
         for offset in 0..42 {
             bytes.extend(format!("&OFFSET={:04x}&WIDTH=0020&VALUE=", 32 * offset).bytes());
-            push_digits(&mut bytes, 64, &mut random);
+            bytes.extend(hex_digits(64, &mut random));
         }
     }
-    Input { size, words, bytes }
+    bytes
 }
 
 /// A configuration of one element with a long value.
-pub fn value(size: Size) -> Input {
-    let (digits, words) = size.pick((4096, "4,096 digits"), (64_000_000, "64,000,000 digits"));
-    let mut bytes =
-        format!("{CONFIG_HEADER}&OFFSET=00&WIDTH={:08x}&VALUE=", digits / 2).into_bytes();
-    push_digits(&mut bytes, digits, &mut Random::new());
-    Input { size, words, bytes }
+pub fn value(digits: usize) -> Vec<u8> {
+    let start = format!("{CONFIG_HEADER}&OFFSET=00&WIDTH={:08x}&VALUE=", digits / 2);
+    [start.into_bytes(), self::digits(digits)].concat()
 }
 
 /// Digits alone.
-pub fn digits(size: Size) -> Input {
-    let (digits, words) = size.pick((64, "64 digits"), (64_000_000, "64,000,000 digits"));
-    let mut bytes = Vec::new();
-    push_digits(&mut bytes, digits, &mut Random::new());
-    Input { size, words, bytes }
+pub fn digits(count: usize) -> Vec<u8> {
+    hex_digits(count, &mut Random(SEED))
 }

@@ -12,8 +12,10 @@ mod random;
 #[allow(dead_code, reason = "the listings read the other fields")]
 mod readers;
 
-use inputs::STRIDE;
-use measure::{Size, measure};
+use inputs::{
+    STRIDE, configurations, digits, info, log1, log2, map, path, resources, times, value,
+};
+use measure::{Read, measure};
 
 unsafe extern "C" {
     fn port_path(bytes: *const u8, length: usize) -> u64;
@@ -32,59 +34,70 @@ unsafe extern "C" {
     fn port_hex(bytes: *const u8, length: usize) -> u64;
 }
 
-// The last entry that each reader is told is the log's length: every whole event is read.
-unsafe extern "C" fn port_events1(bytes: *const u8, length: usize) -> u64 {
-    unsafe { port_log1(bytes, length, length) }
-}
-
-unsafe extern "C" fn port_events2(bytes: *const u8, length: usize) -> u64 {
-    unsafe { port_log2(bytes, length, length, 0) }
-}
-
-unsafe extern "C" fn port_digests2(bytes: *const u8, length: usize) -> u64 {
-    unsafe { port_log2(bytes, length, length, 1) }
-}
-
-unsafe extern "C" fn port_entries(bytes: *const u8, length: usize) -> u64 {
-    unsafe { port_map(bytes, length, STRIDE) }
-}
-
-unsafe extern "C" fn port_order(bytes: *const u8, length: usize) -> u64 {
-    unsafe { port_sorted(bytes, length, STRIDE) }
-}
-
-/// Measures the readers of one name over an input.
-macro_rules! measure_all {
-    ($reader:expr, $input:expr, $name:ident, $port:ident) => {
-        measure($reader, $input, $port, plain::$name, Some(package::$name))
+/// The proved reader over bytes, the plain one, and that of the package.
+///
+/// SAFETY: a proved reader reads the bytes of the slice, and is done with them when it returns.
+macro_rules! all {
+    ($name:ident, $port:ident $(, $bytes:pat, $($number:expr),+)?) => {
+        [
+            |it| {
+                $(let $bytes = it;)?
+                unsafe { $port(it.as_ptr(), it.len() $($(, $number)+)?) }
+            },
+            plain::$name,
+            package::$name,
+        ]
     };
 }
 
-fn measure_logs(size: Size) {
-    measure_all!("logs: version 1", &inputs::log1(size), events1, port_events1);
-    for (rows, words) in [(2, "two digests"), (4, "four digests")] {
-        let input = &inputs::log2(size, rows);
-        measure_all!(&format!("logs: version 2, {words}"), input, events2, port_events2);
-        measure_all!(&format!("logs: version 2, each of {words}"), input, digests2, port_digests2);
-    }
-}
+/// The count of an input's items as machines have it and of a large one, each in words.
+type Counts = [(usize, &'static str); 2];
+
+const VALUES: Counts = [(4096, "4,096 digits"), (64_000_000, "64,000,000 digits")];
+const DIGITS: Counts = [(64, "64 digits"), (64_000_000, "64,000,000 digits")];
+const TEXTS: Counts = [(1, "130 pairs, 4 KB"), (64_000_000, "2,000,000 pairs, 64 MB")];
+const NAMES: Counts = [(12, "12 units"), (32_000_000, "32,000,000 units")];
+const MAPS: Counts = [(100, "100 descriptors"), (1_000_000, "1,000,000 descriptors")];
+const LOGS: Counts = [(200, "200 events"), (1_000_000, "1,000,000 events")];
+const RESOURCES: Counts = [(4, "4 resources"), (1_000_000, "1,000,000 resources")];
+const TIMES: Counts = [(1, "1 time"), (1_000_000, "1,000,000 times")];
+const PATHS: Counts = [(5, "5 nodes"), (1_000_000, "1,000,000 nodes, an instance each 50")];
+
+/// How an input with this many items is made.
+type Make = fn(usize) -> Vec<u8>;
+
+// The last entry that each reader of logs is told is the log's length: every whole event is read.
+const EVENTS2: [Read; 3] = all!(events2, port_log2, log, log.len(), 0);
+const DIGESTS2: [Read; 3] = all!(digests2, port_log2, log, log.len(), 1);
+
+/// The readers in the order of the page.
+const READERS: [(&str, Counts, Make, [Read; 3]); 17] = [
+    ("hex", DIGITS, digits, all!(hex, port_hex)),
+    ("long values", VALUES, value, all!(values, port_config_value)),
+    ("names", NAMES, info, all!(info, port_info)),
+    ("pairs of configurations", TEXTS, configurations, all!(pairs, port_config_pairs)),
+    ("maps: entries", MAPS, map, all!(entries, port_map, _, STRIDE)),
+    ("maps: `is_sorted`", MAPS, map, all!(order, port_sorted, _, STRIDE)),
+    ("logs: version 1", LOGS, log1, all!(events1, port_log1, log, log.len())),
+    ("logs: version 2, two digests", LOGS, log2::<2>, EVENTS2),
+    ("logs: version 2, each of two digests", LOGS, log2::<2>, DIGESTS2),
+    ("logs: version 2, four digests", LOGS, log2::<4>, EVENTS2),
+    ("logs: version 2, each of four digests", LOGS, log2::<4>, DIGESTS2),
+    ("PCI resources", RESOURCES, resources, all!(resources, port_pci)),
+    ("times", TIMES, times, all!(times, port_times)),
+    ("configurations", TEXTS, configurations, all!(configurations, port_config)),
+    ("paths: `try_from`", PATHS, path, all!(path, port_path)),
+    ("paths: nodes", PATHS, path, all!(nodes, port_nodes)),
+    ("paths: instances", PATHS, path, all!(instances, port_instances)),
+];
 
 fn main() {
-    for size in Size::ALL {
-        let (map, path, text) =
-            (&inputs::map(size), &inputs::path(size), &inputs::configurations(size));
-        measure_all!("long values", &inputs::value(size), values, port_config_value);
-        measure_all!("hex", &inputs::digits(size), hex, port_hex);
-        measure_all!("pairs of configurations", text, pairs, port_config_pairs);
-        measure_all!("configurations", text, configurations, port_config);
-        measure_all!("names", &inputs::info(size), info, port_info);
-        measure_all!("maps: entries", map, entries, port_entries);
-        measure_all!("maps: `is_sorted`", map, order, port_order);
-        measure_logs(size);
-        measure_all!("PCI resources", &inputs::resources(size), resources, port_pci);
-        measure_all!("times", &inputs::times(size), times, port_times);
-        measure_all!("paths: `try_from`", path, path, port_path);
-        measure_all!("paths: nodes", path, nodes, port_nodes);
-        measure_all!("paths: instances", path, instances, port_instances);
+    for (size, name) in ["as used", "large"].iter().enumerate() {
+        for (reader, counts, input, readers) in READERS {
+            let (count, words) = counts[size];
+            let seconds = measure(reader, &input(count), readers);
+            let seconds = seconds.map(|it| format!("{it:e}")).join("\t");
+            println!("{reader}\t{name}\t{words}\t{seconds}");
+        }
     }
 }

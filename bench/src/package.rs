@@ -2,9 +2,10 @@
 //! a sum over what it gave.
 
 use crate::inputs::STRIDE;
+use crate::plain::{first_of, sum, text_of};
 use std::hint::black_box;
 use uefi_formats::mem::memory_map::{MemoryMap, MemoryMapMeta, MemoryMapRef};
-use uefi_formats::proto::device_path::{DevicePath, DevicePathNodeIterator};
+use uefi_formats::proto::device_path::{DevicePath, DevicePathInstance, DevicePathNodeIterator};
 use uefi_formats::proto::hii::config_str::{
     ConfigurationString, ConfigurationStringElement, ConfigurationStringIter,
     MultiConfigurationStringIter, fill_from_hex,
@@ -13,10 +14,6 @@ use uefi_formats::proto::media::file::FileInfo;
 use uefi_formats::proto::pci;
 use uefi_formats::proto::tcg::{AlgorithmId, v1, v2};
 use uefi_formats::runtime::Time;
-
-fn sum(numbers: impl IntoIterator<Item = u64>) -> u64 {
-    numbers.into_iter().fold(0, u64::wrapping_add)
-}
 
 pub fn path(bytes: &[u8]) -> u64 {
     DevicePath::try_from(bytes).map_or(0, |path| path.as_bytes().len() as u64)
@@ -31,12 +28,9 @@ pub fn nodes(bytes: &[u8]) -> u64 {
 }
 
 pub fn instances(bytes: &[u8]) -> u64 {
-    let Ok(path) = DevicePath::try_from(bytes) else {
-        return 0;
-    };
-    sum(path
-        .instance_iter()
-        .map(|it| node_sum(it.node_iter()).wrapping_add(it.as_bytes().len() as u64)))
+    let instance_sum =
+        |it: DevicePathInstance<'_>| sum([node_sum(it.node_iter()), it.as_bytes().len() as u64]);
+    DevicePath::try_from(bytes).map_or(0, |path| sum(path.instance_iter().map(instance_sum)))
 }
 
 pub fn events1(bytes: &[u8]) -> u64 {
@@ -96,14 +90,6 @@ pub fn resources(bytes: &[u8]) -> u64 {
     black_box(pci::parse(bytes)).map_or(0, |list| {
         (list.len() as u64).wrapping_add(list.first().map_or(0, |range| range.granularity))
     })
-}
-
-fn text_of(bytes: &[u8]) -> &str {
-    std::str::from_utf8(bytes).unwrap_or("")
-}
-
-fn first_of(bytes: &[u8]) -> u64 {
-    bytes.first().map_or(0, |byte| u64::from(*byte))
 }
 
 pub fn pairs(bytes: &[u8]) -> u64 {

@@ -5,17 +5,17 @@ use crate::readers::config::{self, Configurations, Element, Pairs};
 use crate::readers::info::FileInfo;
 use crate::readers::log2::{Digests, Header};
 use crate::readers::map::Map;
-use crate::readers::path::{Instances, Nodes, Stop, split};
+use crate::readers::path::{self, Nodes, Stop, split};
 use crate::readers::pci::{RECORD_LENGTH, Range, records};
 use crate::readers::time::{LENGTH, Time};
 use crate::readers::{log1, log2};
 use std::hint::black_box;
 
-fn sum(numbers: impl IntoIterator<Item = u64>) -> u64 {
+pub fn sum(numbers: impl IntoIterator<Item = u64>) -> u64 {
     numbers.into_iter().fold(0, u64::wrapping_add)
 }
 
-fn first_of(bytes: &[u8]) -> u64 {
+pub fn first_of(bytes: &[u8]) -> u64 {
     bytes.first().map_or(0, |byte| u64::from(*byte))
 }
 
@@ -34,7 +34,7 @@ pub fn nodes(bytes: &[u8]) -> u64 {
 
 pub fn instances(bytes: &[u8]) -> u64 {
     let instance_sum = |it: &[u8]| (it.len() as u64).wrapping_add(node_sum(it, Stop::AnyEnd));
-    split(bytes, Stop::EndEntire).map_or(0, |(rest, _)| sum(Instances { rest }.map(instance_sum)))
+    split(bytes, Stop::EndEntire).map_or(0, |(rest, _)| sum(path::instances(rest).map(instance_sum)))
 }
 
 pub fn events1(bytes: &[u8]) -> u64 {
@@ -108,7 +108,7 @@ pub fn resources(bytes: &[u8]) -> u64 {
     })
 }
 
-fn text_of(bytes: &[u8]) -> &str {
+pub fn text_of(bytes: &[u8]) -> &str {
     str::from_utf8(bytes).unwrap_or("")
 }
 

@@ -1,18 +1,9 @@
-//! Numbers from a fixed seed, so that each run has the same inputs.
+//! Numbers from a seed.
 
-pub struct Random(u64);
+/// The numbers that follow from a seed other than 0 (xorshift64*).
+pub struct Random(pub u64);
 
 impl Random {
-    pub fn new() -> Random {
-        Random::seeded(0x9e37_79b9_7f4a_7c15)
-    }
-
-    /// Numbers from a seed other than 0.
-    pub fn seeded(seed: u64) -> Random {
-        Random(seed)
-    }
-
-    /// The next number (xorshift64*).
     fn next(&mut self) -> u64 {
         self.0 ^= self.0 >> 12;
         self.0 ^= self.0 << 25;
@@ -36,5 +27,9 @@ impl Random {
 
     pub fn byte(&mut self) -> u8 {
         self.next() as u8
+    }
+
+    pub fn bytes(&mut self, count: u64) -> Vec<u8> {
+        (0..count).map(|_| self.byte()).collect()
     }
 }

@@ -1,11 +1,19 @@
-//! The commands of the programs, as mutations need them. The names of those of `uefi_list` and what
-//! they take after FILE come from the plain [`listings`](crate::listings).
+//! The commands of the programs: what mutations of their inputs begin with, and what plain Rust and
+//! the package in rust/ expect a run to end with. The names of those of `uefi_list` and what they
+//! take after FILE come from the plain [`listings`](crate::listings).
 
 use crate::audit;
 use crate::formats::{self, Format};
 use crate::input::Input;
-use crate::listings::{self, ThirdWord};
+use crate::listings::{self, List, ThirdWord};
+use crate::program::Ending;
 use std::sync::LazyLock;
+use uefi_list::uefi_listing::command::Command as Asked;
+use uefi_list::uefi_listing::listing::Outcome;
+use uefi_list::uefi_listing::run::run;
+
+const USAGE: &[u8] = b"usage: uefi_list COMMAND FILE [ARG]\n";
+const OTHER_WORDS: i32 = 2;
 
 /// Which program has a command.
 #[derive(Clone, Copy, PartialEq, Eq)]
@@ -24,7 +32,7 @@ pub struct Command {
 }
 
 pub static COMMANDS: LazyLock<Vec<Command>> = LazyLock::new(|| {
-    let list = |&(name, third_word): &(&'static str, ThirdWord)| {
+    let list = |&(name, third_word, _): &(&'static str, ThirdWord, List)| {
         let (program, format) = (Program::List, formats::named(name));
         Command { program, name, third_word, takes_two: false, format }
     };
@@ -36,11 +44,50 @@ pub static COMMANDS: LazyLock<Vec<Command>> = LazyLock::new(|| {
     listings::COMMANDS.iter().map(list).chain(audit::COMMANDS.iter().map(audit)).collect()
 });
 
+fn listed(is_refused: bool, output: Vec<u8>) -> Ending {
+    Ending { status: is_refused.into(), output, message: Vec::new() }
+}
+
 impl Command {
-    /// The inputs that mutations begin with, those of an audit those of logs too.
-    pub fn seeds(&self) -> Vec<Input> {
-        let logs: &[&str] = if self.program == Program::Audit { &["log1", "log2"] } else { &[] };
-        let formats = logs.iter().map(|log| formats::named(log)).chain([self.format]);
-        formats.flat_map(|format| format.seeds.clone()).collect()
+    /// The number that the third word is, if it is a word that the command takes.
+    fn argument(&self, word: Option<&[u8]>) -> Option<Option<usize>> {
+        match (self.third_word, word) {
+            (ThirdWord::None, None) | (ThirdWord::LastEntry, Some(b"-")) => Some(None),
+            (ThirdWord::Number | ThirdWord::LastEntry, Some(word)) => {
+                let digits = Some(word).filter(|word| word.iter().all(u8::is_ascii_digit))?;
+                str::from_utf8(digits).ok()?.parse().ok().map(Some)
+            }
+            _ => None,
+        }
+    }
+
+    /// What plain Rust expects a run to end with, whose file has this name.
+    pub fn expected(&self, input: &Input, file: &str) -> Ending {
+        let word = input.third_word.as_deref();
+        let argument = self.argument(word);
+        if self.program == Program::Audit && (word.is_none() || argument.is_some()) {
+            return audit::ending(self.name, input, argument, file);
+        }
+        let Some(argument) = argument else {
+            let usage = if self.program == Program::List { USAGE } else { b"" };
+            return Ending { status: OTHER_WORDS, message: usage.into(), output: Vec::new() };
+        };
+        let mut commands = listings::COMMANDS.iter();
+        let (_, _, list) = commands.find(|it| it.0 == self.name).expect("a command of the program");
+        let listing = list(&input.bytes, argument);
+        let is_refused = listing.is_err();
+        listed(is_refused, listing.unwrap_or_else(|name| format!("refused {name}\n")).into())
+    }
+
+    /// What a run by the modules of the package's example `uefi_list` ends with.
+    pub fn of_package(&self, input: &Input) -> Ending {
+        let words = [self.name.as_bytes(), b"FILE"].into_iter().chain(input.third_word.as_deref());
+        let words = words.map(|word| String::from_utf8(word.into())).collect::<Result<Vec<_>, _>>();
+        let Some(asked) = words.ok().and_then(|words| Asked::from_words(&words)) else {
+            return Ending { status: OTHER_WORDS, message: USAGE.into(), output: Vec::new() };
+        };
+        let mut output = Vec::new();
+        let outcome = run(&asked, &input.bytes, &mut output).expect("memory");
+        listed(outcome == Outcome::Refused, output)
     }
 }

@@ -1,11 +1,9 @@
 //! The formats of `formats.table`, which says what its lines are.
 
 use crate::input::Input;
-use crate::mutations;
-use crate::random::Random;
 use std::sync::LazyLock;
 
-/// The most of the first lines of a format of audits are events, each of which is a log too.
+/// The PCR of the table's events.
 const EVENT: &[u8] = &[7, 0, 0, 0];
 
 #[derive(Default)]
@@ -19,23 +17,26 @@ pub struct Format {
     pub parts: Vec<Vec<u8>>,
     /// Numbers that mutations write, beside those that are at the edge in each format.
     pub numbers: Vec<u64>,
-    /// A mutation of the format's own.
-    pub mutate: Option<fn(&mut Input, &mut Random)>,
 }
 
 static FORMATS: LazyLock<Vec<Format>> = LazyLock::new(|| {
     let mut formats: Vec<Format> = Vec::new();
     for (kind, rest) in lines() {
         match (kind, formats.last_mut()) {
-            ("format", _) => formats.push(Format::new(rest)),
+            ("format", _) => {
+                formats.push(Format { names: rest.split(' ').collect(), ..Format::default() })
+            }
             (_, Some(format)) => format.add(kind, rest),
             _ => (),
         }
     }
+    // The first seeds of audits are events, each of which is a log too, as the seeds of logs are.
+    let is_log = |it: &&Format| it.names[0].starts_with("log");
+    let logs: Vec<Input> = formats.iter().filter(is_log).flat_map(|it| it.seeds.clone()).collect();
     let audit = formats.iter_mut().find(|it| it.names == ["audit"]).expect("a format of audits");
-    let logs = audit.seeds.iter().filter(|log| log.bytes.starts_with(EVENT));
-    let all = logs.flat_map(|log| log.bytes.clone()).collect();
-    audit.seeds.push(Input::new(all));
+    let events = audit.seeds.iter().filter(|log| log.bytes.starts_with(EVENT));
+    let all = Input::new(events.flat_map(|log| log.bytes.clone()).collect());
+    audit.seeds.extend(logs.into_iter().chain([all]));
     formats
 });
 
@@ -79,12 +80,6 @@ fn number(text: &str, radix: u32) -> u64 {
     u64::from_str_radix(text, radix).expect("a number of the table")
 }
 
-/// The types of the table's events.
-pub static TYPES: LazyLock<Vec<u32>> = LazyLock::new(|| {
-    let events = lines().filter(|line| line.0 == "event");
-    events.map(|(_, rest)| number(&rest[..8], 16) as u32).collect()
-});
-
 /// A log with an event of this type.
 fn event(kind: &str, data: &[u8]) -> Input {
     let (kind, length) = ((number(kind, 16) as u32).to_le_bytes(), data.len() as u32);
@@ -100,21 +95,6 @@ fn variable(guid: &str, name: &str, value: &str) -> Vec<u8> {
 }
 
 impl Format {
-    fn new(names: &'static str) -> Format {
-        let names: Vec<&str> = names.split(' ').collect();
-        let mutate: Option<fn(&mut Input, &mut Random)> = match names[0] {
-            "path" => Some(mutations::put_node),
-            "audit" => Some(mutations::give_event_all),
-            "config" => Some(mutations::change_pair),
-            "map" => Some(mutations::cut_to_stride),
-            "pci" => Some(mutations::put_record),
-            "time" => Some(mutations::set_field),
-            "info" => Some(mutations::end_name),
-            _ => None,
-        };
-        Format { names, mutate, ..Format::default() }
-    }
-
     /// Adds what a line of the table says of the format.
     fn add(&mut self, kind: &str, rest: &'static str) {
         let (first, more) = rest.split_once(' ').unwrap_or((rest, ""));

@@ -1,5 +1,6 @@
 //! An input: the bytes of a file, the word after FILE, and for some commands the bytes of another.
 
+use crate::listings::Hex;
 use std::fmt::{self, Display, Formatter};
 
 #[derive(Clone, Default)]
@@ -21,9 +22,7 @@ impl Display for Input {
         let word = self.third_word.as_ref().map(|word| word.escape_ascii().to_string());
         writeln!(f, "argument: {}", word.as_deref().unwrap_or("none"))?;
         for (name, bytes) in [("input", &self.bytes), ("other file", &self.other)] {
-            write!(f, "{name} of {} bytes in hex: ", bytes.len())?;
-            bytes.iter().try_for_each(|byte| write!(f, "{byte:02x}"))?;
-            writeln!(f)?;
+            writeln!(f, "{name} of {} bytes in hex: {}", bytes.len(), Hex(bytes))?;
         }
         Ok(())
     }

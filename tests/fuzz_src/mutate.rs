@@ -1,6 +1,6 @@
 //! Mutations of an input.
 
-use crate::commands::Command;
+use crate::commands::{Command, Program};
 use crate::input::Input;
 use crate::listings::ThirdWord;
 use crate::random::Random;
@@ -9,12 +9,11 @@ use crate::random::Random;
 pub const MAX_LENGTH: usize = 8192;
 const MANY_BYTES: usize = 70_000;
 
-/// Bytes and numbers at the edge of many formats.
-const EDGE_BYTES: [u8; 8] = [0, 1, 2, 0x7f, 0x80, 0x81, 0xfe, 0xff];
+/// Numbers at the edge of many formats.
 #[rustfmt::skip]
-const EDGES: [u64; 16] = [
-    0, 1, 2, 0x7f, 0x80, 0xff, 0x100, 0x7fff, 0x8000, 0xffff, 0x1_0000, 0x7fff_ffff, 0xffff_ffff,
-    1 << 32, 1 << 63, u64::MAX,
+const EDGES: [u64; 18] = [
+    0, 1, 2, 0x7f, 0x80, 0x81, 0xfe, 0xff, 0x100, 0x7fff, 0x8000, 0xffff, 0x1_0000, 0x7fff_ffff,
+    0xffff_ffff, 1 << 32, 1 << 63, u64::MAX,
 ];
 /// Words that are no number.
 #[rustfmt::skip]
@@ -22,6 +21,8 @@ const NO_NUMBERS: [&[u8]; 12] = [
     b"", b"-", b"--", b"-1", b"+1", b"1 ", b" 1", b"0x10", b"1_0", b"18446744073709551616",
     b"\xd9\xa3", b"\xff",
 ];
+/// The length of an event of a version 1 log before its data.
+const DATA_OFFSET: usize = 32;
 
 pub struct Mutator<'a> {
     pub command: &'a Command,
@@ -30,30 +31,39 @@ pub struct Mutator<'a> {
     pub random: &'a mut Random,
 }
 
-impl Mutator<'_> {
+impl<'a> Mutator<'a> {
     fn below(&mut self, limit: usize) -> usize {
         self.random.index(limit)
     }
 
-    fn byte(&mut self) -> u8 {
-        if self.below(2) == 0 { self.random.one_of(&EDGE_BYTES) } else { self.random.byte() }
-    }
-
     /// A length, mostly a small one.
     fn length(&mut self, most: usize) -> usize {
-        let scale = 1 << self.below(9);
+        let scale = 1 << self.below(10);
         self.below(most.min(scale) + 1)
+    }
+
+    fn member(&mut self) -> &'a Input {
+        &self.pool[self.random.index(self.pool.len())]
     }
 
     /// A member of the pool with a few mutations.
     pub fn input(&mut self) -> Input {
-        let mut input = self.pool[self.below(self.pool.len())].clone();
+        let mut input = self.member().clone();
         if self.command.takes_two {
-            self.change_other(&mut input);
+            match self.below(8) {
+                0..=3 => std::mem::swap(&mut input.bytes, &mut input.other),
+                4 => input.other = self.member().bytes.clone(),
+                5 => input.other = input.bytes.clone(),
+                _ => (),
+            }
         }
         let mut more = self.below(32) > 0;
         while more {
-            self.mutate(&mut input);
+            if self.command.program == Program::Audit && self.below(4) == 0 {
+                self.give_event_all(&mut input.bytes);
+            } else {
+                self.replace(&mut input.bytes);
+            }
             more = self.below(5) < 2;
         }
         input.bytes.truncate(if self.below(50) == 0 { MANY_BYTES } else { MAX_LENGTH });
@@ -64,118 +74,110 @@ impl Mutator<'_> {
         input
     }
 
-    /// Makes the other file the first, so that it is the one to be mutated, or the file of another
-    /// input, or the same.
-    fn change_other(&mut self, input: &mut Input) {
-        match self.below(8) {
-            0..=3 => std::mem::swap(&mut input.bytes, &mut input.other),
-            4 => input.other = self.pool[self.below(self.pool.len())].bytes.clone(),
-            5 => input.other = input.bytes.clone(),
-            _ => (),
+    /// An offset, often one near the start, or the next at which a part of the format's may start.
+    fn offset(&mut self, bytes: &[u8]) -> usize {
+        let (kind, parts) = (self.below(3), &self.command.format.parts);
+        let offset =
+            if kind == 0 { self.length(bytes.len()) } else { self.below(bytes.len() + 1) };
+        if kind < 2 || parts.is_empty() {
+            return offset;
         }
+        let first = parts[self.below(parts.len())][0];
+        offset + bytes[offset..].iter().position(|byte| *byte == first).unwrap_or(0)
     }
 
-    fn mutate(&mut self, input: &mut Input) {
-        if let Some(mutate) = self.command.format.mutate
-            && self.below(4) == 0
-        {
-            return mutate(input, self.random);
-        }
-        let bytes = &mut input.bytes;
-        let start = self.below(bytes.len() + 1);
-        let end = start + self.length(bytes.len() - start);
-        match self.below(10) {
-            0 if start < bytes.len() => {
-                let flipped = bytes[start] ^ (1 << self.below(8));
-                bytes[start] = if self.below(2) == 0 { self.byte() } else { flipped };
+    /// Replaces bytes by others: by as many, by none, or by any number.
+    fn replace(&mut self, bytes: &mut Vec<u8>) {
+        let (start, parts) = (self.offset(bytes), &self.command.format.parts);
+        let new = match self.below(10) {
+            0..=3 => self.number_bytes(&bytes[start..], bytes.len()),
+            4 | 5 if !parts.is_empty() => parts[self.below(parts.len())].clone(),
+            6 | 7 => {
+                let from = if self.below(2) == 0 { &*bytes } else { &self.member().bytes };
+                let first = self.offset(from);
+                from[first..first + self.length(from.len() - first)].to_vec()
             }
-            1 => self.insert(bytes, start),
-            2 => self.write_number(bytes),
-            3 => self.add(bytes),
-            4 => {
-                let other = &self.pool[self.random.index(self.pool.len())].bytes;
-                bytes.truncate(start);
-                bytes.extend_from_slice(&other[self.below(other.len() + 1)..]);
-            }
-            5 | 6 if !self.command.format.parts.is_empty() => self.put_part(bytes, start),
-            7 => drop(bytes.drain(start..end)),
-            8 => {
-                let copy = bytes[start..end].to_vec();
-                let at = if self.below(2) == 0 { end } else { self.below(bytes.len() + 1) };
-                let until =
-                    if self.below(3) == 0 { (at + copy.len()).min(bytes.len()) } else { at };
-                drop(bytes.splice(at..until, copy));
-            }
-            _ => bytes.truncate(start),
-        }
-    }
-
-    /// Inserts bytes that are all the same, or all random.
-    fn insert(&mut self, bytes: &mut Vec<u8>, start: usize) {
-        let (count, byte, is_random) = (self.length(64), self.byte(), self.below(2) == 0);
-        let new = (0..count).map(|_| if is_random { self.random.byte() } else { byte });
-        drop(bytes.splice(start..start, new));
-    }
-
-    /// Writes a number at an edge, or near the length of the whole or of the rest.
-    fn write_number(&mut self, bytes: &mut [u8]) {
-        let width = self.random.one_of(&[1, 2, 4, 8]).min(bytes.len());
-        let start = self.below(bytes.len() - width + 1);
-        let near = self.below(9).wrapping_sub(4);
-        let numbers = &self.command.format.numbers;
-        let number = match self.below(5) {
-            0 | 1 => self.random.one_of(&EDGES),
-            2 if !numbers.is_empty() => self.random.one_of(numbers),
-            3 => bytes.len().wrapping_add(near) as u64,
-            _ => (bytes.len() - start - width).wrapping_add(near) as u64,
+            8 if self.below(2) == 0 => vec![self.random.byte(); self.length(64)],
+            8 => (0..self.length(64)).map(|_| self.random.byte()).collect(),
+            _ => Vec::new(),
         };
-        bytes[start..start + width].copy_from_slice(&number.to_le_bytes()[..width]);
+        let end = match self.below(8) {
+            0..=4 => start + new.len(),
+            5 => start,
+            6 => start + self.length(bytes.len() - start),
+            _ => bytes.len(),
+        };
+        drop(bytes.splice(start..end.min(bytes.len()), new));
     }
 
-    /// Adds to a number, or takes from it.
-    fn add(&mut self, bytes: &mut [u8]) {
-        let width = self.random.one_of(&[1, 2, 4, 8]).min(bytes.len());
-        let start = self.below(bytes.len() - width + 1);
-        let mut number = [0; 8];
-        number[..width].copy_from_slice(&bytes[start..start + width]);
-        let sum = u64::from_le_bytes(number).wrapping_add(self.below(65).wrapping_sub(32) as u64);
-        bytes[start..start + width].copy_from_slice(&sum.to_le_bytes()[..width]);
+    /// The bytes of a number to take the place of the first.
+    fn number_bytes(&mut self, rest: &[u8], length: usize) -> Vec<u8> {
+        let width = self.random.one_of(&[1, 2, 4, 8]);
+        let mut found = [0; 8];
+        rest.iter().zip(&mut found[..width]).for_each(|(byte, copy)| *copy = *byte);
+        let lengths = [length, rest.len().saturating_sub(width)];
+        let number = self.number(u64::from_le_bytes(found), lengths);
+        number.to_le_bytes()[..width].to_vec()
     }
 
-    /// Inserts a part of the format's, or writes it over others.
-    fn put_part(&mut self, bytes: &mut Vec<u8>, start: usize) {
-        let parts = &self.command.format.parts;
-        let part = &parts[self.below(parts.len())];
-        let end = if self.below(2) == 0 { start } else { (start + part.len()).min(bytes.len()) };
-        drop(bytes.splice(start..end, part.iter().copied()));
+    /// A number at an edge, one near a length, or one near another in sum or in bits.
+    fn number(&mut self, other: u64, lengths: [usize; 2]) -> u64 {
+        let (near, numbers) = (self.below(65) as u64, &self.command.format.numbers);
+        match self.below(8) {
+            0 | 1 => self.random.one_of(&EDGES),
+            2 | 3 if !numbers.is_empty() => self.random.one_of(numbers),
+            4 | 5 => (self.random.one_of(&lengths) as u64 + near / 8).wrapping_sub(4),
+            6 => other ^ 1 << (self.below(8) + 8 * self.length(7)),
+            _ => other.wrapping_add(near).wrapping_sub(32),
+        }
     }
 
-    /// Gives the input another word after FILE, or keeps its own.
+    /// Makes a version 1 log one event, sometimes of another log's type. Sometimes the value of its
+    /// variable, or the path of its image, is stated to reach to the end.
+    fn give_event_all(&mut self, bytes: &mut [u8]) {
+        let Some((head, data)) = bytes.split_at_mut_checked(DATA_OFFSET) else { return };
+        head[28..].copy_from_slice(&(data.len() as u32).to_le_bytes());
+        if let Some(kind) = self.member().bytes.get(4..8).filter(|_| self.below(8) == 0) {
+            head[4..8].copy_from_slice(kind);
+        }
+        if self.below(2) == 0 && data.len() >= 32 {
+            let name_end = 32 + 2 * usize::from(data[16]);
+            let size = data.len().saturating_sub(name_end) as u64;
+            data[24..32].copy_from_slice(&size.to_le_bytes());
+        }
+    }
+
+    /// Gives the input another word after FILE, or keeps its own. Often the file is then cut to a
+    /// multiple of a number, as maps are.
     fn change_word(&mut self, input: &mut Input) {
+        let is_number = self.command.third_word == ThirdWord::Number;
         if self.below(200) == 0 {
             // One word too many, or one that is missing.
             input.third_word = if input.third_word.is_some() { None } else { Some(b"1".to_vec()) };
         } else if self.command.third_word != ThirdWord::None && self.below(4) > 0 {
-            input.third_word = Some(self.word(input.bytes.len() as u64));
+            let word = self.word(input.bytes.len());
+            let stride = str::from_utf8(&word).ok().and_then(|word| word.parse::<usize>().ok());
+            if let Some(stride) = stride.filter(|it| is_number && (1..=200).contains(it))
+                && self.below(4) > 0
+            {
+                input.bytes.truncate(input.bytes.len() / stride * stride);
+            }
+            input.third_word = Some(word);
         }
     }
 
     /// A word for a file of this length.
-    fn word(&mut self, length: u64) -> Vec<u8> {
-        let (random, numbers) = (&mut *self.random, &self.command.format.numbers);
+    fn word(&mut self, length: usize) -> Vec<u8> {
         let is_number = self.command.third_word == ThirdWord::Number;
-        let number = match random.below(15) {
-            0..=2 => length,
-            3 | 4 => length.wrapping_add(random.below(17)).wrapping_sub(8),
-            5..=7 => random.below(length + 2),
-            8 => random.one_of(&EDGES),
-            9 if !numbers.is_empty() => random.one_of(numbers),
-            10 => length / (1 + random.below(12)),
-            11 if is_number => 8 * random.below(16),
-            12 if is_number => 40,
-            11 | 12 => return b"-".to_vec(),
-            13 => return random.one_of(&NO_NUMBERS).to_vec(),
-            _ => return format!("00{}", random.below(length + 2)).into(),
+        let number = match self.below(10) {
+            0 | 1 => length,
+            2 | 3 => self.below(length + 2),
+            4 => length / (1 + self.below(12)),
+            5 if is_number => 8 * self.below(16),
+            5 => return b"-".to_vec(),
+            6 => return self.random.one_of(&NO_NUMBERS).to_vec(),
+            7 => return format!("00{}", self.below(length + 2)).into(),
+            _ => return self.number(length as u64, [length; 2]).to_string().into(),
         };
         number.to_string().into()
     }

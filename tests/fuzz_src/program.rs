@@ -2,7 +2,7 @@
 //!
 //! The object files that the programs are linked from are linked here too, with `main` and the
 //! functions of the C library for files renamed (`tests/fuzz`). So their `main` is called many times
-//! in one process, and reads and writes what stands in [`Streams`].
+//! in one process, and reads and writes what is in [`Streams`].
 
 use crate::audit;
 use crate::commands::{self, Program};
@@ -11,9 +11,11 @@ use std::cell::RefCell;
 use std::ffi::{CStr, OsStr, c_char, c_int};
 use std::fmt::{self, Display, Formatter};
 use std::fs;
-use std::io::{self, Cursor, Read};
+use std::io::{self, Cursor, Read, Write};
 use std::os::unix::ffi::OsStrExt;
+use std::path::Path;
 use std::process::{Command, Stdio};
+use std::slice;
 
 /// What a run of the program ends with.
 #[derive(PartialEq, Eq, Default)]
@@ -40,15 +42,6 @@ unsafe extern "C" {
 /// input, the second is opened.
 pub const FILES: [&str; 2] = ["/dev/stdin", "input"];
 const OTHER: &str = "-other";
-
-const STANDARD_INPUT: c_int = 0;
-const STANDARD_OUTPUT: c_int = 1;
-const STANDARD_ERROR: c_int = 2;
-const OPENED_FILE: c_int = 3;
-const OTHER_FILE: c_int = 4;
-
-const NO_SUCH_FILE: c_int = 2;
-const BAD_HANDLE: c_int = 9;
 const NOT_SEEKABLE: c_int = 29;
 
 /// The name of the other file of a command that takes two.
@@ -60,22 +53,15 @@ pub fn other_name(file: &str) -> String {
 #[derive(Default)]
 struct Streams {
     words: Vec<Vec<u8>>,
-    input: Cursor<Vec<u8>>,
-    /// The other file, where the command takes two.
-    other: Cursor<Vec<u8>>,
+    /// By handle: the input, what was written to standard output and to standard error, the input
+    /// again for a program that opens it, and the other file.
+    files: [Cursor<Vec<u8>>; 5],
     /// How many bytes a read or a write takes at most.
     part: usize,
-    output: Vec<u8>,
-    message: Vec<u8>,
 }
 
 thread_local! {
     static STREAMS: RefCell<Streams> = RefCell::default();
-}
-
-fn fail(error: c_int) -> isize {
-    rattle_set_errno(error);
-    -1
 }
 
 /// The word at an index: its length, -1 if there is none, -2 if it is longer than the room.
@@ -93,11 +79,8 @@ extern "C" fn rattle_arg(index: usize, room: *mut u8, length: usize) -> isize {
 
 #[unsafe(no_mangle)]
 extern "C" fn fuzz_open(path: *const c_char, _flags: c_int) -> c_int {
-    match unsafe { CStr::from_ptr(path) }.to_bytes() {
-        path if path == FILES[1].as_bytes() => OPENED_FILE,
-        path if path.ends_with(OTHER.as_bytes()) => OTHER_FILE,
-        _ => fail(NO_SUCH_FILE) as c_int,
-    }
+    let is_other = unsafe { CStr::from_ptr(path) }.to_bytes().ends_with(OTHER.as_bytes());
+    if is_other { 4 } else { 3 }
 }
 
 #[unsafe(no_mangle)]
@@ -105,35 +88,26 @@ extern "C" fn fuzz_close(_handle: c_int) -> c_int {
     0
 }
 
-/// Standard input is as a pipe is.
+/// A file is as a pipe is.
 #[unsafe(no_mangle)]
 extern "C" fn fuzz_lseek(_handle: c_int, _offset: i64, _whence: c_int) -> i64 {
-    fail(NOT_SEEKABLE) as i64
+    rattle_set_errno(NOT_SEEKABLE);
+    -1
 }
 
 #[unsafe(no_mangle)]
 extern "C" fn fuzz_read(handle: c_int, room: *mut u8, length: usize) -> isize {
-    STREAMS.with_borrow_mut(|streams| {
-        let file = match handle {
-            STANDARD_INPUT | OPENED_FILE => &mut streams.input,
-            OTHER_FILE => &mut streams.other,
-            _ => return fail(BAD_HANDLE),
-        };
-        let room = unsafe { std::slice::from_raw_parts_mut(room, length.min(streams.part)) };
-        file.read(room).expect("bytes in memory") as isize
+    STREAMS.with_borrow_mut(|Streams { files, part, .. }| {
+        let room = unsafe { slice::from_raw_parts_mut(room, length.min(*part)) };
+        files[handle as usize].read(room).expect("bytes in memory") as isize
     })
 }
 
 #[unsafe(no_mangle)]
 extern "C" fn fuzz_write(handle: c_int, bytes: *const u8, length: usize) -> isize {
-    STREAMS.with_borrow_mut(|streams| {
-        let bytes = unsafe { std::slice::from_raw_parts(bytes, length.min(streams.part)) };
-        match handle {
-            STANDARD_OUTPUT => streams.output.extend_from_slice(bytes),
-            STANDARD_ERROR => streams.message.extend_from_slice(bytes),
-            _ => return fail(BAD_HANDLE),
-        }
-        bytes.len() as isize
+    STREAMS.with_borrow_mut(|Streams { files, part, .. }| {
+        let bytes = unsafe { slice::from_raw_parts(bytes, length.min(*part)) };
+        files[handle as usize].write(bytes).expect("bytes in memory") as isize
     })
 }
 
@@ -166,31 +140,31 @@ fn compared(command: &commands::Command, mut ending: Ending) -> Ending {
 pub fn run(command: &commands::Command, file: &str, input: &Input, part: usize) -> Ending {
     let (name, mut words) = words(command, file, input);
     words.insert(0, Vec::from(name));
-    let [input, other] = [&input.bytes, &input.other].map(|bytes| Cursor::new(bytes.clone()));
-    STREAMS.set(Streams { words, input, other, part, ..Streams::default() });
+    let none = Vec::new();
+    let files = [&input.bytes, &none, &none, &input.bytes, &input.other];
+    STREAMS.set(Streams { words, files: files.map(|bytes| Cursor::new(bytes.clone())), part });
     let status = match command.program {
         Program::List => unsafe { uefi_list_main(0, std::ptr::null()) },
         Program::Audit => unsafe { uefi_audit_main(0, std::ptr::null()) },
     };
-    let Streams { output, message, .. } = STREAMS.take();
+    let [_, output, message, ..] = STREAMS.take().files.map(Cursor::into_inner);
     compared(command, Ending { status, output, message })
 }
 
-/// Runs the program in a process of its own, with the input in this file.
+/// Runs the program in a process of its own, with the input in a file of a folder.
 pub fn run_process(
-    top: &str,
     command: &commands::Command,
     file: &str,
     input: &Input,
+    top: &Path,
+    room: &Path,
 ) -> io::Result<Ending> {
-    fs::write(file, &input.bytes)?;
-    if command.takes_two {
-        fs::write(other_name(file), &input.other)?;
-    }
+    fs::write(room.join(file), &input.bytes)?;
+    fs::write(room.join(other_name(file)), &input.other)?;
     let (name, words) = words(command, file, input);
     let words = words.iter().map(|word| OsStr::from_bytes(word));
-    let program = format!("{top}/crates/{name}/out/{name}");
-    let ran = Command::new(program).args(words).stdin(Stdio::null()).output()?;
+    let mut program = Command::new(top.join("crates").join(name).join("out").join(name));
+    let ran = program.args(words).current_dir(room).stdin(Stdio::null()).output()?;
     // A signal isn't a status of the program.
     let status = ran.status.code().unwrap_or(-1);
     Ok(compared(command, Ending { status, output: ran.stdout, message: ran.stderr }))

@@ -65,20 +65,8 @@ fn name(text: &str) -> Option<String> {
     Some(name)
 }
 
-/// The parts of a header.
-pub enum Section {
-    Guid,
-    Name,
-    Path,
-    DescHdr,
-}
-
-/// What is wrong with a group of pairs.
-pub enum Fault {
-    ConfigHdr(Section),
-    BlockName,
-    BlockConfig,
-}
+/// The name of what is wrong with a group of pairs.
+type Fault = &'static str;
 
 pub struct Element {
     pub offset: u64,
@@ -122,12 +110,12 @@ impl<'a> Configurations<'a> {
     }
 
     fn read(&mut self) -> Result<Configuration, Fault> {
-        let guid = self.take("GUID").and_then(guid).ok_or(Fault::ConfigHdr(Section::Guid))?;
-        let name = self.take("NAME").and_then(name).ok_or(Fault::ConfigHdr(Section::Name))?;
-        let path = self.take_path().ok_or(Fault::ConfigHdr(Section::Path))?;
+        let guid = self.take("GUID").and_then(guid).ok_or("ConfigHdr(Guid)")?;
+        let name = self.take("NAME").and_then(name).ok_or("ConfigHdr(Name)")?;
+        let path = self.take_path().ok_or("ConfigHdr(Path)")?;
         let mut alt_cfg_id = None;
         if self.is_at("ALTCFG") {
-            let id = self.take("ALTCFG").and_then(number).ok_or(Fault::ConfigHdr(Section::DescHdr))?;
+            let id = self.take("ALTCFG").and_then(number).ok_or("ConfigHdr(DescHdr)")?;
             alt_cfg_id = Some(id as u16);
         }
         let mut elements = Vec::new();
@@ -141,9 +129,9 @@ impl<'a> Configurations<'a> {
     }
 
     fn read_element(&mut self) -> Result<Element, Fault> {
-        let offset = self.take("OFFSET").and_then(number).ok_or(Fault::BlockName)?;
-        let width = self.take("WIDTH").and_then(number).ok_or(Fault::BlockName)?;
-        let value = hex(self.take("VALUE").ok_or(Fault::BlockConfig)?).rev().collect();
+        let offset = self.take("OFFSET").and_then(number).ok_or("BlockName")?;
+        let width = self.take("WIDTH").and_then(number).ok_or("BlockName")?;
+        let value = hex(self.take("VALUE").ok_or("BlockConfig")?).rev().collect();
         let mut nvconfig = Vec::new();
         let is_skipped = |(key, _): &(&str, _)| !matches!(*key, "OFFSET" | "GUID");
         while let Some((key, value)) = self.pairs.next_if(is_skipped) {

@@ -3,14 +3,6 @@
 pub const NAME_OFFSET: usize = 80;
 pub const ALIGNMENT: usize = 8;
 
-/// Why there is no record.
-pub enum Fault {
-    /// The name doesn't end in what was written.
-    NoName,
-    /// The buffer hasn't the room that a record with this name takes, which is this many bytes.
-    NoRoom(usize),
-}
-
 pub struct FileInfo<'a> {
     pub size: u64,
     pub file_size: u64,
@@ -25,12 +17,12 @@ pub struct FileInfo<'a> {
 
 impl<'a> FileInfo<'a> {
     /// The record in the first `written` bytes, up to its name's NUL, where the buffer has room for
-    /// all of it.
-    pub fn read(buffer: &'a [u8], written: usize) -> Result<FileInfo<'a>, Fault> {
-        let end = name_end(&buffer[..written.min(buffer.len())]).ok_or(Fault::NoName)?;
+    /// all of it, or the status of a read without a name or without the room.
+    pub fn read(buffer: &'a [u8], written: usize) -> Result<FileInfo<'a>, String> {
+        let end = name_end(&buffer[..written.min(buffer.len())]).ok_or("BAD_BUFFER_SIZE")?;
         let size = end.next_multiple_of(ALIGNMENT);
         if size > buffer.len() {
-            return Err(Fault::NoRoom(size));
+            return Err(format!("BUFFER_TOO_SMALL({size})"));
         }
         let u64_at =
             |offset: usize| u64::from_le_bytes(buffer[offset..offset + 8].try_into().unwrap());

@@ -41,23 +41,12 @@ impl<'a> Map<'a> {
         self.buffer.get(i * self.stride..)?.first_chunk().map(Descriptor::read)
     }
 
-    pub fn entries(&self) -> Entries<'a> {
-        Entries { map: *self, index: 0 }
-    }
-}
-
-#[derive(Clone)]
-pub struct Entries<'a> {
-    map: Map<'a>,
-    index: usize,
-}
-
-impl Iterator for Entries<'_> {
-    type Item = Descriptor;
-
-    fn next(&mut self) -> Option<Descriptor> {
-        let entry = self.map.get(self.index)?;
-        self.index += 1;
-        Some(entry)
+    pub fn entries(self) -> impl Iterator<Item = Descriptor> + 'a {
+        let mut index = 0;
+        std::iter::from_fn(move || {
+            let entry = self.get(index)?;
+            index += 1;
+            Some(entry)
+        })
     }
 }

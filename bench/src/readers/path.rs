@@ -83,16 +83,11 @@ impl<'a> Iterator for Nodes<'a> {
     }
 }
 
-pub struct Instances<'a> {
-    pub rest: &'a [u8],
-}
-
-impl<'a> Iterator for Instances<'a> {
-    type Item = &'a [u8];
-
-    fn next(&mut self) -> Option<&'a [u8]> {
-        let (front, after) = split(self.rest, Stop::AnyEnd)?;
-        self.rest = after;
+/// The bytes of each instance.
+pub fn instances(mut rest: &[u8]) -> impl Iterator<Item = &[u8]> {
+    std::iter::from_fn(move || {
+        let (front, after) = split(rest, Stop::AnyEnd)?;
+        rest = after;
         Some(front)
-    }
+    })
 }

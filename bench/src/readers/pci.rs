@@ -4,14 +4,7 @@ pub const RECORD_TAG: u8 = 0x8a;
 pub const RECORD_LENGTH: usize = 46;
 pub const END_TAG: u8 = 0x79;
 
-/// What stands where neither a whole record nor the end tag does.
-pub enum Fault {
-    NoEndTag,
-    CutRecord,
-    UnknownTag(u8),
-}
-
-#[derive(Clone, Copy)]
+#[derive(Clone, Copy, Debug)]
 pub enum RangeType {
     Memory,
     Io,
@@ -32,14 +25,10 @@ pub struct Range {
     pub address_length: u64,
 }
 
-fn u64_at(record: &[u8; RECORD_LENGTH], offset: usize) -> u64 {
-    let mut number = [0; 8];
-    number.copy_from_slice(&record[offset..offset + 8]);
-    u64::from_le_bytes(number)
-}
-
 impl Range {
     pub fn read(record: &[u8; RECORD_LENGTH]) -> Range {
+        let u64_at =
+            |offset: usize| u64::from_le_bytes(record[offset..offset + 8].try_into().unwrap());
         Range {
             range_type: match record[3] {
                 0 => RangeType::Memory,
@@ -49,23 +38,24 @@ impl Range {
             },
             general_flags: record[4],
             type_specific_flags: record[5],
-            granularity: u64_at(record, 6),
-            address_min: u64_at(record, 14),
-            address_max: u64_at(record, 22),
-            translation_offset: u64_at(record, 30),
-            address_length: u64_at(record, 38),
+            granularity: u64_at(6),
+            address_min: u64_at(14),
+            address_max: u64_at(22),
+            translation_offset: u64_at(30),
+            address_length: u64_at(38),
         }
     }
 }
 
-/// The bytes before the end tag, of which each tag and length is tested.
-pub fn records(bytes: &[u8]) -> Result<&[u8], Fault> {
+/// The bytes before the end tag, of which each tag and length is tested, or the name of what is
+/// where neither a whole record nor the end tag is.
+pub fn records(bytes: &[u8]) -> Result<&[u8], String> {
     let mut rest = bytes;
     loop {
-        match *rest.first().ok_or(Fault::NoEndTag)? {
-            RECORD_TAG => rest = rest.get(RECORD_LENGTH..).ok_or(Fault::CutRecord)?,
+        match *rest.first().ok_or("NoEndTag")? {
+            RECORD_TAG => rest = rest.get(RECORD_LENGTH..).ok_or("CutRecord")?,
             END_TAG => return Ok(&bytes[..bytes.len() - rest.len()]),
-            tag => return Err(Fault::UnknownTag(tag)),
+            tag => return Err(format!("UnknownTag({tag})")),
         }
     }
 }

@@ -3,14 +3,6 @@
 pub const LENGTH: usize = 16;
 const UNSPECIFIED_ZONE: i16 = 0x07ff;
 
-/// Why there is no time.
-pub enum Fault {
-    /// There are fewer bytes than a time has.
-    Size,
-    /// A field isn't within its range.
-    Fields,
-}
-
 pub struct Time {
     pub year: u16,
     pub month: u8,
@@ -24,11 +16,12 @@ pub struct Time {
 }
 
 impl Time {
-    /// The time in the first sixteen bytes, where each field is within its range.
-    pub fn read(bytes: &[u8]) -> Result<Time, Fault> {
-        let bytes: &[u8; LENGTH] = bytes.first_chunk().ok_or(Fault::Size)?;
+    /// The time in the first sixteen bytes, where each field is within its range, or the name of
+    /// what is wrong.
+    pub fn read(bytes: &[u8]) -> Result<Time, &'static str> {
+        let bytes: &[u8; LENGTH] = bytes.first_chunk().ok_or("InvalidSize")?;
         if bytes[14] > 3 {
-            return Err(Fault::Fields);
+            return Err("InvalidFields");
         }
         let time = Time {
             year: u16::from_le_bytes([bytes[0], bytes[1]]),
@@ -41,7 +34,7 @@ impl Time {
             zone: i16::from_le_bytes([bytes[12], bytes[13]]),
             daylight: bytes[14],
         };
-        if time.is_valid() { Ok(time) } else { Err(Fault::Fields) }
+        if time.is_valid() { Ok(time) } else { Err("InvalidFields") }
     }
 
     fn is_valid(&self) -> bool {
