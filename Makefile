@@ -12,7 +12,7 @@ TESTS = $(or $(shell python3 tools/crates.py tests '$(CRATE)'),$(error name a cr
 all: $(PROGRAMS:%=build-%)  ## both programs, proved and built
 
 $(PROGRAMS:%=build-%): build-%:
-	@tools/build_program $*
+	@tools/prove $*
 
 check:  ## the one test command: every proof and test from scratch
 	@./check
