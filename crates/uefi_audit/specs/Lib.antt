@@ -5,6 +5,7 @@ pub mod Replaying
 pub mod private
 pub mod ReplayReport
 pub mod EventsReport
+pub mod CheckReport
 pub mod Comparison
 pub mod Missing
 pub mod Verification
