@@ -9,7 +9,8 @@ use Rattle.pcr_replay.specs.Entries.{Entry}
 use Rattle.uefi_auditing.specs.Check.{IsChecked, MatchesBy}
 use Rattle.uefi_auditing.specs.declared.check.Checked.TheVariants.{Matches, MatchesNone, NotInLog}
 use Rattle.uefi_auditing.specs.declared.check.form.Form.{Form}
-use Rattle.uefi_audit.specs.CheckReport.{Mismatches, TellsWhetherAllMatch, TellsWhetherMatches}
+use Rattle.uefi_audit.specs.CheckReport.{Mismatches, TellsWhetherAllMatch}
+use Rattle.uefi_audit.specs.private.Matches.{TellsWhetherMatches}
 
 -- An event that matches is no mismatch, nor is one outside of the log.
 pub one_matches : (entry : Entry) (form : Form) → IsChecked entry.event (Matches form) → TellsWhetherMatches entry true

@@ -18,11 +18,6 @@ use Rattle.uefi_audit.specs.declared.request.Reading.{Reading}
 abbrev pub Mismatches : Entry → Type 0
 Mismatches entry = IsChecked entry.event MatchesNone
 
--- Whether an event is no mismatch: with `true` it is none, with `false` it is one.
-unfoldable pub TellsWhetherMatches : Entry → Bool → Type 0
-TellsWhetherMatches entry true = Mismatches entry → ⊥
-TellsWhetherMatches entry false = Mismatches entry
-
 -- Whether no event of a list is a mismatch: with `true` none is, with `false` some event is.
 unfoldable pub TellsWhetherAllMatch : List Entry → Bool → Type 0
 TellsWhetherAllMatch entries true = All (λ entry. Mismatches entry → ⊥) entries

@@ -4,8 +4,9 @@ ghost use Rattle.pcr_replay.specs.Entries.{Contents};
 ghost use Rattle.pcr_replay.specs.Logs.{HasContents};
 ghost use Rattle.pcr_replay.specs.Views.{entries_left, entry_of};
 ghost use Rattle.uefi_auditing.specs.text.Names.{shown_name};
-ghost use Rattle.uefi_audit.specs.CheckReport.{IsCheckReport, IsCheckStatus, TellsWhetherAllMatch, TellsWhetherMatches};
+ghost use Rattle.uefi_audit.specs.CheckReport.{IsCheckReport, IsCheckStatus, TellsWhetherAllMatch};
 ghost use Rattle.uefi_audit.specs.Judging.{HasTable};
+ghost use Rattle.uefi_audit.specs.private.Matches.{TellsWhetherMatches};
 
 use crate::failure::Status;
 use crate::judging::push_judgement;
