@@ -67,16 +67,26 @@ class Progress:
         outcome = "is proved" if is_proved else "is NOT proved"
         self.say(f"{name} {outcome}, {self.totals[name]} functions in {self.took[name]:.0f} seconds; {self.left()}")
 
+    def pace(self):
+        """The seconds that a function took in the crates that are done; 0 without any."""
+        return sum(self.took.values()) / sum(map(self.totals.get, self.took)) if self.took else 0
+
+    def open(self, name):
+        """How many functions of a crate are left. The prover doesn't always say: then the time that has passed does."""
+        if name in self.took:
+            return 0
+        passed = time.monotonic() - self.began.get(name, time.monotonic())
+        guessed = min(passed / self.pace(), 0.9 * self.totals[name]) if self.took else 0
+        return self.totals[name] - max(self.proved[name], guessed)
+
     def chain(self, name):
         """How many functions are left of a crate and, one after another, of those that wait for it."""
-        waiting = [self.chain(it) for it in self.totals if name in self.uses[it]]
-        return self.totals[name] - self.proved[name] + max(waiting, default=0)
+        return self.open(name) + max((self.chain(it) for it in self.totals if name in self.uses[it]), default=0)
 
     def left(self):
         """The minutes that are left at the pace so far; where they are few or unknown, the crates that are."""
         names = [it for it in self.totals if it not in self.took]
-        pace = sum(self.took.values()) / sum(map(self.totals.get, self.took)) if self.took else 0
-        minutes = math.ceil(pace * max(map(self.chain, names), default=0) / 60)
+        minutes = math.ceil(self.pace() * max(map(self.chain, names), default=0) / 60)
         return f"about {minutes} minutes left" if minutes > 1 else f"left: {' '.join(names) or 'none'}"
 
     def tell(self):
