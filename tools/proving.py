@@ -43,12 +43,10 @@ class Progress:
         self.program, self.totals, self.uses, self.at_once = program, totals, uses, at_once
         self.proved, self.began, self.took = dict.fromkeys(totals, 0), {}, {}
         self.ended, self.writing = threading.Event(), threading.Lock()
-        self.is_terminal = sys.stderr.isatty()
 
-    def say(self, text, end="\n"):
+    def say(self, text):
         with self.writing:
-            clear = "\r\033[K" if self.is_terminal else ""
-            print(f"{clear}{self.program}: {text}", end=end, file=sys.stderr, flush=True)
+            print(f"{self.program}: {text}", file=sys.stderr, flush=True)
 
     def begin(self, name):
         self.began[name] = time.monotonic()
@@ -90,11 +88,9 @@ class Progress:
         return f"about {minutes} minutes left" if minutes > 1 else f"left: {' '.join(names) or 'none'}"
 
     def tell(self):
-        while not self.ended.wait(1 if self.is_terminal else 30):
+        while not self.ended.wait(30):
             proved, total = sum(self.proved.values()), sum(self.totals.values())
-            self.say(f"{proved} of about {total} functions proved, {self.left()}", "" if self.is_terminal else "\n")
-        if self.is_terminal:
-            print("\r\033[K", end="", file=sys.stderr, flush=True)
+            self.say(f"{proved} of about {total} functions proved, {self.left()}")
 
     def run(self, name, words, folder, given=b""):
         """Runs a command of the toolchain in a crate's folder. Its status, and its lines but those on reading."""
