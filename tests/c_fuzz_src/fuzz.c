@@ -1,4 +1,4 @@
-/* Mutated inputs before a guard page: each result is that of plain C (bench/c/plain.c, or here), and where a call
+/* Mutated inputs before a guard page: each result is that of plain C (plain.c, or here), and where a call
  * returns false, nothing was written. fuzz SECONDS SEED FILE.. */
 #include "fuzz.h"
 
