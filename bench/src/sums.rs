@@ -1,5 +1,5 @@
-//! Sums over what the plain readers and those of the package return. `crates/uefi_bench` has the same
-//! over what the proved ones return.
+//! Sums over what the plain readers and those of the package return. `crates/uefi_bench` has the
+//! same over what the proved ones return.
 
 use crate::inputs::STRIDE;
 use crate::readers::log2::{Events, Header};
