@@ -61,11 +61,9 @@ const RESOURCES: Counts = [(4, "4 resources"), (1_000_000, "1,000,000 resources"
 const TIMES: Counts = [(1, "1 time"), (1_000_000, "1,000,000 times")];
 const PATHS: Counts = [(5, "5 nodes"), (1_000_000, "1,000,000 nodes, an instance each 50")];
 
-/// How an input with this many items is made.
-type Make = fn(usize) -> Vec<u8>;
-
-/// Name, counts, input, and three readers: the proved one, the plain one, and that of the package.
-type Reader = (&'static str, Counts, Make, [Read; 3]);
+/// Name, counts, the function that makes an input with so many items, and three readers: the proved
+/// one, the plain one, and that of the package.
+type Reader = (&'static str, Counts, fn(usize) -> Vec<u8>, [Read; 3]);
 
 // SAFETY: a proved reader reads the bytes of the slice, and is done with them when it returns. The
 // last entry that each reader of logs is told is the log's length: every whole event is read.
