@@ -55,28 +55,27 @@ pub fn log1(count: usize) -> Vec<u8> {
     bytes
 }
 
-/// The event with the header of a log under this many rows.
-fn log2_header(rows: usize) -> Vec<u8> {
+/// The event with the header of a log under these rows.
+fn log2_header(rows: &[(u16, u16)]) -> Vec<u8> {
     let mut bytes = Vec::new();
     push_numbers(&mut bytes, [0, NO_ACTION, 0, 0, 0, 0, 0]);
-    push_numbers(&mut bytes, [SIGNATURE.len() as u32 + 13 + (ROW_LENGTH * rows) as u32]);
+    push_numbers(&mut bytes, [SIGNATURE.len() as u32 + 13 + (ROW_LENGTH * rows.len()) as u32]);
     bytes.extend(SIGNATURE);
     bytes.extend([0, 0, 0, 0, 0, 2, 0, 2]);
-    push_numbers(&mut bytes, [rows as u32]);
-    bytes.extend(
-        ALGORITHMS[..rows].iter().flat_map(|row| [row.0, row.1]).flat_map(u16::to_le_bytes),
-    );
+    push_numbers(&mut bytes, [rows.len() as u32]);
+    bytes.extend(rows.iter().flat_map(|row| [row.0, row.1]).flat_map(u16::to_le_bytes));
     bytes.push(0);
     bytes
 }
 
 /// Events of version 2 with data of 0 to 40 bytes, and with a digest for each row.
 pub fn log2<const ROWS: usize>(count: usize) -> Vec<u8> {
-    let (mut random, mut bytes) = (Random(SEED), log2_header(ROWS));
+    let rows = &ALGORITHMS[..ROWS];
+    let (mut random, mut bytes) = (Random(SEED), log2_header(rows));
     for _ in 0..count {
         let length = random.below(41);
         push_numbers(&mut bytes, [random.below(24) as u32, random.below(14) as u32, ROWS as u32]);
-        for (algorithm, digest) in &ALGORITHMS[..ROWS] {
+        for (algorithm, digest) in rows {
             bytes.extend(algorithm.to_le_bytes());
             bytes.extend(random.bytes((*digest).into()));
         }

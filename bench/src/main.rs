@@ -1,21 +1,35 @@
-//! Measures the proved readers beside plain Rust readers of the same formats (`readers/`), and beside
-//! those of the package in `rust/`.
+//! Measures the proved readers beside plain Rust readers of the same formats (`readers/`), and
+//! beside those of the package in `rust/`.
 //!
 //! All read the same inputs, which are made here from a fixed seed, and must return the same sum.
 //! Each reader has a line for an input as machines have it, and one for a large input.
 
 mod inputs;
 mod measure;
-mod package;
-mod plain;
 mod random;
 #[allow(dead_code, reason = "the listings read the other fields")]
 mod readers;
+mod sums;
 
 use inputs::{
     STRIDE, configurations, digits, info, log1, log2, map, path, resources, times, value,
 };
 use measure::{Read, measure};
+use readers::config::{self, Configurations, Pairs};
+use readers::map::Map;
+use readers::path::Stop;
+use std::hint::black_box;
+use sums::{
+    element_sum, first_of, log2_sum, node_sum, package_log2_sum, package_map, package_node_sum,
+    pair_sum, ranges, sum, text_of, whole,
+};
+use uefi_formats::mem::memory_map::MemoryMap;
+use uefi_formats::proto::device_path::DevicePath;
+use uefi_formats::proto::hii::config_str::{
+    ConfigurationString, ConfigurationStringIter, MultiConfigurationStringIter, fill_from_hex,
+};
+use uefi_formats::proto::{media::file::FileInfo, pci, tcg::v1::EventLog};
+use uefi_formats::runtime::Time;
 
 unsafe extern "C" {
     fn port_path(bytes: *const u8, length: usize) -> u64;
@@ -34,22 +48,6 @@ unsafe extern "C" {
     fn port_hex(bytes: *const u8, length: usize) -> u64;
 }
 
-/// The proved reader over bytes, the plain one, and that of the package.
-///
-/// SAFETY: a proved reader reads the bytes of the slice, and is done with them when it returns.
-macro_rules! all {
-    ($name:ident, $port:ident $(, $bytes:pat, $($number:expr),+)?) => {
-        [
-            |it| {
-                $(let $bytes = it;)?
-                unsafe { $port(it.as_ptr(), it.len() $($(, $number)+)?) }
-            },
-            plain::$name,
-            package::$name,
-        ]
-    };
-}
-
 /// The count of an input's items as machines have it and of a large one, each in words.
 type Counts = [(usize, &'static str); 2];
 
@@ -63,32 +61,135 @@ const RESOURCES: Counts = [(4, "4 resources"), (1_000_000, "1,000,000 resources"
 const TIMES: Counts = [(1, "1 time"), (1_000_000, "1,000,000 times")];
 const PATHS: Counts = [(5, "5 nodes"), (1_000_000, "1,000,000 nodes, an instance each 50")];
 
-/// How an input with this many items is made.
-type Make = fn(usize) -> Vec<u8>;
+/// Name, counts, the function that makes an input with so many items, and three readers: the proved
+/// one, the plain one, and that of the package.
+type Reader = (&'static str, Counts, fn(usize) -> Vec<u8>, [Read; 3]);
 
-// The last entry that each reader of logs is told is the log's length: every whole event is read.
-const EVENTS2: [Read; 3] = all!(events2, port_log2, log, log.len(), 0);
-const DIGESTS2: [Read; 3] = all!(digests2, port_log2, log, log.len(), 1);
+// SAFETY: a proved reader reads the bytes of the slice, and is done with them when it returns. The
+// last entry that each reader of logs is told is the log's length: every whole event is read.
+
+const EVENTS2: [Read; 3] = [
+    |it| unsafe { port_log2(it.as_ptr(), it.len(), it.len(), 0) },
+    |it| log2_sum(it, black_box(false)),
+    |it| package_log2_sum(it, black_box(false)),
+];
+const DIGESTS2: [Read; 3] = [
+    |it| unsafe { port_log2(it.as_ptr(), it.len(), it.len(), 1) },
+    |it| log2_sum(it, black_box(true)),
+    |it| package_log2_sum(it, black_box(true)),
+];
 
 /// The readers in the order of the page.
-const READERS: [(&str, Counts, Make, [Read; 3]); 17] = [
-    ("hex", DIGITS, digits, all!(hex, port_hex)),
-    ("long values", VALUES, value, all!(values, port_config_value)),
-    ("names", NAMES, info, all!(info, port_info)),
-    ("pairs of configurations", TEXTS, configurations, all!(pairs, port_config_pairs)),
-    ("maps: entries", MAPS, map, all!(entries, port_map, _, STRIDE)),
-    ("maps: `is_sorted`", MAPS, map, all!(order, port_sorted, _, STRIDE)),
-    ("logs: version 1", LOGS, log1, all!(events1, port_log1, log, log.len())),
+#[rustfmt::skip]
+const READERS: [Reader; 17] = [
+    ("hex", DIGITS, digits, [
+        |it| unsafe { port_hex(it.as_ptr(), it.len()) },
+        |it| {
+            let spelled: Vec<u8> = black_box(config::hex(text_of(it)).collect());
+            sum([spelled.len() as u64, first_of(&spelled)])
+        },
+        |it| {
+            let count = ConfigurationString::parse_bytes_from_hex(text_of(it)).len();
+            let mut spelled = vec![0; count];
+            fill_from_hex(text_of(it), &mut spelled);
+            sum([count as u64, first_of(black_box(&spelled))])
+        },
+    ]),
+    ("long values", VALUES, value, [
+        |it| unsafe { port_config_value(it.as_ptr(), it.len()) },
+        |it| element_sum!(Configurations::new(text_of(it)),
+            |it| [it.value.len() as u64, first_of(&it.value)]),
+        |it| element_sum!(MultiConfigurationStringIter::new(text_of(it)),
+            |it| [it.value.len() as u64, first_of(&it.value)]),
+    ]),
+    ("names", NAMES, info, [
+        |it| unsafe { port_info(it.as_ptr(), it.len()) },
+        |it| readers::info::FileInfo::read(it, it.len())
+            .map_or(0, |info| (info.name.len() / 2 - 1) as u64),
+        |it| FileInfo::from_uefi(it, it.len())
+            .map_or(0, |info| info.file_name().len().saturating_sub(1) as u64),
+    ]),
+    ("pairs of configurations", TEXTS, configurations, [
+        |it| unsafe { port_config_pairs(it.as_ptr(), it.len()) },
+        |it| sum(Pairs { rest: text_of(it) }.map(pair_sum)),
+        |it| sum(ConfigurationStringIter::new(text_of(it)).map(pair_sum)),
+    ]),
+    ("maps: entries", MAPS, map, [
+        |it| unsafe { port_map(it.as_ptr(), it.len(), STRIDE) },
+        |it| Map::new(it, black_box(STRIDE)).map_or(0, |map| {
+            sum(map.entries().map(|it| sum([it.ty.into(), it.phys_start, it.page_count])))
+        }),
+        |it| package_map(it).map_or(0, |map| {
+            sum(map.entries().map(|it| sum([it.ty.0.into(), it.phys_start, it.page_count])))
+        }),
+    ]),
+    ("maps: `is_sorted`", MAPS, map, [
+        |it| unsafe { port_sorted(it.as_ptr(), it.len(), STRIDE) },
+        |it| Map::new(it, black_box(STRIDE))
+            .map_or(0, |map| map.entries().is_sorted_by_key(|it| it.phys_start).into()),
+        |it| package_map(it).map_or(0, |map| map.is_sorted().into()),
+    ]),
+    ("logs: version 1", LOGS, log1, [
+        |it| unsafe { port_log1(it.as_ptr(), it.len(), it.len()) },
+        |bytes| {
+            let last_entry = black_box(bytes.len());
+            sum(readers::log1::Events { bytes, last_entry, offset: 0 }.map(|it| {
+                let [pcr_index, event_type] = [it.pcr_index, it.event_type].map(u64::from);
+                sum([pcr_index, event_type, it.digest[0].into(), it.data.len() as u64])
+            }))
+        },
+        |bytes| {
+            let log = EventLog::new(Some(bytes), Some(black_box(bytes.len())), false);
+            sum(log.iter().map(|it| {
+                let [pcr_index, event_type] = [it.pcr_index().0, it.event_type().0].map(u64::from);
+                sum([pcr_index, event_type, it.digest()[0].into(), it.event_data().len() as u64])
+            }))
+        },
+    ]),
     ("logs: version 2, two digests", LOGS, log2::<2>, EVENTS2),
     ("logs: version 2, each of two digests", LOGS, log2::<2>, DIGESTS2),
     ("logs: version 2, four digests", LOGS, log2::<4>, EVENTS2),
     ("logs: version 2, each of four digests", LOGS, log2::<4>, DIGESTS2),
-    ("PCI resources", RESOURCES, resources, all!(resources, port_pci)),
-    ("times", TIMES, times, all!(times, port_times)),
-    ("configurations", TEXTS, configurations, all!(configurations, port_config)),
-    ("paths: `try_from`", PATHS, path, all!(path, port_path)),
-    ("paths: nodes", PATHS, path, all!(nodes, port_nodes)),
-    ("paths: instances", PATHS, path, all!(instances, port_instances)),
+    ("PCI resources", RESOURCES, resources, [
+        |it| unsafe { port_pci(it.as_ptr(), it.len()) },
+        |it| black_box(ranges(it)).map_or(0, |list| {
+            sum([list.len() as u64, list.first().map_or(0, |it| it.granularity)])
+        }),
+        |it| black_box(pci::parse(it)).map_or(0, |list| {
+            sum([list.len() as u64, list.first().map_or(0, |it| it.granularity)])
+        }),
+    ]),
+    ("times", TIMES, times, [
+        |it| unsafe { port_times(it.as_ptr(), it.len()) },
+        |it| sum(it.chunks_exact(16).filter_map(|it| readers::time::Time::read(it).ok())
+            .map(|it| sum([it.year.into(), it.day.into(), it.nanosecond.into()]))),
+        |it| sum(it.chunks_exact(16).filter_map(|it| Time::try_from(it).ok())
+            .map(|it| sum([it.year().into(), it.day().into(), it.nanosecond().into()]))),
+    ]),
+    ("configurations", TEXTS, configurations, [
+        |it| unsafe { port_config(it.as_ptr(), it.len()) },
+        |it| element_sum!(Configurations::new(text_of(it)),
+            |it| [it.offset, it.width, first_of(&it.value)]),
+        |it| element_sum!(MultiConfigurationStringIter::new(text_of(it)),
+            |it| [it.offset, it.width, first_of(&it.value)]),
+    ]),
+    ("paths: `try_from`", PATHS, path, [
+        |it| unsafe { port_path(it.as_ptr(), it.len()) },
+        |it| whole(it).map_or(0, |path| path.len() as u64),
+        |it| DevicePath::try_from(it).map_or(0, |path| path.as_bytes().len() as u64),
+    ]),
+    ("paths: nodes", PATHS, path, [
+        |it| unsafe { port_nodes(it.as_ptr(), it.len()) },
+        |it| whole(it).map_or(0, |path| node_sum(path, Stop::EndEntire)),
+        |it| DevicePath::try_from(it).map_or(0, |path| package_node_sum(path.node_iter())),
+    ]),
+    ("paths: instances", PATHS, path, [
+        |it| unsafe { port_instances(it.as_ptr(), it.len()) },
+        |it| whole(it).map_or(0, |path| sum(readers::path::instances(path)
+            .map(|it| sum([it.len() as u64, node_sum(it, Stop::AnyEnd)])))),
+        |it| DevicePath::try_from(it).map_or(0, |path| sum(path.instance_iter()
+            .map(|it| sum([it.as_bytes().len() as u64, package_node_sum(it.node_iter())])))),
+    ]),
 ];
 
 fn main() {

@@ -108,12 +108,9 @@ impl Format {
                 self.seeds.push(event(first, &variable(guid, name, value)));
             }
             "parts" => self.parts.extend(rest.split('|').map(bytes)),
-            "numbers" => {
-                self.numbers.extend(rest.split(' ').map(|it| match it.strip_prefix("0x") {
-                    Some(digits) => number(digits, 16),
-                    None => number(it, 10),
-                }))
-            }
+            "numbers" => self.numbers.extend(rest.split(' ').map(|it| {
+                it.strip_prefix("0x").map_or_else(|| number(it, 10), |digits| number(digits, 16))
+            })),
             _ => panic!("{kind} begins no line of the table"),
         }
     }
