@@ -6,6 +6,7 @@ digits are a byte, and `samples` the names of those of `samples/` that are there
 `stderr` and `status` are what it has to end with, where the text `*` is any but none. Each may be
 missing: then it is empty, or 0.
 """
+import os
 import shutil
 import subprocess
 import sys
@@ -13,7 +14,7 @@ import tempfile
 from pathlib import Path
 from urllib.parse import unquote
 
-from telling import TOP, tells
+from telling import TOP, counted, tells
 
 # A run that takes more seconds hangs.
 SECONDS = 600
@@ -66,10 +67,15 @@ def is_as_expected(program, case):
         return tells(case.name, end_of(program, case.args, case.stdin, cwd=room), case.expected)
 
 
-def chosen(program, folder):
-    """The outcomes of a folder's cases, or of those that the command line names, and whether these
-    are all."""
+def run(program, folder, *checks):
+    """Tries a folder's cases and then the checks, in an empty folder; or the cases that the command line names. Prints
+    the counts, and returns the exit status."""
     # The first call proves and builds the program where that isn't done yet.
     subprocess.run([program, "--version"], capture_output=True, check=False)
     found, names = cases(folder), sys.argv[1:]
-    return [is_as_expected(program, found[it]) for it in names or found], not names
+    outcomes = [is_as_expected(program, found[it]) for it in names or found]
+    with tempfile.TemporaryDirectory(prefix="golden-") as room:
+        os.chdir(room)
+        for check in () if names else checks:
+            outcomes += check()
+    return counted(outcomes)

@@ -3,6 +3,7 @@
 It follows each name to its definition, and each definition to the names that it is made of. A text that it can't
 read, or a name that is no variable and has no meaning, raises `Unread`: nothing is left out of what is counted.
 """
+import collections
 import glob
 import os
 import re
@@ -71,29 +72,24 @@ class Definition:
         heads = [line.partition(":")[0] for line in self.text[1:] if re.match(r"  (?:pub )?[^\s(]", line) and ":" in line]
         return [name for head in heads for name in head.removeprefix("  pub ").split()]
 
+    def parts(self):
+        """The text of its type, and its equations, each with the names on its left side."""
+        head, *equations = re.split(r"\n(?=[^\s})])", "\n".join(self.text))
+        return head, [(it, re.findall(NAME, re.split(r"\s=(?:\s|$)", it, maxsplit=1)[0])) for it in equations]
+
     def names(self):
         """The names in its type, and in each equation but those that its left side binds."""
         if self.is_type:
             fields = re.findall(r"^\s+(?:pub )?([^\s:(){}]+)\s*:", "\n".join(self.text[1:]), re.M)
             return free_names("\n".join(self.text), fields) - {self.name}
-        head, *equations = self.parts()
-        found = free_names(head)
-        for equation in equations:
-            # A constructor that the left side names, as the file's other words do, begins with a capital.
-            found |= free_names(equation, {it for it in left_side(equation) if it[0].islower()})
-        return found - {self.name}
-
-    def parts(self):
-        """The text of its type, and that of each equation."""
-        return re.split(r"\n(?=[^\s})])", "\n".join(self.text))
+        head, equations = self.parts()
+        # A constructor that the left side names, as the file's other words do, begins with a capital.
+        found = [free_names(text, {it for it in left if it[0].islower()}) for text, left in equations]
+        return free_names(head).union(*found) - {self.name}
 
     def variables(self):
         """The names that the left sides of its equations may bind."""
-        return {it for equation in self.parts()[1:] for it in left_side(equation)}
-
-
-def left_side(equation):
-    return re.findall(NAME, re.split(r"\s=(?:\s|$)", equation, maxsplit=1)[0])
+        return {name for _, left in self.parts()[1] for name in left}
 
 
 class SpecFile:
@@ -106,25 +102,22 @@ class SpecFile:
         self.is_private = "private" in parts
         self.imports, self.definitions = {}, {}
         with open(path, encoding="utf-8") as text:
-            self.read(text.read().split("\n"))
+            self.read(text.read())
         self.words = dict(self.definitions)
         for it in self.definitions.values():
             self.words.update(dict.fromkeys(it.constructors(), it))
 
-    def read(self, lines):
-        current, use, margin = None, "", 0
-        for number, line in enumerate(lines, 1):
-            if not line.strip() or line.lstrip().startswith("--"):
-                continue
-            if use or re.match(r"\s*((unfoldable|pub|open) )*use ", line):
-                use += f" {line.strip()}"
-                if use.count("{") == use.count("}"):
-                    self.imports.update(imported(use))
-                    use = ""
-            elif re.match(r"module _ .* where", line):
+    def read(self, text):
+        text = re.sub(r"^ *--.*", "", text, flags=re.M)
+        uses = re.compile(r"^ *(?:(?:unfoldable|pub|open) )*use (?:[^{\n]*\{[^}]*\}|.*)", re.M)
+        for use in uses.findall(text):
+            self.imports.update(imported(" ".join(use.split())))
+        current, margin = None, 0
+        for number, line in enumerate(uses.sub(lambda it: "\n" * it[0].count("\n"), text).split("\n"), 1):
+            if re.match(r"module _ .* where", line):
                 # Parameters that all definitions of the module share; these stand indented.
                 margin = 2
-            elif not re.match(r"\s*((pub )?mod |infix|unfolding |ruleset )", line):
+            elif line.strip() and not re.match(r"\s*((pub )?mod |infix|unfolding |ruleset )", line):
                 if not line.startswith(" "):
                     margin = 0
                 line = line[margin:]
@@ -139,23 +132,32 @@ class SpecFile:
                 current.text.append(line)
 
 
-class Clauses:
-    """What is cited of code: the clauses of a function, or the ghost members of a trait or an impl."""
+class Block:
+    """A file, an impl or a trait: what it imports, for all of its items, and its ghost members by their names."""
 
-    def __init__(self, crate, modules, owner, trait, name, texts, imports):
-        self.crate, self.modules, self.owner, self.trait, self.name = crate, modules, owner, trait, name
-        self.texts, self.imports = texts, imports
-        self.is_public, self.types, self.members, self.variables = False, set(), None, set()
+    def __init__(self, crate, modules, imports, owner=None, trait=None, is_public=False):
+        self.crate, self.modules, self.imports, self.ghosts = crate, modules, imports, {}
+        self.owner, self.trait, self.is_public = owner, trait, is_public
 
     @property
     def path(self):
-        return "::".join(it for it in (self.crate, *self.modules, self.owner, self.name) if it)
+        return "::".join(it for it in (self.crate, *self.modules, self.owner) if it)
 
 
-def without_comments(text):
-    """The text with comments and literals blanked, each line as long as it was."""
-    parts = re.compile(r"//[^\n]*|/\*.*?\*/|b?\"(?:\\.|[^\"\\])*\"|b?'(?:\\.[^']*|[^'\\])'", re.S)
-    return parts.sub(lambda it: re.sub(r"[^\n]", " ", it[0]), text)
+class Function:
+    """A function, which begins at an offset: its clauses, and the types and variables in its signature."""
+
+    def __init__(self, block, text, start):
+        self.block, self.crate = block, block.crate
+        signature, clauses, self.end = function_at(text, start)
+        self.name = re.match(r"fn\s+(\w+)", signature)[1]
+        self.path = f"{block.path}::{self.name}"
+        self.has_requires = any(kind == "requires" for kind, _ in clauses)
+        self.texts = [it for _, it in clauses]
+        is_named_public = re.search(r"\bpub\s+(?:(?:const|unsafe|extern)\s+)*$", text[max(0, start - 40) : start])
+        self.is_public = block.is_public or bool(is_named_public)
+        self.types = {*re.findall(r"\b[A-Z]\w+", signature), block.owner} - {None}
+        self.variables = {*re.findall(r"\b(\w+)\s*:", signature), *re.findall(r"\b[A-Z]\b", signature)}
 
 
 def after(text, start, brackets="{}"):
@@ -177,8 +179,6 @@ def function_at(text, start):
     signature, clauses = None, []
     while True:
         stop = re.compile(r"\b(?:requires|ensures)\b|[{;]").search(text, i)
-        if not stop:
-            raise Unread(f"a function without an end: {text[start : start + 80]}")
         signature = signature or text[start : stop.start()]
         if stop[0] == ";":
             return signature, clauses, stop.end()
@@ -190,79 +190,61 @@ def function_at(text, start):
 
 
 def sources(crate):
-    """The files of a crate's code, tests aside, each with its text without comments."""
+    """The files of a crate's code, tests aside, each with its text, whose comments and literals are blanked."""
+    blanked = re.compile(r"//[^\n]*|/\*.*?\*/|b?\"(?:\\.|[^\"\\])*\"|b?'(?:\\.[^']*|[^'\\])'", re.S)
     for path, text in crates.sources(crate):
-        yield path, without_comments(text)
+        yield path, blanked.sub(lambda it: re.sub(r"[^\n]", " ", it[0]), text)
 
 
 class Code:
-    """The clauses of a crate, and the models of its types."""
+    """The functions of a crate, and the models of its types."""
 
     def __init__(self, crate):
-        self.crate, self.items, self.models, self.names = crate, [], [], set()
-        types = {True: set(), False: set()}
-        for _, text in sources(crate):
-            for pub, name in re.findall(r"^\s*(pub )?(?:pub\(\w+\) )?(?:enum|struct) (\w+)", text, re.M):
-                types[bool(pub)].add(name)
+        self.items, self.models, self.names = [], [], set()
+        texts = dict(sources(crate))
+        types = re.findall(r"^\s*(pub )?(?:pub\(\w+\) )?(?:enum|struct) (\w+)", "\n".join(texts.values()), re.M)
         # What a trait's method promises of a type of a library that no other crate sees is private.
         is_library = os.path.isfile(f"{TOP}/crates/{crate}/src/lib.rt")
-        self.hidden = types[False] - types[True] if is_library else set()
-        for path, text in sources(crate):
+        self.hidden = {it for _, it in types} - {it for pub, it in types if pub} if is_library else set()
+        for path, text in texts.items():
             self.names |= set(re.findall(r"\b(?:enum|struct|trait|type|const|ghost)\s+(\w+)", text))
             modules = [it for it in path.removesuffix(".rt").split("/")[3:] if it != "lib"]
-            self.block(modules, text, 0, len(text), {})
+            self.read(Block(crate, modules, collections.ChainMap()), text, 0, len(text))
 
-    def block(self, modules, text, start, end, imports, owner=None, trait=None, is_trait=False):
-        """Reads a file, an impl or a trait: first its imports, which serve all of its items."""
-        imports, ghosts, functions, blocks = dict(imports), [], [], []
-        item = re.compile(r"\bghost use\b|\bghost\s+[\w-]+\s*[:=]|\bimpl\b|\btrait\b|\bfn\s+\w|\{")
-        i = start
-        while found := item.search(text, i, end):
-            at = found.start()
+    def read(self, block, text, at, end):
+        """Reads the items of a block, and of those in it, which see its imports."""
+        item = re.compile(r"\bghost use\b|\bghost\s+([\w-]+)\s*[:=]|\b(?:impl|trait)\b|\bfn\s+\w|\{")
+        while found := item.search(text, at, end):
+            start = found.start()
             if found[0] == "ghost use":
-                i = text.index(";", at) + 1
-                imports.update(imported(text[at : i - 1]))
+                at = text.index(";", start) + 1
+                block.imports.update(imported(text[start : at - 1]))
             elif found[0].startswith("fn"):
-                functions.append(at)
-                _, _, i = function_at(text, at)
+                self.items.append(Function(block, text, start))
+                at = self.items[-1].end
             else:
-                opening = text.index("{", at)
-                i = after(text, opening)
-                if found[0].startswith("ghost"):
-                    ghosts.append((found[0].split()[1].rstrip(":="), text[opening + 1 : i - 1]))
-                    proof = re.compile(r"\s*by\s*\{").match(text, i)
-                    i = after(text, proof.end() - 1) if proof else i
-                elif found[0] in ("impl", "trait"):
-                    blocks.append((found[0], at, opening, i))
-        members = Clauses(self.crate, modules, owner, trait, "", [it for _, it in ghosts], imports)
-        if trait == "Model":
-            self.models.append((members, dict(ghosts)))
-        for at in functions:
-            self.function(modules, text, at, imports, owner, trait, is_trait, members)
-        for kind, at, opening, ending in blocks:
-            head = text[at:opening]
-            if kind == "trait":
-                self.block(modules, text, opening + 1, ending - 1, imports, head.split()[1].rstrip(":"), None,
-                           bool(re.search(r"\bpub\s+$", text[:at])))
-            else:
-                while "<" in head:
-                    shorter = re.sub(r"<[^<>]*>", "", head)
-                    head = shorter if shorter != head else head.replace("<", "")
-                of, _, kind = head.removeprefix("impl").partition(" where ")[0].rpartition(" for ")
-                self.block(modules, text, opening + 1, ending - 1, imports,
-                           re.findall(r"\w+", kind)[-1], of.strip().split("::")[-1] or None)
+                opening = text.index("{", start)
+                at = after(text, opening)
+                if found[1]:
+                    block.ghosts[found[1]] = text[opening + 1 : at - 1]
+                    proof = re.compile(r"\s*by\s*\{").match(text, at)
+                    at = after(text, proof.end() - 1) if proof else at
+                elif found[0] != "{":
+                    inner = self.block_of(block, text[start:opening], text[:start].split()[-1:] == ["pub"])
+                    self.read(inner, text, opening + 1, at - 1)
 
-    def function(self, modules, text, at, imports, owner, trait, is_trait, members):
-        signature, clauses, _ = function_at(text, at)
-        name = re.match(r"fn\s+(\w+)", signature)[1]
-        it = Clauses(self.crate, modules, owner, trait, name, [text for _, text in clauses], imports)
-        it.has_requires = any(kind == "requires" for kind, _ in clauses)
-        is_named_public = re.search(r"\bpub\s+(?:(?:const|unsafe|extern)\s+)*$", text[max(0, at - 40) : at])
-        it.is_public = bool(is_named_public or trait and owner not in self.hidden or is_trait)
-        it.types = set(re.findall(r"\b[A-Z]\w+", signature)) | ({owner} if owner else set())
-        it.variables = {*re.findall(r"\b(\w+)\s*:", signature), *re.findall(r"\b[A-Z]\b", signature)}
-        it.members = members
-        self.items.append(it)
+    def block_of(self, outer, head, is_public):
+        """The block that the head of a trait or an impl begins."""
+        owner, trait = head.split()[1].rstrip(":"), None
+        if head.startswith("impl"):
+            while (shorter := re.sub(r"<[^<>]*>", "", head)) != head:
+                head = shorter
+            trait, _, owner = head.removeprefix("impl").partition(" where ")[0].rpartition(" for ")
+            owner, trait = re.findall(r"\w+", owner)[-1], trait.strip().split("::")[-1]
+            is_public = bool(trait) and owner not in self.hidden
+        block = Block(outer.crate, outer.modules, outer.imports.new_child(), owner, trait, is_public)
+        self.models += [block] if trait == "Model" else []
+        return block
 
 
 class Repository:
@@ -314,36 +296,32 @@ class Repository:
                 if isinstance(meaning, str):
                     others.add(meaning)
                 elif meaning is None:
-                    self.judge_variable(name, variables, reason)
+                    if not {name.partition(".")[0]} & (KEYWORDS | variables | self.rust_names):
+                        self.unread.add(f"{reason}: {name}")
                 elif meaning not in found:
                     found[meaning] = reason
                     file, path = meaning.file, meaning.path
                     waiting.append((meaning.names(), file.imports, file.words, meaning.variables(), path))
         return found, others - {""}
 
-    def judge_variable(self, name, variables, reason):
-        """Keeps a name without a meaning that is no variable, and no word of the language or of Rust."""
-        first = name.partition(".")[0]
-        if first not in KEYWORDS and first not in variables and first not in self.rust_names:
-            self.unread.add(f"{reason}: {name}")
-
     def models_of(self, item):
         """The models of the types that a function's signature names."""
-        for code in self.code.values():
-            for model, ghosts in code.models:
-                versions = {"v1", "v2"} & set(model.modules), {"v1", "v2"} & set(item.modules)
-                if model.owner in item.types and (not all(versions) or versions[0] == versions[1]):
-                    yield model, ghosts
+        for model in (it for code in self.code.values() for it in code.models if it.owner in item.types):
+            versions = [{"v1", "v2"} & set(it.modules) for it in (model, item.block)]
+            if not all(versions) or versions[0] == versions[1]:
+                yield model
 
     def reached_by(self, items):
         """What clauses reach, what they cite elsewhere, and what models reach beyond that."""
         cited, computed = [], []
         for item in items:
-            for it in (item, item.members) if item.trait else (item,):
-                cited += [(text, it.imports, item.path, item.variables) for text in it.texts]
-            for model, ghosts in self.models_of(item):
-                for it in ("Value", "view"):
-                    computed.append((ghosts[it], model.imports, f"the model of {model.path}", set()))
+            block = item.block
+            cited += [(text, block.imports, item.path, item.variables) for text in item.texts]
+            if block.trait:
+                cited += [(text, block.imports, item.path, set()) for text in block.ghosts.values()]
+            for model in self.models_of(item):
+                reason = f"the model of {model.path}"
+                computed += [(model.ghosts[it], model.imports, reason, set()) for it in ("Value", "view")]
         believed, others = self.reach(cited)
         more, _ = self.reach(computed)
         return believed, others, {it: reason for it, reason in more.items() if it not in believed}
@@ -354,7 +332,7 @@ class Repository:
         if crate not in self.code:
             return []
         return [it for it in self.code[crate].items if it.name == name
-                and set(middle) <= {*it.modules, it.owner} and (middle or not it.owner)]
+                and set(middle) <= {*it.block.modules, it.block.owner} and (middle or not it.block.owner)]
 
     def believed_files(self):
         """The files of definitions that stand outside `specs/private/`."""
