@@ -1,11 +1,10 @@
 //! Mutates rows and samples, gives each to a proved program, to plain Rust and, of `uefi_list`, to
 //! the package in rust/, and compares what is printed, the messages and the exit statuses.
 //!
-//! `fuzz TOP ROOM SEED SECONDS` runs a batch of inputs, which follow from SEED alone: at most
-//! 200,000, or those of so many seconds. TOP is the folder of the repository. ROOM is a folder whose
-//! file `report` has the input that runs, so that it is known after a crash or a hang, which end
-//! the process. After a difference, with exit status 1, the file has the endings too. For each
-//! command it prints how many inputs ended with status 0, with 1 and with another.
+//! `fuzz TOP ROOM SECONDS SEED THREADS` gives each thread inputs that follow from SEED and its
+//! number, for so many seconds. TOP is the folder of the repository, and ROOM one for the files of
+//! runs. It ends at the first difference, which it prints with the input, with exit status 1. For
+//! each command it prints how many inputs ended with status 0, with 1 and with another.
 
 mod audit;
 mod commands;
@@ -25,30 +24,23 @@ mod readers;
 use commands::{COMMANDS, Command, Program};
 use input::Input;
 use mutate::{MAX_LENGTH, Mutator};
-use program::{Ending, FILES};
+use program::{Ending, FILE};
 use random::Random;
 use std::collections::HashSet;
-use std::fs::{self, File};
+use std::fs;
 use std::hash::{DefaultHasher, Hash, Hasher};
 use std::io;
-use std::os::unix::fs::FileExt;
+use std::panic::{AssertUnwindSafe, catch_unwind};
 use std::path::Path;
 use std::process::ExitCode;
+use std::sync::atomic::{AtomicBool, Ordering};
+use std::thread;
 use std::time::{Duration, Instant};
 
-const INPUTS: u64 = 200_000;
-/// The process ends with a signal at an input that takes more seconds.
-const INPUT_SECONDS: u32 = 20;
-/// One input in this many also goes to the program in a process of its own.
-const PROCESS_SHARE: u64 = 1000;
 /// The most inputs that a command's pool grows to.
 const POOL: usize = 400;
 /// How many lines of a listing make its shape.
 const SHAPE_LINES: usize = 40;
-
-unsafe extern "C" {
-    safe fn alarm(seconds: u32) -> u32;
-}
 
 /// The inputs that mutations of a command begin with.
 struct Pool {
@@ -73,12 +65,6 @@ fn shape(listing: &[u8]) -> u64 {
     hash(&lines.map(word).collect::<Vec<_>>())
 }
 
-/// Makes a text all that is in a file, which stays open, since that is quicker.
-fn put(file: &File, text: &str) -> io::Result<()> {
-    file.write_all_at(text.as_bytes(), 0)?;
-    file.set_len(text.len() as u64)
-}
-
 impl Pool {
     /// The seeds and the samples of a command.
     fn new(command: &'static Command, top: &Path) -> io::Result<Pool> {
@@ -100,36 +86,22 @@ impl Pool {
         Ok(Pool { command, inputs, shapes: HashSet::new(), counts: [0; 3] })
     }
 
-    /// Runs one input, and returns whether an ending is another than plain Rust expects.
-    fn differs(
-        &mut self,
-        random: &mut Random,
-        report: &File,
-        top: &Path,
-        room: &Path,
-    ) -> io::Result<bool> {
+    /// Runs one input, and returns it with the endings if one is another than plain Rust expects.
+    fn difference(&mut self, random: &mut Random, top: &Path, room: &Path) -> io::Result<Option<String>> {
         let command = self.command;
         let input = Mutator { command, pool: &self.inputs, random }.input();
-        let is_in_process = random.below(PROCESS_SHARE) == 0;
-        let file = if is_in_process { FILES[1] } else { random.one_of(&FILES) };
-        let part = if random.index(8) == 0 { 1 + random.index(200) } else { usize::MAX };
-        let text = format!("command: {}\n{input}", command.name);
-        put(report, &text)?;
-        let expected = command.expected(&input, file);
-        let mut endings = vec![("the program", program::run(command, file, &input, part))];
+        let expected = command.expected(&input, FILE);
+        let mut endings = vec![("the program", program::run(command, &input, top, room)?)];
         if command.program == Program::List {
-            endings.push(("the package", command.of_package(&input)));
-        }
-        if is_in_process {
-            let ending = program::run_process(command, file, &input, top, room)?;
-            endings.push(("the program in a process", ending));
+            let ending = catch_unwind(AssertUnwindSafe(|| command.of_package(&input)));
+            endings.push(("the package", ending.unwrap_or_default()));
         }
         if let Some((who, ending)) = endings.iter().find(|it| it.1 != expected) {
-            put(report, &format!("{text}plain Rust: {expected}{who}: {ending}"))?;
-            return Ok(true);
+            let name = command.name;
+            return Ok(Some(format!("command: {name}\n{input}plain Rust: {expected}{who}: {ending}")));
         }
         self.keep(input, &expected);
-        Ok(false)
+        Ok(None)
     }
 
     /// Counts an input, and takes it up if its listing has another shape than those before. A
@@ -145,26 +117,52 @@ impl Pool {
     }
 }
 
-fn main() -> io::Result<ExitCode> {
-    let words: Vec<String> = std::env::args().skip(1).collect();
-    let [top, room, seed, seconds] = words.as_slice() else {
-        return Err(io::Error::other("usage: fuzz TOP ROOM SEED SECONDS"));
-    };
-    let (top, room) = (Path::new(top), Path::new(room));
-    let limit = Duration::from_secs(seconds.parse().map_err(io::Error::other)?);
+/// Runs inputs in a folder until the time is over, or a thread has found a difference. Returns for
+/// each command how many there were.
+fn work(
+    top: &Path,
+    room: &Path,
+    mut random: Random,
+    end: Instant,
+    is_found: &AtomicBool,
+) -> io::Result<Vec<[u64; 3]>> {
+    fs::create_dir(room)?;
     let pools = COMMANDS.iter().map(|command| Pool::new(command, top));
     let mut pools = pools.collect::<io::Result<Vec<_>>>()?;
-    let (mut random, start) = (Random(hash(seed) | 1), Instant::now());
-    let report = File::create(room.join("report"))?;
-    let (mut done, mut differs) = (0, false);
-    while done < INPUTS && start.elapsed() < limit && !differs {
-        alarm(INPUT_SECONDS);
+    while Instant::now() < end && !is_found.load(Ordering::Relaxed) {
         let index = random.index(pools.len());
-        differs = pools[index].differs(&mut random, &report, top, room)?;
-        done += 1;
+        if let Some(difference) = pools[index].difference(&mut random, top, room)? {
+            println!("fuzz: DIFFERENCE\n{difference}");
+            is_found.store(true, Ordering::Relaxed);
+        }
     }
-    for Pool { command, counts: [listed, refused, other], .. } in &pools {
-        println!("{} {listed} {refused} {other}", command.name);
+    Ok(pools.iter().map(|pool| pool.counts).collect())
+}
+
+fn main() -> io::Result<ExitCode> {
+    let words: Vec<String> = std::env::args().skip(1).collect();
+    let [top, room, seconds, seed, threads] = words.as_slice() else {
+        return Err(io::Error::other("usage: fuzz TOP ROOM SECONDS SEED THREADS"));
+    };
+    let [seconds, threads]: [u64; 2] = [seconds, threads].map(|it| it.parse().expect("a number"));
+    let (end, is_found) = (Instant::now() + Duration::from_secs(seconds), AtomicBool::new(false));
+    let counts = thread::scope(|scope| {
+        let run = |number: u64| {
+            let (room, is_found) = (Path::new(room).join(number.to_string()), &is_found);
+            let random = Random(hash(&(seed, number)) | 1);
+            scope.spawn(move || work(Path::new(top), &room, random, end, is_found))
+        };
+        let runs: Vec<_> = (0..threads).map(run).collect();
+        let counts = runs.into_iter().map(|it| it.join().expect("a thread's end"));
+        counts.collect::<io::Result<Vec<_>>>()
+    })?;
+    let mut all = 0;
+    for (index, Command { name, .. }) in COMMANDS.iter().enumerate() {
+        let sum = |status: usize| counts.iter().map(|it| it[index][status]).sum::<u64>();
+        let [listed, refused, other] = [0, 1, 2].map(sum);
+        println!("fuzz: {name:<10} {listed:>10} with status 0, {refused:>9} 1, {other:>8} another");
+        all += listed + refused + other;
     }
-    Ok(ExitCode::from(u8::from(differs)))
+    println!("fuzz: {all} inputs, seed {seed}");
+    Ok(ExitCode::from(u8::from(is_found.into_inner())))
 }
