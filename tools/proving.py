@@ -6,6 +6,7 @@ free memory.
 import concurrent.futures
 import math
 import os
+import pathlib
 import re
 import subprocess
 import sys
@@ -31,8 +32,7 @@ def functions_in(name):
 
 def at_once():
     """How many proofs the processors and the free memory have room for."""
-    with open("/proc/meminfo", encoding="utf-8") as file:
-        free = 1024 * int(re.search(r"MemAvailable:\s+(\d+)", file.read())[1])
+    free = 1024 * int(re.search(r"MemAvailable:\s+(\d+)", pathlib.Path("/proc/meminfo").read_text())[1])
     return max(1, min(len(os.sched_getaffinity(0)), free // MEMORY_OF_A_PROOF))
 
 
@@ -42,11 +42,10 @@ class Progress:
     def __init__(self, program, totals, uses, at_once):
         self.program, self.totals, self.uses, self.at_once = program, totals, uses, at_once
         self.proved, self.began, self.took = dict.fromkeys(totals, 0), {}, {}
-        self.ended, self.writing = threading.Event(), threading.Lock()
+        self.ended = threading.Event()
 
     def say(self, text):
-        with self.writing:
-            print(f"{self.program}: {text}", file=sys.stderr, flush=True)
+        sys.stderr.write(f"{self.program}: {text}\n")
 
     def begin(self, name):
         self.began[name] = time.monotonic()
