@@ -19,11 +19,26 @@ static bool plain_event_text(UefiBytes bytes, UefiEventText *out) {
     return true;
 }
 
+static bool plain_event_crtm_version(UefiBytes bytes, UefiCrtmVersion *out) {
+    bool has_nul;
+    if (is_text(bytes.at, bytes.n, 2, &has_nul) && has_nul) {
+        *out = (UefiCrtmVersion){{slice(bytes.at, bytes.n - 2), true, true}, UEFI_CRTM_VERSION_UCS2};
+    } else if (bytes.n == 16) {
+        *out = (UefiCrtmVersion){{bytes, false, false}, UEFI_CRTM_VERSION_GUID};
+    } else {
+        if (!plain_event_text(bytes, &out->text)) return false;
+        out->form = UEFI_CRTM_VERSION_OTHER;
+    }
+    return true;
+}
+
 static void one_text(UefiBytes bytes) {
-    if (bytes.n > 8 && any() & 1) bytes.n = below(9);
-    for (size_t i = 0; i < bytes.n && i < 8; i++)
+    size_t most = any() & 3 ? 8 : 16;
+    if (bytes.n > most && any() & 1) bytes.n = most == 16 ? most : below(9);
+    for (size_t i = 0; i < bytes.n && i < most; i++)
         if (any() & 7) ((uint8_t *)bytes.at)[i] = any() & 1 ? 'a' : i & 1 ? 0 : 0xe4;
-    READ(UefiEventText, event_text, bytes);
+    if (bytes.n >= 2 && !(any() & 3)) memset((uint8_t *)bytes.at + bytes.n - 2, 0, 2);
+    READ(UefiEventText, event_text, bytes), READ(UefiCrtmVersion, event_crtm_version, bytes);
 }
 
 static bool plain_signature_list_next(UefiBytes bytes, size_t *at, UefiSignatureList *out) {
