@@ -10,7 +10,6 @@ pub mod FirstByte
 pub mod Pieces
 pub mod NextKept
 pub mod PathIn
-pub mod Expecting
 pub mod Machine
 pub mod Leading
 pub mod Complete

@@ -6,7 +6,8 @@ use Rattle.uefi_hii.specs.Configuration.{SpellsElement}
 use Rattle.uefi_hii.specs.private.Taking.{TakesElement}
 use Rattle.uefi_hii.specs.Views.{configuration_of, element_of, peeked_pairs}
 use Rattle.uefi_hii.proofs.Elements.{after_element, after_header, configuration_push, element_fails, ends, goes_on}
-use Rattle.uefi_hii.proofs.Elements.{pushed, residual_fails}
+use Rattle.uefi_hii.proofs.Elements.{pushed}
+use Rattle.uefi_hii.proofs.Headers.{residual}
 use Rattle.uefi_hii.proofs.Shapes.{spells_good}
 use Rattle.uefi_hii.proofs.reading.read_group.Goals as goal
 
@@ -18,9 +19,7 @@ loop-configuration-init g c =
 
 pub returns-in_err-element : goal.returns-in_err-element
 returns-in_err-element g c =
-    residual_fails g.row.A.Denot (peeked_pairs c.args.pairs.now)
-    (peeked_pairs c.read_element.new.pairs) c.from_residual-in_err-element.result c.in_err-element.field-0.0
-    (c.from_residual-in_err-element.ensures.1)
+    rw (residual c.from_residual-in_err-element.result _ c.from_residual-in_err-element.ensures.1)
     (element_fails g.row.A.Denot (peeked_pairs c.args.pairs.now) (peeked_pairs c.loop-configuration.pairs)
     (peeked_pairs c.read_element.new.pairs)
     (configuration_of c.loop-configuration.configuration) c.in_err-element.field-0.0 c.requires
