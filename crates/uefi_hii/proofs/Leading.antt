@@ -71,13 +71,7 @@ bare c = record c { elements = [] }
 -- A header leads to the configuration of it alone.
 leads_header : (h : List Pair) (c : Configuration) → SpellsHeader h c → Leads Start h (InBody (bare c))
 unfolding steps on_next step expect
-leads_header [] c s = absurd s
-leads_header (g ∷ []) c s = absurd s
-leads_header (g ∷ n ∷ []) c s = absurd s
-leads_header (g ∷ n ∷ p ∷ []) c s = rw (s.0, s.1, path_in-is p c.path s.2, s.3)
-leads_header (g ∷ n ∷ p ∷ a ∷ []) c s =
-    rw (s.0, s.1, path_in-is p c.path s.2, step-alt c.guid c.name c.path a s.3.0 s.3.1, s.3.2)
-leads_header (g ∷ n ∷ p ∷ a ∷ b ∷ h) c s = absurd s
+leads_header h c s = grind (arith, path_in-is, step-alt)
 
 -- The last of elements skips a pair more.
 last_with_pair-push : (es : List Element) (e : Element) (p : Pair)

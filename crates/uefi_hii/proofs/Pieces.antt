@@ -1,8 +1,8 @@
 -- The first piece of a text, and how many pairs a text has.
 use Rattle.std.proofs.Common.{◌≡◌, ◌≢◌, ℕ, ◌+◌, ◌<◌, ◌≤◌, Bool, true, false, cond, not, List, [], ◌∷◌, length, map}
 use Rattle.std.proofs.Common.{suc, take, drop, refl, ◌∙◌, ap, arith, inl, inr, lit≤}
-use Rattle.std.specs.Prelude.{Option, Some, None, if◌then◌else◌, nat_lt, ◌==◌}
-use Rattle.std.specs.List.{slice_split, onto_first, before_first, after_first, position_or_len}
+use Rattle.std.specs.Prelude.{Option, Some, None, nat_lt}
+use Rattle.std.specs.List.{onto_first, before_first, after_first, position_or_len}
 use Rattle.std.proofs.lemmas.Bool.{cases_lt, le-ltb, lt-ltb}
 use Rattle.std.proofs.lemmas.List.{drop-drop, drop_all, length-map, take_all}
 use Rattle.std.proofs.lemmas.List.Sums.{fails_before_first, prefix_len-le-length}
@@ -16,8 +16,12 @@ use Rattle.uefi_hii.specs.private.Parts.{is_ampersand, pieces}
 abbrev by_parts : List ℕ → Option (List ℕ) → Pair
 by_parts key value = record { key = key; value = value }
 
+-- A text has a piece.
+pub pieces_some : (text : List ℕ) → pieces text ≢ []
+pieces_some text none = absurd (omega (arith, length-slice_split is_ampersand text, ap (λ ps. length ps) none))
+
 -- A piece that others follow isn't dropped.
-not_last : (piece : List ℕ) (others : List (List ℕ)) → 0 < length others
+pub not_last : (piece : List ℕ) (others : List (List ℕ)) → others ≢ []
     → without_empty_last (piece ∷ others) ≡ piece ∷ without_empty_last others
 not_last piece others some = grind arith
 
@@ -26,9 +30,8 @@ pairs_first : (text : List ℕ) → position_or_len is_ampersand text < length t
     → pairs text ≡ pair_of (before_first is_ampersand text) ∷ pairs (after_first is_ampersand text)
 pairs_first text some =
     let rest : List ℕ = after_first is_ampersand text in
-    let more : 0 < length (pieces rest) = omega (arith, length-slice_split is_ampersand rest) in
     ap (λ ps. map pair_of (without_empty_last ps)) (slice_split_first is_ampersand text 0 some)
-    ∙ ap (map pair_of) (not_last (before_first is_ampersand text) (pieces rest) more)
+    ∙ ap (map pair_of) (not_last (before_first is_ampersand text) (pieces rest) (pieces_some rest))
 
 -- A text without an ampersand is one pair.
 pairs_alone : (text : List ℕ) → text ≢ [] → position_or_len is_ampersand text ≡ length text

@@ -1,6 +1,6 @@
 -- The first pair of a text: where the text may be cut, and the parts between.
 use Rattle.std.proofs.Common.{◌≡◌, ℕ, ◌+◌, ◌-◌, ◌<◌, List, [], ◌∷◌, ◌++◌, length, get_or, take, drop, refl, sym, ◌∙◌, ap}
-use Rattle.std.proofs.Common.{subst, append_assoc, append-nil, arith, inl, inr, lit<}
+use Rattle.std.proofs.Common.{append_assoc, append-nil, arith, inl, inr, lit<}
 use Rattle.std.specs.Prelude.{◌==◌, Option, Some, None}
 use Rattle.std.specs.List.{position_or_len, before_first, after_first, slice_range}
 use Rattle.std.specs.Str.{IsCharBoundary, IsUtf8}

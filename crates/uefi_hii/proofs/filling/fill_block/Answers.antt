@@ -1,4 +1,4 @@
-use Rattle.std.proofs.Common.{◌%◌, ◌+◌, ◌*◌, ap, ◌∙◌, sym, arith, length, take, ◌++◌}
+use Rattle.std.proofs.Common.{◌+◌, ◌*◌, ap, ◌∙◌, sym, arith, length, take, ◌++◌}
 use Rattle.std.proofs.lemmas.Simd.{take_more_put_chunk}
 use lib.Lanes.{chunk}
 use Rattle.uefi_hii.specs.Hex.{hex}
