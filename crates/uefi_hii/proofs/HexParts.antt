@@ -22,17 +22,17 @@ length-block at text room =
     omega (arith, length-hex (chunk (2 * at) 32 text), length-chunk (2 * at) 32 text room)
 
 -- the item of two bytes, and then the others
-pub hex-two : (at : ℕ) (text : List ℕ) → 2 * at + 1 < length text
+pub hex_two : (at : ℕ) (text : List ℕ) → 2 * at + 1 < length text
     → hex (drop (2 * at) text) ≡ byte_of_two (get_or text (2 * at) 0) (get_or text (2 * at + 1) 0) ∷ hex
     (drop (2 * (at + 1)) text)
-hex-two at text room =
+hex_two at text room =
     let next : 2 * at + 1 + 1 ≡ 2 * (at + 1) = omega arith in
     rw (drop_more text (2 * at) 0 (omega arith), drop_more text (2 * at + 1) 0 room, next)
 
 -- the item of a last byte alone
-pub hex-one : (at : ℕ) (text : List ℕ) → 2 * at < length text → length text ≤ 2 * at + 1
+pub hex_one : (at : ℕ) (text : List ℕ) → 2 * at < length text → length text ≤ 2 * at + 1
     → hex (drop (2 * at) text) ≡ byte_of_one (get_or text (2 * at) 0) ∷ hex (drop (2 * (at + 1)) text)
-hex-one at text room last =
+hex_one at text room last =
     rw (drop_more text (2 * at) 0 room, drop_all (2 * at + 1) text last, drop_all (2 * (at + 1)) text (omega arith))
 
 -- n more items that are the text's

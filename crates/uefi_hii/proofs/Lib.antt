@@ -18,7 +18,6 @@ pub mod Sound
 pub mod Cuts
 pub mod Joined
 pub mod Failing
-pub mod Taken
 pub mod TextPairs
 pub mod Headers
 pub mod Elements

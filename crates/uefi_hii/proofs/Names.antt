@@ -33,3 +33,6 @@ named_bad value left text a b named bad = grind arith
 -- There is none of an odd number of characters.
 pub named_never : (value : List ℕ) → length value % 2 ≢ 0 → name value ≡ None
 named_never value odd = cc (ne_eqb (length value % 2) 0 odd)
+
+-- What the reader asks for, step by step.
+pub ruleset name_steps = (named_all, named_odd, named_bad, named_never)

@@ -25,12 +25,13 @@ at_most_eight : (n : ℕ) → is_number_length n ≡ true → n ≤ 8
 at_most_eight n e = grind (arith, nat_tests)
 
 -- A number of 1, 2, 4 or 8 bytes, of which another byte is read, fits 64 bits.
-pub next_fits : (text rest left first : List ℕ) (n byte count : ℕ) (is_one : Bool) → HasRead (hex text) (hex rest) n
-    → hex rest ≡ byte ∷ left → count ≡ length first → first ≡ hex text → is_one ≡ is_number_length count → is_one ≡ true
-    → n * 256 + byte < 18446744073709551616
-next_fits text rest left first n byte count is_one read steps counted all tested holds =
-    let size : is_number_length (length (hex text)) ≡ true = cc in
+pub next_fits : (text rest left : List ℕ) (n byte : ℕ) → is_number_length (length (hex text)) ≡ true
+    → HasRead (hex text) (hex rest) n → hex rest ≡ byte ∷ left → n * 256 + byte < 18446744073709551616
+next_fits text rest left n byte size read steps =
     let few : suc read.size.0 ≤ 8 =
     omega (arith, at_most_eight (length (hex text)) size, read.size.1, ap length steps) in
     let fits : 256 ^ suc read.size.0 ≤ 256 ^ 8 = pow-le-pow_right (lit≤ tt) few in
     omega (arith, fits, read.size.2, first_small rest left byte steps)
+
+-- What the reader asks for, step by step.
+pub ruleset number_steps = (read_none, read_more, first_small)

@@ -1,11 +1,11 @@
 -- What the machine finds is a group.
-use Rattle.std.proofs.Common.{◌≡◌, ◌≢◌, ℕ, Bool, true, false, List, [], ◌∷◌, ◌++◌, refl, sym}
+use Rattle.std.proofs.Common.{◌≡◌, ◌≢◌, ℕ, Bool, true, false, List, [], ◌∷◌, ◌++◌, refl, sym, ap}
 use Rattle.std.proofs.Common.{append_assoc, inl, inr}
 use Rattle.std.proofs.lemmas.List.{append-nil}
 use Rattle.std.proofs.lemmas.Bool.Decides.{not_from_Decides}
 use Rattle.std.proofs.lemmas.Slice.Eq.{bytes_eq-Decides}
 use Rattle.std.specs.Bool.{Decides}
-use Rattle.std.specs.Prelude.{Option, Some, None, codes}
+use Rattle.std.specs.Prelude.{Option, Some, None, IsSome, is_some, codes}
 use Rattle.uefi_hii.specs.Pairs.{Pair}
 use Rattle.uefi_hii.specs.Configuration.{Configuration, Element, Spells, bytes_in, guid_in, name_in, number_in}
 use Rattle.uefi_hii.specs.Slots.{AltSlot, AreGood, Expects, GuidSlot, IsGood, NameSlot, OffsetSlot, PathSlot, Slot, ValueSlot}
@@ -21,7 +21,10 @@ use Rattle.uefi_hii.proofs.Machine.{step, with_alt, with_element}
 use Rattle.uefi_hii.proofs.PathIn.{path_in, path_in-is, path_in-some}
 use Rattle.uefi_hii.proofs.Shapes.{header_good, header_push_alt, header_with_alt_good, some_is, spells_bare}
 use Rattle.uefi_hii.proofs.Shapes.{spells_element, spells_header, spells_skipped, spells_some}
-use Rattle.uefi_hii.proofs.Taken.{nothing_in}
+
+-- What holds nothing doesn't hold something.
+nothing_in : {A : Type 0} (o : Option A) → o ≡ None → ¬ IsSome o
+nothing_in o e s = let h : is_some o ≡ false = ap is_some e in cc
 
 -- The pairs that were read before a state.
 unfoldable pub WasRead : List Pair → State → Type 0

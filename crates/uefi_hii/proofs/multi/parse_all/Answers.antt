@@ -29,9 +29,3 @@ returns-clause-only g c =
     (cut_all c.args.text.now
     (uncut_pairs c.loop-result.configurations) c.loop-result.all.items c.loop-result.invariant
     c.in_default.ensures.steps.0)
-
-pub returns-clause-no_memory : goal.returns-clause-no_memory
-returns-clause-no_memory g c = c.loop-result.invariant.no_memory
-
-pub loop-result-smaller : goal.loop-result-smaller
-loop-result-smaller g c = (c.in-Some.ensures.goes.on tt).2
