@@ -195,3 +195,6 @@ pub of_the_cut : {A : Type 0} (text : List ℕ) (r : Result (ConfigurationString
     → ((parts : List Part) → Cut text parts → IsFirstResult parts r)
     → (parts : List Part) × Cut text parts × IsFirstResult parts r
 of_the_cut text r every = let one = has_one_cut text in (one.parts, one.cut, every one.parts one.cut)
+
+-- What the reader of a text's first configuration asks for.
+pub ruleset first_steps = (none_first, is_first, of_the_cut)

@@ -1,5 +1,5 @@
 use Rattle.std.proofs.Common.{drop, ap, ◌∙◌}
-use Rattle.uefi_hii.proofs.Pieces.{parts_alone, parts_found}
+use Rattle.uefi_hii.proofs.Pieces.{parts_found}
 use Rattle.uefi_hii.proofs.pairs.split_once.Goals as goal
 
 pub returns-in-Some : goal.returns-in-Some

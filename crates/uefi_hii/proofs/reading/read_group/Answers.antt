@@ -1,14 +1,8 @@
-use Rattle.std.proofs.Common.{◌≡◌, ◌<◌, false, true, not, sym, ◌∙◌, ap, arith, List, [], ◌∷◌, ◌++◌, length, length-append}
-use Rattle.std.specs.Prelude.{Ok}
-use Rattle.uefi_hii.specs.declared.configuration.ConfigurationStringElement.{ConfigurationStringElement}
-use Rattle.uefi_hii.specs.Pairs.{Pair}
-use Rattle.uefi_hii.specs.Configuration.{SpellsElement}
-use Rattle.uefi_hii.specs.private.Taking.{TakesElement}
-use Rattle.uefi_hii.specs.Views.{configuration_of, element_of, peeked_pairs}
+use Rattle.std.proofs.Common.{◌≡◌, false, true, not, sym, ◌∙◌, ap}
+use Rattle.uefi_hii.specs.Views.{configuration_of, peeked_pairs}
 use Rattle.uefi_hii.proofs.Elements.{after_element, after_header, configuration_push, element_fails, ends, goes_on}
 use Rattle.uefi_hii.proofs.Elements.{pushed}
 use Rattle.uefi_hii.proofs.Headers.{residual}
-use Rattle.uefi_hii.proofs.Shapes.{spells_good}
 use Rattle.uefi_hii.proofs.reading.read_group.Goals as goal
 
 pub loop-configuration-init : goal.loop-configuration-init
@@ -50,24 +44,3 @@ loop-configuration-preserved g c =
     c.loop-configuration.invariant c.in_ok-element.ensures
     (configuration_push c.loop-configuration.configuration c.push.new.self.items c.in_ok-element.element push))
     (c.is_at.ensures.0 c.if-not-is_at.false)
-
-pub returns-then-is_err : goal.returns-then-is_err
-returns-then-is_err g c =
-    let before = c.loop-configuration.invariant in
-    spells_good (peeked_pairs c.args.pairs.now) before.body (peeked_pairs c.loop-configuration.pairs)
-    (configuration_of c.loop-configuration.configuration) before.spells before.whole
-
--- An element has pairs, so fewer are left.
-takes_some : {A : Type 0} (left after : List Pair) (e : ConfigurationStringElement A) → TakesElement left (Ok e) after
-    → length after < length left
-takes_some left after e t = by_front t.0 t.1 t.2
-  where
-    by_front : (front : List Pair) → left ≡ front ++ after → SpellsElement front (element_of e)
-        → length after < length left
-    by_front [] is s = absurd s
-    by_front (q ∷ front) is s = omega (arith, ap length is, length-append front after)
-
-pub loop-configuration-smaller : goal.loop-configuration-smaller
-loop-configuration-smaller g c =
-    takes_some (peeked_pairs c.loop-configuration.pairs) (peeked_pairs c.read_element.new.pairs) c.in_ok-element.element
-    c.in_ok-element.ensures
