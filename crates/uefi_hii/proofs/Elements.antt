@@ -1,9 +1,10 @@
 -- The elements of a configuration, read one after another.
-use Rattle.std.proofs.Common.{◌≡◌, ◌≢◌, ℕ, Bool, true, false, List, [], ◌∷◌, ◌++◌, map, refl, sym, ◌∙◌, ap, subst}
+use Rattle.std.proofs.Common.{◌≡◌, ◌≢◌, ℕ, List, [], ◌∷◌, ◌++◌, map, refl, ap}
 use Rattle.std.proofs.Common.{append_assoc, inl, inr}
 use Rattle.std.proofs.lemmas.List.{map-append}
+use Rattle.std.proofs.lemmas.Bool.{cases_Bool}
 use Rattle.std.proofs.lemmas.Slice.Eq.{bytes_eq-Decides}
-use Rattle.std.specs.Prelude.{if◌then◌else◌, option_map, reverse, Option, Some, None, Result, Ok, Err, IsErrAnd, codes}
+use Rattle.std.specs.Prelude.{Vec, reverse, Option, Some, None, Ok, Err, codes}
 use Rattle.std.specs.Str.{bytes_eq}
 use Rattle.uefi_hii.specs.declared.configuration.ConfigurationString.{ConfigurationString}
 use Rattle.uefi_hii.specs.declared.configuration.ConfigurationStringElement.{ConfigurationStringElement}
@@ -12,14 +13,13 @@ use Rattle.uefi_hii.specs.declared.error.ParseError.TheVariants.{BlockConfig, Bl
 use Rattle.uefi_hii.specs.Hex.{hex}
 use Rattle.uefi_hii.specs.Pairs.{Pair}
 use Rattle.uefi_hii.specs.Configuration.{Configuration, Spells, number_in, value_at}
-use Rattle.uefi_hii.specs.private.Parts.{IsSkipped}
-use Rattle.uefi_hii.specs.Slots.{IsKey, OffsetSlot, ValueSlot, WidthSlot}
+use Rattle.uefi_hii.specs.Slots.{Expects, IsKey, OffsetSlot, ValueSlot, WidthSlot, offset_after_alt}
+use Rattle.uefi_hii.specs.Slots.{offset_after_element, offset_after_header, value_after_width, width_after_offset}
 use Rattle.uefi_hii.specs.private.Parts.{EndsBefore}
 use Rattle.uefi_hii.specs.Cut.{first_pair}
 use Rattle.uefi_hii.specs.Views.{configuration_of, element_of, nv_pair_of}
 use Rattle.uefi_hii.specs.Reading.{TakesGroup}
 use Rattle.uefi_hii.specs.private.Taking.{MissesElement, Skips, StopsAt, Takes, TakesElement, TakesError, TakesHeader}
-use Rattle.uefi_hii.proofs.Expecting.{MustCome}
 use Rattle.uefi_hii.proofs.Failing.{fails_after}
 use Rattle.uefi_hii.proofs.Leading.{is_other, push_some}
 use Rattle.uefi_hii.proofs.Shapes.{header_good, header_with_alt_good, spells_element, spells_good, spells_header}
@@ -30,13 +30,7 @@ pub record ComesBefore (before left : List Pair) (c : Configuration) : Type 0 wh
   pub body : List Pair
   pub whole : before ≡ body ++ left
   pub spells : Spells body c
-  pub expects : (q : Pair) (rest : List Pair) → left ≡ q ∷ rest → MustCome body (Some q) OffsetSlot
-  pub some : left ≢ []
-
--- A push that didn't fail added the element.
-pub pushed : {X : Type 0} (t : Bool) (before after : List X) (x : X) → after ≡ if t then before ++ x ∷ [] else before
-    → t ≡ true → after ≡ before ++ x ∷ []
-pushed t before after x is fine = is ∙ ap (λ b. if b then before ++ x ∷ [] else before) fine
+  pub expects : Expects body (first_pair left) OffsetSlot
 
 -- After a header an element comes, if a pair is left.
 pub after_header : {A : Type 0} (before left : List Pair) (c : ConfigurationString A) → TakesHeader before (Ok c) left
@@ -45,43 +39,35 @@ after_header before left c h some = record {
   body = h.0;
   whole = h.1;
   spells = spells_header h.0 (configuration_of c) h.2 (ap (map element_of) h.3);
-  expects = λ q rest e. by_alt c.alt_cfg_id refl q rest e;
-  some = some;
+  expects = by_alt c.alt_cfg_id refl left some h.4;
 }
   where
-    by_alt : (a : Option ℕ) → c.alt_cfg_id ≡ a → (q : Pair) (rest : List Pair) → left ≡ q ∷ rest
-        → MustCome h.0 (Some q) OffsetSlot
-    by_alt None alt q rest e =
-        inl (
-          header_good h.0 (configuration_of c) h.2 alt,
-          λ key. h.4 alt (subst (λ s. IsKey (codes "ALTCFG") (first_pair s)) (sym e) key),
-        )
-    by_alt (Some id) alt q rest e = inr (inl (header_with_alt_good h.0 (configuration_of c) id h.2 alt, refl))
+    by_alt : (a : Option ℕ) → c.alt_cfg_id ≡ a → (left : List Pair) → left ≢ []
+        → (c.alt_cfg_id ≡ None → ¬ IsKey (codes "ALTCFG") (first_pair left)) → Expects h.0 (first_pair left) OffsetSlot
+    by_alt a alt [] some other = absurd (some refl)
+    by_alt None alt (q ∷ left) some other =
+        offset_after_header (header_good h.0 (configuration_of c) h.2 alt) (other alt)
+    by_alt (Some id) alt (q ∷ left) some other =
+        offset_after_alt (header_with_alt_good h.0 (configuration_of c) id h.2 alt) refl
 
 -- A pair of the element is missing, so the group fails.
 misses_fails : (before left after : List Pair) (c : Configuration) (e : ParseError) → before ≢ []
     → ComesBefore before left c → MissesElement left after e → TakesError before e after
 misses_fails before left after c e some g (inl m) =
-    subst (λ x. TakesError before x after) (sym m.0)
-    (fails_after OffsetSlot before g.body left after some g.whole (λ q k. g.expects q after k)
-    (λ k. absurd (g.some k)) m.1)
+    rw m.0 (fails_after OffsetSlot before g.body left after some g.whole g.expects m.1)
 misses_fails before left after c e some g (inr (inl m)) =
     let o = m.0 in
-    let rest = m.1 in
-    subst (λ x. TakesError before x after) (sym m.2)
-    (fails_after WidthSlot before (g.body ++ o ∷ []) rest after some
-    (g.whole ∙ ap (λ s. g.body ++ s) m.3 ∙ sym (append_assoc g.body (o ∷ []) rest))
-    (λ q k. (g.body, o ∷ [], refl, (c, g.spells), (m.4, tt)))
-    (λ k. (g.body, o ∷ [], refl, (c, g.spells), (m.4, tt))) m.5)
+    rw m.2
+    (fails_after WidthSlot before (g.body ++ o ∷ []) m.1 after some
+    (rw (g.whole, m.3, append_assoc g.body (o ∷ []) m.1))
+    (width_after_offset (g.body, o ∷ [], refl, (c, g.spells), (m.4, tt))) m.5)
 misses_fails before left after c e some g (inr (inr m)) =
     let o = m.0 in
     let w = m.1 in
-    let rest = m.2 in
-    subst (λ x. TakesError before x after) (sym m.3)
-    (fails_after ValueSlot before (g.body ++ o ∷ w ∷ []) rest after some
-    (g.whole ∙ ap (λ s. g.body ++ s) m.4 ∙ sym (append_assoc g.body (o ∷ w ∷ []) rest))
-    (λ q k. (g.body, o ∷ w ∷ [], refl, (c, g.spells), (m.5, (m.6, tt))))
-    (λ k. (g.body, o ∷ w ∷ [], refl, (c, g.spells), (m.5, (m.6, tt)))) m.7)
+    rw m.3
+    (fails_after ValueSlot before (g.body ++ o ∷ w ∷ []) m.2 after some
+    (rw (g.whole, m.4, append_assoc g.body (o ∷ w ∷ []) m.2))
+    (value_after_width (g.body, o ∷ w ∷ [], refl, (c, g.spells), (m.5, (m.6, tt)))) m.7)
 
 -- So does an element that fails.
 pub element_fails : (A : Type 0) (before left after : List Pair) (c : Configuration) (e : ParseError) → before ≢ []
@@ -92,12 +78,6 @@ element_fails A before left after c BlockName some g h = misses_fails before lef
 element_fails A before left after c BlockConfig some g h = misses_fails before left after c BlockConfig some g h
 element_fails A before left after c Memory some g h = spells_good before g.body left c g.spells g.whole
 
--- An error that is passed on is the error of the group.
-pub residual_fails : (A : Type 0) (before after : List Pair) (r : Result (ConfigurationString A) ParseError)
-    (e : ParseError) → IsErrAnd r (λ y. y ≡ e) → TakesGroup {A = A} before (Err e) after → TakesGroup before r after
-residual_fails A before after (Ok c) e h t = absurd h
-residual_fails A before after (Err y) e h t = subst (λ z. TakesGroup {A = A} before (Err z) after) (sym h) t
-
 -- What was read of a configuration after an element, and the pairs that are left.
 pub record ComesAfter (before after : List Pair) (c : Configuration) : Type 0 where
   pub body : List Pair
@@ -106,29 +86,18 @@ pub record ComesAfter (before after : List Pair) (c : Configuration) : Type 0 wh
   pub some : c.elements ≢ []
   pub stops : StopsAt after
 
-pub after_element : {A : Type 0} (before left after : List Pair) (c d : ConfigurationString A)
-    (e : ConfigurationStringElement A) → ComesBefore before left (configuration_of c)
-    → TakesElement left (Ok e) after
-    → configuration_of d ≡ record (configuration_of c)
-    { elements = map element_of c.elements.items ++ element_of e ∷ [] }
-    → ComesAfter before after (configuration_of d)
-after_element before left after c d e g t is = record {
+pub after_element : {A : Type 0} (before left after : List Pair) (c : ConfigurationString A)
+    (elements : Vec (ConfigurationStringElement A) A) (e : ConfigurationStringElement A)
+    → ComesBefore before left (configuration_of c) → TakesElement left (Ok e) after
+    → elements.items ≡ c.elements.items ++ e ∷ []
+    → ComesAfter before after (configuration_of (record c { elements = elements }))
+after_element before left after c elements e g t push = record {
   body = g.body ++ t.0;
-  whole = g.whole ∙ ap (λ x. g.body ++ x) t.1 ∙ sym (append_assoc g.body t.0 after);
-  spells = subst (Spells (g.body ++ t.0)) (sym is)
-      (spells_element g.body t.0 (configuration_of c) (element_of e) g.spells t.2);
-  some = λ z. push_some (map element_of c.elements.items) (element_of e) (sym (ap (λ x. x.elements) is) ∙ z);
+  whole = rw (g.whole, t.1, append_assoc g.body t.0 after);
+  spells = rw (push, map-append) (spells_element g.body t.0 (configuration_of c) (element_of e) g.spells t.2);
+  some = λ none. push_some (map element_of c.elements.items) (element_of e) (rw (push, map-append) at none);
   stops = t.3;
 }
-
--- A configuration, and an element more.
-pub configuration_push : {A : Type 0} (c : ConfigurationString A) (items : List (ConfigurationStringElement A))
-    (e : ConfigurationStringElement A) → items ≡ c.elements.items ++ e ∷ []
-    → record (configuration_of c) { elements = map element_of items } ≡ record (configuration_of c)
-    { elements = map element_of c.elements.items ++ element_of e ∷ [] }
-configuration_push c items e is =
-    ap (λ x. record (configuration_of c) { elements = x })
-    (ap (map element_of) is ∙ map-append element_of c.elements.items (e ∷ []))
 
 -- Another element comes where the next key is OFFSET; else the configuration ends.
 pub goes_on : (before after : List Pair) (c : Configuration) → ComesAfter before after c
@@ -137,8 +106,7 @@ goes_on before after c g key = record {
   body = g.body;
   whole = g.whole;
   spells = g.spells;
-  expects = λ q rest e. inr (inr ((c, g.spells, g.some), subst (λ s. IsKey (codes "OFFSET") (first_pair s)) e key));
-  some = λ z. absurd (subst (λ s. IsKey (codes "OFFSET") (first_pair s)) z key);
+  expects = offset_after_element (c, g.spells, g.some) key;
 }
 
 pub ends : {A : Type 0} (before after : List Pair) (c : ConfigurationString A)
@@ -154,15 +122,14 @@ ends before after c g other = (
   },
 )
   where
-    by_test : (q : Pair) (t : Bool) → bytes_eq q.key (codes "GUID") ≡ t → ¬ IsSkipped q → (q.key ≢ codes "OFFSET")
-        → q.key ≡ codes "GUID"
-    by_test q true e stop off = (bytes_eq-Decides q.key (codes "GUID")).0 e
-    by_test q false e stop off = absurd (stop (off, is_other q.key (codes "GUID") e))
-
     at_end : (s : List Pair) → StopsAt s → ¬ IsKey (codes "OFFSET") (first_pair s)
         → EndsBefore (first_pair s) (configuration_of c)
     at_end [] stop off = tt
-    at_end (q ∷ s) stop off = (by_test q (bytes_eq q.key (codes "GUID")) refl stop off, g.some)
+    at_end (q ∷ s) stop off =
+        elim (cases_Bool (bytes_eq q.key (codes "GUID"))) [
+          | inl same ↦ ((bytes_eq-Decides q.key (codes "GUID")).0 same, g.some)
+          | inr other ↦ absurd (stop (off, is_other q.key (codes "GUID") other))
+        ]
 
 -- The pairs of an element, one after another.
 pub takes_element : {A : Type 0} (before one two three after : List Pair) (e : ConfigurationStringElement A)
@@ -174,7 +141,7 @@ pub takes_element : {A : Type 0} (before one two three after : List Pair) (e : C
     → TakesElement before (Ok e) after
 takes_element before one two three after e text o w v is s = (
   o.0 ∷ w.0 ∷ v.0 ∷ map nv_pair_of e.nvconfig.items,
-  o.1 ∙ ap (λ x. o.0 ∷ x) (w.1 ∙ ap (λ x. w.0 ∷ x) (v.1 ∙ ap (λ x. v.0 ∷ x) s.0)),
-  (o.2, w.2, ap (option_map (λ x. reverse (hex x))) v.2 ∙ ap Some (sym is), refl, s.1),
+  rw (o.1, w.1, v.1, s.0),
+  (o.2, w.2, rw (v.2, is), refl, s.1),
   s.2,
 )

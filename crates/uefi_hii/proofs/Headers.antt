@@ -1,20 +1,18 @@
 -- The header of a configuration, read pair by pair.
-use Rattle.std.proofs.Common.{◌≡◌, ◌≢◌, ℕ, List, [], ◌∷◌, refl, sym, ◌∙◌, ap, subst}
-use Rattle.std.specs.Prelude.{Option, Some, None, Result, Ok, Err, IsErrAnd, string_bytes, codes}
+use Rattle.std.proofs.Common.{◌≡◌, ◌≢◌, ℕ, List, [], ◌∷◌, refl, ◌∙◌, ap}
+use Rattle.std.specs.Prelude.{Option, Some, None, Result, Ok, Err, IsErrAnd, string_bytes}
 use Rattle.uefi_hii.specs.declared.configuration.ConfigurationString.{ConfigurationString}
 use Rattle.uefi_hii.specs.declared.error.ParseError.{ParseError}
-use Rattle.uefi_hii.specs.declared.error.ParseError.TheVariants.{BlockConfig, BlockName, ConfigHdr, Memory}
 use Rattle.uefi_path.specs.Node.{Node}
 use Rattle.uefi_path.specs.Views.{boxed_nodes}
 use Rattle.uefi_path.specs.declared.boxed.BoxedDevicePath.{BoxedDevicePath}
 use Rattle.uefi_hii.specs.Pairs.{Pair}
-use Rattle.uefi_hii.specs.Configuration.{HasPath, guid_in, name_in, value_at}
-use Rattle.uefi_hii.specs.Slots.{AltSlot, GuidSlot, IsGood, IsHeader, IsKey, NameSlot, PathSlot, error_of}
-use Rattle.uefi_hii.specs.Cut.{first_pair}
-use Rattle.uefi_hii.specs.Reading.{MayRunOut}
-use Rattle.uefi_hii.specs.private.Taking.{IsNamed, Misses, Takes, TakesAlt, TakesError, TakesHeader, TakesPath}
+use Rattle.uefi_hii.specs.Configuration.{HasPath, guid_in, name_in}
+use Rattle.uefi_hii.specs.Slots.{AltSlot, GuidSlot, IsGood, IsHeader, NameSlot, PathSlot, alt_after_header}
+use Rattle.uefi_hii.specs.Slots.{error_of, guid_first, name_after_guid, path_after_name}
+use Rattle.uefi_hii.specs.private.Taking.{Misses, Takes, TakesAlt, TakesError, TakesHeader, TakesPath}
 use Rattle.uefi_hii.proofs.Failing.{fails_after}
-use Rattle.uefi_hii.proofs.Shapes.{named_value, some_is}
+use Rattle.uefi_hii.proofs.Shapes.{some_is}
 
 -- The three pairs with which a header begins, and the pairs that are left.
 pub record HasThree (before left : List Pair) (x y : List ℕ) (path : List Node) : Type 0 where
@@ -33,7 +31,7 @@ three_taken before one two left x y path g n p = record {
   g = g.0;
   n = n.0;
   p = p.0;
-  whole = g.1 ∙ ap (λ s. g.0 ∷ s) n.1 ∙ ap (λ s. g.0 ∷ n.0 ∷ s) p.1;
+  whole = rw (g.1, n.1, p.1);
   guid = g.2;
   name = n.2;
   has_path = p.2;
@@ -42,65 +40,34 @@ three_taken before one two left x y path g n p = record {
 -- The group fails where the GUID, the name, the path or the identifier has to come, and doesn't.
 pub guid_fails : (before after : List Pair) → before ≢ [] → Takes guid_in before None after
     → TakesError before (error_of GuidSlot) after
-guid_fails before after some missed =
-    fails_after GuidSlot before [] before after some refl (λ q e. refl) (λ e. refl) missed
+guid_fails before after some missed = fails_after GuidSlot before [] before after some refl (guid_first refl) missed
 
 pub name_fails : (before one after : List Pair) (x : List ℕ) → before ≢ [] → Takes guid_in before (Some x) one
     → Takes name_in one None after → TakesError before (error_of NameSlot) after
 name_fails before one after x some g missed =
-    let good : IsGood GuidSlot g.0 = some_is (guid_in g.0) x g.2 in
-    fails_after NameSlot before (g.0 ∷ []) one after some g.1 (λ q e. (good, tt)) (λ e. (good, tt)) missed
+    fails_after NameSlot before (g.0 ∷ []) one after some g.1 (name_after_guid (some_is _ x g.2, tt)) missed
 
 pub path_fails : (before one two after : List Pair) (x y : List ℕ) → before ≢ [] → Takes guid_in before (Some x) one
     → Takes name_in one (Some y) two
     → Misses (IsGood PathSlot) two after → TakesError before (error_of PathSlot) after
 path_fails before one two after x y some g n missed =
-    let good : IsGood GuidSlot g.0 = some_is (guid_in g.0) x g.2 in
-    let named : IsGood NameSlot n.0 = some_is (name_in n.0) y n.2 in
-    fails_after PathSlot before (g.0 ∷ n.0 ∷ []) two after some (g.1 ∙ ap (λ s. g.0 ∷ s) n.1)
-    (λ q e. (good, (named, tt))) (λ e. (good, (named, tt))) missed
+    fails_after PathSlot before (g.0 ∷ n.0 ∷ []) two after some (rw (g.1, n.1))
+    (path_after_name (some_is _ x g.2, (some_is _ y n.2, tt))) missed
 
-pub alt_fails : (before left after : List Pair) (x y : List ℕ) (path : List Node) (e : ParseError) → before ≢ []
-    → HasThree before left x y path → TakesAlt left (Err e) after → TakesError before e after
-alt_fails before left after x y path e some three missed =
-    let good : IsHeader (three.g ∷ three.n ∷ three.p ∷ []) = (
-      some_is (guid_in three.g) x three.guid,
-      (some_is (name_in three.n) y three.name, ((path, three.has_path), tt)),
-    ) in
-    let key : (rest : List Pair) → left ≡ rest
-    → IsKey (codes "ALTCFG") (first_pair rest) =
-    λ rest is. subst (λ s. IsKey (codes "ALTCFG") (first_pair s)) is missed.1 in
-    subst (λ x. TakesError before x after) (sym missed.0)
+pub alt_fails : (A : Type 0) (before left after : List Pair) (x y : List ℕ) (path : List Node) (e : ParseError)
+    → before ≢ [] → HasThree before left x y path → TakesAlt left (Err e) after
+    → TakesHeader {A = A} before (Err e) after
+alt_fails A before left after x y path e some three missed =
+    let good : IsHeader (three.g ∷ three.n ∷ three.p ∷ []) =
+    (some_is _ x three.guid, (some_is _ y three.name, ((path, three.has_path), tt))) in
+    rw missed.0
     (fails_after AltSlot before (three.g ∷ three.n ∷ three.p ∷ []) left after some three.whole
-    (λ q is. (good, key (q ∷ after) is)) (λ is. (good, key [] is)) missed.2)
+    (alt_after_header good missed.1) missed.2)
 
--- Memory may run out once the second pair has the name's key and a value.
-pub may_run_out : (before one : List Pair) (x : List ℕ) → Takes guid_in before (Some x) one → IsNamed one
-    → MayRunOut before
-may_run_out before [] x g named = absurd named
-may_run_out before (n ∷ others) x g named = subst MayRunOut (sym g.1) (some_is (guid_in g.0) x g.2, named)
-
-pub named : (one two : List Pair) (y : List ℕ) → Takes name_in one (Some y) two → IsNamed one
-named one two y n = subst IsNamed (sym n.1) (named_value (value_at (codes "NAME") n.0) y n.2)
-
-pub memory_residual : {A : Type 0} (before after : List Pair) (r : Result (ConfigurationString A) ParseError)
-    → IsErrAnd r (λ y. y ≡ Memory) → MayRunOut before → TakesHeader before r after
-memory_residual before after (Ok c) h m = absurd h
-memory_residual {A} before after (Err e) h m =
-    subst (λ (z : ParseError). TakesHeader {A = A} before (Err z) after) (sym h) m
-
--- The header of an error that is passed on.
-pub header_residual : {A : Type 0} (before after : List Pair) (r : Result (ConfigurationString A) ParseError)
-    (e : ParseError) → e ≢ Memory → IsErrAnd r (λ y. y ≡ e) → TakesError before e after → TakesHeader before r after
-header_residual before after (Ok c) e kept h t = absurd h
-header_residual before after (Err (ConfigHdr s)) e kept h t = subst (λ z. TakesError before z after) (sym h) t
-header_residual before after (Err BlockName) e kept h t = subst (λ z. TakesError before z after) (sym h) t
-header_residual before after (Err BlockConfig) e kept h t = subst (λ z. TakesError before z after) (sym h) t
-header_residual before after (Err Memory) e kept h t = absurd (kept (sym h))
-
--- The error of an identifier isn't out of memory.
-pub alt_kept : (before after : List Pair) (e : ParseError) → TakesAlt before (Err e) after → e ≢ Memory
-alt_kept before after e t is = let h = t.0 in cc
+-- An error that is passed on is the result.
+pub residual : {T E : Type 0} (r : Result T E) (e : E) → IsErrAnd r (λ y. y ≡ e) → r ≡ Err e
+residual (Ok x) e h = absurd h
+residual (Err y) e h = ap Err h
 
 -- The header, with an identifier or without.
 pub takes_header : {A : Type 0} (before left after : List Pair) (c : ConfigurationString A)
@@ -111,15 +78,15 @@ takes_header before left after c three alt none = by_alt c.alt_cfg_id refl alt
     by_alt : (a : Option ℕ) → c.alt_cfg_id ≡ a → TakesAlt left (Ok a) after → TakesHeader before (Ok c) after
     by_alt None is t = (
       three.g ∷ three.n ∷ three.p ∷ [],
-      three.whole ∙ ap (λ s. three.g ∷ three.n ∷ three.p ∷ s) (sym t.0),
+      rw (three.whole, t.0),
       (three.guid, three.name, three.has_path, is),
       none,
-      λ e key. t.1 (subst (λ s. IsKey (codes "ALTCFG") (first_pair s)) t.0 key),
+      λ e. rw t.0 t.1,
     )
     by_alt (Some id) is t = (
       three.g ∷ three.n ∷ three.p ∷ t.0 ∷ [],
-      three.whole ∙ ap (λ s. three.g ∷ three.n ∷ three.p ∷ s) t.1,
+      rw (three.whole, t.1),
       (three.guid, three.name, three.has_path, (t.2.0, t.2.1, is ∙ ap Some t.2.2)),
       none,
-      λ e key. let h : Some id ≡ None = sym is ∙ e in cc,
+      λ e. absurd (cc),
     )

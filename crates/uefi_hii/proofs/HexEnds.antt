@@ -1,5 +1,5 @@
 -- How many bytes hex spells, and the last of them.
-use Rattle.std.proofs.Common.{◌≡◌, ◌≢◌, ℕ, ◌+◌, ◌*◌, ◌/◌, ◌%◌, ◌≤◌, List, [], ◌∷◌, ◌++◌, length, refl, ◌∙◌, ap, arith}
+use Rattle.std.proofs.Common.{◌≡◌, ◌≢◌, ℕ, ◌+◌, ◌*◌, ◌/◌, ◌%◌, ◌≤◌, List, [], ◌∷◌, ◌++◌, length, refl, ap, arith}
 use Rattle.std.proofs.Common.{append_assoc, length-append}
 use Rattle.uefi_hii.specs.Hex.{byte_of_one, byte_of_two, hex}
 
@@ -17,25 +17,20 @@ few_bytes text = omega (arith, length-hex text)
 pub two_a_byte : (text : List ℕ) → (2 * length (hex text) ≤ length text + 1) × (length text ≤ 2 * length (hex text))
 two_a_byte text = (omega (arith, length-hex text), omega (arith, length-hex text))
 
+-- Two texts spell what both spell, where the first has an even number of characters.
+pub hex-append : (v w : List ℕ) → length v % 2 ≡ 0 → hex (v ++ w) ≡ hex v ++ hex w
+hex-append [] w even = refl
+hex-append (x ∷ []) w even = absurd (omega arith)
+hex-append (x ∷ y ∷ v) w even = ap (λ bytes. byte_of_two x y ∷ bytes) (hex-append v w (omega arith))
+
 -- The last byte of a text with an odd number of characters, and of one with an even number.
-hex-push_one : (front : List ℕ) (c : ℕ) → length front % 2 ≡ 0 → hex (front ++ c ∷ []) ≡ hex front ++ byte_of_one c ∷ []
-hex-push_one [] c even = refl
-hex-push_one (a ∷ []) c even = absurd (omega arith)
-hex-push_one (a ∷ b ∷ front) c even = ap (λ bytes. byte_of_two a b ∷ bytes) (hex-push_one front c (omega arith))
-
-hex-push_two : (front : List ℕ) (c d : ℕ) → length front % 2 ≡ 0
-    → hex (front ++ c ∷ d ∷ []) ≡ hex front ++ byte_of_two c d ∷ []
-hex-push_two [] c d even = refl
-hex-push_two (a ∷ []) c d even = absurd (omega arith)
-hex-push_two (a ∷ b ∷ front) c d even = ap (λ bytes. byte_of_two a b ∷ bytes) (hex-push_two front c d (omega arith))
-
 pub last_of_one : (text front : List ℕ) (c : ℕ) → text ≡ front ++ c ∷ [] → length text % 2 ≢ 0
     → hex text ≡ hex front ++ byte_of_one c ∷ []
-last_of_one text front c e odd = ap hex e
-    ∙ hex-push_one front c (omega (arith, ap length e, length-append front (c ∷ [])))
+last_of_one text front c e odd =
+    rw e (hex-append front (c ∷ []) (omega (arith, ap length e, length-append front (c ∷ []))))
 
 pub last_of_two : (text more front : List ℕ) (c d : ℕ) → text ≡ more ++ d ∷ [] → more ≡ front ++ c ∷ []
     → length text % 2 ≡ 0 → hex text ≡ hex front ++ byte_of_two c d ∷ []
 last_of_two text more front c d e m even =
-    let whole : text ≡ front ++ c ∷ d ∷ [] = e ∙ ap (λ s. s ++ d ∷ []) m ∙ append_assoc front (c ∷ []) (d ∷ []) in
-    ap hex whole ∙ hex-push_two front c d (omega (arith, ap length whole, length-append front (c ∷ d ∷ [])))
+    let whole : text ≡ front ++ c ∷ d ∷ [] = rw (e, m, append_assoc front (c ∷ []) (d ∷ [])) in
+    rw whole (hex-append front (c ∷ d ∷ []) (omega (arith, ap length whole, length-append front (c ∷ d ∷ []))))

@@ -1,12 +1,13 @@
 -- The cut of two texts that an ampersand joins.
-use Rattle.std.proofs.Common.{◌≡◌, ◌≢◌, ℕ, Bool, true, false, cond, List, [], ◌∷◌, ◌++◌, map, refl, sym, ◌∙◌, ap, subst}
+use Rattle.std.proofs.Common.{◌≡◌, ◌≢◌, ℕ, Bool, cond, List, [], ◌∷◌, ◌++◌, refl, sym, ◌∙◌, ap, subst, arith}
 use Rattle.std.proofs.lemmas.List.{map-append}
-use Rattle.std.proofs.lemmas.Bool.Decides.{Decides-eqb}
+use Rattle.std.proofs.lemmas.Bool.{ne_eqb}
 use Rattle.std.proofs.lemmas.List.Concat.{flat_map-append}
 use Rattle.std.specs.Prelude.{Option, Some, None, Result, Ok, Err, IsOkAnd, codes}
-use Rattle.std.specs.List.{slice_split, onto_first}
+use Rattle.std.specs.List.{onto_first}
+use Rattle.uefi_hii.proofs.Pieces.{not_last, pieces_some}
 use Rattle.uefi_hii.specs.declared.error.ParseError.{ParseError}
-use Rattle.uefi_hii.specs.Pairs.{Pair, ampersand, pair_of, pairs, without_empty_last}
+use Rattle.uefi_hii.specs.Pairs.{Pair, ampersand, pairs, without_empty_last}
 use Rattle.uefi_hii.specs.private.Parts.{is_ampersand, pieces}
 use Rattle.uefi_hii.specs.Configuration.{Configuration}
 use Rattle.uefi_hii.specs.Slots.{IsKey}
@@ -16,72 +17,43 @@ use Rattle.uefi_hii.specs.Cut.{AreGroups, Cut, Part, first_pair, pairs_of}
 use Rattle.uefi_hii.specs.Laws.{EndsWithAmpersand, EndsWithElement, JoinsCuts, OneCut}
 use Rattle.uefi_hii.proofs.Cuts.{group_some, has_one_cut}
 
-onto_first-append : (c : ℕ) (ps qs : List (List ℕ)) → ps ≢ [] → onto_first c (ps ++ qs) ≡ onto_first c ps ++ qs
-onto_first-append c [] qs some = absurd (some refl)
-onto_first-append c (p ∷ ps) qs some = refl
-
-pieces_some : (p : ℕ → Bool) (x : List ℕ) → slice_split p x ≢ []
-pieces_some p [] e = cc
-pieces_some p (c ∷ x) e = by_test (p c) (slice_split p x) e
-  where
-    by_test : (t : Bool) (parts : List (List ℕ)) → cond t ([] ∷ parts) (onto_first c parts) ≡ [] → ⊥
-    by_test true parts e = cc
-    by_test false [] e = cc
-    by_test false (q ∷ parts) e = cc
+-- A character before joined pieces is before the first of them.
+onto_joined : (c : ℕ) (t : Bool) (ps qs : List (List ℕ)) → ps ≢ []
+    → cond t ([] ∷ ps ++ qs) (onto_first c (ps ++ qs)) ≡ cond t ([] ∷ ps) (onto_first c ps) ++ qs
+onto_joined c t ps qs some = grind arith
 
 -- The pieces of joined texts are those of both.
 pieces-joined : (x y : List ℕ) → pieces (x ++ ampersand ∷ y) ≡ pieces x ++ pieces y
 pieces-joined [] y = refl
-pieces-joined (c ∷ x) y = by_test (is_ampersand c) (pieces-joined x y)
-  where
-    by_test : (t : Bool) → pieces (x ++ ampersand ∷ y) ≡ pieces x ++ pieces y
-        → cond t ([] ∷ pieces (x ++ ampersand ∷ y)) (onto_first c (pieces (x ++ ampersand ∷ y))) ≡ cond t
-        ([] ∷ pieces x) (onto_first c (pieces x)) ++ pieces y
-    by_test true e = ap (λ z. [] ∷ z) e
-    by_test false e = ap (onto_first c) e ∙ onto_first-append c (pieces x) (pieces y) (pieces_some is_ampersand x)
+pieces-joined (c ∷ x) y =
+    rw (pieces-joined x y) (onto_joined c (is_ampersand c) (pieces x) (pieces y) (pieces_some x))
+
+-- One character more leaves pieces as they are of which the last isn't dropped.
+one_kept : (c : ℕ) (t : Bool) (ps : List (List ℕ)) → ps ≢ [] → without_empty_last ps ≡ ps
+    → without_empty_last (cond t ([] ∷ ps) (onto_first c ps)) ≡ cond t ([] ∷ ps) (onto_first c ps)
+one_kept c t ps some kept = grind arith
 
 -- The last piece of a text that doesn't end with an ampersand isn't dropped.
 last_kept : (c : ℕ) (x : List ℕ) → ¬ EndsWithAmpersand (c ∷ x) → without_empty_last (pieces (c ∷ x)) ≡ pieces (c ∷ x)
-last_kept c [] closed = by_test (is_ampersand c) (Decides-eqb c ampersand).0
-  where
-    by_test : (t : Bool) → (t ≡ true → c ≡ ampersand)
-        → without_empty_last (cond t ([] ∷ [] ∷ []) ((c ∷ []) ∷ [])) ≡ cond t ([] ∷ [] ∷ []) ((c ∷ []) ∷ [])
-    by_test true e = absurd (closed ([], ap (λ z. z ∷ []) (e refl)))
-    by_test false e = refl
+last_kept c [] closed = rw (ne_eqb c ampersand (λ e. closed ([], ap (λ z. z ∷ []) e)))
 last_kept c (d ∷ x) closed =
-    by_test (is_ampersand c) (pieces (d ∷ x)) (pieces_some is_ampersand (d ∷ x))
+    one_kept c (is_ampersand c) (pieces (d ∷ x)) (pieces_some (d ∷ x))
     (last_kept d x (λ o. closed (c ∷ o.0, ap (λ z. c ∷ z) o.1)))
-  where
-    tail_kept : (q r : List ℕ) (parts : List (List ℕ)) → without_empty_last (q ∷ r ∷ parts) ≡ q ∷ r ∷ parts
-        → without_empty_last (r ∷ parts) ≡ r ∷ parts
-    tail_kept [] r parts e = cc
-    tail_kept (a ∷ q) r parts e = cc
 
-    by_test : (t : Bool) (parts : List (List ℕ)) → parts ≢ [] → without_empty_last parts ≡ parts
-        → without_empty_last (cond t ([] ∷ parts) (onto_first c parts)) ≡ cond t ([] ∷ parts) (onto_first c parts)
-    by_test t [] some e = absurd (some refl)
-    by_test true (q ∷ parts) some e = ap (λ z. [] ∷ z) e
-    by_test false (q ∷ []) some e = refl
-    by_test false (q ∷ r ∷ parts) some e = ap (λ z. (c ∷ q) ∷ z) (tail_kept q r parts e)
-
+-- The first of joined pieces are kept.
 without_empty_last-append : (ps qs : List (List ℕ)) → qs ≢ []
     → without_empty_last (ps ++ qs) ≡ ps ++ without_empty_last qs
 without_empty_last-append [] qs some = refl
-without_empty_last-append (p ∷ []) [] some = absurd (some refl)
-without_empty_last-append ([] ∷ []) (q ∷ qs) some = refl
-without_empty_last-append ((b ∷ p) ∷ []) (q ∷ qs) some = refl
-without_empty_last-append ([] ∷ r ∷ ps) qs some = ap (λ z. [] ∷ z) (without_empty_last-append (r ∷ ps) qs some)
-without_empty_last-append ((b ∷ p) ∷ r ∷ ps) qs some =
-    ap (λ z. (b ∷ p) ∷ z) (without_empty_last-append (r ∷ ps) qs some)
+without_empty_last-append (p ∷ []) qs some = not_last p qs some
+without_empty_last-append (p ∷ r ∷ ps) qs some =
+    not_last p (r ∷ ps ++ qs) (λ none. cc) ∙ ap (λ z. p ∷ z) (without_empty_last-append (r ∷ ps) qs some)
 
 -- The pairs of joined texts are those of both.
 pairs-joined : (x y : List ℕ) → x ≢ [] → ¬ EndsWithAmpersand x → pairs (x ++ ampersand ∷ y) ≡ pairs x ++ pairs y
 pairs-joined [] y some closed = absurd (some refl)
 pairs-joined (c ∷ x) y some closed =
-    ap (λ z. map pair_of (without_empty_last z)) (pieces-joined (c ∷ x) y)
-    ∙ ap (map pair_of) (without_empty_last-append (pieces (c ∷ x)) (pieces y) (pieces_some is_ampersand y))
-    ∙ map-append pair_of (pieces (c ∷ x)) (without_empty_last (pieces y))
-    ∙ ap (λ z. map pair_of z ++ pairs y) (sym (last_kept c x closed))
+    let ends = without_empty_last-append (pieces (c ∷ x)) (pieces y) (pieces_some y) in
+    rw (pieces-joined (c ∷ x) y, ends, map-append, last_kept c x closed)
 
 -- What follows a group doesn't change its first pair.
 same_first : (g rest more : List Pair) → g ≢ [] → first_pair (g ++ rest) ≡ first_pair (g ++ more)
@@ -94,8 +66,7 @@ groups-joined : (l m : List Part) → EndsWithElement l → AreGroups l → AreG
 groups-joined [] m e a b key = absurd e
 groups-joined (g ∷ []) m e a b key = (by_result g.result a.0 e, b)
   where
-    by_key : (p : Option Pair) (c : Configuration) → IsKey (codes "GUID") p
-        → IsOkAnd {E = ParseError} (Ok c) (λ c. c.elements ≢ []) → EndsBefore p c
+    by_key : (p : Option Pair) (c : Configuration) → IsKey (codes "GUID") p → c.elements ≢ [] → EndsBefore p c
     by_key None c key some = absurd key
     by_key (Some q) c key some = (key, some)
 
@@ -104,10 +75,9 @@ groups-joined (g ∷ []) m e a b key = (by_result g.result a.0 e, b)
     by_result (Err x) h some = absurd some
     by_result (Ok c) h some =
         record { not_empty = h.not_empty; gives = (h.gives.0, by_key (first_pair (pairs_of m)) c key some) }
-groups-joined (g ∷ h ∷ l) m e a b key = (
-  subst (λ p. Group g.group p g.result) (same_first h.group (pairs_of l) (pairs_of (l ++ m)) a.1.0.not_empty) a.0,
-  groups-joined (h ∷ l) m e a.1 b key,
-)
+groups-joined (g ∷ h ∷ l) m e a b key =
+    let first = same_first h.group (pairs_of l) (pairs_of (l ++ m)) a.1.0.not_empty in
+    (rw first at a.0, groups-joined (h ∷ l) m e a.1 b key)
 
 -- A text whose cut has a part isn't empty.
 text_some : (x : List ℕ) (l : List Part) → Cut x l → EndsWithElement l → x ≢ []

@@ -10,7 +10,6 @@ pub mod FirstByte
 pub mod Pieces
 pub mod NextKept
 pub mod PathIn
-pub mod Expecting
 pub mod Machine
 pub mod Leading
 pub mod Complete
@@ -19,7 +18,6 @@ pub mod Sound
 pub mod Cuts
 pub mod Joined
 pub mod Failing
-pub mod Taken
 pub mod TextPairs
 pub mod Headers
 pub mod Elements

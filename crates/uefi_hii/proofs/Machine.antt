@@ -1,5 +1,5 @@
 -- A machine that reads one group pair by pair. What it finds is one group, and it finds every group.
-use Rattle.std.proofs.Common.{◌≡◌, ℕ, Bool, true, false, List, [], ◌∷◌, ◌++◌, refl, sym, ◌∙◌, ap, subst, append_assoc}
+use Rattle.std.proofs.Common.{◌≡◌, ℕ, Bool, true, false, List, [], ◌∷◌, ◌++◌, refl, append_assoc}
 use Rattle.std.proofs.lemmas.List.{append-nil}
 use Rattle.std.specs.Prelude.{Option, Some, None, Result, Ok, Err, codes}
 use Rattle.std.specs.Str.{bytes_eq}
@@ -105,45 +105,41 @@ unfoldable pub run : State → List Pair → List Pair → Outcome
 run s f [] = outcome f [] (result_at_end s)
 run s f (p ∷ ps) = run_by s f p ps (step s p) (λ t. run t (f ++ p ∷ []) ps)
 
+-- The step that pairs do, one after another, up to the first that isn't read.
+unfoldable pub on_next : Step → (State → Step) → Step
+on_next (Next t) more = more t
+on_next (Fail slot) more = Fail slot
+on_next Stop more = Stop
+
+unfoldable pub steps : State → List Pair → Step
+steps s [] = Next s
+steps s (p ∷ ps) = on_next (step s p) (λ t. steps t ps)
+
 -- The pairs lead from one state to the other.
-unfoldable pub Leads : State → List Pair → State → Type 0
-Leads s [] t = s ≡ t
-Leads s (p ∷ ps) t = (u : State) × (step s p ≡ Next u) × Leads u ps t
+abbrev pub Leads : State → List Pair → State → Type 0
+Leads s ps t = steps s ps ≡ Next t
 
-pub leads_one : (s t : State) (p : Pair) → step s p ≡ Next t → Leads s (p ∷ []) t
-unfolding Leads
-leads_one s t p e = (t, e, refl)
+-- The first of them is read, and the others lead on.
+leads_first : (s t : State) (p : Pair) (ps : List Pair) → Leads s (p ∷ ps) t
+    → (u : State) × (step s p ≡ Next u) × Leads u ps t
+unfolding steps on_next
+leads_first s t p ps = by_step (step s p)
+  where
+    by_step : (st : Step) → on_next st (λ u. steps u ps) ≡ Next t → (u : State) × (st ≡ Next u) × Leads u ps t
+    by_step (Next u) m = (u, refl, m)
+    by_step (Fail slot) m = absurd (cc)
+    by_step Stop m = absurd (cc)
 
+-- Pairs that lead on, and others that lead on from there.
 pub leads_on : (s t u : State) (ps qs : List Pair) → Leads s ps t → Leads t qs u → Leads s (ps ++ qs) u
-unfolding Leads
-leads_on s t u [] qs m n = subst (λ x. Leads x qs u) (sym m) n
-leads_on s t u (p ∷ ps) qs m n = (m.0, m.1, leads_on m.0 t u ps qs m.2 n)
+unfolding steps on_next
+leads_on s t u [] qs m n = cc
+leads_on s t u (p ∷ ps) qs m n = let v = leads_first s t p ps m in rw v.1 (leads_on v.0 t u ps qs v.2 n)
 
 -- A run over pairs that lead on goes on from where they lead.
 pub run-leads : (s t : State) (f ps rest : List Pair) → Leads s ps t → run s f (ps ++ rest) ≡ run t (f ++ ps) rest
-unfolding Leads run run_by
-run-leads s t f [] rest m = ap (λ x. run x f rest) m ∙ ap (λ x. run t x rest) (sym (append-nil f))
+unfolding steps run run_by
+run-leads s t f [] rest m = rw append-nil (cc)
 run-leads s t f (p ∷ ps) rest m =
-    ap (λ x. run_by s f p (ps ++ rest) x (λ t. run t (f ++ p ∷ []) (ps ++ rest))) m.1
-    ∙ run-leads m.0 t (f ++ p ∷ []) ps rest m.2
-    ∙ ap (λ x. run t x rest) (append_assoc f (p ∷ []) ps)
-
--- A run by its next step: no pair is left, or the pair is wrong, or begins the next group, or is read.
-pub run-end : (s : State) (f : List Pair) → run s f [] ≡ outcome f [] (result_at_end s)
-unfolding run
-run-end s f = refl
-
-pub run-fail : (s : State) (f : List Pair) (p : Pair) (ps : List Pair) (slot : Slot) → step s p ≡ Fail slot
-    → run s f (p ∷ ps) ≡ outcome (f ++ p ∷ []) ps (Err (error_of slot))
-unfolding run run_by
-run-fail s f p ps slot e = ap (λ x. run_by s f p ps x (λ t. run t (f ++ p ∷ []) ps)) e
-
-pub run-stop : (s : State) (f : List Pair) (p : Pair) (ps : List Pair) → step s p ≡ Stop
-    → run s f (p ∷ ps) ≡ outcome f (p ∷ ps) (result_at_end s)
-unfolding run run_by
-run-stop s f p ps e = ap (λ x. run_by s f p ps x (λ t. run t (f ++ p ∷ []) ps)) e
-
-pub run-next : (s t : State) (f : List Pair) (p : Pair) (ps : List Pair) → step s p ≡ Next t
-    → run s f (p ∷ ps) ≡ run t (f ++ p ∷ []) ps
-unfolding run run_by
-run-next s t f p ps e = ap (λ x. run_by s f p ps x (λ t. run t (f ++ p ∷ []) ps)) e
+    let u = leads_first s t p ps m in
+    rw (u.1, ← append_assoc f (p ∷ []) ps) (run-leads u.0 t (f ++ p ∷ []) ps rest u.2)

@@ -1,6 +1,6 @@
 -- The path that a pair's value begins with, if it begins with one.
-use Rattle.std.proofs.Common.{◌≡◌, ℕ, List, sym, ◌∙◌, ap, subst}
-use Rattle.std.specs.Prelude.{Option, Some, None}
+use Rattle.std.proofs.Common.{◌≡◌, ◌↔◌, ℕ, List, sym, ◌∙◌, ap, subst}
+use Rattle.std.specs.Prelude.{Option, Some, None, IsSomeAnd}
 use Rattle.uefi_path.specs.Path.{HasPath as BeginsWithPath}
 use Rattle.uefi_base.specs.Prefix.{IsPrefix}
 use Rattle.uefi_path.proofs.Decide.{path_or_none}
@@ -28,28 +28,26 @@ path_of_value (Some value) = path_by (hex value) (path_or_none (hex value) (hex_
 pub path_in : Pair → Option (List Node)
 path_in pair = path_of_value pair.value
 
-pub path_in-some : (pair : Pair) (path : List Node) → path_in pair ≡ Some path → HasPath pair path
-unfolding path_in path_of_value path_by
-path_in-some pair path = by_value pair.value
-  where
-    by_proof : (bytes : List ℕ) (d : Dec (BeginsWithPath bytes)) → path_by bytes d ≡ Some path → PathOf bytes path
-    by_proof bytes (yes has) e = let same : has.0 ≡ path = cc in subst (PathOf bytes) same (has.1, has.2)
-    by_proof bytes (no none) e = cc
+-- A path is in a pair if and only if its value's bytes begin with it.
+path_by-is : (bytes : List ℕ) (d : Dec (BeginsWithPath bytes)) (path : List Node)
+    → (path_by bytes d ≡ Some path) ↔ PathOf bytes path
+unfolding path_by
+path_by-is bytes (yes has) path = (
+  λ e. let same : has.0 ≡ path = cc in subst (PathOf bytes) same (has.1, has.2),
+  λ h. ap Some (one_path has.0 path has.2.0 h.1.0 has.1 h.0 (sym has.2.1 ∙ h.1.1)).0,
+)
+path_by-is bytes (no none) path = (λ e. cc, λ h. absurd (none (path, h.0, h.1)))
 
-    by_value : (value : Option (List ℕ)) → path_of_value value ≡ Some path
-        → HasPath (record { key = pair.key; value = value }) path
-    by_value None e = cc
-    by_value (Some value) e = by_proof (hex value) (path_or_none (hex value) (hex_small value)) e
+path_of_value-is : (value : Option (List ℕ)) (path : List Node)
+    → (path_of_value value ≡ Some path) ↔ IsSomeAnd value (λ value. PathOf (hex value) path)
+unfolding path_of_value
+path_of_value-is None path = (λ e. cc, λ h. absurd h)
+path_of_value-is (Some value) path = path_by-is (hex value) (path_or_none (hex value) (hex_small value)) path
+
+pub path_in-some : (pair : Pair) (path : List Node) → path_in pair ≡ Some path → HasPath pair path
+unfolding path_in
+path_in-some pair path = (path_of_value-is pair.value path).0
 
 pub path_in-is : (pair : Pair) (path : List Node) → HasPath pair path → path_in pair ≡ Some path
-unfolding path_in path_of_value path_by
-path_in-is pair path = by_value pair.value
-  where
-    by_proof : (bytes : List ℕ) (d : Dec (BeginsWithPath bytes)) → PathOf bytes path → path_by bytes d ≡ Some path
-    by_proof bytes (yes has) h = ap Some (one_path has.0 path has.2.0 h.1.0 has.1 h.0 (sym has.2.1 ∙ h.1.1)).0
-    by_proof bytes (no none) h = absurd (none (path, h.0, h.1))
-
-    by_value : (value : Option (List ℕ)) → HasPath (record { key = pair.key; value = value }) path
-        → path_of_value value ≡ Some path
-    by_value None h = absurd h
-    by_value (Some value) h = by_proof (hex value) (path_or_none (hex value) (hex_small value)) h
+unfolding path_in
+path_in-is pair path = (path_of_value-is pair.value path).1

@@ -1,11 +1,11 @@
 -- Pairs that spell a header, an element or a configuration, and a pair more.
-use Rattle.std.proofs.Common.{◌≡◌, ◌≢◌, ℕ, List, [], ◌∷◌, ◌++◌, refl, sym, ◌∙◌, ap, subst, append_assoc}
+use Rattle.std.proofs.Common.{◌≡◌, ◌≢◌, ℕ, List, [], ◌∷◌, ◌++◌, refl, sym, ◌∙◌, ap, subst, append_assoc, arith}
 use Rattle.std.proofs.lemmas.List.{append-nil}
 use Rattle.std.specs.Prelude.{Option, Some, None, IsSome, is_some, option_and_then, codes}
 use Rattle.std.specs.List.{AllByRecursion}
 use Rattle.uefi_hii.specs.Pairs.{Pair}
 use Rattle.uefi_hii.specs.Configuration.{Configuration, Element, Spells, SpellsElement, SpellsElements, SpellsHeader}
-use Rattle.uefi_hii.specs.Configuration.{guid_in, number_in, value_at}
+use Rattle.uefi_hii.specs.Configuration.{number_in}
 use Rattle.uefi_hii.specs.Values.{name}
 use Rattle.uefi_hii.specs.private.Parts.{IsSkipped, low_16_bits}
 use Rattle.uefi_hii.specs.Slots.{IsHeader}
@@ -29,51 +29,26 @@ AllByRecursion-push P (y ∷ xs) x p q = (p.0, AllByRecursion-push P xs x p.1 q)
 -- A header says nothing of the elements.
 header_of_other : (h : List Pair) (c : Configuration) (es : List Element) → SpellsHeader h c
     → SpellsHeader h (record c { elements = es })
-header_of_other [] c es s = absurd s
-header_of_other (g ∷ []) c es s = absurd s
-header_of_other (g ∷ n ∷ []) c es s = absurd s
-header_of_other (g ∷ n ∷ p ∷ []) c es s = s
-header_of_other (g ∷ n ∷ p ∷ a ∷ []) c es s = s
-header_of_other (g ∷ n ∷ p ∷ a ∷ b ∷ h) c es s = absurd s
+header_of_other h c es s = grind arith
 
 -- The pairs of a header are good for its slots, three without an identifier and four with one.
 pub header_good : (h : List Pair) (c : Configuration) → SpellsHeader h c → c.alt_cfg_id ≡ None → IsHeader h
-header_good [] c s e = absurd s
-header_good (g ∷ []) c s e = absurd s
-header_good (g ∷ n ∷ []) c s e = absurd s
-header_good (g ∷ n ∷ p ∷ []) c s e = (some_is _ _ s.0, (some_is _ _ s.1, ((c.path, s.2), tt)))
-header_good (g ∷ n ∷ p ∷ a ∷ []) c s e = let k = s.3.2 in cc
-header_good (g ∷ n ∷ p ∷ a ∷ b ∷ h) c s e = absurd s
+header_good h c s e = grind arith
 
 pub header_with_alt_good : (h : List Pair) (c : Configuration) (id : ℕ) → SpellsHeader h c → c.alt_cfg_id ≡ Some id
     → IsHeaderWithAlt h
-header_with_alt_good [] c id s e = absurd s
-header_with_alt_good (g ∷ []) c id s e = absurd s
-header_with_alt_good (g ∷ n ∷ []) c id s e = absurd s
-header_with_alt_good (g ∷ n ∷ p ∷ []) c id s e = let k = s.3 in cc
-header_with_alt_good (g ∷ n ∷ p ∷ a ∷ []) c id s e =
-    (some_is _ _ s.0, (some_is _ _ s.1, ((c.path, s.2), (some_is _ _ s.3.1, tt))))
-header_with_alt_good (g ∷ n ∷ p ∷ a ∷ b ∷ h) c id s e = absurd s
+header_with_alt_good h c id s e = grind arith
 
 -- A header without an identifier, and a pair with one.
 pub header_push_alt : (h : List Pair) (c : Configuration) (a : Pair) (id : ℕ) → SpellsHeader h c → c.alt_cfg_id ≡ None
     → number_in (codes "ALTCFG") a ≡ Some id
     → SpellsHeader (h ++ a ∷ []) (record c { alt_cfg_id = Some (low_16_bits id) })
-header_push_alt [] c a id s e f = absurd s
-header_push_alt (g ∷ []) c a id s e f = absurd s
-header_push_alt (g ∷ n ∷ []) c a id s e f = absurd s
-header_push_alt (g ∷ n ∷ p ∷ []) c a id s e f = (s.0, s.1, s.2, (id, f, refl))
-header_push_alt (g ∷ n ∷ p ∷ b ∷ []) c a id s e f = let k = s.3.2 in cc
-header_push_alt (g ∷ n ∷ p ∷ b ∷ d ∷ h) c a id s e f = absurd s
+header_push_alt h c a id s e f = grind arith
 
 -- An element and a pair that it skips, and elements and a pair that the last skips.
 element_push_skipped : (ps : List Pair) (e : Element) (p : Pair) → SpellsElement ps e → IsSkipped p
     → SpellsElement (ps ++ p ∷ []) (with_pair e p)
-element_push_skipped [] e p s k = absurd s
-element_push_skipped (o ∷ []) e p s k = absurd s
-element_push_skipped (o ∷ w ∷ []) e p s k = absurd s
-element_push_skipped (o ∷ w ∷ v ∷ ps) e p s k =
-    (s.0, s.1, s.2, ap (λ x. x ++ p ∷ []) s.3, AllByRecursion-push IsSkipped ps p s.4 k)
+element_push_skipped ps e p s k = grind (arith, AllByRecursion-push)
 
 elements_push_skipped : (ps : List Pair) (es : List Element) (p : Pair) → es ≢ [] → SpellsElements ps es → IsSkipped p
     → SpellsElements (ps ++ p ∷ []) (last_with_pair es p)
@@ -139,25 +114,17 @@ spells_header h c s e =
           subst (λ es. SpellsElements [] es) (sym e) refl;
     }
 
+header_some : (h rest : List Pair) (c : Configuration) → SpellsHeader h c → h ++ rest ≢ []
+header_some h rest c s e = grind arith
+
 -- A configuration has pairs. The first is good for the GUID, and the second has the name's key and a value.
 pub spells_some : (f : List Pair) (c : Configuration) → Spells f c → f ≢ []
-spells_some f c s e = by_header s.header s.is_header (sym s.whole ∙ e)
-  where
-    by_header : (h : List Pair) → SpellsHeader h c → h ++ s.rest ≡ [] → ⊥
-    by_header [] x e = absurd x
-    by_header (g ∷ h) x e = cc
+spells_some f c s e = header_some s.header s.rest c s.is_header (sym s.whole ∙ e)
+
+header_runs_out : (h rest : List Pair) (c : Configuration) → SpellsHeader h c → MayRunOut (h ++ rest)
+header_runs_out h rest c s = grind (arith, named_value)
 
 pub spells_good : (before f left : List Pair) (c : Configuration) → Spells f c → before ≡ f ++ left → MayRunOut before
 spells_good before f left c s e =
-    subst MayRunOut (sym (e ∙ ap (λ x. x ++ left) s.whole ∙ append_assoc s.header s.rest left))
-    (by_header s.header (s.rest ++ left) s.is_header)
-  where
-    by_header : (h rest : List Pair) → SpellsHeader h c → MayRunOut (h ++ rest)
-    by_header [] rest x = absurd x
-    by_header (g ∷ []) rest x = absurd x
-    by_header (g ∷ n ∷ []) rest x = absurd x
-    by_header (g ∷ n ∷ p ∷ []) rest x =
-        (some_is (guid_in g) c.guid x.0, named_value (value_at (codes "NAME") n) c.name x.1)
-    by_header (g ∷ n ∷ p ∷ a ∷ []) rest x =
-        (some_is (guid_in g) c.guid x.0, named_value (value_at (codes "NAME") n) c.name x.1)
-    by_header (g ∷ n ∷ p ∷ a ∷ b ∷ h) rest x = absurd x
+    rw (e, s.whole, append_assoc s.header s.rest left)
+    (header_runs_out s.header (s.rest ++ left) c s.is_header)

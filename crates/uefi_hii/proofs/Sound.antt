@@ -1,27 +1,30 @@
 -- What the machine finds is a group.
-use Rattle.std.proofs.Common.{◌≡◌, ◌≢◌, ℕ, Bool, true, false, List, [], ◌∷◌, ◌++◌, refl, sym, ◌∙◌, ap, subst}
-use Rattle.std.proofs.Common.{append_assoc, inl, inr, ◌⊎◌}
+use Rattle.std.proofs.Common.{◌≡◌, ◌≢◌, ℕ, Bool, true, false, List, [], ◌∷◌, ◌++◌, refl, sym, ap}
+use Rattle.std.proofs.Common.{append_assoc, inl, inr}
 use Rattle.std.proofs.lemmas.List.{append-nil}
+use Rattle.std.proofs.lemmas.Bool.Decides.{not_from_Decides}
 use Rattle.std.proofs.lemmas.Slice.Eq.{bytes_eq-Decides}
-use Rattle.std.specs.Prelude.{Option, Some, None, codes}
-use Rattle.std.specs.Str.{bytes_eq}
-use Rattle.uefi_path.specs.Node.{Node}
+use Rattle.std.specs.Bool.{Decides}
+use Rattle.std.specs.Prelude.{Option, Some, None, IsSome, is_some, codes}
 use Rattle.uefi_hii.specs.Pairs.{Pair}
-use Rattle.uefi_hii.specs.Configuration.{Configuration, Element, Spells, SpellsHeader, bytes_in, guid_in, name_in}
-use Rattle.uefi_hii.specs.Configuration.{number_in}
-use Rattle.uefi_hii.specs.Slots.{AltSlot, AreGood, GuidSlot, IsGood, NameSlot, OffsetSlot, PathSlot, Slot, ValueSlot}
-use Rattle.uefi_hii.specs.Slots.{WidthSlot}
+use Rattle.uefi_hii.specs.Configuration.{Configuration, Element, Spells, bytes_in, guid_in, name_in, number_in}
+use Rattle.uefi_hii.specs.Slots.{AltSlot, AreGood, Expects, GuidSlot, IsGood, NameSlot, OffsetSlot, PathSlot, Slot}
+use Rattle.uefi_hii.specs.Slots.{ValueSlot, WidthSlot}
+use Rattle.uefi_hii.specs.Slots.{alt_after_header, guid_first, name_after_guid, offset_after_alt, offset_after_element}
+use Rattle.uefi_hii.specs.Slots.{offset_after_header, path_after_name, value_after_width, width_after_offset}
 use Rattle.uefi_hii.specs.Group.{Gives, Group}
 use Rattle.uefi_hii.specs.Cut.{first_pair}
-use Rattle.uefi_hii.proofs.Expecting.{MustCome, row_of}
-use Rattle.uefi_hii.proofs.Leading.{is_other, push_some}
+use Rattle.uefi_hii.proofs.Leading.{push_some}
 use Rattle.uefi_hii.proofs.Machine.{AfterGuid, AfterName, AfterOffset, AfterWidth, Fail, InBody, Next, Outcome, Start}
-use Rattle.uefi_hii.proofs.Machine.{State, Step, Stop, element, expect, header_of, in_body, result_at_end, run, run-end}
-use Rattle.uefi_hii.proofs.Machine.{run-fail, run-next, run-stop, step, with_alt, with_element, with_skipped}
+use Rattle.uefi_hii.proofs.Machine.{State, Step, Stop, element, expect, header_of, in_body, result_at_end, run, run_by}
+use Rattle.uefi_hii.proofs.Machine.{step, with_alt, with_element}
 use Rattle.uefi_hii.proofs.PathIn.{path_in, path_in-is, path_in-some}
 use Rattle.uefi_hii.proofs.Shapes.{header_good, header_push_alt, header_with_alt_good, some_is, spells_bare}
 use Rattle.uefi_hii.proofs.Shapes.{spells_element, spells_header, spells_skipped, spells_some}
-use Rattle.uefi_hii.proofs.Taken.{nothing_in}
+
+-- What holds nothing doesn't hold something.
+nothing_in : {A : Type 0} (o : Option A) → o ≡ None → ¬ IsSome o
+nothing_in o e s = let h : is_some o ≡ false = ap is_some e in cc
 
 -- The pairs that were read before a state.
 unfoldable pub WasRead : List Pair → State → Type 0
@@ -35,159 +38,88 @@ WasRead f (AfterWidth c n m) =
     (body : List Pair) × (o w : Pair) × (f ≡ body ++ o ∷ w ∷ []) × Spells body c
     × (number_in (codes "OFFSET") o ≡ Some n) × (number_in (codes "WIDTH") w ≡ Some m)
 
--- The steps behind a header or an element, each with the reason for it.
-data BodyStep (c : Configuration) (es : List Element) (alt : Option ℕ) (a o g : Bool) (p : Pair) : Step → Type 0 where
-  takes_alt : (id : ℕ) → es ≡ [] → alt ≡ None → number_in (codes "ALTCFG") p ≡ Some id
-      → BodyStep c es alt a o g p (Next (InBody (with_alt c id)))
-  takes_offset : (n : ℕ) → number_in (codes "OFFSET") p ≡ Some n → BodyStep c es alt a o g p (Next (AfterOffset c n))
-  skips : es ≢ [] → o ≡ false → g ≡ false → BodyStep c es alt a o g p (Next (InBody (with_skipped c p)))
-  lacks_alt : es ≡ [] → alt ≡ None → a ≡ true → number_in (codes "ALTCFG") p ≡ None
-      → BodyStep c es alt a o g p (Fail AltSlot)
-  lacks_offset : number_in (codes "OFFSET") p ≡ None
-      → ((es ≡ []) × (alt ≡ None) × (a ≡ false)) ⊎ ((es ≡ []) × ((id : ℕ) × (alt ≡ Some id))) ⊎ ((es ≢ []) × (o ≡ true))
-      → BodyStep c es alt a o g p (Fail OffsetSlot)
-  closes : es ≢ [] → g ≡ true → BodyStep c es alt a o g p Stop
-
-body_step : (c : Configuration) (es : List Element) (alt : Option ℕ) (a o g : Bool) (p : Pair)
-    → BodyStep c es alt a o g p (in_body c es alt a o g p)
-unfolding in_body expect
-body_step c [] None true o g p = by_number (number_in (codes "ALTCFG") p) refl
-  where
-    by_number : (n : Option ℕ) → number_in (codes "ALTCFG") p ≡ n
-        → BodyStep c [] None true o g p (expect AltSlot (λ id. InBody (with_alt c id)) n)
-    by_number (Some id) e = takes_alt id refl refl e
-    by_number None e = lacks_alt refl refl refl e
-body_step c [] None false o g p = by_number (number_in (codes "OFFSET") p) refl
-  where
-    by_number : (n : Option ℕ) → number_in (codes "OFFSET") p ≡ n
-        → BodyStep c [] None false o g p (expect OffsetSlot (AfterOffset c) n)
-    by_number (Some m) e = takes_offset m e
-    by_number None e = lacks_offset e (inl (refl, refl, refl))
-body_step c [] (Some k) a o g p = by_number (number_in (codes "OFFSET") p) refl
-  where
-    by_number : (n : Option ℕ) → number_in (codes "OFFSET") p ≡ n
-        → BodyStep c [] (Some k) a o g p (expect OffsetSlot (AfterOffset c) n)
-    by_number (Some m) e = takes_offset m e
-    by_number None e = lacks_offset e (inr (inl (refl, (k, refl))))
-body_step c (x ∷ es) alt a true g p = by_number (number_in (codes "OFFSET") p) refl
-  where
-    by_number : (n : Option ℕ) → number_in (codes "OFFSET") p ≡ n
-        → BodyStep c (x ∷ es) alt a true g p (expect OffsetSlot (AfterOffset c) n)
-    by_number (Some m) e = takes_offset m e
-    by_number None e = lacks_offset e (inr (inr ((λ z. cc), refl)))
-body_step c (x ∷ es) alt a false true p = closes (λ z. cc) refl
-body_step c (x ∷ es) alt a false false p = skips (λ z. cc) refl refl
-
 -- What a step says of the pairs f that were read and of the pair p.
-data Says (f : List Pair) (s : State) (p : Pair) : Step → Type 0 where
-  says_next : (t : State) → WasRead (f ++ p ∷ []) t → Says f s p (Next t)
-  says_fail : (slot : Slot) → MustCome f (Some p) slot → ¬ IsGood slot p → Says f s p (Fail slot)
-  says_stop : (c : Configuration) → s ≡ InBody c → c.elements ≢ [] → p.key ≡ codes "GUID" → Says f s p Stop
+unfoldable Says : List Pair → State → Pair → Step → Type 0
+Says f s p (Next t) = WasRead (f ++ p ∷ []) t
+Says f s p (Fail slot) = Expects f (Some p) slot × ¬ IsGood slot p
+Says f s p Stop = Group f (Some p) (result_at_end s)
 
-body_says : (f : List Pair) (c : Configuration) (p : Pair) (st : Step) → Spells f c
-    → BodyStep c c.elements c.alt_cfg_id (bytes_eq p.key (codes "ALTCFG")) (bytes_eq p.key (codes "OFFSET"))
-    (bytes_eq p.key (codes "GUID")) p st → Says f (InBody c) p st
+-- A step of a slot, whether the pair holds something for it or not.
+expect_says : {A : Type 0} (f : List Pair) (s : State) (p : Pair) (slot : Slot) (next : A → State) (o : Option A)
+    → Expects f (Some p) slot → (o ≡ None → ¬ IsGood slot p)
+    → ((x : A) → o ≡ Some x → WasRead (f ++ p ∷ []) (next x)) → Says f s p (expect slot next o)
+unfolding Says expect
+expect_says f s p slot next (Some x) expects bad good = good x refl
+expect_says f s p slot next None expects bad good = (expects, bad refl)
+
+-- The steps behind a header or an element.
+offset_says : (f : List Pair) (c : Configuration) (p : Pair) → Spells f c → Expects f (Some p) OffsetSlot
+    → Says f (InBody c) p (expect OffsetSlot (AfterOffset c) (number_in (codes "OFFSET") p))
 unfolding WasRead
-body_says f c p st s (takes_alt id es alt e) =
-    says_next (InBody (with_alt c id))
-    (spells_header (f ++ p ∷ []) (with_alt c id) (header_push_alt f c p id (spells_bare f c s es) alt e) es)
-body_says f c p st s (takes_offset n e) = says_next (AfterOffset c n) (f, p, refl, s, e)
-body_says f c p st s (skips es o g) =
-    says_next (InBody (with_skipped c p)) (spells_skipped f c p s es (is_other p.key _ o, is_other p.key _ g))
-body_says f c p st s (lacks_alt es alt a e) =
-    says_fail AltSlot (header_good f c (spells_bare f c s es) alt, (bytes_eq-Decides p.key (codes "ALTCFG")).0 a)
-    (nothing_in _ e)
-body_says f c p st s (lacks_offset e (inl h)) =
-    says_fail OffsetSlot (inl (header_good f c (spells_bare f c s h.0) h.1, is_other p.key _ h.2)) (nothing_in _ e)
-body_says f c p st s (lacks_offset e (inr (inl h))) =
-    says_fail OffsetSlot (inr (inl (header_with_alt_good f c h.1.0 (spells_bare f c s h.0) h.1.1, refl)))
-    (nothing_in _ e)
-body_says f c p st s (lacks_offset e (inr (inr h))) =
-    says_fail OffsetSlot (inr (inr ((c, s, h.0), (bytes_eq-Decides p.key (codes "OFFSET")).0 h.1))) (nothing_in _ e)
-body_says f c p st s (closes es g) = says_stop c refl es ((bytes_eq-Decides p.key (codes "GUID")).0 g)
+offset_says f c p s expects =
+    expect_says f (InBody c) p OffsetSlot (AfterOffset c) _ expects (nothing_in _) (λ n e. (f, p, refl, s, e))
 
--- A body with one pair more of an element, and with two more.
-push_second : (f body : List Pair) (o p : Pair) → f ≡ body ++ o ∷ [] → f ++ p ∷ [] ≡ body ++ o ∷ p ∷ []
-push_second f body o p e = ap (λ x. x ++ p ∷ []) e ∙ append_assoc body (o ∷ []) (p ∷ [])
-
-push_third : (f body : List Pair) (o w p : Pair) → f ≡ body ++ o ∷ w ∷ [] → f ++ p ∷ [] ≡ body ++ o ∷ w ∷ p ∷ []
-push_third f body o w p e = ap (λ x. x ++ p ∷ []) e ∙ append_assoc body (o ∷ w ∷ []) (p ∷ [])
+body_says : (f : List Pair) (c : Configuration) (es : List Element) (alt : Option ℕ) (a o g : Bool) (p : Pair)
+    → Spells f c → c.elements ≡ es → c.alt_cfg_id ≡ alt → Decides a (p.key ≡ codes "ALTCFG")
+    → Decides o (p.key ≡ codes "OFFSET") → Decides g (p.key ≡ codes "GUID")
+    → Says f (InBody c) p (in_body c es alt a o g p)
+unfolding WasRead Says in_body result_at_end
+body_says f c [] None true o g p s bare alt is_alt is_offset is_guid =
+    let header = spells_bare f c s bare in
+    expect_says f (InBody c) p AltSlot (λ id. InBody (with_alt c id)) _
+    (alt_after_header (header_good f c header alt) (is_alt.0 refl)) (nothing_in _)
+    (λ id e. spells_header (f ++ p ∷ []) (with_alt c id) (header_push_alt f c p id header alt e) bare)
+body_says f c [] None false o g p s bare alt is_alt is_offset is_guid =
+    offset_says f c p s
+    (offset_after_header (header_good f c (spells_bare f c s bare) alt) (not_from_Decides false is_alt refl))
+body_says f c [] (Some id) a o g p s bare alt is_alt is_offset is_guid =
+    offset_says f c p s (offset_after_alt (header_with_alt_good f c id (spells_bare f c s bare) alt) refl)
+body_says f c (x ∷ es) alt a true g p s is_es is_alt_cfg is_alt is_offset is_guid =
+    offset_says f c p s (offset_after_element (c, s, λ none. cc) (is_offset.0 refl))
+body_says f c (x ∷ es) alt a false true p s is_es is_alt_cfg is_alt is_offset is_guid =
+    record { not_empty = spells_some f c s; gives = (s, (is_guid.0 refl, λ none. cc)) }
+body_says f c (x ∷ es) alt a false false p s is_es is_alt_cfg is_alt is_offset is_guid =
+    spells_skipped f c p s (λ none. cc) (not_from_Decides false is_offset refl, not_from_Decides false is_guid refl)
 
 step_says : (f : List Pair) (s : State) (p : Pair) → WasRead f s → Says f s p (step s p)
-unfolding WasRead step expect
-step_says f Start p h = by_value (guid_in p) refl
-  where
-    by_value : (o : Option (List ℕ)) → guid_in p ≡ o → Says f Start p (expect GuidSlot AfterGuid o)
-    by_value (Some x) e = says_next (AfterGuid x) (p, ap (λ y. y ++ p ∷ []) h, e)
-    by_value None e = says_fail GuidSlot h (nothing_in _ e)
-step_says f (AfterGuid g) p h = by_value (name_in p) refl
-  where
-    by_value : (o : Option (List ℕ)) → name_in p ≡ o → Says f (AfterGuid g) p (expect NameSlot (AfterName g) o)
-    by_value (Some x) e = says_next (AfterName g x) (h.0, p, ap (λ y. y ++ p ∷ []) h.1, h.2, e)
-    by_value None e =
-        says_fail NameSlot (subst (AreGood (GuidSlot ∷ [])) (sym h.1) (some_is _ _ h.2, tt)) (nothing_in _ e)
-step_says f (AfterName g n) p h = by_value (path_in p) refl
-  where
-    by_value : (o : Option (List Node)) → path_in p ≡ o
-        → Says f (AfterName g n) p (expect PathSlot (λ path. InBody (header_of g n path)) o)
-    by_value (Some x) e =
-        says_next (InBody (header_of g n x))
-        (spells_header (f ++ p ∷ []) (header_of g n x)
-        (subst (λ y. SpellsHeader y (header_of g n x)) (sym (ap (λ y. y ++ p ∷ []) h.2))
-        (h.3, h.4, path_in-some p x e, refl)) refl)
-    by_value None e =
-        says_fail PathSlot
-        (subst (AreGood (GuidSlot ∷ NameSlot ∷ [])) (sym h.2) (some_is _ _ h.3, (some_is _ _ h.4, tt)))
-        (λ good. let k = path_in-is p good.0 good.1 in cc)
-step_says f (InBody c) p h = body_says f c p _ h (body_step c c.elements c.alt_cfg_id _ _ _ p)
-step_says f (AfterOffset c n) p h = by_value (number_in (codes "WIDTH") p) refl
-  where
-    by_value : (o : Option ℕ) → number_in (codes "WIDTH") p ≡ o
-        → Says f (AfterOffset c n) p (expect WidthSlot (AfterWidth c n) o)
-    by_value (Some x) e = says_next (AfterWidth c n x) (h.0, h.1, p, push_second f h.0 h.1 p h.2, h.3, h.4, e)
-    by_value None e = says_fail WidthSlot (h.0, h.1 ∷ [], h.2, (c, h.3), (some_is _ _ h.4, tt)) (nothing_in _ e)
-step_says f (AfterWidth c n m) p h = by_value (bytes_in p) refl
-  where
-    by_value : (o : Option (List ℕ)) → bytes_in p ≡ o
-        → Says f (AfterWidth c n m) p (expect ValueSlot (λ v. InBody (with_element c (element n m v))) o)
-    by_value (Some x) e =
-        says_next (InBody (with_element c (element n m x)))
-        (subst (λ y. Spells y (with_element c (element n m x))) (sym (push_third f h.0 h.1 h.2 p h.3))
-        (spells_element h.0 (h.1 ∷ h.2 ∷ p ∷ []) c (element n m x) h.4 (h.5, h.6, e, refl, tt)))
-    by_value None e =
-        says_fail ValueSlot (h.0, h.1 ∷ h.2 ∷ [], h.3, (c, h.4), (some_is _ _ h.5, (some_is _ _ h.6, tt)))
-        (nothing_in _ e)
+unfolding WasRead step
+step_says f Start p h =
+    expect_says f Start p GuidSlot AfterGuid (guid_in p) (guid_first h) (nothing_in _) (λ x e. (p, rw h, e))
+step_says f (AfterGuid x) p h =
+    expect_says f (AfterGuid x) p NameSlot (AfterName x) (name_in p)
+    (name_after_guid (rw h.1 (some_is _ _ h.2, tt))) (nothing_in _) (λ y e. (h.0, p, rw h.1, h.2, e))
+step_says f (AfterName x y) p h =
+    expect_says f (AfterName x y) p PathSlot (λ path. InBody (header_of x y path)) (path_in p)
+    (path_after_name (rw h.2 (some_is _ _ h.3, (some_is _ _ h.4, tt))))
+    (λ none good. let k = path_in-is p good.0 good.1 in cc)
+    (λ z e. spells_header (f ++ p ∷ []) (header_of x y z) (rw h.2 (h.3, h.4, path_in-some p z e, refl)) refl)
+step_says f (InBody c) p h =
+    body_says f c c.elements c.alt_cfg_id _ _ _ p h refl refl (bytes_eq-Decides p.key (codes "ALTCFG"))
+    (bytes_eq-Decides p.key (codes "OFFSET")) (bytes_eq-Decides p.key (codes "GUID"))
+step_says f (AfterOffset c n) p h =
+    expect_says f (AfterOffset c n) p WidthSlot (AfterWidth c n) (number_in (codes "WIDTH") p)
+    (width_after_offset (h.0, h.1 ∷ [], h.2, (c, h.3), (some_is _ _ h.4, tt))) (nothing_in _)
+    (λ m e. (h.0, h.1, p, rw (h.2, append_assoc h.0 (h.1 ∷ []) (p ∷ [])), h.3, h.4, e))
+step_says f (AfterWidth c n m) p h =
+    expect_says f (AfterWidth c n m) p ValueSlot (λ v. InBody (with_element c (element n m v))) (bytes_in p)
+    (value_after_width (h.0, h.1 ∷ h.2 ∷ [], h.3, (c, h.4), (some_is _ _ h.5, (some_is _ _ h.6, tt)))) (nothing_in _)
+    (λ v e. rw (h.3, append_assoc h.0 (h.1 ∷ h.2 ∷ []) (p ∷ []))
+    (spells_element h.0 (h.1 ∷ h.2 ∷ p ∷ []) c (element n m v) h.4 (h.5, h.6, e, refl, tt)))
 
 -- Where no pair is left, the result is that of the pairs that were read.
 gives_at_end : (f : List Pair) (s : State) → WasRead f s → Gives f None (result_at_end s)
 unfolding WasRead result_at_end
-gives_at_end f Start h = (GuidSlot, refl, inr (refl, row_of f None GuidSlot (h)))
-gives_at_end f (AfterGuid x) h = (
-  NameSlot,
-  refl,
-  inr (refl, row_of f None NameSlot (subst (AreGood (GuidSlot ∷ [])) (sym h.1) (some_is _ _ h.2, tt))),
-)
-gives_at_end f (AfterName x y) h = (
-  PathSlot,
-  refl,
-  inr (
-    refl,
-    row_of f None PathSlot
-        (subst (AreGood (GuidSlot ∷ NameSlot ∷ [])) (sym h.2) (some_is _ _ h.3, (some_is _ _ h.4, tt))),
-  ),
-)
+gives_at_end f Start h = (GuidSlot, refl, inr (refl, guid_first h))
+gives_at_end f (AfterGuid x) h =
+    (NameSlot, refl, inr (refl, name_after_guid (rw h.1 (some_is _ _ h.2, tt))))
+gives_at_end f (AfterName x y) h =
+    (PathSlot, refl, inr (refl, path_after_name (rw h.2 (some_is _ _ h.3, (some_is _ _ h.4, tt)))))
 gives_at_end f (InBody c) h = (h, tt)
 gives_at_end f (AfterOffset c n) h =
-    (WidthSlot, refl, inr (refl, row_of f None WidthSlot ((h.0, h.1 ∷ [], h.2, (c, h.3), (some_is _ _ h.4, tt)))))
-gives_at_end f (AfterWidth c n m) h = (
-  ValueSlot,
-  refl,
-  inr (
-    refl,
-    row_of f None ValueSlot
-        ((h.0, h.1 ∷ h.2 ∷ [], h.3, (c, h.4), (some_is _ _ h.5, (some_is _ _ h.6, tt)))),
-  ),
-)
+    (WidthSlot, refl, inr (refl, width_after_offset (h.0, h.1 ∷ [], h.2, (c, h.3), (some_is _ _ h.4, tt))))
+gives_at_end f (AfterWidth c n m) h =
+    let good : AreGood (OffsetSlot ∷ WidthSlot ∷ []) (h.1 ∷ h.2 ∷ []) = (some_is _ _ h.5, (some_is _ _ h.6, tt)) in
+    (ValueSlot, refl, inr (refl, value_after_width (h.0, h.1 ∷ h.2 ∷ [], h.3, (c, h.4), good)))
 
 -- The pairs begin with the group that was found, and it gives the result.
 pub record IsFound (ps : List Pair) (o : Outcome) : Type 0 where
@@ -195,34 +127,21 @@ pub record IsFound (ps : List Pair) (o : Outcome) : Type 0 where
   pub group : Group o.group (first_pair o.rest) o.result
 
 pub found : (s : State) (f ps : List Pair) → WasRead f s → f ++ ps ≢ [] → IsFound (f ++ ps) (run s f ps)
-unfolding WasRead result_at_end
-found s f [] h some =
-    subst (IsFound (f ++ [])) (sym (run-end s f))
-    (record {
-      whole = refl;
-      group =
-          record { not_empty = λ z. some (append-nil f ∙ z); gives = gives_at_end f s h };
-    })
+unfolding run run_by Says
+found s f [] h some = record {
+  whole = refl;
+  group = record { not_empty = λ none. some (rw append-nil none); gives = gives_at_end f s h };
+}
 found s f (p ∷ ps) h some =
-    by_step (step s p) refl (step_says f s p h)
-    (λ t k. found t (f ++ p ∷ []) ps k (λ z. some (sym (append_assoc f (p ∷ []) ps) ∙ z)))
+    by_step (step s p) (step_says f s p h)
+    (λ t read. found t (f ++ p ∷ []) ps read (λ none. some (rw (← append_assoc f (p ∷ []) ps) none)))
   where
-    by_step : (st : Step) → step s p ≡ st → Says f s p st
+    by_step : (st : Step) → Says f s p st
         → ((t : State) → WasRead (f ++ p ∷ []) t → IsFound ((f ++ p ∷ []) ++ ps) (run t (f ++ p ∷ []) ps))
-        → IsFound (f ++ p ∷ ps) (run s f (p ∷ ps))
-    by_step st e (says_next t k) more =
-        subst (IsFound (f ++ p ∷ ps)) (sym (run-next s t f p ps e))
-        (subst (λ x. IsFound x (run t (f ++ p ∷ []) ps)) (append_assoc f (p ∷ []) ps) (more t k))
-    by_step st e (says_fail slot k b) more =
-        subst (IsFound (f ++ p ∷ ps)) (sym (run-fail s f p ps slot e))
-        (record {
-          whole = sym (append_assoc f (p ∷ []) ps);
-          group =
-              record { not_empty = push_some f p; gives = (slot, refl, inl (f, p, refl, row_of f (Some p) slot k, b)) };
-        })
-    by_step st e (says_stop c k es key) more =
-        let spells : Spells f c = subst (WasRead f) k h in
-        let gives : Gives f (Some p) (result_at_end s) =
-        subst (λ x. Gives f (Some p) (result_at_end x)) (sym k) (spells, (key, es)) in
-        subst (IsFound (f ++ p ∷ ps)) (sym (run-stop s f p ps e))
-        (record { whole = refl; group = record { not_empty = spells_some f c spells; gives = gives } })
+        → IsFound (f ++ p ∷ ps) (run_by s f p ps st (λ t. run t (f ++ p ∷ []) ps))
+    by_step (Next t) read more = rw append_assoc at (more t read)
+    by_step (Fail slot) fails more = record {
+      whole = sym (append_assoc f (p ∷ []) ps);
+      group = record { not_empty = push_some f p; gives = (slot, refl, inl (f, p, refl, fails.0, fails.1)) };
+    }
+    by_step Stop group more = record { whole = refl; group = group }

@@ -1,27 +1,26 @@
 -- The results of all groups of a text, one after another, and of the first.
-use Rattle.std.proofs.Common.{◌≡◌, ◌≢◌, ℕ, List, [], ◌∷◌, ◌++◌, map, length, refl, sym, ◌∙◌, ap, subst, append_assoc}
-use Rattle.std.proofs.Common.{arith, inl, inr, length-append}
-use Rattle.std.proofs.lemmas.List.{append-nil, map-append}
+use Rattle.std.proofs.Common.{◌≡◌, ◌≢◌, ℕ, List, [], ◌∷◌, ◌++◌, map, refl, sym, ◌∙◌, ap, subst, append_assoc}
+use Rattle.std.proofs.Common.{inl, inr}
+use Rattle.std.proofs.lemmas.List.{append-nil, map-append, same_from_push}
 use Rattle.std.proofs.lemmas.List.Concat.{flat_map-append}
 use Rattle.std.proofs.lemmas.List.Elements.{All-nil, All-push, All-same}
 use Rattle.std.specs.List.{All}
-use Rattle.std.specs.Prelude.{Some, None, Result, Ok, Err, ⊤}
+use Rattle.std.specs.Prelude.{Some, Result, Ok, Err, ⊤}
 use Rattle.uefi_hii.specs.declared.configuration.ConfigurationString.{ConfigurationString}
 use Rattle.uefi_hii.specs.declared.error.ConfigHdrSection.{ConfigHdrSection}
 use Rattle.uefi_hii.specs.declared.error.ConfigHdrSection.TheVariants.{Guid}
 use Rattle.uefi_hii.specs.declared.error.ParseError.{ParseError}
 use Rattle.uefi_hii.specs.declared.error.ParseError.TheVariants.{BlockConfig, BlockName, ConfigHdr, Memory}
 use Rattle.uefi_hii.specs.Pairs.{Pair, pairs}
-use Rattle.uefi_hii.specs.Configuration.{Configuration, Spells, SpellsHeader}
-use Rattle.uefi_hii.specs.Slots.{AltSlot, Expects, GuidSlot, IsGood, NameSlot, OffsetSlot, PathSlot, Slot, ValueSlot}
-use Rattle.uefi_hii.specs.Slots.{WidthSlot}
+use Rattle.uefi_hii.specs.Configuration.{Configuration, guid_in}
+use Rattle.uefi_hii.specs.Slots.{GuidSlot, IsGood}
 use Rattle.uefi_hii.specs.Group.{FailsAt, Gives, Group}
 use Rattle.uefi_hii.specs.Cut.{AreGroups, Cut, Part, first_pair, pairs_of, results_of}
 use Rattle.uefi_hii.specs.Views.{result_of}
 use Rattle.uefi_hii.specs.Reading.{AreResults, IsFirstResult, MayRunOut, TakesGroup}
-use Rattle.uefi_hii.specs.Laws.{BeginsWith}
-use Rattle.uefi_hii.proofs.Expecting.{MustCome, by_row}
-use Rattle.uefi_hii.proofs.Shapes.{spells_some}
+use Rattle.uefi_hii.proofs.Complete.{some_of, wrong_pair}
+use Rattle.uefi_hii.proofs.Machine.{AfterGuid, Fail, Next, Start, expect, step, steps}
+use Rattle.uefi_hii.proofs.Shapes.{spells_good}
 use Rattle.uefi_hii.proofs.Cuts.{cut_once, group_some, has_one_cut, one_group, part}
 
 -- Groups with these pairs behind the last.
@@ -33,23 +32,17 @@ AreGroupsBefore (e ∷ es) left = Group e.group (first_pair (pairs_of es ++ left
 pairs_of-push : (es : List Part) (g left : List Pair) (r : Result Configuration ParseError)
     → pairs_of (es ++ part g r ∷ []) ++ left ≡ pairs_of es ++ (g ++ left)
 pairs_of-push es g left r =
-    ap (λ x. x ++ left) (flat_map-append (λ z. z.group) es (part g r ∷ []))
-    ∙ append_assoc (pairs_of es) (g ++ []) left
-    ∙ ap (λ x. pairs_of es ++ (x ++ left)) (append-nil g)
+    rw (flat_map-append (λ z. z.group) es (part g r ∷ []), append-nil g, append_assoc (pairs_of es) g left)
 
 groups_push : (es : List Part) (g left : List Pair) (r : Result Configuration ParseError)
     → AreGroupsBefore es (g ++ left) → Group g (first_pair left) r → AreGroupsBefore (es ++ part g r ∷ []) left
 groups_push [] g left r a h = (h, tt)
-groups_push (e ∷ es) g left r a h = (
-  subst (λ x. Group e.group (first_pair x) e.result) (sym (pairs_of-push es g left r)) a.0,
-  groups_push es g left r a.1 h,
-)
+groups_push (e ∷ es) g left r a h = (rw (pairs_of-push es g left r) a.0, groups_push es g left r a.1 h)
 
 -- Where no pair is left, they are all groups.
 groups_end : (es : List Part) → AreGroupsBefore es [] → AreGroups es
 groups_end [] a = tt
-groups_end (e ∷ es) a =
-    (subst (λ x. Group e.group (first_pair x) e.result) (append-nil (pairs_of es)) a.0, groups_end es a.1)
+groups_end (e ∷ es) a = (rw append-nil at a.0, groups_end es a.1)
 
 -- The items so far are the results of the first groups of the pairs, and these pairs are left.
 pub record HasCut {A : Type 0} (all left : List Pair)
@@ -103,7 +96,7 @@ pub all_groups : {A : Type 0} (all left : List Pair) (items : List (Result (Conf
     → (parts : List Part) × (pairs_of parts ≡ all) × AreGroups parts × (map result_of items ≡ results_of parts)
 all_groups all left items c e = (
   c.parts,
-  sym (c.whole ∙ ap (λ x. pairs_of c.parts ++ x) e ∙ append-nil (pairs_of c.parts)),
+  sym (rw (e, append-nil) at c.whole),
   groups_end c.parts (subst (AreGroupsBefore c.parts) e c.each),
   c.results,
 )
@@ -120,72 +113,32 @@ pub cut_only : {A : Type 0} (text : List ℕ) (items : List (Result (Configurati
 cut_only text items h parts c = h.2 ∙ ap results_of (cut_once h.0 parts (h.1.whole ∙ sym c.whole) h.1.each c.each)
 
 -- The group that was taken first is the first of the cut.
-same_first_result : (ps g h : List Pair) (q r : Result Configuration ParseError) → ps ≢ [] → BeginsWith ps g q
-    → BeginsWith ps h r → q ≡ r
-same_first_result ps g h q r some a b = let o = one_group ps some in (o.no_other g q a).1 ∙ sym (o.no_other h r b).1
-
 first_same : {A : Type 0} (text : List ℕ) (after : List Pair) (r : Result (ConfigurationString A) ParseError) (e : Part)
     (parts : List Part) → pairs text ≢ []
     → r ≢ Err Memory → TakesGroup (pairs text) r after → Cut text (e ∷ parts) → result_of r ≡ e.result
 first_same text after r e parts some kept t c =
     let g = taken (pairs text) after r kept t in
-    same_first_result (pairs text) g.0 e.group (result_of r) e.result some (after, g.1, g.2)
-    (pairs_of parts, sym c.whole, c.each.0)
-
--- Neither a configuration nor another error is out of memory.
-ok_kept : (A : Type 0) (x : ConfigurationString A)
-    → ◌≢◌ {A = Result (ConfigurationString A) ParseError} (Ok x) (Err Memory)
-ok_kept A x e = cc
-
-header_kept : (A : Type 0) (s : ConfigHdrSection)
-    → ◌≢◌ {A = Result (ConfigurationString A) ParseError} (Err (ConfigHdr s)) (Err Memory)
-header_kept A s e = cc
-
-name_kept : (A : Type 0) → ◌≢◌ {A = Result (ConfigurationString A) ParseError} (Err BlockName) (Err Memory)
-name_kept A e = cc
-
-value_kept : (A : Type 0) → ◌≢◌ {A = Result (ConfigurationString A) ParseError} (Err BlockConfig) (Err Memory)
-value_kept A e = cc
-
--- A body has pairs.
-no_body : (body rest : List Pair) (c : Configuration) → [] ≡ body ++ rest → Spells body c → ⊥
-no_body [] rest c is s = spells_some [] c s refl
-no_body (b ∷ body) rest c is s = cc
+    let one = one_group (pairs text) some in
+    (one.no_other g.0 (result_of r) (after, g.1, g.2)).1
+    ∙ sym (one.no_other e.group e.result (pairs_of parts, sym c.whole, c.each.0)).1
 
 -- A pair that is good for the GUID, and that another follows, is no group.
 good_alone : (q n : Pair) (rest : List Pair) (r : Result Configuration ParseError) → IsGood GuidSlot q
     → Gives (q ∷ []) (first_pair (n ∷ rest)) r → ⊥
-good_alone q n rest (Ok c) good gives = by_header gives.0.header gives.0.is_header gives.0.whole
+unfolding steps step expect
+good_alone q n rest (Ok c) good gives = spells_good (q ∷ []) (q ∷ []) [] c gives.0 refl
+good_alone q n rest (Err error) good gives = by_slot gives.2
   where
-    by_header : (h : List Pair) → SpellsHeader h c → q ∷ [] ≡ h ++ gives.0.rest → ⊥
-    by_header [] s e = s
-    by_header (a ∷ []) s e = s
-    by_header (a ∷ b ∷ h) s e = cc
-good_alone q n rest (Err error) good gives = by_slot gives.0 gives.2
-  where
-    -- Nothing but the GUID comes first.
-    by_must : (last : Pair) (slot : Slot) → q ≡ last → ¬ IsGood slot last → MustCome [] (Some last) slot → ⊥
-    by_must last GuidSlot same bad must = bad (subst (IsGood GuidSlot) same good)
-    by_must last NameSlot same bad must = must
-    by_must last PathSlot same bad must = must
-    by_must last AltSlot same bad must = must.0
-    by_must last OffsetSlot same bad (inl must) = must.0
-    by_must last OffsetSlot same bad (inr (inl must)) = must.0
-    by_must last OffsetSlot same bad (inr (inr must)) = spells_some [] must.0.0 must.0.1 refl
-    by_must last WidthSlot same bad must = no_body must.0 must.1 must.3.0 must.2 must.3.1
-    by_must last ValueSlot same bad must = no_body must.0 must.1 must.3.0 must.2 must.3.1
-
-    by_before : (before : List Pair) (last : Pair) (slot : Slot) → q ∷ [] ≡ before ++ last ∷ []
-        → Expects before (Some last) slot → ¬ IsGood slot last → ⊥
-    by_before [] last slot whole expects bad =
-        let same : q ≡ last = cc in
-        by_must last slot same bad (by_row [] (Some last) slot expects)
-    by_before (b ∷ before) last slot whole expects bad =
-        absurd (omega (arith, ap (λ ps. length ps) whole, length-append before (last ∷ [])))
-
-    by_slot : (slot : Slot) → FailsAt slot (q ∷ []) (Some n) → ⊥
-    by_slot slot (inl m) = by_before m.0 m.1 slot m.2 m.3 m.4
-    by_slot slot (inr none) = let other : Some n ≡ None = none.0 in cc
+    by_slot : FailsAt gives.0 (q ∷ []) (Some n) → ⊥
+    by_slot (inl m) =
+        let first = same_from_push [] m.0 q m.1 m.2 in
+        let wrong = wrong_pair gives.0 [] q (rw (first.0, first.1) m.3) (rw first.1 m.4) in
+        let guid = some_of (guid_in q) good in
+        let read : step Start q ≡ Next (AfterGuid guid.0) = ap (expect GuidSlot AfterGuid) guid.1 in
+        let start : wrong.0 ≡ Start = cc wrong.1 in
+        let failed : step Start q ≡ Fail gives.0 = rw start at wrong.2 in
+        cc (read, failed)
+    by_slot (inr none) = cc
 
 -- Pairs that begin with a good GUID and a pair for the name have both in their first group.
 first_good : (text : List ℕ) (e : Part) (parts : List Part) → MayRunOut (pairs text) → Cut text (e ∷ parts)
@@ -201,12 +154,23 @@ first_good text e parts m c = by_group e.group c.each.0 (pairs_of parts) refl (s
         (subst (λ ps. Gives (q ∷ []) (first_pair ps) e.result) is group.gives))
     by_group (q ∷ n ∷ g) group others is x = x
 
+-- No error of a text is out of memory.
+header_kept : (A : Type 0) (s : ConfigHdrSection)
+    → ◌≢◌ {A = Result (ConfigurationString A) ParseError} (Err (ConfigHdr s)) (Err Memory)
+header_kept A s e = cc
+
+name_kept : (A : Type 0) → ◌≢◌ {A = Result (ConfigurationString A) ParseError} (Err BlockName) (Err Memory)
+name_kept A e = cc
+
+value_kept : (A : Type 0) → ◌≢◌ {A = Result (ConfigurationString A) ParseError} (Err BlockConfig) (Err Memory)
+value_kept A e = cc
+
 pub is_first : {A : Type 0} (text : List ℕ) (after : List Pair) (r : Result (ConfigurationString A) ParseError)
     → pairs text ≢ [] → TakesGroup (pairs text) r after
     → (parts : List Part) → Cut text parts → IsFirstResult parts r
-is_first {A} text after r some t [] c = absurd (some (sym c.whole))
-is_first {A} text after (Err Memory) some t (e ∷ parts) c = first_good text e parts t c
-is_first {A} text after (Ok x) some t (e ∷ parts) c = first_same text after (Ok x) e parts some (ok_kept A x) t c
+is_first text after r some t [] c = absurd (some (sym c.whole))
+is_first text after (Err Memory) some t (e ∷ parts) c = first_good text e parts t c
+is_first text after (Ok x) some t (e ∷ parts) c = first_same text after (Ok x) e parts some (λ ok. cc) t c
 is_first {A} text after (Err (ConfigHdr s)) some t (e ∷ parts) c =
     first_same text after (Err (ConfigHdr s)) e parts some (header_kept A s) t c
 is_first {A} text after (Err BlockName) some t (e ∷ parts) c =
@@ -225,3 +189,6 @@ pub of_the_cut : {A : Type 0} (text : List ℕ) (r : Result (ConfigurationString
     → ((parts : List Part) → Cut text parts → IsFirstResult parts r)
     → (parts : List Part) × Cut text parts × IsFirstResult parts r
 of_the_cut text r every = let one = has_one_cut text in (one.parts, one.cut, every one.parts one.cut)
+
+-- What the reader of a text's first configuration asks for.
+pub ruleset first_steps = (none_first, is_first, of_the_cut)

@@ -113,6 +113,7 @@ impl<A: Allocator + Copy> ConfigurationString<A> {
     ///   the GUID is read and `NAME` has a value. For a name and for a path memory is asked before
     ///   the value is judged, so a wrong one may be [`ParseError::Memory`]; every other pair is
     ///   judged first.
+    #[tactic(auto, using(crate::proofs::Wholes::first_steps))]
     pub fn from_str(alloc: A, text: &str) -> Result<ConfigurationString<A>, ParseError>
         ensures cut { (parts : List Part) × Cut text.now parts × IsFirstResult parts result }
         ensures only { (parts : List Part) → Cut text.now parts → IsFirstResult parts result }

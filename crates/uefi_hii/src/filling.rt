@@ -39,6 +39,7 @@ pub(crate) fn hex_bytes<A: Allocator>(alloc: A, text: &str) -> Result<Vec<u8, A>
 }
 
 /// Fills the buffer block by block, and what is left of it byte by byte.
+#[tactic(auto, using(crate::proofs::HexEnds::two_a_byte))]
 fn fill(text: &[u8], out: &mut [u8])
     requires { length out.old ≡ length (hex text.now) }
     ensures { out.new ≡ hex text.now }
@@ -104,6 +105,7 @@ fn digit_values(digits: u8x16) -> u8x16
 }
 
 /// Fills the bytes from `start` up to `end`, one at a time.
+#[tactic(auto, using(crate::proofs::HexParts::filled_more, std::proofs::lemmas::List::take_more_set))]
 fn fill_each(text: &[u8], out: &mut [u8], start: usize, end: usize)
     requires order { start ≤ end }
     requires text { byte_length * end ≤ length text.now + 1 }
@@ -117,6 +119,7 @@ fn fill_each(text: &[u8], out: &mut [u8], start: usize, end: usize)
 }
 
 /// Returns the byte at an index.
+#[tactic(auto, using(crate::proofs::HexParts::hex_two, crate::proofs::HexParts::hex_one))]
 #[inline(always)]
 fn byte_at(text: &[u8], index: usize) -> u8
     requires { byte_length * index < length text.now }

@@ -81,6 +81,7 @@ impl<'a> DoubleEndedIterator for HexBytes<'a> {
 
 impl<'a> ExactSizeIterator for HexBytes<'a> {
     /// Returns how many bytes are left.
+    #[tactic(auto, using(crate::proofs::HexEnds::two_a_byte))]
     fn len(&self) -> usize {
         self.rest.len() / 2 + self.rest.len() % 2
     }
@@ -89,6 +90,7 @@ impl<'a> ExactSizeIterator for HexBytes<'a> {
 impl<'a> FusedIterator for HexBytes<'a> {}
 
 /// Returns the last byte that a text spells, and the text before its characters.
+#[tactic(auto, using(crate::proofs::HexEnds::last_of_one, crate::proofs::HexEnds::last_of_two))]
 fn split_last_byte(text: &[u8]) -> Option<(&[u8], u8)>
     ensures { MatchOption result (hex text.now ≡ [])
         (λ r. hex text.now ≡ hex r.0.now ++ r.1 ∷ []) }

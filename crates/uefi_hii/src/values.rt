@@ -25,6 +25,7 @@ impl ConfigurationString {
 
     /// Returns the number that a value spells in hex, the highest byte first. `None` where it
     /// spells another count of bytes than 1, 2, 4 or 8.
+    #[tactic(auto, using(crate::proofs::Numbers::number_steps))]
     pub fn parse_number_from_hex(text: &str) -> Option<u64>
         ensures { result ≡ number text.now }
     {
@@ -68,6 +69,7 @@ impl<A: Allocator + Copy> ConfigurationString<A> {
     ///
     /// [`AllocError`] if an allocation fails, which may also come before a value that is no name is
     /// found to be none.
+    #[tactic(auto, using(crate::proofs::Names::name_steps))]
     pub fn parse_string_from_hex(alloc: A, text: &str) -> Result<Option<String<A>>, AllocError>
         ensures { IfOk result (λ parsed. option_map string_bytes parsed ≡ name text.now) }
     {

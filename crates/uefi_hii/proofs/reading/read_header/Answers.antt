@@ -1,28 +1,12 @@
 use Rattle.std.specs.Prelude.{string_bytes}
 use Rattle.uefi_hii.specs.Views.{peeked_pairs}
-use Rattle.uefi_hii.proofs.Headers.{alt_fails, alt_kept, guid_fails, header_residual, may_run_out, memory_residual}
-use Rattle.uefi_hii.proofs.Headers.{name_fails, named, path_fails, takes_header, three_taken}
+use Rattle.uefi_hii.proofs.Headers.{alt_fails, guid_fails, name_fails, path_fails, residual}
+use Rattle.uefi_hii.proofs.Headers.{takes_header, three_taken}
 use Rattle.uefi_hii.proofs.reading.read_header.Goals as goal
 
 pub returns-in_default : goal.returns-in_default
 returns-in_default u c =
     guid_fails (peeked_pairs c.args.pairs.now) (peeked_pairs c.take_guid.new.pairs) c.requires c.in_default.ensures
-
-pub returns-in_err-name : goal.returns-in_err-name
-returns-in_err-name u c =
-    memory_residual (peeked_pairs c.args.pairs.now) (peeked_pairs c.take_name.new.pairs) c.from_residual.result
-    c.from_residual.ensures.1
-    (may_run_out (peeked_pairs c.args.pairs.now) (peeked_pairs c.take_guid.new.pairs) c.in-Some.guid.0
-    c.in-Some.ensures c.in_err-name.ensures.named)
-
-pub returns-in_err-device_path : goal.returns-in_err-device_path
-returns-in_err-device_path u c =
-    memory_residual (peeked_pairs c.args.pairs.now) (peeked_pairs c.take_path.new.pairs)
-    c.from_residual-in_err-device_path.result c.from_residual-in_err-device_path.ensures.1
-    (may_run_out (peeked_pairs c.args.pairs.now) (peeked_pairs c.take_guid.new.pairs) c.in-Some.guid.0
-    c.in-Some.ensures
-    (named (peeked_pairs c.take_guid.new.pairs) (peeked_pairs c.take_name.new.pairs) (string_bytes c.in-Some-2.name)
-    (rw c.in-Some-2.is at c.in_ok-name.ensures.taken)))
 
 pub returns-in_default-2 : goal.returns-in_default-2
 returns-in_default-2 u c =
@@ -45,10 +29,9 @@ returns-in_err-alt_cfg_id u c =
     let three =
     three_taken before _ _ left _ _ c.in-Some-3.device_path c.in-Some.ensures
     (rw c.in-Some-2.is at c.in_ok-name.ensures.taken) (rw c.in-Some-3.is at c.in_ok-device_path.ensures) in
-    let e = c.in_err-alt_cfg_id.field-0.0 in
-    header_residual before after c.from_residual-in_err-alt_cfg_id.result e
-    (alt_kept left after e c.in_err-alt_cfg_id.ensures) c.from_residual-in_err-alt_cfg_id.ensures.1
-    (alt_fails before left after _ _ _ e c.requires three c.in_err-alt_cfg_id.ensures)
+    rw (residual c.from_residual-in_err-alt_cfg_id.result _ c.from_residual-in_err-alt_cfg_id.ensures.1)
+    (alt_fails u.row.A.Denot before left after _ _ _ c.in_err-alt_cfg_id.field-0.0 c.requires three
+    c.in_err-alt_cfg_id.ensures)
 
 pub returns : goal.returns
 returns u c =
