@@ -12,18 +12,15 @@ two_instances : TwoInstances
 two_instances = search rules
 
 any_end : AnyEnd
-any_end = grind arith
+any_end = search rules
 
 end_with_data : EndWithData
 end_with_data = record {
-  path = record { each = search rules; end = search rules };
+  path = search rules;
   prefix = (0xcc ∷ [], refl);
-  instances = record { each = (record { each = search rules; end = search rules }, tt); whole = refl };
+  instances = search rules;
   nodes = refl;
 }
-
-first_fits : Fits (node 0xa0 0xb0 (0x0a ∷ 0x0b ∷ []))
-first_fits = search rules
 
 -- What bytes that start with a path state of its first node.
 path_states : (bytes : List ℕ) → HasPath bytes → StatesNode bytes
@@ -36,13 +33,13 @@ no_path = record {
   long = λ has. absurd (omega (arith, (path_states (0xa0 ∷ 0xb0 ∷ 0xff ∷ 0xff ∷ []) has).1.1));
   endless = λ has.
       let after = HasNodes-after IsEndEntire (0xa0 ∷ 0xb0 ∷ 6 ∷ 0 ∷ 0x0a ∷ 0x0b ∷ []) []
-      (node 0xa0 0xb0 (0x0a ∷ 0x0b ∷ [])) has first_fits (λ e. absurd (omega (arith, e.0))) refl in
+      (node 0xa0 0xb0 (0x0a ∷ 0x0b ∷ [])) has (search rules) (λ e. absurd (omega (arith, e.0))) refl in
       absurd (omega (arith, (path_states [] after).0));
 }
 
 nodes : Nodes
 nodes = record {
-  fits = first_fits;
+  fits = search rules;
   prefix = ([], refl);
   long = λ has. absurd (omega (arith, (node_states (0xa0 ∷ 0xb0 ∷ 7 ∷ 0 ∷ 0x0a ∷ 0x0b ∷ []) has).1.1));
   short = λ has. absurd (omega (arith, (node_states (0xa0 ∷ 0xb0 ∷ 3 ∷ 0 ∷ 0x0a ∷ 0x0b ∷ []) has).1.0));
