@@ -17,9 +17,8 @@ use Rattle.uefi_records.proofs.file.FieldsBack.{file_info_back, length-file_head
 use Rattle.uefi_records.proofs.file.FirstZero.{IsFirstAt, one_first, first_zero_is}
 use Rattle.uefi_records.proofs.file.Judging.{units_of_prefix, accepted_at}
 use Rattle.uefi_records.proofs.file.Names.{length-named, units_back}
-use Rattle.uefi_records.proofs.file.Prefixes.{same_size, same_file_fields}
 use Rattle.uefi_records.proofs.file.FieldsBack.{length-file_system_header, file_system_info_back}
-use Rattle.uefi_records.proofs.file.Prefixes.{same_system_fields}
+use Rattle.uefi_records.proofs.file.Prefixes.{size_stands, file_fields_stand, file_system_fields_stand, in_both}
 
 -- Units that start with a name have their first zero at the name's end.
 first_zero_of_name : (units name : List ℕ) → IsName name → take (length name) units ≡ name
@@ -127,8 +126,8 @@ written_alone = record {
   verdicts = λ offset alignment written one other long same. λ i. verdict offset alignment (same i) (long i);
   file_info = λ written one other name same is.
       let enough : file_name_offset ≤ written = covers_of file_name_offset file_info_alignment written one name is in
-      (same_size written one other (omega (arith, enough)) same, same_file_fields written one other enough same);
+      (in_both 8 size_in size_stands written one other (omega (arith, enough)) same, in_both file_name_offset file_fields file_fields_stand written one other enough same);
   file_system_info = λ written one other label same is.
       let enough : label_offset ≤ written = covers_of label_offset file_system_info_alignment written one label is in
-      (same_size written one other (omega (arith, enough)) same, same_system_fields written one other enough same);
+      (in_both 8 size_in size_stands written one other (omega (arith, enough)) same, in_both label_offset file_system_fields file_system_fields_stand written one other enough same);
 }

@@ -2,12 +2,17 @@
 use Rattle.std.proofs.Common.{◌≡◌, ℕ, zero, suc, ◌+◌, ◌*◌, ◌/◌, ◌%◌, ◌<◌, ◌≤◌, List, [], ◌∷◌, ◌++◌, length, drop, ap}
 use Rattle.std.proofs.Common.{sym, refl, ◌∙◌, arith, cond, Bool, true, false, not, get_or, w8, Fits}
 use Rattle.std.specs.Prelude.{Option, Some}
-use Rattle.std.specs.List.{prefix_len, position_from}
+use Rattle.std.specs.List.{prefix_len, position_from, position_or_len}
+use Rattle.std.proofs.lemmas.Bool.Decides.{nat_tests}
+use Rattle.std.proofs.lemmas.List.{length-append}
+use Rattle.std.proofs.lemmas.List.Folds.{prefix_len-append}
+use Rattle.std.proofs.lemmas.List.Sums.{prefix_len-le-length}
 use lib.Lanes.{number_l, digits_l, Each1, chunk}
 use Rattle.std.proofs.lemmas.Simd.{chunk-drop, length-chunk, chunk-fits, below_from_Fits}
 use Rattle.uefi_base.specs.Unaligned.{units_of}
 use Rattle.uefi_base.proofs.UnitsOfBytes.{half_as_many_units}
 use Rattle.uefi_base.proofs.UnitsBack.{units_read_back}
+use Rattle.uefi_records.proofs.file.FirstZero.{position_is}
 
 -- The digits to base 65536 of a number whose digits to base 256 are 2 n bytes are their units.
 pub lanes_are_units : (n : ℕ) (bytes : List ℕ) → length bytes ≡ 2 * n → Each1 (λ x. x < 256) bytes
@@ -32,33 +37,17 @@ block_lanes_are_units offset bytes room fit =
     lanes_are_units 16 (chunk offset 32 bytes) (length-chunk offset 32 bytes room)
     (below_from_Fits w8 (chunk offset 32 bytes) (chunk-fits w8 offset 32 bytes fit))
 
--- The first item of two lists that meets a test: it is in the first list if a shorter prefix of that list than the
--- whole fails the test.
-here : (p : ℕ → Bool) (i n k : ℕ) (later : Option ℕ) → (b : Bool) → cond (not b) (1 + k) 0 < suc n
-    → (k < n → later ≡ Some (i + 1 + k)) → cond b (Some i) later ≡ Some (i + cond (not b) (1 + k) 0)
-here p i n k later true within more = ap Some (omega arith)
-here p i n k later false within more = more (omega arith) ∙ ap Some (omega arith)
+-- A search through two lists stops in the first if an item of it passes.
+found_in_first : (p : ℕ → Bool) (i : ℕ) (xs ys : List ℕ) → position_or_len p xs < length xs
+    → position_from p i (xs ++ ys) ≡ Some (i + position_or_len p xs)
+found_in_first p i xs ys within = position_is p i (xs ++ ys)
+    ∙ grind (arith, nat_tests, prefix_len-append (λ x. not (p x)) xs ys, length-append xs ys)
 
-pub found_in_first : (p : ℕ → Bool) (i : ℕ) (xs ys : List ℕ) → prefix_len (λ x. not (p x)) xs < length xs
-    → position_from p i (xs ++ ys) ≡ Some (i + prefix_len (λ x. not (p x)) xs)
-found_in_first p i [] ys within = absurd (omega arith)
-found_in_first p i (x ∷ xs) ys within =
-    here p i (length xs) (prefix_len (λ y. not (p y)) xs) (position_from p (i + 1) (xs ++ ys)) (p x) within
-    (λ k. found_in_first p (i + 1) xs ys k)
-
--- Else it is the first of the second list.
-not_here : (i n k : ℕ) (later rest : Option ℕ) → (b : Bool) → suc n ≤ cond (not b) (1 + k) 0 → (n ≤ k → later ≡ rest)
-    → cond b (Some i) later ≡ rest
-not_here i n k later rest true whole more = absurd (omega arith)
-not_here i n k later rest false whole more = more (omega arith)
-
-pub found_in_second : (p : ℕ → Bool) (i : ℕ) (xs ys : List ℕ) → length xs ≤ prefix_len (λ x. not (p x)) xs
+-- Else it goes on through the second.
+found_in_second : (p : ℕ → Bool) (i : ℕ) (xs ys : List ℕ) → length xs ≤ position_or_len p xs
     → position_from p i (xs ++ ys) ≡ position_from p (i + length xs) ys
-found_in_second p i [] ys whole = ap (λ k. position_from p k ys) (omega arith)
-found_in_second p i (x ∷ xs) ys whole =
-    not_here i (length xs) (prefix_len (λ y. not (p y)) xs) (position_from p (i + 1) (xs ++ ys))
-    (position_from p (i + suc (length xs)) ys) (p x) whole
-    (λ k. found_in_second p (i + 1) xs ys k ∙ ap (λ j. position_from p j ys) (omega arith))
+found_in_second p i xs ys whole = position_is p i (xs ++ ys)
+    ∙ grind (arith, nat_tests, prefix_len-append (λ x. not (p x)) xs ys, prefix_len-le-length (λ x. not (p x)) xs, length-append xs ys, position_is p (i + length xs) ys)
 
 module _ (p : ℕ → Bool) (bytes : List ℕ) (index n run : ℕ) (within : 2 * index + 2 * n ≤ length bytes)
     (counted_run : run ≡ prefix_len (λ x. not (p x)) (units_of (chunk (2 * index) (2 * n) bytes))) where

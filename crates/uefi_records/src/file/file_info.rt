@@ -231,6 +231,7 @@ impl<'a> FileInfo<'a> {
     }
 
     /// Returns the bytes of the stated size and the fields.
+    #[tactic(auto, using(crate::proofs::file::FieldsBack::header_back))]
     fn header(&self) -> &'a [u8]
         ensures { result.now ≡ file_header_of self.now }
     {
