@@ -52,12 +52,7 @@ whole_map bytes meta map =
 -- Without the first stride, each descriptor is the next.
 next_bytes : (bytes : List ℕ) (stride i : ℕ)
     → descriptor_bytes (drop stride bytes) stride i ≡ descriptor_bytes bytes stride (i + 1)
-next_bytes bytes stride i =
-    let offset : stride + i * stride ≡ (i + 1) * stride = grind (arith, rows) in
-    let width : i * stride + descriptor_length - i * stride
-    ≡ (i + 1) * stride + descriptor_length - (i + 1) * stride = omega arith in
-    ap (take (i * stride + descriptor_length - i * stride)) (drop-drop (i * stride) stride bytes
-    ∙ ap (λ n. drop n bytes) offset) ∙ ap (λ n. take n (drop ((i + 1) * stride) bytes)) width
+next_bytes bytes stride i = grind (arith, rows, common_steps)
 
 next_from : (bytes : List ℕ) (stride i count : ℕ)
     → descriptors_from (drop stride bytes) stride i count ≡ descriptors_from bytes stride (i + 1) count
@@ -107,15 +102,9 @@ pub next_left : (bytes : List ℕ) (stride : ℕ) → AreStrides stride bytes �
 next_left bytes stride strides some =
     let reaches : stride ≤ length bytes = one_stride stride (length bytes) some strides.whole in
     let positive : 0 < stride = omega (arith, strides.room) in
-    let left : length (drop stride bytes) / stride ≡ (length bytes - stride) / stride =
-    ap (λ n. n / stride) (length-drop stride bytes) in
-    let count : length bytes / stride ≡ suc (length (drop stride bytes) / stride) =
-    omega (arith, div-eq-sub-div positive reaches, left) in
-    let first : descriptor bytes stride 0 ≡ descriptor_in (take descriptor_length bytes) =
-    ap descriptor_in (first_bytes bytes stride) in
-    let rest : descriptors_from (drop stride bytes) stride 0
-    (length (drop stride bytes) / stride) ≡ descriptors_from bytes stride (0 + 1)
-    (length (drop stride bytes) / stride) = next_from bytes stride 0 (length (drop stride bytes) / stride) in
-    ap (descriptors_from bytes stride 0) count
-    ∙ ap (λ d. d ∷ descriptors_from bytes stride (0 + 1) (length (drop stride bytes) / stride)) first
-    ∙ ap (λ ds. descriptor_in (take descriptor_length bytes) ∷ ds) (sym rest)
+    let left : ℕ = length (drop stride bytes) / stride in
+    let count : length bytes / stride ≡ suc left =
+    omega (arith, div-eq-sub-div positive reaches, ap (λ n. n / stride) (length-drop stride bytes)) in
+    let first = first_bytes bytes stride in
+    let rest = next_from bytes stride 0 left in
+    ap (descriptors_from bytes stride 0) count ∙ (λ i. descriptor_in (first i) ∷ sym rest i)
