@@ -1,5 +1,5 @@
 -- The worked rows hold.
-use Rattle.std.proofs.Common.{◌≡◌, ℕ, zero, suc, ◌+◌, ◌<◌, List, [], ◌∷◌, ◌++◌, length, replicate, get_or, refl, ◌∙◌}
+use Rattle.std.proofs.Common.{rules, ◌≡◌, ℕ, zero, suc, ◌+◌, ◌<◌, List, [], ◌∷◌, ◌++◌, length, replicate, get_or, refl, ◌∙◌}
 use Rattle.std.proofs.Common.{sym, subst, arith, lit<, lit≤}
 use Rattle.std.proofs.lemmas.List.{length-replicate, get_or-replicate, get_or_append_left, get_or_push, length_push}
 use Rattle.uefi_base.specs.Ucs2.{IsSurrogate, IsCharacter, AreCharactersBefore, HasUnit, HaveUnitsBefore}
@@ -29,50 +29,16 @@ two_before u v units is_u is_v (suc zero) before = is_v
 two_before u v units is_u is_v (suc (suc k)) before = absurd (omega arith)
 
 text_rows : TextRows
-text_rows = record {
-  two_characters = record {
-    short = lit≤ tt;
-    not_empty = lit< tt;
-    nul = refl;
-    characters =
-        two_before 0x61 0x62 (0 ∷ []) (low 0x61 (lit< tt) (lit< tt)) (low 0x62 (lit< tt) (lit< tt));
-  };
-  without_nul = refl;
-  no_character = record { short = lit≤ tt; not_empty = lit< tt; nul = refl; characters = none_before (0 ∷ []) };
-}
+text_rows = search (rules, none_before, two_before, low)
 
 fault_rows : FaultRows
 fault_rows = record {
-  no_nul = (lit≤ tt, one_before 0x61 [] (low 0x61 (lit< tt) (lit< tt)));
-  empty = (lit≤ tt, none_before []);
-  interior_nul = (
-    record {
-      short = lit≤ tt;
-      within = lit< tt;
-      before =
-          one_before 0x61 (0 ∷ 0x62 ∷ 0 ∷ []) (low 0x61 (lit< tt) (lit< tt));
-    },
-    refl,
-    lit< tt,
-  );
-  nul_before_surrogate = (
-    record { short = lit≤ tt; within = lit< tt; before = none_before (0 ∷ 0xd800 ∷ 0 ∷ []) },
-    refl,
-    lit< tt,
-  );
-  surrogate = (
-    record { short = lit≤ tt; within = lit< tt; before = none_before (0xd800 ∷ 0 ∷ []) },
-    (lit≤ tt, lit≤ tt),
-  );
-  surrogate_without_nul = (
-    record {
-      short = lit≤ tt;
-      within = lit< tt;
-      before =
-          one_before 0x61 (0xd800 ∷ []) (low 0x61 (lit< tt) (lit< tt));
-    },
-    (lit≤ tt, lit≤ tt),
-  );
+  no_nul = search (rules, one_before, low);
+  empty = search (rules, none_before);
+  interior_nul = search (rules, one_before, low);
+  nul_before_surrogate = search (rules, none_before);
+  surrogate = search (rules, none_before);
+  surrogate_without_nul = search (rules, one_before, low);
   too_many_surrogates = λ n above. omega (arith, length-replicate {A = ℕ} n 0xd800);
 }
 
@@ -120,10 +86,10 @@ order_rows = record {
 
 character_rows : CharacterRows
 character_rows = record {
-  above = (lit< tt, (0, lit< tt, (λ k before. absurd (omega arith)), lit< tt));
+  above = (lit< tt, (0, lit< tt, search rules, lit< tt));
   nul = (lit< tt, (1, lit< tt, first_has_unit, refl));
   nul_after_above = nul_after_above;
-  empty = record { short = lit< tt; have_units = λ k before. absurd (omega arith) };
+  empty = search rules;
 }
   where
     first_has_unit : HaveUnitsBefore (0x61 ∷ 0 ∷ []) 1

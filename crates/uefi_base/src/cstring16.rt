@@ -95,6 +95,7 @@ fn fault_of(text: &str) -> Option<FromStrError>
 }
 
 /// Returns the number of characters.
+#[tactic(auto, using(std::proofs::lemmas::Str::chars_from_encodes))]
 fn char_count(text: &str) -> usize
     ensures { result ≡ length (chars text.now) }
 {

@@ -89,6 +89,7 @@ impl<'a> UnalignedSlice<'a> {
     }
 
     /// Returns the unit at an index that is known to be in bounds.
+    #[tactic(auto, using(crate::proofs::UnitsOfBytes::half_as_many_units, crate::proofs::UnitsOfBytes::unit_at))]
     fn unit(&self, index: usize) -> u16
         requires { index < length (slice_units self.now) }
         ensures { result ≡ slice_index (slice_units self.now) index }

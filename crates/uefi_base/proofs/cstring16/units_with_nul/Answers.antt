@@ -13,9 +13,6 @@ overflow_cast-c g c =
     c.in-Some.is c.next.ensures.steps in
     omega (arith, has_unit (chars c.args.text.now) (length c.loop-c.yielded) c.in-Some.c c.requires next)
 
-pub loop-c-preserved : goal.loop-c-preserved
-loop-c-preserved g c = grind (arith, common_steps)
-
 pub returns : goal.returns
 returns g c =
     let end = YieldsList-end
