@@ -57,13 +57,10 @@ then_put {room} {offset} {done} {part} {value} {old} {now} {next} so_far n sized
 pub then_kept : {room offset : ℕ} {done old now : List ℕ} → HasPut room offset done old now → (n : ℕ)
     → nat_le (offset + n) room ≡ true → HasPut room (offset + n) (done ++ take n (drop offset old)) old now
 then_kept {room} {offset} {done} {old} {now} so_far n before =
-    let rest : List ℕ = drop offset old in
     let reaches : offset + n ≤ length old = grind (arith, nat_tests, before, so_far.within) in
-    let sized : length (done ++ take n rest) ≡ offset + n = length-append done (take n rest)
-    ∙ (λ i. so_far.sized i + length-take-le n rest (omega (arith, reaches, length-drop offset old)) i) in
-    let same = so_far.sized in
+    let begun = so_far.sized in
     record {
       within = so_far.within;
-      sized = sized;
+      sized = grind (arith, common_steps);
       is = so_far.is ∙ same_lists _ _ (grind (arith, common_steps)) (λ k d within_both. grind (arith, places));
     }
