@@ -1,7 +1,8 @@
 -- A record that was written into a buffer, and the view of it that was then made.
 use Rattle.std.proofs.Common.{◌≡◌, ℕ, ◌+◌, ◌≤◌, List, length, take, drop, refl, sym, ◌∙◌, ap, subst, arith}
 use Rattle.std.specs.Prelude.{Result, Ok, Err, IfOk, OnOk, IfErr, OnErr, IsOk, MatchResult, ◌↔◌}
-use Rattle.std.proofs.lemmas.List.{take_at, length-append}
+use Rattle.std.proofs.lemmas.Grind.{common_steps}
+use Rattle.std.proofs.lemmas.List.{take_at}
 use Rattle.uefi_base.specs.Buffer.{put_prefix}
 
 -- What holds of one value of a result holds with what else does.
@@ -49,9 +50,8 @@ module _ {E : Type 0} {part old new : List ℕ} {size : ℕ} {Is Fits : Type 0} 
       → IfOk written (λ end. (end ≤ length new) × Whole (take end new))
   seen_in Whole whole (Ok end) wrote =
       let fits : Fits = wrote.fits.0 refl in
-      let joined : length new ≡ length part + length (drop (length part) old) = ap length wrote.put
-      ∙ length-append part (drop (length part) old) in (
-        omega (arith, joined, sized wrote.is fits, wrote.end),
+      let put : new ≡ put_prefix part old = wrote.put in (
+        grind (arith, common_steps, sized wrote.is fits, wrote.end),
         subst Whole
             (sym (part_put part old new end size (sized wrote.is fits) wrote.end wrote.put)) (whole wrote.is fits),
       )

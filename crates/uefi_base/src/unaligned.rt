@@ -78,6 +78,7 @@ impl<'a> UnalignedSlice<'a> {
     }
 
     /// Returns the unit at `index`, or `None` if there are at most `index` units.
+    #[tactic(auto, using(crate::proofs::UnitsOfBytes::half_as_many_units, std::proofs::lemmas::Option::slice_get_cases))]
     pub fn get(&self, index: usize) -> Option<u16>
         ensures { result ≡ slice_get (slice_units self.now) index }
     {
