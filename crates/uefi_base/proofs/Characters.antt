@@ -35,8 +35,8 @@ scalar_at (c ∷ cs) zero all within = (and_parts (scalar c) (scalars cs) all).0
 scalar_at (c ∷ cs) (suc k) all within = scalar_at cs k (and_parts (scalar c) (scalars cs) all).1 (omega arith)
 
 -- Characters that make text are text with a NUL after them.
-pub IsUcs2Text-chars : (bytes : List ℕ) → IsUtf8 bytes → MakeUcs2Text (chars bytes) → IsUcs2Text (chars bytes ++ 0 ∷ [])
-IsUcs2Text-chars bytes utf8 make =
+pub text_of_chars : (bytes : List ℕ) → IsUtf8 bytes → MakeUcs2Text (chars bytes) → IsUcs2Text (chars bytes ++ 0 ∷ [])
+text_of_chars bytes utf8 make =
     let whole : length (chars bytes ++ 0 ∷ []) ≡ length (chars bytes) + 1 = length_push (chars bytes) 0 in
     let short = make.short in
     record {
