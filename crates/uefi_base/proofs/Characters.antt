@@ -1,6 +1,6 @@
 -- The characters of text, their units and their bytes in UTF-8.
 use Rattle.std.proofs.Common.{◌≡◌, ℕ, zero, suc, ◌+◌, ◌<◌, ◌≤◌, true, Option, None, Some, List, [], ◌∷◌, ◌++◌, length}
-use Rattle.std.proofs.Common.{get_or, take, sym, ◌∙◌, ap, arith, ⊎_elim}
+use Rattle.std.proofs.Common.{get_or, take, sym, arith, ⊎_elim}
 use Rattle.std.specs.List.{AllWithin, HoldsAt}
 use Rattle.std.specs.Option.{MatchOption}
 use Rattle.std.specs.Str.{chars, IsUtf8}
