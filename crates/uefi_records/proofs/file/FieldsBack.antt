@@ -2,7 +2,8 @@
 use Rattle.std.proofs.Common.{◌≡◌, ℕ, ◌+◌, ◌-◌, ◌^◌, ◌<◌, ◌≤◌, List, [], ◌++◌, length, take, drop, refl, sym, ◌∙◌, ap}
 use Rattle.std.proofs.Common.{arith, Bool, true, false, append-nil}
 use Rattle.std.specs.Prelude.{slice_range, not, ◌==◌, if◌then◌else◌}
-use Rattle.std.proofs.lemmas.List.{take_all, drop_all}
+use Rattle.std.proofs.lemmas.Grind.{common_steps}
+use Rattle.std.proofs.lemmas.List.{take_all}
 use Rattle.std.proofs.lemmas.Nat.{from_le_bytes-to_le_bytes_8, from_le_bytes-to_le_bytes_4}
 use Rattle.std.proofs.Math.Seq.{take-add}
 use Rattle.uefi_base.specs.LittleEndian.{AreBytes, u64_at, u64_bytes}
@@ -43,9 +44,7 @@ length-file_header size fields = refl
 -- The bytes before the name are those of the stated size and the fields that are read from them.
 then_range : (n m : ℕ) (bytes done part : List ℕ) → take n bytes ≡ done → slice_range bytes n (n + m) ≡ part
     → take (n + m) bytes ≡ done ++ part
-then_range n m bytes done part before is =
-    let width : m ≡ n + m - n = omega arith in
-    take-add n m bytes ∙ (λ i. before i ++ (ap (λ k. take k (drop n bytes)) width ∙ is) i)
+then_range n m bytes done part before is = grind (arith, common_steps, take-add n m bytes)
 
 time_range : (bytes : List ℕ) (offset : ℕ) → AreBytes bytes → offset + time_length ≤ length bytes
     → slice_range bytes offset (offset + time_length) ≡ time_bytes (time_at bytes offset)
@@ -77,9 +76,7 @@ header_back bytes small within =
 -- The unused bytes of a file system information record, written out.
 unused_items : (unused : List ℕ) → length unused ≡ 7 → unused ≡ items_from 0 7 unused
 unused_items unused seven =
-    drop-items_from 0 7 7 unused refl (omega (arith, seven))
-    ∙ ap (λ rest. items_from 0 7 unused ++ rest) (drop_all 7 unused (omega (arith, seven)))
-    ∙ append-nil (items_from 0 7 unused)
+    grind (arith, common_steps, drop-items_from 0 7 7 unused refl (omega (arith, seven)))
 
 pub length-file_system_header : (size : ℕ) (fields : FileSystemFields) (unused : List ℕ)
     → length unused ≡ 7 → length (file_system_header size fields unused) ≡ label_offset

@@ -3,6 +3,7 @@ use Rattle.std.proofs.Common.{◌≡◌, ℕ, ◌+◌, ◌-◌, ◌*◌, ◌≤�
 use Rattle.std.proofs.Common.{◌∙◌, ap, arith, subst}
 use Rattle.std.specs.Prelude.{nat_le}
 use Rattle.std.proofs.lemmas.Bool.Decides.{nat_tests}
+use Rattle.std.proofs.lemmas.Grind.{common_steps}
 use Rattle.std.proofs.lemmas.List.{take-take, drop-take, length-take, length-drop, length-take-le, get_or-take}
 use Rattle.std.proofs.lemmas.List.{take_min, take_rest}
 use Rattle.uefi_base.specs.Unaligned.{units_of}
@@ -15,8 +16,7 @@ use Rattle.uefi_records.proofs.file.FirstZero.{IsFirstAt, first_zero_is}
 -- The bytes behind an offset, among those that were written.
 pub written_part : (bytes : List ℕ) (n written offset : ℕ) → n ≡ min written (length bytes)
     → take (length (take n bytes) - offset) (drop offset (take n bytes)) ≡ drop offset (take written bytes)
-written_part bytes n written offset is = take_rest (take n bytes) offset
-    ∙ ap (drop offset) (ap (λ n. take n bytes) is ∙ take_min written bytes)
+written_part bytes n written offset is = grind (arith, common_steps)
 
 -- The units of a name, in the written bytes and in the bytes that end with the name.
 pub units_of_prefix : (bytes : List ℕ) (offset count written : ℕ) → record_end offset count ≤ written
@@ -40,17 +40,12 @@ is_name units index first =
           (sym (get_or-take (index + 1) units k 0 (omega (arith, before, long))) ∙ is_zero);
     }
 
-fits : (size room : ℕ) → size ≤ room → nat_le size room ≡ true
-fits size room within = grind (arith, nat_tests)
-
 -- The verdict if the first zero unit is known and the record fits the buffer.
 pub accepted_at : (offset alignment room index : ℕ) (written : List ℕ)
     → first_zero (units_from offset written) ≡ Some index → record_size offset alignment (index + 1) ≤ room
     → verdict offset alignment written room ≡ accepted (take (index + 1) (units_from offset written))
 accepted_at offset alignment room index written at within =
-    ap (judged offset alignment (units_from offset written) room) at
-    ∙ ap (λ (b : Bool). cond b (accepted (take (index + 1) (units_from offset written)))
-    (too_small (record_size offset alignment (index + 1)))) (fits _ _ within)
+    ap (judged offset alignment (units_from offset written) room) at ∙ grind (arith, nat_tests)
 
 -- The record of the bytes up to that unit, and the verdict that has its name.
 pub accepts : (bytes named : List ℕ) (offset alignment written index : ℕ) → named ≡ drop offset (take written bytes)
@@ -64,12 +59,10 @@ accepts bytes named offset alignment written index is at within room =
     let end : ℕ = record_end offset (index + 1) in
     let units : List ℕ = units_from offset (take written bytes) in
     let found : first_zero units ≡ Some index = ap (λ part. first_zero (units_of part)) (sym is) ∙ at in
-    let left : length named ≡ min written (length bytes) - offset =
-    ap length is ∙ length-drop offset (take written bytes) ∙ ap (λ n. n - offset) (length-take written bytes) in
+    let left : length named ≡ min written (length bytes) - offset = grind (arith, common_steps) in
     let inside : end ≤ length bytes = omega (arith, within, left) in
     let whole : length (take end bytes) ≡ end = length-take-le end bytes inside in
-    let rest : length (drop offset (take end bytes)) ≡ 2 * (index + 1) = length-drop offset (take end bytes)
-    ∙ omega (arith, whole) in
+    let rest : length (drop offset (take end bytes)) ≡ 2 * (index + 1) = omega (arith, whole, length-drop {A = ℕ}) in
     let same : take (index + 1) units ≡ units_from offset (take end bytes) =
     units_of_prefix bytes offset (index + 1) written (omega (arith, within, left)) in (
       inside,

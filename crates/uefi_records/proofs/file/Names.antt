@@ -44,11 +44,9 @@ pub ends_with : (offset : ℕ) (header name : List ℕ) → length header ≡ of
 ends_with offset header name sized fit =
     let whole : length (header ++ unit_bytes name) ≡ record_end offset (length name) =
     length-named offset header name sized in
-    let last : length (drop offset (header ++ unit_bytes name)) ≡ 2 * length name =
-    ap length (drop_at header (unit_bytes name) offset sized) ∙ units_read_back.sized name in
     record {
       before = omega (arith, whole);
-      whole_units = omega (arith, last);
+      whole_units = grind (arith, common_steps, whole);
       name =
           subst IsName (sym (units_back offset header name sized fit.are_units)) fit.is_name;
     }
