@@ -29,11 +29,10 @@ passed_none bytes = record { units = []; nonzero = tt; split = refl }
 AreBytes-take : (n : ℕ) (bytes : List ℕ) → AreBytes bytes → (k : ℕ) → get_or (take n bytes) k 0 < 256
 AreBytes-take n bytes each k = grind (arith, common_steps, each)
 
-AreBytes-rest : (x y : List ℕ) → AreBytes (x ++ y) → AreBytes y
-AreBytes-rest x y each k = subst (λ n. n < 256) (get_or-append-add x y k 0) (each (length x + k))
-
-pub rest_each : (bytes rest : List ℕ) → AreBytes bytes → HasPassed bytes rest → AreBytes rest
-rest_each bytes rest each before = AreBytes-rest (unit_bytes before.units) rest (subst AreBytes before.split each)
+rest_each : (bytes rest : List ℕ) → AreBytes bytes → HasPassed bytes rest → AreBytes rest
+rest_each bytes rest each before k =
+    let passed : List ℕ = unit_bytes before.units in
+    rw (before.split, get_or-append-add passed rest k 0) at (each (length passed + k))
 
 -- A unit that was read has its bytes, and none is read from fewer than two.
 read_some : (long least n u : ℕ) (rest after : List ℕ)

@@ -2,8 +2,8 @@
 use Rattle.std.proofs.Common.{◌≡◌, ℕ, ◌+◌, ◌-◌, ◌*◌, ◌<◌, ◌≤◌, List, [], ◌∷◌, ◌++◌, length, take, drop, get_or, sym}
 use Rattle.std.proofs.Common.{◌∙◌, ap, arith}
 use Rattle.std.proofs.lemmas.Grind.{common_steps}
-use Rattle.std.proofs.lemmas.List.{length-take-le}
-use Rattle.std.proofs.Math.Seq.{take-append_seam, take-append-add}
+use Rattle.std.proofs.lemmas.List.{length-take-le, take_at}
+use Rattle.std.proofs.Math.Seq.{take-append-add}
 use Rattle.uefi_path.specs.Node.{encoding, HasNode}
 use Rattle.uefi_base.specs.LittleEndian.{u16_at, u16_bytes}
 use Rattle.uefi_base.specs.Prefix.{IsPrefix}
@@ -71,7 +71,6 @@ stated_prefix bytes n has made =
       record {
         fits = has.1;
         encoded =
-            ap (λ b. take n b) has.2.1 ∙ ap (λ k. take k (encoding node ++ rest)) whole
-            ∙ take-append_seam (encoding node) rest;
+            ap (take n) has.2.1 ∙ take_at (encoding node) rest n (sym whole);
       },
     )

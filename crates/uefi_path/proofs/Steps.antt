@@ -4,8 +4,8 @@ use Rattle.std.proofs.lemmas.List.{append-nil, nil_from_length}
 use Rattle.uefi_base.specs.Prefix.{IsPrefix}
 use Rattle.uefi_path.specs.Node.{Node, Fits, encoding, joined, HasNode, IsEnd}
 use Rattle.uefi_path.specs.Path.{AreEndedBy, concat, all_but_last}
-use Rattle.uefi_path.specs.private.Encoding.{HasNodes}
-use Rattle.uefi_path.specs.private.Encoding.{IsEncodingOfNodes, EncodesNodes, IsEncodingOfInstances, EncodesInstances}
+use Rattle.uefi_path.specs.private.Encoding.{HasNodes, IsEncodingOfNodes, EncodesNodes, IsEncodingOfInstances}
+use Rattle.uefi_path.specs.private.Encoding.{EncodesInstances}
 use Rattle.uefi_path.specs.private.OnePath.{same_first, one_ended, nodes_encoded_once, instances_encoded_once}
 use Rattle.uefi_path.specs.private.OnePath.{joined-append, some_bytes}
 
