@@ -2,7 +2,7 @@
 use Rattle.std.proofs.Common.{◌≡◌, ℕ, ◌+◌, ◌≤◌, List, ◌++◌, length, take, drop, slice_range, sym, ◌∙◌, ap, arith}
 use Rattle.std.proofs.Common.{append_assoc}
 use Rattle.std.proofs.lemmas.Grind.{common_steps}
-use Rattle.std.proofs.lemmas.Slice.{drop-append-drop}
+use Rattle.std.proofs.lemmas.List.{same_lists, places}
 
 -- A list with another part from an index on, instead of as many items: what is before it, what is behind it, the
 -- part, and the length.
@@ -13,10 +13,7 @@ before_part list part rest at within = grind (arith, common_steps)
 pub behind_part : (list part : List ℕ) (at : ℕ) → at + length part ≤ length list
     → drop (at + length part) (take at list ++ (part ++ drop (at + length part) list)) ≡ drop (at + length part) list
 behind_part list part at within =
-    let last = at + length part in
-    let reached : length (take at list ++ part) ≡ last = grind (arith, common_steps) in
-    ap (drop last) (sym (append_assoc (take at list) part (drop last list)))
-    ∙ drop-append-drop last list (take at list ++ part) last (omega arith) reached
+    same_lists _ _ (grind (arith, common_steps)) (λ k d within_both. grind (arith, places))
 
 pub the_part : (list part rest : List ℕ) (at : ℕ) → at ≤ length list
     → slice_range (take at list ++ (part ++ rest)) at (at + length part) ≡ part

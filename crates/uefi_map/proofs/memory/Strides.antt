@@ -43,8 +43,7 @@ pub whole_map : (bytes : List ℕ) (meta : MemoryMapMeta) → IsMap (length byte
 whole_map bytes meta map =
     let size = meta.map_size in
     let stride = meta.desc_size in
-    let sized : length (take size bytes) ≡ size = length-take-le size bytes map.within in
-    ap (λ n. descriptors_from (take size bytes) stride 0 (n / stride)) sized
+    ap (λ n. descriptors_from (take size bytes) stride 0 (n / stride)) (length-take-le size bytes map.within)
     ∙ same_from (take size bytes) bytes stride 0 (size / stride)
     (λ j above below. range-take size bytes (j * stride) (j * stride + descriptor_length) (omega arith)
     (ends_within stride size j map.room (omega arith)))
@@ -66,9 +65,7 @@ next_from bytes stride i (suc count) =
 
 -- The first descriptor has the first forty bytes.
 first_bytes : (bytes : List ℕ) (stride : ℕ) → descriptor_bytes bytes stride 0 ≡ take descriptor_length bytes
-first_bytes bytes stride =
-    let offset : 0 * stride ≡ 0 = omega arith in
-    ap (λ p. take (p + descriptor_length - p) (drop p bytes)) offset
+first_bytes bytes stride = grind (arith, common_steps)
 
 -- Whole strides that are not none are at least one.
 pub one_stride : (stride size : ℕ) → 0 < size → size % stride ≡ 0 → stride ≤ size

@@ -40,6 +40,3 @@ pub overflow_sub-bytes : goal.overflow_sub-bytes
 overflow_sub-bytes c =
     let passed = c.loop-after.invariant in
     rest_within c.args.bytes.now c.loop-after.rest.now passed.0 passed.1
-
-pub loop-after-smaller : goal.loop-after-smaller
-loop-after-smaller c = grind (arith, common_steps)
