@@ -21,13 +21,11 @@ pointwise-append (x ∷ xs) (y ∷ ys) more others same =
     ∙ sym (and_assoc (nat_eq x y) (pointwise nat_eq xs ys) (pointwise nat_eq more others))
 
 -- Two file information records are equal exactly if their headers and the units of their names are.
-pub equal_if : (one other : FileInfo) (same_header same_name : Bool)
-    → same_header ≡ pointwise nat_eq (file_header_of one) (file_header_of other)
-    → same_name ≡ pointwise nat_eq (file_name_of one) (file_name_of other)
-    → same_header && same_name ≡ pointwise nat_eq (file_info_key one) (file_info_key other)
+pub equal_if : (one other : FileInfo) → pointwise nat_eq (file_info_key one) (file_info_key other)
+    ≡ pointwise nat_eq (file_header_of one) (file_header_of other)
+    && pointwise nat_eq (file_name_of one) (file_name_of other)
 unfolding file_info_key
-equal_if one other same_header same_name header name =
-    (λ i. header i && name i) ∙ sym (pointwise-append (file_header_of one) (file_header_of other) (file_name_of one)
-    (file_name_of other)
+equal_if one other =
+    pointwise-append (file_header_of one) (file_header_of other) (file_name_of one) (file_name_of other)
     (length-file_header (stated_size one) (file_fields_of one)
-    ∙ sym (length-file_header (stated_size other) (file_fields_of other))))
+    ∙ sym (length-file_header (stated_size other) (file_fields_of other)))

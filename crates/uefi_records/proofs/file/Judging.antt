@@ -4,7 +4,7 @@ use Rattle.std.proofs.Common.{◌∙◌, ap, arith, subst}
 use Rattle.std.specs.Prelude.{nat_le}
 use Rattle.std.proofs.lemmas.Bool.Decides.{nat_tests}
 use Rattle.std.proofs.lemmas.Grind.{common_steps}
-use Rattle.std.proofs.lemmas.List.{take-take, drop-take, length-take, length-drop, length-take-le, get_or-take}
+use Rattle.std.proofs.lemmas.List.{same_lists, places, take-take, drop-take, length-take, length-drop, length-take-le, get_or-take}
 use Rattle.std.proofs.lemmas.List.{take_min, take_rest}
 use Rattle.uefi_base.specs.Unaligned.{units_of}
 use Rattle.uefi_base.proofs.UnitsOfBytes.{units_by_place}
@@ -24,8 +24,7 @@ pub units_of_prefix : (bytes : List ℕ) (offset count written : ℕ) → record
     ≡ units_from offset (take (record_end offset count) bytes)
 units_of_prefix bytes offset count written within =
     sym (units_by_place.front (drop offset (take written bytes)) count)
-    ∙ ap units_of (sym (drop-take offset (2 * count) (take written bytes))
-    ∙ ap (drop offset) (take-take (record_end offset count) written bytes within))
+    ∙ ap units_of (same_lists _ _ (grind (arith, common_steps)) (λ k d within_both. grind (arith, places)))
 
 -- The units up to and with the first zero are a name.
 is_name : (units : List ℕ) (index : ℕ) → IsFirstAt units index → IsName (take (index + 1) units)
