@@ -47,8 +47,7 @@ node_prefix bytes t u n small prefix whole_header within fits =
       record {
         fits = record {
           device_type = omega (arith, first, small 0);
-          sub_type =
-              omega (arith, second, small 1);
+          sub_type = omega (arith, second, small 1);
           payload = omega (arith, sized);
         };
         encoded =
@@ -70,7 +69,6 @@ stated_prefix bytes n has made =
       node,
       record {
         fits = has.1;
-        encoded =
-            ap (take n) has.2.1 ∙ take_at (encoding node) rest n (sym whole);
+        encoded = ap (take n) has.2.1 ∙ take_at (encoding node) rest n (sym whole);
       },
     )

@@ -64,8 +64,7 @@ passed_end P bytes rest after n before fits so e =
       record {
         ended = record {
           each = AllByRecursion-push Fits before.0 n before.1.each fits;
-          end =
-              LastAlone-push P before.0 n before.1.none so;
+          end = LastAlone-push P before.0 n before.1.none so;
         };
         encoded = ap (take end) split ∙ take_at (joined nodes) after end sized;
       },

@@ -44,8 +44,7 @@ module _ (lender : MutBor (List ℕ)) (sizes : MemoryMapMeta) where
       → IfOk made (λ map. mut_meta map ≡ sizes) → IfOk made (WritesTo lender) → Returned made
   returned_map (Ok map) is_map ok bytes given same = record {
     accepted = ((λ _. is_map), (λ _. refl));
-    buffer =
-        bytes;
+    buffer = bytes;
     meta = given;
     refused = tt;
     same_buffer = same;
@@ -64,8 +63,7 @@ module _ (lender : MutBor (List ℕ)) (sizes : MemoryMapMeta) where
         );
         buffer = tt;
         meta = tt;
-        refused =
-            refl;
+        refused = refl;
         same_buffer = tt;
       })
 

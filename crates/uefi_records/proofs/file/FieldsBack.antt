@@ -104,8 +104,7 @@ file_system_info_back size fields unused rest seven fits small =
           ∙ (λ i. record {
             read_only = read_only i;
             volume_size = volume_size i;
-            free_space =
-                free_space i;
+            free_space = free_space i;
             block_size = block_size i;
           }),
     )

@@ -68,8 +68,7 @@ accepts bytes named offset alignment written index is at within room =
       record {
         before = omega (arith, whole);
         whole_units = omega (arith, rest);
-        name =
-            subst IsName same (is_name units index (first_zero_is units index found));
+        name = subst IsName same (is_name units index (first_zero_is units index found));
       },
       accepted_at offset alignment (length bytes) index (take written bytes) found room
           ∙ ap (λ name. accepted name) same,

@@ -17,8 +17,7 @@ FitName_of_text units text are_units =
       is_name = record {
         not_empty = text.not_empty;
         nul = text.nul;
-        others =
-            λ k before. (text.characters k before).not_nul;
+        others = λ k before. (text.characters k before).not_nul;
       };
       are_units = are_units;
     }
@@ -47,8 +46,7 @@ ends_with offset header name sized fit =
     record {
       before = omega (arith, whole);
       whole_units = grind (arith, common_steps, whole);
-      name =
-          subst IsName (sym (units_back offset header name sized fit.are_units)) fit.is_name;
+      name = subst IsName (sym (units_back offset header name sized fit.are_units)) fit.is_name;
     }
 
 -- The units of bytes are units, and those behind the offset of a name are the name.
@@ -63,6 +61,5 @@ pub FitName_from : (offset : ℕ) (bytes : List ℕ) → EndsWithName offset byt
 FitName_from offset bytes named small =
     record {
       is_name = named.name;
-      are_units =
-          AreUnits-units_of (drop offset bytes) (AreBytes-drop offset bytes small);
+      are_units = AreUnits-units_of (drop offset bytes) (AreBytes-drop offset bytes small);
     }

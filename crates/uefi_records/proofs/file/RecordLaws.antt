@@ -87,8 +87,7 @@ pub reads_back : ReadsBack
 reads_back = record {
   file_info = file_info_reads_back;
   file_system_info = file_system_info_reads_back;
-  volume_label =
-      volume_label_reads_back;
+  volume_label = volume_label_reads_back;
 }
 
 -- If a record is accepted, the written bytes cover its header.

@@ -69,8 +69,7 @@ pub made_stands_in : (bytes : List ℕ) (year nanosecond daylight : ℕ) (zone :
 made_stands_in bytes year nanosecond daylight zone small long year_is nanosecond_is zone_is daylight_is =
     subst (λ time. StandsIn time bytes) (λ i. record (time_in bytes) {
       year = sym year_is i;
-      nanosecond =
-          sym nanosecond_is i;
+      nanosecond = sym nanosecond_is i;
       zone = sym zone_is i;
       daylight = sym daylight_is i;
     }) (stands_in bytes small long)
