@@ -64,13 +64,12 @@ pub header_back : (bytes : List ℕ) → AreBytes bytes → file_name_offset ≤
     → take file_name_offset bytes ≡ file_header (size_in bytes) (file_fields bytes)
 unfolding file_header
 header_back bytes small within =
-    let size = then_range 0 8 bytes [] _ refl (number_range bytes 0 small (omega (arith, within))) in
-    let file_size = then_range 8 8 bytes _ _ size (number_range bytes 8 small (omega (arith, within))) in
-    let physical_size = then_range 16 8 bytes _ _ file_size (number_range bytes 16 small (omega (arith, within))) in
-    let create_time = then_range 24 16 bytes _ _ physical_size (time_range bytes 24 small (omega (arith, within))) in
-    let last_access_time = then_range 40 16 bytes _ _ create_time (time_range bytes 40 small (omega (arith, within))) in
-    let modification_time = then_range 56 16 bytes _ _ last_access_time
-    (time_range bytes 56 small (omega (arith, within))) in
+    let size = then_range 0 8 bytes [] _ refl (number_range bytes 0 small (omega arith)) in
+    let file_size = then_range 8 8 bytes _ _ size (number_range bytes 8 small (omega arith)) in
+    let physical_size = then_range 16 8 bytes _ _ file_size (number_range bytes 16 small (omega arith)) in
+    let create_time = then_range 24 16 bytes _ _ physical_size (time_range bytes 24 small (omega arith)) in
+    let last_access_time = then_range 40 16 bytes _ _ create_time (time_range bytes 40 small (omega arith)) in
+    let modification_time = then_range 56 16 bytes _ _ last_access_time (time_range bytes 56 small (omega arith)) in
     then_range 72 8 bytes _ _ modification_time (number_range bytes 72 small within)
 
 -- The unused bytes of a file system information record, written out.
