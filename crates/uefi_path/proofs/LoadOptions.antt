@@ -123,16 +123,15 @@ pub whole_load_option : (bytes units rest list optional : List ℕ) (n attribute
     × (bytes ≡ load_option_bytes (with_parts attributes units nodes list optional))
 unfolding load_option_bytes
 whole_load_option bytes units rest list optional n attributes nodes are =
-    let starts : list ≡ joined nodes ++ drop (length (joined nodes)) list =
-    prefix_and_rest (joined nodes) list are.first in
+    let starts = prefix_and_rest (joined nodes) list are.first in
     let sized : length list ≡ n = ap length are.list_is ∙ length-take-le n rest are.within in
     let parts : list ++ optional ≡ rest =
-    ap (λ l. l ++ optional) are.list_is ∙ ap (λ o. take n rest ++ o) are.optional_is ∙ take-append-drop n rest in (
+    (λ i. are.list_is i ++ are.optional_is i) ∙ take-append-drop n rest in (
       record {
         attributes = are.attributes_fit;
         description = are.nonzero;
         file_path = are.path;
-        file_path_list = subst (λ l. length l < 2 ^ 16) starts (subst (λ m. m < 2 ^ 16) (sym sized) are.length_fits);
+        file_path_list = rw (← starts, sized) are.length_fits;
       },
       rw (← starts, ← are.nul, parts, ← are.split, sized, are.length_is, are.attributes_is)
           (sym (numbers_and_rest bytes are.each are.room)),

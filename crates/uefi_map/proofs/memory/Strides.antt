@@ -77,19 +77,14 @@ pub first_room : (stride : ℕ) (bytes : List ℕ) → AreStrides stride bytes �
 first_room stride bytes strides some =
     omega (arith, strides.room, one_stride stride (length bytes) some strides.whole)
 
--- Without one stride, whole strides stay whole.
-whole_after : (stride size : ℕ) → 0 < stride → stride ≤ size → size % stride ≡ 0 → (size - stride) % stride ≡ 0
-whole_after stride size positive reaches whole =
-    grind (arith, rows, common_steps, div-eq-sub-div positive reaches)
-
 -- After the first stride, there are whole strides too.
 pub strides_after : (stride : ℕ) (bytes : List ℕ) → AreStrides stride bytes → 0 < length bytes
     → AreStrides stride (drop stride bytes)
 strides_after stride bytes strides some =
     let reaches = one_stride stride (length bytes) some strides.whole in
     let positive : 0 < stride = omega (arith, strides.room) in
-    let whole = whole_after stride (length bytes) positive reaches strides.whole in
-    record { room = strides.room; whole = ap (λ n. n % stride) (length-drop stride bytes) ∙ whole }
+    let whole = strides.whole in
+    record { room = strides.room; whole = grind (arith, rows, common_steps, div-eq-sub-div positive reaches) }
 
 -- The first of the descriptors that are left, and the others.
 pub next_left : (bytes : List ℕ) (stride : ℕ) → AreStrides stride bytes → 0 < length bytes

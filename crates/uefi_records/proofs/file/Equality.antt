@@ -17,8 +17,7 @@ pointwise-append [] [] more others same = refl
 pointwise-append [] (y ∷ ys) more others same = absurd (omega (arith, same))
 pointwise-append (x ∷ xs) [] more others same = absurd (omega (arith, same))
 pointwise-append (x ∷ xs) (y ∷ ys) more others same =
-    ap (λ rest. nat_eq x y && rest) (pointwise-append xs ys more others (omega (arith, same)))
-    ∙ sym (and_assoc (nat_eq x y) (pointwise nat_eq xs ys) (pointwise nat_eq more others))
+    rw (pointwise-append xs ys more others (omega (arith, same)), and_assoc)
 
 -- Two file information records are equal exactly if their headers and the units of their names are.
 pub equal_if : (one other : FileInfo) → pointwise nat_eq (file_info_key one) (file_info_key other)
