@@ -27,14 +27,7 @@ file_info_back size fields rest fits small =
     let modification_time = times_read_back.written fields.modification_time [] fits.modification_time in
     let attribute = from_le_bytes-to_le_bytes_8 fields.attribute fits.attribute in (
       from_le_bytes-to_le_bytes_8 size small,
-      λ i. record {
-        file_size = file_size i;
-        physical_size = physical_size i;
-        create_time = create_time i;
-        last_access_time = last_access_time i;
-        modification_time = modification_time i;
-        attribute = attribute i;
-      },
+      rw (file_size, physical_size, create_time, last_access_time, modification_time, attribute),
     )
 
 pub length-file_header : (size : ℕ) (fields : FileFields) → length (file_header size fields) ≡ file_name_offset
