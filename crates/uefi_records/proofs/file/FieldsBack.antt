@@ -93,10 +93,5 @@ file_system_info_back size fields unused rest seven fits small =
     let block_size = from_le_bytes-to_le_bytes_4 fields.block_size fits.block_size in (
       from_le_bytes-to_le_bytes_8 size small,
       ap (λ u. file_system_fields (file_system_header size fields u ++ rest)) (unused_items unused seven)
-          ∙ (λ i. record {
-            read_only = read_only i;
-            volume_size = volume_size i;
-            free_space = free_space i;
-            block_size = block_size i;
-          }),
+          ∙ rw (read_only, volume_size, free_space, block_size),
     )

@@ -82,11 +82,7 @@ volume_label_reads_back label rest written fit covers room =
     name_accepted lone_label_offset volume_label_alignment [] label rest written refl fit covers room
 
 pub reads_back : ReadsBack
-reads_back = record {
-  file_info = file_info_reads_back;
-  file_system_info = file_system_info_reads_back;
-  volume_label = volume_label_reads_back;
-}
+reads_back = assumption (file_info_reads_back, file_system_info_reads_back, volume_label_reads_back)
 
 -- If a record is accepted, the written bytes cover its header.
 covers_of : (offset alignment written : ℕ) (buffer name : List ℕ)
