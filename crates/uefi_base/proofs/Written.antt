@@ -63,19 +63,8 @@ module _ {E : Type 0} {part old new : List ℕ} {size : ℕ} {Is Fits : Type 0} 
       → IsOk made ↔ IsOk written → Made view part old new Is Fits Fails made
   made_of view (Ok end) (Ok v) wrote seen ok =
       let fits : Fits = wrote.fits.0 refl in
-      record {
-        after = wrote.put;
-        seen = (
-          seen ∙ part_put part old new end size
-              (sized wrote.is fits) wrote.end wrote.put,
-          wrote.is,
-          fits,
-        );
-        fails = tt;
-        fits = wrote.fits;
-      }
+      assumption (seen ∙ part_put part old new end size (sized wrote.is fits) wrote.end wrote.put)
   made_of view (Ok end) (Err error) wrote seen ok = let none = ok.1 refl in cc
   made_of view (Err error) (Ok v) wrote seen ok = let none = ok.0 refl in cc
   made_of view (Err error) (Err other) wrote seen ok =
-      let same : other ≡ error = cc in record
-      { after = wrote.unchanged; seen = tt; fails = subst Fails (sym same) wrote.fails; fits = wrote.fits }
+      let same : other ≡ error = cc in assumption (subst Fails (sym same) wrote.fails)

@@ -1,14 +1,11 @@
 -- Equality of joined lists, part by part.
+use mathlib.Core.Bool.{and_assoc}
 use Rattle.std.proofs.Common.{◌≡◌, ℕ, List, [], ◌∷◌, ◌++◌, length, Bool, true, false, refl, sym, ◌∙◌, ap, arith}
 use Rattle.std.specs.Prelude.{◌&&◌, nat_eq}
 use Rattle.std.specs.Cmp.Lexicographic.{pointwise}
 use Rattle.uefi_records.specs.declared.file.file_info.FileInfo.{FileInfo}
 use Rattle.uefi_records.specs.file.Views.{stated_size, file_fields_of, file_header_of, file_info_key, file_name_of}
 use Rattle.uefi_records.proofs.file.FieldsBack.{length-file_header}
-
-and_assoc : (a b c : Bool) → (a && b) && c ≡ a && (b && c)
-and_assoc true b c = refl
-and_assoc false b c = refl
 
 -- Parts of the same length.
 pub pointwise-append : (xs ys more others : List ℕ) → length xs ≡ length ys → pointwise nat_eq (xs ++ more)
