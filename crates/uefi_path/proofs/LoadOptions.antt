@@ -154,9 +154,9 @@ says bytes option is e = record {
 }
 
 -- The rest after a description is the file path list and the data.
-rest_is : (bytes rest d : List ℕ) (option : LoadOption) → IsLoadOption option → Says bytes option → AreNonzeroUnits d
-    → drop 6 bytes ≡ unit_bytes (with_nul d) ++ rest → rest ≡ file_path_list option ++ option.optional_data
-rest_is bytes rest d option is said fits split =
+rest_is : (bytes rest : List ℕ) (option : LoadOption) → IsLoadOption option → Says bytes option → HasRest bytes rest
+    → rest ≡ file_path_list option ++ option.optional_data
+rest_is bytes rest option is said (d, room, (fits, split)) =
     (one_description d option.description rest (file_path_list option ++ option.optional_data) fits is.description
     (sym split ∙ said.rest)).1
 
@@ -170,19 +170,13 @@ no_load_option bytes NotNulTerminated fault (option, is, e) =
       file_path_list option ++ option.optional_data,
       (is.description, (says bytes option is e).rest),
     )
-no_load_option bytes FilePathListTooLong (rest, (d, room, (fits, split)), less) (option, is, e) =
+no_load_option bytes FilePathListTooLong (rest, has_rest, less) (option, is, e) =
     let said = says bytes option is e in
-    let same = rest_is bytes rest d option is said fits split in
-    absurd (omega (
-      arith,
-      less,
-      said.list_length,
-      ap length same,
-      length-append (file_path_list option) option.optional_data,
-    ))
-no_load_option bytes (FilePath error) (rest, (d, room, (fits, split)), within, none) (option, is, e) =
+    let same = rest_is bytes rest option is said has_rest in
+    absurd (omega (arith, ap length same, length-append (file_path_list option) option.optional_data))
+no_load_option bytes (FilePath error) (rest, has_rest, within, none) (option, is, e) =
     let said = says bytes option is e in
-    let same = rest_is bytes rest d option is said fits split in
+    let same = rest_is bytes rest option is said has_rest in
     none (
       option.file_path,
       is.file_path,
