@@ -1,7 +1,7 @@
 -- The units of bytes as the lanes of a vector, and the search through a block of them.
 use Rattle.std.proofs.Common.{◌≡◌, ℕ, zero, suc, ◌+◌, ◌*◌, ◌/◌, ◌%◌, ◌<◌, ◌≤◌, List, [], ◌∷◌, ◌++◌, length, drop, ap}
-use Rattle.std.proofs.Common.{sym, refl, ◌∙◌, arith, cond, Bool, true, false, not, get_or, w8, Fits}
-use Rattle.std.specs.Prelude.{Option, Some}
+use Rattle.std.proofs.Common.{refl, ◌∙◌, arith, Bool, not, get_or, w8, Fits}
+use Rattle.std.specs.Prelude.{Some}
 use Rattle.std.specs.List.{prefix_len, position_from, position_or_len}
 use Rattle.std.proofs.lemmas.Bool.Decides.{nat_tests}
 use Rattle.std.proofs.lemmas.Grind.{common_steps}

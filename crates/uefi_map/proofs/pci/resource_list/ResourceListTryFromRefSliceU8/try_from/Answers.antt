@@ -1,5 +1,4 @@
-use Rattle.std.proofs.Common.{rules, [], ◌∷◌, ◌++◌, sym, subst, Err, ap, ◌∙◌, arith}
-use Rattle.std.proofs.lemmas.Grind.{common_steps}
+use Rattle.std.proofs.Common.{rules, [], ◌∷◌, ◌++◌, sym, subst, Err, ap, ◌∙◌}
 use Rattle.std.proofs.lemmas.Result.{err_from_is_err_and}
 use Rattle.uefi_map.specs.pci.ResourceList.{BeginWith, end_tag, HaveOneList, ReadsList}
 use Rattle.uefi_map.specs.pci.Views.{resources_of, resources_in}
