@@ -29,8 +29,8 @@ equal_files = record {
   keys = λ one other. (
     λ same.
         let bytes = sym (header_in_key one) ∙ ap (take file_name_offset) same ∙ header_in_key other in (
-          in_both 8 size_in size_stands file_name_offset (file_info_view one) (file_info_view other) (omega arith) bytes,
-          in_both file_name_offset file_fields file_fields_stand file_name_offset (file_info_view one) (file_info_view other) (omega arith) bytes,
+          in_both size_stands file_name_offset (file_info_view one) (file_info_view other) (omega arith) bytes,
+          in_both file_fields_stand file_name_offset (file_info_view one) (file_info_view other) (omega arith) bytes,
           sym (name_in_key one) ∙ ap (drop file_name_offset) same ∙ name_in_key other,
         ),
     λ same i. file_header (same.0 i) (same.1 i) ++ same.2 i,
