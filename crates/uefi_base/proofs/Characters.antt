@@ -1,6 +1,6 @@
 -- The characters of text, their units and their bytes in UTF-8.
 use Rattle.std.proofs.Common.{◌≡◌, ℕ, zero, suc, ◌+◌, ◌<◌, ◌≤◌, true, Option, None, Some, List, [], ◌∷◌, ◌++◌, length}
-use Rattle.std.proofs.Common.{get_or, take, sym, ◌∙◌, ap, arith, ⊎_elim}
+use Rattle.std.proofs.Common.{get_or, take, sym, arith, ⊎_elim}
 use Rattle.std.specs.List.{AllWithin, HoldsAt}
 use Rattle.std.specs.Option.{MatchOption}
 use Rattle.std.specs.Str.{chars, IsUtf8}
@@ -15,8 +15,7 @@ use Rattle.uefi_base.specs.private.Search.{IsFirstWithoutUnit}
 pub encodes_more : (cs : List ℕ) (i : ℕ) → i < length cs
     → encodes (take (i + 1) cs) ≡ encodes (take i cs) ++ encode (get_or cs i 0)
 encodes_more cs i within =
-    ap encodes (take_more cs i 0 within) ∙ encodes-append (take i cs) (get_or cs i 0 ∷ [])
-    ∙ ap (λ bytes. encodes (take i cs) ++ bytes) (append-nil (encode (get_or cs i 0)))
+    rw (take_more cs i 0 within) (simp (encodes-append, append-nil))
 
 -- Each of the characters that make text has a unit of its own.
 pub has_unit : (cs : List ℕ) (i c : ℕ) → MakeUcs2Text cs → (i < length cs) × (c ≡ get_or cs i c) → c ≤ 0xffff
@@ -36,8 +35,8 @@ scalar_at (c ∷ cs) zero all within = (and_parts (scalar c) (scalars cs) all).0
 scalar_at (c ∷ cs) (suc k) all within = scalar_at cs k (and_parts (scalar c) (scalars cs) all).1 (omega arith)
 
 -- Characters that make text are text with a NUL after them.
-pub IsUcs2Text-chars : (bytes : List ℕ) → IsUtf8 bytes → MakeUcs2Text (chars bytes) → IsUcs2Text (chars bytes ++ 0 ∷ [])
-IsUcs2Text-chars bytes utf8 make =
+pub text_of_chars : (bytes : List ℕ) → IsUtf8 bytes → MakeUcs2Text (chars bytes) → IsUcs2Text (chars bytes ++ 0 ∷ [])
+text_of_chars bytes utf8 make =
     let whole : length (chars bytes ++ 0 ∷ []) ≡ length (chars bytes) + 1 = length_push (chars bytes) 0 in
     let short = make.short in
     record {
@@ -45,8 +44,7 @@ IsUcs2Text-chars bytes utf8 make =
       not_empty = omega arith;
       nul = get_or_push (chars bytes) 0 0 _ (omega arith);
       characters = λ k before.
-          let same : get_or (chars bytes ++ 0 ∷ []) k 0 ≡ get_or (chars bytes) k 0 =
-          get_or_append_left (chars bytes) (0 ∷ []) 0 k (omega arith) in
+          let same = get_or_append_left (chars bytes) (0 ∷ []) 0 k (omega arith) in
           let unit = make.have_units k (omega arith) in
           let sound : ¬ IsSurrogate (get_or (chars bytes) k 0) =
           no_surrogate _ (scalar_at (chars bytes) k (scalars-chars bytes utf8) (omega arith)) in

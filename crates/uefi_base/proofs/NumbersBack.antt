@@ -1,9 +1,8 @@
 -- Numbers and their bytes.
-use Rattle.std.proofs.Common.{◌≡◌, ℕ, zero, suc, ◌+◌, ◌-◌, ◌*◌, ◌<◌, ◌≤◌, List, [], ◌∷◌, ◌++◌, length, get_or, take}
-use Rattle.std.proofs.Common.{drop, refl, ◌∙◌, ap, arith, append_assoc, lit<}
+use Rattle.std.proofs.Common.{◌≡◌, ℕ, zero, suc, ◌+◌, ◌*◌, ◌<◌, ◌≤◌, List, [], ◌∷◌, ◌++◌, length, get_or}
+use Rattle.std.proofs.Common.{refl, ◌∙◌, ap, arith, lit<}
 use Rattle.std.specs.Int.{w16, w32, w64, from_le_bytes}
 use Rattle.std.specs.Prelude.{slice_range}
-use Rattle.std.proofs.lemmas.List.{take_at, drop_at}
 use Rattle.std.proofs.lemmas.Nat.{le_bytes_2, le_bytes_4, le_bytes_8, from_le_bytes-to_le_bytes_2}
 use Rattle.std.proofs.lemmas.Nat.{from_le_bytes-to_le_bytes_4, from_le_bytes-to_le_bytes_8}
 use Rattle.std.proofs.lemmas.Grind.{common_steps}
@@ -13,11 +12,7 @@ use Rattle.uefi_base.specs.Laws.{WrittenNumbersRead, ReadNumbersWrite, NumbersRe
 -- The range that a part of joined bytes takes is the part.
 pub range-append : (before part after : List ℕ) (n : ℕ) → length part ≡ n
     → slice_range (before ++ part ++ after) (length before) (length before + n) ≡ part
-range-append before part after n sized =
-    let width : length before + n - length before ≡ n = omega arith in
-    ap (λ k. take k (drop (length before) (before ++ part ++ after))) width
-    ∙ ap (take n) (ap (drop (length before)) (append_assoc before part after) ∙ drop_at before (part ++ after)
-    (length before) refl) ∙ take_at part after n sized
+range-append before part after n sized = grind (arith, common_steps)
 
 -- A range of bytes is bytes.
 pub AreBytes-range : (bytes : List ℕ) (offset n : ℕ) → AreBytes bytes → (k : ℕ)

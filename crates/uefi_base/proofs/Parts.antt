@@ -1,28 +1,16 @@
 -- Parts that are written into a buffer one after another.
-use Rattle.std.proofs.Common.{◌≡◌, ℕ, ◌+◌, ◌≤◌, List, [], ◌++◌, length, take, drop, true, refl}
-use Rattle.std.proofs.Common.{sym, ◌∙◌, ap, arith, append_assoc}
+use Rattle.std.proofs.Common.{◌≡◌, ℕ, ◌+◌, ◌≤◌, List, [], ◌++◌, length, take, drop, true, refl, ◌∙◌, ap, arith}
 use Rattle.std.specs.Prelude.{nat_le}
 use Rattle.std.proofs.lemmas.Bool.Decides.{nat_tests}
-use Rattle.std.proofs.lemmas.List.{take_at, take-append-drop, drop-drop, length-append, length-drop}
-use Rattle.std.proofs.lemmas.List.{length-take-le}
-use Rattle.std.proofs.lemmas.Slice.{drop-append-drop}
+use Rattle.std.proofs.lemmas.Grind.{common_steps}
+use Rattle.std.proofs.lemmas.List.{same_lists, places, length-append}
 use Rattle.uefi_base.specs.Buffer.{put_at, put_prefix}
 
 -- Writing a part and then one that starts at its end is writing both as one part.
 pub put_next : (offset : ℕ) (part more bytes : List ℕ) → offset + length part ≤ length bytes
     → put_at (offset + length part) more (put_at offset part bytes) ≡ put_at offset (part ++ more) bytes
 put_next offset part more bytes within =
-    let end : ℕ = offset + length part in
-    let prefix : List ℕ = take offset bytes ++ part in
-    let sized : length (take offset bytes ++ part) ≡ offset + length part = length-append (take offset bytes) part
-    ∙ ap (λ n. n + length part) (length-take-le offset bytes (omega arith)) in
-    let before : take end (put_at offset part bytes) ≡ prefix = take_at prefix (drop end bytes) end sized in
-    let after : drop (end + length more) (put_at offset part bytes) ≡ drop (end + length more) bytes =
-    drop-append-drop end bytes prefix (end + length more) (omega arith) sized in
-    let last : end + length more ≡ offset + length (part ++ more) = omega (arith, length-append part more) in
-    ap (λ b. b ++ more ++ drop (end + length more) (put_at offset part bytes)) before
-    ∙ ap (λ r. prefix ++ more ++ r) (after ∙ ap (λ n. drop n bytes) last)
-    ∙ ap (λ b. b ++ drop (offset + length (part ++ more)) bytes) (append_assoc (take offset bytes) part more)
+    same_lists _ _ (grind (arith, common_steps)) (λ k d within_both. grind (arith, places))
 
 -- Writing a part at offset 0 replaces the first bytes.
 put_at-zero : (part bytes : List ℕ) → put_at 0 part bytes ≡ put_prefix part bytes
@@ -38,11 +26,8 @@ pub put_more : (offset : ℕ) (done part value bytes now next : List ℕ) → no
     → length done ≡ offset → offset ≤ length bytes → part ≡ value → next ≡ put_at offset part now
     → next ≡ put_prefix (done ++ value) bytes
 put_more offset done part value bytes now next so_far sized within known is =
-    let plain : offset ≡ 0 + length done = omega (arith, sized) in
-    is ∙ ap (λ b. put_at offset part b) (so_far ∙ sym (put_at-zero done bytes))
-    ∙ ap (λ n. put_at n part (put_at 0 done bytes)) plain
-    ∙ put_next 0 done part bytes (omega (arith, sized, within)) ∙ put_at-zero (done ++ part) bytes
-    ∙ ap (λ p. put_prefix (done ++ p) bytes) known
+    is ∙ (λ i. put_at offset (known i) (so_far i))
+    ∙ same_lists _ _ (grind (arith, common_steps)) (λ k d within_both. grind (arith, places))
 
 -- A buffer, whose room is tested once for all parts, with the first ones written; then one part more, or bytes that
 -- are left as they were.
@@ -68,16 +53,10 @@ then_put {room} {offset} {done} {part} {value} {old} {now} {next} so_far n sized
 pub then_kept : {room offset : ℕ} {done old now : List ℕ} → HasPut room offset done old now → (n : ℕ)
     → nat_le (offset + n) room ≡ true → HasPut room (offset + n) (done ++ take n (drop offset old)) old now
 then_kept {room} {offset} {done} {old} {now} so_far n before =
-    let rest : List ℕ = drop offset old in
     let reaches : offset + n ≤ length old = grind (arith, nat_tests, before, so_far.within) in
-    let sized : length (done ++ take n rest) ≡ offset + n = length-append done (take n rest)
-    ∙ (λ i. so_far.sized i + length-take-le n rest (omega (arith, reaches, length-drop offset old)) i) in
-    let cut : drop n rest ≡ drop (length (done ++ take n rest)) old = drop-drop n offset old
-    ∙ ap (λ m. drop m old) (sym sized) in
+    let begun = so_far.sized in
     record {
       within = so_far.within;
-      sized = sized;
-      is = so_far.is ∙ (λ i. done ++ drop (so_far.sized i) old)
-          ∙ ap (λ r. done ++ r) (sym (take-append-drop n rest) ∙ ap (λ r. take n rest ++ r) cut)
-          ∙ sym (append_assoc done (take n rest) (drop (length (done ++ take n rest)) old));
+      sized = grind (arith, common_steps);
+      is = so_far.is ∙ same_lists _ _ (grind (arith, common_steps)) (λ k d within_both. grind (arith, places));
     }

@@ -2,16 +2,15 @@
 use Rattle.std.proofs.Common.{◌≡◌, ℕ, zero, suc, ◌+◌, ◌-◌, ◌≤◌, List, [], ◌∷◌, ◌++◌, length, get_or, take, drop, sym}
 use Rattle.std.proofs.Common.{◌∙◌, ap, arith}
 use Rattle.std.specs.Prelude.{slice_range}
-use Rattle.std.proofs.lemmas.List.{take-take, drop-take, drop-drop}
+use Rattle.std.proofs.lemmas.Grind.{common_steps}
+use Rattle.std.proofs.lemmas.List.{drop-drop, same_lists, places}
 use Rattle.std.proofs.Math.Seq.{drop-cons}
 
 -- A range within a prefix.
 pub range-take : {A : Type 0} (n : ℕ) (xs : List A) (from to : ℕ) → from ≤ to → to ≤ n
     → slice_range (take n xs) from to ≡ slice_range xs from to
 range-take n xs from to ordered within =
-    let whole : n ≡ from + (n - from) = omega arith in
-    ap (λ m. take (to - from) (drop from (take m xs))) whole ∙ ap (take (to - from)) (drop-take from (n - from) xs)
-    ∙ take-take (to - from) (n - from) (drop from xs) (omega arith)
+    same_lists _ _ (grind (arith, common_steps)) (λ k d within_both. grind (arith, places))
 
 -- Lists that agree on their first n items have the same ranges there.
 pub range-same_prefix : {A : Type 0} (n : ℕ) (one other : List A) (from to : ℕ) → from ≤ to → to ≤ n

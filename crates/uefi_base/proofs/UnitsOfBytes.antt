@@ -1,6 +1,6 @@
 -- The units of bytes, by their indices.
 use Rattle.std.proofs.Common.{◌≡◌, ℕ, zero, suc, ◌+◌, ◌*◌, ◌/◌, ◌<◌, List, [], ◌∷◌, length, get_or, take, drop, refl}
-use Rattle.std.proofs.Common.{sym, ◌∙◌, ap, arith}
+use Rattle.std.proofs.Common.{ap, arith}
 use Rattle.std.proofs.lemmas.Grind.{common_steps}
 use Rattle.uefi_base.specs.LittleEndian.{u16_at}
 use Rattle.uefi_base.specs.Unaligned.{units_of}
@@ -32,10 +32,7 @@ two_bytes_of_unit (low ∷ high ∷ rest) (suc k) within = rw (twice k) (two_byt
 -- A unit is the number at twice its index.
 pub unit_at : (bytes : List ℕ) (k : ℕ) → k < length (units_of bytes)
     → get_or (units_of bytes) k 0 ≡ u16_at bytes (2 * k)
-unit_at bytes k within =
-    let high : suc (2 * k) ≡ 2 * k + 1 = omega arith in
-    two_bytes_of_unit bytes k within ∙ ap (λ i. get_or bytes (2 * k) 0 + 256 * get_or bytes i 0) high
-    ∙ sym (two_bytes bytes (2 * k))
+unit_at bytes k within = grind (arith, two_bytes_of_unit bytes k within, two_bytes bytes (2 * k))
 
 -- The units of the first 2 k bytes are the first k units.
 units_of-take : (bytes : List ℕ) (k : ℕ) → units_of (take (2 * k) bytes) ≡ take k (units_of bytes)
@@ -54,9 +51,4 @@ units_of-drop (low ∷ high ∷ rest) (suc k) = rw (twice k) (units_of-drop rest
 
 -- All of this, as the law states it.
 pub units_by_place : UnitsByPlace
-units_by_place = record {
-  counted = half_as_many_units;
-  each = unit_at;
-  front = units_of-take;
-  rest = units_of-drop;
-}
+units_by_place = assumption (half_as_many_units, unit_at, units_of-take, units_of-drop)

@@ -27,6 +27,7 @@ pub fn put(buffer: &mut [u8], offset: usize, part: &[u8])
 }
 
 /// Copies `units` into `buffer` at `offset`, two bytes each, little-endian.
+#[tactic(auto, using(crate::proofs::UnitsPut::units_put))]
 pub fn put_units(buffer: &mut [u8], offset: usize, units: &[u16])
     requires { offset + 2 * length units.now ≤ length buffer.old }
     ensures { buffer.new ≡ put_at offset (unit_bytes units.now) buffer.old }

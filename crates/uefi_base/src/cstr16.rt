@@ -101,6 +101,7 @@ impl<'a> CStr16<'a> {
     /// # Errors
     ///
     /// [`AllocError`] if an allocation fails.
+    #[tactic(auto, using(crate::proofs::Characters::encodes_more))]
     pub fn to_string<A: Allocator>(&self, alloc: A) -> Result<String<A>, AllocError>
         ensures { IfOk result
             (λ text. string_bytes text ≡ encode_utf8_all (characters_of (text_units self.now))) }

@@ -33,6 +33,7 @@ impl<A: Allocator> CString16<A> {
     ///   [`InteriorNul`](FromStrError::InteriorNul) if it is U+0000.
     /// - [`Memory`](FromStrError::Memory) if an allocation fails. Nothing is allocated before the
     ///   other errors are ruled out.
+    #[tactic(auto, using(crate::proofs::Characters::text_of_chars))]
     pub fn from_str(alloc: A, text: &str) -> Result<CString16<A>, FromStrError>
         ensures text { IfOk result (λ owned. owned_units owned ≡ chars text.now ++ 0 ∷ []) }
         ensures accepted { IsOk result → MakeUcs2Text (chars text.now) }
@@ -95,6 +96,7 @@ fn fault_of(text: &str) -> Option<FromStrError>
 }
 
 /// Returns the number of characters.
+#[tactic(auto, using(std::proofs::lemmas::Str::chars_from_encodes))]
 fn char_count(text: &str) -> usize
     ensures { result ≡ length (chars text.now) }
 {

@@ -60,6 +60,7 @@ struct HexPair(u8, u8);
 impl fmt::Display for HexPair {
     ghost output = { λ pair. Some (hex_byte pair.0 ++ hex_byte pair.1) };
 
+    #[tactic(auto, using(std::proofs::lemmas::Fmt::hex_byte))]
     fn fmt<W: fmt::Write>(&self, f: &mut fmt::Formatter<W>) -> fmt::Result {
         let HexPair(first, second) = *self;
         write!(f, "{first:02x}{second:02x}")

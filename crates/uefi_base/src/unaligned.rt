@@ -78,6 +78,7 @@ impl<'a> UnalignedSlice<'a> {
     }
 
     /// Returns the unit at `index`, or `None` if there are at most `index` units.
+    #[tactic(auto, using(crate::proofs::UnitsOfBytes::half_as_many_units, std::proofs::lemmas::Option::slice_get_cases))]
     pub fn get(&self, index: usize) -> Option<u16>
         ensures { result ≡ slice_get (slice_units self.now) index }
     {
@@ -89,6 +90,7 @@ impl<'a> UnalignedSlice<'a> {
     }
 
     /// Returns the unit at an index that is known to be in bounds.
+    #[tactic(auto, using(crate::proofs::UnitsOfBytes::half_as_many_units, crate::proofs::UnitsOfBytes::unit_at))]
     fn unit(&self, index: usize) -> u16
         requires { index < length (slice_units self.now) }
         ensures { result ≡ slice_index (slice_units self.now) index }

@@ -1,5 +1,5 @@
 -- The worked rows of memory maps hold.
-use Rattle.std.proofs.Common.{zero, suc, refl, arith, lit<, lit≤}
+use Rattle.std.proofs.Common.{rules, zero, suc, arith, lit<, lit≤}
 use Rattle.uefi_map.specs.memory.Descriptor.{descriptor_in, encoding}
 use Rattle.uefi_map.specs.memory.Map.{AreSorted}
 use Rattle.uefi_map.specs.rows.Maps.{sizes, level_map, FirmwareMap, WrittenDescriptor, NoMaps, Orders, Numbers}
@@ -7,29 +7,14 @@ use Rattle.uefi_map.specs.rows.Maps.{RowsHold}
 
 firmware_map : FirmwareMap
 unfolding descriptor_in
-firmware_map = record {
-  map = record { room = lit≤ tt; aligned = refl; whole = refl; within = lit≤ tt };
-  sane = record { room = lit≤ tt; some = lit≤ tt; not_huge = lit≤ tt };
-  count = refl;
-  second = refl;
-  eleventh = refl;
-  entries = refl;
-}
+firmware_map = search rules
 
 written_descriptor : WrittenDescriptor
 unfolding encoding
-written_descriptor = record { bytes = refl; before = refl; written = refl; behind = refl }
+written_descriptor = assumption
 
 no_maps : NoMaps
-no_maps = record {
-  no_stride = λ map. absurd (omega (arith, map.room));
-  short_stride = λ map. absurd (omega (arith, map.room));
-  odd_stride = λ map. absurd (omega (arith, map.aligned));
-  part_of_stride = λ map. absurd (omega (arith, map.whole));
-  too_long = λ map. absurd (omega (arith, map.within));
-  empty = record { room = lit≤ tt; aligned = refl; whole = refl; within = lit≤ tt };
-  empty_insane = λ sane. absurd (omega (arith, sane.some));
-}
+no_maps = grind arith
 
 orders : Orders
 unfolding descriptor_in encoding
@@ -40,16 +25,7 @@ orders = record { falling = λ sorted. absurd (omega (arith, sorted 0 (lit< tt))
     level (suc i) within = absurd (omega (arith, within))
 
 numbers : Numbers
-numbers = record {
-  first_types = (refl, refl, refl, refl, refl);
-  middle_types = (refl, refl, refl, refl, refl);
-  last_types = (refl, refl, refl, refl, refl);
-  attributes = (refl, refl, refl, refl, refl);
-  named = refl;
-  unnamed = refl;
-  version = refl;
-  texts = (refl, refl);
-}
+numbers = assumption
 
 pub rows_hold : RowsHold
 rows_hold = (firmware_map, written_descriptor, no_maps, orders, numbers)

@@ -1,9 +1,9 @@
 -- The search for the end of a description.
 use Rattle.std.proofs.Common.{◌≡◌, ℕ, zero, suc, ◌+◌, ◌-◌, ◌%◌, ◌<◌, ◌≤◌, ◌^◌, List, [], ◌∷◌, ◌++◌, length, take, drop}
-use Rattle.std.proofs.Common.{refl, sym, ◌∙◌, ap, subst, arith, length-append, take-append-drop, get_or, lit<}
-use Rattle.std.proofs.Common.{Bool, true, false, cond, Option, Some, None, ltb}
-use Rattle.std.proofs.lemmas.Bool.{ltb-false, ltb-true}
-use Rattle.std.proofs.lemmas.List.{take_at, length-take-le, get_or-append-add}
+use Rattle.std.proofs.Common.{refl, sym, ◌∙◌, ap, subst, arith, take-append-drop, get_or, lit<}
+use Rattle.std.proofs.Common.{cond, Option, Some, None, ltb}
+use Rattle.std.proofs.lemmas.Bool.Decides.{nat_tests}
+use Rattle.std.proofs.lemmas.List.{length-take-le, get_or-append-add}
 use Rattle.std.proofs.lemmas.Nat.{le_bytes_2}
 use Rattle.std.proofs.lemmas.Grind.{common_steps}
 use Rattle.std.specs.Int.{w16, from_le_bytes}
@@ -14,6 +14,7 @@ use Rattle.uefi_base.proofs.UnitsBack.{units_read_back}
 use Rattle.uefi_path.specs.LoadOption.{AreNonzeroUnits, HasDescription, with_nul}
 use Rattle.uefi_path.specs.Path.{all_but_last}
 use Rattle.uefi_path.proofs.LoadOptions.{same_unit}
+use Rattle.uefi_path.proofs.Passing.{AllByRecursion-push, flat_map-push, front_is}
 
 -- The search has passed some units, none of which is zero, and is at the rest.
 pub record HasPassed (bytes rest : List ℕ) : Type 0 where
@@ -24,57 +25,32 @@ pub record HasPassed (bytes rest : List ℕ) : Type 0 where
 pub passed_none : (bytes : List ℕ) → HasPassed bytes bytes
 passed_none bytes = record { units = []; nonzero = tt; split = refl }
 
--- One more unit that isn't zero.
-AreNonzeroUnits-push : (us : List ℕ) (u : ℕ) → AreNonzeroUnits us → 0 < u → u < 2 ^ 16 → AreNonzeroUnits (us ++ u ∷ [])
-AreNonzeroUnits-push [] u all positive fits = ((positive, fits), tt)
-AreNonzeroUnits-push (v ∷ us) u all positive fits = (all.0, AreNonzeroUnits-push us u all.1 positive fits)
-
-unit_bytes-push : (us : List ℕ) (u : ℕ) (s : List ℕ) → unit_bytes (us ++ u ∷ []) ++ s ≡ unit_bytes us ++ (u16_bytes u ++ s)
-unit_bytes-push [] u s = refl
-unit_bytes-push (v ∷ us) u s = ap (λ t. u16_bytes v ++ t) (unit_bytes-push us u s)
-
--- A unit that was read has its bytes, and none is read from fewer than two.
-guard_some : {A : Type 0} (b : Bool) (r : Option A) (y : A) → cond b None r ≡ Some y → (b ≡ false) × (r ≡ Some y)
-guard_some true r y e = absurd cc
-guard_some false r y e = (refl, e)
-
-guard_none : {A : Type 0} (b : Bool) (y : A) → cond b None (Some y) ≡ None → b ≡ true
-guard_none true y e = refl
-guard_none false y e = absurd cc
-
-abbrev some : {A : Type 0} → A → Option A
-some x = Some x
-
-some_is : {A : Type 0} (x y : A) → some x ≡ some y → x ≡ y
-some_is x y e = cc
-
 -- A part of bytes is bytes.
 AreBytes-take : (n : ℕ) (bytes : List ℕ) → AreBytes bytes → (k : ℕ) → get_or (take n bytes) k 0 < 256
 AreBytes-take n bytes each k = grind (arith, common_steps, each)
 
-AreBytes-rest : (x y : List ℕ) → AreBytes (x ++ y) → AreBytes y
-AreBytes-rest x y each k = subst (λ n. n < 256) (get_or-append-add x y k 0) (each (length x + k))
+rest_each : (bytes rest : List ℕ) → AreBytes bytes → HasPassed bytes rest → AreBytes rest
+rest_each bytes rest each before k =
+    let passed : List ℕ = unit_bytes before.units in
+    rw (before.split, get_or-append-add passed rest k 0) at (each (length passed + k))
 
-pub rest_each : (bytes rest : List ℕ) → AreBytes bytes → HasPassed bytes rest → AreBytes rest
-rest_each bytes rest each before = AreBytes-rest (unit_bytes before.units) rest (subst AreBytes before.split each)
+-- A unit that was read has its bytes, and none is read from fewer than two.
+read_some : (long least n u : ℕ) (rest after : List ℕ)
+    → ◌≡◌ {A = Option (ℕ × List ℕ)} (Some (u, after)) (cond (ltb long least) None (Some (n, rest)))
+    → (least ≤ long) × (u ≡ n) × (after ≡ rest)
+read_some long least n u rest after e = grind (arith, nat_tests)
 
 pub unit_read : (rest after : List ℕ) (u : ℕ) → AreBytes rest → Some (u, after) ≡ split_number w16 rest
     → (rest ≡ u16_bytes u ++ after) × (u < 2 ^ 16)
 unit_read rest after u each e =
-    let read = guard_some (ltb (length rest) 2) (Some (from_le_bytes w16 (take 2 rest), drop 2 rest)) (u, after) (sym e) in
-    let long : 2 ≤ length rest = ltb-false _ _ read.0 in
-    let is = some_is (from_le_bytes w16 (take 2 rest), drop 2 rest) (u, after) read.1 in
-    let number : from_le_bytes w16 (take 2 rest) ≡ u = ap (λ (q : ℕ × List ℕ). q.0) is in
-    let others : drop 2 rest ≡ after = ap (λ (q : ℕ × List ℕ). q.1) is in
+    let read = read_some (length rest) 2 (from_le_bytes w16 (take 2 rest)) u (drop 2 rest) after e in
+    let long : 2 ≤ length rest = read.0 in
+    let number : u ≡ from_le_bytes w16 (take 2 rest) = read.1 in
     let part : u16_bytes u ≡ take 2 rest =
-    le_bytes_2 (take 2 rest) u (length-take-le 2 rest long) (AreBytes-take 2 rest each) (sym number) in
-    let small : from_le_bytes w16 (take 2 rest) < 2 ^ 16 = two_fit (take 2 rest) (AreBytes-take 2 rest each) in (
-      sym (ap (λ p. p ++ after) part ∙ ap (λ a. take 2 rest ++ a) (sym others) ∙ take-append-drop 2 rest),
-      subst (λ n. n < 2 ^ 16) number small,
+    le_bytes_2 (take 2 rest) u (length-take-le 2 rest long) (AreBytes-take 2 rest each) number in (
+      sym ((λ i. part i ++ read.2 i) ∙ take-append-drop 2 rest),
+      omega (arith, number, AreBytes-take 2 rest each 0, AreBytes-take 2 rest each 1),
     )
-  where
-    two_fit : (x : List ℕ) → AreBytes x → from_le_bytes w16 x < 2 ^ 16
-    two_fit x fits = omega (arith, fits 0, fits 1)
 
 -- The search goes on after a unit that isn't zero.
 pub passed_more : (bytes rest after : List ℕ) (u : ℕ) → AreBytes bytes → HasPassed bytes rest
@@ -83,13 +59,13 @@ passed_more bytes rest after u each before read positive =
     let unit = unit_read rest after u (rest_each bytes rest each before) read in
     record {
       units = before.units ++ u ∷ [];
-      nonzero = AreNonzeroUnits-push before.units u before.nonzero positive unit.1;
-      split = before.split ∙ ap (λ s. unit_bytes before.units ++ s) unit.0 ∙ sym (unit_bytes-push before.units u after);
+      nonzero = AllByRecursion-push _ before.units u before.nonzero (positive, unit.1);
+      split = before.split ∙ ap (λ s. unit_bytes before.units ++ s) unit.0
+          ∙ sym (flat_map-push u16_bytes before.units u after);
     }
 
 pub unit_missing : (rest : List ℕ) → None ≡ split_number w16 rest → length rest < 2
-unit_missing rest e =
-    ltb-true _ _ (guard_none (ltb (length rest) 2) (from_le_bytes w16 (take 2 rest), drop 2 rest) (sym e))
+unit_missing rest e = grind (arith, nat_tests)
 
 -- The units of a description, with the NUL, are units.
 AreUnits-with_nul : (us : List ℕ) → AreNonzeroUnits us → AreUnits (with_nul us)
@@ -117,18 +93,12 @@ pub passed_end : (bytes rest after part : List ℕ) (u : ℕ) → AreBytes bytes
 passed_end bytes rest after part u each before read is_zero part_is =
     let e = (unit_read rest after u (rest_each bytes rest each before) read).0 in
     let d = before.units in
-    let split : bytes ≡ unit_bytes (with_nul d) ++ after =
-    before.split ∙ ap (λ s. unit_bytes d ++ s) (e ∙ ap (λ n. u16_bytes n ++ after) is_zero)
-    ∙ sym (unit_bytes-push d 0 after) in
-    let end : ℕ = length bytes - length after in
-    let sized : length (unit_bytes (with_nul d)) ≡ end =
-    omega (arith, ap length split, length-append (unit_bytes (with_nul d)) after) in
-    let same : part ≡ unit_bytes (with_nul d) =
-    part_is ∙ ap (take end) split ∙ take_at (unit_bytes (with_nul d)) after end sized in
+    let split : bytes ≡ unit_bytes (with_nul d) ++ after = before.split
+    ∙ (λ i. unit_bytes d ++ (e ∙ ap (λ n. u16_bytes n ++ after) is_zero) i) ∙ sym (flat_map-push u16_bytes d 0 after) in
+    let same : part ≡ unit_bytes (with_nul d) = part_is ∙ front_is bytes (unit_bytes (with_nul d)) after split in
     let units : units_of part ≡ with_nul d =
     ap units_of same ∙ units_read_back.written (with_nul d) (AreUnits-with_nul d before.nonzero) in
-    let characters : all_but_last (units_of part) ≡ d =
-    ap all_but_last units ∙ all_but_last-with_nul d in
+    let characters = ap all_but_last units ∙ all_but_last-with_nul d in
     record {
       even = ap (λ l. length l % 2) same ∙ omega (arith, units_read_back.sized (with_nul d));
       nul = units ∙ ap with_nul (sym characters);

@@ -3,7 +3,6 @@ pub mod Cuts
 pub mod Decide
 pub mod Descriptions
 pub mod LoadOptions
-pub mod OneFront
 pub mod Nodes
 pub mod Passing
 pub mod Rows

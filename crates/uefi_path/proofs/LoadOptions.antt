@@ -1,7 +1,8 @@
 -- Load options: bytes are at most one, and when they are none.
-use Rattle.std.proofs.Common.{◌≡◌, ℕ, ◌-◌, ◌<◌, ◌≤◌, ◌^◌, List, [], ◌∷◌, ◌++◌, length, take, drop, refl, sym, ◌∙◌}
-use Rattle.std.proofs.Common.{ap, subst, arith, length-append, take-append-drop, Err}
-use Rattle.std.proofs.lemmas.List.{take_at, drop_at, drop-drop, length-take-le}
+use Rattle.std.proofs.Common.{◌≡◌, ℕ, ◌<◌, ◌≤◌, ◌^◌, List, [], ◌∷◌, ◌++◌, length, take, drop, refl, sym, ◌∙◌}
+use Rattle.std.proofs.Common.{ap, arith, length-append, take-append-drop, Err}
+use Rattle.std.proofs.lemmas.Grind.{common_steps}
+use Rattle.std.proofs.lemmas.List.{take_at, drop-drop, length-take-le}
 use Rattle.std.proofs.lemmas.Nat.{from_le_bytes-to_le_bytes_2, from_le_bytes-to_le_bytes_4}
 use Rattle.std.specs.Int.{w16, w32, from_le_bytes}
 use Rattle.std.specs.Prelude.{slice_range}
@@ -73,26 +74,21 @@ one_load_option a b is_a is_b e =
       optional_data = fourth.1 i;
     }
 
--- A range and what follows it.
-cut_range : (bytes : List ℕ) (from to : ℕ) → from ≤ to → slice_range bytes from to ++ drop to bytes ≡ drop from bytes
-cut_range bytes from to ordered =
-    ap (λ m. take (to - from) (drop from bytes) ++ m) (ap (λ m. drop m bytes) (omega arith) ∙ sym (drop-drop
-    (to - from) from bytes))
-    ∙ take-append-drop (to - from) (drop from bytes)
-
 -- The numbers in front of the description, and the bytes from it on.
+in_parts : (bytes first second : List ℕ) → first ≡ slice_range bytes 0 4 → second ≡ slice_range bytes 4 6
+    → first ++ (second ++ drop 6 bytes) ≡ bytes
+in_parts bytes first second is_first is_second =
+    rw (is_first, is_second, ← drop-drop 2 4 bytes, take-append-drop, take-append-drop)
+
 numbers_and_rest : (bytes : List ℕ) → AreBytes bytes → 6 ≤ length bytes
     → u32_bytes (u32_at bytes 0) ++ (u16_bytes (u16_at bytes 4) ++ drop 6 bytes) ≡ bytes
 numbers_and_rest bytes each room =
-    ap (λ part. u32_bytes (u32_at bytes 0) ++ (part ++ drop 6 bytes)) (numbers_read_back.read.u16 bytes 4 each room)
-    ∙ ap (λ rest. u32_bytes (u32_at bytes 0) ++ rest) (cut_range bytes 4 6 (omega arith))
-    ∙ ap (λ part. part ++ drop 4 bytes) (numbers_read_back.read.u32 bytes 0 each (omega (arith, room)))
-    ∙ cut_range bytes 0 4 (omega arith)
+    in_parts bytes _ _ (numbers_read_back.read.u32 bytes 0 each (omega (arith, room)))
+    (numbers_read_back.read.u16 bytes 4 each room)
 
 -- A prefix, and what follows it.
-pub prefix_and_rest : (prefix whole : List ℕ) → IsPrefix prefix whole → whole ≡ prefix ++ drop (length prefix) whole
-prefix_and_rest prefix whole is =
-    is.1 ∙ ap (λ rest. prefix ++ rest) (sym (ap (drop (length prefix)) is.1 ∙ drop_at prefix is.0 (length prefix) refl))
+prefix_and_rest : (prefix whole : List ℕ) → IsPrefix prefix whole → whole ≡ prefix ++ drop (length prefix) whole
+prefix_and_rest prefix whole is = grind (arith, common_steps, is.1)
 
 -- The load option of these parts.
 abbrev with_parts : ℕ → List ℕ → List Node → List ℕ → List ℕ → LoadOption
@@ -127,25 +123,18 @@ pub whole_load_option : (bytes units rest list optional : List ℕ) (n attribute
     × (bytes ≡ load_option_bytes (with_parts attributes units nodes list optional))
 unfolding load_option_bytes
 whole_load_option bytes units rest list optional n attributes nodes are =
-    let starts : list ≡ joined nodes ++ drop (length (joined nodes)) list =
-    prefix_and_rest (joined nodes) list are.first in
+    let starts = prefix_and_rest (joined nodes) list are.first in
     let sized : length list ≡ n = ap length are.list_is ∙ length-take-le n rest are.within in
     let parts : list ++ optional ≡ rest =
-    ap (λ l. l ++ optional) are.list_is ∙ ap (λ o. take n rest ++ o) are.optional_is ∙ take-append-drop n rest in (
+    (λ i. are.list_is i ++ are.optional_is i) ∙ take-append-drop n rest in (
       record {
         attributes = are.attributes_fit;
         description = are.nonzero;
         file_path = are.path;
-        file_path_list = subst (λ l. length l < 2 ^ 16) starts (subst (λ m. m < 2 ^ 16) (sym sized) are.length_fits);
+        file_path_list = rw (← starts, sized) are.length_fits;
       },
-      sym (ap (λ l. u32_bytes attributes
-          ++ (u16_bytes (length l) ++ (unit_bytes (with_nul (all_but_last units)) ++ (l ++ optional)))) (sym starts)
-          ∙ ap (λ d. u32_bytes attributes ++ (u16_bytes (length list) ++ (unit_bytes d ++ (list ++ optional)))) (sym are.nul)
-          ∙ ap (λ r. u32_bytes attributes ++ (u16_bytes (length list) ++ (unit_bytes units ++ r))) parts
-          ∙ ap (λ r. u32_bytes attributes ++ (u16_bytes (length list) ++ r)) (sym are.split)
-          ∙ ap (λ m. u32_bytes attributes ++ (u16_bytes m ++ drop 6 bytes)) (sized ∙ are.length_is)
-          ∙ ap (λ m. u32_bytes m ++ (u16_bytes (u16_at bytes 4) ++ drop 6 bytes)) are.attributes_is
-          ∙ numbers_and_rest bytes are.each are.room),
+      rw (← starts, ← are.nul, parts, ← are.split, sized, are.length_is, are.attributes_is)
+          (sym (numbers_and_rest bytes are.each are.room)),
     )
 
 -- What the bytes of a load option say of it.
@@ -165,9 +154,9 @@ says bytes option is e = record {
 }
 
 -- The rest after a description is the file path list and the data.
-rest_is : (bytes rest d : List ℕ) (option : LoadOption) → IsLoadOption option → Says bytes option → AreNonzeroUnits d
-    → drop 6 bytes ≡ unit_bytes (with_nul d) ++ rest → rest ≡ file_path_list option ++ option.optional_data
-rest_is bytes rest d option is said fits split =
+rest_is : (bytes rest : List ℕ) (option : LoadOption) → IsLoadOption option → Says bytes option → HasRest bytes rest
+    → rest ≡ file_path_list option ++ option.optional_data
+rest_is bytes rest option is said (d, room, (fits, split)) =
     (one_description d option.description rest (file_path_list option ++ option.optional_data) fits is.description
     (sym split ∙ said.rest)).1
 
@@ -181,19 +170,13 @@ no_load_option bytes NotNulTerminated fault (option, is, e) =
       file_path_list option ++ option.optional_data,
       (is.description, (says bytes option is e).rest),
     )
-no_load_option bytes FilePathListTooLong (rest, (d, room, (fits, split)), less) (option, is, e) =
+no_load_option bytes FilePathListTooLong (rest, has_rest, less) (option, is, e) =
     let said = says bytes option is e in
-    let same = rest_is bytes rest d option is said fits split in
-    absurd (omega (
-      arith,
-      less,
-      said.list_length,
-      ap length same,
-      length-append (file_path_list option) option.optional_data,
-    ))
-no_load_option bytes (FilePath error) (rest, (d, room, (fits, split)), within, none) (option, is, e) =
+    let same = rest_is bytes rest option is said has_rest in
+    absurd (omega (arith, ap length same, length-append (file_path_list option) option.optional_data))
+no_load_option bytes (FilePath error) (rest, has_rest, within, none) (option, is, e) =
     let said = says bytes option is e in
-    let same = rest_is bytes rest d option is said fits split in
+    let same = rest_is bytes rest option is said has_rest in
     none (
       option.file_path,
       is.file_path,

@@ -1,14 +1,11 @@
 -- A walk over the nodes that bytes start with.
 use Rattle.std.proofs.Common.{◌≡◌, ℕ, ◌-◌, List, [], ◌∷◌, ◌++◌, length, take, refl, sym, ◌∙◌, ap, subst, arith}
-use Rattle.std.proofs.Common.{append_assoc, length-append}
-use Rattle.std.proofs.lemmas.List.{take_at}
-use Rattle.std.specs.List.{AllByRecursion}
+use Rattle.std.proofs.Common.{append_assoc}
+use Rattle.std.proofs.lemmas.Grind.{common_steps, flat_map-append}
+use Rattle.std.specs.List.{AllByRecursion, flat_map}
 use Rattle.uefi_path.specs.Node.{Node, Fits, encoding, joined, HasNode}
-use Rattle.uefi_path.specs.private.Encoding.{AreNodes}
 use Rattle.uefi_path.specs.Path.{LastAlone}
-use Rattle.uefi_path.specs.private.Encoding.{HasNodes}
-use Rattle.uefi_path.specs.private.Encoding.{EncodesNodes}
-use Rattle.uefi_path.specs.private.OnePath.{joined-append}
+use Rattle.uefi_path.specs.private.Encoding.{AreNodes, HasNodes, EncodesNodes}
 use Rattle.uefi_path.proofs.Steps.{HasNodes-node, after_first}
 
 -- The bytes are the encoding of the nodes, none of which satisfies P, and then the rest.
@@ -22,7 +19,7 @@ abbrev pub HasPassed : (Node → Type 0) → List ℕ → List ℕ → Type 0
 HasPassed P bytes rest = (nodes : List Node) × PassesNodes P bytes rest nodes
 
 -- All elements have a property, and so does one more.
-AllByRecursion-push : {A : Type 0} (P : A → Type 0) (xs : List A) (x : A) → AllByRecursion P xs → P x
+pub AllByRecursion-push : {A : Type 0} (P : A → Type 0) (xs : List A) (x : A) → AllByRecursion P xs → P x
     → AllByRecursion P (xs ++ x ∷ [])
 AllByRecursion-push P [] x all one = (one, tt)
 AllByRecursion-push P (y ∷ xs) x all one = (all.0, AllByRecursion-push P xs x all.1 one)
@@ -34,11 +31,14 @@ LastAlone-push P [] x none last = last
 LastAlone-push P (y ∷ []) x none last = (none.0, last)
 LastAlone-push P (y ∷ z ∷ xs) x none last = (none.0, LastAlone-push P (z ∷ xs) x none.1 last)
 
--- The encoding of some nodes and of one more.
-joined-push : (ns : List Node) (n : Node) (s : List ℕ) → joined (ns ++ n ∷ []) ++ s ≡ joined ns ++ (encoding n ++ s)
-joined-push ns n s =
-    ap (λ t. t ++ s) (joined-append ns (n ∷ [])) ∙ append_assoc (joined ns) (encoding n ++ []) s
-    ∙ ap (λ t. joined ns ++ t) (append_assoc (encoding n) [] s)
+-- The bytes of some elements and of one more, and then others.
+pub flat_map-push : {A : Type 0} (f : A → List ℕ) (xs : List A) (x : A) (rest : List ℕ)
+    → flat_map f (xs ++ x ∷ []) ++ rest ≡ flat_map f xs ++ (f x ++ rest)
+flat_map-push f xs x rest = simp (flat_map-append, append_assoc)
+
+-- What comes before the rest of the bytes.
+pub front_is : (bytes front rest : List ℕ) → bytes ≡ front ++ rest → take (length bytes - length rest) bytes ≡ front
+front_is bytes front rest split = grind (arith, common_steps)
 
 -- The walk continues after a node that doesn't satisfy P.
 pub passed_more : (P : Node → Type 0) (bytes rest after : List ℕ) (n : Node) → HasPassed P bytes rest → Fits n
@@ -49,7 +49,7 @@ passed_more P bytes rest after n before fits not_so e = (
   record {
     each = AllByRecursion-push Fits before.0 n before.1.each fits;
     none = AllByRecursion-push (λ m. P m → ⊥) before.0 n before.1.none not_so;
-    split = before.1.split ∙ ap (λ s. joined before.0 ++ s) e ∙ sym (joined-push before.0 n after);
+    split = before.1.split ∙ ap (λ s. joined before.0 ++ s) e ∙ sym (flat_map-push encoding before.0 n after);
   },
 )
 
@@ -59,18 +59,15 @@ pub passed_end : (P : Node → Type 0) (bytes rest after : List ℕ) (n : Node) 
     → EncodesNodes P (take (length bytes - length after) bytes)
 passed_end P bytes rest after n before fits so e =
     let nodes : List Node = before.0 ++ n ∷ [] in
-    let end : ℕ = length bytes - length after in
     let split : bytes ≡ joined nodes ++ after = before.1.split ∙ ap (λ s. joined before.0 ++ s) e
-    ∙ sym (joined-push before.0 n after) in
-    let sized : length (joined nodes) ≡ end = omega (arith, ap length split, length-append (joined nodes) after) in (
+    ∙ sym (flat_map-push encoding before.0 n after) in (
       nodes,
       record {
         ended = record {
           each = AllByRecursion-push Fits before.0 n before.1.each fits;
-          end =
-              LastAlone-push P before.0 n before.1.none so;
+          end = LastAlone-push P before.0 n before.1.none so;
         };
-        encoded = ap (take end) split ∙ take_at (joined nodes) after end sized;
+        encoded = front_is bytes (joined nodes) after split;
       },
     )
 

@@ -4,8 +4,8 @@ use Rattle.std.proofs.lemmas.List.{append-nil, nil_from_length}
 use Rattle.uefi_base.specs.Prefix.{IsPrefix}
 use Rattle.uefi_path.specs.Node.{Node, Fits, encoding, joined, HasNode, IsEnd}
 use Rattle.uefi_path.specs.Path.{AreEndedBy, concat, all_but_last}
-use Rattle.uefi_path.specs.private.Encoding.{HasNodes}
-use Rattle.uefi_path.specs.private.Encoding.{IsEncodingOfNodes, EncodesNodes, IsEncodingOfInstances, EncodesInstances}
+use Rattle.uefi_path.specs.private.Encoding.{HasNodes, IsEncodingOfNodes, EncodesNodes, IsEncodingOfInstances}
+use Rattle.uefi_path.specs.private.Encoding.{EncodesInstances}
 use Rattle.uefi_path.specs.private.OnePath.{same_first, one_ended, nodes_encoded_once, instances_encoded_once}
 use Rattle.uefi_path.specs.private.OnePath.{joined-append, some_bytes}
 
@@ -31,10 +31,9 @@ pub AreEndedBy-one : (P : Node → Type 0) (n : Node) → Fits n → P n → Are
 AreEndedBy-one P n fits so = record { each = (fits, tt); end = so }
 
 -- No node precedes the one that ends the list.
-pub none_before_end : (P : Node → Type 0) (bytes after : List ℕ) (n : Node) (nodes : List Node)
-    → IsEncodingOfNodes P bytes nodes → Fits n → P n
-    → bytes ≡ encoding n ++ after → all_but_last nodes ≡ []
-none_before_end P bytes after n nodes encodes fits so e =
+pub none_before_end : {P : Node → Type 0} {bytes : List ℕ} {n : Node} {nodes : List Node} (after : List ℕ)
+    → IsEncodingOfNodes P bytes nodes → Fits n → P n → bytes ≡ encoding n ++ after → all_but_last nodes ≡ []
+none_before_end {P} {bytes} {n} {nodes} after encodes fits so e =
     let same : joined nodes ++ [] ≡ joined (n ∷ []) ++ after = append-nil (joined nodes) ∙ sym encodes.encoded ∙ e
     ∙ sym (append_assoc (encoding n) [] after) in
     ap all_but_last (one_ended P nodes (n ∷ []) [] after encodes.ended (AreEndedBy-one P n fits so) same).0
@@ -53,10 +52,9 @@ after_first P n (m ∷ k ∷ nodes) after x fits not_so ended e = (
 )
 
 -- So the bytes after it encode the others.
-pub after_node : (P : Node → Type 0) (bytes after : List ℕ) (n : Node) (nodes : List Node)
-    → IsEncodingOfNodes P bytes nodes → Fits n → (P n → ⊥)
-    → bytes ≡ encoding n ++ after → EncodesNodes P after
-after_node P bytes after n nodes encodes fits not_so e =
+pub after_node : {P : Node → Type 0} {bytes : List ℕ} {n : Node} {nodes : List Node} (after : List ℕ)
+    → IsEncodingOfNodes P bytes nodes → Fits n → (P n → ⊥) → bytes ≡ encoding n ++ after → EncodesNodes P after
+after_node {P} {bytes} {n} {nodes} after encodes fits not_so e =
     let others = after_first P n nodes after [] fits not_so encodes.ended
     (sym e ∙ encodes.encoded ∙ sym (append-nil (joined nodes))) in
     (others.0, record { ended = others.1; encoded = others.2 ∙ append-nil (joined others.0) })
@@ -74,51 +72,50 @@ all_but_last-cons P n [] ended = absurd ended.end
 all_but_last-cons P n (m ∷ others) ended = refl
 
 -- The node that the bytes start with is the first of those that are left.
-pub next_node : (P : Node → Type 0) (bytes after : List ℕ) (n : Node) (nodes others : List Node)
+pub next_node : {P : Node → Type 0} {bytes after : List ℕ} {n : Node} {nodes others : List Node}
     → IsEncodingOfNodes P bytes nodes → Fits n → (P n → ⊥)
     → bytes ≡ encoding n ++ after → IsEncodingOfNodes P after others → all_but_last nodes ≡ n ∷ all_but_last others
-next_node P bytes after n nodes others encodes fits not_so e left =
+next_node {P} {bytes} {after} {n} {nodes} {others} encodes fits not_so e left =
     let all : nodes ≡ n ∷ others =
     nodes_encoded_once P bytes nodes (n ∷ others) encodes
     (record {
       ended = AreEndedBy-cons P n others fits not_so left.ended;
-      encoded =
-          e ∙ ap (λ b. encoding n ++ b) left.encoded;
+      encoded = e ∙ ap (λ b. encoding n ++ b) left.encoded;
     }) in
     ap all_but_last all ∙ all_but_last-cons P n others left.ended
 
 -- If no bytes are left, no instance is left.
-pub no_instance : (bytes : List ℕ) (instances : List (List Node)) → IsEncodingOfInstances bytes instances
+pub no_instance : {bytes : List ℕ} {instances : List (List Node)} → IsEncodingOfInstances bytes instances
     → length bytes ≡ 0 → instances ≡ []
-no_instance bytes [] encodes none = refl
-no_instance bytes (p ∷ instances) encodes none =
+no_instance {bytes} {instances = []} encodes none = refl
+no_instance {bytes} {instances = p ∷ instances} encodes none =
     absurd (some_bytes p (joined (concat instances)) encodes.each.0
     (sym (encodes.encoded ∙ joined-append p (concat instances)) ∙ nil_from_length bytes none))
 
 -- If bytes are left, they start with an instance.
-pub some_instance : (bytes : List ℕ) (instances : List (List Node)) → IsEncodingOfInstances bytes instances
+pub some_instance : {bytes : List ℕ} {instances : List (List Node)} → IsEncodingOfInstances bytes instances
     → (length bytes ≡ 0 → ⊥) → HasNodes IsEnd bytes
-some_instance bytes [] encodes some = absurd (some (ap length encodes.encoded))
-some_instance bytes (p ∷ instances) encodes some =
+some_instance {bytes} {instances = []} encodes some = absurd (some (ap length encodes.encoded))
+some_instance {bytes} {instances = p ∷ instances} encodes some =
     (p, encodes.each.0, (joined (concat instances), encodes.encoded ∙ joined-append p (concat instances)))
 
 -- After an instance, the bytes encode the other instances.
-pub after_instance : (bytes prefix after : List ℕ) (instances : List (List Node))
+pub after_instance : {bytes : List ℕ} {instances : List (List Node)} (prefix after : List ℕ)
     → IsEncodingOfInstances bytes instances → EncodesNodes IsEnd prefix → bytes ≡ prefix ++ after
     → EncodesInstances after
-after_instance bytes prefix after [] encodes came e =
+after_instance {bytes} {instances = []} prefix after encodes came e =
     absurd (some_bytes came.0 after came.1.ended (ap (λ b. b ++ after) (sym came.1.encoded) ∙ sym e ∙ encodes.encoded))
-after_instance bytes prefix after (p ∷ instances) encodes came e =
+after_instance {bytes} {instances = p ∷ instances} prefix after encodes came e =
     let first = one_ended IsEnd came.0 p after (joined (concat instances)) came.1.ended encodes.each.0
     (ap (λ b. b ++ after) (sym came.1.encoded) ∙ sym e ∙ encodes.encoded
     ∙ joined-append p (concat instances)) in
     (instances, record { each = encodes.each.1; encoded = first.1 })
 
 -- The instance that the bytes start with is the first of those that are left.
-pub next_instance : (bytes prefix after : List ℕ) (nodes : List Node) (instances others : List (List Node))
+pub next_instance : {bytes prefix after : List ℕ} {nodes : List Node} {instances others : List (List Node)}
     → IsEncodingOfInstances bytes instances → IsEncodingOfNodes IsEnd prefix nodes
     → bytes ≡ prefix ++ after → IsEncodingOfInstances after others → instances ≡ nodes ∷ others
-next_instance bytes prefix after nodes instances others encodes came e left =
+next_instance {bytes} {prefix} {after} {nodes} {instances} {others} encodes came e left =
     instances_encoded_once instances (nodes ∷ others) encodes.each (came.ended, left.each)
     (sym encodes.encoded ∙ e ∙ ap (λ b. b ++ after) came.encoded ∙ ap (λ b. joined nodes ++ b) left.encoded
     ∙ sym (joined-append nodes (concat others)))

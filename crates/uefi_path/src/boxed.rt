@@ -38,6 +38,7 @@ impl<A: Allocator> BoxedDevicePath<A> {
     }
 
     /// Returns a view of the path that this box owns.
+    #[tactic(auto, using(crate::specs::private::OnePath::same_nodes))]
     pub fn as_path(&self) -> DevicePath<'_>
         ensures { path_nodes result ≡ boxed_nodes self.now }
     {
@@ -80,6 +81,7 @@ impl<A: Allocator> BoxedDevicePathInstance<A> {
     }
 
     /// Returns a view of the instance that this box owns.
+    #[tactic(auto, using(crate::specs::private::OnePath::same_nodes))]
     pub fn as_instance(&self) -> DevicePathInstance<'_>
         ensures { instance_nodes result ≡ boxed_instance_nodes self.now }
     {

@@ -7,17 +7,20 @@ ghost use Rattle.uefi_path.specs.rows.Paths.{RowsHold};
 
 /// States that no path is a proper prefix of another, and a path followed by any bytes starts with
 /// that path and with no other.
+#[tactic(auto, using(crate::specs::private::OnePath::one_path))]
 pub fn one_front()
     ensures { OneFront }
 {}
 
 /// States that the definitions hold on worked rows: the numbers of the types that have a name,
 /// examples of the bytes of paths, and of bytes that start with no path. Each row is a theorem.
+#[tactic(auto, using(crate::proofs::Rows::rows_hold))]
 pub fn worked_rows()
     ensures { RowsHold }
 {}
 
 /// States that bytes are at most one load option.
+#[tactic(auto, using(crate::proofs::LoadOptions::one_load_option))]
 pub fn one_load_option()
     ensures { OneLoadOption }
 {}

@@ -127,6 +127,7 @@ impl<'a> TryFrom<&'a [u8]> for DevicePath<'a> {
 
     ghost try_from_gives = { λ bytes read. ReadsPath path_nodes bytes.now read };
 
+    #[tactic(auto, using(crate::specs::private::OnePath::one_path))]
     fn try_from(bytes: &'a [u8]) -> Result<DevicePath<'a>, ByteConversionError> {
         let (path, _) = split_nodes(bytes, StopCondition::EndEntireNode)?;
         Ok(DevicePath::new_unchecked(path))

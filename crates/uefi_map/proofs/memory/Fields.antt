@@ -4,28 +4,17 @@ use Rattle.std.proofs.lemmas.Nat.{from_le_bytes-to_le_bytes_4, from_le_bytes-to_
 use Rattle.uefi_map.specs.declared.memory.descriptor.MemoryDescriptor.{MemoryDescriptor}
 use Rattle.uefi_map.specs.memory.Descriptor.{descriptor_length, descriptor_in, encoding, Fits}
 
--- A descriptor is its fields.
-same_fields : (one other : MemoryDescriptor) → one.ty.0 ≡ other.ty.0 → one.padding ≡ other.padding
-    → one.phys_start ≡ other.phys_start
-    → one.virt_start ≡ other.virt_start → one.page_count ≡ other.page_count → one.att.0 ≡ other.att.0 → one ≡ other
-same_fields one other ty padding phys_start virt_start page_count att = λ i. record {
-  ty = record { 0 = ty i };
-  padding = padding i;
-  phys_start = phys_start i;
-  virt_start = virt_start i;
-  page_count = page_count i;
-  att = record { 0 = att i };
-}
-
 -- What is read of a descriptor's bytes is the descriptor.
 pub descriptor_in-encoding : (d : MemoryDescriptor) → Fits d → descriptor_in (encoding d) ≡ d
 unfolding descriptor_in encoding
-descriptor_in-encoding d fits =
-    same_fields _ d (from_le_bytes-to_le_bytes_4 d.ty.0 fits.ty)
-    (from_le_bytes-to_le_bytes_4 d.padding fits.padding)
-    (from_le_bytes-to_le_bytes_8 d.phys_start fits.phys_start)
-    (from_le_bytes-to_le_bytes_8 d.virt_start fits.virt_start)
-    (from_le_bytes-to_le_bytes_8 d.page_count fits.page_count) (from_le_bytes-to_le_bytes_8 d.att.0 fits.att)
+descriptor_in-encoding d fits = λ i. record {
+  ty = record { 0 = from_le_bytes-to_le_bytes_4 d.ty.0 fits.ty i };
+  padding = from_le_bytes-to_le_bytes_4 d.padding fits.padding i;
+  phys_start = from_le_bytes-to_le_bytes_8 d.phys_start fits.phys_start i;
+  virt_start = from_le_bytes-to_le_bytes_8 d.virt_start fits.virt_start i;
+  page_count = from_le_bytes-to_le_bytes_8 d.page_count fits.page_count i;
+  att = record { 0 = from_le_bytes-to_le_bytes_8 d.att.0 fits.att i };
+}
 
 pub length-encoding : (d : MemoryDescriptor) → length (encoding d) ≡ descriptor_length
 unfolding encoding

@@ -18,12 +18,12 @@ use Rattle.uefi_map.specs.memory.Views.{entries_left}
 use Rattle.uefi_map.proofs.memory.Strides.{count_from}
 
 -- The descriptor at an index of some descriptors.
-at_from : (bytes : List ℕ) (stride i count k : ℕ) (d : MemoryDescriptor) → k < count
-    → get_or (descriptors_from bytes stride i count) k d ≡ descriptor bytes stride (i + k)
-at_from bytes stride i zero k d within = absurd (omega (arith, within))
-at_from bytes stride i (suc count) zero d within = ap (descriptor bytes stride) (omega arith)
-at_from bytes stride i (suc count) (suc k) d within =
-    at_from bytes stride (i + 1) count k d (omega (arith, within)) ∙ ap (descriptor bytes stride) (omega arith)
+at_from : (bytes : List ℕ) (stride i count k j : ℕ) (d : MemoryDescriptor) → k < count → i + k ≡ j
+    → get_or (descriptors_from bytes stride i count) k d ≡ descriptor bytes stride j
+at_from bytes stride i zero k j d within at = absurd (omega (arith, within))
+at_from bytes stride i (suc count) zero j d within at = ap (descriptor bytes stride) (omega (arith, at))
+at_from bytes stride i (suc count) (suc k) j d within at =
+    at_from bytes stride (i + 1) count k j d (omega (arith, within)) (omega (arith, at))
 
 is_at_most : (x y : ℕ) → partial_le (λ x y. Some (nat_cmp x y)) x y ≡ true → x ≤ y
 is_at_most x y tested = grind (arith, nat_tests)
@@ -49,13 +49,11 @@ module _ (bytes : List ℕ) (meta : MemoryMapMeta) (p : Run (YieldsFirst entries
       let seen : Some (get_or p.items k zero_descriptor) ≡ Some (get_or (entries_left p.from) k zero_descriptor) =
       sym (p.reads k zero_descriptor within) ∙ are.2 k zero_descriptor within in
       let item : get_or p.items k zero_descriptor ≡ get_or (entries_left p.from) k zero_descriptor = cc in
-      let whole : get_or (entries_left p.from) k zero_descriptor ≡ descriptor bytes meta.desc_size (0 + k) =
-      ap (λ ds. get_or ds k zero_descriptor) from
-      ∙ at_from bytes meta.desc_size 0 (count_of meta) k zero_descriptor (omega (arith, are.0, counted, within)) in
-      let shown : descriptor bytes meta.desc_size (0 + k) ≡ descriptor bytes meta.desc_size k =
-      ap (descriptor bytes meta.desc_size) (omega arith) in
+      let entry : get_or (entries_left p.from) k zero_descriptor ≡ descriptor bytes meta.desc_size k =
+      ap (λ ds. get_or ds k zero_descriptor) from ∙ at_from bytes meta.desc_size 0 (count_of meta) k k zero_descriptor
+      (omega (arith, are.0, counted, within)) (omega arith) in
       get_or-map (λ d. d.phys_start) p.items k zero_descriptor 0 (omega (arith, within, p.long))
-      ∙ ap (λ d. d.phys_start) (item ∙ whole ∙ shown)
+      ∙ ap (λ d. d.phys_start) (item ∙ entry)
 
   -- What a test of the order returns over them says whether the map is sorted.
   pub sorted_run : (r : Bool) → OnTrue r (IsTrue p.whole)
@@ -78,14 +76,5 @@ module _ (bytes : List ℕ) (meta : MemoryMapMeta) (p : Run (YieldsFirst entries
       let next = start_at (falls.0 + 1) within in
       let above = is_above (get_or starts falls.0 0) (get_or starts (falls.0 + 1) 0) (falls.2 0) in (
         λ so. let no : false ≡ true = so in cc,
-        λ sorted. absurd (omega (
-          arith,
-          one,
-          next,
-          above,
-          are.0,
-          counted,
-          within,
-          sorted falls.0 (omega (arith, are.0, counted, within)),
-        )),
+        λ sorted. let rises = sorted falls.0 (omega (arith, are.0, counted, within)) in absurd (omega arith),
       )

@@ -1,11 +1,11 @@
 -- The descriptors of whole strides, one stride after another.
-use Rattle.std.proofs.Common.{◌≡◌, ℕ, zero, suc, ◌+◌, ◌-◌, ◌*◌, ◌/◌, ◌%◌, ◌≤◌, ◌<◌, List, ◌∷◌, length, take, drop, refl}
+use Rattle.std.proofs.Common.{◌≡◌, ℕ, zero, suc, ◌+◌, ◌*◌, ◌/◌, ◌%◌, ◌≤◌, ◌<◌, List, ◌∷◌, length, take, drop, refl}
 use Rattle.std.proofs.Common.{sym, ◌∙◌, ap, arith, length-drop}
-use Rattle.std.proofs.lemmas.List.{drop-drop, length-take-le}
+use Rattle.std.proofs.lemmas.List.{length-take-le}
 use Rattle.std.proofs.lemmas.Grind.{rows, common_steps}
 use Rattle.std.proofs.Math.Nat.{div-eq-sub-div, div-le_self}
 use Rattle.uefi_map.specs.declared.memory.meta.MemoryMapMeta.{MemoryMapMeta}
-use Rattle.uefi_map.specs.memory.Descriptor.{descriptor_length, descriptor_in, descriptor_bytes, descriptor}
+use Rattle.uefi_map.specs.memory.Descriptor.{descriptor_length, descriptor_in, descriptor_bytes}
 use Rattle.uefi_map.specs.memory.Map.{IsMap, descriptors_from, entries_of}
 use Rattle.uefi_map.specs.private.memory.Map.{AreStrides}
 use Rattle.uefi_base.proofs.Ranges.{range-take}
@@ -25,11 +25,9 @@ pub same_from : (one other : List ℕ) (stride i n : ℕ)
     → descriptors_from one stride i n ≡ descriptors_from other stride i n
 same_from one other stride i zero same = refl
 same_from one other stride i (suc n) same =
-    let first : descriptor one stride i ≡ descriptor other stride i =
-    ap descriptor_in (same i (omega arith) (omega arith)) in
-    let rest : descriptors_from one stride (i + 1) n ≡ descriptors_from other stride (i + 1) n =
-    same_from one other stride (i + 1) n (λ j above below. same j (omega arith) (omega arith)) in
-    cc
+    let first = same i (omega arith) (omega arith) in
+    let rest = same_from one other stride (i + 1) n (λ j above below. same j (omega arith) (omega arith)) in
+    λ k. descriptor_in (first k) ∷ rest k
 
 -- A descriptor ends within its map.
 pub ends_within : (stride size i : ℕ) → descriptor_length ≤ stride → i < size / stride
@@ -43,8 +41,7 @@ pub whole_map : (bytes : List ℕ) (meta : MemoryMapMeta) → IsMap (length byte
 whole_map bytes meta map =
     let size = meta.map_size in
     let stride = meta.desc_size in
-    let sized : length (take size bytes) ≡ size = length-take-le size bytes map.within in
-    ap (λ n. descriptors_from (take size bytes) stride 0 (n / stride)) sized
+    ap (λ n. descriptors_from (take size bytes) stride 0 (n / stride)) (length-take-le size bytes map.within)
     ∙ same_from (take size bytes) bytes stride 0 (size / stride)
     (λ j above below. range-take size bytes (j * stride) (j * stride + descriptor_length) (omega arith)
     (ends_within stride size j map.room (omega arith)))
@@ -52,28 +49,13 @@ whole_map bytes meta map =
 -- Without the first stride, each descriptor is the next.
 next_bytes : (bytes : List ℕ) (stride i : ℕ)
     → descriptor_bytes (drop stride bytes) stride i ≡ descriptor_bytes bytes stride (i + 1)
-next_bytes bytes stride i =
-    let offset : stride + i * stride ≡ (i + 1) * stride = grind (arith, rows) in
-    let width : i * stride + descriptor_length - i * stride
-    ≡ (i + 1) * stride + descriptor_length - (i + 1) * stride = omega arith in
-    ap (take (i * stride + descriptor_length - i * stride)) (drop-drop (i * stride) stride bytes
-    ∙ ap (λ n. drop n bytes) offset) ∙ ap (λ n. take n (drop ((i + 1) * stride) bytes)) width
+next_bytes bytes stride i = grind (arith, rows, common_steps)
 
 next_from : (bytes : List ℕ) (stride i count : ℕ)
     → descriptors_from (drop stride bytes) stride i count ≡ descriptors_from bytes stride (i + 1) count
 next_from bytes stride i zero = refl
 next_from bytes stride i (suc count) =
-    let first : descriptor (drop stride bytes) stride i ≡ descriptor bytes stride (i + 1) =
-    ap descriptor_in (next_bytes bytes stride i) in
-    let rest : descriptors_from (drop stride bytes) stride (i + 1) count ≡ descriptors_from bytes stride
-    (i + 1 + 1) count = next_from bytes stride (i + 1) count in
-    cc
-
--- The first descriptor has the first forty bytes.
-first_bytes : (bytes : List ℕ) (stride : ℕ) → descriptor_bytes bytes stride 0 ≡ take descriptor_length bytes
-first_bytes bytes stride =
-    let offset : 0 * stride ≡ 0 = omega arith in
-    ap (λ p. take (p + descriptor_length - p) (drop p bytes)) offset
+    λ j. descriptor_in (next_bytes bytes stride i j) ∷ next_from bytes stride (i + 1) count j
 
 -- Whole strides that are not none are at least one.
 pub one_stride : (stride size : ℕ) → 0 < size → size % stride ≡ 0 → stride ≤ size
@@ -85,19 +67,14 @@ pub first_room : (stride : ℕ) (bytes : List ℕ) → AreStrides stride bytes �
 first_room stride bytes strides some =
     omega (arith, strides.room, one_stride stride (length bytes) some strides.whole)
 
--- Without one stride, whole strides stay whole.
-whole_after : (stride size : ℕ) → 0 < stride → stride ≤ size → size % stride ≡ 0 → (size - stride) % stride ≡ 0
-whole_after stride size positive reaches whole =
-    grind (arith, rows, common_steps, div-eq-sub-div positive reaches)
-
 -- After the first stride, there are whole strides too.
 pub strides_after : (stride : ℕ) (bytes : List ℕ) → AreStrides stride bytes → 0 < length bytes
     → AreStrides stride (drop stride bytes)
 strides_after stride bytes strides some =
     let reaches = one_stride stride (length bytes) some strides.whole in
     let positive : 0 < stride = omega (arith, strides.room) in
-    let whole = whole_after stride (length bytes) positive reaches strides.whole in
-    record { room = strides.room; whole = ap (λ n. n % stride) (length-drop stride bytes) ∙ whole }
+    let whole = strides.whole in
+    record { room = strides.room; whole = grind (arith, rows, common_steps, div-eq-sub-div positive reaches) }
 
 -- The first of the descriptors that are left, and the others.
 pub next_left : (bytes : List ℕ) (stride : ℕ) → AreStrides stride bytes → 0 < length bytes
@@ -107,15 +84,9 @@ pub next_left : (bytes : List ℕ) (stride : ℕ) → AreStrides stride bytes �
 next_left bytes stride strides some =
     let reaches : stride ≤ length bytes = one_stride stride (length bytes) some strides.whole in
     let positive : 0 < stride = omega (arith, strides.room) in
-    let left : length (drop stride bytes) / stride ≡ (length bytes - stride) / stride =
-    ap (λ n. n / stride) (length-drop stride bytes) in
-    let count : length bytes / stride ≡ suc (length (drop stride bytes) / stride) =
-    omega (arith, div-eq-sub-div positive reaches, left) in
-    let first : descriptor bytes stride 0 ≡ descriptor_in (take descriptor_length bytes) =
-    ap descriptor_in (first_bytes bytes stride) in
-    let rest : descriptors_from (drop stride bytes) stride 0
-    (length (drop stride bytes) / stride) ≡ descriptors_from bytes stride (0 + 1)
-    (length (drop stride bytes) / stride) = next_from bytes stride 0 (length (drop stride bytes) / stride) in
-    ap (descriptors_from bytes stride 0) count
-    ∙ ap (λ d. d ∷ descriptors_from bytes stride (0 + 1) (length (drop stride bytes) / stride)) first
-    ∙ ap (λ ds. descriptor_in (take descriptor_length bytes) ∷ ds) (sym rest)
+    let left : ℕ = length (drop stride bytes) / stride in
+    let count : length bytes / stride ≡ suc left =
+    omega (arith, div-eq-sub-div positive reaches, ap (λ n. n / stride) (length-drop stride bytes)) in
+    let first : descriptor_bytes bytes stride 0 ≡ take descriptor_length bytes = grind (arith, common_steps) in
+    let rest = next_from bytes stride 0 left in
+    ap (descriptors_from bytes stride 0) count ∙ (λ i. descriptor_in (first i) ∷ sym rest i)

@@ -1,8 +1,10 @@
 -- All bytes begin with exactly one list, or have exactly one fault.
-use Rattle.std.proofs.Common.{◌≡◌, ℕ, suc, zero, ◌≤◌, ◌⊎◌, List, [], ◌∷◌, ◌++◌, length, drop, refl, sym, ◌∙◌, ap, subst}
-use Rattle.std.proofs.Common.{arith, inl, inr, length-append, length-drop}
-use Rattle.std.proofs.lemmas.List.{append_cancel_left}
+use Rattle.std.proofs.Common.{◌≡◌, ℕ, suc, zero, ◌≤◌, ◌≢◌, ◌⊎◌, List, [], ◌∷◌, ◌++◌, length, take, drop, refl, sym, ◌∙◌}
+use Rattle.std.proofs.Common.{ap, subst, arith, inl, inr, length-append, length-drop, get_or}
+use Rattle.std.specs.Prelude.{◌==◌, if◌then◌else◌}
+use Rattle.std.proofs.lemmas.List.{take_at, drop_at, get_or_append_left}
 use Rattle.std.proofs.lemmas.Bool.{cases_eq, cases_lt}
+use Rattle.std.proofs.lemmas.Bool.Decides.{nat_tests}
 use Rattle.uefi_map.specs.declared.pci.resource.QwordAddressSpaceDescriptor.{QwordAddressSpaceDescriptor}
 use Rattle.uefi_map.specs.declared.pci.resource_error.ResourceError.{ResourceError}
 use Rattle.uefi_map.specs.declared.pci.resource_error.ResourceError.TheVariants.{NoEndTag, CutRecord, UnknownTag}
@@ -11,7 +13,7 @@ use Rattle.uefi_map.specs.pci.Resource.{record_tag, record_length, resource_in, 
 use Rattle.uefi_map.specs.pci.ResourceList.{BeginWithRecords, BeginWith, end_tag, HaveList, IsFaultOf, HaveFault}
 use Rattle.uefi_map.specs.pci.ResourceList.{HaveSomeList, HaveSomeFault, HaveOneList, HaveOneFault}
 use Rattle.uefi_map.specs.pci.Laws.{ListOrFault, NeverBoth, ListAlone, FaultAlone}
-use Rattle.uefi_map.proofs.pci.Records.{same_part, more_records, first_record}
+use Rattle.uefi_map.proofs.pci.Records.{more_records, first_record}
 
 -- The bytes begin with no record.
 abbrev NoRecord : List ℕ → Type 0
@@ -26,21 +28,23 @@ one_walk [] (e ∷ es) bytes r s p q none_r none_s = absurd (none_r q.0 q.1 e q.
 one_walk (d ∷ ds) [] bytes r s p q none_r none_s = absurd (none_s p.0 p.1 d p.2 (sym q ∙ p.4))
 one_walk (d ∷ ds) (e ∷ es) bytes r s p q none_r none_s =
     let whole : p.0 ++ p.1 ≡ q.0 ++ q.1 = sym p.4 ∙ q.4 in
-    let size : length p.0 ≡ length q.0 = p.2.size ∙ sym q.2.size in
-    let text : p.0 ≡ q.0 = same_part p.0 q.0 p.1 q.1 size whole in
-    let after : p.1 ≡ q.1 = append_cancel_left q.0 p.1 q.1 (ap (λ b. b ++ p.1) (sym text) ∙ whole) in
+    let text : p.0 ≡ q.0 = sym (take_at p.0 p.1 record_length p.2.size) ∙ ap (take record_length) whole
+    ∙ take_at q.0 q.1 record_length q.2.size in
+    let after : p.1 ≡ q.1 = sym (drop_at p.0 p.1 record_length p.2.size) ∙ ap (drop record_length) whole
+    ∙ drop_at q.0 q.1 record_length q.2.size in
     let rest = one_walk ds es q.1 r s (subst (λ b. BeginWithRecords b ds r) after p.3) q.3 none_r none_s in
     let first : d ≡ e = p.2.fields ∙ ap resource_in text ∙ sym q.2.fields in
     let others : ds ≡ es = rest.0 in
     ((cc), rest.1)
 
 -- A record begins with its tag, and has all its bytes.
+abbrev first_byte : List ℕ → ℕ
+first_byte bytes = get_or bytes 0 0
+
 tag_of : (text after more : List ℕ) (d : QwordAddressSpaceDescriptor) (tag : ℕ) → IsRecord text d
     → tag ∷ more ≡ text ++ after → tag ≡ record_tag
-tag_of [] after more d tag is e = absurd (omega (arith, is.size))
-tag_of (t ∷ text) after more d tag is e =
-    let first : t ≡ record_tag = is.tag in
-    cc
+tag_of text after more d tag is e =
+    ap first_byte e ∙ get_or_append_left text after 0 0 (omega (arith, is.size)) ∙ is.tag
 
 long_enough : (rest text after : List ℕ) (d : QwordAddressSpaceDescriptor) → IsRecord text d → rest ≡ text ++ after
     → record_length ≤ length rest
@@ -62,45 +66,32 @@ none_at_fault rest Memory never = absurd never
 pub list_alone : ListAlone
 list_alone bytes ds es p q = (one_walk ds es bytes p.0 q.0 p.1 q.1 (none_at_end p.0 p.2) (none_at_end q.0 q.2)).0
 
--- One offset has one fault.
-same_tag : (rest : List ℕ) (t u : ℕ) → BeginWith rest t → BeginWith rest u → t ≡ u
-same_tag rest t u p q =
-    let both : t ∷ p.0 ≡ u ∷ q.0 = sym p.1 ∙ q.1 in
-    cc
+-- The first byte decides which fault the bytes have.
+abbrev fault_at : List ℕ → ResourceError
+fault_at [] = NoEndTag
+fault_at (tag ∷ rest) = if tag == record_tag then CutRecord else UnknownTag tag
 
-not_empty : (rest : List ℕ) (t : ℕ) → rest ≡ [] → BeginWith rest t → ⊥
-not_empty rest t empty begin =
-    let both : [] ≡ t ∷ begin.0 = sym empty ∙ begin.1 in
-    cc
+unknown_at : (tag : ℕ) → tag ≢ record_tag → UnknownTag tag ≡ (if tag == record_tag then CutRecord else UnknownTag tag)
+unknown_at tag other = grind (arith, nat_tests)
 
-one_fault_of : (rest : List ℕ) (f g : ResourceError) → IsFaultOf rest f → IsFaultOf rest g → f ≡ g
-one_fault_of rest NoEndTag NoEndTag p q = refl
-one_fault_of rest NoEndTag CutRecord p q = absurd (not_empty rest record_tag p q.0)
-one_fault_of rest NoEndTag (UnknownTag u) p q = absurd (not_empty rest u p q.0)
-one_fault_of rest CutRecord NoEndTag p q = absurd (not_empty rest record_tag q p.0)
-one_fault_of rest CutRecord CutRecord p q = refl
-one_fault_of rest CutRecord (UnknownTag u) p q = absurd (q.1 (same_tag rest u record_tag q.0 p.0))
-one_fault_of rest (UnknownTag t) NoEndTag p q = absurd (not_empty rest t q p.0)
-one_fault_of rest (UnknownTag t) CutRecord p q = absurd (p.1 (same_tag rest t record_tag p.0 q.0))
-one_fault_of rest (UnknownTag t) (UnknownTag u) p q = ap UnknownTag (same_tag rest t u p.0 q.0)
-one_fault_of rest Memory g p q = absurd p
-one_fault_of rest NoEndTag Memory p q = absurd q
-one_fault_of rest CutRecord Memory p q = absurd q
-one_fault_of rest (UnknownTag t) Memory p q = absurd q
+fault_is : (rest : List ℕ) (fault : ResourceError) → IsFaultOf rest fault → fault ≡ fault_at rest
+fault_is rest NoEndTag empty = sym (ap fault_at empty)
+fault_is rest CutRecord cut = sym (ap fault_at cut.0.1)
+fault_is rest (UnknownTag tag) unknown = unknown_at tag unknown.1 ∙ sym (ap fault_at unknown.0.1)
+fault_is rest Memory never = absurd never
 
 pub fault_alone : FaultAlone
 fault_alone bytes f g p q =
     let same : p.1 ≡ q.1 = (one_walk p.0 q.0 bytes p.1 q.1 p.2 q.2 (none_at_fault p.1 f p.3)
     (none_at_fault q.1 g q.3)).1 in
-    one_fault_of q.1 f g (subst (λ (rest : List ℕ). IsFaultOf rest f) same p.3) q.3
+    fault_is p.1 f p.3 ∙ ap fault_at same ∙ sym (fault_is q.1 g q.3)
 
 -- The end tag is no fault.
 end_is_no_fault : (rest : List ℕ) (fault : ResourceError) → BeginWith rest end_tag → IsFaultOf rest fault → ⊥
-end_is_no_fault rest NoEndTag end p = not_empty rest end_tag p end
-end_is_no_fault rest CutRecord end p = let same : end_tag ≡ record_tag =
-    same_tag rest end_tag record_tag end p.0 in omega (arith, same)
-end_is_no_fault rest (UnknownTag tag) end p = p.2 (same_tag rest tag end_tag p.0 end)
-end_is_no_fault rest Memory end p = p
+end_is_no_fault rest NoEndTag end empty = absurd (omega (arith, ap length (sym empty ∙ end.1)))
+end_is_no_fault rest CutRecord end cut = absurd (omega (arith, ap first_byte (sym end.1 ∙ cut.0.1)))
+end_is_no_fault rest (UnknownTag tag) end unknown = unknown.2 (ap first_byte (sym unknown.0.1 ∙ end.1))
+end_is_no_fault rest Memory end never = never
 
 pub never_both : NeverBoth
 never_both bytes has faulty =

@@ -1,18 +1,11 @@
 -- Records at the beginning of bytes, and the resources that are read from them.
-use Rattle.std.proofs.Common.{◌≡◌, ℕ, zero, suc, ◌-◌, ◌/◌, ◌≤◌, ◌<◌, List, [], ◌∷◌, ◌++◌, length, take, drop, refl, sym}
+use Rattle.std.proofs.Common.{◌≡◌, ℕ, zero, suc, ◌-◌, ◌/◌, ◌≤◌, List, [], ◌∷◌, ◌++◌, length, take, drop, refl, sym}
 use Rattle.std.proofs.Common.{◌∙◌, ap, subst, arith, append_assoc, length-append, length-drop}
-use Rattle.std.proofs.Math.Nat.{div-eq-sub-div}
-use Rattle.std.proofs.Math.Seq.{take-append_seam, drop-append_seam}
-use Rattle.std.proofs.lemmas.List.{take_at, take-append-drop, length-take-le}
+use Rattle.std.proofs.lemmas.List.{take_at, drop_at, take-append-drop, length-take-le}
 use Rattle.uefi_map.specs.declared.pci.resource.QwordAddressSpaceDescriptor.{QwordAddressSpaceDescriptor}
 use Rattle.uefi_map.specs.pci.Resource.{record_tag, record_length, resource_in, IsRecord}
 use Rattle.uefi_map.specs.pci.ResourceList.{BeginWithRecords, BeginWith}
 use Rattle.uefi_map.specs.pci.Views.{resources, resources_in}
-
--- Where one list begins with two lists of the same length, these are one.
-pub same_part : (a b x y : List ℕ) → length a ≡ length b → a ++ x ≡ b ++ y → a ≡ b
-same_part a b x y same e = sym (take-append_seam a x) ∙ ap (λ n. take n (a ++ x)) same ∙ ap (take (length b)) e
-    ∙ take-append_seam b y
 
 -- Records, and then more records.
 pub more_records : (bytes rest after : List ℕ) (ds es : List QwordAddressSpaceDescriptor)
@@ -50,23 +43,17 @@ resource_count records = length-resources (length records / record_length) recor
 pub next_resource : (records : List ℕ) → record_length ≤ length records → resources_in records ≡ resource_in
     (take record_length records) ∷ resources_in (drop record_length records)
 next_resource records enough =
-    let positive : 0 < record_length = omega arith in
-    let left : length (drop record_length records) / record_length ≡
-    (length records - record_length) / record_length =
-    ap (λ n. n / record_length) (length-drop record_length records) in
     let count : length records / record_length ≡ suc (length (drop record_length records) / record_length) =
-    omega (arith, div-eq-sub-div positive enough, left) in
+    omega (arith, length-drop record_length records) in
     ap (λ n. resources n records) count
 
 resource_before : (first rest : List ℕ) → length first ≡ record_length
     → resources_in (first ++ rest) ≡ resource_in first ∷ resources_in rest
 resource_before first rest size =
-    let both = first ++ rest in
-    let enough : record_length ≤ length both = omega (arith, size, length-append first rest) in
-    let begin : take record_length both ≡ first = ap (λ n. take n both) (sym size) ∙ take-append_seam first rest in
-    let others : drop record_length both ≡ rest = ap (λ n. drop n both) (sym size) ∙ drop-append_seam first rest in
-    next_resource both enough ∙ ap (λ b. resource_in b ∷ resources_in (drop record_length both)) begin
-    ∙ ap (λ b. resource_in first ∷ resources_in b) others
+    let begin = take_at first rest record_length size in
+    let others = drop_at first rest record_length size in
+    next_resource (first ++ rest) (omega (arith, size, length-append first rest))
+    ∙ (λ i. resource_in (begin i) ∷ resources_in (others i))
 
 -- The bytes of records, which are read as the resources whose records they are.
 text_of : (bytes rest : List ℕ) (ds : List QwordAddressSpaceDescriptor) → BeginWithRecords bytes ds rest
@@ -77,8 +64,7 @@ text_of bytes rest (d ∷ ds) records =
     let others = text_of records.1 rest ds records.3 in (
       first ++ others.0,
       records.4 ∙ ap (λ b. first ++ b) others.1 ∙ sym (append_assoc first others.0 rest),
-      resource_before first others.0 records.2.size ∙ ap (λ e. e ∷ resources_in others.0) (sym records.2.fields)
-          ∙ ap (λ es. d ∷ es) others.2,
+      resource_before first others.0 records.2.size ∙ (λ i. sym records.2.fields i ∷ others.2 i),
     )
 
 -- So are the bytes before the rest.

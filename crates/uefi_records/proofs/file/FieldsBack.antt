@@ -1,8 +1,9 @@
 -- The stated size and the fields of records, and the bytes before their names.
-use Rattle.std.proofs.Common.{◌≡◌, ℕ, ◌+◌, ◌-◌, ◌^◌, ◌<◌, ◌≤◌, List, [], ◌++◌, length, take, drop, refl, sym, ◌∙◌, ap}
-use Rattle.std.proofs.Common.{arith, Bool, true, false, append-nil}
+use Rattle.std.proofs.Common.{◌≡◌, ℕ, ◌+◌, ◌^◌, ◌<◌, ◌≤◌, List, [], ◌++◌, length, take, refl, sym, ◌∙◌, ap}
+use Rattle.std.proofs.Common.{arith, Bool, true, false}
 use Rattle.std.specs.Prelude.{slice_range, not, ◌==◌, if◌then◌else◌}
-use Rattle.std.proofs.lemmas.List.{take_all, drop_all}
+use Rattle.std.proofs.lemmas.Grind.{common_steps}
+use Rattle.std.proofs.lemmas.List.{take_all}
 use Rattle.std.proofs.lemmas.Nat.{from_le_bytes-to_le_bytes_8, from_le_bytes-to_le_bytes_4}
 use Rattle.std.proofs.Math.Seq.{take-add}
 use Rattle.uefi_base.specs.LittleEndian.{AreBytes, u64_at, u64_bytes}
@@ -26,14 +27,7 @@ file_info_back size fields rest fits small =
     let modification_time = times_read_back.written fields.modification_time [] fits.modification_time in
     let attribute = from_le_bytes-to_le_bytes_8 fields.attribute fits.attribute in (
       from_le_bytes-to_le_bytes_8 size small,
-      λ i. record {
-        file_size = file_size i;
-        physical_size = physical_size i;
-        create_time = create_time i;
-        last_access_time = last_access_time i;
-        modification_time = modification_time i;
-        attribute = attribute i;
-      },
+      rw (file_size, physical_size, create_time, last_access_time, modification_time, attribute),
     )
 
 pub length-file_header : (size : ℕ) (fields : FileFields) → length (file_header size fields) ≡ file_name_offset
@@ -43,9 +37,7 @@ length-file_header size fields = refl
 -- The bytes before the name are those of the stated size and the fields that are read from them.
 then_range : (n m : ℕ) (bytes done part : List ℕ) → take n bytes ≡ done → slice_range bytes n (n + m) ≡ part
     → take (n + m) bytes ≡ done ++ part
-then_range n m bytes done part before is =
-    let width : m ≡ n + m - n = omega arith in
-    take-add n m bytes ∙ (λ i. before i ++ (ap (λ k. take k (drop n bytes)) width ∙ is) i)
+then_range n m bytes done part before is = grind (arith, common_steps, take-add n m bytes)
 
 time_range : (bytes : List ℕ) (offset : ℕ) → AreBytes bytes → offset + time_length ≤ length bytes
     → slice_range bytes offset (offset + time_length) ≡ time_bytes (time_at bytes offset)
@@ -65,21 +57,18 @@ pub header_back : (bytes : List ℕ) → AreBytes bytes → file_name_offset ≤
     → take file_name_offset bytes ≡ file_header (size_in bytes) (file_fields bytes)
 unfolding file_header
 header_back bytes small within =
-    let size = then_range 0 8 bytes [] _ refl (number_range bytes 0 small (omega (arith, within))) in
-    let file_size = then_range 8 8 bytes _ _ size (number_range bytes 8 small (omega (arith, within))) in
-    let physical_size = then_range 16 8 bytes _ _ file_size (number_range bytes 16 small (omega (arith, within))) in
-    let create_time = then_range 24 16 bytes _ _ physical_size (time_range bytes 24 small (omega (arith, within))) in
-    let last_access_time = then_range 40 16 bytes _ _ create_time (time_range bytes 40 small (omega (arith, within))) in
-    let modification_time = then_range 56 16 bytes _ _ last_access_time
-    (time_range bytes 56 small (omega (arith, within))) in
+    let size = then_range 0 8 bytes [] _ refl (number_range bytes 0 small (omega arith)) in
+    let file_size = then_range 8 8 bytes _ _ size (number_range bytes 8 small (omega arith)) in
+    let physical_size = then_range 16 8 bytes _ _ file_size (number_range bytes 16 small (omega arith)) in
+    let create_time = then_range 24 16 bytes _ _ physical_size (time_range bytes 24 small (omega arith)) in
+    let last_access_time = then_range 40 16 bytes _ _ create_time (time_range bytes 40 small (omega arith)) in
+    let modification_time = then_range 56 16 bytes _ _ last_access_time (time_range bytes 56 small (omega arith)) in
     then_range 72 8 bytes _ _ modification_time (number_range bytes 72 small within)
 
 -- The unused bytes of a file system information record, written out.
 unused_items : (unused : List ℕ) → length unused ≡ 7 → unused ≡ items_from 0 7 unused
 unused_items unused seven =
-    drop-items_from 0 7 7 unused refl (omega (arith, seven))
-    ∙ ap (λ rest. items_from 0 7 unused ++ rest) (drop_all 7 unused (omega (arith, seven)))
-    ∙ append-nil (items_from 0 7 unused)
+    grind (arith, common_steps, drop-items_from 0 7 7 unused refl (omega (arith, seven)))
 
 pub length-file_system_header : (size : ℕ) (fields : FileSystemFields) (unused : List ℕ)
     → length unused ≡ 7 → length (file_system_header size fields unused) ≡ label_offset
@@ -104,11 +93,5 @@ file_system_info_back size fields unused rest seven fits small =
     let block_size = from_le_bytes-to_le_bytes_4 fields.block_size fits.block_size in (
       from_le_bytes-to_le_bytes_8 size small,
       ap (λ u. file_system_fields (file_system_header size fields u ++ rest)) (unused_items unused seven)
-          ∙ (λ i. record {
-            read_only = read_only i;
-            volume_size = volume_size i;
-            free_space =
-                free_space i;
-            block_size = block_size i;
-          }),
+          ∙ rw (read_only, volume_size, free_space, block_size),
     )

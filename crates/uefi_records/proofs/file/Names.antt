@@ -1,8 +1,8 @@
 -- Names of records: their units, and the bytes that end with them.
-use Rattle.std.proofs.Common.{◌≡◌, ℕ, zero, suc, ◌+◌, ◌*◌, List, [], ◌∷◌, ◌++◌, length, drop, sym, ◌∙◌, ap, subst}
+use Rattle.std.proofs.Common.{◌≡◌, ℕ, zero, suc, ◌+◌, ◌-◌, ◌<◌, List, [], ◌∷◌, ◌++◌, length, drop, sym, ◌∙◌, ap, subst}
 use Rattle.std.proofs.Common.{arith, lit<}
 use Rattle.std.proofs.lemmas.Grind.{common_steps}
-use Rattle.std.proofs.lemmas.List.{drop_at, length-append}
+use Rattle.std.proofs.lemmas.List.{get_or-drop, drop_at, length-append}
 use Rattle.uefi_base.specs.LittleEndian.{AreBytes}
 use Rattle.uefi_base.specs.Ucs2.{IsUcs2Text}
 use Rattle.uefi_base.specs.Unaligned.{AreUnits, units_of, unit_bytes}
@@ -13,19 +13,7 @@ use Rattle.uefi_records.specs.private.file.Kept.{EndsWithName}
 -- A text is a name.
 pub FitName_of_text : (units : List ℕ) → IsUcs2Text units → AreUnits units → FitName units
 FitName_of_text units text are_units =
-    record {
-      is_name = record {
-        not_empty = text.not_empty;
-        nul = text.nul;
-        others =
-            λ k before. (text.characters k before).not_nul;
-      };
-      are_units = are_units;
-    }
-
--- A part of bytes is bytes.
-AreBytes-drop : (n : ℕ) (bytes : List ℕ) → AreBytes bytes → AreBytes (drop n bytes)
-AreBytes-drop n bytes each k = grind (arith, common_steps, each)
+    assumption (λ (k : ℕ) (before : k < length units - 1). (text.characters k before).not_nul)
 
 -- The units of a name are read from the bytes after a header.
 pub units_back : (offset : ℕ) (header name : List ℕ) → length header ≡ offset → AreUnits name
@@ -44,13 +32,10 @@ pub ends_with : (offset : ℕ) (header name : List ℕ) → length header ≡ of
 ends_with offset header name sized fit =
     let whole : length (header ++ unit_bytes name) ≡ record_end offset (length name) =
     length-named offset header name sized in
-    let last : length (drop offset (header ++ unit_bytes name)) ≡ 2 * length name =
-    ap length (drop_at header (unit_bytes name) offset sized) ∙ units_read_back.sized name in
     record {
       before = omega (arith, whole);
-      whole_units = omega (arith, last);
-      name =
-          subst IsName (sym (units_back offset header name sized fit.are_units)) fit.is_name;
+      whole_units = grind (arith, common_steps, whole);
+      name = subst IsName (sym (units_back offset header name sized fit.are_units)) fit.is_name;
     }
 
 -- The units of bytes are units, and those behind the offset of a name are the name.
@@ -65,6 +50,5 @@ pub FitName_from : (offset : ℕ) (bytes : List ℕ) → EndsWithName offset byt
 FitName_from offset bytes named small =
     record {
       is_name = named.name;
-      are_units =
-          AreUnits-units_of (drop offset bytes) (AreBytes-drop offset bytes small);
+      are_units = AreUnits-units_of (drop offset bytes) (λ k. rw get_or-drop (small (offset + k)));
     }

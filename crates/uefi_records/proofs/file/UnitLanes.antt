@@ -1,13 +1,18 @@
 -- The units of bytes as the lanes of a vector, and the search through a block of them.
 use Rattle.std.proofs.Common.{◌≡◌, ℕ, zero, suc, ◌+◌, ◌*◌, ◌/◌, ◌%◌, ◌<◌, ◌≤◌, List, [], ◌∷◌, ◌++◌, length, drop, ap}
-use Rattle.std.proofs.Common.{sym, refl, ◌∙◌, arith, cond, Bool, true, false, not, get_or, w8, Fits}
-use Rattle.std.specs.Prelude.{Option, Some}
-use Rattle.std.specs.List.{prefix_len, position_from}
+use Rattle.std.proofs.Common.{refl, ◌∙◌, arith, Bool, not, get_or, w8, Fits}
+use Rattle.std.specs.Prelude.{Some}
+use Rattle.std.specs.List.{prefix_len, position_from, position_or_len}
+use Rattle.std.proofs.lemmas.Bool.Decides.{nat_tests}
+use Rattle.std.proofs.lemmas.Grind.{common_steps}
+use Rattle.std.proofs.lemmas.List.Folds.{prefix_len-append}
+use Rattle.std.proofs.lemmas.List.Sums.{prefix_len-le-length}
 use lib.Lanes.{number_l, digits_l, Each1, chunk}
 use Rattle.std.proofs.lemmas.Simd.{chunk-drop, length-chunk, chunk-fits, below_from_Fits}
 use Rattle.uefi_base.specs.Unaligned.{units_of}
 use Rattle.uefi_base.proofs.UnitsOfBytes.{half_as_many_units}
 use Rattle.uefi_base.proofs.UnitsBack.{units_read_back}
+use Rattle.uefi_records.proofs.file.FirstZero.{position_is}
 
 -- The digits to base 65536 of a number whose digits to base 256 are 2 n bytes are their units.
 pub lanes_are_units : (n : ℕ) (bytes : List ℕ) → length bytes ≡ 2 * n → Each1 (λ x. x < 256) bytes
@@ -32,33 +37,14 @@ block_lanes_are_units offset bytes room fit =
     lanes_are_units 16 (chunk offset 32 bytes) (length-chunk offset 32 bytes room)
     (below_from_Fits w8 (chunk offset 32 bytes) (chunk-fits w8 offset 32 bytes fit))
 
--- The first item of two lists that meets a test: it is in the first list if a shorter prefix of that list than the
--- whole fails the test.
-here : (p : ℕ → Bool) (i n k : ℕ) (later : Option ℕ) → (b : Bool) → cond (not b) (1 + k) 0 < suc n
-    → (k < n → later ≡ Some (i + 1 + k)) → cond b (Some i) later ≡ Some (i + cond (not b) (1 + k) 0)
-here p i n k later true within more = ap Some (omega arith)
-here p i n k later false within more = more (omega arith) ∙ ap Some (omega arith)
-
-pub found_in_first : (p : ℕ → Bool) (i : ℕ) (xs ys : List ℕ) → prefix_len (λ x. not (p x)) xs < length xs
-    → position_from p i (xs ++ ys) ≡ Some (i + prefix_len (λ x. not (p x)) xs)
-found_in_first p i [] ys within = absurd (omega arith)
-found_in_first p i (x ∷ xs) ys within =
-    here p i (length xs) (prefix_len (λ y. not (p y)) xs) (position_from p (i + 1) (xs ++ ys)) (p x) within
-    (λ k. found_in_first p (i + 1) xs ys k)
-
--- Else it is the first of the second list.
-not_here : (i n k : ℕ) (later rest : Option ℕ) → (b : Bool) → suc n ≤ cond (not b) (1 + k) 0 → (n ≤ k → later ≡ rest)
-    → cond b (Some i) later ≡ rest
-not_here i n k later rest true whole more = absurd (omega arith)
-not_here i n k later rest false whole more = more (omega arith)
-
-pub found_in_second : (p : ℕ → Bool) (i : ℕ) (xs ys : List ℕ) → length xs ≤ prefix_len (λ x. not (p x)) xs
+-- A search passes a list of which no item passes the test.
+search_passes : (p : ℕ → Bool) (i : ℕ) (xs ys : List ℕ) → length xs ≤ position_or_len p xs
     → position_from p i (xs ++ ys) ≡ position_from p (i + length xs) ys
-found_in_second p i [] ys whole = ap (λ k. position_from p k ys) (omega arith)
-found_in_second p i (x ∷ xs) ys whole =
-    not_here i (length xs) (prefix_len (λ y. not (p y)) xs) (position_from p (i + 1) (xs ++ ys))
-    (position_from p (i + suc (length xs)) ys) (p x) whole
-    (λ k. found_in_second p (i + 1) xs ys k ∙ ap (λ j. position_from p j ys) (omega arith))
+search_passes p i xs ys whole =
+    let joined = prefix_len-append (λ x. not (p x)) xs ys in
+    let most = prefix_len-le-length (λ x. not (p x)) xs in
+    let others = position_is p (i + length xs) ys in
+    position_is p i (xs ++ ys) ∙ grind (arith, nat_tests, common_steps)
 
 module _ (p : ℕ → Bool) (bytes : List ℕ) (index n run : ℕ) (within : 2 * index + 2 * n ≤ length bytes)
     (counted_run : run ≡ prefix_len (λ x. not (p x)) (units_of (chunk (2 * index) (2 * n) bytes))) where
@@ -72,7 +58,10 @@ module _ (p : ℕ → Bool) (bytes : List ℕ) (index n run : ℕ) (within : 2 *
   units = half_as_many_units block ∙ omega (arith, sized)
 
   -- The units from the index on are those of a block of n and those behind it.
-  split : units_of (drop (2 * index) bytes) ≡ units_of block ++ units_of (drop (2 * (index + n)) bytes)
+  abbrev behind : List ℕ
+  behind = units_of (drop (2 * (index + n)) bytes)
+
+  split : units_of (drop (2 * index) bytes) ≡ units_of block ++ behind
   split =
       let next : 2 * index + 2 * n ≡ 2 * (index + n) = omega arith in
       ap units_of (chunk-drop (2 * index) (2 * n) bytes)
@@ -82,14 +71,13 @@ module _ (p : ℕ → Bool) (bytes : List ℕ) (index n run : ℕ) (within : 2 *
   -- The first unit that meets the test is in the block if the run before it is shorter than the block.
   pub stops_in_block : run < n → position_from p index (units_of (drop (2 * index) bytes)) ≡ Some (index + run)
   stops_in_block shorter =
-      ap (position_from p index) split ∙ found_in_first p index (units_of block)
-      (units_of (drop (2 * (index + n)) bytes)) (omega (arith, units, counted_run, shorter))
-      ∙ ap (λ k. Some (index + k)) (sym counted_run)
+      ap (position_from p index) split ∙ position_is p index (units_of block ++ behind)
+      ∙ grind (arith, nat_tests, common_steps, units, prefix_len-append (λ x. not (p x)) (units_of block) behind)
 
   -- Else it is behind the block.
-  pub passes_block : n ≤ run → position_from p index (units_of (drop (2 * index) bytes))
-      ≡ position_from p (index + n) (units_of (drop (2 * (index + n)) bytes))
+  pub passes_block : n ≤ run
+      → position_from p index (units_of (drop (2 * index) bytes)) ≡ position_from p (index + n) behind
   passes_block whole =
-      ap (position_from p index) split ∙ found_in_second p index (units_of block)
-      (units_of (drop (2 * (index + n)) bytes)) (omega (arith, units, counted_run, whole))
-      ∙ ap (λ k. position_from p (index + k) (units_of (drop (2 * (index + n)) bytes))) units
+      ap (position_from p index) split
+      ∙ search_passes p index (units_of block) behind (omega (arith, units, counted_run, whole))
+      ∙ ap (λ k. position_from p (index + k) behind) units

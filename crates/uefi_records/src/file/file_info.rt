@@ -231,6 +231,7 @@ impl<'a> FileInfo<'a> {
     }
 
     /// Returns the bytes of the stated size and the fields.
+    #[tactic(auto, using(crate::proofs::file::FieldsBack::header_back))]
     fn header(&self) -> &'a [u8]
         ensures { result.now ≡ file_header_of self.now }
     {
@@ -264,6 +265,7 @@ impl PartialEq for FileInfo<'_> {
 
     ghost laws = { on_per file_info_key (partial_equiv_from_equiv nat_list_eq_equiv) };
 
+    #[tactic(auto, using(crate::proofs::file::Equality::equal_if))]
     fn eq(&self, other: &Self) -> bool {
         self.header() == other.header() && self.file_name() == other.file_name()
     }

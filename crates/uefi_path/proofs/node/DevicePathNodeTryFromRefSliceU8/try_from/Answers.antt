@@ -1,13 +1,9 @@
 use Rattle.std.proofs.Common.{◌≡◌, sym, ◌∙◌, subst, arith}
-use Rattle.std.proofs.lemmas.Grind.{common_steps}
 use Rattle.uefi_base.specs.Prefix.{IsPrefix}
 use Rattle.uefi_path.specs.Header.{header, header_bytes}
 use Rattle.uefi_path.specs.Views.{header_of}
 use Rattle.uefi_path.proofs.Nodes.{node_prefix}
 use Rattle.uefi_path.proofs.node.DevicePathNodeTryFromRefSliceU8.try_from.Goals as goal
-
-pub returns-then-length-lt-HEADER_LENGTH : goal.returns-then-length-lt-HEADER_LENGTH
-returns-then-length-lt-HEADER_LENGTH c = grind (arith, common_steps)
 
 pub new_unchecked-requires : goal.new_unchecked-requires
 new_unchecked-requires c =
@@ -20,6 +16,3 @@ new_unchecked-requires c =
     rw c.split_at.ensures.front
     (node_prefix bytes h.device_type h.sub_type n (λ i. omega (arith, c.type_inv.bytes i)) prefix (omega arith)
     (omega arith) (omega arith))
-
-pub returns : goal.returns
-returns c = grind (arith, common_steps)

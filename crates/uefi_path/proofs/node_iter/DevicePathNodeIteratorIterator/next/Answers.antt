@@ -14,23 +14,18 @@ pub returns-then-stops_at-clause-steps : goal.returns-then-stops_at-clause-steps
 returns-then-stops_at-clause-steps c =
     let iter = c.args.self.now in
     let none : nodes_left iter ≡ [] =
-    none_before_end (Stops iter.stop) iter.rest.now c.first_node.result.1.now
-    (node_of c.first_node.result.0) iter.nodes.0 iter.nodes.1 c.first_node.ensures.fits
+    none_before_end c.first_node.result.1.now iter.nodes.1 c.first_node.ensures.fits
     (c.stops_at.ensures.0 c.if-stops_at.true) c.first_node.ensures.split in
     (none, none)
 
 pub new-requires : goal.new-requires
 new-requires c =
-    let iter = c.args.self.now in
-    after_node (Stops iter.stop) iter.rest.now c.first_node.result.1.now
-    (node_of c.first_node.result.0) iter.nodes.0 iter.nodes.1 c.first_node.ensures.fits
+    after_node c.first_node.result.1.now c.args.self.now.nodes.1 c.first_node.ensures.fits
     (λ so. let stopped : false ≡ true = c.if-stops_at.ensures.1 so in cc) c.first_node.ensures.split
 
 pub returns-clause-steps : goal.returns-clause-steps
 returns-clause-steps c =
-    let iter = c.args.self.now in
-    next_node (Stops iter.stop) iter.rest.now c.first_node.result.1.now
-    (node_of c.first_node.result.0) iter.nodes.0 c.new.result.nodes.0 iter.nodes.1 c.first_node.ensures.fits
+    next_node c.args.self.now.nodes.1 c.first_node.ensures.fits
     (λ so. let stopped : false ≡ true = c.if-stops_at.ensures.1 so in cc) c.first_node.ensures.split c.new.ensures.nodes
 
 pub returns-clause-goes : goal.returns-clause-goes

@@ -1,5 +1,4 @@
-use Rattle.std.proofs.Common.{rules, [], ◌∷◌, ◌++◌, sym, subst, Err, ap, ◌∙◌, arith}
-use Rattle.std.proofs.lemmas.Grind.{common_steps}
+use Rattle.std.proofs.Common.{rules, [], ◌∷◌, ◌++◌, sym, subst, Err, ap, ◌∙◌}
 use Rattle.std.proofs.lemmas.Result.{err_from_is_err_and}
 use Rattle.uefi_map.specs.pci.ResourceList.{BeginWith, end_tag, HaveOneList, ReadsList}
 use Rattle.uefi_map.specs.pci.Views.{resources_of, resources_in}
@@ -40,6 +39,3 @@ pub overflow_sub-bytes : goal.overflow_sub-bytes
 overflow_sub-bytes c =
     let passed = c.loop-after.invariant in
     rest_within c.args.bytes.now c.loop-after.rest.now passed.0 passed.1
-
-pub loop-after-smaller : goal.loop-after-smaller
-loop-after-smaller c = grind (arith, common_steps)

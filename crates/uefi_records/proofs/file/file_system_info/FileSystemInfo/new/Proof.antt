@@ -70,10 +70,8 @@ new_spec 𝓤 𝓛 𝓜 𝓡 wired =
     (FitFileSystem fields) ys w) G
     (g-thm.met 𝓤 𝓛 𝓜 𝓡 (code.calls-uefi_records::file::write::write_file_system_info 𝓡.env wired)) z
     (λ α δ. id⊢ 𝓤 _)
-    (λ α δ. and_then ! (get ! refl)
-    (and_then ! (get ! refl)
-    (and_then ! (get ! refl)
-    (and_then ! (get ! refl) (and_then ! (get ! refl) (and_then ! (get ! refl) (no_more !)))))))
+    (λ α δ. and_then ! (get ! refl) ∵ and_then ! (get ! refl) ∵ and_then ! (get ! refl) ∵ and_then ! (get ! refl) ∵
+    and_then ! (get ! refl) ∵ and_then ! (get ! refl) ∵ no_more !)
     (λ α δ v. id⊢ 𝓤 _) (λ α δ ws. qed 𝓛 (‵ (left α δ ws) ∷ []) ∵ fsplit ! $ fsplit ! $ fsplit ! $ keep !
     (0 ∷ []) $ done !)
     (λ w ws t. wrote t.0 t.1.0 (and_also (FitFileSystem fields) (FitName name) w t.1.1.0 t.1.1.1.0) t.1.1.1.1.0

@@ -1,6 +1,0 @@
-use Rattle.uefi_path.specs.Node.{IsEndEntire}
-use Rattle.uefi_path.specs.private.OnePath.{same_nodes}
-use Rattle.uefi_path.proofs.boxed.BoxedDevicePath.as_path.Goals as goal
-
-pub returns : goal.returns
-returns g c = same_nodes IsEndEntire _ _ _ _ c.as_slice.ensures.value c.new_unchecked.ensures c.args.self.now.nodes.1

@@ -1,6 +1,0 @@
-use Rattle.uefi_path.specs.Node.{IsEnd}
-use Rattle.uefi_path.specs.private.OnePath.{same_nodes}
-use Rattle.uefi_path.proofs.instance.DevicePathInstance.to_boxed.Goals as goal
-
-pub returns : goal.returns
-returns g c = same_nodes IsEnd _ _ _ _ c.in_ok-bytes.ensures.items c.new_unchecked.ensures c.args.self.now.nodes.1

@@ -1,5 +1,0 @@
-use Rattle.uefi_records.proofs.Rows.{rows_hold}
-use Rattle.uefi_records.proofs.laws.worked_rows.Goals as goal
-
-pub returns : goal.returns
-returns c = rows_hold
