@@ -102,10 +102,10 @@ written_alone = record {
   verdicts = λ offset alignment written one other long same. λ i. verdict offset alignment (same i) (long i);
   file_info = λ written one other name same is.
       let enough : file_name_offset ≤ written = covers_of file_name_offset file_info_alignment written one name is in
-      (in_both size_stands written one other (omega arith) same, in_both file_fields_stand written one other enough same);
+      let size = in_both size_stands written one other (omega arith) same in
+      (size, in_both file_fields_stand written one other enough same);
   file_system_info = λ written one other label same is.
-      let enough : label_offset ≤ written = covers_of label_offset file_system_info_alignment written one label is in (
-        in_both size_stands written one other (omega arith) same,
-        in_both file_system_fields_stand written one other enough same,
-      );
+      let enough : label_offset ≤ written = covers_of label_offset file_system_info_alignment written one label is in
+      let size = in_both size_stands written one other (omega arith) same in
+      (size, in_both file_system_fields_stand written one other enough same);
 }
