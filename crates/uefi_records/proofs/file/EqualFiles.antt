@@ -2,7 +2,7 @@
 use Rattle.std.proofs.Common.{◌≡◌, ◌++◌, take, drop, sym, ◌∙◌, ap, arith}
 use Rattle.std.proofs.lemmas.List.{take_at, drop_at}
 use Rattle.uefi_records.specs.declared.file.file_info.FileInfo.{FileInfo}
-use Rattle.uefi_records.specs.file.FileInfo.{file_header, file_fields, file_name_offset, size_in}
+use Rattle.uefi_records.specs.file.FileInfo.{file_header, file_name_offset}
 use Rattle.uefi_records.specs.file.Views.{stated_size, file_fields_of, file_info_view, file_info_key, file_header_of}
 use Rattle.uefi_records.specs.file.Views.{file_name_of}
 use Rattle.uefi_records.specs.Laws.{EqualFiles}

@@ -1,6 +1,5 @@
 use Rattle.std.proofs.Common.{arith}
-use Rattle.uefi_records.specs.file.FileInfo.{size_in}
-use Rattle.uefi_records.specs.file.FileSystemInfo.{file_system_fields, label_offset}
+use Rattle.uefi_records.specs.file.FileSystemInfo.{label_offset}
 use Rattle.uefi_records.proofs.file.Prefixes.{size_stands, file_system_fields_stand, in_named}
 use Rattle.uefi_records.proofs.file.file_system_info.FileSystemInfo.from_uefi.Goals as goal
 
