@@ -35,7 +35,7 @@ impl MemoryType {
     pub const MMIO: MemoryType = MemoryType(11);
     /// Memory that is translated to cycles of an I/O port.
     pub const MMIO_PORT_SPACE: MemoryType = MemoryType(12);
-    /// The firmware's code below the operating system.
+    /// Code of the firmware that is part of the processor.
     pub const PAL_CODE: MemoryType = MemoryType(13);
     /// Free memory that keeps its bytes without power.
     pub const PERSISTENT_MEMORY: MemoryType = MemoryType(14);
