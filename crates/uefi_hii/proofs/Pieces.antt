@@ -1,14 +1,12 @@
 -- The first piece of a text, and how many pairs a text has.
-use Rattle.std.proofs.Common.{◌≡◌, ◌≢◌, ℕ, ◌+◌, ◌<◌, ◌≤◌, Bool, true, false, cond, not, List, [], ◌∷◌, length, map}
-use Rattle.std.proofs.Common.{suc, take, drop, refl, ◌∙◌, ap, arith, inl, inr, lit≤}
-use Rattle.std.specs.Prelude.{Option, Some, None, nat_lt}
+use Rattle.std.proofs.Common.{◌≡◌, ◌≢◌, ℕ, ◌+◌, ◌<◌, ◌≤◌, Bool, cond, not, List, [], ◌∷◌, length, map}
+use Rattle.std.proofs.Common.{suc, refl, ◌∙◌, ap, arith, inl, inr, lit≤}
+use Rattle.std.specs.Prelude.{Option}
 use Rattle.std.specs.List.{onto_first, before_first, after_first, position_or_len}
-use Rattle.std.proofs.lemmas.Bool.{cases_lt, le-ltb, lt-ltb}
-use Rattle.std.proofs.lemmas.List.{drop-drop, drop_all, length-map, take_all}
+use Rattle.std.proofs.lemmas.Bool.{cases_lt}
+use Rattle.std.proofs.lemmas.List.{drop_all, length-map, take_all}
 use Rattle.std.proofs.lemmas.List.Sums.{fails_before_first, prefix_len-le-length}
-use Rattle.std.proofs.Math.Seq.{take-length}
 use Rattle.std.proofs.lemmas.List.Splits.{slice_split_first, slice_split_none, length-slice_split}
-use Rattle.uefi_hii.specs.private.Finding.{FindsFirst, parts_at}
 use Rattle.uefi_hii.specs.Pairs.{Pair, pair_of, pairs, without_empty_last}
 use Rattle.uefi_hii.specs.private.Parts.{is_ampersand, pieces}
 
@@ -54,19 +52,6 @@ pairs_cut text some = elim (cases_lt (position_or_len is_ampersand text) (length
       let rest = drop_all (position_or_len is_ampersand text + 1) text (omega arith) in
       rw (piece, rest) (pairs_alone text some end)
 ]
-
--- The parts of bytes where there is such a byte, and where there is none.
-pub parts_found : (byte index : ℕ) (bytes before after : List ℕ) → FindsFirst byte bytes (Some index)
-    → before ≡ take index bytes → after ≡ drop 1 (drop index bytes)
-    → by_parts before (Some after) ≡ parts_at byte bytes
-parts_found byte index bytes before after found before_is after_is =
-    let test : nat_lt index (length bytes) ≡ true = lt-ltb index (length bytes) found.1 in
-    rw (before_is, after_is, drop-drop, ← found.0, test)
-
-pub parts_alone : (byte : ℕ) (bytes : List ℕ) → FindsFirst byte bytes None → by_parts bytes None ≡ parts_at byte bytes
-parts_alone byte bytes none =
-    let test : nat_lt (length bytes) (length bytes) ≡ false = le-ltb (length bytes) (length bytes) (omega arith) in
-    rw (none, test, take-length)
 
 -- The same pair, and the same rest.
 pub same_step : (all : List Pair) (k l r s : List ℕ) (v w : Option (List ℕ)) → k ≡ l → v ≡ w → r ≡ s
