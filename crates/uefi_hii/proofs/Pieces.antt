@@ -1,14 +1,20 @@
 -- The first piece of a text, and how many pairs a text has.
 use Rattle.std.proofs.Common.{◌≡◌, ◌≢◌, ℕ, ◌+◌, ◌<◌, ◌≤◌, Bool, cond, not, List, [], ◌∷◌, length, map}
 use Rattle.std.proofs.Common.{suc, refl, ◌∙◌, ap, arith, inl, inr, lit≤}
-use Rattle.std.specs.Prelude.{Option}
-use Rattle.std.specs.List.{onto_first, before_first, after_first, position_or_len}
+use Rattle.std.specs.Prelude.{◌==◌, Option}
+use Rattle.std.specs.List.{onto_first, before_first, after_first, position_or_len, slice_split}
 use Rattle.std.proofs.lemmas.Bool.{cases_lt}
 use Rattle.std.proofs.lemmas.List.{drop_all, length-map, take_all}
 use Rattle.std.proofs.lemmas.List.Sums.{fails_before_first, prefix_len-le-length}
 use Rattle.std.proofs.lemmas.List.Splits.{slice_split_first, slice_split_none, length-slice_split}
-use Rattle.uefi_hii.specs.Pairs.{Pair, pair_of, pairs, without_empty_last}
-use Rattle.uefi_hii.specs.private.Parts.{is_ampersand, pieces}
+use Rattle.uefi_hii.specs.Pairs.{Pair, ampersand, pair_of, pairs, without_empty_last}
+
+abbrev pub is_ampersand : ℕ → Bool
+is_ampersand c = c == ampersand
+
+-- The pieces of a text between its ampersands.
+abbrev pub pieces : List ℕ → List (List ℕ)
+pieces text = slice_split is_ampersand text
 
 -- A pair, by its key and its value.
 abbrev by_parts : List ℕ → Option (List ℕ) → Pair

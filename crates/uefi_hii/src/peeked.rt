@@ -2,8 +2,8 @@
 
 ghost use Rattle.std.specs.Prelude.{◌≡◌, ◌≢◌, ◌^◌, ◌<◌, ◌∷◌, [], ◌↔◌, IsTrue, MatchOption, length};
 ghost use Rattle.std.specs.Bool.{MatchBool};
+ghost use Rattle.uefi_hii.specs.Configuration.{IsSkipped};
 ghost use Rattle.uefi_hii.specs.Cut.{first_pair};
-ghost use Rattle.uefi_hii.specs.private.Parts.{IsSkipped};
 ghost use Rattle.uefi_hii.specs.Pairs.{pairs};
 ghost use Rattle.uefi_hii.specs.Slots.{IsKey};
 ghost use Rattle.uefi_hii.specs.private.Taking.{StopsAt};

@@ -1,7 +1,6 @@
 ghost use Rattle.std.specs.Prelude.{◌≡◌, ◌+◌, ◌*◌, ◌^◌, ◌<◌, true, false, length, IfOk, MatchOption, option_map, string_bytes};
 ghost use Rattle.uefi_hii.specs.Hex.{hex};
-ghost use Rattle.uefi_hii.specs.Values.{number, guid, name};
-ghost use Rattle.uefi_hii.specs.private.Parts.{is_name_unit};
+ghost use Rattle.uefi_hii.specs.Values.{number, guid, is_name_unit, name};
 ghost use Rattle.uefi_hii.specs.Views.{bytes_left};
 
 use crate::configuration::ConfigurationString;
