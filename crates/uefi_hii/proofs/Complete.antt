@@ -86,6 +86,7 @@ good_width c (o ∷ w ∷ []) h =
     let m = some_of (number_in (codes "WIDTH") w) h.1.0 in (n.0, m.0, cc (step-offset c o n.0 n.1, m.1))
 good_width c (o ∷ w ∷ v ∷ f) h = absurd h.1.1
 
+-- Pairs behind a body lead on from it.
 behind_body : (slots : List Slot) (f : List Pair) (h : IsBodyThen slots f) (t : State) → Leads (InBody h.3.0) h.1 t
     → Leads Start f t
 behind_body slots f h t m = rw h.2 (leads_on Start (InBody h.3.0) t h.0 h.1 (leads_body h.0 h.3.0 h.3.1) m)
@@ -107,6 +108,7 @@ next_offset_fails : (c : Configuration) (q : Pair) → c.elements ≢ [] → q.k
 unfolding step in_body expect
 next_offset_fails c q some key none = let same = is_key q.key _ key in grind arith
 
+-- A pair that no path is in.
 no_path : (q : Pair) → ¬ ((path : List Node) × (path_in q ≡ Some path)) → path_in q ≡ None
 no_path q none = none_of (path_in q) (λ some. none (some_of (path_in q) some))
 

@@ -1,12 +1,12 @@
 -- The one group that pairs begin with, and the one cut of a text.
 use Rattle.std.proofs.Common.{◌≡◌, ◌≢◌, ℕ, zero, suc, ◌+◌, ◌<◌, ◌≤◌, List, [], ◌∷◌, ◌++◌, length, refl, sym, ◌∙◌, ap}
-use Rattle.std.proofs.Common.{subst, arith, length-append}
+use Rattle.std.proofs.Common.{arith, length-append}
 use Rattle.std.specs.Prelude.{Option, Result}
 use Rattle.uefi_hii.specs.declared.error.ParseError.{ParseError}
 use Rattle.uefi_hii.specs.Pairs.{Pair, pairs}
 use Rattle.uefi_hii.specs.Configuration.{Configuration}
 use Rattle.uefi_hii.specs.Group.{Group}
-use Rattle.uefi_hii.specs.Cut.{AreGroups, Part, first_pair, pairs_of}
+use Rattle.uefi_hii.specs.Cut.{AreGroups, Part, pairs_of}
 use Rattle.uefi_hii.specs.Laws.{BeginsWith, HasOneCut, OneGroup}
 use Rattle.uefi_hii.proofs.Complete.{complete}
 use Rattle.uefi_hii.proofs.Machine.{Outcome, Start, outcome, run}
@@ -57,8 +57,8 @@ some_cut (suc k) (p ∷ ps) short =
     let n : length (p ∷ ps) ≡ length o.group + length o.rest = ap length f.whole ∙ length-append o.group o.rest in
     let more = some_cut k o.rest (omega (arith, n, some_length o.group f.group.not_empty, short)) in (
       part o.group o.result ∷ more.0,
-      ap (λ x. o.group ++ x) more.1 ∙ sym f.whole,
-      (subst (λ x. Group o.group (first_pair x) o.result) (sym more.1) f.group, more.2),
+      rw more.1 (sym f.whole),
+      (rw more.1 f.group, more.2),
     )
 
 -- A group has pairs.

@@ -1,10 +1,10 @@
 -- The elements of a configuration, read one after another.
-use Rattle.std.proofs.Common.{◌≡◌, ◌≢◌, ℕ, Bool, true, List, [], ◌∷◌, ◌++◌, map, refl, sym, ◌∙◌, ap, subst}
+use Rattle.std.proofs.Common.{◌≡◌, ◌≢◌, ℕ, List, [], ◌∷◌, ◌++◌, map, refl, ap}
 use Rattle.std.proofs.Common.{append_assoc, inl, inr}
 use Rattle.std.proofs.lemmas.List.{map-append}
 use Rattle.std.proofs.lemmas.Bool.{cases_Bool}
 use Rattle.std.proofs.lemmas.Slice.Eq.{bytes_eq-Decides}
-use Rattle.std.specs.Prelude.{if◌then◌else◌, option_map, reverse, Option, Some, None, Ok, Err, codes}
+use Rattle.std.specs.Prelude.{Vec, reverse, Option, Some, None, Ok, Err, codes}
 use Rattle.std.specs.Str.{bytes_eq}
 use Rattle.uefi_hii.specs.declared.configuration.ConfigurationString.{ConfigurationString}
 use Rattle.uefi_hii.specs.declared.configuration.ConfigurationStringElement.{ConfigurationStringElement}
@@ -31,11 +31,6 @@ pub record ComesBefore (before left : List Pair) (c : Configuration) : Type 0 wh
   pub whole : before ≡ body ++ left
   pub spells : Spells body c
   pub expects : Expects body (first_pair left) OffsetSlot
-
--- A push that didn't fail added the element.
-pub pushed : {X : Type 0} (t : Bool) (before after : List X) (x : X) → after ≡ if t then before ++ x ∷ [] else before
-    → t ≡ true → after ≡ before ++ x ∷ []
-pushed t before after x is fine = is ∙ ap (λ b. if b then before ++ x ∷ [] else before) fine
 
 -- After a header an element comes, if a pair is left.
 pub after_header : {A : Type 0} (before left : List Pair) (c : ConfigurationString A) → TakesHeader before (Ok c) left
@@ -91,29 +86,18 @@ pub record ComesAfter (before after : List Pair) (c : Configuration) : Type 0 wh
   pub some : c.elements ≢ []
   pub stops : StopsAt after
 
-pub after_element : {A : Type 0} (before left after : List Pair) (c d : ConfigurationString A)
-    (e : ConfigurationStringElement A) → ComesBefore before left (configuration_of c)
-    → TakesElement left (Ok e) after
-    → configuration_of d ≡ record (configuration_of c)
-    { elements = map element_of c.elements.items ++ element_of e ∷ [] }
-    → ComesAfter before after (configuration_of d)
-after_element before left after c d e g t is = record {
+pub after_element : {A : Type 0} (before left after : List Pair) (c : ConfigurationString A)
+    (elements : Vec (ConfigurationStringElement A) A) (e : ConfigurationStringElement A)
+    → ComesBefore before left (configuration_of c) → TakesElement left (Ok e) after
+    → elements.items ≡ c.elements.items ++ e ∷ []
+    → ComesAfter before after (configuration_of (record c { elements = elements }))
+after_element before left after c elements e g t push = record {
   body = g.body ++ t.0;
-  whole = g.whole ∙ ap (λ x. g.body ++ x) t.1 ∙ sym (append_assoc g.body t.0 after);
-  spells = subst (Spells (g.body ++ t.0)) (sym is)
-      (spells_element g.body t.0 (configuration_of c) (element_of e) g.spells t.2);
-  some = λ z. push_some (map element_of c.elements.items) (element_of e) (sym (ap (λ x. x.elements) is) ∙ z);
+  whole = rw (g.whole, t.1, append_assoc g.body t.0 after);
+  spells = rw (push, map-append) (spells_element g.body t.0 (configuration_of c) (element_of e) g.spells t.2);
+  some = λ none. push_some (map element_of c.elements.items) (element_of e) (rw (push, map-append) at none);
   stops = t.3;
 }
-
--- A configuration, and an element more.
-pub configuration_push : {A : Type 0} (c : ConfigurationString A) (items : List (ConfigurationStringElement A))
-    (e : ConfigurationStringElement A) → items ≡ c.elements.items ++ e ∷ []
-    → record (configuration_of c) { elements = map element_of items } ≡ record (configuration_of c)
-    { elements = map element_of c.elements.items ++ element_of e ∷ [] }
-configuration_push c items e is =
-    ap (λ x. record (configuration_of c) { elements = x })
-    (ap (map element_of) is ∙ map-append element_of c.elements.items (e ∷ []))
 
 -- Another element comes where the next key is OFFSET; else the configuration ends.
 pub goes_on : (before after : List Pair) (c : Configuration) → ComesAfter before after c
@@ -157,7 +141,7 @@ pub takes_element : {A : Type 0} (before one two three after : List Pair) (e : C
     → TakesElement before (Ok e) after
 takes_element before one two three after e text o w v is s = (
   o.0 ∷ w.0 ∷ v.0 ∷ map nv_pair_of e.nvconfig.items,
-  o.1 ∙ ap (λ x. o.0 ∷ x) (w.1 ∙ ap (λ x. w.0 ∷ x) (v.1 ∙ ap (λ x. v.0 ∷ x) s.0)),
-  (o.2, w.2, ap (option_map (λ x. reverse (hex x))) v.2 ∙ ap Some (sym is), refl, s.1),
+  rw (o.1, w.1, v.1, s.0),
+  (o.2, w.2, rw (v.2, is), refl, s.1),
   s.2,
 )

@@ -1,19 +1,18 @@
 -- The header of a configuration, read pair by pair.
-use Rattle.std.proofs.Common.{◌≡◌, ◌≢◌, ℕ, List, [], ◌∷◌, refl, sym, ◌∙◌, ap, subst}
-use Rattle.std.specs.Prelude.{Option, Some, None, Result, Ok, Err, IsErrAnd, string_bytes, codes}
+use Rattle.std.proofs.Common.{◌≡◌, ◌≢◌, ℕ, List, [], ◌∷◌, refl, ◌∙◌, ap}
+use Rattle.std.specs.Prelude.{Option, Some, None, Result, Ok, Err, IsErrAnd, string_bytes}
 use Rattle.uefi_hii.specs.declared.configuration.ConfigurationString.{ConfigurationString}
 use Rattle.uefi_hii.specs.declared.error.ParseError.{ParseError}
 use Rattle.uefi_path.specs.Node.{Node}
 use Rattle.uefi_path.specs.Views.{boxed_nodes}
 use Rattle.uefi_path.specs.declared.boxed.BoxedDevicePath.{BoxedDevicePath}
 use Rattle.uefi_hii.specs.Pairs.{Pair}
-use Rattle.uefi_hii.specs.Configuration.{HasPath, guid_in, name_in, value_at}
+use Rattle.uefi_hii.specs.Configuration.{HasPath, guid_in, name_in}
 use Rattle.uefi_hii.specs.Slots.{AltSlot, GuidSlot, IsGood, IsHeader, NameSlot, PathSlot, alt_after_header}
 use Rattle.uefi_hii.specs.Slots.{error_of, guid_first, name_after_guid, path_after_name}
-use Rattle.uefi_hii.specs.Reading.{MayRunOut}
-use Rattle.uefi_hii.specs.private.Taking.{IsNamed, Misses, Takes, TakesAlt, TakesError, TakesHeader, TakesPath}
+use Rattle.uefi_hii.specs.private.Taking.{Misses, Takes, TakesAlt, TakesError, TakesHeader, TakesPath}
 use Rattle.uefi_hii.proofs.Failing.{fails_after}
-use Rattle.uefi_hii.proofs.Shapes.{named_value, some_is}
+use Rattle.uefi_hii.proofs.Shapes.{some_is}
 
 -- The three pairs with which a header begins, and the pairs that are left.
 pub record HasThree (before left : List Pair) (x y : List ℕ) (path : List Node) : Type 0 where
@@ -32,7 +31,7 @@ three_taken before one two left x y path g n p = record {
   g = g.0;
   n = n.0;
   p = p.0;
-  whole = g.1 ∙ ap (λ s. g.0 ∷ s) n.1 ∙ ap (λ s. g.0 ∷ n.0 ∷ s) p.1;
+  whole = rw (g.1, n.1, p.1);
   guid = g.2;
   name = n.2;
   has_path = p.2;
@@ -64,15 +63,6 @@ alt_fails A before left after x y path e some three missed =
     rw missed.0
     (fails_after AltSlot before (three.g ∷ three.n ∷ three.p ∷ []) left after some three.whole
     (alt_after_header good missed.1) missed.2)
-
--- Memory may run out once the second pair has the name's key and a value.
-pub may_run_out : (before one : List Pair) (x : List ℕ) → Takes guid_in before (Some x) one → IsNamed one
-    → MayRunOut before
-may_run_out before [] x g named = absurd named
-may_run_out before (n ∷ others) x g named = subst MayRunOut (sym g.1) (some_is (guid_in g.0) x g.2, named)
-
-pub named : (one two : List Pair) (y : List ℕ) → Takes name_in one (Some y) two → IsNamed one
-named one two y n = subst IsNamed (sym n.1) (named_value (value_at (codes "NAME") n.0) y n.2)
 
 -- An error that is passed on is the result.
 pub residual : {T E : Type 0} (r : Result T E) (e : E) → IsErrAnd r (λ y. y ≡ e) → r ≡ Err e

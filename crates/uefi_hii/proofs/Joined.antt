@@ -38,6 +38,7 @@ last_kept c (d ∷ x) closed =
     one_kept c (is_ampersand c) (pieces (d ∷ x)) (pieces_some (d ∷ x))
     (last_kept d x (λ o. closed (c ∷ o.0, ap (λ z. c ∷ z) o.1)))
 
+-- The first of joined pieces are kept.
 without_empty_last-append : (ps qs : List (List ℕ)) → qs ≢ []
     → without_empty_last (ps ++ qs) ≡ ps ++ without_empty_last qs
 without_empty_last-append [] qs some = refl
@@ -72,10 +73,9 @@ groups-joined (g ∷ []) m e a b key = (by_result g.result a.0 e, b)
     by_result (Err x) h some = absurd some
     by_result (Ok c) h some =
         record { not_empty = h.not_empty; gives = (h.gives.0, by_key (first_pair (pairs_of m)) c key some) }
-groups-joined (g ∷ h ∷ l) m e a b key = (
-  subst (λ p. Group g.group p g.result) (same_first h.group (pairs_of l) (pairs_of (l ++ m)) a.1.0.not_empty) a.0,
-  groups-joined (h ∷ l) m e a.1 b key,
-)
+groups-joined (g ∷ h ∷ l) m e a b key =
+    let first = same_first h.group (pairs_of l) (pairs_of (l ++ m)) a.1.0.not_empty in
+    (rw first at a.0, groups-joined (h ∷ l) m e a.1 b key)
 
 -- A text whose cut has a part isn't empty.
 text_some : (x : List ℕ) (l : List Part) → Cut x l → EndsWithElement l → x ≢ []

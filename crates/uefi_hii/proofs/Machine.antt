@@ -118,6 +118,7 @@ steps s (p ∷ ps) = on_next (step s p) (λ t. steps t ps)
 abbrev pub Leads : State → List Pair → State → Type 0
 Leads s ps t = steps s ps ≡ Next t
 
+-- The first of them is read, and the others lead on.
 leads_first : (s t : State) (p : Pair) (ps : List Pair) → Leads s (p ∷ ps) t
     → (u : State) × (step s p ≡ Next u) × Leads u ps t
 unfolding steps on_next
@@ -128,6 +129,7 @@ leads_first s t p ps = by_step (step s p)
     by_step (Fail slot) m = absurd (cc)
     by_step Stop m = absurd (cc)
 
+-- Pairs that lead on, and others that lead on from there.
 pub leads_on : (s t u : State) (ps qs : List Pair) → Leads s ps t → Leads t qs u → Leads s (ps ++ qs) u
 unfolding steps on_next
 leads_on s t u [] qs m n = cc

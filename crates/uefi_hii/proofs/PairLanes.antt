@@ -1,6 +1,6 @@
 -- Every other element of a list, and the items that pairs of digits stand for.
-use Rattle.std.proofs.Common.{◌≡◌, ℕ, ◌+◌, ◌*◌, ◌%◌, ◌<◌, ◌≤◌, zero, suc, true, List, [], ◌∷◌, ◌++◌, map, length, get_or}
-use Rattle.std.proofs.Common.{take, drop, replicate, refl, sym, subst, ap, ap₂, ◌∙◌, arith, w8, Fits, lit<}
+use Rattle.std.proofs.Common.{◌≡◌, ℕ, ◌+◌, ◌*◌, ◌%◌, ◌<◌, ◌≤◌, zero, suc, true, List, [], ◌∷◌, ◌++◌, map, length}
+use Rattle.std.proofs.Common.{get_or, take, drop, replicate, refl, sym, subst, ap, ap₂, ◌∙◌, arith, w8, Fits, lit<}
 use Rattle.std.specs.List.{list_all}
 use lib.Lanes.{Each1, zip2, chunk, pick_l}
 use lib.Seq.{take-add}

@@ -28,6 +28,7 @@ path_of_value (Some value) = path_by (hex value) (path_or_none (hex value) (hex_
 pub path_in : Pair → Option (List Node)
 path_in pair = path_of_value pair.value
 
+-- A path is in a pair if and only if its value's bytes begin with it.
 path_by-is : (bytes : List ℕ) (d : Dec (BeginsWithPath bytes)) (path : List Node)
     → (path_by bytes d ≡ Some path) ↔ PathOf bytes path
 unfolding path_by

@@ -8,8 +8,8 @@ use Rattle.std.specs.Bool.{Decides}
 use Rattle.std.specs.Prelude.{Option, Some, None, IsSome, is_some, codes}
 use Rattle.uefi_hii.specs.Pairs.{Pair}
 use Rattle.uefi_hii.specs.Configuration.{Configuration, Element, Spells, bytes_in, guid_in, name_in, number_in}
-use Rattle.uefi_hii.specs.Slots.{AltSlot, AreGood, Expects, GuidSlot, IsGood, NameSlot, OffsetSlot, PathSlot, Slot, ValueSlot}
-use Rattle.uefi_hii.specs.Slots.{WidthSlot}
+use Rattle.uefi_hii.specs.Slots.{AltSlot, AreGood, Expects, GuidSlot, IsGood, NameSlot, OffsetSlot, PathSlot, Slot}
+use Rattle.uefi_hii.specs.Slots.{ValueSlot, WidthSlot}
 use Rattle.uefi_hii.specs.Slots.{alt_after_header, guid_first, name_after_guid, offset_after_alt, offset_after_element}
 use Rattle.uefi_hii.specs.Slots.{offset_after_header, path_after_name, value_after_width, width_after_offset}
 use Rattle.uefi_hii.specs.Group.{Gives, Group}

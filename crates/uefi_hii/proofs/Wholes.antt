@@ -32,23 +32,17 @@ AreGroupsBefore (e ∷ es) left = Group e.group (first_pair (pairs_of es ++ left
 pairs_of-push : (es : List Part) (g left : List Pair) (r : Result Configuration ParseError)
     → pairs_of (es ++ part g r ∷ []) ++ left ≡ pairs_of es ++ (g ++ left)
 pairs_of-push es g left r =
-    ap (λ x. x ++ left) (flat_map-append (λ z. z.group) es (part g r ∷ []))
-    ∙ append_assoc (pairs_of es) (g ++ []) left
-    ∙ ap (λ x. pairs_of es ++ (x ++ left)) (append-nil g)
+    rw (flat_map-append (λ z. z.group) es (part g r ∷ []), append-nil g, append_assoc (pairs_of es) g left)
 
 groups_push : (es : List Part) (g left : List Pair) (r : Result Configuration ParseError)
     → AreGroupsBefore es (g ++ left) → Group g (first_pair left) r → AreGroupsBefore (es ++ part g r ∷ []) left
 groups_push [] g left r a h = (h, tt)
-groups_push (e ∷ es) g left r a h = (
-  subst (λ x. Group e.group (first_pair x) e.result) (sym (pairs_of-push es g left r)) a.0,
-  groups_push es g left r a.1 h,
-)
+groups_push (e ∷ es) g left r a h = (rw (pairs_of-push es g left r) a.0, groups_push es g left r a.1 h)
 
 -- Where no pair is left, they are all groups.
 groups_end : (es : List Part) → AreGroupsBefore es [] → AreGroups es
 groups_end [] a = tt
-groups_end (e ∷ es) a =
-    (subst (λ x. Group e.group (first_pair x) e.result) (append-nil (pairs_of es)) a.0, groups_end es a.1)
+groups_end (e ∷ es) a = (rw append-nil at a.0, groups_end es a.1)
 
 -- The items so far are the results of the first groups of the pairs, and these pairs are left.
 pub record HasCut {A : Type 0} (all left : List Pair)
@@ -102,7 +96,7 @@ pub all_groups : {A : Type 0} (all left : List Pair) (items : List (Result (Conf
     → (parts : List Part) × (pairs_of parts ≡ all) × AreGroups parts × (map result_of items ≡ results_of parts)
 all_groups all left items c e = (
   c.parts,
-  sym (c.whole ∙ ap (λ x. pairs_of c.parts ++ x) e ∙ append-nil (pairs_of c.parts)),
+  sym (rw (e, append-nil) at c.whole),
   groups_end c.parts (subst (AreGroupsBefore c.parts) e c.each),
   c.results,
 )
@@ -195,3 +189,6 @@ pub of_the_cut : {A : Type 0} (text : List ℕ) (r : Result (ConfigurationString
     → ((parts : List Part) → Cut text parts → IsFirstResult parts r)
     → (parts : List Part) × Cut text parts × IsFirstResult parts r
 of_the_cut text r every = let one = has_one_cut text in (one.parts, one.cut, every one.parts one.cut)
+
+-- What the reader of a text's first configuration asks for.
+pub ruleset first_steps = (none_first, is_first, of_the_cut)

@@ -111,6 +111,7 @@ impl<A: Allocator + Copy> ConfigurationString<A> {
     /// - [`ParseError::BlockConfig`] if `VALUE` doesn't follow them.
     /// - [`ParseError::Memory`] if an allocation fails before an error is found. [`ParseError`] says
     ///   which pairs are judged before memory is asked for.
+    #[tactic(auto, using(crate::proofs::Wholes::first_steps))]
     pub fn from_str(alloc: A, text: &str) -> Result<ConfigurationString<A>, ParseError>
         ensures cut { (parts : List Part) × Cut text.now parts × IsFirstResult parts result }
         ensures only { (parts : List Part) → Cut text.now parts → IsFirstResult parts result }

@@ -104,6 +104,7 @@ impl<'a, A: Allocator + Copy> Iterator for MultiConfigurationStringIter<'a, A> {
 ///
 /// [`AllocError`] if an allocation fails, whatever errors the text has. So no item is
 /// [`ParseError::Memory`].
+#[tactic(auto, using(crate::proofs::Wholes::cut_none))]
 pub fn parse_all<A: Allocator + Copy>(
     alloc: A,
     text: &str,

@@ -1,16 +1,9 @@
 use Rattle.std.proofs.Common.{◌<◌, ℕ, List, eqb, sym, ap, ◌∙◌, arith, w8, length, map, subst}
 use lib.Count.{count_trailing_zeros}
 use lib.Lanes.{chunk, mask_l}
-use Rattle.std.proofs.lemmas.Simd.{bitmask_splat, leading_from_mask_l, length-chunk, trailing_mask_l}
+use Rattle.std.proofs.lemmas.Simd.{bitmask_splat, length-chunk, trailing_mask_l}
 use Rattle.uefi_hii.proofs.FirstByte.{some_lane_passes}
 use Rattle.uefi_hii.proofs.finding.lane_of.Goals as goal
-
-pub returns-then-found-eq0 : goal.returns-then-found-eq0
-returns-then-found-eq0 c =
-    let block : List ℕ = chunk c.args.start 16 c.args.bytes.now in
-    let long = length-chunk c.args.start 16 c.args.bytes.now c.requires in
-    let mask = bitmask_splat w8 eqb block 16 c.args.byte long (omega arith) in
-    leading_from_mask_l (λ x. eqb x c.args.byte) block (sym mask ∙ c.if-found-eq0.true)
 
 pub returns : goal.returns
 returns c =

@@ -1,12 +1,8 @@
 use Rattle.std.proofs.Common.{◌≡◌, sym, subst, [], ◌∷◌, ◌++◌}
 use Rattle.uefi_hii.specs.Pairs.{pairs}
 use Rattle.uefi_hii.specs.Views.{uncut_pairs}
-use Rattle.uefi_hii.proofs.Wholes.{HasCut, cut_all, cut_more, cut_none, cut_only}
+use Rattle.uefi_hii.proofs.Wholes.{HasCut, cut_all, cut_more, cut_only}
 use Rattle.uefi_hii.proofs.multi.parse_all.Goals as goal
-
-pub loop-result-init : goal.loop-result-init
-loop-result-init g c = cut_none (pairs c.args.text.now) _ c.new-all.result.items c.new-configurations.ensures.pairs
-    c.new-all.ensures.items
 
 pub loop-result-preserved : goal.loop-result-preserved
 loop-result-preserved g c =

@@ -1,14 +1,7 @@
-use Rattle.std.proofs.Common.{◌≡◌, ◌<◌, false, true, not, sym, ◌∙◌, ap, arith, List, [], ◌∷◌, ◌++◌, length, length-append}
-use Rattle.std.specs.Prelude.{Ok}
-use Rattle.uefi_hii.specs.declared.configuration.ConfigurationStringElement.{ConfigurationStringElement}
-use Rattle.uefi_hii.specs.Pairs.{Pair}
-use Rattle.uefi_hii.specs.Configuration.{SpellsElement}
-use Rattle.uefi_hii.specs.private.Taking.{TakesElement}
-use Rattle.uefi_hii.specs.Views.{configuration_of, element_of, peeked_pairs}
-use Rattle.uefi_hii.proofs.Elements.{after_element, after_header, configuration_push, element_fails, ends, goes_on}
-use Rattle.uefi_hii.proofs.Elements.{pushed}
+use Rattle.std.proofs.Common.{◌≡◌, false, true, not, sym, ◌∙◌, ap}
+use Rattle.uefi_hii.specs.Views.{configuration_of, peeked_pairs}
+use Rattle.uefi_hii.proofs.Elements.{after_element, after_header, element_fails, ends, goes_on}
 use Rattle.uefi_hii.proofs.Headers.{residual}
-use Rattle.uefi_hii.proofs.Shapes.{spells_good}
 use Rattle.uefi_hii.proofs.reading.read_group.Goals as goal
 
 pub loop-configuration-init : goal.loop-configuration-init
@@ -27,47 +20,22 @@ returns-in_err-element g c =
 
 pub returns-then-not-is_at : goal.returns-then-not-is_at
 returns-then-not-is_at g c =
-    let push = pushed _ c.loop-configuration.configuration.elements.items c.push.new.self.items c.in_ok-element.element
-    c.push.ensures.items (c.is_err.ensures.negation ∙ ap not c.if-is_err.false) in
+    let configuration = c.loop-configuration.configuration in
+    let push = rw (c.is_err.ensures.negation ∙ ap not c.if-is_err.false) at c.push.ensures.items in
     ends (peeked_pairs c.args.pairs.now) (peeked_pairs c.read_element.new.pairs)
-    (record c.loop-configuration.configuration { elements = c.push.new.self })
+    (record configuration { elements = c.push.new.self })
     (after_element (peeked_pairs c.args.pairs.now) (peeked_pairs c.loop-configuration.pairs)
-    (peeked_pairs c.read_element.new.pairs) c.loop-configuration.configuration
-    (record c.loop-configuration.configuration { elements = c.push.new.self }) c.in_ok-element.element
-    c.loop-configuration.invariant c.in_ok-element.ensures
-    (configuration_push c.loop-configuration.configuration c.push.new.self.items c.in_ok-element.element push))
+    (peeked_pairs c.read_element.new.pairs) configuration c.push.new.self c.in_ok-element.element
+    c.loop-configuration.invariant c.in_ok-element.ensures push)
     (λ key. let h = c.is_at.ensures.1 key in let k = c.if-not-is_at.true in let x : true ≡ false = sym h ∙ k in cc)
 
 pub loop-configuration-preserved : goal.loop-configuration-preserved
 loop-configuration-preserved g c =
-    let push = pushed _ c.loop-configuration.configuration.elements.items c.push.new.self.items c.in_ok-element.element
-    c.push.ensures.items (c.is_err.ensures.negation ∙ ap not c.if-is_err.false) in
+    let configuration = c.loop-configuration.configuration in
+    let push = rw (c.is_err.ensures.negation ∙ ap not c.if-is_err.false) at c.push.ensures.items in
     goes_on (peeked_pairs c.args.pairs.now) (peeked_pairs c.read_element.new.pairs)
-    (configuration_of (record c.loop-configuration.configuration { elements = c.push.new.self }))
+    (configuration_of (record configuration { elements = c.push.new.self }))
     (after_element (peeked_pairs c.args.pairs.now) (peeked_pairs c.loop-configuration.pairs)
-    (peeked_pairs c.read_element.new.pairs) c.loop-configuration.configuration
-    (record c.loop-configuration.configuration { elements = c.push.new.self }) c.in_ok-element.element
-    c.loop-configuration.invariant c.in_ok-element.ensures
-    (configuration_push c.loop-configuration.configuration c.push.new.self.items c.in_ok-element.element push))
+    (peeked_pairs c.read_element.new.pairs) configuration c.push.new.self c.in_ok-element.element
+    c.loop-configuration.invariant c.in_ok-element.ensures push)
     (c.is_at.ensures.0 c.if-not-is_at.false)
-
-pub returns-then-is_err : goal.returns-then-is_err
-returns-then-is_err g c =
-    let before = c.loop-configuration.invariant in
-    spells_good (peeked_pairs c.args.pairs.now) before.body (peeked_pairs c.loop-configuration.pairs)
-    (configuration_of c.loop-configuration.configuration) before.spells before.whole
-
--- An element has pairs, so fewer are left.
-takes_some : {A : Type 0} (left after : List Pair) (e : ConfigurationStringElement A) → TakesElement left (Ok e) after
-    → length after < length left
-takes_some left after e t = by_front t.0 t.1 t.2
-  where
-    by_front : (front : List Pair) → left ≡ front ++ after → SpellsElement front (element_of e)
-        → length after < length left
-    by_front [] is s = absurd s
-    by_front (q ∷ front) is s = omega (arith, ap length is, length-append front after)
-
-pub loop-configuration-smaller : goal.loop-configuration-smaller
-loop-configuration-smaller g c =
-    takes_some (peeked_pairs c.loop-configuration.pairs) (peeked_pairs c.read_element.new.pairs) c.in_ok-element.element
-    c.in_ok-element.ensures

@@ -1,26 +1,12 @@
 use Rattle.std.specs.Prelude.{string_bytes}
 use Rattle.uefi_hii.specs.Views.{peeked_pairs}
-use Rattle.uefi_hii.proofs.Headers.{alt_fails, guid_fails, may_run_out, name_fails, named, path_fails, residual}
+use Rattle.uefi_hii.proofs.Headers.{alt_fails, guid_fails, name_fails, path_fails, residual}
 use Rattle.uefi_hii.proofs.Headers.{takes_header, three_taken}
 use Rattle.uefi_hii.proofs.reading.read_header.Goals as goal
 
 pub returns-in_default : goal.returns-in_default
 returns-in_default u c =
     guid_fails (peeked_pairs c.args.pairs.now) (peeked_pairs c.take_guid.new.pairs) c.requires c.in_default.ensures
-
-pub returns-in_err-name : goal.returns-in_err-name
-returns-in_err-name u c =
-    rw (residual c.from_residual.result _ c.from_residual.ensures.1)
-    (may_run_out (peeked_pairs c.args.pairs.now) (peeked_pairs c.take_guid.new.pairs) c.in-Some.guid.0
-    c.in-Some.ensures c.in_err-name.ensures.named)
-
-pub returns-in_err-device_path : goal.returns-in_err-device_path
-returns-in_err-device_path u c =
-    rw (residual c.from_residual-in_err-device_path.result _ c.from_residual-in_err-device_path.ensures.1)
-    (may_run_out (peeked_pairs c.args.pairs.now) (peeked_pairs c.take_guid.new.pairs) c.in-Some.guid.0
-    c.in-Some.ensures
-    (named (peeked_pairs c.take_guid.new.pairs) (peeked_pairs c.take_name.new.pairs) (string_bytes c.in-Some-2.name)
-    (rw c.in-Some-2.is at c.in_ok-name.ensures.taken)))
 
 pub returns-in_default-2 : goal.returns-in_default-2
 returns-in_default-2 u c =
