@@ -8,8 +8,8 @@ use Rattle.uefi_hii.proofs.finding.index_from.Goals as goal
 
 pub returns-in_err-position : goal.returns-in_err-position
 returns-in_err-position c =
-    let found = position_from_yields_List (λ b. b == c.args.byte) c.position.new.self _ None c.in_err-position.ensures.ran
-    (YieldsList-from_slice _ c.iter.ensures.rest) (λ x b q k. search (rules, tests)) in
+    let found = position_from_yields_List (λ b. b == c.args.byte) c.position.new.self _ None
+    c.in_err-position.ensures.ran (YieldsList-from_slice _ c.iter.ensures.rest) (λ x b q k. search (rules, tests)) in
     rw c.from_residual.ensures
     (not_in_rest c.args.byte c.args.start c.args.bytes.now c.requires.within c.requires.none_before
     (is_first c.args.byte _ None found))
