@@ -6,10 +6,9 @@ use Rattle.std.specs.Char.{encode_utf8}
 use Rattle.std.specs.List.{list_all}
 use Rattle.uefi_base.specs.Buffer.{put_at, put_prefix}
 use Rattle.uefi_hii.specs.Hex.{hex}
-use Rattle.uefi_hii.specs.Values.{is_odd_byte_zero, name, units}
-use Rattle.uefi_hii.specs.private.Parts.{is_even, is_name_unit}
+use Rattle.uefi_hii.specs.Values.{is_name_unit, is_odd_byte_zero, name, units}
 use Rattle.uefi_hii.proofs.HexEnds.{length-hex}
-use Rattle.uefi_hii.proofs.Names.{HasNamed, named_all, named_bad, named_odd}
+use Rattle.uefi_hii.proofs.Names.{HasNamed, is_even, named_all, named_bad, named_odd}
 use Rattle.uefi_c.specs.Config.{name_of}
 use Rattle.uefi_c.proofs.Utf8Puts.{HasText, more_text, same_length, no_text}
 

@@ -4,7 +4,7 @@ ghost use Rattle.std.specs.Prelude.{◌≡◌, ◌+◌, ◌≤◌, true, false, 
 ghost use Rattle.std.specs.Char.{encode_utf8};
 ghost use Rattle.uefi_base.specs.Buffer.{put_at};
 ghost use Rattle.uefi_base.specs.Ucs2.{IsCharacter};
-ghost use Rattle.uefi_hii.specs.private.Parts.{is_name_unit};
+ghost use Rattle.uefi_hii.specs.Values.{is_name_unit};
 
 use uefi_base::buffer::put;
 

@@ -10,8 +10,7 @@ use Rattle.uefi_hii.specs.Slots.{AreGood, Expects, GuidSlot, IsBodyThen, IsGood,
 use Rattle.uefi_hii.specs.Slots.{NameSlot, OffsetSlot, Slot, WidthSlot, AltSlot, error_of}
 use Rattle.uefi_hii.specs.Slots.{alt_after_header, guid_first, name_after_guid, offset_after_alt, offset_after_element}
 use Rattle.uefi_hii.specs.Slots.{offset_after_header, path_after_name, value_after_width, width_after_offset}
-use Rattle.uefi_hii.specs.Group.{FailsAt, Gives}
-use Rattle.uefi_hii.specs.private.Parts.{EndsBefore}
+use Rattle.uefi_hii.specs.Group.{EndsBefore, FailsAt, Gives}
 use Rattle.uefi_hii.specs.Cut.{first_pair}
 use Rattle.uefi_hii.proofs.Leading.{is_key, is_not_key, leads_body, step-alt, step-offset, step-stop}
 use Rattle.uefi_hii.proofs.Machine.{AfterGuid, AfterName, AfterOffset, AfterWidth, Fail, InBody, Leads, Start, State}

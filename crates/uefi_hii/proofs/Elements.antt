@@ -15,7 +15,7 @@ use Rattle.uefi_hii.specs.Pairs.{Pair}
 use Rattle.uefi_hii.specs.Configuration.{Configuration, Spells, number_in, value_at}
 use Rattle.uefi_hii.specs.Slots.{Expects, IsKey, OffsetSlot, ValueSlot, WidthSlot, offset_after_alt}
 use Rattle.uefi_hii.specs.Slots.{offset_after_element, offset_after_header, value_after_width, width_after_offset}
-use Rattle.uefi_hii.specs.private.Parts.{EndsBefore}
+use Rattle.uefi_hii.specs.Group.{EndsBefore}
 use Rattle.uefi_hii.specs.Cut.{first_pair}
 use Rattle.uefi_hii.specs.Views.{configuration_of, element_of, nv_pair_of}
 use Rattle.uefi_hii.specs.Reading.{TakesGroup}

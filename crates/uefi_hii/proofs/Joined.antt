@@ -5,14 +5,12 @@ use Rattle.std.proofs.lemmas.Bool.{ne_eqb}
 use Rattle.std.proofs.lemmas.List.Concat.{flat_map-append}
 use Rattle.std.specs.Prelude.{Option, Some, None, Result, Ok, Err, IsOkAnd, codes}
 use Rattle.std.specs.List.{onto_first}
-use Rattle.uefi_hii.proofs.Pieces.{not_last, pieces_some}
+use Rattle.uefi_hii.proofs.Pieces.{is_ampersand, not_last, pieces, pieces_some}
 use Rattle.uefi_hii.specs.declared.error.ParseError.{ParseError}
 use Rattle.uefi_hii.specs.Pairs.{Pair, ampersand, pairs, without_empty_last}
-use Rattle.uefi_hii.specs.private.Parts.{is_ampersand, pieces}
 use Rattle.uefi_hii.specs.Configuration.{Configuration}
 use Rattle.uefi_hii.specs.Slots.{IsKey}
-use Rattle.uefi_hii.specs.Group.{Group}
-use Rattle.uefi_hii.specs.private.Parts.{EndsBefore}
+use Rattle.uefi_hii.specs.Group.{EndsBefore, Group}
 use Rattle.uefi_hii.specs.Cut.{AreGroups, Cut, Part, first_pair, pairs_of}
 use Rattle.uefi_hii.specs.Laws.{EndsWithAmpersand, EndsWithElement, JoinsCuts, OneCut}
 use Rattle.uefi_hii.proofs.Cuts.{group_some, has_one_cut}

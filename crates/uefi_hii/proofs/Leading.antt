@@ -11,8 +11,7 @@ use Rattle.std.specs.List.{AllByRecursion}
 use Rattle.uefi_path.specs.Node.{Node}
 use Rattle.uefi_hii.specs.Pairs.{Pair}
 use Rattle.uefi_hii.specs.Configuration.{Configuration, Element, Spells, SpellsElement, SpellsElements}
-use Rattle.uefi_hii.specs.Configuration.{SpellsHeader, number_in}
-use Rattle.uefi_hii.specs.private.Parts.{IsSkipped}
+use Rattle.uefi_hii.specs.Configuration.{IsSkipped, SpellsHeader, number_in}
 use Rattle.uefi_hii.proofs.Machine.{AfterOffset, InBody, Leads, Next, Start, Stop, element, expect, header_of, in_body}
 use Rattle.uefi_hii.proofs.Machine.{last_with_pair, leads_on, on_next, step, steps, with_alt, with_element, with_pair}
 use Rattle.uefi_hii.proofs.Machine.{with_skipped}

@@ -1,5 +1,5 @@
 -- A machine that reads one group pair by pair. What it finds is one group, and it finds every group.
-use Rattle.std.proofs.Common.{◌≡◌, ℕ, Bool, true, false, List, [], ◌∷◌, ◌++◌, refl, append_assoc}
+use Rattle.std.proofs.Common.{◌≡◌, ℕ, ◌%◌, ◌^◌, Bool, true, false, List, [], ◌∷◌, ◌++◌, refl, append_assoc}
 use Rattle.std.proofs.lemmas.List.{append-nil}
 use Rattle.std.specs.Prelude.{Option, Some, None, Result, Ok, Err, codes}
 use Rattle.std.specs.Str.{bytes_eq}
@@ -7,7 +7,6 @@ use Rattle.uefi_hii.specs.declared.error.ParseError.{ParseError}
 use Rattle.uefi_path.specs.Node.{Node}
 use Rattle.uefi_hii.specs.Pairs.{Pair}
 use Rattle.uefi_hii.specs.Configuration.{Configuration, Element, bytes_in, guid_in, name_in, number_in}
-use Rattle.uefi_hii.specs.private.Parts.{low_16_bits}
 use Rattle.uefi_hii.specs.Slots.{AltSlot, GuidSlot, NameSlot, OffsetSlot, PathSlot, Slot, ValueSlot, WidthSlot}
 use Rattle.uefi_hii.specs.Slots.{error_of}
 use Rattle.uefi_hii.proofs.PathIn.{path_in}
@@ -20,7 +19,7 @@ abbrev pub header_of : List ℕ → List ℕ → List Node → Configuration
 header_of g n path = record { guid = g; name = n; path = path; alt_cfg_id = None; elements = [] }
 
 abbrev pub with_alt : Configuration → ℕ → Configuration
-with_alt c id = record c { alt_cfg_id = Some (low_16_bits id) }
+with_alt c id = record c { alt_cfg_id = Some (id % 2 ^ 16) }
 
 abbrev pub with_element : Configuration → Element → Configuration
 with_element c e = record c { elements = c.elements ++ e ∷ [] }

@@ -1,13 +1,16 @@
 -- A name read unit by unit.
-use Rattle.std.proofs.Common.{◌≡◌, ◌≢◌, ℕ, ◌+◌, ◌*◌, ◌%◌, true, false, List, [], ◌∷◌, ◌++◌, length}
+use Rattle.std.proofs.Common.{◌≡◌, ◌≢◌, ℕ, ◌+◌, ◌*◌, ◌%◌, Bool, true, false, List, [], ◌∷◌, ◌++◌, length}
 use Rattle.std.proofs.Common.{arith}
 use Rattle.std.proofs.lemmas.Bool.{ne_eqb}
 use Rattle.std.proofs.lemmas.List.{append-nil}
 use Rattle.std.specs.Prelude.{Some, None, ◌==◌, if◌then◌else◌, encode_utf8_all}
 use Rattle.std.specs.List.{list_all}
 use Rattle.uefi_hii.specs.Hex.{hex}
-use Rattle.uefi_hii.specs.Values.{is_odd_byte_zero, name, units}
-use Rattle.uefi_hii.specs.private.Parts.{is_even, is_name_unit}
+use Rattle.uefi_hii.specs.Values.{is_name_unit, is_odd_byte_zero, name, units}
+
+-- The test of a value's length.
+abbrev pub is_even : ℕ → Bool
+is_even n = n % 2 == 0
 
 -- The text of the units read so far, where these bytes are left.
 pub record HasNamed (all left so_far : List ℕ) : Type 0 where

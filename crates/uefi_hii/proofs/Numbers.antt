@@ -6,7 +6,10 @@ use Rattle.std.proofs.lemmas.Bool.Decides.{nat_tests}
 use Rattle.uefi_hii.specs.Hex.{hex}
 use Rattle.uefi_hii.specs.Values.{is_number_length}
 use Rattle.uefi_hii.proofs.HexBounds.{first_small}
-use Rattle.uefi_hii.specs.private.Parts.{big_endian}
+
+-- The number that bytes are, the highest first.
+abbrev pub big_endian : List ℕ → ℕ
+big_endian bytes = fold (λ number byte. number * 256 + byte) 0 bytes
 
 -- The number of the bytes read so far, of which these are left.
 pub record HasRead (all left : List ℕ) (so_far : ℕ) : Type 0 where

@@ -1,15 +1,20 @@
 -- The first piece of a text, and how many pairs a text has.
-use Rattle.std.proofs.Common.{◌≡◌, ◌≢◌, ℕ, ◌+◌, ◌<◌, ◌≤◌, Bool, true, cond, not, List, [], ◌∷◌, length, map}
-use Rattle.std.proofs.Common.{suc, take, drop, refl, ◌∙◌, ap, arith, inl, inr, lit≤}
-use Rattle.std.specs.Prelude.{Option, Some, nat_lt}
-use Rattle.std.specs.List.{onto_first, before_first, after_first, position_or_len}
-use Rattle.std.proofs.lemmas.Bool.{cases_lt, lt-ltb}
-use Rattle.std.proofs.lemmas.List.{drop-drop, drop_all, length-map, take_all}
+use Rattle.std.proofs.Common.{◌≡◌, ◌≢◌, ℕ, ◌+◌, ◌<◌, ◌≤◌, Bool, cond, not, List, [], ◌∷◌, length, map}
+use Rattle.std.proofs.Common.{suc, refl, ◌∙◌, ap, arith, inl, inr, lit≤}
+use Rattle.std.specs.Prelude.{◌==◌, Option}
+use Rattle.std.specs.List.{onto_first, before_first, after_first, position_or_len, slice_split}
+use Rattle.std.proofs.lemmas.Bool.{cases_lt}
+use Rattle.std.proofs.lemmas.List.{drop_all, length-map, take_all}
 use Rattle.std.proofs.lemmas.List.Sums.{fails_before_first, prefix_len-le-length}
 use Rattle.std.proofs.lemmas.List.Splits.{slice_split_first, slice_split_none, length-slice_split}
-use Rattle.uefi_hii.specs.private.Finding.{FindsFirst, parts_at}
-use Rattle.uefi_hii.specs.Pairs.{Pair, pair_of, pairs, without_empty_last}
-use Rattle.uefi_hii.specs.private.Parts.{is_ampersand, pieces}
+use Rattle.uefi_hii.specs.Pairs.{Pair, ampersand, pair_of, pairs, without_empty_last}
+
+abbrev pub is_ampersand : ℕ → Bool
+is_ampersand c = c == ampersand
+
+-- The pieces of a text between its ampersands.
+abbrev pub pieces : List ℕ → List (List ℕ)
+pieces text = slice_split is_ampersand text
 
 -- A pair, by its key and its value.
 abbrev by_parts : List ℕ → Option (List ℕ) → Pair
@@ -53,14 +58,6 @@ pairs_cut text some = elim (cases_lt (position_or_len is_ampersand text) (length
       let rest = drop_all (position_or_len is_ampersand text + 1) text (omega arith) in
       rw (piece, rest) (pairs_alone text some end)
 ]
-
--- The parts of bytes where there is such a byte.
-pub parts_found : (byte index : ℕ) (bytes before after : List ℕ) → FindsFirst byte bytes (Some index)
-    → before ≡ take index bytes → after ≡ drop 1 (drop index bytes)
-    → by_parts before (Some after) ≡ parts_at byte bytes
-parts_found byte index bytes before after found before_is after_is =
-    let test : nat_lt index (length bytes) ≡ true = lt-ltb index (length bytes) found.1 in
-    rw (before_is, after_is, drop-drop, ← found.0, test)
 
 -- The same pair, and the same rest.
 pub same_step : (all : List Pair) (k l r s : List ℕ) (v w : Option (List ℕ)) → k ≡ l → v ≡ w → r ≡ s

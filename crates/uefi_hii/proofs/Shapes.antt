@@ -1,13 +1,13 @@
 -- Pairs that spell a header, an element or a configuration, and a pair more.
-use Rattle.std.proofs.Common.{◌≡◌, ◌≢◌, ℕ, List, [], ◌∷◌, ◌++◌, refl, sym, ◌∙◌, ap, subst, append_assoc, arith}
+use Rattle.std.proofs.Common.{◌≡◌, ◌≢◌, ℕ, ◌%◌, ◌^◌, List, [], ◌∷◌, ◌++◌, refl, sym, ◌∙◌, ap, subst, append_assoc}
+use Rattle.std.proofs.Common.{arith}
 use Rattle.std.proofs.lemmas.List.{append-nil}
 use Rattle.std.specs.Prelude.{Option, Some, None, IsSome, is_some, option_and_then, codes}
 use Rattle.std.specs.List.{AllByRecursion}
 use Rattle.uefi_hii.specs.Pairs.{Pair}
 use Rattle.uefi_hii.specs.Configuration.{Configuration, Element, Spells, SpellsElement, SpellsElements, SpellsHeader}
-use Rattle.uefi_hii.specs.Configuration.{number_in}
+use Rattle.uefi_hii.specs.Configuration.{IsSkipped, number_in}
 use Rattle.uefi_hii.specs.Values.{name}
-use Rattle.uefi_hii.specs.private.Parts.{IsSkipped, low_16_bits}
 use Rattle.uefi_hii.specs.Slots.{IsHeader}
 use Rattle.uefi_hii.specs.Slots.{IsHeaderWithAlt}
 use Rattle.uefi_hii.specs.Reading.{MayRunOut}
@@ -42,7 +42,7 @@ header_with_alt_good h c id s e = grind arith
 -- A header without an identifier, and a pair with one.
 pub header_push_alt : (h : List Pair) (c : Configuration) (a : Pair) (id : ℕ) → SpellsHeader h c → c.alt_cfg_id ≡ None
     → number_in (codes "ALTCFG") a ≡ Some id
-    → SpellsHeader (h ++ a ∷ []) (record c { alt_cfg_id = Some (low_16_bits id) })
+    → SpellsHeader (h ++ a ∷ []) (record c { alt_cfg_id = Some (id % 2 ^ 16) })
 header_push_alt h c a id s e f = grind arith
 
 -- An element and a pair that it skips, and elements and a pair that the last skips.

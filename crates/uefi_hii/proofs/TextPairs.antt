@@ -11,7 +11,10 @@ use Rattle.std.proofs.lemmas.List.Sums.{passes_at_first, split_at_first}
 use Rattle.std.proofs.lemmas.Str.{IsCharBoundary-after_ascii, IsCharBoundary-before_ascii, IsCharBoundary-end}
 use Rattle.uefi_hii.specs.Pairs.{Pair, ampersand, pair_of}
 use Rattle.uefi_hii.specs.private.Finding.{parts_at}
-use Rattle.uefi_hii.specs.private.Parts.{equals_sign, is_ampersand}
+use Rattle.uefi_hii.proofs.Pieces.{is_ampersand}
+
+abbrev equals_sign : ℕ
+equals_sign = 61
 
 -- A text may be cut before an ASCII byte and at its end, and after an ASCII byte.
 cut_before : (text front tail : List ℕ) (n : ℕ) → text ≡ front ++ tail → length front ≡ n → get_or tail 0 0 < 128

@@ -55,11 +55,15 @@ SpellsHeader (g ∷ n ∷ p ∷ a ∷ []) c =
     × ((id : ℕ) × (number_in (codes "ALTCFG") a ≡ Some id) × (c.alt_cfg_id ≡ Some (id % 2 ^ 16)))
 SpellsHeader _ c = ⊥
 
--- An element: offset, width and value, and then the pairs whose key is neither OFFSET nor GUID, which it keeps in order.
+-- An element skips each pair whose key is neither OFFSET nor GUID.
+abbrev pub IsSkipped : Pair → Type 0
+IsSkipped pair = (pair.key ≢ codes "OFFSET") × (pair.key ≢ codes "GUID")
+
+-- An element: offset, width and value, and then the pairs that it skips, which it keeps in order.
 abbrev pub SpellsElement : List Pair → Element → Type 0
 SpellsElement (o ∷ w ∷ v ∷ skipped) e =
     (number_in (codes "OFFSET") o ≡ Some e.offset) × (number_in (codes "WIDTH") w ≡ Some e.width) × (bytes_in v ≡ Some e.value)
-    × (skipped ≡ e.nvconfig) × AllByRecursion (λ pair. (pair.key ≢ codes "OFFSET") × (pair.key ≢ codes "GUID")) skipped
+    × (skipped ≡ e.nvconfig) × AllByRecursion IsSkipped skipped
 SpellsElement _ e = ⊥
 
 -- Elements, one after another.

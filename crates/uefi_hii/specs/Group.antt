@@ -11,10 +11,14 @@ FailsAt slot group next =
     ((before : List Pair) × (last : Pair) × (group ≡ before ++ last ∷ []) × Expects before (Some last) slot × ¬ IsGood slot last)
     ⊎ ((next ≡ None) × Expects group None slot)
 
--- The result of a group: the configuration that its pairs spell, which ends where the pairs end or, once it has an
--- element, before a pair with the key GUID; or the error of the slot at which it fails.
+-- A configuration ends where the pairs end or, once it has an element, before a pair with the key GUID.
+abbrev pub EndsBefore : Option Pair → Configuration → Type 0
+EndsBefore next c = MatchOption next ⊤ (λ pair. (pair.key ≡ codes "GUID") × (c.elements ≢ []))
+
+-- The result of a group: the configuration that its pairs spell, if it ends there, or the error of the slot at which
+-- the group fails.
 abbrev pub Gives : List Pair → Option Pair → Result Configuration ParseError → Type 0
-Gives group next (Ok c) = Spells group c × MatchOption next ⊤ (λ pair. (pair.key ≡ codes "GUID") × (c.elements ≢ []))
+Gives group next (Ok c) = Spells group c × EndsBefore next c
 Gives group next (Err error) = (slot : Slot) × (error ≡ error_of slot) × FailsAt slot group next
 
 -- A group before the pair that comes next, if one does, and its result. No group is empty.

@@ -27,10 +27,12 @@ is_odd_byte_zero [] = true
 is_odd_byte_zero (high ∷ []) = high == 0
 is_odd_byte_zero (high ∷ low ∷ bytes) = is_odd_byte_zero bytes
 
--- A name is the text, in UTF-8, of the units that its value spells, none of which is zero or a surrogate. The value has
--- an even number of bytes.
+-- A unit of a name is neither zero nor a surrogate.
+abbrev pub is_name_unit : ℕ → Bool
+is_name_unit unit = not (unit == 0) && not (is_in_range 0xd800 0xdfff unit)
+
+-- A name is the text, in UTF-8, of the units that its value spells. The value has an even number of bytes.
 abbrev pub name : List ℕ → Option (List ℕ)
 name value =
-    if length value % 2 == 0 && is_odd_byte_zero (hex value)
-    && list_all (λ unit. not (unit == 0) && not (is_in_range 0xd800 0xdfff unit)) (units (hex value))
+    if length value % 2 == 0 && is_odd_byte_zero (hex value) && list_all is_name_unit (units (hex value))
     then Some (encode_utf8_all (units (hex value))) else None

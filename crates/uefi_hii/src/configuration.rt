@@ -109,10 +109,8 @@ impl<A: Allocator + Copy> ConfigurationString<A> {
     /// - [`ParseError::BlockName`] if an element doesn't begin with `OFFSET` and `WIDTH`, both with
     ///   a number.
     /// - [`ParseError::BlockConfig`] if `VALUE` doesn't follow them.
-    /// - [`ParseError::Memory`] if an allocation fails before an error is found. None is made before
-    ///   the GUID is read and `NAME` has a value. For a name and for a path memory is asked before
-    ///   the value is judged, so a wrong one may be [`ParseError::Memory`]; every other pair is
-    ///   judged first.
+    /// - [`ParseError::Memory`] if an allocation fails before an error is found. [`ParseError`] says
+    ///   which pairs are judged before memory is asked for.
     #[tactic(auto, using(crate::proofs::Wholes::first_steps))]
     pub fn from_str(alloc: A, text: &str) -> Result<ConfigurationString<A>, ParseError>
         ensures cut { (parts : List Part) × Cut text.now parts × IsFirstResult parts result }

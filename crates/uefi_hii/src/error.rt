@@ -1,6 +1,7 @@
-ghost use Rattle.std.specs.Prelude.{Some};
+ghost use Rattle.std.specs.Prelude.{◌≡◌, Some};
 ghost use Rattle.uefi_hii.specs.Texts.{section_text, error_text};
 
+use std::alloc::AllocError;
 use std::error::Error;
 use std::fmt;
 
@@ -61,16 +62,28 @@ impl fmt::Display for ParseError {
     ghost output = { λ error. Some (error_text error) };
 
     fn fmt<W: fmt::Write>(&self, f: &mut fmt::Formatter<W>) -> fmt::Result {
-        let text = match self {
+        match self {
             ParseError::ConfigHdr(section) => {
-                return write!(f, "the header's {section} is missing or wrong");
+                write!(f, "the header's {section} is missing or wrong")
             }
-            ParseError::BlockName => "an element's offset or width is missing or wrong",
-            ParseError::BlockConfig => "an element's value is missing",
-            ParseError::Memory => "out of memory",
-        };
-        f.write_str(text)
+            ParseError::BlockName => {
+                f.write_str("an element's offset or width is missing or wrong")
+            }
+            ParseError::BlockConfig => f.write_str("an element's value is missing"),
+            ParseError::Memory => f.write_str("out of memory"),
+        }
     }
 }
 
 impl Error for ParseError {}
+
+/// An allocation that failed is [`ParseError::Memory`].
+impl From<AllocError> for ParseError {
+    ghost use Rattle.uefi_hii.specs.declared.error.ParseError.TheVariants.{Memory};
+
+    ghost from_gives = { λ _ error. error ≡ Memory };
+
+    fn from(_error: AllocError) -> ParseError {
+        ParseError::Memory
+    }
+}

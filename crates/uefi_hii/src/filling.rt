@@ -4,29 +4,33 @@ ghost use Rattle.std.specs.Prelude.{◌≡◌, ◌==◌, ◌∷◌, ◌≤◌, �
 ghost use Rattle.std.specs.List.{list_all};
 ghost use Rattle.std.specs.Simd.Lanes.{Each1};
 ghost use Rattle.uefi_hii.specs.Hex.{hex, byte_of_one as one};
-ghost use Rattle.uefi_hii.specs.private.Filling.{IsFilledTo, is_hex_digit, byte_length};
+ghost use Rattle.uefi_hii.specs.private.Filling.{IsFilledTo, is_hex_digit, digits_per_byte};
 
 use crate::hex::{HexBytes, byte_of_one, byte_of_two};
 use std::alloc::{AllocError, Allocator};
 use std::simd::prelude::*;
 
-/// The characters of one byte.
-const BYTE_LENGTH: usize = 2;
+/// How many characters spell one byte.
+const DIGITS_PER_BYTE: usize = 2;
 
 /// How many bytes are made at a time.
 const LANES: usize = 16;
 
-/// How many characters they are made of.
-const BLOCK: usize = 32;
-
 /// Writes the bytes that a text spells in hex, those of
 /// [`ConfigurationString::parse_bytes_from_hex`](crate::ConfigurationString::parse_bytes_from_hex),
 /// to a buffer of as many bytes.
+#[tactic(auto, using(crate::proofs::HexEnds::two_a_byte))]
 pub fn fill_from_hex(text: &str, out: &mut [u8])
     requires { length out.old ≡ length (hex text.now) }
     ensures { out.new ≡ hex text.now }
 {
-    fill(text.as_bytes(), out);
+    let text = text.as_bytes();
+    let blocks = text.len() / (DIGITS_PER_BYTE * LANES);
+    for block in 0..blocks {
+        fill_block(text, out, LANES * block);
+    }
+    let end = out.len();
+    fill_each(text, out, LANES * blocks, end);
 }
 
 /// Returns the bytes that a text spells in hex.
@@ -38,29 +42,15 @@ pub(crate) fn hex_bytes<A: Allocator>(alloc: A, text: &str) -> Result<Vec<u8, A>
     Ok(bytes)
 }
 
-/// Fills the buffer block by block, and what is left of it byte by byte.
-#[tactic(auto, using(crate::proofs::HexEnds::two_a_byte))]
-fn fill(text: &[u8], out: &mut [u8])
-    requires { length out.old ≡ length (hex text.now) }
-    ensures { out.new ≡ hex text.now }
-{
-    let blocks = text.len() / BLOCK;
-    for block in 0..blocks {
-        fill_block(text, out, LANES * block);
-    }
-    let end = out.len();
-    fill_each(text, out, LANES * blocks, end);
-}
-
 /// Fills sixteen bytes from `start` on: in lanes if all their characters are digits.
 fn fill_block(text: &[u8], out: &mut [u8], start: usize)
-    requires text { byte_length * start + 32 ≤ length text.now }
+    requires text { digits_per_byte * start + 32 ≤ length text.now }
     requires room { start + 16 ≤ length out.old }
     requires so_far { IsFilledTo start text.now out.old }
     ensures { IsFilledTo (start + 16) text.now out.new }
 {
-    let first = u8x16::from_slice(&text[BYTE_LENGTH * start..]);
-    let second = u8x16::from_slice(&text[BYTE_LENGTH * start + LANES..]);
+    let first = u8x16::from_slice(&text[DIGITS_PER_BYTE * start..]);
+    let second = u8x16::from_slice(&text[DIGITS_PER_BYTE * start + LANES..]);
     let (high, low) = first.deinterleave(second);
     if are_digits(high) && are_digits(low) {
         let bytes = digit_values(high) * u8x16::splat(16) + digit_values(low);
@@ -80,15 +70,7 @@ fn are_digits(lanes: u8x16) -> bool
     let number = lanes - u8x16::splat(b'0');
     let letter = (lanes | u8x16::splat(0x20)) - u8x16::splat(b'a');
     let wrong = number.simd_ge(u8x16::splat(10)) & letter.simd_ge(u8x16::splat(6));
-    is_empty(wrong.to_bitmask())
-}
-
-/// Returns whether a mask marks no lane.
-#[inline(always)]
-fn is_empty(mask: u64) -> bool
-    ensures { result ≡ (mask == 0) }
-{
-    mask == 0
+    wrong.to_bitmask() == 0
 }
 
 /// Returns the values of hex digits, lane by lane.
@@ -108,7 +90,7 @@ fn digit_values(digits: u8x16) -> u8x16
 #[tactic(auto, using(crate::proofs::HexParts::filled_more, std::proofs::lemmas::List::take_more_set))]
 fn fill_each(text: &[u8], out: &mut [u8], start: usize, end: usize)
     requires order { start ≤ end }
-    requires text { byte_length * end ≤ length text.now + 1 }
+    requires text { digits_per_byte * end ≤ length text.now + 1 }
     requires room { end ≤ length out.old }
     requires so_far { IsFilledTo start text.now out.old }
     ensures { IsFilledTo end text.now out.new }
@@ -122,11 +104,11 @@ fn fill_each(text: &[u8], out: &mut [u8], start: usize, end: usize)
 #[tactic(auto, using(crate::proofs::HexParts::hex_two, crate::proofs::HexParts::hex_one))]
 #[inline(always)]
 fn byte_at(text: &[u8], index: usize) -> u8
-    requires { byte_length * index < length text.now }
-    ensures { hex (drop (byte_length * index) text.now)
-        ≡ result ∷ hex (drop (byte_length * (index + 1)) text.now) }
+    requires { digits_per_byte * index < length text.now }
+    ensures { hex (drop (digits_per_byte * index) text.now)
+        ≡ result ∷ hex (drop (digits_per_byte * (index + 1)) text.now) }
 {
-    let offset = BYTE_LENGTH * index;
+    let offset = DIGITS_PER_BYTE * index;
     if offset + 1 < text.len() {
         byte_of_two(text[offset], text[offset + 1])
     } else {

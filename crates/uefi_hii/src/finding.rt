@@ -48,10 +48,5 @@ fn index_from(bytes: &[u8], byte: u8, start: usize) -> Option<usize>
     requires none_before { IsNotBefore byte start bytes.now }
     ensures { FindsFirst byte bytes.now result }
 {
-    for index in start..bytes.len() {
-        if bytes[index] == byte {
-            return Some(index);
-        }
-    }
-    None
+    Some(start + bytes[start..].iter().position(|b| *b == byte)?)
 }

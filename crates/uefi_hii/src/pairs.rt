@@ -86,11 +86,7 @@ fn split_once(bytes: &[u8], byte: u8) -> (&[u8], Option<&[u8]>)
     ensures { pair_view result ≡ parts_at byte bytes.now }
 {
     match index_of(bytes, byte) {
-        Some(index) => {
-            let (before, from_byte) = bytes.split_at(index);
-            let (_, after) = from_byte.split_at(1);
-            (before, Some(after))
-        }
+        Some(index) => (&bytes[..index], Some(&bytes[index + 1..])),
         None => (bytes, None),
     }
 }

@@ -2,8 +2,8 @@
 
 ghost use Rattle.std.specs.Prelude.{◌≡◌, ◌≢◌, ◌^◌, ◌<◌, ◌∷◌, [], ◌↔◌, IsTrue, MatchOption, length};
 ghost use Rattle.std.specs.Bool.{MatchBool};
+ghost use Rattle.uefi_hii.specs.Configuration.{IsSkipped};
 ghost use Rattle.uefi_hii.specs.Cut.{first_pair};
-ghost use Rattle.uefi_hii.specs.private.Parts.{IsSkipped};
 ghost use Rattle.uefi_hii.specs.Pairs.{pairs};
 ghost use Rattle.uefi_hii.specs.Slots.{IsKey};
 ghost use Rattle.uefi_hii.specs.private.Taking.{StopsAt};
@@ -42,10 +42,7 @@ impl<'a> PeekedPairs<'a> {
     pub(crate) fn is_at(&self, key: &str) -> bool
         ensures { IsTrue result ↔ IsKey key.now (first_pair (peeked_pairs self.now)) }
     {
-        match self.next {
-            Some((found, _)) => found == key,
-            None => false,
-        }
+        self.next.is_some_and(|(found, _)| found == key)
     }
 
     /// Takes the next pair.
@@ -66,12 +63,9 @@ impl<'a> PeekedPairs<'a> {
             (λ taken. (peeked_pairs self.old ≡ pair_view taken ∷ peeked_pairs self.new)
             × IsSkipped (pair_view taken)) }
     {
-        let pair = self.next?;
-        let (key, _) = pair;
-        if key == keys::OFFSET || key == keys::GUID {
+        if self.is_at(keys::OFFSET) || self.is_at(keys::GUID) {
             return None;
         }
-        self.next = self.after.next();
-        Some(pair)
+        self.next()
     }
 }

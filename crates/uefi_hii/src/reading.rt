@@ -5,7 +5,6 @@ ghost use Rattle.uefi_hii.specs.Hex.{hex};
 ghost use Rattle.uefi_hii.specs.Reading.{TakesGroup};
 ghost use Rattle.uefi_hii.specs.private.Taking.{TakesHeader, TakesElement};
 ghost use Rattle.uefi_hii.specs.Views.{peeked_pairs};
-ghost use Rattle.uefi_hii.specs.declared.error.ParseError.TheVariants.{Memory};
 
 use crate::configuration::{ConfigurationString, ConfigurationStringElement};
 use crate::error::{ConfigHdrSection, ParseError};
@@ -16,14 +15,6 @@ use crate::taking::{
     take_alt_cfg_id, take_guid, take_name, take_number, take_nvconfig, take_path, take_value,
 };
 use std::alloc::{AllocError, Allocator};
-
-impl From<AllocError> for ParseError {
-    ghost from_gives = { λ _ error. error ≡ Memory };
-
-    fn from(_error: AllocError) -> ParseError {
-        ParseError::Memory
-    }
-}
 
 /// Returns the configuration or the error of the group that the pairs begin with. What is left are
 /// the pairs after the group.

@@ -1,11 +1,10 @@
 ghost use Rattle.std.specs.Prelude.{◌≡◌, ◌+◌, ◌*◌, ◌^◌, ◌<◌, true, false, length, IfOk, MatchOption, option_map, string_bytes};
 ghost use Rattle.uefi_hii.specs.Hex.{hex};
-ghost use Rattle.uefi_hii.specs.Values.{is_number_length, number, guid, name};
-ghost use Rattle.uefi_hii.specs.private.Parts.{is_name_unit};
+ghost use Rattle.uefi_hii.specs.Values.{number, guid, is_name_unit, name};
 ghost use Rattle.uefi_hii.specs.Views.{bytes_left};
 
 use crate::configuration::ConfigurationString;
-use crate::filling::hex_bytes;
+use crate::filling::{fill_from_hex, hex_bytes};
 use crate::hex::HexBytes;
 use std::alloc::{AllocError, Allocator};
 use uefi_base::Guid;
@@ -29,12 +28,12 @@ impl ConfigurationString {
     pub fn parse_number_from_hex(text: &str) -> Option<u64>
         ensures { result ≡ number text.now }
     {
-        let mut bytes = HexBytes::new(text);
-        if !is_length_of_number(bytes.len()) {
+        let bytes = HexBytes::new(text);
+        if !matches!(bytes.len(), 1 | 2 | 4 | 8) {
             return None;
         }
         let mut number: u64 = 0;
-        while let Some(byte) = bytes.next() {
+        for byte in bytes {
             number = number * 256 + byte as u64;
         }
         Some(number)
@@ -45,14 +44,11 @@ impl ConfigurationString {
     pub fn parse_guid_from_hex(text: &str) -> Option<Guid>
         ensures { option_map (λ guid. guid.0) result ≡ guid text.now }
     {
-        let mut bytes = HexBytes::new(text);
-        if bytes.len() != GUID_LENGTH {
+        if HexBytes::new(text).len() != GUID_LENGTH {
             return None;
         }
         let mut guid = [0; GUID_LENGTH];
-        for i in 0..GUID_LENGTH {
-            guid[i] = bytes.next()?;
-        }
+        fill_from_hex(text, &mut guid);
         Some(Guid(guid))
     }
 }
@@ -103,11 +99,4 @@ fn character_of(high: u8, low: u8) -> Option<char>
         return None;
     }
     char::from_u32(unit)
-}
-
-/// Returns whether a number has as many bytes.
-fn is_length_of_number(count: usize) -> bool
-    ensures { result ≡ is_number_length count }
-{
-    matches!(count, 1 | 2 | 4 | 8)
 }

@@ -2,13 +2,13 @@
 use Rattle.std.specs.Prelude.{ℕ, ◌≡◌, ◌*◌, List, ◌++◌, take, drop, Bool, is_some}
 use Rattle.uefi_hii.specs.Hex.{hex, hex_digit}
 
--- The characters of one byte.
-abbrev pub byte_length : ℕ
-byte_length = 2
+-- How many characters spell one byte.
+abbrev pub digits_per_byte : ℕ
+digits_per_byte = 2
 
 -- The first bytes of the buffer are those that the text spells, and its rest spells the others.
 abbrev pub IsFilledTo : ℕ → List ℕ → List ℕ → Type 0
-IsFilledTo count text out = take count out ++ hex (drop (byte_length * count) text) ≡ hex text
+IsFilledTo count text out = take count out ++ hex (drop (digits_per_byte * count) text) ≡ hex text
 
 -- Whether a character is a hex digit.
 abbrev pub is_hex_digit : ℕ → Bool

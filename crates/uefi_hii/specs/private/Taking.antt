@@ -1,5 +1,5 @@
 -- What the helpers of the readers take from the pairs that are left.
-use Rattle.std.specs.Prelude.{◌≡◌, ◌⊎◌, ℕ, List, [], ◌∷◌, ◌++◌, Option, Some, None, Result, Ok, Err, IsSome, IsSomeAnd, codes, ⊤}
+use Rattle.std.specs.Prelude.{◌≡◌, ◌⊎◌, ℕ, ◌%◌, ◌^◌, List, [], ◌∷◌, ◌++◌, Option, Some, None, Result, Ok, Err, IsSome, IsSomeAnd, codes, ⊤}
 use Rattle.std.specs.List.{AllByRecursion}
 use Rattle.uefi_path.specs.declared.boxed.BoxedDevicePath.{BoxedDevicePath}
 use Rattle.uefi_path.specs.Views.{boxed_nodes}
@@ -8,8 +8,7 @@ use Rattle.uefi_hii.specs.declared.configuration.ConfigurationStringElement.{Con
 use Rattle.uefi_hii.specs.declared.error.ParseError.{ParseError}
 use Rattle.uefi_hii.specs.declared.error.ParseError.TheVariants.{Memory}
 use Rattle.uefi_hii.specs.Pairs.{Pair}
-use Rattle.uefi_hii.specs.Configuration.{number_in, value_at, HasPath, SpellsHeader, SpellsElement}
-use Rattle.uefi_hii.specs.private.Parts.{low_16_bits, IsSkipped}
+use Rattle.uefi_hii.specs.Configuration.{number_in, value_at, HasPath, IsSkipped, SpellsHeader, SpellsElement}
 use Rattle.uefi_hii.specs.Slots.{PathSlot, AltSlot, OffsetSlot, WidthSlot, ValueSlot, IsGood, IsKey, error_of}
 use Rattle.uefi_hii.specs.Group.{Group}
 use Rattle.uefi_hii.specs.Cut.{first_pair}
@@ -38,7 +37,7 @@ TakesPath before None after = Misses (IsGood PathSlot) before after
 abbrev pub TakesAlt : List Pair → Result (Option ℕ) ParseError → List Pair → Type 0
 TakesAlt before (Ok None) after = (after ≡ before) × ¬ IsKey (codes "ALTCFG") (first_pair before)
 TakesAlt before (Ok (Some id)) after =
-    (pair : Pair) × (before ≡ pair ∷ after) × ((n : ℕ) × (number_in (codes "ALTCFG") pair ≡ Some n) × (id ≡ low_16_bits n))
+    (pair : Pair) × (before ≡ pair ∷ after) × ((n : ℕ) × (number_in (codes "ALTCFG") pair ≡ Some n) × (id ≡ n % 2 ^ 16))
 TakesAlt before (Err error) after = (error ≡ error_of AltSlot) × IsKey (codes "ALTCFG") (first_pair before) × Misses (IsGood AltSlot) before after
 
 -- The group at the beginning of the pairs fails.

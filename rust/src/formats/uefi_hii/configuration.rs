@@ -108,10 +108,8 @@ impl ConfigurationString {
     /// - [`ParseError::BlockName`] if an element doesn't begin with `OFFSET` and `WIDTH`, both with
     ///   a number.
     /// - [`ParseError::BlockConfig`] if `VALUE` doesn't follow them.
-    /// - [`ParseError::Memory`] if an allocation fails before an error is found. None is made before
-    ///   the GUID is read and `NAME` has a value. For a name and for a path memory is asked before
-    ///   the value is judged, so a wrong one may be [`ParseError::Memory`]; every other pair is
-    ///   judged first.
+    /// - [`ParseError::Memory`] if an allocation fails before an error is found. [`ParseError`] says
+    ///   which pairs are judged before memory is asked for.
     #[inline]
     pub fn from_str(text: &str) -> Result<ConfigurationString, ParseError> {
         let mut pairs = PeekedPairs::new(text);

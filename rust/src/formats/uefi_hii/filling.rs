@@ -11,14 +11,11 @@ use crate::formats::uefi_hii::hex::{HexBytes, byte_of_one, byte_of_two};
 use crate::support::alloc::AllocError;
 use crate::support::simd::prelude::*;
 
-/// The characters of one byte.
-const BYTE_LENGTH: usize = 2;
+/// How many characters spell one byte.
+const DIGITS_PER_BYTE: usize = 2;
 
 /// How many bytes are made at a time.
 const LANES: usize = 16;
-
-/// How many characters they are made of.
-const BLOCK: usize = 32;
 
 /// Writes the bytes that a text spells in hex, those of
 /// [`ConfigurationString::parse_bytes_from_hex`](crate::formats::uefi_hii::ConfigurationString::parse_bytes_from_hex),
@@ -30,7 +27,13 @@ const BLOCK: usize = 32;
 #[inline]
 pub fn fill_from_hex(text: &str, out: &mut [u8]) {
     assert!(out.len() == HexBytes::new(text).len());
-    fill(text.as_bytes(), out);
+    let text = text.as_bytes();
+    let blocks = text.len() / (DIGITS_PER_BYTE * LANES);
+    for block in 0..blocks {
+        fill_block(text, out, LANES * block);
+    }
+    let end = out.len();
+    fill_each(text, out, LANES * blocks, end);
 }
 
 /// Returns the bytes that a text spells in hex.
@@ -42,22 +45,11 @@ pub(crate) fn hex_bytes(text: &str) -> Result<Vec<u8>, AllocError> {
     Ok(bytes)
 }
 
-/// Fills the buffer block by block, and what is left of it byte by byte.
-#[inline]
-fn fill(text: &[u8], out: &mut [u8]) {
-    let blocks = text.len() / BLOCK;
-    for block in 0..blocks {
-        fill_block(text, out, LANES * block);
-    }
-    let end = out.len();
-    fill_each(text, out, LANES * blocks, end);
-}
-
 /// Fills sixteen bytes from `start` on: in lanes if all their characters are digits.
 #[inline]
 fn fill_block(text: &[u8], out: &mut [u8], start: usize) {
-    let first = u8x16::from_slice(&text[BYTE_LENGTH * start..]);
-    let second = u8x16::from_slice(&text[BYTE_LENGTH * start + LANES..]);
+    let first = u8x16::from_slice(&text[DIGITS_PER_BYTE * start..]);
+    let second = u8x16::from_slice(&text[DIGITS_PER_BYTE * start + LANES..]);
     let (high, low) = first.deinterleave(second);
     if are_digits(high) && are_digits(low) {
         let bytes = digit_values(high) * u8x16::splat(16) + digit_values(low);
@@ -73,13 +65,7 @@ fn are_digits(lanes: u8x16) -> bool {
     let number = lanes - u8x16::splat(b'0');
     let letter = (lanes | u8x16::splat(0x20)) - u8x16::splat(b'a');
     let wrong = number.simd_ge(u8x16::splat(10)) & letter.simd_ge(u8x16::splat(6));
-    is_empty(wrong.to_bitmask())
-}
-
-/// Returns whether a mask marks no lane.
-#[inline(always)]
-fn is_empty(mask: u64) -> bool {
-    mask == 0
+    wrong.to_bitmask() == 0
 }
 
 /// Returns the values of hex digits, lane by lane.
@@ -101,7 +87,7 @@ fn fill_each(text: &[u8], out: &mut [u8], start: usize, end: usize) {
 /// Returns the byte at an index.
 #[inline(always)]
 fn byte_at(text: &[u8], index: usize) -> u8 {
-    let offset = BYTE_LENGTH * index;
+    let offset = DIGITS_PER_BYTE * index;
     if offset + 1 < text.len() {
         byte_of_two(text[offset], text[offset + 1])
     } else {

@@ -36,10 +36,5 @@ fn lane_of(bytes: &[u8], byte: u8, start: usize) -> Option<usize> {
 /// Returns the index of the first `byte`, one byte at a time from `start` on.
 #[inline(always)]
 fn index_from(bytes: &[u8], byte: u8, start: usize) -> Option<usize> {
-    for index in start..bytes.len() {
-        if bytes[index] == byte {
-            return Some(index);
-        }
-    }
-    None
+    Some(start + bytes[start..].iter().position(|b| *b == byte)?)
 }

@@ -22,8 +22,7 @@ use crate::support::alloc::AllocError;
 /// The iterator keeps the allocator and the rest of the text. It makes no list of pairs, and takes
 /// memory only for the configurations that it gives. After the last group it stays ended, and so it
 /// does after [`ParseError::Memory`]. That item may stand for a group that has an error of its own,
-/// if the group begins with a good GUID and a pair `NAME` with a value: [`ParseError`] says which
-/// pairs are judged before memory is asked for.
+/// as [`ParseError`] says.
 ///
 /// # Examples
 ///

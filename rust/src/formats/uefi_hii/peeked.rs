@@ -30,10 +30,7 @@ impl<'a> PeekedPairs<'a> {
     /// Returns whether the next pair has the key.
     #[inline]
     pub(crate) fn is_at(&self, key: &str) -> bool {
-        match self.next {
-            Some((found, _)) => found == key,
-            None => false,
-        }
+        self.next.is_some_and(|(found, _)| found == key)
     }
 
     /// Takes the next pair.
@@ -47,12 +44,9 @@ impl<'a> PeekedPairs<'a> {
     /// Takes the next pair, if an element skips it.
     #[inline]
     pub(crate) fn next_skipped(&mut self) -> Option<(&'a str, Option<&'a str>)> {
-        let pair = self.next?;
-        let (key, _) = pair;
-        if key == keys::OFFSET || key == keys::GUID {
+        if self.is_at(keys::OFFSET) || self.is_at(keys::GUID) {
             return None;
         }
-        self.next = self.after.next();
-        Some(pair)
+        self.next()
     }
 }

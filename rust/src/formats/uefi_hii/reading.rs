@@ -21,13 +21,6 @@ use crate::formats::uefi_hii::taking::{
 use crate::formats::uefi_hii::taking::take_value;
 use crate::support::alloc::AllocError;
 
-impl From<AllocError> for ParseError {
-    #[inline]
-    fn from(_error: AllocError) -> ParseError {
-        ParseError::Memory
-    }
-}
-
 /// Returns the configuration or the error of the group that the pairs begin with. What is left are
 /// the pairs after the group.
 #[cfg(feature = "alloc")]

@@ -21,9 +21,6 @@ use crate::formats::uefi_base::Guid;
 #[cfg(feature = "alloc")]
 use crate::formats::uefi_path::BoxedDevicePath;
 
-/// An identifier is below it: the low 16 bits of a number are kept.
-const ALT_CFG_ID_LIMIT: u64 = 1 << 16;
-
 /// Returns the next pair's value, if it has the key and a value.
 #[inline]
 pub(crate) fn take_value<'a>(pairs: &mut PeekedPairs<'a>, key: &str) -> Option<&'a str> {
@@ -70,10 +67,7 @@ pub(crate) fn take_path(
         return Ok(None);
     };
     let bytes = hex_bytes(value)?;
-    match BoxedDevicePath::try_from(bytes) {
-        Ok(path) => Ok(Some(path)),
-        Err(_) => Ok(None),
-    }
+    Ok(BoxedDevicePath::try_from(bytes).ok())
 }
 
 /// Returns the identifier of an alternative configuration, if the next key is `ALTCFG`.
@@ -84,7 +78,7 @@ pub(crate) fn take_alt_cfg_id(pairs: &mut PeekedPairs<'_>) -> Result<Option<u16>
         return Ok(None);
     }
     match take_number(pairs, keys::ALTCFG) {
-        Some(number) => Ok(Some((number % ALT_CFG_ID_LIMIT) as u16)),
+        Some(number) => Ok(Some((number & 0xffff) as u16)),
         None => Err(ParseError::ConfigHdr(ConfigHdrSection::DescHdr)),
     }
 }

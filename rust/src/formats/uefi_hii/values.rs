@@ -9,6 +9,7 @@ use crate::support::fallible::*;
 use crate::formats::uefi_hii::configuration::ConfigurationString;
 #[cfg(feature = "alloc")]
 use crate::formats::uefi_hii::filling::hex_bytes;
+use crate::formats::uefi_hii::filling::fill_from_hex;
 use crate::formats::uefi_hii::hex::HexBytes;
 use crate::support::alloc::AllocError;
 use crate::formats::uefi_base::Guid;
@@ -29,12 +30,12 @@ impl ConfigurationString {
     /// spells another count of bytes than 1, 2, 4 or 8.
     #[inline]
     pub fn parse_number_from_hex(text: &str) -> Option<u64> {
-        let mut bytes = HexBytes::new(text);
-        if !is_length_of_number(bytes.len()) {
+        let bytes = HexBytes::new(text);
+        if !matches!(bytes.len(), 1 | 2 | 4 | 8) {
             return None;
         }
         let mut number: u64 = 0;
-        while let Some(byte) = bytes.next() {
+        for byte in bytes {
             number = number * 256 + byte as u64;
         }
         Some(number)
@@ -44,14 +45,11 @@ impl ConfigurationString {
     /// bytes than 16.
     #[inline]
     pub fn parse_guid_from_hex(text: &str) -> Option<Guid> {
-        let mut bytes = HexBytes::new(text);
-        if bytes.len() != GUID_LENGTH {
+        if HexBytes::new(text).len() != GUID_LENGTH {
             return None;
         }
         let mut guid = [0; GUID_LENGTH];
-        for i in 0..GUID_LENGTH {
-            guid[i] = bytes.next()?;
-        }
+        fill_from_hex(text, &mut guid);
         Some(Guid(guid))
     }
 }
@@ -99,10 +97,4 @@ fn character_of(high: u8, low: u8) -> Option<char> {
         return None;
     }
     char::from_u32(unit)
-}
-
-/// Returns whether a number has as many bytes.
-#[inline]
-fn is_length_of_number(count: usize) -> bool {
-    matches!(count, 1 | 2 | 4 | 8)
 }

@@ -2,7 +2,7 @@ use Rattle.std.proofs.Common.{◌≡◌, ◌∷◌, length, sym, ◌∙◌, ap, 
 use Rattle.std.proofs.lemmas.Grind.{common_steps}
 use Rattle.std.specs.List.{before_first, after_first}
 use Rattle.uefi_hii.specs.Pairs.{Pair, pair_of, pairs}
-use Rattle.uefi_hii.specs.private.Parts.{is_ampersand}
+use Rattle.uefi_hii.proofs.Pieces.{is_ampersand}
 use Rattle.uefi_hii.specs.Views.{pair_view}
 use Rattle.uefi_hii.proofs.Pieces.{pairs_cut}
 use Rattle.uefi_hii.proofs.pairs.next_pair.Goals as goal

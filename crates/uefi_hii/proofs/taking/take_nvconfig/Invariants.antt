@@ -1,6 +1,6 @@
 use Rattle.std.proofs.Common.{◌≡◌, ◌++◌, length, map}
 use Rattle.std.specs.List.{AllByRecursion}
-use Rattle.uefi_hii.specs.private.Parts.{IsSkipped}
+use Rattle.uefi_hii.specs.Configuration.{IsSkipped}
 use Rattle.uefi_hii.specs.Views.{nv_pair_of, peeked_pairs}
 use Rattle.uefi_hii.proofs.taking.take_nvconfig.Given as goal
 
