@@ -1,7 +1,7 @@
 -- The descriptors of whole strides, one stride after another.
-use Rattle.std.proofs.Common.{◌≡◌, ℕ, zero, suc, ◌+◌, ◌-◌, ◌*◌, ◌/◌, ◌%◌, ◌≤◌, ◌<◌, List, ◌∷◌, length, take, drop, refl}
+use Rattle.std.proofs.Common.{◌≡◌, ℕ, zero, suc, ◌+◌, ◌*◌, ◌/◌, ◌%◌, ◌≤◌, ◌<◌, List, ◌∷◌, length, take, drop, refl}
 use Rattle.std.proofs.Common.{sym, ◌∙◌, ap, arith, length-drop}
-use Rattle.std.proofs.lemmas.List.{drop-drop, length-take-le}
+use Rattle.std.proofs.lemmas.List.{length-take-le}
 use Rattle.std.proofs.lemmas.Grind.{rows, common_steps}
 use Rattle.std.proofs.Math.Nat.{div-eq-sub-div, div-le_self}
 use Rattle.uefi_map.specs.declared.memory.meta.MemoryMapMeta.{MemoryMapMeta}
@@ -67,29 +67,18 @@ next_from bytes stride i (suc count) =
 first_bytes : (bytes : List ℕ) (stride : ℕ) → descriptor_bytes bytes stride 0 ≡ take descriptor_length bytes
 first_bytes bytes stride = grind (arith, common_steps)
 
--- Whole strides that are not none are at least one.
-pub one_stride : (stride size : ℕ) → 0 < size → size % stride ≡ 0 → stride ≤ size
-one_stride stride size some whole = grind (arith, rows, common_steps)
+-- Strides that are not none are at least one.
+one_size : (stride size : ℕ) → 0 < size → size % stride ≡ 0 → stride ≤ size
+one_size stride size some whole = grind (arith, rows, common_steps)
+
+pub one_stride : (stride : ℕ) (bytes : List ℕ) → AreStrides stride bytes → 0 < length bytes
+    → stride ≤ length bytes
+one_stride stride bytes strides some = one_size stride (length bytes) some strides.whole
 
 -- Strides that are not none have room for a descriptor.
 pub first_room : (stride : ℕ) (bytes : List ℕ) → AreStrides stride bytes → 0 < length bytes
     → descriptor_length ≤ length bytes
-first_room stride bytes strides some =
-    omega (arith, strides.room, one_stride stride (length bytes) some strides.whole)
-
--- Without one stride, whole strides stay whole.
-whole_after : (stride size : ℕ) → 0 < stride → stride ≤ size → size % stride ≡ 0 → (size - stride) % stride ≡ 0
-whole_after stride size positive reaches whole =
-    grind (arith, rows, common_steps, div-eq-sub-div positive reaches)
-
--- After the first stride, there are whole strides too.
-pub strides_after : (stride : ℕ) (bytes : List ℕ) → AreStrides stride bytes → 0 < length bytes
-    → AreStrides stride (drop stride bytes)
-strides_after stride bytes strides some =
-    let reaches = one_stride stride (length bytes) some strides.whole in
-    let positive : 0 < stride = omega (arith, strides.room) in
-    let whole = whole_after stride (length bytes) positive reaches strides.whole in
-    record { room = strides.room; whole = ap (λ n. n % stride) (length-drop stride bytes) ∙ whole }
+first_room stride bytes strides some = omega (arith, strides.room, one_stride stride bytes strides some)
 
 -- The first of the descriptors that are left, and the others.
 pub next_left : (bytes : List ℕ) (stride : ℕ) → AreStrides stride bytes → 0 < length bytes
@@ -97,7 +86,7 @@ pub next_left : (bytes : List ℕ) (stride : ℕ) → AreStrides stride bytes �
     ≡ descriptor_in (take descriptor_length bytes) ∷ descriptors_from (drop stride bytes) stride 0
     (length (drop stride bytes) / stride)
 next_left bytes stride strides some =
-    let reaches : stride ≤ length bytes = one_stride stride (length bytes) some strides.whole in
+    let reaches = one_stride stride bytes strides some in
     let positive : 0 < stride = omega (arith, strides.room) in
     let left : ℕ = length (drop stride bytes) / stride in
     let count : length bytes / stride ≡ suc left =
@@ -105,3 +94,6 @@ next_left bytes stride strides some =
     let first = first_bytes bytes stride in
     let rest = next_from bytes stride 0 left in
     ap (descriptors_from bytes stride 0) count ∙ (λ i. descriptor_in (first i) ∷ sym rest i)
+
+-- What holds of strides that are not none: the first one is there, and has the first descriptor.
+pub ruleset first_stride = (first_room, one_stride, next_left)
