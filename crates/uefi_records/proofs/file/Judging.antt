@@ -1,22 +1,21 @@
 -- The verdict on written bytes, by the index of the first zero unit.
-use Rattle.std.proofs.Common.{◌≡◌, ℕ, ◌+◌, ◌-◌, ◌*◌, ◌≤◌, Bool, true, cond, min, Some, List, length, take, drop, sym}
+use Rattle.std.proofs.Common.{◌≡◌, ℕ, ◌+◌, ◌-◌, ◌*◌, ◌≤◌, min, Some, List, length, take, drop, sym}
 use Rattle.std.proofs.Common.{◌∙◌, ap, arith, subst}
-use Rattle.std.specs.Prelude.{nat_le}
 use Rattle.std.proofs.lemmas.Bool.Decides.{nat_tests}
 use Rattle.std.proofs.lemmas.Grind.{common_steps}
-use Rattle.std.proofs.lemmas.List.{take-take, drop-take, length-take, length-drop, length-take-le, get_or-take}
-use Rattle.std.proofs.lemmas.List.{take_min, take_rest}
+use Rattle.std.proofs.lemmas.List.{take-take, drop-take, length-drop, length-take-le, get_or-take}
 use Rattle.uefi_base.specs.Unaligned.{units_of}
 use Rattle.uefi_base.proofs.UnitsOfBytes.{units_by_place}
 use Rattle.uefi_records.specs.private.file.Kept.{EndsWithName}
 use Rattle.uefi_records.specs.file.Name.{IsName, first_zero, record_end, record_size, units_from}
-use Rattle.uefi_records.specs.file.Verdict.{accepted, too_small, judged, verdict}
+use Rattle.uefi_records.specs.file.Verdict.{accepted, judged, verdict}
 use Rattle.uefi_records.proofs.file.FirstZero.{IsFirstAt, first_zero_is}
 
 -- The bytes behind an offset, among those that were written.
-pub written_part : (bytes : List ℕ) (n written offset : ℕ) → n ≡ min written (length bytes)
-    → take (length (take n bytes) - offset) (drop offset (take n bytes)) ≡ drop offset (take written bytes)
-written_part bytes n written offset is = grind (arith, common_steps)
+pub written_part : (bytes : List ℕ) (n written at offset : ℕ) → n ≡ min written (length bytes)
+    → at ≡ min offset (length (take n bytes))
+    → take (length (take n bytes) - at) (drop at (take n bytes)) ≡ drop offset (take written bytes)
+written_part bytes n written at offset is begins = grind (arith, common_steps)
 
 -- The units of a name, in the written bytes and in the bytes that end with the name.
 pub units_of_prefix : (bytes : List ℕ) (offset count written : ℕ) → record_end offset count ≤ written

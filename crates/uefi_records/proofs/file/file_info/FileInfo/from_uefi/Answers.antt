@@ -1,5 +1,4 @@
 use Rattle.std.proofs.Common.{arith}
-use Rattle.std.proofs.lemmas.Grind.{common_steps}
 use Rattle.uefi_records.specs.file.FileInfo.{file_fields, file_name_offset, size_in}
 use Rattle.uefi_records.proofs.file.Prefixes.{size_stands, file_fields_stand, in_named}
 use Rattle.uefi_records.proofs.file.file_info.FileInfo.from_uefi.Goals as goal
