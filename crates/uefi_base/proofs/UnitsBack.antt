@@ -9,12 +9,7 @@ use Rattle.uefi_base.proofs.NumbersBack.{two_bytes}
 
 -- Units read back, as the law states it.
 pub units_read_back : UnitsReadBack
-units_read_back = record {
-  written = written;
-  read = read;
-  sized = sized;
-  joined = joined;
-}
+units_read_back = record { written = written; read = read; sized = sized; joined = joined }
   where
     written : (us : List ℕ) → AreUnits us → units_of (unit_bytes us) ≡ us
     written [] fit = refl

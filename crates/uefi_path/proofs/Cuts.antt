@@ -15,8 +15,7 @@ cut_more n instances nodes (yes so) fits some cut = (
   (n ∷ []) ∷ instances,
   record {
     each = (AreEndedBy-one IsEnd n fits so, cut.each);
-    whole =
-        ap (λ s. n ∷ s) cut.whole;
+    whole = ap (λ s. n ∷ s) cut.whole;
   },
 )
 cut_more n [] nodes (no not_so) fits some cut = absurd (some refl)
@@ -24,8 +23,7 @@ cut_more n (instance ∷ instances) nodes (no not_so) fits some cut = (
   (n ∷ instance) ∷ instances,
   record {
     each = (AreEndedBy-cons IsEnd n instance fits not_so cut.each.0, cut.each.1);
-    whole =
-        ap (λ s. n ∷ s) cut.whole;
+    whole = ap (λ s. n ∷ s) cut.whole;
   },
 )
 

@@ -14,7 +14,7 @@ use Rattle.uefi_base.proofs.UnitsBack.{units_read_back}
 use Rattle.uefi_path.specs.LoadOption.{AreNonzeroUnits, HasDescription, with_nul}
 use Rattle.uefi_path.specs.Path.{all_but_last}
 use Rattle.uefi_path.proofs.LoadOptions.{same_unit}
-use Rattle.uefi_path.proofs.Passing.{AllByRecursion-push, flat_map-push}
+use Rattle.uefi_path.proofs.Passing.{AllByRecursion-push, flat_map-push, front_is}
 
 -- The search has passed some units, none of which is zero, and is at the rest.
 pub record HasPassed (bytes rest : List ℕ) : Type 0 where
@@ -93,18 +93,12 @@ pub passed_end : (bytes rest after part : List ℕ) (u : ℕ) → AreBytes bytes
 passed_end bytes rest after part u each before read is_zero part_is =
     let e = (unit_read rest after u (rest_each bytes rest each before) read).0 in
     let d = before.units in
-    let split : bytes ≡ unit_bytes (with_nul d) ++ after =
-    before.split ∙ ap (λ s. unit_bytes d ++ s) (e ∙ ap (λ n. u16_bytes n ++ after) is_zero)
-    ∙ sym (flat_map-push u16_bytes d 0 after) in
-    let end : ℕ = length bytes - length after in
-    let sized : length (unit_bytes (with_nul d)) ≡ end =
-    omega (arith, ap length split, length-append (unit_bytes (with_nul d)) after) in
-    let same : part ≡ unit_bytes (with_nul d) =
-    part_is ∙ ap (take end) split ∙ take_at (unit_bytes (with_nul d)) after end sized in
+    let split : bytes ≡ unit_bytes (with_nul d) ++ after = before.split
+    ∙ (λ i. unit_bytes d ++ (e ∙ ap (λ n. u16_bytes n ++ after) is_zero) i) ∙ sym (flat_map-push u16_bytes d 0 after) in
+    let same : part ≡ unit_bytes (with_nul d) = part_is ∙ front_is bytes (unit_bytes (with_nul d)) after split in
     let units : units_of part ≡ with_nul d =
     ap units_of same ∙ units_read_back.written (with_nul d) (AreUnits-with_nul d before.nonzero) in
-    let characters : all_but_last (units_of part) ≡ d =
-    ap all_but_last units ∙ all_but_last-with_nul d in
+    let characters = ap all_but_last units ∙ all_but_last-with_nul d in
     record {
       even = ap (λ l. length l % 2) same ∙ omega (arith, units_read_back.sized (with_nul d));
       nul = units ∙ ap with_nul (sym characters);

@@ -123,16 +123,15 @@ pub whole_load_option : (bytes units rest list optional : List ℕ) (n attribute
     × (bytes ≡ load_option_bytes (with_parts attributes units nodes list optional))
 unfolding load_option_bytes
 whole_load_option bytes units rest list optional n attributes nodes are =
-    let starts : list ≡ joined nodes ++ drop (length (joined nodes)) list =
-    prefix_and_rest (joined nodes) list are.first in
+    let starts = prefix_and_rest (joined nodes) list are.first in
     let sized : length list ≡ n = ap length are.list_is ∙ length-take-le n rest are.within in
     let parts : list ++ optional ≡ rest =
-    ap (λ l. l ++ optional) are.list_is ∙ ap (λ o. take n rest ++ o) are.optional_is ∙ take-append-drop n rest in (
+    (λ i. are.list_is i ++ are.optional_is i) ∙ take-append-drop n rest in (
       record {
         attributes = are.attributes_fit;
         description = are.nonzero;
         file_path = are.path;
-        file_path_list = subst (λ l. length l < 2 ^ 16) starts (subst (λ m. m < 2 ^ 16) (sym sized) are.length_fits);
+        file_path_list = rw (← starts, sized) are.length_fits;
       },
       rw (← starts, ← are.nul, parts, ← are.split, sized, are.length_is, are.attributes_is)
           (sym (numbers_and_rest bytes are.each are.room)),
@@ -155,9 +154,9 @@ says bytes option is e = record {
 }
 
 -- The rest after a description is the file path list and the data.
-rest_is : (bytes rest d : List ℕ) (option : LoadOption) → IsLoadOption option → Says bytes option → AreNonzeroUnits d
-    → drop 6 bytes ≡ unit_bytes (with_nul d) ++ rest → rest ≡ file_path_list option ++ option.optional_data
-rest_is bytes rest d option is said fits split =
+rest_is : (bytes rest : List ℕ) (option : LoadOption) → IsLoadOption option → Says bytes option → HasRest bytes rest
+    → rest ≡ file_path_list option ++ option.optional_data
+rest_is bytes rest option is said (d, room, (fits, split)) =
     (one_description d option.description rest (file_path_list option ++ option.optional_data) fits is.description
     (sym split ∙ said.rest)).1
 
@@ -171,19 +170,13 @@ no_load_option bytes NotNulTerminated fault (option, is, e) =
       file_path_list option ++ option.optional_data,
       (is.description, (says bytes option is e).rest),
     )
-no_load_option bytes FilePathListTooLong (rest, (d, room, (fits, split)), less) (option, is, e) =
+no_load_option bytes FilePathListTooLong (rest, has_rest, less) (option, is, e) =
     let said = says bytes option is e in
-    let same = rest_is bytes rest d option is said fits split in
-    absurd (omega (
-      arith,
-      less,
-      said.list_length,
-      ap length same,
-      length-append (file_path_list option) option.optional_data,
-    ))
-no_load_option bytes (FilePath error) (rest, (d, room, (fits, split)), within, none) (option, is, e) =
+    let same = rest_is bytes rest option is said has_rest in
+    absurd (omega (arith, ap length same, length-append (file_path_list option) option.optional_data))
+no_load_option bytes (FilePath error) (rest, has_rest, within, none) (option, is, e) =
     let said = says bytes option is e in
-    let same = rest_is bytes rest d option is said fits split in
+    let same = rest_is bytes rest option is said has_rest in
     none (
       option.file_path,
       is.file_path,

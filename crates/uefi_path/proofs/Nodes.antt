@@ -38,17 +38,14 @@ pub node_prefix : (bytes : List ℕ) (t u n : ℕ) → ((i : ℕ) → get_or byt
 node_prefix bytes t u n small prefix whole_header within fits =
     let bytes_of_header = header_bytes (header t u n) in
     let payload = take (n - 4) prefix.0 in
-    let first : get_or bytes 0 0 ≡ t = ap (λ b. get_or b 0 0) prefix.1 in
-    let second : get_or bytes 1 0 ≡ u = ap (λ b. get_or b 1 0) prefix.1 in
     let sized : length payload ≡ n - 4 = length-take-le (n - 4) prefix.0 (omega (arith, ap length prefix.1)) in
     let stated : n ≡ 4 + length payload = omega (arith, sized) in
     let cut : n ≡ length bytes_of_header + (n - 4) = omega arith in (
       record { device_type = t; sub_type = u; payload = payload },
       record {
         fits = record {
-          device_type = omega (arith, first, small 0);
-          sub_type =
-              omega (arith, second, small 1);
+          device_type = rw prefix.1 at (small 0);
+          sub_type = rw prefix.1 at (small 1);
           payload = omega (arith, sized);
         };
         encoded =
@@ -70,7 +67,6 @@ stated_prefix bytes n has made =
       node,
       record {
         fits = has.1;
-        encoded =
-            ap (take n) has.2.1 ∙ take_at (encoding node) rest n (sym whole);
+        encoded = ap (take n) has.2.1 ∙ take_at (encoding node) rest n (sym whole);
       },
     )

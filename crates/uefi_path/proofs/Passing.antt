@@ -1,8 +1,7 @@
 -- A walk over the nodes that bytes start with.
 use Rattle.std.proofs.Common.{◌≡◌, ℕ, ◌-◌, List, [], ◌∷◌, ◌++◌, length, take, refl, sym, ◌∙◌, ap, subst, arith}
 use Rattle.std.proofs.Common.{append_assoc, length-append}
-use Rattle.std.proofs.lemmas.Grind.{flat_map-append}
-use Rattle.std.proofs.lemmas.List.{take_at}
+use Rattle.std.proofs.lemmas.Grind.{common_steps, flat_map-append}
 use Rattle.std.specs.List.{AllByRecursion, flat_map}
 use Rattle.uefi_path.specs.Node.{Node, Fits, encoding, joined, HasNode}
 use Rattle.uefi_path.specs.Path.{LastAlone}
@@ -37,6 +36,10 @@ pub flat_map-push : {A : Type 0} (f : A → List ℕ) (xs : List A) (x : A) (res
     → flat_map f (xs ++ x ∷ []) ++ rest ≡ flat_map f xs ++ (f x ++ rest)
 flat_map-push f xs x rest = simp (flat_map-append, append_assoc)
 
+-- What comes before the rest of the bytes.
+pub front_is : (bytes front rest : List ℕ) → bytes ≡ front ++ rest → take (length bytes - length rest) bytes ≡ front
+front_is bytes front rest split = grind (arith, common_steps)
+
 -- The walk continues after a node that doesn't satisfy P.
 pub passed_more : (P : Node → Type 0) (bytes rest after : List ℕ) (n : Node) → HasPassed P bytes rest → Fits n
     → (P n → ⊥)
@@ -56,18 +59,15 @@ pub passed_end : (P : Node → Type 0) (bytes rest after : List ℕ) (n : Node) 
     → EncodesNodes P (take (length bytes - length after) bytes)
 passed_end P bytes rest after n before fits so e =
     let nodes : List Node = before.0 ++ n ∷ [] in
-    let end : ℕ = length bytes - length after in
     let split : bytes ≡ joined nodes ++ after = before.1.split ∙ ap (λ s. joined before.0 ++ s) e
-    ∙ sym (flat_map-push encoding before.0 n after) in
-    let sized : length (joined nodes) ≡ end = omega (arith, ap length split, length-append (joined nodes) after) in (
+    ∙ sym (flat_map-push encoding before.0 n after) in (
       nodes,
       record {
         ended = record {
           each = AllByRecursion-push Fits before.0 n before.1.each fits;
-          end =
-              LastAlone-push P before.0 n before.1.none so;
+          end = LastAlone-push P before.0 n before.1.none so;
         };
-        encoded = ap (take end) split ∙ take_at (joined nodes) after end sized;
+        encoded = front_is bytes (joined nodes) after split;
       },
     )
 

@@ -80,8 +80,7 @@ next_node {P} {bytes} {after} {n} {nodes} {others} encodes fits not_so e left =
     nodes_encoded_once P bytes nodes (n ∷ others) encodes
     (record {
       ended = AreEndedBy-cons P n others fits not_so left.ended;
-      encoded =
-          e ∙ ap (λ b. encoding n ++ b) left.encoded;
+      encoded = e ∙ ap (λ b. encoding n ++ b) left.encoded;
     }) in
     ap all_but_last all ∙ all_but_last-cons P n others left.ended
 

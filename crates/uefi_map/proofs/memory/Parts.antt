@@ -3,21 +3,20 @@ use Rattle.std.proofs.Common.{◌≡◌, ℕ, ◌+◌, ◌≤◌, List, ◌++◌
 use Rattle.std.proofs.lemmas.Grind.{common_steps}
 use Rattle.std.proofs.lemmas.List.{same_lists, places}
 
--- A list with another part from an index on, instead of as many items: what is before it, what is behind it, the
--- part, and the length.
-pub before_part : (list part rest : List ℕ) (at : ℕ) → at ≤ length list
-    → take at (take at list ++ (part ++ rest)) ≡ take at list
-before_part list part rest at within = grind (arith, common_steps)
+-- A list with another part of n items from an index on: what is before it, what is behind it, the part, and the
+-- length.
+module _ (list part : List ℕ) (at n : ℕ) (sized : length part ≡ n) (within : at + n ≤ length list) where
+  abbrev replaced : List ℕ
+  replaced = take at list ++ (part ++ drop (at + n) list)
 
-pub behind_part : (list part : List ℕ) (at : ℕ) → at + length part ≤ length list
-    → drop (at + length part) (take at list ++ (part ++ drop (at + length part) list)) ≡ drop (at + length part) list
-behind_part list part at within =
-    same_lists _ _ (grind (arith, common_steps)) (λ k d within_both. grind (arith, places))
+  pub before_part : take at replaced ≡ take at list
+  before_part = grind (arith, common_steps)
 
-pub the_part : (list part rest : List ℕ) (at : ℕ) → at ≤ length list
-    → slice_range (take at list ++ (part ++ rest)) at (at + length part) ≡ part
-the_part list part rest at within = grind (arith, common_steps)
+  pub behind_part : drop (at + n) replaced ≡ drop (at + n) list
+  behind_part = same_lists _ _ (grind (arith, common_steps)) (λ k d within_both. grind (arith, places))
 
-pub length-with_part : (list part : List ℕ) (at : ℕ) → at + length part ≤ length list
-    → length (take at list ++ (part ++ drop (at + length part) list)) ≡ length list
-length-with_part list part at within = grind (arith, common_steps)
+  pub the_part : slice_range replaced at (at + n) ≡ part
+  the_part = grind (arith, common_steps)
+
+  pub length-replaced : length replaced ≡ length list
+  length-replaced = grind (arith, common_steps)

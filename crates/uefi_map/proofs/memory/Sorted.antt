@@ -76,14 +76,5 @@ module _ (bytes : List ℕ) (meta : MemoryMapMeta) (p : Run (YieldsFirst entries
       let next = start_at (falls.0 + 1) within in
       let above = is_above (get_or starts falls.0 0) (get_or starts (falls.0 + 1) 0) (falls.2 0) in (
         λ so. let no : false ≡ true = so in cc,
-        λ sorted. absurd (omega (
-          arith,
-          one,
-          next,
-          above,
-          are.0,
-          counted,
-          within,
-          sorted falls.0 (omega (arith, are.0, counted, within)),
-        )),
+        λ sorted. let rises = sorted falls.0 (omega (arith, are.0, counted, within)) in absurd (omega arith),
       )

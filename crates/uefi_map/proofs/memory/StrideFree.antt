@@ -9,7 +9,7 @@ use Rattle.uefi_map.specs.memory.Map.{count_of}
 use Rattle.uefi_map.specs.memory.Laws.{SameEntries, WritesOne}
 use Rattle.uefi_map.proofs.memory.Fields.{descriptor_in-encoding, length-encoding}
 use Rattle.uefi_base.proofs.Ranges.{range-same_prefix, range-same_rest}
-use Rattle.uefi_map.proofs.memory.Parts.{before_part, behind_part, the_part, length-with_part}
+use Rattle.uefi_map.proofs.memory.Parts.{before_part, behind_part, the_part, length-replaced}
 use Rattle.uefi_map.proofs.memory.Strides.{ends_within, same_from}
 
 pub same_entries : SameEntries
@@ -38,20 +38,16 @@ writes_one bytes meta i d map within fits =
     let stride = meta.desc_size in
     let offset = i * stride in
     let new = with_descriptor bytes stride i d in
-    let sized : length (encoding d) ≡ descriptor_length = length-encoding d in
-    let end : offset + length (encoding d) ≡ offset + descriptor_length = omega (arith, sized) in
+    let sized = length-encoding d in
     let ends : offset + descriptor_length ≤ meta.map_size = ends_within stride meta.map_size i map.room within in
-    let reaches : offset + length (encoding d) ≤ length bytes = omega (arith, sized, ends, map.within) in
-    let begins : offset ≤ length bytes = omega (arith, reaches) in
-    let before = before_part bytes (encoding d) (drop (offset + descriptor_length) bytes) offset begins in
-    let after : drop (offset + descriptor_length) new ≡ drop (offset + descriptor_length) bytes =
-    rw end at (behind_part bytes (encoding d) offset reaches) in
-    let part : slice_range new offset (offset + descriptor_length) ≡ encoding d =
-    rw end at (the_part bytes (encoding d) (drop (offset + descriptor_length) bytes) offset begins) in
+    let reaches : offset + descriptor_length ≤ length bytes = omega (arith, ends, map.within) in
+    let before = before_part bytes (encoding d) offset descriptor_length sized reaches in
+    let after = behind_part bytes (encoding d) offset descriptor_length sized reaches in
+    let part = the_part bytes (encoding d) offset descriptor_length sized reaches in
     record {
       set = ap descriptor_in part ∙ descriptor_in-encoding d fits;
       others = λ j below other. ap descriptor_in (other_bytes bytes new stride i j map.room other before after);
       before = before;
       after = after;
-      same_length = rw end at (length-with_part bytes (encoding d) offset reaches);
+      same_length = length-replaced bytes (encoding d) offset descriptor_length sized reaches;
     }

@@ -25,11 +25,9 @@ pub same_from : (one other : List ℕ) (stride i n : ℕ)
     → descriptors_from one stride i n ≡ descriptors_from other stride i n
 same_from one other stride i zero same = refl
 same_from one other stride i (suc n) same =
-    let first : descriptor one stride i ≡ descriptor other stride i =
-    ap descriptor_in (same i (omega arith) (omega arith)) in
-    let rest : descriptors_from one stride (i + 1) n ≡ descriptors_from other stride (i + 1) n =
-    same_from one other stride (i + 1) n (λ j above below. same j (omega arith) (omega arith)) in
-    cc
+    let first = same i (omega arith) (omega arith) in
+    let rest = same_from one other stride (i + 1) n (λ j above below. same j (omega arith) (omega arith)) in
+    λ k. descriptor_in (first k) ∷ rest k
 
 -- A descriptor ends within its map.
 pub ends_within : (stride size i : ℕ) → descriptor_length ≤ stride → i < size / stride
@@ -57,15 +55,7 @@ next_from : (bytes : List ℕ) (stride i count : ℕ)
     → descriptors_from (drop stride bytes) stride i count ≡ descriptors_from bytes stride (i + 1) count
 next_from bytes stride i zero = refl
 next_from bytes stride i (suc count) =
-    let first : descriptor (drop stride bytes) stride i ≡ descriptor bytes stride (i + 1) =
-    ap descriptor_in (next_bytes bytes stride i) in
-    let rest : descriptors_from (drop stride bytes) stride (i + 1) count ≡ descriptors_from bytes stride
-    (i + 1 + 1) count = next_from bytes stride (i + 1) count in
-    cc
-
--- The first descriptor has the first forty bytes.
-first_bytes : (bytes : List ℕ) (stride : ℕ) → descriptor_bytes bytes stride 0 ≡ take descriptor_length bytes
-first_bytes bytes stride = grind (arith, common_steps)
+    λ j. descriptor_in (next_bytes bytes stride i j) ∷ next_from bytes stride (i + 1) count j
 
 -- Strides that are not none are at least one.
 one_size : (stride size : ℕ) → 0 < size → size % stride ≡ 0 → stride ≤ size
@@ -91,7 +81,7 @@ next_left bytes stride strides some =
     let left : ℕ = length (drop stride bytes) / stride in
     let count : length bytes / stride ≡ suc left =
     omega (arith, div-eq-sub-div positive reaches, ap (λ n. n / stride) (length-drop stride bytes)) in
-    let first = first_bytes bytes stride in
+    let first : descriptor_bytes bytes stride 0 ≡ take descriptor_length bytes = grind (arith, common_steps) in
     let rest = next_from bytes stride 0 left in
     ap (descriptors_from bytes stride 0) count ∙ (λ i. descriptor_in (first i) ∷ sym rest i)
 

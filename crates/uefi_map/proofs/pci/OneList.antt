@@ -2,7 +2,7 @@
 use Rattle.std.proofs.Common.{◌≡◌, ℕ, suc, zero, ◌≤◌, ◌≢◌, ◌⊎◌, List, [], ◌∷◌, ◌++◌, length, take, drop, refl, sym, ◌∙◌, ap, subst}
 use Rattle.std.proofs.Common.{arith, inl, inr, length-append, length-drop, get_or}
 use Rattle.std.specs.Prelude.{◌==◌, if◌then◌else◌}
-use Rattle.std.proofs.lemmas.List.{take_at, drop_at}
+use Rattle.std.proofs.lemmas.List.{take_at, drop_at, get_or_append_left}
 use Rattle.std.proofs.lemmas.Bool.{cases_eq, cases_lt}
 use Rattle.std.proofs.lemmas.Bool.Decides.{nat_tests}
 use Rattle.uefi_map.specs.declared.pci.resource.QwordAddressSpaceDescriptor.{QwordAddressSpaceDescriptor}
@@ -38,12 +38,13 @@ one_walk (d ∷ ds) (e ∷ es) bytes r s p q none_r none_s =
     ((cc), rest.1)
 
 -- A record begins with its tag, and has all its bytes.
+abbrev first_byte : List ℕ → ℕ
+first_byte bytes = get_or bytes 0 0
+
 tag_of : (text after more : List ℕ) (d : QwordAddressSpaceDescriptor) (tag : ℕ) → IsRecord text d
     → tag ∷ more ≡ text ++ after → tag ≡ record_tag
-tag_of [] after more d tag is e = absurd (omega (arith, is.size))
-tag_of (t ∷ text) after more d tag is e =
-    let first : t ≡ record_tag = is.tag in
-    cc
+tag_of text after more d tag is e =
+    ap first_byte e ∙ get_or_append_left text after 0 0 (omega (arith, is.size)) ∙ is.tag
 
 long_enough : (rest text after : List ℕ) (d : QwordAddressSpaceDescriptor) → IsRecord text d → rest ≡ text ++ after
     → record_length ≤ length rest
@@ -86,9 +87,6 @@ fault_alone bytes f g p q =
     fault_is p.1 f p.3 ∙ ap fault_at same ∙ sym (fault_is q.1 g q.3)
 
 -- The end tag is no fault.
-abbrev first_byte : List ℕ → ℕ
-first_byte bytes = get_or bytes 0 0
-
 end_is_no_fault : (rest : List ℕ) (fault : ResourceError) → BeginWith rest end_tag → IsFaultOf rest fault → ⊥
 end_is_no_fault rest NoEndTag end empty = absurd (omega (arith, ap length (sym empty ∙ end.1)))
 end_is_no_fault rest CutRecord end cut = absurd (omega (arith, ap first_byte (sym end.1 ∙ cut.0.1)))

@@ -64,8 +64,7 @@ text_of bytes rest (d ∷ ds) records =
     let others = text_of records.1 rest ds records.3 in (
       first ++ others.0,
       records.4 ∙ ap (λ b. first ++ b) others.1 ∙ sym (append_assoc first others.0 rest),
-      resource_before first others.0 records.2.size ∙ ap (λ e. e ∷ resources_in others.0) (sym records.2.fields)
-          ∙ ap (λ es. d ∷ es) others.2,
+      resource_before first others.0 records.2.size ∙ (λ i. sym records.2.fields i ∷ others.2 i),
     )
 
 -- So are the bytes before the rest.

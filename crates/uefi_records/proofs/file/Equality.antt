@@ -1,14 +1,11 @@
 -- Equality of joined lists, part by part.
+use mathlib.Core.Bool.{and_assoc}
 use Rattle.std.proofs.Common.{◌≡◌, ℕ, List, [], ◌∷◌, ◌++◌, length, Bool, true, false, refl, sym, ◌∙◌, ap, arith}
 use Rattle.std.specs.Prelude.{◌&&◌, nat_eq}
 use Rattle.std.specs.Cmp.Lexicographic.{pointwise}
 use Rattle.uefi_records.specs.declared.file.file_info.FileInfo.{FileInfo}
 use Rattle.uefi_records.specs.file.Views.{stated_size, file_fields_of, file_header_of, file_info_key, file_name_of}
 use Rattle.uefi_records.proofs.file.FieldsBack.{length-file_header}
-
-and_assoc : (a b c : Bool) → (a && b) && c ≡ a && (b && c)
-and_assoc true b c = refl
-and_assoc false b c = refl
 
 -- Parts of the same length.
 pub pointwise-append : (xs ys more others : List ℕ) → length xs ≡ length ys → pointwise nat_eq (xs ++ more)
@@ -17,17 +14,14 @@ pointwise-append [] [] more others same = refl
 pointwise-append [] (y ∷ ys) more others same = absurd (omega (arith, same))
 pointwise-append (x ∷ xs) [] more others same = absurd (omega (arith, same))
 pointwise-append (x ∷ xs) (y ∷ ys) more others same =
-    ap (λ rest. nat_eq x y && rest) (pointwise-append xs ys more others (omega (arith, same)))
-    ∙ sym (and_assoc (nat_eq x y) (pointwise nat_eq xs ys) (pointwise nat_eq more others))
+    rw (pointwise-append xs ys more others (omega (arith, same)), and_assoc)
 
 -- Two file information records are equal exactly if their headers and the units of their names are.
-pub equal_if : (one other : FileInfo) (same_header same_name : Bool)
-    → same_header ≡ pointwise nat_eq (file_header_of one) (file_header_of other)
-    → same_name ≡ pointwise nat_eq (file_name_of one) (file_name_of other)
-    → same_header && same_name ≡ pointwise nat_eq (file_info_key one) (file_info_key other)
+pub equal_if : (one other : FileInfo) → pointwise nat_eq (file_info_key one) (file_info_key other)
+    ≡ pointwise nat_eq (file_header_of one) (file_header_of other)
+    && pointwise nat_eq (file_name_of one) (file_name_of other)
 unfolding file_info_key
-equal_if one other same_header same_name header name =
-    (λ i. header i && name i) ∙ sym (pointwise-append (file_header_of one) (file_header_of other) (file_name_of one)
-    (file_name_of other)
+equal_if one other =
+    pointwise-append (file_header_of one) (file_header_of other) (file_name_of one) (file_name_of other)
     (length-file_header (stated_size one) (file_fields_of one)
-    ∙ sym (length-file_header (stated_size other) (file_fields_of other))))
+    ∙ sym (length-file_header (stated_size other) (file_fields_of other)))

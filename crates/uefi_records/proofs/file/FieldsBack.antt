@@ -27,14 +27,7 @@ file_info_back size fields rest fits small =
     let modification_time = times_read_back.written fields.modification_time [] fits.modification_time in
     let attribute = from_le_bytes-to_le_bytes_8 fields.attribute fits.attribute in (
       from_le_bytes-to_le_bytes_8 size small,
-      λ i. record {
-        file_size = file_size i;
-        physical_size = physical_size i;
-        create_time = create_time i;
-        last_access_time = last_access_time i;
-        modification_time = modification_time i;
-        attribute = attribute i;
-      },
+      rw (file_size, physical_size, create_time, last_access_time, modification_time, attribute),
     )
 
 pub length-file_header : (size : ℕ) (fields : FileFields) → length (file_header size fields) ≡ file_name_offset
@@ -64,13 +57,12 @@ pub header_back : (bytes : List ℕ) → AreBytes bytes → file_name_offset ≤
     → take file_name_offset bytes ≡ file_header (size_in bytes) (file_fields bytes)
 unfolding file_header
 header_back bytes small within =
-    let size = then_range 0 8 bytes [] _ refl (number_range bytes 0 small (omega (arith, within))) in
-    let file_size = then_range 8 8 bytes _ _ size (number_range bytes 8 small (omega (arith, within))) in
-    let physical_size = then_range 16 8 bytes _ _ file_size (number_range bytes 16 small (omega (arith, within))) in
-    let create_time = then_range 24 16 bytes _ _ physical_size (time_range bytes 24 small (omega (arith, within))) in
-    let last_access_time = then_range 40 16 bytes _ _ create_time (time_range bytes 40 small (omega (arith, within))) in
-    let modification_time = then_range 56 16 bytes _ _ last_access_time
-    (time_range bytes 56 small (omega (arith, within))) in
+    let size = then_range 0 8 bytes [] _ refl (number_range bytes 0 small (omega arith)) in
+    let file_size = then_range 8 8 bytes _ _ size (number_range bytes 8 small (omega arith)) in
+    let physical_size = then_range 16 8 bytes _ _ file_size (number_range bytes 16 small (omega arith)) in
+    let create_time = then_range 24 16 bytes _ _ physical_size (time_range bytes 24 small (omega arith)) in
+    let last_access_time = then_range 40 16 bytes _ _ create_time (time_range bytes 40 small (omega arith)) in
+    let modification_time = then_range 56 16 bytes _ _ last_access_time (time_range bytes 56 small (omega arith)) in
     then_range 72 8 bytes _ _ modification_time (number_range bytes 72 small within)
 
 -- The unused bytes of a file system information record, written out.
@@ -101,11 +93,5 @@ file_system_info_back size fields unused rest seven fits small =
     let block_size = from_le_bytes-to_le_bytes_4 fields.block_size fits.block_size in (
       from_le_bytes-to_le_bytes_8 size small,
       ap (λ u. file_system_fields (file_system_header size fields u ++ rest)) (unused_items unused seven)
-          ∙ (λ i. record {
-            read_only = read_only i;
-            volume_size = volume_size i;
-            free_space =
-                free_space i;
-            block_size = block_size i;
-          }),
+          ∙ rw (read_only, volume_size, free_space, block_size),
     )

@@ -5,7 +5,7 @@ use Rattle.std.specs.Prelude.{◌==◌}
 use Rattle.std.specs.Option.{option_map}
 use Rattle.std.specs.List.{position_from, position_or_len}
 use Rattle.std.proofs.lemmas.Bool.Decides.{nat_tests}
-use Rattle.std.proofs.lemmas.List.{take_all}
+use Rattle.std.proofs.lemmas.Grind.{common_steps}
 use Rattle.std.proofs.lemmas.List.Sums.{position_or_len_is, fails_before_first, passes_at_first}
 use Rattle.std.proofs.lemmas.Option.{cond_some}
 use Rattle.std.proofs.lemmas.Bool.{ltb-true}
@@ -14,15 +14,9 @@ use Rattle.uefi_base.proofs.UnitsOfBytes.{units_by_place}
 use Rattle.uefi_records.specs.file.Name.{first_zero, unit_length}
 
 -- An odd last byte is in no unit.
-whole_units : (bytes : List ℕ) → units_of (take (length bytes / 2 * 2) bytes) ≡ units_of bytes
-whole_units bytes =
-    let twice : length bytes / 2 * 2 ≡ 2 * (length bytes / 2) = omega arith in
-    ap (λ n. units_of (take n bytes)) twice ∙ units_by_place.front bytes (length bytes / 2)
-    ∙ take_all (length bytes / 2) (units_of bytes) (omega (arith, units_by_place.counted bytes))
-
 pub units_of_whole : (bytes whole : List ℕ) → whole ≡ take (length bytes / 2 * 2) bytes
     → units_of whole ≡ units_of bytes
-units_of_whole bytes whole is = ap units_of is ∙ whole_units bytes
+units_of_whole bytes whole is = grind (arith, common_steps, units_by_place.front bytes (length bytes / 2), units_by_place.counted bytes)
 
 -- No unit before the index is zero.
 abbrev pub NoZeroBefore : ℕ → List ℕ → Type 0

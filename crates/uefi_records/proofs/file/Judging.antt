@@ -1,9 +1,11 @@
 -- The verdict on written bytes, by the index of the first zero unit.
-use Rattle.std.proofs.Common.{◌≡◌, ℕ, ◌+◌, ◌-◌, ◌*◌, ◌≤◌, min, Some, List, length, take, drop, sym}
-use Rattle.std.proofs.Common.{◌∙◌, ap, arith, subst}
+use Rattle.std.proofs.Common.{◌≡◌, ℕ, ◌+◌, ◌-◌, ◌*◌, ◌≤◌, Bool, true, cond, min, Some, List, length, take, drop, sym}
+use Rattle.std.proofs.Common.{◌∙◌, ap, arith, refl, subst}
+use Rattle.std.specs.Prelude.{nat_le}
 use Rattle.std.proofs.lemmas.Bool.Decides.{nat_tests}
 use Rattle.std.proofs.lemmas.Grind.{common_steps}
-use Rattle.std.proofs.lemmas.List.{take-take, drop-take, length-drop, length-take-le, get_or-take}
+use Rattle.std.proofs.lemmas.List.{same_lists, places, take-take, drop-take, length-take, length-drop, length-take-le, get_or-take}
+use Rattle.std.proofs.lemmas.List.{take_min, take_rest}
 use Rattle.uefi_base.specs.Unaligned.{units_of}
 use Rattle.uefi_base.proofs.UnitsOfBytes.{units_by_place}
 use Rattle.uefi_records.specs.private.file.Kept.{EndsWithName}
@@ -23,27 +25,22 @@ pub units_of_prefix : (bytes : List ℕ) (offset count written : ℕ) → record
     ≡ units_from offset (take (record_end offset count) bytes)
 units_of_prefix bytes offset count written within =
     sym (units_by_place.front (drop offset (take written bytes)) count)
-    ∙ ap units_of (sym (drop-take offset (2 * count) (take written bytes))
-    ∙ ap (drop offset) (take-take (record_end offset count) written bytes within))
+    ∙ ap units_of (same_lists _ _ (grind (arith, common_steps)) (λ k d within_both. grind (arith, places)))
 
 -- The units up to and with the first zero are a name.
 is_name : (units : List ℕ) (index : ℕ) → IsFirstAt units index → IsName (take (index + 1) units)
-is_name units index first =
-    let long : length (take (index + 1) units) ≡ index + 1 =
-    length-take-le (index + 1) units (omega (arith, first.within)) in
-    let last : length (take (index + 1) units) - 1 ≡ index = omega (arith, long) in
-    record {
-      not_empty = omega (arith, long);
-      nul = rw last (get_or-take (index + 1) units index 0 (omega arith) ∙ first.is_zero);
-      others = λ k before. λ is_zero. first.before k (omega (arith, before, long))
-          (sym (get_or-take (index + 1) units k 0 (omega (arith, before, long))) ∙ is_zero);
-    }
+is_name units index first = record {
+  not_empty = grind (arith, common_steps, first.within);
+  nul = grind (arith, common_steps, first.within, first.is_zero);
+  others = λ k before. grind (arith, common_steps, first.within, first.before k);
+}
 
 -- The verdict if the first zero unit is known and the record fits the buffer.
-pub accepted_at : (offset alignment room index : ℕ) (written : List ℕ)
-    → first_zero (units_from offset written) ≡ Some index → record_size offset alignment (index + 1) ≤ room
-    → verdict offset alignment written room ≡ accepted (take (index + 1) (units_from offset written))
-accepted_at offset alignment room index written at within =
+pub accepted_at : (offset alignment room index count : ℕ) (written : List ℕ)
+    → first_zero (units_from offset written) ≡ Some index → count ≡ index + 1
+    → record_size offset alignment count ≤ room
+    → verdict offset alignment written room ≡ accepted (take count (units_from offset written))
+accepted_at offset alignment room index count written at next within =
     ap (judged offset alignment (units_from offset written) room) at ∙ grind (arith, nat_tests)
 
 -- The record of the bytes up to that unit, and the verdict that has its name.
@@ -61,16 +58,14 @@ accepts bytes named offset alignment written index is at within room =
     let left : length named ≡ min written (length bytes) - offset = grind (arith, common_steps) in
     let inside : end ≤ length bytes = omega (arith, within, left) in
     let whole : length (take end bytes) ≡ end = length-take-le end bytes inside in
-    let rest : length (drop offset (take end bytes)) ≡ 2 * (index + 1) = omega (arith, whole, length-drop {A = ℕ}) in
     let same : take (index + 1) units ≡ units_from offset (take end bytes) =
     units_of_prefix bytes offset (index + 1) written (omega (arith, within, left)) in (
       inside,
       record {
         before = omega (arith, whole);
-        whole_units = omega (arith, rest);
-        name =
-            subst IsName same (is_name units index (first_zero_is units index found));
+        whole_units = omega (arith, whole, length-drop {A = ℕ});
+        name = subst IsName same (is_name units index (first_zero_is units index found));
       },
-      accepted_at offset alignment (length bytes) index (take written bytes) found room
+      accepted_at offset alignment (length bytes) index (index + 1) (take written bytes) found refl room
           ∙ ap (λ name. accepted name) same,
     )

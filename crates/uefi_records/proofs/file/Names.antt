@@ -1,5 +1,5 @@
 -- Names of records: their units, and the bytes that end with them.
-use Rattle.std.proofs.Common.{◌≡◌, ℕ, zero, suc, ◌+◌, List, [], ◌∷◌, ◌++◌, length, drop, sym, ◌∙◌, ap, subst}
+use Rattle.std.proofs.Common.{◌≡◌, ℕ, zero, suc, ◌+◌, ◌-◌, ◌<◌, ◌*◌, List, [], ◌∷◌, ◌++◌, length, drop, sym, ◌∙◌, ap, subst}
 use Rattle.std.proofs.Common.{arith, lit<}
 use Rattle.std.proofs.lemmas.Grind.{common_steps}
 use Rattle.std.proofs.lemmas.List.{drop_at, length-append}
@@ -13,15 +13,7 @@ use Rattle.uefi_records.specs.private.file.Kept.{EndsWithName}
 -- A text is a name.
 pub FitName_of_text : (units : List ℕ) → IsUcs2Text units → AreUnits units → FitName units
 FitName_of_text units text are_units =
-    record {
-      is_name = record {
-        not_empty = text.not_empty;
-        nul = text.nul;
-        others =
-            λ k before. (text.characters k before).not_nul;
-      };
-      are_units = are_units;
-    }
+    assumption (λ (k : ℕ) (before : k < length units - 1). (text.characters k before).not_nul)
 
 -- A part of bytes is bytes.
 AreBytes-drop : (n : ℕ) (bytes : List ℕ) → AreBytes bytes → AreBytes (drop n bytes)
@@ -47,8 +39,7 @@ ends_with offset header name sized fit =
     record {
       before = omega (arith, whole);
       whole_units = grind (arith, common_steps, whole);
-      name =
-          subst IsName (sym (units_back offset header name sized fit.are_units)) fit.is_name;
+      name = subst IsName (sym (units_back offset header name sized fit.are_units)) fit.is_name;
     }
 
 -- The units of bytes are units, and those behind the offset of a name are the name.
@@ -63,6 +54,5 @@ pub FitName_from : (offset : ℕ) (bytes : List ℕ) → EndsWithName offset byt
 FitName_from offset bytes named small =
     record {
       is_name = named.name;
-      are_units =
-          AreUnits-units_of (drop offset bytes) (AreBytes-drop offset bytes small);
+      are_units = AreUnits-units_of (drop offset bytes) (AreBytes-drop offset bytes small);
     }

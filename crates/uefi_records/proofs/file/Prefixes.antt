@@ -24,14 +24,7 @@ file_fields_stand n bytes covers =
     let last_access_time = range-take n bytes 40 56 (omega arith) (omega arith) in
     let modification_time = range-take n bytes 56 72 (omega arith) (omega arith) in
     let attribute = range-take n bytes 72 80 (omega arith) (omega arith) in
-    λ i. record {
-      file_size = from_le_bytes w64 (file_size i);
-      physical_size = from_le_bytes w64 (physical_size i);
-      create_time = time_in (create_time i);
-      last_access_time = time_in (last_access_time i);
-      modification_time = time_in (modification_time i);
-      attribute = from_le_bytes w64 (attribute i);
-    }
+    rw (file_size, physical_size, create_time, last_access_time, modification_time, attribute)
 
 pub file_system_fields_stand : StandsBefore label_offset file_system_fields
 file_system_fields_stand n bytes covers =
@@ -39,12 +32,7 @@ file_system_fields_stand n bytes covers =
     let volume_size = range-take n bytes 16 24 (omega arith) (omega arith) in
     let free_space = range-take n bytes 24 32 (omega arith) (omega arith) in
     let block_size = range-take n bytes 32 36 (omega arith) (omega arith) in
-    λ i. record {
-      read_only = not (read_only i == 0);
-      volume_size = from_le_bytes w64 (volume_size i);
-      free_space = from_le_bytes w64 (free_space i);
-      block_size = from_le_bytes w32 (block_size i);
-    }
+    cc
 
 module _ {A : Type 0} (offset : ℕ) (read : List ℕ → A) (stands : StandsBefore offset read) where
   -- So it is the same in a prefix that ends with a name.

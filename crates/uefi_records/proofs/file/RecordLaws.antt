@@ -31,7 +31,7 @@ first_zero_of_name units name is prefix enough =
     record {
       within = omega (arith, is.not_empty, enough);
       is_zero = at (length name - 1) (omega (arith, is.not_empty)) ∙ is.nul;
-      before = λ k before. λ is_zero. is.others k before (sym (at k (omega (arith, before))) ∙ is_zero);
+      before = λ k before. rw (at k (omega (arith, before))) (is.others k before);
     }
 
 -- A record whose name follows its header is accepted with that name.
@@ -53,10 +53,8 @@ name_accepted offset alignment header name rest written sized fit covers room =
     grind (arith, common_steps, units_by_place.counted (drop offset (take written buffer)), record_sized, covers) in
     let first : first_zero seen ≡ Some (length name - 1) =
     one_first seen (length name - 1) (first_zero_of_name seen name fit.is_name prefix enough) in
-    let count : length name - 1 + 1 ≡ length name = omega (arith, fit.is_name.not_empty) in
-    accepted_at offset alignment (length buffer) (length name - 1) (take written buffer) first
-    (subst (λ n. record_size offset alignment n ≤ length buffer) (sym count) room)
-    ∙ ap (λ n. accepted (take n seen)) count ∙ ap (λ us. accepted us) prefix
+    accepted_at offset alignment (length buffer) (length name - 1) (length name) (take written buffer) first
+    (omega (arith, fit.is_name.not_empty)) room ∙ ap (λ units. accepted units) prefix
 
 file_info_reads_back : FileInfoReadsBack
 file_info_reads_back fields name rest written fits fit small covers room =
@@ -84,12 +82,7 @@ volume_label_reads_back label rest written fit covers room =
     name_accepted lone_label_offset volume_label_alignment [] label rest written refl fit covers room
 
 pub reads_back : ReadsBack
-reads_back = record {
-  file_info = file_info_reads_back;
-  file_system_info = file_system_info_reads_back;
-  volume_label =
-      volume_label_reads_back;
-}
+reads_back = assumption (file_info_reads_back, file_system_info_reads_back, volume_label_reads_back)
 
 -- If a record is accepted, the written bytes cover its header.
 covers_of : (offset alignment written : ℕ) (buffer name : List ℕ)

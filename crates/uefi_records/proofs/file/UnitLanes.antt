@@ -5,7 +5,7 @@ use Rattle.std.specs.Prelude.{Some}
 use Rattle.std.specs.List.{prefix_len, position_from, position_or_len}
 use Rattle.std.proofs.lemmas.Bool.{cases_lt}
 use Rattle.std.proofs.lemmas.Bool.Decides.{nat_tests}
-use Rattle.std.proofs.lemmas.List.{length-append}
+use Rattle.std.proofs.lemmas.Grind.{common_steps}
 use Rattle.std.proofs.lemmas.List.Folds.{prefix_len-append}
 use Rattle.std.proofs.lemmas.List.Sums.{prefix_len-le-length}
 use lib.Count.{count_trailing_zeros}
@@ -55,17 +55,14 @@ first_set_lane p lanes n sized few =
           omega (arith, all, leading_from_mask_l p lanes zero, sized)
     ]
 
--- A search through two lists stops in the first if an item of it passes.
-found_in_first : (p : ℕ → Bool) (i : ℕ) (xs ys : List ℕ) → position_or_len p xs < length xs
-    → position_from p i (xs ++ ys) ≡ Some (i + position_or_len p xs)
-found_in_first p i xs ys within = position_is p i (xs ++ ys)
-    ∙ grind (arith, nat_tests, prefix_len-append (λ x. not (p x)) xs ys, length-append xs ys)
-
--- Else it goes on through the second.
-found_in_second : (p : ℕ → Bool) (i : ℕ) (xs ys : List ℕ) → length xs ≤ position_or_len p xs
+-- A search passes a list of which no item passes the test.
+search_passes : (p : ℕ → Bool) (i : ℕ) (xs ys : List ℕ) → length xs ≤ position_or_len p xs
     → position_from p i (xs ++ ys) ≡ position_from p (i + length xs) ys
-found_in_second p i xs ys whole = position_is p i (xs ++ ys)
-    ∙ grind (arith, nat_tests, prefix_len-append (λ x. not (p x)) xs ys, prefix_len-le-length (λ x. not (p x)) xs, length-append xs ys, position_is p (i + length xs) ys)
+search_passes p i xs ys whole =
+    let joined = prefix_len-append (λ x. not (p x)) xs ys in
+    let most = prefix_len-le-length (λ x. not (p x)) xs in
+    let others = position_is p (i + length xs) ys in
+    position_is p i (xs ++ ys) ∙ grind (arith, nat_tests, common_steps)
 
 module _ (p : ℕ → Bool) (bytes : List ℕ) (index n run : ℕ) (within : 2 * index + 2 * n ≤ length bytes)
     (counted_run : run ≡ prefix_len (λ x. not (p x)) (units_of (chunk (2 * index) (2 * n) bytes))) where
@@ -79,7 +76,10 @@ module _ (p : ℕ → Bool) (bytes : List ℕ) (index n run : ℕ) (within : 2 *
   units = half_as_many_units block ∙ omega (arith, sized)
 
   -- The units from the index on are those of a block of n and those behind it.
-  split : units_of (drop (2 * index) bytes) ≡ units_of block ++ units_of (drop (2 * (index + n)) bytes)
+  abbrev behind : List ℕ
+  behind = units_of (drop (2 * (index + n)) bytes)
+
+  split : units_of (drop (2 * index) bytes) ≡ units_of block ++ behind
   split =
       let next : 2 * index + 2 * n ≡ 2 * (index + n) = omega arith in
       ap units_of (chunk-drop (2 * index) (2 * n) bytes)
@@ -89,14 +89,12 @@ module _ (p : ℕ → Bool) (bytes : List ℕ) (index n run : ℕ) (within : 2 *
   -- The first unit that meets the test is in the block if the run before it is shorter than the block.
   pub stops_in_block : run < n → position_from p index (units_of (drop (2 * index) bytes)) ≡ Some (index + run)
   stops_in_block shorter =
-      ap (position_from p index) split ∙ found_in_first p index (units_of block)
-      (units_of (drop (2 * (index + n)) bytes)) (omega (arith, units, counted_run, shorter))
-      ∙ ap (λ k. Some (index + k)) (sym counted_run)
+      ap (position_from p index) split ∙ position_is p index (units_of block ++ behind)
+      ∙ grind (arith, nat_tests, common_steps, units, counted_run, prefix_len-append (λ x. not (p x)) (units_of block) behind)
 
   -- Else it is behind the block.
-  pub passes_block : n ≤ run → position_from p index (units_of (drop (2 * index) bytes))
-      ≡ position_from p (index + n) (units_of (drop (2 * (index + n)) bytes))
+  pub passes_block : n ≤ run → position_from p index (units_of (drop (2 * index) bytes)) ≡ position_from p (index + n) behind
   passes_block whole =
-      ap (position_from p index) split ∙ found_in_second p index (units_of block)
-      (units_of (drop (2 * (index + n)) bytes)) (omega (arith, units, counted_run, whole))
-      ∙ ap (λ k. position_from p (index + k) (units_of (drop (2 * (index + n)) bytes))) units
+      ap (position_from p index) split
+      ∙ search_passes p index (units_of block) behind (omega (arith, units, counted_run, whole))
+      ∙ ap (λ k. position_from p (index + k) behind) units

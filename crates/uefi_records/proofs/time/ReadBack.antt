@@ -67,13 +67,7 @@ pub made_stands_in : (bytes : List ℕ) (year nanosecond daylight : ℕ) (zone :
     → zone ≡ cast_signed w16 (u16_at bytes 12) → daylight ≡ slice_index bytes 14
     → StandsIn (record (time_in bytes) { year = year; nanosecond = nanosecond; zone = zone; daylight = daylight }) bytes
 made_stands_in bytes year nanosecond daylight zone small long year_is nanosecond_is zone_is daylight_is =
-    subst (λ time. StandsIn time bytes) (λ i. record (time_in bytes) {
-      year = sym year_is i;
-      nanosecond =
-          sym nanosecond_is i;
-      zone = sym zone_is i;
-      daylight = sym daylight_is i;
-    }) (stands_in bytes small long)
+    rw (year_is, nanosecond_is, zone_is, daylight_is) (stands_in bytes small long)
 
 pub times_read_back : TimesReadBack
 times_read_back = record { written = time_back; read = stands_in }

@@ -264,6 +264,7 @@ impl PartialEq for FileInfo<'_> {
 
     ghost laws = { on_per file_info_key (partial_equiv_from_equiv nat_list_eq_equiv) };
 
+    #[tactic(auto, using(crate::proofs::file::Equality::equal_if))]
     fn eq(&self, other: &Self) -> bool {
         self.header() == other.header() && self.file_name() == other.file_name()
     }

@@ -40,10 +40,12 @@ returns-in_err-file_path c =
     let none : ¬ HasPath (take (u16_at bytes 4) c.in-Some.rest.now) =
     rw (c.split_at-2.ensures.front, stated) at c.in_err-file_path.ensures.err in
     let reads : ReadsLoadOption load_option_of bytes (Err (FilePath c.in_err-file_path.field-0.0)) =
-    refused load_option_of bytes (FilePath c.in_err-file_path.field-0.0)
-    (
+    refused load_option_of bytes (FilePath c.in_err-file_path.field-0.0) (
       c.in-Some.rest.now,
- rest (goal.at.returns-in_err-file_path c).In-Some, omega (arith, c.if-rest-length.false, stated), none,) in
+      rest (goal.at.returns-in_err-file_path c).In-Some,
+      omega (arith, c.if-rest-length.false, stated),
+      none,
+    ) in
     rw (passed_on.1, passed_on.2) reads
 
 pub returns : goal.returns

@@ -20,14 +20,4 @@ returns c =
     let nanosecond = not_contained _ 0 999999999 _ _ c.new-7.ensures.start c.new-7.ensures.end c.new-7.ensures.exhausted
     c.contains-7.ensures.value in
     let timezone : c.is_zone_outside.result ≡ is_zone_outside c.args.self.now.zone = search rules in
-    λ i. record {
-      year = year i;
-      month = month i;
-      day = day i;
-      hour = hour i;
-      minute = minute i;
-      second = second i;
-      nanosecond = nanosecond i;
-      timezone = timezone i;
-      daylight = false;
-    }
+    cc
