@@ -1,5 +1,5 @@
 -- The worked rows of memory maps hold.
-use Rattle.std.proofs.Common.{rules, zero, suc, refl, arith, lit<, lit≤}
+use Rattle.std.proofs.Common.{rules, zero, suc, arith, lit<, lit≤}
 use Rattle.uefi_map.specs.memory.Descriptor.{descriptor_in, encoding}
 use Rattle.uefi_map.specs.memory.Map.{AreSorted}
 use Rattle.uefi_map.specs.rows.Maps.{sizes, level_map, FirmwareMap, WrittenDescriptor, NoMaps, Orders, Numbers}

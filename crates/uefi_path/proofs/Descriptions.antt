@@ -1,9 +1,9 @@
 -- The search for the end of a description.
 use Rattle.std.proofs.Common.{◌≡◌, ℕ, zero, suc, ◌+◌, ◌-◌, ◌%◌, ◌<◌, ◌≤◌, ◌^◌, List, [], ◌∷◌, ◌++◌, length, take, drop}
-use Rattle.std.proofs.Common.{refl, sym, ◌∙◌, ap, subst, arith, length-append, take-append-drop, get_or, lit<}
+use Rattle.std.proofs.Common.{refl, sym, ◌∙◌, ap, subst, arith, take-append-drop, get_or, lit<}
 use Rattle.std.proofs.Common.{cond, Option, Some, None, ltb}
 use Rattle.std.proofs.lemmas.Bool.Decides.{nat_tests}
-use Rattle.std.proofs.lemmas.List.{take_at, length-take-le, get_or-append-add}
+use Rattle.std.proofs.lemmas.List.{length-take-le, get_or-append-add}
 use Rattle.std.proofs.lemmas.Nat.{le_bytes_2}
 use Rattle.std.proofs.lemmas.Grind.{common_steps}
 use Rattle.std.specs.Int.{w16, from_le_bytes}

@@ -1,12 +1,12 @@
 -- The worked rows hold.
-use Rattle.std.proofs.Common.{rules, ℕ, ◌+◌, ◌<◌, ◌≤◌, List, [], ◌∷◌, ◌++◌, length, refl, arith, lit<, lit≤}
-use Rattle.uefi_path.specs.Node.{Node, Fits, IsEnd, IsEndEntire}
-use Rattle.uefi_path.specs.Path.{IsPath, HasPath}
-use Rattle.uefi_path.specs.rows.Paths.{node, first_instance, second_instance, unknown_end, end_entire, TwoInstances}
+use Rattle.std.proofs.Common.{rules, ℕ, List, [], ◌∷◌, refl, arith}
+use Rattle.uefi_path.specs.Node.{IsEndEntire}
+use Rattle.uefi_path.specs.Path.{HasPath}
+use Rattle.uefi_path.specs.rows.Paths.{node, TwoInstances}
 use Rattle.uefi_path.specs.rows.Paths.{AnyEnd, EndWithData, NoPath, Nodes, TypeNumbers, RowsHold}
 use Rattle.uefi_path.proofs.Decide.{StatesNode, node_states}
 use Rattle.uefi_path.proofs.Passing.{HasNodes-after}
-use Rattle.uefi_path.proofs.Steps.{HasNodes-node, AreEndedBy-one, AreEndedBy-cons}
+use Rattle.uefi_path.proofs.Steps.{HasNodes-node}
 
 two_instances : TwoInstances
 two_instances = search rules

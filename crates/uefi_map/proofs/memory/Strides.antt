@@ -5,7 +5,7 @@ use Rattle.std.proofs.lemmas.List.{length-take-le}
 use Rattle.std.proofs.lemmas.Grind.{rows, common_steps}
 use Rattle.std.proofs.Math.Nat.{div-eq-sub-div, div-le_self}
 use Rattle.uefi_map.specs.declared.memory.meta.MemoryMapMeta.{MemoryMapMeta}
-use Rattle.uefi_map.specs.memory.Descriptor.{descriptor_length, descriptor_in, descriptor_bytes, descriptor}
+use Rattle.uefi_map.specs.memory.Descriptor.{descriptor_length, descriptor_in, descriptor_bytes}
 use Rattle.uefi_map.specs.memory.Map.{IsMap, descriptors_from, entries_of}
 use Rattle.uefi_map.specs.private.memory.Map.{AreStrides}
 use Rattle.uefi_base.proofs.Ranges.{range-take}

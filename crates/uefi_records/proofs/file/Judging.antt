@@ -1,11 +1,9 @@
 -- The verdict on written bytes, by the index of the first zero unit.
-use Rattle.std.proofs.Common.{◌≡◌, ℕ, ◌+◌, ◌-◌, ◌*◌, ◌≤◌, Bool, true, cond, min, Some, List, length, take, drop, sym}
+use Rattle.std.proofs.Common.{◌≡◌, ℕ, ◌+◌, ◌-◌, ◌≤◌, min, Some, List, length, take, drop, sym}
 use Rattle.std.proofs.Common.{◌∙◌, ap, arith, refl, subst}
-use Rattle.std.specs.Prelude.{nat_le}
 use Rattle.std.proofs.lemmas.Bool.Decides.{nat_tests}
 use Rattle.std.proofs.lemmas.Grind.{common_steps}
-use Rattle.std.proofs.lemmas.List.{same_lists, places, take-take, drop-take, length-take, length-drop, length-take-le, get_or-take}
-use Rattle.std.proofs.lemmas.List.{take_min, take_rest}
+use Rattle.std.proofs.lemmas.List.{same_lists, places, length-drop, length-take-le}
 use Rattle.uefi_base.specs.Unaligned.{units_of}
 use Rattle.uefi_base.proofs.UnitsOfBytes.{units_by_place}
 use Rattle.uefi_records.specs.private.file.Kept.{EndsWithName}

@@ -1,10 +1,8 @@
 -- The fields of records, in a prefix of bytes.
 use Rattle.std.proofs.Common.{◌≡◌, ℕ, ◌≤◌, List, take, sym, ◌∙◌, ap, arith}
-use Rattle.std.specs.Int.{w64, from_le_bytes, w32}
-use Rattle.std.specs.Prelude.{not, ◌==◌}
+use Rattle.std.specs.Int.{w64, from_le_bytes}
 use Rattle.std.proofs.lemmas.List.{length-take, get_or-take}
 use Rattle.uefi_base.proofs.Ranges.{range-take}
-use Rattle.uefi_records.specs.time.Fields.{time_in}
 use Rattle.uefi_records.specs.private.file.Kept.{EndsWithName}
 use Rattle.uefi_records.specs.file.FileInfo.{file_fields, file_name_offset, size_in}
 use Rattle.uefi_records.specs.file.FileSystemInfo.{file_system_fields, label_offset}

@@ -1,6 +1,6 @@
 -- The units of bytes as the lanes of a vector, and the search through a block of them.
 use Rattle.std.proofs.Common.{◌≡◌, ℕ, zero, suc, ◌+◌, ◌*◌, ◌/◌, ◌%◌, ◌<◌, ◌≤◌, List, [], ◌∷◌, ◌++◌, length, drop, ap}
-use Rattle.std.proofs.Common.{sym, refl, ◌∙◌, arith, Bool, not, get_or, w8, Fits, map, min, inl, inr}
+use Rattle.std.proofs.Common.{refl, ◌∙◌, arith, Bool, not, get_or, w8, Fits, map, min, inl, inr}
 use Rattle.std.specs.Prelude.{Some}
 use Rattle.std.specs.List.{prefix_len, position_from, position_or_len}
 use Rattle.std.proofs.lemmas.Bool.{cases_lt}

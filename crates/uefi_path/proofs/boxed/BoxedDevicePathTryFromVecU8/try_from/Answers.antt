@@ -1,5 +1,4 @@
 use Rattle.std.proofs.Common.{◌≡◌, ℕ, List, ◌++◌, length, take, refl, sym, ◌∙◌, ap}
-use Rattle.std.proofs.lemmas.Grind.{common_steps}
 use Rattle.std.proofs.lemmas.List.{take_at}
 use Rattle.uefi_path.specs.Node.{Node, joined, IsEndEntire}
 use Rattle.uefi_path.specs.private.Encoding.{IsEncodingOfNodes}

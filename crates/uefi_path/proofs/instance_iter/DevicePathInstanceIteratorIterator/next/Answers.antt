@@ -1,5 +1,5 @@
 use Rattle.std.proofs.Common.{◌≡◌, [], ap, length, arith, rules, ◌<◌}
-use Rattle.uefi_path.specs.Views.{instance_nodes, instances_left}
+use Rattle.uefi_path.specs.Views.{instances_left}
 use Rattle.uefi_path.proofs.Steps.{no_instance, some_instance, after_instance, next_instance}
 use Rattle.uefi_path.proofs.instance_iter.DevicePathInstanceIteratorIterator.next.Goals as goal
 

@@ -1,4 +1,4 @@
-use Rattle.std.proofs.Common.{◌≡◌, Err, sym, ◌∙◌, ap, subst, arith, take}
+use Rattle.std.proofs.Common.{◌≡◌, Err, sym, ◌∙◌, arith, take}
 use Rattle.std.proofs.lemmas.Result.{err_from_is_err_and}
 use Rattle.uefi_base.specs.LittleEndian.{u16_at}
 use Rattle.uefi_base.specs.Views.{slice_units}

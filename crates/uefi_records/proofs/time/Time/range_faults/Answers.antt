@@ -1,4 +1,4 @@
-use Rattle.std.proofs.Common.{◌≡◌, rules, false}
+use Rattle.std.proofs.Common.{◌≡◌, rules}
 use Rattle.uefi_records.specs.time.Faults.{is_zone_outside}
 use Rattle.uefi_records.proofs.time.Ranges.{not_contained}
 use Rattle.uefi_records.proofs.time.Time.range_faults.Goals as goal
