@@ -1,10 +1,9 @@
 -- The worked rows hold.
-use Rattle.std.proofs.Common.{rules, ◌≡◌, ℕ, zero, suc, ◌+◌, ◌-◌, ◌<◌, List, [], ◌∷◌, ◌++◌, length, replicate, get_or, refl, ◌∙◌}
-use Rattle.std.proofs.Common.{sym, subst, arith, lit<, lit≤}
+use Rattle.std.proofs.Common.{rules, ◌≡◌, ℕ, zero, suc, ◌-◌, ◌<◌, List, [], ◌∷◌, ◌++◌, length, replicate, get_or, refl}
+use Rattle.std.proofs.Common.{arith, lit<, lit≤}
 use Rattle.std.proofs.lemmas.Grind.{common_steps}
 use Rattle.std.proofs.lemmas.List.{length-replicate, get_or-replicate}
-use Rattle.uefi_base.specs.Ucs2.{IsSurrogate, IsCharacter, AreCharactersBefore, HasUnit, HaveUnitsBefore}
-use Rattle.uefi_base.specs.Faults.{OffendsFirst}
+use Rattle.uefi_base.specs.Ucs2.{IsCharacter, AreCharactersBefore, HaveUnitsBefore}
 use Rattle.uefi_base.specs.rows.Values.{TextRows, FaultRows, LimitRows, OrderRows, CharacterRows, ByteRows, NameRows}
 use Rattle.uefi_base.specs.rows.Values.{RowsHold}
 

@@ -1,6 +1,6 @@
 -- All bytes begin with exactly one list, or have exactly one fault.
-use Rattle.std.proofs.Common.{◌≡◌, ℕ, suc, zero, ◌≤◌, ◌≢◌, ◌⊎◌, List, [], ◌∷◌, ◌++◌, length, take, drop, refl, sym, ◌∙◌, ap, subst}
-use Rattle.std.proofs.Common.{arith, inl, inr, length-append, length-drop, get_or}
+use Rattle.std.proofs.Common.{◌≡◌, ℕ, suc, zero, ◌≤◌, ◌≢◌, ◌⊎◌, List, [], ◌∷◌, ◌++◌, length, take, drop, refl, sym, ◌∙◌}
+use Rattle.std.proofs.Common.{ap, subst, arith, inl, inr, length-append, length-drop, get_or}
 use Rattle.std.specs.Prelude.{◌==◌, if◌then◌else◌}
 use Rattle.std.proofs.lemmas.List.{take_at, drop_at, get_or_append_left}
 use Rattle.std.proofs.lemmas.Bool.{cases_eq, cases_lt}

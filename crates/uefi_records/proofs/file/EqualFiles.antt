@@ -2,7 +2,7 @@
 use Rattle.std.proofs.Common.{◌≡◌, ◌++◌, take, drop, sym, ◌∙◌, ap, arith}
 use Rattle.std.proofs.lemmas.List.{take_at, drop_at}
 use Rattle.uefi_records.specs.declared.file.file_info.FileInfo.{FileInfo}
-use Rattle.uefi_records.specs.file.FileInfo.{file_header, file_fields, file_name_offset, size_in}
+use Rattle.uefi_records.specs.file.FileInfo.{file_header, file_name_offset}
 use Rattle.uefi_records.specs.file.Views.{stated_size, file_fields_of, file_info_view, file_info_key, file_header_of}
 use Rattle.uefi_records.specs.file.Views.{file_name_of}
 use Rattle.uefi_records.specs.Laws.{EqualFiles}
@@ -29,8 +29,8 @@ equal_files = record {
   keys = λ one other. (
     λ same.
         let bytes = sym (header_in_key one) ∙ ap (take file_name_offset) same ∙ header_in_key other in (
-          in_both 8 size_in size_stands file_name_offset (file_info_view one) (file_info_view other) (omega arith) bytes,
-          in_both file_name_offset file_fields file_fields_stand file_name_offset (file_info_view one) (file_info_view other) (omega arith) bytes,
+          in_both size_stands file_name_offset (file_info_view one) (file_info_view other) (omega arith) bytes,
+          in_both file_fields_stand file_name_offset (file_info_view one) (file_info_view other) (omega arith) bytes,
           sym (name_in_key one) ∙ ap (drop file_name_offset) same ∙ name_in_key other,
         ),
     λ same i. file_header (same.0 i) (same.1 i) ++ same.2 i,

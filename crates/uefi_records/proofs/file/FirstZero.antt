@@ -1,6 +1,6 @@
 -- The first zero among units.
-use Rattle.std.proofs.Common.{◌≡◌, ◌≢◌, ℕ, suc, ◌+◌, ◌*◌, ◌/◌, ◌<◌, ◌≤◌, Bool, true, false, Option, Some, None, List, []}
-use Rattle.std.proofs.Common.{◌∷◌, length, get_or, take, drop, sym, ◌∙◌, ap, arith, cond, not, ltb, subst, refl}
+use Rattle.std.proofs.Common.{◌≡◌, ◌≢◌, ℕ, suc, ◌+◌, ◌*◌, ◌/◌, ◌<◌, ◌≤◌, Bool, true, false, Option, Some, None, List}
+use Rattle.std.proofs.Common.{[], ◌∷◌, length, get_or, take, drop, sym, ◌∙◌, ap, arith, cond, not, ltb, subst, refl}
 use Rattle.std.specs.Prelude.{◌==◌}
 use Rattle.std.specs.Option.{option_map}
 use Rattle.std.specs.List.{position_from, position_or_len}
@@ -16,7 +16,8 @@ use Rattle.uefi_records.specs.file.Name.{first_zero, unit_length}
 -- An odd last byte is in no unit.
 pub units_of_whole : (bytes whole : List ℕ) → whole ≡ take (length bytes / 2 * 2) bytes
     → units_of whole ≡ units_of bytes
-units_of_whole bytes whole is = grind (arith, common_steps, units_by_place.front bytes (length bytes / 2), units_by_place.counted bytes)
+units_of_whole bytes whole is =
+    grind (arith, common_steps, units_by_place.front bytes (length bytes / 2), units_by_place.counted bytes)
 
 -- No unit before the index is zero.
 abbrev pub NoZeroBefore : ℕ → List ℕ → Type 0

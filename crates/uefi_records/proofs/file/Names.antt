@@ -2,7 +2,7 @@
 use Rattle.std.proofs.Common.{◌≡◌, ℕ, zero, suc, ◌+◌, ◌-◌, ◌<◌, List, [], ◌∷◌, ◌++◌, length, drop, sym, ◌∙◌, ap, subst}
 use Rattle.std.proofs.Common.{arith, lit<}
 use Rattle.std.proofs.lemmas.Grind.{common_steps}
-use Rattle.std.proofs.lemmas.List.{drop_at, length-append}
+use Rattle.std.proofs.lemmas.List.{get_or-drop, drop_at, length-append}
 use Rattle.uefi_base.specs.LittleEndian.{AreBytes}
 use Rattle.uefi_base.specs.Ucs2.{IsUcs2Text}
 use Rattle.uefi_base.specs.Unaligned.{AreUnits, units_of, unit_bytes}
@@ -14,10 +14,6 @@ use Rattle.uefi_records.specs.private.file.Kept.{EndsWithName}
 pub FitName_of_text : (units : List ℕ) → IsUcs2Text units → AreUnits units → FitName units
 FitName_of_text units text are_units =
     assumption (λ (k : ℕ) (before : k < length units - 1). (text.characters k before).not_nul)
-
--- A part of bytes is bytes.
-AreBytes-drop : (n : ℕ) (bytes : List ℕ) → AreBytes bytes → AreBytes (drop n bytes)
-AreBytes-drop n bytes each k = grind (arith, common_steps, each)
 
 -- The units of a name are read from the bytes after a header.
 pub units_back : (offset : ℕ) (header name : List ℕ) → length header ≡ offset → AreUnits name
@@ -54,5 +50,5 @@ pub FitName_from : (offset : ℕ) (bytes : List ℕ) → EndsWithName offset byt
 FitName_from offset bytes named small =
     record {
       is_name = named.name;
-      are_units = AreUnits-units_of (drop offset bytes) (AreBytes-drop offset bytes small);
+      are_units = AreUnits-units_of (drop offset bytes) (λ k. rw get_or-drop (small (offset + k)));
     }

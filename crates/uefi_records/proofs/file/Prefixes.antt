@@ -32,7 +32,7 @@ file_system_fields_stand n bytes covers =
     let block_size = range-take n bytes 32 36 (omega arith) (omega arith) in
     cc
 
-module _ {A : Type 0} (offset : ℕ) (read : List ℕ → A) (stands : StandsBefore offset read) where
+module _ {A : Type 0} {offset : ℕ} {read : List ℕ → A} (stands : StandsBefore offset read) where
   -- So it is the same in a prefix that ends with a name.
   pub in_named : (before : ℕ) (bytes : List ℕ) (end : ℕ) → offset ≤ before → EndsWithName before (take end bytes)
       → read (take end bytes) ≡ read bytes

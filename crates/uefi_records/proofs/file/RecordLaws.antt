@@ -8,9 +8,9 @@ use Rattle.uefi_base.specs.Unaligned.{unit_bytes, units_of}
 use Rattle.uefi_base.proofs.UnitsOfBytes.{units_by_place}
 use Rattle.uefi_records.specs.file.Name.{IsName, FitName, first_zero, record_end, record_size, units_from}
 use Rattle.uefi_records.specs.file.Verdict.{accepted, judged, verdict, without_name}
-use Rattle.uefi_records.specs.file.FileInfo.{file_fields, file_header, file_info_alignment, file_info_size}
-use Rattle.uefi_records.specs.file.FileInfo.{file_name_offset, size_in}
-use Rattle.uefi_records.specs.file.FileSystemInfo.{file_system_fields, file_system_header, file_system_info_alignment}
+use Rattle.uefi_records.specs.file.FileInfo.{file_header, file_info_alignment, file_info_size}
+use Rattle.uefi_records.specs.file.FileInfo.{file_name_offset}
+use Rattle.uefi_records.specs.file.FileSystemInfo.{file_system_header, file_system_info_alignment}
 use Rattle.uefi_records.specs.file.FileSystemInfo.{file_system_info_size, label_offset, lone_label_offset}
 use Rattle.uefi_records.specs.file.FileSystemInfo.{volume_label_alignment}
 use Rattle.uefi_records.specs.Laws.{FileInfoReadsBack, FileSystemInfoReadsBack, VolumeLabelReadsBack}
@@ -61,7 +61,8 @@ file_info_reads_back fields name rest written fits fit small covers room =
     let size : ℕ = file_info_size (length name) in
     let sized : length (file_header size fields) ≡ file_name_offset = length-file_header size fields in
     let back = file_info_back size fields (unit_bytes name ++ rest) fits small in (
-      name_accepted file_name_offset file_info_alignment (file_header size fields) name rest written sized fit covers room,
+      name_accepted file_name_offset file_info_alignment (file_header size fields) name rest written sized fit covers
+          room,
       rw append_assoc back.0,
       rw append_assoc back.1,
     )
@@ -101,8 +102,10 @@ written_alone = record {
   verdicts = λ offset alignment written one other long same. λ i. verdict offset alignment (same i) (long i);
   file_info = λ written one other name same is.
       let enough : file_name_offset ≤ written = covers_of file_name_offset file_info_alignment written one name is in
-      (in_both 8 size_in size_stands written one other (omega (arith, enough)) same, in_both file_name_offset file_fields file_fields_stand written one other enough same);
+      let size = in_both size_stands written one other (omega arith) same in
+      (size, in_both file_fields_stand written one other enough same);
   file_system_info = λ written one other label same is.
       let enough : label_offset ≤ written = covers_of label_offset file_system_info_alignment written one label is in
-      (in_both 8 size_in size_stands written one other (omega (arith, enough)) same, in_both label_offset file_system_fields file_system_fields_stand written one other enough same);
+      let size = in_both size_stands written one other (omega arith) same in
+      (size, in_both file_system_fields_stand written one other enough same);
 }

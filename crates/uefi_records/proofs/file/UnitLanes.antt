@@ -90,10 +90,11 @@ module _ (p : ℕ → Bool) (bytes : List ℕ) (index n run : ℕ) (within : 2 *
   pub stops_in_block : run < n → position_from p index (units_of (drop (2 * index) bytes)) ≡ Some (index + run)
   stops_in_block shorter =
       ap (position_from p index) split ∙ position_is p index (units_of block ++ behind)
-      ∙ grind (arith, nat_tests, common_steps, units, counted_run, prefix_len-append (λ x. not (p x)) (units_of block) behind)
+      ∙ grind (arith, nat_tests, common_steps, units, prefix_len-append (λ x. not (p x)) (units_of block) behind)
 
   -- Else it is behind the block.
-  pub passes_block : n ≤ run → position_from p index (units_of (drop (2 * index) bytes)) ≡ position_from p (index + n) behind
+  pub passes_block : n ≤ run
+      → position_from p index (units_of (drop (2 * index) bytes)) ≡ position_from p (index + n) behind
   passes_block whole =
       ap (position_from p index) split
       ∙ search_passes p index (units_of block) behind (omega (arith, units, counted_run, whole))

@@ -11,7 +11,7 @@ begin_with : (bytes path rest kept : List ℕ) (nodes : List Node) → bytes ≡
     → kept ≡ take (length path) bytes
     → IsEncodingOfNodes IsEndEntire kept nodes → bytes ≡ joined nodes ++ rest
 begin_with bytes path rest kept nodes whole is encodes =
-    let same : path ≡ joined nodes = sym (take_at path rest (length path) refl) ∙ sym (is ∙ ap (take (length path)) whole)
+    let same = sym (take_at path rest (length path) refl) ∙ sym (is ∙ ap (take (length path)) whole)
     ∙ encodes.encoded in
     whole ∙ ap (λ front. front ++ rest) same
 

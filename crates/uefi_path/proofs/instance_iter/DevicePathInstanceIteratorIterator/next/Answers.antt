@@ -19,7 +19,8 @@ new-requires c =
 
 pub returns-clause-steps : goal.returns-clause-steps
 returns-clause-steps c =
-    next_instance c.args.self.now.instances.1 c.new_unchecked.ensures c.first_nodes.ensures.split c.new.ensures.instances
+    next_instance c.args.self.now.instances.1 c.new_unchecked.ensures c.first_nodes.ensures.split
+    c.new.ensures.instances
 
 pub returns-clause-goes : goal.returns-clause-goes
 returns-clause-goes c =

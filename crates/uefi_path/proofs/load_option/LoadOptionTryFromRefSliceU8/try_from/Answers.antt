@@ -29,23 +29,21 @@ rest c =
 
 pub returns-then-rest-length : goal.returns-then-rest-length
 returns-then-rest-length c =
+    let found = rest (goal.at.returns-then-rest-length c).In-Some in
     refused load_option_of c.args.bytes.now FilePathListTooLong
-    (c.in-Some.rest.now, rest (goal.at.returns-then-rest-length c).In-Some, omega (arith, c.if-rest-length.true, c.from-length.ensures, c.u16_at.ensures))
+    (c.in-Some.rest.now, found, omega (arith, c.if-rest-length.true, c.from-length.ensures, c.u16_at.ensures))
 
 pub returns-in_err-file_path : goal.returns-in_err-file_path
 returns-in_err-file_path c =
     let bytes = c.args.bytes.now in
+    let found = rest (goal.at.returns-in_err-file_path c).In-Some in
     let passed_on = err_from_is_err_and c.from_residual.result c.from_residual.ensures.1 in
     let stated : c.from-length.result ≡ u16_at bytes 4 = c.from-length.ensures ∙ c.u16_at.ensures in
     let none : ¬ HasPath (take (u16_at bytes 4) c.in-Some.rest.now) =
     rw (c.split_at-2.ensures.front, stated) at c.in_err-file_path.ensures.err in
     let reads : ReadsLoadOption load_option_of bytes (Err (FilePath c.in_err-file_path.field-0.0)) =
-    refused load_option_of bytes (FilePath c.in_err-file_path.field-0.0) (
-      c.in-Some.rest.now,
-      rest (goal.at.returns-in_err-file_path c).In-Some,
-      omega (arith, c.if-rest-length.false, stated),
-      none,
-    ) in
+    refused load_option_of bytes (FilePath c.in_err-file_path.field-0.0)
+    (c.in-Some.rest.now, found, omega (arith, c.if-rest-length.false, stated), none) in
     rw (passed_on.1, passed_on.2) reads
 
 pub returns : goal.returns

@@ -1,13 +1,12 @@
 use Rattle.std.proofs.Common.{arith}
-use Rattle.uefi_records.specs.file.FileInfo.{size_in}
-use Rattle.uefi_records.specs.file.FileSystemInfo.{file_system_fields, label_offset}
+use Rattle.uefi_records.specs.file.FileSystemInfo.{label_offset}
 use Rattle.uefi_records.proofs.file.Prefixes.{size_stands, file_system_fields_stand, in_named}
 use Rattle.uefi_records.proofs.file.file_system_info.FileSystemInfo.from_uefi.Goals as goal
 
 pub returns-clause-size : goal.returns-clause-size
 returns-clause-size c =
-    in_named 8 size_in size_stands label_offset c.args.buffer.now c.in_ok-end.end (omega arith) c.in_ok-end.ensures.1
+    in_named size_stands label_offset c.args.buffer.now c.in_ok-end.end (omega arith) c.in_ok-end.ensures.1
 
 pub returns-clause-fields : goal.returns-clause-fields
 returns-clause-fields c =
-    in_named label_offset file_system_fields file_system_fields_stand label_offset c.args.buffer.now c.in_ok-end.end (omega arith) c.in_ok-end.ensures.1
+    in_named file_system_fields_stand label_offset c.args.buffer.now c.in_ok-end.end (omega arith) c.in_ok-end.ensures.1
