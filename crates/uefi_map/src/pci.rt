@@ -36,6 +36,5 @@ pub fn parse<A: Allocator>(
     ensures memory { IsErrOf result ResourceError.Memory → ¬ HaveSomeFault bytes.now }
 {
     let list = ResourceList::try_from(bytes)?;
-    let resources = list.iter().collect(alloc)?;
-    Ok(resources)
+    Ok(list.iter().collect(alloc)?)
 }

@@ -78,9 +78,10 @@ nodes_or_none P d (suc k) bytes short small =
     by_node (no none) go = no (λ has. none (HasNodes-node P bytes has))
     by_node (yes (n, fits, (after, e))) go = elim (d n) [
       | yes so ↦ yes (n ∷ [], AreEndedBy-one P n fits so, (after, e ∙ sym (append_assoc (encoding n) [] after)))
-      | no not_so ↦ of_iff
-          (λ has. HasNodes-before P bytes after n has fits not_so e,
-          λ has. HasNodes-after P bytes after n has fits not_so e)
+      | no not_so ↦ of_iff (
+        λ has. HasNodes-before P bytes after n has fits not_so e,
+        λ has. HasNodes-after P bytes after n has fits not_so e,
+      )
           (go after (omega (arith, ap length e, length-append n.payload after)) (bytes_after n after bytes e small))
     ]
 

@@ -2,7 +2,8 @@
 use Rattle.std.proofs.Common.{rules, ℕ, List, [], ◌∷◌, refl, arith}
 use Rattle.uefi_path.specs.Node.{IsEndEntire}
 use Rattle.uefi_path.specs.Path.{HasPath}
-use Rattle.uefi_path.specs.rows.Paths.{node, TwoInstances, AnyEnd, EndWithData, NoPath, Nodes, TypeNumbers, RowsHold}
+use Rattle.uefi_path.specs.rows.Paths.{node, TwoInstances}
+use Rattle.uefi_path.specs.rows.Paths.{AnyEnd, EndWithData, NoPath, Nodes, TypeNumbers, RowsHold}
 use Rattle.uefi_path.proofs.Decide.{StatesNode, node_states}
 use Rattle.uefi_path.proofs.Passing.{HasNodes-after}
 use Rattle.uefi_path.proofs.Steps.{HasNodes-node}

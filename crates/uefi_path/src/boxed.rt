@@ -60,8 +60,7 @@ impl<A: Allocator> TryFrom<Vec<u8, A>> for BoxedDevicePath<A> {
 
     ghost try_from_gives = { λ bytes read. ReadsPath boxed_nodes bytes.items read };
 
-    fn try_from(bytes: Vec<u8, A>) -> Result<BoxedDevicePath<A>, ByteConversionError> {
-        let mut bytes = bytes;
+    fn try_from(mut bytes: Vec<u8, A>) -> Result<BoxedDevicePath<A>, ByteConversionError> {
         let (path, _) = split_nodes(bytes.as_slice(), StopCondition::EndEntireNode)?;
         let length = path.len();
         bytes.truncate(length);

@@ -18,7 +18,7 @@ impl fmt::Display for ByteConversionError {
 
     fn fmt<W: fmt::Write>(&self, f: &mut fmt::Formatter<W>) -> fmt::Result {
         match self {
-            ByteConversionError::InvalidLength => write!(f, "invalid length"),
+            ByteConversionError::InvalidLength => f.write_str("invalid length"),
         }
     }
 }

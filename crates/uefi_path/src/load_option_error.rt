@@ -35,10 +35,10 @@ impl fmt::Display for LoadOptionError {
 
     fn fmt<W: fmt::Write>(&self, f: &mut fmt::Formatter<W>) -> fmt::Result {
         match self {
-            LoadOptionError::TooShort => write!(f, "fewer than 6 bytes"),
-            LoadOptionError::NotNulTerminated => write!(f, "a description without a NUL"),
+            LoadOptionError::TooShort => f.write_str("fewer than 6 bytes"),
+            LoadOptionError::NotNulTerminated => f.write_str("a description without a NUL"),
             LoadOptionError::FilePathListTooLong => {
-                write!(f, "a file path list beyond the end of the bytes")
+                f.write_str("a file path list beyond the end of the bytes")
             }
             LoadOptionError::FilePath(fault) => write!(f, "the first file path: {fault}"),
         }

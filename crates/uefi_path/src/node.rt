@@ -9,9 +9,8 @@ ghost use Rattle.uefi_path.specs.Reading.{ReadsNode};
 
 use crate::device_type::{DeviceSubType, DeviceType};
 use crate::error::ByteConversionError;
-use crate::header::{
-    DEVICE_TYPE_OFFSET, DevicePathHeader, HEADER_LENGTH, LENGTH_OFFSET, SUB_TYPE_OFFSET,
-};
+use crate::header::{DEVICE_TYPE_OFFSET, HEADER_LENGTH, LENGTH_OFFSET, SUB_TYPE_OFFSET};
+use crate::walk::split_node;
 use std::fmt;
 use uefi_base::little_endian::u16_at;
 
@@ -84,8 +83,7 @@ impl<'a> DevicePathNode<'a> {
     pub fn data(&self) -> &'a [u8]
         ensures { result.now ≡ (node_of self.now).payload }
     {
-        let (_, data) = self.bytes.split_at(HEADER_LENGTH);
-        data
+        &self.bytes[HEADER_LENGTH..]
     }
 
     /// Returns all bytes of the node, including the header.
@@ -111,13 +109,8 @@ impl<'a> TryFrom<&'a [u8]> for DevicePathNode<'a> {
     ghost try_from_gives = { λ bytes read. ReadsNode node_of bytes.now read };
 
     fn try_from(bytes: &'a [u8]) -> Result<DevicePathNode<'a>, ByteConversionError> {
-        let header = DevicePathHeader::try_from(bytes)?;
-        let length = usize::from(header.length());
-        if length < HEADER_LENGTH || bytes.len() < length {
-            return Err(ByteConversionError::InvalidLength);
-        }
-        let (node, _) = bytes.split_at(length);
-        Ok(DevicePathNode::new_unchecked(node))
+        let (node, _) = split_node(bytes)?;
+        Ok(node)
     }
 }
 

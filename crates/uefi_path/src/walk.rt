@@ -7,7 +7,7 @@ ghost use Rattle.uefi_path.specs.Views.{node_of};
 
 use crate::device_type::DeviceType;
 use crate::error::ByteConversionError;
-use crate::header::LENGTH_OFFSET;
+use crate::header::{DevicePathHeader, HEADER_LENGTH, LENGTH_OFFSET};
 use crate::node::DevicePathNode;
 use uefi_base::little_endian::u16_at;
 
@@ -39,9 +39,13 @@ pub(crate) fn split_node(bytes: &[u8]) -> Result<(DevicePathNode<'_>, &[u8]), By
     ensures split { IfOk result (λ r. bytes.now ≡ encoding (node_of r.0) ++ r.1.now) }
     ensures none { OnErr result (¬ HasNode bytes.now) }
 {
-    let node = DevicePathNode::try_from(bytes)?;
-    let (_, after) = bytes.split_at(node.as_bytes().len());
-    Ok((node, after))
+    let header = DevicePathHeader::try_from(bytes)?;
+    let length = usize::from(header.length());
+    if length < HEADER_LENGTH || bytes.len() < length {
+        return Err(ByteConversionError::InvalidLength);
+    }
+    let (node, after) = bytes.split_at(length);
+    Ok((DevicePathNode::new_unchecked(node), after))
 }
 
 /// Returns the node that the bytes are known to start with, and the bytes after it, without a test.

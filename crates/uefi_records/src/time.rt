@@ -1,7 +1,7 @@
 ghost use Rattle.std.specs.Prelude.{◌≡◌, ◌≤◌, ◌↔◌, length, IsOk, IfOk, IfErr, nat_eq};
 ghost use Rattle.std.specs.Cmp.{partial_equiv_from_equiv, on_per, on_equiv};
 ghost use Rattle.std.specs.Cmp.Lexicographic.{pointwise, nat_list_eq_equiv};
-ghost use Rattle.uefi_records.specs.time.Fields.{Fits, StandsIn, time_bytes, time_in, time_length, stated_zone, without_pads, zero_time};
+ghost use Rattle.uefi_records.specs.time.Fields.{Fits, StandsIn, time_bytes, time_in, time_length, stated_zone, zero_time};
 ghost use Rattle.uefi_records.specs.time.Faults.{IsValid, range_faults, is_zone_outside};
 ghost use Rattle.uefi_records.specs.time.Views.{time_of, fields_of, bytes_of_time};
 ghost use Rattle.uefi_records.specs.flags.Views.{daylight_bits};
@@ -229,11 +229,7 @@ impl Time {
     pub fn time_zone(&self) -> Option<i16>
         ensures { result ≡ stated_zone (time_of self.now).zone }
     {
-        if self.zone == UNSPECIFIED_TIMEZONE {
-            None
-        } else {
-            Some(self.zone)
-        }
+        (self.zone != UNSPECIFIED_TIMEZONE).then_some(self.zone)
     }
 
     /// Returns how daylight saving affects the time: all bits, including those without a name.
@@ -293,17 +289,6 @@ impl Time {
             last_pad: bytes[LAST_PAD_OFFSET],
         }
     }
-
-    /// Returns the time with zeros in its padding.
-    fn without_pads(self) -> Time
-        ensures { time_of result ≡ without_pads (time_of self) }
-    {
-        Time {
-            first_pad: 0,
-            last_pad: 0,
-            ..self
-        }
-    }
 }
 
 /// Returns whether a zone is neither unspecified nor within a day of UTC.
@@ -340,14 +325,16 @@ impl TryFrom<&[u8]> for Time {
                 ..TimeError::default()
             }));
         }
-        match time.is_valid() {
-            Ok(()) => Ok(time.without_pads()),
-            Err(faults) => Err(TimeByteConversionError::InvalidFields(faults)),
-        }
+        time.is_valid()
+            .map_err(TimeByteConversionError::InvalidFields)?;
+        Ok(Time {
+            first_pad: 0,
+            last_pad: 0,
+            ..time
+        })
     }
 }
 
-/// Compares all sixteen bytes.
 impl PartialEq for Time {
     ghost eq = { λ x y. pointwise nat_eq (bytes_of_time x) (bytes_of_time y) };
 

@@ -1,5 +1,6 @@
 -- The entries of a map don't depend on the rest of its strides, and a write leaves that rest.
-use Rattle.std.proofs.Common.{◌≡◌, ◌≢◌, ℕ, ◌+◌, ◌*◌, ◌≤◌, ◌<◌, inl, inr, List, length, take, drop, ◌∙◌, ap, arith}
+use Rattle.std.proofs.Common.{◌≡◌, ◌≢◌, ℕ, ◌+◌, ◌*◌, ◌≤◌, ◌<◌, inl, inr, List, length, take, drop, ◌∙◌, ap}
+use Rattle.std.proofs.Common.{arith}
 use Rattle.std.proofs.lemmas.Bool.{cases_lt}
 use Rattle.std.proofs.lemmas.Grind.{rows, common_steps}
 use Rattle.uefi_map.specs.memory.Descriptor.{descriptor_length, descriptor_bytes, descriptor_in, encoding}

@@ -57,24 +57,18 @@ next_from bytes stride i zero = refl
 next_from bytes stride i (suc count) =
     λ j. descriptor_in (next_bytes bytes stride i j) ∷ next_from bytes stride (i + 1) count j
 
--- Whole strides that are not none are at least one.
-pub one_stride : (stride size : ℕ) → 0 < size → size % stride ≡ 0 → stride ≤ size
-one_stride stride size some whole = grind (arith, rows, common_steps)
+-- Strides that are not none are at least one.
+one_size : (stride size : ℕ) → 0 < size → size % stride ≡ 0 → stride ≤ size
+one_size stride size some whole = grind (arith, rows, common_steps)
+
+pub one_stride : (stride : ℕ) (bytes : List ℕ) → AreStrides stride bytes → 0 < length bytes
+    → stride ≤ length bytes
+one_stride stride bytes strides some = one_size stride (length bytes) some strides.whole
 
 -- Strides that are not none have room for a descriptor.
 pub first_room : (stride : ℕ) (bytes : List ℕ) → AreStrides stride bytes → 0 < length bytes
     → descriptor_length ≤ length bytes
-first_room stride bytes strides some =
-    omega (arith, strides.room, one_stride stride (length bytes) some strides.whole)
-
--- After the first stride, there are whole strides too.
-pub strides_after : (stride : ℕ) (bytes : List ℕ) → AreStrides stride bytes → 0 < length bytes
-    → AreStrides stride (drop stride bytes)
-strides_after stride bytes strides some =
-    let reaches = one_stride stride (length bytes) some strides.whole in
-    let positive : 0 < stride = omega (arith, strides.room) in
-    let whole = strides.whole in
-    record { room = strides.room; whole = grind (arith, rows, common_steps, div-eq-sub-div positive reaches) }
+first_room stride bytes strides some = omega (arith, strides.room, one_stride stride bytes strides some)
 
 -- The first of the descriptors that are left, and the others.
 pub next_left : (bytes : List ℕ) (stride : ℕ) → AreStrides stride bytes → 0 < length bytes
@@ -82,7 +76,7 @@ pub next_left : (bytes : List ℕ) (stride : ℕ) → AreStrides stride bytes �
     ≡ descriptor_in (take descriptor_length bytes) ∷ descriptors_from (drop stride bytes) stride 0
     (length (drop stride bytes) / stride)
 next_left bytes stride strides some =
-    let reaches : stride ≤ length bytes = one_stride stride (length bytes) some strides.whole in
+    let reaches = one_stride stride bytes strides some in
     let positive : 0 < stride = omega (arith, strides.room) in
     let left : ℕ = length (drop stride bytes) / stride in
     let count : length bytes / stride ≡ suc left =
@@ -90,3 +84,6 @@ next_left bytes stride strides some =
     let first : descriptor_bytes bytes stride 0 ≡ take descriptor_length bytes = grind (arith, common_steps) in
     let rest = next_from bytes stride 0 left in
     ap (descriptors_from bytes stride 0) count ∙ (λ i. descriptor_in (first i) ∷ sym rest i)
+
+-- What holds of strides that are not none: the first one is there, and has the first descriptor.
+pub ruleset first_stride = (first_room, one_stride, next_left)

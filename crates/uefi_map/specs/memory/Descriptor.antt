@@ -3,7 +3,7 @@ use Rattle.std.specs.Prelude.{ℕ, ◌+◌, ◌*◌, List, ◌++◌, slice_range
 use Rattle.uefi_base.specs.LittleEndian.{u32_at, u32_bytes, u64_at, u64_bytes}
 use Rattle.uefi_map.specs.declared.memory.descriptor.MemoryDescriptor.{MemoryDescriptor}
 
--- The length of a descriptor, and what the offset of each descriptor in memory is a multiple of.
+-- The length of a descriptor, and its alignment in memory.
 abbrev pub descriptor_length : ℕ
 descriptor_length = 40
 

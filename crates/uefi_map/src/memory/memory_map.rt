@@ -6,9 +6,9 @@ ghost use Rattle.uefi_map.specs.memory.Views.{entries_left};
 ghost use Rattle.std.specs.Borrow.{sem};
 ghost use Rattle.uefi_map.specs.memory.Lending.{LendsBuffer};
 
-use super::access::{are_sorted, read_at, write_at};
 use super::descriptor::MemoryDescriptor;
 use super::iter::MemoryMapIter;
+use super::layout::{DESCRIPTOR_LENGTH, offset_of};
 use super::meta::{MemoryMapKey, MemoryMapMeta};
 
 /// A memory map (UEFI 2.10, 7.2 `EFI_BOOT_SERVICES.GetMemoryMap()`): a buffer that begins with the
@@ -69,7 +69,8 @@ pub trait MemoryMap {
         requires { i < count_of (meta self.now) }
         ensures { result ≡ descriptor (bytes self.now) (meta self.now).desc_size i }
     {
-        read_at(self.buffer(), &self.meta(), i)
+        let offset = offset_of(&self.meta(), i);
+        MemoryDescriptor::read(&self.buffer()[offset..offset + DESCRIPTOR_LENGTH])
     }
 
     /// Returns the whole buffer.
@@ -81,14 +82,14 @@ pub trait MemoryMap {
         ensures entries { entries_left result ≡ entries_of (bytes self.now) (meta self.now) }
         ensures countable { length (entries_left result) < 2 ^ 64 }
     {
-        MemoryMapIter::of(self.buffer(), &self.meta())
+        MemoryMapIter::new(self.buffer(), &self.meta())
     }
 
     /// Returns whether no descriptor begins at a lower physical address than the one before it.
     fn is_sorted(&self) -> bool
         ensures { IsTrue result ↔ AreSorted (bytes self.now) (meta self.now) }
     {
-        are_sorted(self.buffer(), &self.meta())
+        self.entries().is_sorted_by_key(|entry| entry.phys_start)
     }
 }
 
@@ -137,8 +138,8 @@ pub trait MemoryMapMut: MemoryMap {
         ensures meta { let map = Self.MemoryMap in map.meta self.new ≡ map.meta self.old }
         ensures same_buffer { same_buffer self.old self.new }
     {
-        let meta = self.meta();
-        write_at(self.buffer_mut(), &meta, i, &entry);
+        let offset = offset_of(&self.meta(), i);
+        entry.write(&mut self.buffer_mut()[offset..offset + DESCRIPTOR_LENGTH]);
     }
 
     /// Returns the whole buffer, to be written. Any bytes are descriptors, so it stays a map.

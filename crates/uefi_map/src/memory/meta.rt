@@ -67,7 +67,7 @@ impl MemoryMapMeta {
     pub fn assert_sanity_checks(&self) -> bool
         ensures { IsTrue result ↔ IsSane self.now }
     {
-        self.desc_size >= DESCRIPTOR_LENGTH && self.map_size >= 1 && self.map_size <= MAX_SANE_SIZE
+        self.desc_size >= DESCRIPTOR_LENGTH && (1..=MAX_SANE_SIZE).contains(&self.map_size)
     }
 
     /// Returns whether the sizes make a map of a buffer with this length: the stride is at least 40

@@ -11,7 +11,7 @@ use std::marker::Model;
 /// A struct that lends its buffer as `&mut` can't keep a fact about the buffer's length beside it.
 /// So it keeps these, and asks for the map's sizes by the buffer's length.
 #[derive(Drop)]
-pub struct Sizes {
+pub(crate) struct Sizes {
     meta: MemoryMapMeta,
 }
 

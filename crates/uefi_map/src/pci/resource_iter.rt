@@ -19,7 +19,7 @@ pub struct ResourceIter<'a> {
 #[tactic(auto, using(crate::proofs::pci::Records::resource_count))]
 impl<'a> ResourceIter<'a> {
     /// Returns the resources of whole records.
-    pub(super) fn over(rest: &'a [u8]) -> ResourceIter<'a>
+    pub(super) fn new(rest: &'a [u8]) -> ResourceIter<'a>
         ensures resources { resources_left result ≡ resources_in rest.now }
         ensures countable { length (resources_left result) < 2 ^ 64 }
     {

@@ -41,7 +41,7 @@ impl<'a> ResourceList<'a> {
         ensures resources { resources_left result ≡ resources_of self.now }
         ensures countable { length (resources_left result) < 2 ^ 64 }
     {
-        ResourceIter::over(self.records)
+        ResourceIter::new(self.records)
     }
 }
 
@@ -69,7 +69,8 @@ impl<'a> TryFrom<&'a [u8]> for ResourceList<'a> {
         while let Some((_, after)) = QwordAddressSpaceDescriptor::read(rest)? {
             rest = after;
         }
-        let (records, _) = bytes.split_at(bytes.len() - rest.len());
-        Ok(ResourceList { records })
+        Ok(ResourceList {
+            records: &bytes[..bytes.len() - rest.len()],
+        })
     }
 }

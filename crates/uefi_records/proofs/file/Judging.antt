@@ -12,9 +12,10 @@ use Rattle.uefi_records.specs.file.Verdict.{accepted, judged, verdict}
 use Rattle.uefi_records.proofs.file.FirstZero.{IsFirstAt, first_zero_is}
 
 -- The bytes behind an offset, among those that were written.
-pub written_part : (bytes : List ℕ) (n written offset : ℕ) → n ≡ min written (length bytes)
-    → take (length (take n bytes) - offset) (drop offset (take n bytes)) ≡ drop offset (take written bytes)
-written_part bytes n written offset is = grind (arith, common_steps)
+pub written_part : (bytes : List ℕ) (n written at offset : ℕ) → n ≡ min written (length bytes)
+    → at ≡ min offset (length (take n bytes))
+    → take (length (take n bytes) - at) (drop at (take n bytes)) ≡ drop offset (take written bytes)
+written_part bytes n written at offset is begins = grind (arith, common_steps)
 
 -- The units of a name, in the written bytes and in the bytes that end with the name.
 pub units_of_prefix : (bytes : List ℕ) (offset count written : ℕ) → record_end offset count ≤ written

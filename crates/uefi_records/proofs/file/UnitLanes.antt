@@ -1,14 +1,17 @@
 -- The units of bytes as the lanes of a vector, and the search through a block of them.
 use Rattle.std.proofs.Common.{◌≡◌, ℕ, zero, suc, ◌+◌, ◌*◌, ◌/◌, ◌%◌, ◌<◌, ◌≤◌, List, [], ◌∷◌, ◌++◌, length, drop, ap}
-use Rattle.std.proofs.Common.{refl, ◌∙◌, arith, Bool, not, get_or, w8, Fits}
+use Rattle.std.proofs.Common.{refl, ◌∙◌, arith, Bool, not, get_or, w8, Fits, map, min, inl, inr}
 use Rattle.std.specs.Prelude.{Some}
 use Rattle.std.specs.List.{prefix_len, position_from, position_or_len}
+use Rattle.std.proofs.lemmas.Bool.{cases_lt}
 use Rattle.std.proofs.lemmas.Bool.Decides.{nat_tests}
 use Rattle.std.proofs.lemmas.Grind.{common_steps}
 use Rattle.std.proofs.lemmas.List.Folds.{prefix_len-append}
 use Rattle.std.proofs.lemmas.List.Sums.{prefix_len-le-length}
-use lib.Lanes.{number_l, digits_l, Each1, chunk}
-use Rattle.std.proofs.lemmas.Simd.{chunk-drop, length-chunk, chunk-fits, below_from_Fits}
+use lib.Count.{count_trailing_zeros}
+use lib.Lanes.{number_l, digits_l, Each1, chunk, mask_l}
+use Rattle.std.proofs.lemmas.Simd.{chunk-drop, length-chunk, chunk-fits, below_from_Fits, leading_from_mask_l}
+use Rattle.std.proofs.lemmas.Simd.{trailing_mask_l}
 use Rattle.uefi_base.specs.Unaligned.{units_of}
 use Rattle.uefi_base.proofs.UnitsOfBytes.{half_as_many_units}
 use Rattle.uefi_base.proofs.UnitsBack.{units_read_back}
@@ -36,6 +39,21 @@ pub block_lanes_are_units : (offset : ℕ) (bytes : List ℕ) → offset + 32 �
 block_lanes_are_units offset bytes room fit =
     lanes_are_units 16 (chunk offset 32 bytes) (length-chunk offset 32 bytes room)
     (below_from_Fits w8 (chunk offset 32 bytes) (chunk-fits w8 offset 32 bytes fit))
+
+-- The trailing zeros of a mask, at most as many as there are lanes, are the lanes before the first that passes.
+pub first_set_lane : (p : ℕ → Bool) (lanes : List ℕ) (n : ℕ) → length lanes ≡ n → n ≤ 64
+    → min (count_trailing_zeros 64 (mask_l (map p lanes))) n ≡ prefix_len (λ x. not (p x)) lanes
+unfolding count_trailing_zeros
+first_set_lane p lanes n sized few =
+    elim (cases_lt 0 (mask_l (map p lanes))) [
+      | inl some ↦
+          let first = trailing_mask_l p 64 lanes (omega (arith, sized)) some in
+          omega (arith, first, prefix_len-le-length (λ x. not (p x)) lanes, sized)
+      | inr none ↦
+          let zero : mask_l (map p lanes) ≡ 0 = omega (arith, none) in
+          let all : count_trailing_zeros 64 (mask_l (map p lanes)) ≡ 64 = ap (count_trailing_zeros 64) zero in
+          omega (arith, all, leading_from_mask_l p lanes zero, sized)
+    ]
 
 -- A search passes a list of which no item passes the test.
 search_passes : (p : ℕ → Bool) (i : ℕ) (xs ys : List ℕ) → length xs ≤ position_or_len p xs

@@ -24,7 +24,7 @@ use crate::time::Time;
 use uefi_base::little_endian::u64_at;
 use uefi_base::{Align, CStr16, Error, IdentifiedBy, UnalignedSlice};
 
-// The offsets of the fields, and what the record's size is a multiple of.
+// The offsets of the fields, and the record's alignment.
 pub(crate) const SIZE_OFFSET: usize = 0;
 
 pub(crate) const FILE_SIZE_OFFSET: usize = 8;
@@ -257,7 +257,6 @@ impl<'a> FileInfo<'a> {
     }
 }
 
-/// Compares the stated sizes, all fields, and the units of the names.
 impl PartialEq for FileInfo<'_> {
     ghost use Rattle.uefi_records.specs.file.Views.{file_info_key};
 

@@ -18,7 +18,7 @@ use crate::file::write::write_file_system_info;
 use uefi_base::little_endian::{u32_at, u64_at};
 use uefi_base::{Align, CStr16, Error, IdentifiedBy, UnalignedSlice};
 
-// The offsets of the fields, and what the record's size is a multiple of.
+// The offsets of the fields, and the record's alignment.
 pub(crate) const SIZE_OFFSET: usize = 0;
 
 pub(crate) const READ_ONLY_OFFSET: usize = 8;
@@ -212,7 +212,6 @@ impl<'a> FileSystemInfo<'a> {
     }
 }
 
-/// Compares the stated sizes, all fields, and the units of the labels, but not the unused bytes.
 impl PartialEq for FileSystemInfo<'_> {
     ghost use Rattle.uefi_records.specs.file.Views.{file_system_info_key};
 

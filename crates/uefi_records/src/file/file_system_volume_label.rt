@@ -16,7 +16,7 @@ use crate::file::protocol_info::FileProtocolInfo;
 use crate::file::write::write_file_system_volume_label;
 use uefi_base::{Align, CStr16, Error, IdentifiedBy, UnalignedSlice};
 
-// The offset of the label, and what the record's size is a multiple of.
+// The offset of the label, and the record's alignment.
 pub(crate) const LABEL_OFFSET: usize = 0;
 
 pub(crate) const ALIGNMENT: usize = 2;
@@ -115,7 +115,6 @@ impl<'a> FileSystemVolumeLabel<'a> {
     }
 }
 
-/// Compares the units of the labels.
 impl PartialEq for FileSystemVolumeLabel<'_> {
     ghost use Rattle.uefi_records.specs.file.Views.{volume_label_of};
 

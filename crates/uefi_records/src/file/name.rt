@@ -14,7 +14,7 @@ use uefi_base::{Error, Status, UnalignedSlice};
 
 /// Returns the units of the name from the offset on.
 #[tactic(auto, using(crate::proofs::file::Names::FitName_from))]
-pub(crate) fn name_at<'a>(bytes: &'a [u8], offset: usize) -> UnalignedSlice<'a>
+pub(crate) fn name_at(bytes: &[u8], offset: usize) -> UnalignedSlice<'_>
     requires { EndsWithName offset bytes.now }
     ensures units { slice_units result ≡ units_from offset bytes.now }
     ensures name { FitName (slice_units result) }
@@ -33,6 +33,7 @@ fn round_up(n: usize, alignment: usize) -> usize
 }
 
 /// Returns the end of the record in the first `written` bytes, whose name begins at the offset.
+#[tactic(auto, using(crate::proofs::file::Judging::written_part))]
 pub(crate) fn name_end(
     buffer: &[u8],
     written: usize,
@@ -48,10 +49,7 @@ pub(crate) fn name_end(
         (Refuses seen) }
 {
     let written = &buffer[..written.min(buffer.len())];
-    if written.len() < offset {
-        return Err(Error::new(Status::BAD_BUFFER_SIZE, None));
-    }
-    let Some(index) = first_zero_unit(&written[offset..]) else {
+    let Some(index) = first_zero_unit(&written[offset.min(written.len())..]) else {
         return Err(Error::new(Status::BAD_BUFFER_SIZE, None));
     };
     let end = offset + UNIT_LENGTH * (index + 1);

@@ -72,11 +72,10 @@ impl fmt::Display for FaultLine<'_> {
     ghost output = { λ line. Some (fault_line line.0 line.1.now) };
 
     fn fmt<W: fmt::Write>(&self, f: &mut fmt::Formatter<W>) -> fmt::Result {
-        let text = self.1;
         if self.0 {
-            write!(f, "{text}\n")
+            writeln!(f, "{}", self.1)
         } else {
-            write!(f, "")
+            Ok(())
         }
     }
 }
@@ -89,10 +88,7 @@ impl fmt::Display for TimeByteConversionError {
         match self {
             TimeByteConversionError::InvalidFields(faults) => write!(f, "{faults}"),
             TimeByteConversionError::InvalidSize => {
-                write!(
-                    f,
-                    "the byte slice is not large enough to hold a Time struct"
-                )
+                f.write_str("the byte slice is not large enough to hold a Time struct")
             }
         }
     }

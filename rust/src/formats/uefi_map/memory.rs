@@ -25,7 +25,6 @@ mod map_error;
 mod meta;
 
 // What all maps share.
-mod access;
 mod iter;
 mod memory_map;
 mod sizes;

@@ -34,6 +34,5 @@ pub fn parse(
     bytes: &[u8],
 ) -> Result<Vec<QwordAddressSpaceDescriptor>, ResourceError> {
     let list = ResourceList::try_from(bytes)?;
-    let resources = list.iter().fallible_collect()?;
-    Ok(resources)
+    Ok(list.iter().fallible_collect()?)
 }

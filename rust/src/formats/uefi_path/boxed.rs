@@ -55,8 +55,7 @@ impl TryFrom<Vec<u8>> for BoxedDevicePath {
     type Error = ByteConversionError;
 
     #[inline]
-    fn try_from(bytes: Vec<u8>) -> Result<BoxedDevicePath, ByteConversionError> {
-        let mut bytes = bytes;
+    fn try_from(mut bytes: Vec<u8>) -> Result<BoxedDevicePath, ByteConversionError> {
         let (path, _) = split_nodes(bytes.as_slice(), StopCondition::EndEntireNode)?;
         let length = path.len();
         bytes.truncate(length);

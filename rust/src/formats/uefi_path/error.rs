@@ -17,7 +17,7 @@ pub enum ByteConversionError {
 impl fmt::Display for ByteConversionError {
     fn fmt(&self, f: &mut fmt::Formatter<'_>) -> fmt::Result {
         match self {
-            ByteConversionError::InvalidLength => write!(f, "invalid length"),
+            ByteConversionError::InvalidLength => f.write_str("invalid length"),
         }
     }
 }

@@ -2,9 +2,8 @@
 
 use crate::formats::uefi_path::device_type::{DeviceSubType, DeviceType};
 use crate::formats::uefi_path::error::ByteConversionError;
-use crate::formats::uefi_path::header::{
-    DEVICE_TYPE_OFFSET, DevicePathHeader, HEADER_LENGTH, LENGTH_OFFSET, SUB_TYPE_OFFSET,
-};
+use crate::formats::uefi_path::header::{DEVICE_TYPE_OFFSET, HEADER_LENGTH, LENGTH_OFFSET, SUB_TYPE_OFFSET};
+use crate::formats::uefi_path::walk::split_node;
 use core::fmt;
 use crate::formats::uefi_base::little_endian::u16_at;
 
@@ -67,8 +66,7 @@ impl<'a> DevicePathNode<'a> {
     /// Returns the data: the bytes after the four header bytes, at most 65531.
     #[inline]
     pub fn data(&self) -> &'a [u8] {
-        let (_, data) = self.bytes.split_at(HEADER_LENGTH);
-        data
+        &self.bytes[HEADER_LENGTH..]
     }
 
     /// Returns all bytes of the node, including the header.
@@ -90,13 +88,8 @@ impl<'a> TryFrom<&'a [u8]> for DevicePathNode<'a> {
 
     #[inline]
     fn try_from(bytes: &'a [u8]) -> Result<DevicePathNode<'a>, ByteConversionError> {
-        let header = DevicePathHeader::try_from(bytes)?;
-        let length = usize::from(header.length());
-        if length < HEADER_LENGTH || bytes.len() < length {
-            return Err(ByteConversionError::InvalidLength);
-        }
-        let (node, _) = bytes.split_at(length);
-        Ok(DevicePathNode::new_unchecked(node))
+        let (node, _) = split_node(bytes)?;
+        Ok(node)
     }
 }
 

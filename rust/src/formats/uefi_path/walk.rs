@@ -2,7 +2,7 @@
 
 use crate::formats::uefi_path::device_type::DeviceType;
 use crate::formats::uefi_path::error::ByteConversionError;
-use crate::formats::uefi_path::header::LENGTH_OFFSET;
+use crate::formats::uefi_path::header::{DevicePathHeader, HEADER_LENGTH, LENGTH_OFFSET};
 use crate::formats::uefi_path::node::DevicePathNode;
 use crate::formats::uefi_base::little_endian::u16_at;
 
@@ -30,9 +30,13 @@ impl StopCondition {
 /// prefix of the bytes is a node.
 #[inline]
 pub(crate) fn split_node(bytes: &[u8]) -> Result<(DevicePathNode<'_>, &[u8]), ByteConversionError> {
-    let node = DevicePathNode::try_from(bytes)?;
-    let (_, after) = bytes.split_at(node.as_bytes().len());
-    Ok((node, after))
+    let header = DevicePathHeader::try_from(bytes)?;
+    let length = usize::from(header.length());
+    if length < HEADER_LENGTH || bytes.len() < length {
+        return Err(ByteConversionError::InvalidLength);
+    }
+    let (node, after) = bytes.split_at(length);
+    Ok((DevicePathNode::new_unchecked(node), after))
 }
 
 /// Returns the node that the bytes are known to start with, and the bytes after it, without a test.

@@ -218,11 +218,7 @@ impl Time {
     /// Returns the zone in minutes from UTC, or `None` for local time.
     #[inline]
     pub fn time_zone(&self) -> Option<i16> {
-        if self.zone == UNSPECIFIED_TIMEZONE {
-            None
-        } else {
-            Some(self.zone)
-        }
+        (self.zone != UNSPECIFIED_TIMEZONE).then_some(self.zone)
     }
 
     /// Returns how daylight saving affects the time: all bits, including those without a name.
@@ -275,16 +271,6 @@ impl Time {
             last_pad: bytes[LAST_PAD_OFFSET],
         }
     }
-
-    /// Returns the time with zeros in its padding.
-    #[inline]
-    fn without_pads(self) -> Time {
-        Time {
-            first_pad: 0,
-            last_pad: 0,
-            ..self
-        }
-    }
 }
 
 /// Returns whether a zone is neither unspecified nor within a day of UTC.
@@ -319,14 +305,16 @@ impl TryFrom<&[u8]> for Time {
                 ..TimeError::default()
             }));
         }
-        match time.is_valid() {
-            Ok(()) => Ok(time.without_pads()),
-            Err(faults) => Err(TimeByteConversionError::InvalidFields(faults)),
-        }
+        time.is_valid()
+            .map_err(TimeByteConversionError::InvalidFields)?;
+        Ok(Time {
+            first_pad: 0,
+            last_pad: 0,
+            ..time
+        })
     }
 }
 
-/// Compares all sixteen bytes.
 impl PartialEq for Time {
     #[inline]
     fn eq(&self, other: &Self) -> bool {

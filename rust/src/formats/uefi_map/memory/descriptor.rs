@@ -7,6 +7,7 @@ use super::layout::{
 use super::memory_attribute::MemoryAttribute;
 use super::memory_type::MemoryType;
 use crate::formats::uefi_base::Align;
+use crate::formats::uefi_base::buffer::put;
 use crate::formats::uefi_base::little_endian::{u32_at, u64_at};
 
 /// A range of memory (UEFI 2.10, 7.2 `EFI_BOOT_SERVICES.GetMemoryMap()`, `EFI_MEMORY_DESCRIPTOR`).
@@ -60,6 +61,17 @@ impl MemoryDescriptor {
             att: MemoryAttribute::from_bits_retain(u64_at(bytes, ATTRIBUTE_OFFSET)),
         }
     }
+
+    /// Writes the descriptor to forty bytes.
+    #[inline]
+    pub(crate) fn write(&self, bytes: &mut [u8]) {
+        put(bytes, TYPE_OFFSET, &self.ty.0.to_le_bytes());
+        put(bytes, PADDING_OFFSET, &self.padding.to_le_bytes());
+        put(bytes, PHYS_START_OFFSET, &self.phys_start.to_le_bytes());
+        put(bytes, VIRT_START_OFFSET, &self.virt_start.to_le_bytes());
+        put(bytes, PAGE_COUNT_OFFSET, &self.page_count.to_le_bytes());
+        put(bytes, ATTRIBUTE_OFFSET, &self.att.bits().to_le_bytes());
+    }
 }
 
 /// Every field is zero: reserved memory of no pages at address 0, without attributes.
@@ -82,20 +94,4 @@ impl Align for MemoryDescriptor {
     fn alignment() -> usize {
         DESCRIPTOR_ALIGNMENT
     }
-}
-
-/// Writes the descriptor to forty bytes.
-#[inline]
-pub(crate) fn write(entry: &MemoryDescriptor, bytes: &mut [u8]) {
-    let (ty, rest) = bytes.split_at_mut(PADDING_OFFSET);
-    ty.copy_from_slice(&entry.ty.0.to_le_bytes());
-    let (padding, rest) = rest.split_at_mut(PHYS_START_OFFSET - PADDING_OFFSET);
-    padding.copy_from_slice(&entry.padding.to_le_bytes());
-    let (phys_start, rest) = rest.split_at_mut(VIRT_START_OFFSET - PHYS_START_OFFSET);
-    phys_start.copy_from_slice(&entry.phys_start.to_le_bytes());
-    let (virt_start, rest) = rest.split_at_mut(PAGE_COUNT_OFFSET - VIRT_START_OFFSET);
-    virt_start.copy_from_slice(&entry.virt_start.to_le_bytes());
-    let (page_count, att) = rest.split_at_mut(ATTRIBUTE_OFFSET - PAGE_COUNT_OFFSET);
-    page_count.copy_from_slice(&entry.page_count.to_le_bytes());
-    att.copy_from_slice(&entry.att.bits().to_le_bytes());
 }

@@ -20,15 +20,11 @@ pub struct MemoryMapIter<'a> {
 impl<'a> MemoryMapIter<'a> {
     /// Returns the descriptors of a map.
     #[inline]
-    pub(crate) fn of(buffer: &'a [u8], meta: &MemoryMapMeta) -> MemoryMapIter<'a> {
-        let (map, _) = buffer.split_at(meta.map_size);
-        MemoryMapIter::over(map, meta.desc_size)
-    }
-
-    /// Returns the descriptors in whole strides.
-    #[inline]
-    fn over(rest: &'a [u8], stride: usize) -> MemoryMapIter<'a> {
-        MemoryMapIter { rest, stride }
+    pub(crate) fn new(buffer: &'a [u8], meta: &MemoryMapMeta) -> MemoryMapIter<'a> {
+        MemoryMapIter {
+            rest: &buffer[..meta.map_size],
+            stride: meta.desc_size,
+        }
     }
 }
 
@@ -42,7 +38,7 @@ impl<'a> Iterator for MemoryMapIter<'a> {
         }
         let (first, _) = self.rest.split_at(DESCRIPTOR_LENGTH);
         let (_, rest) = self.rest.split_at(self.stride);
-        *self = MemoryMapIter::over(rest, self.stride);
+        self.rest = rest;
         Some(MemoryDescriptor::read(first))
     }
 

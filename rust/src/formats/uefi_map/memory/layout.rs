@@ -7,7 +7,7 @@ use super::meta::MemoryMapMeta;
 /// The length of a descriptor.
 pub(crate) const DESCRIPTOR_LENGTH: usize = 40;
 
-/// What the offset of each descriptor in memory is a multiple of.
+/// The alignment of a descriptor in memory.
 pub(crate) const DESCRIPTOR_ALIGNMENT: usize = 8;
 
 /// The offset of the type in a descriptor.

@@ -67,7 +67,7 @@ impl MemoryMapMeta {
     /// map of 1 to 2^30 bytes.
     #[inline]
     pub fn assert_sanity_checks(&self) -> bool {
-        self.desc_size >= DESCRIPTOR_LENGTH && self.map_size >= 1 && self.map_size <= MAX_SANE_SIZE
+        self.desc_size >= DESCRIPTOR_LENGTH && (1..=MAX_SANE_SIZE).contains(&self.map_size)
     }
 
     /// Returns whether the sizes make a map of a buffer with this length: the stride is at least 40

@@ -6,10 +6,8 @@ use super::meta::MemoryMapMeta;
 ///
 /// A struct that lends its buffer as `&mut` can't keep a fact about the buffer's length beside it.
 /// So it keeps these, and asks for the map's sizes by the buffer's length.
-///
-/// Its contract: `crates/uefi_map/src/memory/sizes.rt`.
 #[derive(Debug)]
-pub struct Sizes {
+pub(crate) struct Sizes {
     meta: MemoryMapMeta,
 }
 

@@ -18,7 +18,7 @@ pub struct ResourceIter<'a> {
 impl<'a> ResourceIter<'a> {
     /// Returns the resources of whole records.
     #[inline]
-    pub(super) fn over(rest: &'a [u8]) -> ResourceIter<'a> {
+    pub(super) fn new(rest: &'a [u8]) -> ResourceIter<'a> {
         length_fits(rest);
         ResourceIter { rest }
     }

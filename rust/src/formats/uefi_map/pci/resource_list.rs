@@ -40,7 +40,7 @@ impl<'a> ResourceList<'a> {
     /// Returns the resources, in order.
     #[inline]
     pub fn iter(&self) -> ResourceIter<'a> {
-        ResourceIter::over(self.records)
+        ResourceIter::new(self.records)
     }
 }
 
@@ -66,7 +66,8 @@ impl<'a> TryFrom<&'a [u8]> for ResourceList<'a> {
         while let Some((_, after)) = QwordAddressSpaceDescriptor::read(rest)? {
             rest = after;
         }
-        let (records, _) = bytes.split_at(bytes.len() - rest.len());
-        Ok(ResourceList { records })
+        Ok(ResourceList {
+            records: &bytes[..bytes.len() - rest.len()],
+        })
     }
 }

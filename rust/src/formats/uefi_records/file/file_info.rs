@@ -10,7 +10,7 @@ use crate::formats::uefi_records::time::Time;
 use crate::formats::uefi_base::little_endian::u64_at;
 use crate::formats::uefi_base::{Align, CStr16, Error, IdentifiedBy, UnalignedSlice};
 
-// The offsets of the fields, and what the record's size is a multiple of.
+// The offsets of the fields, and the record's alignment.
 pub(crate) const SIZE_OFFSET: usize = 0;
 
 pub(crate) const FILE_SIZE_OFFSET: usize = 8;
@@ -207,7 +207,6 @@ impl<'a> FileInfo<'a> {
     }
 }
 
-/// Compares the stated sizes, all fields, and the units of the names.
 impl PartialEq for FileInfo<'_> {
     #[inline]
     fn eq(&self, other: &Self) -> bool {

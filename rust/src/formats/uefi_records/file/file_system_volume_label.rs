@@ -7,7 +7,7 @@ use crate::formats::uefi_records::file::protocol_info::FileProtocolInfo;
 use crate::formats::uefi_records::file::write::write_file_system_volume_label;
 use crate::formats::uefi_base::{Align, CStr16, Error, IdentifiedBy, UnalignedSlice};
 
-// The offset of the label, and what the record's size is a multiple of.
+// The offset of the label, and the record's alignment.
 pub(crate) const LABEL_OFFSET: usize = 0;
 
 pub(crate) const ALIGNMENT: usize = 2;
@@ -84,7 +84,6 @@ impl<'a> FileSystemVolumeLabel<'a> {
     }
 }
 
-/// Compares the units of the labels.
 impl PartialEq for FileSystemVolumeLabel<'_> {
     #[inline]
     fn eq(&self, other: &Self) -> bool {

@@ -34,19 +34,14 @@ pub fn first_zero_unit(bytes: &[u8]) -> Option<usize> {
 fn nonzero_run(bytes: &[u8], offset: usize) -> usize {
     let units = u16x16::from_le_bytes(u8x32::from_slice(&bytes[offset..]));
     let zeros = units.simd_eq(u16x16::splat(0)).to_bitmask();
-    if zeros == 0 {
-        LANES
-    } else {
-        zeros.trailing_zeros() as usize
-    }
+    (zeros.trailing_zeros() as usize).min(LANES)
 }
 
 /// Returns the index of the first zero among the units from `start` on, one unit at a time.
 #[inline]
 fn first_zero_from(bytes: &[u8], start: usize) -> Option<usize> {
     let (_, rest) = bytes.split_at(UNIT_LENGTH * start);
-    let (whole, _) = rest.split_at(rest.len() / UNIT_LENGTH * UNIT_LENGTH);
-    let index = UnalignedSlice::new(whole)
+    let index = UnalignedSlice::new(&rest[..rest.len() / UNIT_LENGTH * UNIT_LENGTH])
         .iter()
         .position(|unit| unit == 0)?;
     Some(start + index)

@@ -9,7 +9,7 @@ use crate::formats::uefi_base::{Error, Status, UnalignedSlice};
 
 /// Returns the units of the name from the offset on.
 #[inline]
-pub(crate) fn name_at<'a>(bytes: &'a [u8], offset: usize) -> UnalignedSlice<'a> {
+pub(crate) fn name_at(bytes: &[u8], offset: usize) -> UnalignedSlice<'_> {
     let (_, name) = bytes.split_at(offset);
     UnalignedSlice::new(name)
 }
@@ -29,10 +29,7 @@ pub(crate) fn name_end(
     alignment: usize,
 ) -> Result<usize, Error<Option<usize>>> {
     let written = &buffer[..written.min(buffer.len())];
-    if written.len() < offset {
-        return Err(Error::new(Status::BAD_BUFFER_SIZE, None));
-    }
-    let Some(index) = first_zero_unit(&written[offset..]) else {
+    let Some(index) = first_zero_unit(&written[offset.min(written.len())..]) else {
         return Err(Error::new(Status::BAD_BUFFER_SIZE, None));
     };
     let end = offset + UNIT_LENGTH * (index + 1);

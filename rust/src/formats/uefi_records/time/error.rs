@@ -71,11 +71,10 @@ struct FaultLine<'a>(bool, &'a str);
 
 impl fmt::Display for FaultLine<'_> {
     fn fmt(&self, f: &mut fmt::Formatter<'_>) -> fmt::Result {
-        let text = self.1;
         if self.0 {
-            write!(f, "{text}\n")
+            writeln!(f, "{}", self.1)
         } else {
-            write!(f, "")
+            Ok(())
         }
     }
 }
@@ -86,10 +85,7 @@ impl fmt::Display for TimeByteConversionError {
         match self {
             TimeByteConversionError::InvalidFields(faults) => write!(f, "{faults}"),
             TimeByteConversionError::InvalidSize => {
-                write!(
-                    f,
-                    "the byte slice is not large enough to hold a Time struct"
-                )
+                f.write_str("the byte slice is not large enough to hold a Time struct")
             }
         }
     }

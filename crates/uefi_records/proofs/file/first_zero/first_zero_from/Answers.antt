@@ -1,4 +1,4 @@
-use Rattle.std.proofs.Common.{rules, arith, ◌≡◌, ◌≤◌, ◌+◌, ◌*◌, ◌∙◌, sym, length, drop, ap}
+use Rattle.std.proofs.Common.{rules, refl, arith, ◌≡◌, ◌≤◌, ◌+◌, ◌*◌, ◌∙◌, sym, length, drop, ap}
 use Rattle.std.specs.Prelude.{◌==◌}
 use Rattle.std.specs.List.{position_from}
 use Rattle.std.specs.Option.{option_map}
@@ -19,7 +19,7 @@ found : (c : After-position) → c.position.result ≡ first_zero (units_of c.sp
 found c =
     let rest = c.split_at.result.1.now in
     let left : units_left c.iter.result ≡ units_of rest =
-    c.iter.ensures.units ∙ c.new.ensures ∙ units_of_whole rest _ c.split_at-2.ensures.front in
+    c.iter.ensures.units ∙ c.new.ensures ∙ units_of_whole rest _ refl in
     position_from_yields_List (λ unit. unit == 0) c.position.new.self _ c.position.result c.position.ensures.ran
     (YieldsList-from_first (λ unit. unit) units_left (units_of rest) left) (λ x b q k. search (rules, tests))
     ∙ position_from-zero (λ unit. unit == 0) (units_of rest)
