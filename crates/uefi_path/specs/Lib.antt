@@ -4,6 +4,7 @@ pub mod Reading
 pub mod Header
 pub mod Views
 pub mod Texts
+pub mod build
 pub mod LoadOption
 pub mod LoadOptionFlags
 pub mod LoadOptionViews

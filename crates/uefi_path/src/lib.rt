@@ -31,6 +31,7 @@ pub use self::node_iter::DevicePathNodeIterator;
 pub use self::path::DevicePath;
 
 mod boxed;
+pub mod build;
 mod device_type;
 mod error;
 mod header;
