@@ -1,0 +1,5 @@
+pub mod Layouts
+pub mod Readings
+pub mod Parts
+pub mod Written
+pub mod Signatures

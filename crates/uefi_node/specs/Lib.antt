@@ -1,0 +1,13 @@
+pub mod Layout
+pub mod Reading
+pub mod Signature
+pub mod Views
+pub mod Flags
+pub mod End
+pub mod Hardware
+pub mod Acpi
+pub mod Messaging
+pub mod Media
+pub mod BiosBootSpec
+pub mod Laws
+pub mod private

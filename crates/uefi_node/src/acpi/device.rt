@@ -1,0 +1,69 @@
+ghost use Rattle.uefi_path.specs.Views.{node_of};
+ghost use Rattle.uefi_node.specs.Layout.{IsValue, node_as};
+ghost use Rattle.uefi_node.specs.Reading.{ReadsAs};
+ghost use Rattle.uefi_node.specs.Acpi.{acpi};
+
+use crate::error::NodeConversionError;
+use crate::read::{NodeValue, RestKind, read_node};
+use crate::write::{Tail, joined, write_node};
+use uefi_base::little_endian::u32_at;
+use uefi_path::build::{BuildError, BuildNode};
+use uefi_path::{DevicePathNode, DeviceSubType, DeviceType};
+
+/// A device that numbers of its ACPI object name (UEFI 2.10, 10.3.3).
+///
+/// | offset | bytes | field |
+/// |---|---|---|
+/// | 4 | 4 | `hid` |
+/// | 8 | 4 | `uid` |
+///
+/// Offsets are from the start of the node. Numbers are little-endian.
+#[derive(Clone, Copy, PartialEq, Eq, Debug)]
+pub struct Acpi {
+    /// The hardware identifier (`_HID`): an EISA identifier, compressed.
+    pub hid: u32,
+    /// The unique identifier (`_UID`).
+    pub uid: u32,
+}
+
+impl<'a> TryFrom<DevicePathNode<'a>> for Acpi {
+    type Error = NodeConversionError;
+
+    ghost try_from_gives = { λ node read. ReadsAs acpi (node_of node) read };
+
+    fn try_from(node: DevicePathNode<'a>) -> Result<Acpi, NodeConversionError> {
+        read_node(
+            &node,
+            DeviceType::ACPI,
+            DeviceSubType::ACPI,
+            8,
+            RestKind::Nothing,
+        )
+    }
+}
+
+impl<'a> NodeValue<'a> for Acpi {
+    ghost layout = { acpi };
+
+    fn from_data(data: &'a [u8]) -> Option<Acpi> {
+        Some(Acpi {
+            hid: u32_at(data, 0),
+            uid: u32_at(data, 4),
+        })
+    }
+}
+
+impl BuildNode for Acpi {
+    ghost node = { node_as acpi };
+
+    ghost is_valid = { IsValue acpi };
+
+    fn full_type(&self) -> (DeviceType, DeviceSubType) {
+        (DeviceType::ACPI, DeviceSubType::ACPI)
+    }
+
+    fn write(&self, buffer: &mut [u8]) -> Result<usize, BuildError> {
+        let fields = joined::<8>(&[&self.hid.to_le_bytes(), &self.uid.to_le_bytes()]);
+        write_node(buffer, self, self.full_type(), &fields, Tail::Bytes(&[]))
+    }
+}

@@ -1,0 +1,121 @@
+ghost use Rattle.uefi_path.specs.Views.{node_of};
+ghost use Rattle.uefi_node.specs.Layout.{IsValue, node_as};
+ghost use Rattle.uefi_node.specs.Reading.{ReadsAs};
+ghost use Rattle.uefi_node.specs.BiosBootSpec.{boot_specification};
+
+use crate::error::NodeConversionError;
+use crate::read::{NodeValue, RestKind, read_node};
+use crate::write::{Tail, joined, write_node};
+use uefi_base::little_endian::u16_at;
+use uefi_path::build::{BuildError, BuildNode};
+use uefi_path::{DevicePathNode, DeviceSubType, DeviceType};
+
+/// A boot device of the BIOS Boot Specification (UEFI 2.10, 10.3.6).
+///
+/// | offset | bytes | field |
+/// |---|---|---|
+/// | 4 | 2 | `device_type` |
+/// | 6 | 2 | `status_flag` |
+/// | 8 | the rest | `description_string` |
+///
+/// Offsets are from the start of the node. Numbers are little-endian.
+#[derive(Clone, Copy, PartialEq, Eq, Debug)]
+pub struct BootSpecification<'a> {
+    /// The type of the device.
+    pub device_type: BootSpecificationDeviceType,
+    /// The status of the device, as the BIOS Boot Specification has it.
+    pub status_flag: u16,
+    /// The description of the device: ASCII with a NUL at its end.
+    pub description_string: &'a [u8],
+}
+
+impl<'a> TryFrom<DevicePathNode<'a>> for BootSpecification<'a> {
+    type Error = NodeConversionError;
+
+    ghost try_from_gives = { λ node read. ReadsAs boot_specification (node_of node) read };
+
+    fn try_from(node: DevicePathNode<'a>) -> Result<BootSpecification<'a>, NodeConversionError> {
+        read_node(
+            &node,
+            DeviceType::BIOS_BOOT_SPEC,
+            DeviceSubType::BIOS_BOOT_SPECIFICATION,
+            4,
+            RestKind::Bytes,
+        )
+    }
+}
+
+impl<'a> NodeValue<'a> for BootSpecification<'a> {
+    ghost layout = { boot_specification };
+
+    fn from_data(data: &'a [u8]) -> Option<BootSpecification<'a>> {
+        let (_, description_string) = data.split_at(4);
+        Some(BootSpecification {
+            device_type: BootSpecificationDeviceType(u16_at(data, 0)),
+            status_flag: u16_at(data, 2),
+            description_string,
+        })
+    }
+}
+
+impl BuildNode for BootSpecification<'_> {
+    ghost node = { node_as boot_specification };
+
+    ghost is_valid = { IsValue boot_specification };
+
+    fn full_type(&self) -> (DeviceType, DeviceSubType) {
+        (
+            DeviceType::BIOS_BOOT_SPEC,
+            DeviceSubType::BIOS_BOOT_SPECIFICATION,
+        )
+    }
+
+    fn write(&self, buffer: &mut [u8]) -> Result<usize, BuildError> {
+        let fields = joined::<4>(&[
+            &self.device_type.0.to_le_bytes(),
+            &self.status_flag.to_le_bytes(),
+        ]);
+        write_node(
+            buffer,
+            self,
+            self.full_type(),
+            &fields,
+            Tail::Bytes(self.description_string),
+        )
+    }
+}
+
+/// The type of a boot device (UEFI 2.10, 10.3.6).
+///
+/// Numbers without a constant here are valid too.
+#[derive(Clone, Copy, PartialEq, Eq, Debug)]
+#[repr(transparent)]
+pub struct BootSpecificationDeviceType(pub u16);
+
+impl BootSpecificationDeviceType {
+    /// A floppy drive.
+    pub const FLOPPY: BootSpecificationDeviceType = BootSpecificationDeviceType(1);
+
+    /// A hard drive.
+    pub const HARD_DRIVE: BootSpecificationDeviceType = BootSpecificationDeviceType(2);
+
+    /// A CD-ROM drive.
+    pub const CD_ROM: BootSpecificationDeviceType = BootSpecificationDeviceType(3);
+
+    /// A PCMCIA device.
+    pub const PCMCIA: BootSpecificationDeviceType = BootSpecificationDeviceType(4);
+
+    /// A USB device.
+    pub const USB: BootSpecificationDeviceType = BootSpecificationDeviceType(5);
+
+    /// A network interface on the board.
+    pub const EMBEDDED_NETWORK: BootSpecificationDeviceType = BootSpecificationDeviceType(6);
+
+    /// A device with a bootstrap entry vector (BEV).
+    pub const BOOTSTRAP_ENTRY_VECTOR: BootSpecificationDeviceType = BootSpecificationDeviceType(
+        0x80,
+    );
+
+    /// Unknown.
+    pub const UNKNOWN: BootSpecificationDeviceType = BootSpecificationDeviceType(0xff);
+}

@@ -1,0 +1,94 @@
+ghost use Rattle.uefi_path.specs.Views.{node_of};
+ghost use Rattle.uefi_node.specs.Layout.{IsValue, node_as};
+ghost use Rattle.uefi_node.specs.Reading.{ReadsAs};
+ghost use Rattle.uefi_node.specs.Hardware.{bmc};
+
+use crate::error::NodeConversionError;
+use crate::read::{NodeValue, RestKind, read_node};
+use crate::write::{Tail, joined, write_node};
+use uefi_base::little_endian::u64_at;
+use uefi_path::build::{BuildError, BuildNode};
+use uefi_path::{DevicePathNode, DeviceSubType, DeviceType};
+
+/// A baseboard management controller (BMC) (UEFI 2.10, 10.3.2.6).
+///
+/// | offset | bytes | field |
+/// |---|---|---|
+/// | 4 | 1 | `interface_type` |
+/// | 5 | 8 | `base_address` |
+///
+/// Offsets are from the start of the node. Numbers are little-endian.
+#[derive(Clone, Copy, PartialEq, Eq, Debug)]
+pub struct Bmc {
+    /// How the system talks to it.
+    pub interface_type: BmcInterfaceType,
+    /// The address of its registers. The lowest bit says that they are I/O ports rather than
+    /// memory.
+    pub base_address: u64,
+}
+
+impl<'a> TryFrom<DevicePathNode<'a>> for Bmc {
+    type Error = NodeConversionError;
+
+    ghost try_from_gives = { λ node read. ReadsAs bmc (node_of node) read };
+
+    fn try_from(node: DevicePathNode<'a>) -> Result<Bmc, NodeConversionError> {
+        read_node(
+            &node,
+            DeviceType::HARDWARE,
+            DeviceSubType::HARDWARE_BMC,
+            9,
+            RestKind::Nothing,
+        )
+    }
+}
+
+impl<'a> NodeValue<'a> for Bmc {
+    ghost layout = { bmc };
+
+    fn from_data(data: &'a [u8]) -> Option<Bmc> {
+        Some(Bmc {
+            interface_type: BmcInterfaceType(data[0]),
+            base_address: u64_at(data, 1),
+        })
+    }
+}
+
+impl BuildNode for Bmc {
+    ghost node = { node_as bmc };
+
+    ghost is_valid = { IsValue bmc };
+
+    fn full_type(&self) -> (DeviceType, DeviceSubType) {
+        (DeviceType::HARDWARE, DeviceSubType::HARDWARE_BMC)
+    }
+
+    fn write(&self, buffer: &mut [u8]) -> Result<usize, BuildError> {
+        let fields = joined::<9>(&[
+            &self.interface_type.0.to_le_bytes(),
+            &self.base_address.to_le_bytes(),
+        ]);
+        write_node(buffer, self, self.full_type(), &fields, Tail::Bytes(&[]))
+    }
+}
+
+/// How the system talks to a baseboard management controller (UEFI 2.10, 10.3.2.6).
+///
+/// Numbers without a constant here are valid too.
+#[derive(Clone, Copy, PartialEq, Eq, Debug)]
+#[repr(transparent)]
+pub struct BmcInterfaceType(pub u8);
+
+impl BmcInterfaceType {
+    /// Unknown.
+    pub const UNKNOWN: BmcInterfaceType = BmcInterfaceType(0);
+
+    /// A keyboard controller style interface (KCS).
+    pub const KEYBOARD_CONTROLLER_STYLE: BmcInterfaceType = BmcInterfaceType(1);
+
+    /// A server management interface chip (SMIC).
+    pub const SERVER_MANAGEMENT_INTERFACE_CHIP: BmcInterfaceType = BmcInterfaceType(2);
+
+    /// Block transfer (BT).
+    pub const BLOCK_TRANSFER: BmcInterfaceType = BmcInterfaceType(3);
+}

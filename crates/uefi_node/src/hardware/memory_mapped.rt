@@ -1,0 +1,78 @@
+ghost use Rattle.uefi_path.specs.Views.{node_of};
+ghost use Rattle.uefi_node.specs.Layout.{IsValue, node_as};
+ghost use Rattle.uefi_node.specs.Reading.{ReadsAs};
+ghost use Rattle.uefi_node.specs.Hardware.{memory_mapped};
+
+use crate::error::NodeConversionError;
+use crate::read::{NodeValue, RestKind, read_node};
+use crate::write::{Tail, joined, write_node};
+use uefi_base::little_endian::{u32_at, u64_at};
+use uefi_map::MemoryType;
+use uefi_path::build::{BuildError, BuildNode};
+use uefi_path::{DevicePathNode, DeviceSubType, DeviceType};
+
+/// A range of memory (UEFI 2.10, 10.3.2.3).
+///
+/// | offset | bytes | field |
+/// |---|---|---|
+/// | 4 | 4 | `memory_type` |
+/// | 8 | 8 | `start_address` |
+/// | 16 | 8 | `end_address` |
+///
+/// Offsets are from the start of the node. Numbers are little-endian.
+#[derive(Clone, Copy, PartialEq, Eq, Debug)]
+pub struct MemoryMapped {
+    /// The type of the memory.
+    pub memory_type: MemoryType,
+    /// The address of its first byte.
+    pub start_address: u64,
+    /// The address of its last byte.
+    pub end_address: u64,
+}
+
+impl<'a> TryFrom<DevicePathNode<'a>> for MemoryMapped {
+    type Error = NodeConversionError;
+
+    ghost try_from_gives = { λ node read. ReadsAs memory_mapped (node_of node) read };
+
+    fn try_from(node: DevicePathNode<'a>) -> Result<MemoryMapped, NodeConversionError> {
+        read_node(
+            &node,
+            DeviceType::HARDWARE,
+            DeviceSubType::HARDWARE_MEMORY_MAPPED,
+            20,
+            RestKind::Nothing,
+        )
+    }
+}
+
+impl<'a> NodeValue<'a> for MemoryMapped {
+    ghost layout = { memory_mapped };
+
+    fn from_data(data: &'a [u8]) -> Option<MemoryMapped> {
+        Some(MemoryMapped {
+            memory_type: MemoryType(u32_at(data, 0)),
+            start_address: u64_at(data, 4),
+            end_address: u64_at(data, 12),
+        })
+    }
+}
+
+impl BuildNode for MemoryMapped {
+    ghost node = { node_as memory_mapped };
+
+    ghost is_valid = { IsValue memory_mapped };
+
+    fn full_type(&self) -> (DeviceType, DeviceSubType) {
+        (DeviceType::HARDWARE, DeviceSubType::HARDWARE_MEMORY_MAPPED)
+    }
+
+    fn write(&self, buffer: &mut [u8]) -> Result<usize, BuildError> {
+        let fields = joined::<20>(&[
+            &self.memory_type.0.to_le_bytes(),
+            &self.start_address.to_le_bytes(),
+            &self.end_address.to_le_bytes(),
+        ]);
+        write_node(buffer, self, self.full_type(), &fields, Tail::Bytes(&[]))
+    }
+}

@@ -1,0 +1,62 @@
+ghost use Rattle.uefi_path.specs.Views.{node_of};
+ghost use Rattle.uefi_node.specs.Layout.{IsValue, node_as};
+ghost use Rattle.uefi_node.specs.Reading.{ReadsAs};
+ghost use Rattle.uefi_node.specs.Hardware.{pccard};
+
+use crate::error::NodeConversionError;
+use crate::read::{NodeValue, RestKind, read_node};
+use crate::write::{Tail, joined, write_node};
+use uefi_path::build::{BuildError, BuildNode};
+use uefi_path::{DevicePathNode, DeviceSubType, DeviceType};
+
+/// A PC Card (UEFI 2.10, 10.3.2.2).
+///
+/// | offset | bytes | field |
+/// |---|---|---|
+/// | 4 | 1 | `function` |
+///
+/// Offsets are from the start of the node.
+#[derive(Clone, Copy, PartialEq, Eq, Debug)]
+pub struct Pccard {
+    /// The function, from 0 on.
+    pub function: u8,
+}
+
+impl<'a> TryFrom<DevicePathNode<'a>> for Pccard {
+    type Error = NodeConversionError;
+
+    ghost try_from_gives = { λ node read. ReadsAs pccard (node_of node) read };
+
+    fn try_from(node: DevicePathNode<'a>) -> Result<Pccard, NodeConversionError> {
+        read_node(
+            &node,
+            DeviceType::HARDWARE,
+            DeviceSubType::HARDWARE_PCCARD,
+            1,
+            RestKind::Nothing,
+        )
+    }
+}
+
+impl<'a> NodeValue<'a> for Pccard {
+    ghost layout = { pccard };
+
+    fn from_data(data: &'a [u8]) -> Option<Pccard> {
+        Some(Pccard { function: data[0] })
+    }
+}
+
+impl BuildNode for Pccard {
+    ghost node = { node_as pccard };
+
+    ghost is_valid = { IsValue pccard };
+
+    fn full_type(&self) -> (DeviceType, DeviceSubType) {
+        (DeviceType::HARDWARE, DeviceSubType::HARDWARE_PCCARD)
+    }
+
+    fn write(&self, buffer: &mut [u8]) -> Result<usize, BuildError> {
+        let fields = joined::<1>(&[&self.function.to_le_bytes()]);
+        write_node(buffer, self, self.full_type(), &fields, Tail::Bytes(&[]))
+    }
+}

@@ -1,0 +1,70 @@
+ghost use Rattle.uefi_path.specs.Views.{node_of};
+ghost use Rattle.uefi_node.specs.Layout.{IsValue, node_as};
+ghost use Rattle.uefi_node.specs.Reading.{ReadsAs};
+ghost use Rattle.uefi_node.specs.Media.{file_path};
+
+use crate::error::NodeConversionError;
+use crate::read::{NodeValue, RestKind, read_node};
+use crate::write::{Tail, write_node};
+use uefi_base::UnalignedSlice;
+use uefi_path::build::{BuildError, BuildNode};
+use uefi_path::{DevicePathNode, DeviceSubType, DeviceType};
+
+/// The path of a file (UEFI 2.10, 10.3.5.4).
+///
+/// | offset | bytes | field |
+/// |---|---|---|
+/// | 4 | 2 a unit | `path_name` |
+///
+/// Offsets are from the start of the node. Numbers are little-endian.
+#[derive(Clone, Copy, PartialEq, Eq)]
+pub struct FilePath<'a> {
+    /// The units of the path, with the NUL that ends it. Any units are accepted.
+    pub path_name: UnalignedSlice<'a>,
+}
+
+impl<'a> TryFrom<DevicePathNode<'a>> for FilePath<'a> {
+    type Error = NodeConversionError;
+
+    ghost try_from_gives = { λ node read. ReadsAs file_path (node_of node) read };
+
+    fn try_from(node: DevicePathNode<'a>) -> Result<FilePath<'a>, NodeConversionError> {
+        read_node(
+            &node,
+            DeviceType::MEDIA,
+            DeviceSubType::MEDIA_FILE_PATH,
+            0,
+            RestKind::Units,
+        )
+    }
+}
+
+impl<'a> NodeValue<'a> for FilePath<'a> {
+    ghost layout = { file_path };
+
+    fn from_data(data: &'a [u8]) -> Option<FilePath<'a>> {
+        Some(FilePath {
+            path_name: UnalignedSlice::new(data),
+        })
+    }
+}
+
+impl BuildNode for FilePath<'_> {
+    ghost node = { node_as file_path };
+
+    ghost is_valid = { IsValue file_path };
+
+    fn full_type(&self) -> (DeviceType, DeviceSubType) {
+        (DeviceType::MEDIA, DeviceSubType::MEDIA_FILE_PATH)
+    }
+
+    fn write(&self, buffer: &mut [u8]) -> Result<usize, BuildError> {
+        write_node(
+            buffer,
+            self,
+            self.full_type(),
+            &[],
+            Tail::Units(self.path_name),
+        )
+    }
+}

@@ -1,0 +1,84 @@
+ghost use Rattle.uefi_path.specs.Views.{node_of};
+ghost use Rattle.uefi_node.specs.Layout.{IsValue, node_as};
+ghost use Rattle.uefi_node.specs.Reading.{ReadsAs};
+ghost use Rattle.uefi_node.specs.Media.{ram_disk};
+
+use crate::error::NodeConversionError;
+use crate::media::ram_disk_type::RamDiskType;
+use crate::read::{NodeValue, RestKind, bytes_at, read_node};
+use crate::write::{Tail, joined, write_node};
+use uefi_base::Guid;
+use uefi_base::little_endian::{u16_at, u64_at};
+use uefi_path::build::{BuildError, BuildNode};
+use uefi_path::{DevicePathNode, DeviceSubType, DeviceType};
+
+/// A RAM disk (UEFI 2.10, 10.3.5.9).
+///
+/// | offset | bytes | field |
+/// |---|---|---|
+/// | 4 | 8 | `starting_address` |
+/// | 12 | 8 | `ending_address` |
+/// | 20 | 16 | `disk_type` |
+/// | 36 | 2 | `disk_instance` |
+///
+/// Offsets are from the start of the node. Numbers are little-endian.
+#[derive(Clone, Copy, PartialEq, Eq, Debug)]
+pub struct RamDisk {
+    /// The address of its first byte.
+    pub starting_address: u64,
+    /// The address of its last byte.
+    pub ending_address: u64,
+    /// Its type.
+    pub disk_type: RamDiskType,
+    /// Its number among the disks of this type.
+    pub disk_instance: u16,
+}
+
+impl<'a> TryFrom<DevicePathNode<'a>> for RamDisk {
+    type Error = NodeConversionError;
+
+    ghost try_from_gives = { λ node read. ReadsAs ram_disk (node_of node) read };
+
+    fn try_from(node: DevicePathNode<'a>) -> Result<RamDisk, NodeConversionError> {
+        read_node(
+            &node,
+            DeviceType::MEDIA,
+            DeviceSubType::MEDIA_RAM_DISK,
+            34,
+            RestKind::Nothing,
+        )
+    }
+}
+
+impl<'a> NodeValue<'a> for RamDisk {
+    ghost layout = { ram_disk };
+
+    fn from_data(data: &'a [u8]) -> Option<RamDisk> {
+        Some(RamDisk {
+            starting_address: u64_at(data, 0),
+            ending_address: u64_at(data, 8),
+            disk_type: RamDiskType(Guid(bytes_at(data, 16))),
+            disk_instance: u16_at(data, 32),
+        })
+    }
+}
+
+impl BuildNode for RamDisk {
+    ghost node = { node_as ram_disk };
+
+    ghost is_valid = { IsValue ram_disk };
+
+    fn full_type(&self) -> (DeviceType, DeviceSubType) {
+        (DeviceType::MEDIA, DeviceSubType::MEDIA_RAM_DISK)
+    }
+
+    fn write(&self, buffer: &mut [u8]) -> Result<usize, BuildError> {
+        let fields = joined::<34>(&[
+            &self.starting_address.to_le_bytes(),
+            &self.ending_address.to_le_bytes(),
+            &self.disk_type.0.to_bytes(),
+            &self.disk_instance.to_le_bytes(),
+        ]);
+        write_node(buffer, self, self.full_type(), &fields, Tail::Bytes(&[]))
+    }
+}

@@ -1,0 +1,80 @@
+ghost use Rattle.uefi_path.specs.Views.{node_of};
+ghost use Rattle.uefi_node.specs.Layout.{IsValue, node_as};
+ghost use Rattle.uefi_node.specs.Reading.{ReadsAs};
+ghost use Rattle.uefi_node.specs.Media.{relative_offset_range};
+
+use crate::error::NodeConversionError;
+use crate::read::{NodeValue, RestKind, read_node};
+use crate::write::{Tail, joined, write_node};
+use uefi_base::little_endian::{u32_at, u64_at};
+use uefi_path::build::{BuildError, BuildNode};
+use uefi_path::{DevicePathNode, DeviceSubType, DeviceType};
+
+/// A range of a medium (UEFI 2.10, 10.3.5.8).
+///
+/// | offset | bytes | field |
+/// |---|---|---|
+/// | 4 | 4 | `reserved` |
+/// | 8 | 8 | `starting_offset` |
+/// | 16 | 8 | `ending_offset` |
+///
+/// Offsets are from the start of the node. Numbers are little-endian.
+#[derive(Clone, Copy, PartialEq, Eq, Debug)]
+pub struct RelativeOffsetRange {
+    /// Reserved bytes, which are zero in the standard.
+    pub reserved: u32,
+    /// The offset of the first byte.
+    pub starting_offset: u64,
+    /// The offset of the last byte.
+    pub ending_offset: u64,
+}
+
+impl<'a> TryFrom<DevicePathNode<'a>> for RelativeOffsetRange {
+    type Error = NodeConversionError;
+
+    ghost try_from_gives = { λ node read. ReadsAs relative_offset_range (node_of node) read };
+
+    fn try_from(node: DevicePathNode<'a>) -> Result<RelativeOffsetRange, NodeConversionError> {
+        read_node(
+            &node,
+            DeviceType::MEDIA,
+            DeviceSubType::MEDIA_RELATIVE_OFFSET_RANGE,
+            20,
+            RestKind::Nothing,
+        )
+    }
+}
+
+impl<'a> NodeValue<'a> for RelativeOffsetRange {
+    ghost layout = { relative_offset_range };
+
+    fn from_data(data: &'a [u8]) -> Option<RelativeOffsetRange> {
+        Some(RelativeOffsetRange {
+            reserved: u32_at(data, 0),
+            starting_offset: u64_at(data, 4),
+            ending_offset: u64_at(data, 12),
+        })
+    }
+}
+
+impl BuildNode for RelativeOffsetRange {
+    ghost node = { node_as relative_offset_range };
+
+    ghost is_valid = { IsValue relative_offset_range };
+
+    fn full_type(&self) -> (DeviceType, DeviceSubType) {
+        (
+            DeviceType::MEDIA,
+            DeviceSubType::MEDIA_RELATIVE_OFFSET_RANGE,
+        )
+    }
+
+    fn write(&self, buffer: &mut [u8]) -> Result<usize, BuildError> {
+        let fields = joined::<20>(&[
+            &self.reserved.to_le_bytes(),
+            &self.starting_offset.to_le_bytes(),
+            &self.ending_offset.to_le_bytes(),
+        ]);
+        write_node(buffer, self, self.full_type(), &fields, Tail::Bytes(&[]))
+    }
+}

@@ -1,0 +1,67 @@
+ghost use Rattle.uefi_path.specs.Views.{node_of};
+ghost use Rattle.uefi_node.specs.Layout.{IsValue, node_as};
+ghost use Rattle.uefi_node.specs.Reading.{ReadsAs};
+ghost use Rattle.uefi_node.specs.Messaging.{device_logical_unit};
+
+use crate::error::NodeConversionError;
+use crate::read::{NodeValue, RestKind, read_node};
+use crate::write::{Tail, joined, write_node};
+use uefi_path::build::{BuildError, BuildNode};
+use uefi_path::{DevicePathNode, DeviceSubType, DeviceType};
+
+/// A logical unit of a device (UEFI 2.10, 10.3.4.8).
+///
+/// | offset | bytes | field |
+/// |---|---|---|
+/// | 4 | 1 | `logical_unit_number` |
+///
+/// Offsets are from the start of the node.
+#[derive(Clone, Copy, PartialEq, Eq, Debug)]
+pub struct DeviceLogicalUnit {
+    /// The logical unit.
+    pub logical_unit_number: u8,
+}
+
+impl<'a> TryFrom<DevicePathNode<'a>> for DeviceLogicalUnit {
+    type Error = NodeConversionError;
+
+    ghost try_from_gives = { λ node read. ReadsAs device_logical_unit (node_of node) read };
+
+    fn try_from(node: DevicePathNode<'a>) -> Result<DeviceLogicalUnit, NodeConversionError> {
+        read_node(
+            &node,
+            DeviceType::MESSAGING,
+            DeviceSubType::MESSAGING_DEVICE_LOGICAL_UNIT,
+            1,
+            RestKind::Nothing,
+        )
+    }
+}
+
+impl<'a> NodeValue<'a> for DeviceLogicalUnit {
+    ghost layout = { device_logical_unit };
+
+    fn from_data(data: &'a [u8]) -> Option<DeviceLogicalUnit> {
+        Some(DeviceLogicalUnit {
+            logical_unit_number: data[0],
+        })
+    }
+}
+
+impl BuildNode for DeviceLogicalUnit {
+    ghost node = { node_as device_logical_unit };
+
+    ghost is_valid = { IsValue device_logical_unit };
+
+    fn full_type(&self) -> (DeviceType, DeviceSubType) {
+        (
+            DeviceType::MESSAGING,
+            DeviceSubType::MESSAGING_DEVICE_LOGICAL_UNIT,
+        )
+    }
+
+    fn write(&self, buffer: &mut [u8]) -> Result<usize, BuildError> {
+        let fields = joined::<1>(&[&self.logical_unit_number.to_le_bytes()]);
+        write_node(buffer, self, self.full_type(), &fields, Tail::Bytes(&[]))
+    }
+}

@@ -1,0 +1,91 @@
+ghost use Rattle.uefi_path.specs.Views.{node_of};
+ghost use Rattle.uefi_node.specs.Layout.{IsValue, node_as};
+ghost use Rattle.uefi_node.specs.Reading.{ReadsAs};
+ghost use Rattle.uefi_node.specs.Messaging.{dns};
+
+use crate::error::NodeConversionError;
+use crate::messaging::dns_addresses::DnsAddresses;
+use crate::read::{NodeValue, RestKind, read_node};
+use crate::write::{Tail, joined, write_node};
+use uefi_path::build::{BuildError, BuildNode};
+use uefi_path::{DevicePathNode, DeviceSubType, DeviceType};
+
+/// Addresses of DNS servers (UEFI 2.10, 10.3.4.30).
+///
+/// | offset | bytes | field |
+/// |---|---|---|
+/// | 4 | 1 | `address_type` |
+/// | 5 | 16 each | `addresses` |
+///
+/// Offsets are from the start of the node.
+#[derive(Clone, Copy, PartialEq, Eq, Debug)]
+pub struct Dns<'a> {
+    /// The type of the addresses.
+    pub address_type: DnsAddressType,
+    /// The addresses.
+    pub addresses: DnsAddresses<'a>,
+}
+
+impl<'a> TryFrom<DevicePathNode<'a>> for Dns<'a> {
+    type Error = NodeConversionError;
+
+    ghost try_from_gives = { λ node read. ReadsAs dns (node_of node) read };
+
+    fn try_from(node: DevicePathNode<'a>) -> Result<Dns<'a>, NodeConversionError> {
+        read_node(
+            &node,
+            DeviceType::MESSAGING,
+            DeviceSubType::MESSAGING_DNS,
+            1,
+            RestKind::Addresses,
+        )
+    }
+}
+
+impl<'a> NodeValue<'a> for Dns<'a> {
+    ghost layout = { dns };
+
+    fn from_data(data: &'a [u8]) -> Option<Dns<'a>> {
+        let (_, addresses) = data.split_at(1);
+        Some(Dns {
+            address_type: DnsAddressType(data[0]),
+            addresses: DnsAddresses::new_unchecked(addresses),
+        })
+    }
+}
+
+impl BuildNode for Dns<'_> {
+    ghost node = { node_as dns };
+
+    ghost is_valid = { IsValue dns };
+
+    fn full_type(&self) -> (DeviceType, DeviceSubType) {
+        (DeviceType::MESSAGING, DeviceSubType::MESSAGING_DNS)
+    }
+
+    fn write(&self, buffer: &mut [u8]) -> Result<usize, BuildError> {
+        let fields = joined::<1>(&[&self.address_type.0.to_le_bytes()]);
+        write_node(
+            buffer,
+            self,
+            self.full_type(),
+            &fields,
+            Tail::Bytes(self.addresses.as_bytes()),
+        )
+    }
+}
+
+/// The type of the addresses of DNS servers (UEFI 2.10, 10.3.4.30).
+///
+/// Numbers without a constant here are valid too.
+#[derive(Clone, Copy, PartialEq, Eq, Debug)]
+#[repr(transparent)]
+pub struct DnsAddressType(pub u8);
+
+impl DnsAddressType {
+    /// IPv4: the first four bytes of each address.
+    pub const IPV4: DnsAddressType = DnsAddressType(0);
+
+    /// IPv6: all 16 bytes.
+    pub const IPV6: DnsAddressType = DnsAddressType(1);
+}

@@ -1,0 +1,80 @@
+ghost use Rattle.uefi_path.specs.Views.{node_of};
+ghost use Rattle.uefi_node.specs.Layout.{IsValue, node_as};
+ghost use Rattle.uefi_node.specs.Reading.{ReadsAs};
+ghost use Rattle.uefi_node.specs.Messaging.{fibre_channel_ex};
+
+use crate::error::NodeConversionError;
+use crate::read::{NodeValue, RestKind, bytes_at, read_node};
+use crate::write::{Tail, joined, write_node};
+use uefi_base::little_endian::u32_at;
+use uefi_path::build::{BuildError, BuildNode};
+use uefi_path::{DevicePathNode, DeviceSubType, DeviceType};
+
+/// A Fibre Channel device, with its addresses as bytes (UEFI 2.10, 10.3.4.3).
+///
+/// | offset | bytes | field |
+/// |---|---|---|
+/// | 4 | 4 | `reserved` |
+/// | 8 | 8 | `world_wide_name` |
+/// | 16 | 8 | `logical_unit_number` |
+///
+/// Offsets are from the start of the node. Numbers are little-endian.
+#[derive(Clone, Copy, PartialEq, Eq, Debug)]
+pub struct FibreChannelEx {
+    /// Reserved bytes, which are zero in the standard.
+    pub reserved: u32,
+    /// The port name of the target.
+    pub world_wide_name: [u8; 8],
+    /// The logical unit.
+    pub logical_unit_number: [u8; 8],
+}
+
+impl<'a> TryFrom<DevicePathNode<'a>> for FibreChannelEx {
+    type Error = NodeConversionError;
+
+    ghost try_from_gives = { λ node read. ReadsAs fibre_channel_ex (node_of node) read };
+
+    fn try_from(node: DevicePathNode<'a>) -> Result<FibreChannelEx, NodeConversionError> {
+        read_node(
+            &node,
+            DeviceType::MESSAGING,
+            DeviceSubType::MESSAGING_FIBRE_CHANNEL_EX,
+            20,
+            RestKind::Nothing,
+        )
+    }
+}
+
+impl<'a> NodeValue<'a> for FibreChannelEx {
+    ghost layout = { fibre_channel_ex };
+
+    fn from_data(data: &'a [u8]) -> Option<FibreChannelEx> {
+        Some(FibreChannelEx {
+            reserved: u32_at(data, 0),
+            world_wide_name: bytes_at(data, 4),
+            logical_unit_number: bytes_at(data, 12),
+        })
+    }
+}
+
+impl BuildNode for FibreChannelEx {
+    ghost node = { node_as fibre_channel_ex };
+
+    ghost is_valid = { IsValue fibre_channel_ex };
+
+    fn full_type(&self) -> (DeviceType, DeviceSubType) {
+        (
+            DeviceType::MESSAGING,
+            DeviceSubType::MESSAGING_FIBRE_CHANNEL_EX,
+        )
+    }
+
+    fn write(&self, buffer: &mut [u8]) -> Result<usize, BuildError> {
+        let fields = joined::<20>(&[
+            &self.reserved.to_le_bytes(),
+            &self.world_wide_name,
+            &self.logical_unit_number,
+        ]);
+        write_node(buffer, self, self.full_type(), &fields, Tail::Bytes(&[]))
+    }
+}

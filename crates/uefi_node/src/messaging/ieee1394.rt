@@ -1,0 +1,69 @@
+ghost use Rattle.uefi_path.specs.Views.{node_of};
+ghost use Rattle.uefi_node.specs.Layout.{IsValue, node_as};
+ghost use Rattle.uefi_node.specs.Reading.{ReadsAs};
+ghost use Rattle.uefi_node.specs.Messaging.{ieee1394};
+
+use crate::error::NodeConversionError;
+use crate::read::{NodeValue, RestKind, bytes_at, read_node};
+use crate::write::{Tail, joined, write_node};
+use uefi_base::little_endian::u32_at;
+use uefi_path::build::{BuildError, BuildNode};
+use uefi_path::{DevicePathNode, DeviceSubType, DeviceType};
+
+/// An IEEE 1394 device (UEFI 2.10, 10.3.4.4).
+///
+/// | offset | bytes | field |
+/// |---|---|---|
+/// | 4 | 4 | `reserved` |
+/// | 8 | 8 | `guid` |
+///
+/// Offsets are from the start of the node. Numbers are little-endian.
+#[derive(Clone, Copy, PartialEq, Eq, Debug)]
+pub struct Ieee1394 {
+    /// Reserved bytes, which are zero in the standard.
+    pub reserved: u32,
+    /// The GUID of IEEE 1394, of eight bytes.
+    pub guid: [u8; 8],
+}
+
+impl<'a> TryFrom<DevicePathNode<'a>> for Ieee1394 {
+    type Error = NodeConversionError;
+
+    ghost try_from_gives = { λ node read. ReadsAs ieee1394 (node_of node) read };
+
+    fn try_from(node: DevicePathNode<'a>) -> Result<Ieee1394, NodeConversionError> {
+        read_node(
+            &node,
+            DeviceType::MESSAGING,
+            DeviceSubType::MESSAGING_1394,
+            12,
+            RestKind::Nothing,
+        )
+    }
+}
+
+impl<'a> NodeValue<'a> for Ieee1394 {
+    ghost layout = { ieee1394 };
+
+    fn from_data(data: &'a [u8]) -> Option<Ieee1394> {
+        Some(Ieee1394 {
+            reserved: u32_at(data, 0),
+            guid: bytes_at(data, 4),
+        })
+    }
+}
+
+impl BuildNode for Ieee1394 {
+    ghost node = { node_as ieee1394 };
+
+    ghost is_valid = { IsValue ieee1394 };
+
+    fn full_type(&self) -> (DeviceType, DeviceSubType) {
+        (DeviceType::MESSAGING, DeviceSubType::MESSAGING_1394)
+    }
+
+    fn write(&self, buffer: &mut [u8]) -> Result<usize, BuildError> {
+        let fields = joined::<12>(&[&self.reserved.to_le_bytes(), &self.guid]);
+        write_node(buffer, self, self.full_type(), &fields, Tail::Bytes(&[]))
+    }
+}

@@ -1,0 +1,88 @@
+ghost use Rattle.uefi_path.specs.Views.{node_of};
+ghost use Rattle.uefi_node.specs.Layout.{IsValue, node_as};
+ghost use Rattle.uefi_node.specs.Reading.{ReadsAs};
+ghost use Rattle.uefi_node.specs.Messaging.{infiniband};
+
+use crate::error::NodeConversionError;
+use crate::messaging::infiniband_resource_flags::InfinibandResourceFlags;
+use crate::read::{NodeValue, RestKind, bytes_at, read_node};
+use crate::write::{Tail, joined, write_node};
+use uefi_base::little_endian::{u32_at, u64_at};
+use uefi_path::build::{BuildError, BuildNode};
+use uefi_path::{DevicePathNode, DeviceSubType, DeviceType};
+
+/// An InfiniBand device (UEFI 2.10, 10.3.4.15).
+///
+/// | offset | bytes | field |
+/// |---|---|---|
+/// | 4 | 4 | `resource_flags` |
+/// | 8 | 16 | `port_gid` |
+/// | 24 | 8 | `ioc_guid_or_service_id` |
+/// | 32 | 8 | `target_port_id` |
+/// | 40 | 8 | `device_id` |
+///
+/// Offsets are from the start of the node. Numbers are little-endian.
+#[derive(Clone, Copy, PartialEq, Eq, Debug)]
+pub struct Infiniband {
+    /// Which resource it is.
+    pub resource_flags: InfinibandResourceFlags,
+    /// The global identifier of the port.
+    pub port_gid: [u8; 16],
+    /// The GUID of the I/O controller, or the identifier of the service.
+    pub ioc_guid_or_service_id: u64,
+    /// The identifier of the target port.
+    pub target_port_id: u64,
+    /// The identifier of the device.
+    pub device_id: u64,
+}
+
+impl<'a> TryFrom<DevicePathNode<'a>> for Infiniband {
+    type Error = NodeConversionError;
+
+    ghost try_from_gives = { λ node read. ReadsAs infiniband (node_of node) read };
+
+    fn try_from(node: DevicePathNode<'a>) -> Result<Infiniband, NodeConversionError> {
+        read_node(
+            &node,
+            DeviceType::MESSAGING,
+            DeviceSubType::MESSAGING_INFINIBAND,
+            44,
+            RestKind::Nothing,
+        )
+    }
+}
+
+impl<'a> NodeValue<'a> for Infiniband {
+    ghost layout = { infiniband };
+
+    fn from_data(data: &'a [u8]) -> Option<Infiniband> {
+        Some(Infiniband {
+            resource_flags: InfinibandResourceFlags::from_bits_retain(u32_at(data, 0)),
+            port_gid: bytes_at(data, 4),
+            ioc_guid_or_service_id: u64_at(data, 20),
+            target_port_id: u64_at(data, 28),
+            device_id: u64_at(data, 36),
+        })
+    }
+}
+
+impl BuildNode for Infiniband {
+    ghost node = { node_as infiniband };
+
+    ghost is_valid = { IsValue infiniband };
+
+    fn full_type(&self) -> (DeviceType, DeviceSubType) {
+        (DeviceType::MESSAGING, DeviceSubType::MESSAGING_INFINIBAND)
+    }
+
+    fn write(&self, buffer: &mut [u8]) -> Result<usize, BuildError> {
+        let fields = joined::<44>(&[
+            &self.resource_flags.bits().to_le_bytes(),
+            &self.port_gid,
+            &self.ioc_guid_or_service_id.to_le_bytes(),
+            &self.target_port_id.to_le_bytes(),
+            &self.device_id.to_le_bytes(),
+        ]);
+        write_node(buffer, self, self.full_type(), &fields, Tail::Bytes(&[]))
+    }
+}

@@ -1,0 +1,117 @@
+ghost use Rattle.uefi_path.specs.Views.{node_of};
+ghost use Rattle.uefi_node.specs.Layout.{IsValue, node_as};
+ghost use Rattle.uefi_node.specs.Reading.{ReadsAs};
+ghost use Rattle.uefi_node.specs.Messaging.{ipv4};
+
+use crate::error::NodeConversionError;
+use crate::read::{NodeValue, RestKind, bytes_at, read_node};
+use crate::write::{Tail, joined, write_node};
+use uefi_base::little_endian::u16_at;
+use uefi_path::build::{BuildError, BuildNode};
+use uefi_path::{DevicePathNode, DeviceSubType, DeviceType};
+
+/// An IPv4 connection (UEFI 2.10, 10.3.4.12).
+///
+/// | offset | bytes | field |
+/// |---|---|---|
+/// | 4 | 4 | `local_ip_address` |
+/// | 8 | 4 | `remote_ip_address` |
+/// | 12 | 2 | `local_port` |
+/// | 14 | 2 | `remote_port` |
+/// | 16 | 2 | `protocol` |
+/// | 18 | 1 | `ip_address_origin` |
+/// | 19 | 4 | `gateway_ip_address` |
+/// | 23 | 4 | `subnet_mask` |
+///
+/// Offsets are from the start of the node. Numbers are little-endian.
+#[derive(Clone, Copy, PartialEq, Eq, Debug)]
+pub struct Ipv4 {
+    /// The local address.
+    pub local_ip_address: [u8; 4],
+    /// The remote address.
+    pub remote_ip_address: [u8; 4],
+    /// The local port.
+    pub local_port: u16,
+    /// The remote port.
+    pub remote_port: u16,
+    /// The network protocol, a number of RFC 3232.
+    pub protocol: u16,
+    /// Where the local address comes from.
+    pub ip_address_origin: Ipv4AddressOrigin,
+    /// The address of the gateway.
+    pub gateway_ip_address: [u8; 4],
+    /// The mask of the subnet.
+    pub subnet_mask: [u8; 4],
+}
+
+impl<'a> TryFrom<DevicePathNode<'a>> for Ipv4 {
+    type Error = NodeConversionError;
+
+    ghost try_from_gives = { λ node read. ReadsAs ipv4 (node_of node) read };
+
+    fn try_from(node: DevicePathNode<'a>) -> Result<Ipv4, NodeConversionError> {
+        read_node(
+            &node,
+            DeviceType::MESSAGING,
+            DeviceSubType::MESSAGING_IPV4,
+            23,
+            RestKind::Nothing,
+        )
+    }
+}
+
+impl<'a> NodeValue<'a> for Ipv4 {
+    ghost layout = { ipv4 };
+
+    fn from_data(data: &'a [u8]) -> Option<Ipv4> {
+        Some(Ipv4 {
+            local_ip_address: bytes_at(data, 0),
+            remote_ip_address: bytes_at(data, 4),
+            local_port: u16_at(data, 8),
+            remote_port: u16_at(data, 10),
+            protocol: u16_at(data, 12),
+            ip_address_origin: Ipv4AddressOrigin(data[14]),
+            gateway_ip_address: bytes_at(data, 15),
+            subnet_mask: bytes_at(data, 19),
+        })
+    }
+}
+
+impl BuildNode for Ipv4 {
+    ghost node = { node_as ipv4 };
+
+    ghost is_valid = { IsValue ipv4 };
+
+    fn full_type(&self) -> (DeviceType, DeviceSubType) {
+        (DeviceType::MESSAGING, DeviceSubType::MESSAGING_IPV4)
+    }
+
+    fn write(&self, buffer: &mut [u8]) -> Result<usize, BuildError> {
+        let fields = joined::<23>(&[
+            &self.local_ip_address,
+            &self.remote_ip_address,
+            &self.local_port.to_le_bytes(),
+            &self.remote_port.to_le_bytes(),
+            &self.protocol.to_le_bytes(),
+            &self.ip_address_origin.0.to_le_bytes(),
+            &self.gateway_ip_address,
+            &self.subnet_mask,
+        ]);
+        write_node(buffer, self, self.full_type(), &fields, Tail::Bytes(&[]))
+    }
+}
+
+/// Where the local IPv4 address comes from (UEFI 2.10, 10.3.4.12).
+///
+/// Numbers without a constant here are valid too.
+#[derive(Clone, Copy, PartialEq, Eq, Debug)]
+#[repr(transparent)]
+pub struct Ipv4AddressOrigin(pub u8);
+
+impl Ipv4AddressOrigin {
+    /// DHCP.
+    pub const DHCP: Ipv4AddressOrigin = Ipv4AddressOrigin(0);
+
+    /// It is set by hand.
+    pub const STATIC: Ipv4AddressOrigin = Ipv4AddressOrigin(1);
+}

@@ -1,0 +1,120 @@
+ghost use Rattle.uefi_path.specs.Views.{node_of};
+ghost use Rattle.uefi_node.specs.Layout.{IsValue, node_as};
+ghost use Rattle.uefi_node.specs.Reading.{ReadsAs};
+ghost use Rattle.uefi_node.specs.Messaging.{ipv6};
+
+use crate::error::NodeConversionError;
+use crate::read::{NodeValue, RestKind, bytes_at, read_node};
+use crate::write::{Tail, joined, write_node};
+use uefi_base::little_endian::u16_at;
+use uefi_path::build::{BuildError, BuildNode};
+use uefi_path::{DevicePathNode, DeviceSubType, DeviceType};
+
+/// An IPv6 connection (UEFI 2.10, 10.3.4.13).
+///
+/// | offset | bytes | field |
+/// |---|---|---|
+/// | 4 | 16 | `local_ip_address` |
+/// | 20 | 16 | `remote_ip_address` |
+/// | 36 | 2 | `local_port` |
+/// | 38 | 2 | `remote_port` |
+/// | 40 | 2 | `protocol` |
+/// | 42 | 1 | `ip_address_origin` |
+/// | 43 | 1 | `prefix_length` |
+/// | 44 | 16 | `gateway_ip_address` |
+///
+/// Offsets are from the start of the node. Numbers are little-endian.
+#[derive(Clone, Copy, PartialEq, Eq, Debug)]
+pub struct Ipv6 {
+    /// The local address.
+    pub local_ip_address: [u8; 16],
+    /// The remote address.
+    pub remote_ip_address: [u8; 16],
+    /// The local port.
+    pub local_port: u16,
+    /// The remote port.
+    pub remote_port: u16,
+    /// The network protocol, a number of RFC 3232.
+    pub protocol: u16,
+    /// Where the local address comes from.
+    pub ip_address_origin: Ipv6AddressOrigin,
+    /// The length of the prefix of the local address, in bits.
+    pub prefix_length: u8,
+    /// The address of the gateway.
+    pub gateway_ip_address: [u8; 16],
+}
+
+impl<'a> TryFrom<DevicePathNode<'a>> for Ipv6 {
+    type Error = NodeConversionError;
+
+    ghost try_from_gives = { λ node read. ReadsAs ipv6 (node_of node) read };
+
+    fn try_from(node: DevicePathNode<'a>) -> Result<Ipv6, NodeConversionError> {
+        read_node(
+            &node,
+            DeviceType::MESSAGING,
+            DeviceSubType::MESSAGING_IPV6,
+            56,
+            RestKind::Nothing,
+        )
+    }
+}
+
+impl<'a> NodeValue<'a> for Ipv6 {
+    ghost layout = { ipv6 };
+
+    fn from_data(data: &'a [u8]) -> Option<Ipv6> {
+        Some(Ipv6 {
+            local_ip_address: bytes_at(data, 0),
+            remote_ip_address: bytes_at(data, 16),
+            local_port: u16_at(data, 32),
+            remote_port: u16_at(data, 34),
+            protocol: u16_at(data, 36),
+            ip_address_origin: Ipv6AddressOrigin(data[38]),
+            prefix_length: data[39],
+            gateway_ip_address: bytes_at(data, 40),
+        })
+    }
+}
+
+impl BuildNode for Ipv6 {
+    ghost node = { node_as ipv6 };
+
+    ghost is_valid = { IsValue ipv6 };
+
+    fn full_type(&self) -> (DeviceType, DeviceSubType) {
+        (DeviceType::MESSAGING, DeviceSubType::MESSAGING_IPV6)
+    }
+
+    fn write(&self, buffer: &mut [u8]) -> Result<usize, BuildError> {
+        let fields = joined::<56>(&[
+            &self.local_ip_address,
+            &self.remote_ip_address,
+            &self.local_port.to_le_bytes(),
+            &self.remote_port.to_le_bytes(),
+            &self.protocol.to_le_bytes(),
+            &self.ip_address_origin.0.to_le_bytes(),
+            &self.prefix_length.to_le_bytes(),
+            &self.gateway_ip_address,
+        ]);
+        write_node(buffer, self, self.full_type(), &fields, Tail::Bytes(&[]))
+    }
+}
+
+/// Where the local IPv6 address comes from (UEFI 2.10, 10.3.4.13).
+///
+/// Numbers without a constant here are valid too.
+#[derive(Clone, Copy, PartialEq, Eq, Debug)]
+#[repr(transparent)]
+pub struct Ipv6AddressOrigin(pub u8);
+
+impl Ipv6AddressOrigin {
+    /// It is set by hand.
+    pub const MANUAL: Ipv6AddressOrigin = Ipv6AddressOrigin(0);
+
+    /// Stateless auto-configuration.
+    pub const AUTO: Ipv6AddressOrigin = Ipv6AddressOrigin(1);
+
+    /// Stateful configuration.
+    pub const STATEFUL: Ipv6AddressOrigin = Ipv6AddressOrigin(2);
+}

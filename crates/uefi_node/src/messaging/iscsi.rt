@@ -1,0 +1,106 @@
+ghost use Rattle.uefi_path.specs.Views.{node_of};
+ghost use Rattle.uefi_node.specs.Layout.{IsValue, node_as};
+ghost use Rattle.uefi_node.specs.Reading.{ReadsAs};
+ghost use Rattle.uefi_node.specs.Messaging.{iscsi};
+
+use crate::error::NodeConversionError;
+use crate::messaging::iscsi_login_options::IscsiLoginOptions;
+use crate::read::{NodeValue, RestKind, bytes_at, read_node};
+use crate::write::{Tail, joined, write_node};
+use uefi_base::little_endian::u16_at;
+use uefi_path::build::{BuildError, BuildNode};
+use uefi_path::{DevicePathNode, DeviceSubType, DeviceType};
+
+/// An iSCSI target (UEFI 2.10, 10.3.4.21).
+///
+/// | offset | bytes | field |
+/// |---|---|---|
+/// | 4 | 2 | `protocol` |
+/// | 6 | 2 | `options` |
+/// | 8 | 8 | `logical_unit_number` |
+/// | 16 | 2 | `target_portal_group_tag` |
+/// | 18 | the rest | `iscsi_target_name` |
+///
+/// Offsets are from the start of the node. Numbers are little-endian.
+#[derive(Clone, Copy, PartialEq, Eq, Debug)]
+pub struct Iscsi<'a> {
+    /// The protocol below iSCSI.
+    pub protocol: IscsiProtocol,
+    /// How to log in.
+    pub options: IscsiLoginOptions,
+    /// The logical unit.
+    pub logical_unit_number: [u8; 8],
+    /// The tag of the target portal group.
+    pub target_portal_group_tag: u16,
+    /// The name of the target.
+    pub iscsi_target_name: &'a [u8],
+}
+
+impl<'a> TryFrom<DevicePathNode<'a>> for Iscsi<'a> {
+    type Error = NodeConversionError;
+
+    ghost try_from_gives = { λ node read. ReadsAs iscsi (node_of node) read };
+
+    fn try_from(node: DevicePathNode<'a>) -> Result<Iscsi<'a>, NodeConversionError> {
+        read_node(
+            &node,
+            DeviceType::MESSAGING,
+            DeviceSubType::MESSAGING_ISCSI,
+            14,
+            RestKind::Bytes,
+        )
+    }
+}
+
+impl<'a> NodeValue<'a> for Iscsi<'a> {
+    ghost layout = { iscsi };
+
+    fn from_data(data: &'a [u8]) -> Option<Iscsi<'a>> {
+        let (_, iscsi_target_name) = data.split_at(14);
+        Some(Iscsi {
+            protocol: IscsiProtocol(u16_at(data, 0)),
+            options: IscsiLoginOptions::from_bits_retain(u16_at(data, 2)),
+            logical_unit_number: bytes_at(data, 4),
+            target_portal_group_tag: u16_at(data, 12),
+            iscsi_target_name,
+        })
+    }
+}
+
+impl BuildNode for Iscsi<'_> {
+    ghost node = { node_as iscsi };
+
+    ghost is_valid = { IsValue iscsi };
+
+    fn full_type(&self) -> (DeviceType, DeviceSubType) {
+        (DeviceType::MESSAGING, DeviceSubType::MESSAGING_ISCSI)
+    }
+
+    fn write(&self, buffer: &mut [u8]) -> Result<usize, BuildError> {
+        let fields = joined::<14>(&[
+            &self.protocol.0.to_le_bytes(),
+            &self.options.bits().to_le_bytes(),
+            &self.logical_unit_number,
+            &self.target_portal_group_tag.to_le_bytes(),
+        ]);
+        write_node(
+            buffer,
+            self,
+            self.full_type(),
+            &fields,
+            Tail::Bytes(self.iscsi_target_name),
+        )
+    }
+}
+
+/// The protocol below iSCSI (UEFI 2.10, 10.3.4.21).
+///
+/// Numbers without a constant here are valid too.
+#[derive(Clone, Copy, PartialEq, Eq, Debug)]
+#[repr(transparent)]
+pub struct IscsiProtocol(pub u16);
+
+impl IscsiProtocol {
+    /// TCP.
+    pub const TCP: IscsiProtocol = IscsiProtocol(0);
+}

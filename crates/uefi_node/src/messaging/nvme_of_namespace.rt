@@ -1,0 +1,82 @@
+ghost use Rattle.uefi_path.specs.Views.{node_of};
+ghost use Rattle.uefi_node.specs.Layout.{IsValue, node_as};
+ghost use Rattle.uefi_node.specs.Reading.{ReadsAs};
+ghost use Rattle.uefi_node.specs.Messaging.{nvme_of_namespace};
+
+use crate::error::NodeConversionError;
+use crate::read::{NodeValue, RestKind, bytes_at, read_node};
+use crate::write::{Tail, joined, write_node};
+use uefi_path::build::{BuildError, BuildNode};
+use uefi_path::{DevicePathNode, DeviceSubType, DeviceType};
+
+/// A namespace of an NVMe over Fabrics subsystem (UEFI 2.10, 10.3.4.33).
+///
+/// | offset | bytes | field |
+/// |---|---|---|
+/// | 4 | 1 | `nidt` |
+/// | 5 | 16 | `nid` |
+/// | 21 | the rest | `subsystem_nqn` |
+///
+/// Offsets are from the start of the node.
+#[derive(Clone, Copy, PartialEq, Eq, Debug)]
+pub struct NvmeOfNamespace<'a> {
+    /// The type of the namespace identifier (NIDT).
+    pub nidt: u8,
+    /// The namespace identifier (NID).
+    pub nid: [u8; 16],
+    /// The qualified name (NQN) of the subsystem: UTF-8 with a NUL at its end.
+    pub subsystem_nqn: &'a [u8],
+}
+
+impl<'a> TryFrom<DevicePathNode<'a>> for NvmeOfNamespace<'a> {
+    type Error = NodeConversionError;
+
+    ghost try_from_gives = { λ node read. ReadsAs nvme_of_namespace (node_of node) read };
+
+    fn try_from(node: DevicePathNode<'a>) -> Result<NvmeOfNamespace<'a>, NodeConversionError> {
+        read_node(
+            &node,
+            DeviceType::MESSAGING,
+            DeviceSubType::MESSAGING_NVME_OF_NAMESPACE,
+            17,
+            RestKind::Bytes,
+        )
+    }
+}
+
+impl<'a> NodeValue<'a> for NvmeOfNamespace<'a> {
+    ghost layout = { nvme_of_namespace };
+
+    fn from_data(data: &'a [u8]) -> Option<NvmeOfNamespace<'a>> {
+        let (_, subsystem_nqn) = data.split_at(17);
+        Some(NvmeOfNamespace {
+            nidt: data[0],
+            nid: bytes_at(data, 1),
+            subsystem_nqn,
+        })
+    }
+}
+
+impl BuildNode for NvmeOfNamespace<'_> {
+    ghost node = { node_as nvme_of_namespace };
+
+    ghost is_valid = { IsValue nvme_of_namespace };
+
+    fn full_type(&self) -> (DeviceType, DeviceSubType) {
+        (
+            DeviceType::MESSAGING,
+            DeviceSubType::MESSAGING_NVME_OF_NAMESPACE,
+        )
+    }
+
+    fn write(&self, buffer: &mut [u8]) -> Result<usize, BuildError> {
+        let fields = joined::<17>(&[&self.nidt.to_le_bytes(), &self.nid]);
+        write_node(
+            buffer,
+            self,
+            self.full_type(),
+            &fields,
+            Tail::Bytes(self.subsystem_nqn),
+        )
+    }
+}

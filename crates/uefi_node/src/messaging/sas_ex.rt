@@ -1,0 +1,82 @@
+ghost use Rattle.uefi_path.specs.Views.{node_of};
+ghost use Rattle.uefi_node.specs.Layout.{IsValue, node_as};
+ghost use Rattle.uefi_node.specs.Reading.{ReadsAs};
+ghost use Rattle.uefi_node.specs.Messaging.{sas_ex};
+
+use crate::error::NodeConversionError;
+use crate::read::{NodeValue, RestKind, bytes_at, read_node};
+use crate::write::{Tail, joined, write_node};
+use uefi_base::little_endian::u16_at;
+use uefi_path::build::{BuildError, BuildNode};
+use uefi_path::{DevicePathNode, DeviceSubType, DeviceType};
+
+/// A Serial Attached SCSI device (UEFI 2.10, 10.3.4.20).
+///
+/// | offset | bytes | field |
+/// |---|---|---|
+/// | 4 | 8 | `sas_address` |
+/// | 12 | 8 | `logical_unit_number` |
+/// | 20 | 2 | `info` |
+/// | 22 | 2 | `relative_target_port` |
+///
+/// Offsets are from the start of the node. Numbers are little-endian.
+#[derive(Clone, Copy, PartialEq, Eq, Debug)]
+pub struct SasEx {
+    /// The SAS address.
+    pub sas_address: [u8; 8],
+    /// The logical unit.
+    pub logical_unit_number: [u8; 8],
+    /// What is known of the device and the topology.
+    pub info: u16,
+    /// The relative target port.
+    pub relative_target_port: u16,
+}
+
+impl<'a> TryFrom<DevicePathNode<'a>> for SasEx {
+    type Error = NodeConversionError;
+
+    ghost try_from_gives = { λ node read. ReadsAs sas_ex (node_of node) read };
+
+    fn try_from(node: DevicePathNode<'a>) -> Result<SasEx, NodeConversionError> {
+        read_node(
+            &node,
+            DeviceType::MESSAGING,
+            DeviceSubType::MESSAGING_SCSI_SAS_EX,
+            20,
+            RestKind::Nothing,
+        )
+    }
+}
+
+impl<'a> NodeValue<'a> for SasEx {
+    ghost layout = { sas_ex };
+
+    fn from_data(data: &'a [u8]) -> Option<SasEx> {
+        Some(SasEx {
+            sas_address: bytes_at(data, 0),
+            logical_unit_number: bytes_at(data, 8),
+            info: u16_at(data, 16),
+            relative_target_port: u16_at(data, 18),
+        })
+    }
+}
+
+impl BuildNode for SasEx {
+    ghost node = { node_as sas_ex };
+
+    ghost is_valid = { IsValue sas_ex };
+
+    fn full_type(&self) -> (DeviceType, DeviceSubType) {
+        (DeviceType::MESSAGING, DeviceSubType::MESSAGING_SCSI_SAS_EX)
+    }
+
+    fn write(&self, buffer: &mut [u8]) -> Result<usize, BuildError> {
+        let fields = joined::<20>(&[
+            &self.sas_address,
+            &self.logical_unit_number,
+            &self.info.to_le_bytes(),
+            &self.relative_target_port.to_le_bytes(),
+        ]);
+        write_node(buffer, self, self.full_type(), &fields, Tail::Bytes(&[]))
+    }
+}

@@ -1,0 +1,77 @@
+ghost use Rattle.uefi_path.specs.Views.{node_of};
+ghost use Rattle.uefi_node.specs.Layout.{IsValue, node_as};
+ghost use Rattle.uefi_node.specs.Reading.{ReadsAs};
+ghost use Rattle.uefi_node.specs.Messaging.{sata};
+
+use crate::error::NodeConversionError;
+use crate::read::{NodeValue, RestKind, read_node};
+use crate::write::{Tail, joined, write_node};
+use uefi_base::little_endian::u16_at;
+use uefi_path::build::{BuildError, BuildNode};
+use uefi_path::{DevicePathNode, DeviceSubType, DeviceType};
+
+/// A SATA device (UEFI 2.10, 10.3.4.6).
+///
+/// | offset | bytes | field |
+/// |---|---|---|
+/// | 4 | 2 | `hba_port_number` |
+/// | 6 | 2 | `port_multiplier_port_number` |
+/// | 8 | 2 | `logical_unit_number` |
+///
+/// Offsets are from the start of the node. Numbers are little-endian.
+#[derive(Clone, Copy, PartialEq, Eq, Debug)]
+pub struct Sata {
+    /// The port of the host bus adapter.
+    pub hba_port_number: u16,
+    /// The port of the multiplier, or 0xffff if there is none.
+    pub port_multiplier_port_number: u16,
+    /// The logical unit.
+    pub logical_unit_number: u16,
+}
+
+impl<'a> TryFrom<DevicePathNode<'a>> for Sata {
+    type Error = NodeConversionError;
+
+    ghost try_from_gives = { λ node read. ReadsAs sata (node_of node) read };
+
+    fn try_from(node: DevicePathNode<'a>) -> Result<Sata, NodeConversionError> {
+        read_node(
+            &node,
+            DeviceType::MESSAGING,
+            DeviceSubType::MESSAGING_SATA,
+            6,
+            RestKind::Nothing,
+        )
+    }
+}
+
+impl<'a> NodeValue<'a> for Sata {
+    ghost layout = { sata };
+
+    fn from_data(data: &'a [u8]) -> Option<Sata> {
+        Some(Sata {
+            hba_port_number: u16_at(data, 0),
+            port_multiplier_port_number: u16_at(data, 2),
+            logical_unit_number: u16_at(data, 4),
+        })
+    }
+}
+
+impl BuildNode for Sata {
+    ghost node = { node_as sata };
+
+    ghost is_valid = { IsValue sata };
+
+    fn full_type(&self) -> (DeviceType, DeviceSubType) {
+        (DeviceType::MESSAGING, DeviceSubType::MESSAGING_SATA)
+    }
+
+    fn write(&self, buffer: &mut [u8]) -> Result<usize, BuildError> {
+        let fields = joined::<6>(&[
+            &self.hba_port_number.to_le_bytes(),
+            &self.port_multiplier_port_number.to_le_bytes(),
+            &self.logical_unit_number.to_le_bytes(),
+        ]);
+        write_node(buffer, self, self.full_type(), &fields, Tail::Bytes(&[]))
+    }
+}

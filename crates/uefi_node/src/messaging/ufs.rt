@@ -1,0 +1,71 @@
+ghost use Rattle.uefi_path.specs.Views.{node_of};
+ghost use Rattle.uefi_node.specs.Layout.{IsValue, node_as};
+ghost use Rattle.uefi_node.specs.Reading.{ReadsAs};
+ghost use Rattle.uefi_node.specs.Messaging.{ufs};
+
+use crate::error::NodeConversionError;
+use crate::read::{NodeValue, RestKind, read_node};
+use crate::write::{Tail, joined, write_node};
+use uefi_path::build::{BuildError, BuildNode};
+use uefi_path::{DevicePathNode, DeviceSubType, DeviceType};
+
+/// A Universal Flash Storage device (UEFI 2.10, 10.3.4.24).
+///
+/// | offset | bytes | field |
+/// |---|---|---|
+/// | 4 | 1 | `target_id` |
+/// | 5 | 1 | `logical_unit_number` |
+///
+/// Offsets are from the start of the node.
+#[derive(Clone, Copy, PartialEq, Eq, Debug)]
+pub struct Ufs {
+    /// The target.
+    pub target_id: u8,
+    /// The logical unit.
+    pub logical_unit_number: u8,
+}
+
+impl<'a> TryFrom<DevicePathNode<'a>> for Ufs {
+    type Error = NodeConversionError;
+
+    ghost try_from_gives = { λ node read. ReadsAs ufs (node_of node) read };
+
+    fn try_from(node: DevicePathNode<'a>) -> Result<Ufs, NodeConversionError> {
+        read_node(
+            &node,
+            DeviceType::MESSAGING,
+            DeviceSubType::MESSAGING_UFS,
+            2,
+            RestKind::Nothing,
+        )
+    }
+}
+
+impl<'a> NodeValue<'a> for Ufs {
+    ghost layout = { ufs };
+
+    fn from_data(data: &'a [u8]) -> Option<Ufs> {
+        Some(Ufs {
+            target_id: data[0],
+            logical_unit_number: data[1],
+        })
+    }
+}
+
+impl BuildNode for Ufs {
+    ghost node = { node_as ufs };
+
+    ghost is_valid = { IsValue ufs };
+
+    fn full_type(&self) -> (DeviceType, DeviceSubType) {
+        (DeviceType::MESSAGING, DeviceSubType::MESSAGING_UFS)
+    }
+
+    fn write(&self, buffer: &mut [u8]) -> Result<usize, BuildError> {
+        let fields = joined::<2>(&[
+            &self.target_id.to_le_bytes(),
+            &self.logical_unit_number.to_le_bytes(),
+        ]);
+        write_node(buffer, self, self.full_type(), &fields, Tail::Bytes(&[]))
+    }
+}

@@ -1,0 +1,71 @@
+ghost use Rattle.uefi_path.specs.Views.{node_of};
+ghost use Rattle.uefi_node.specs.Layout.{IsValue, node_as};
+ghost use Rattle.uefi_node.specs.Reading.{ReadsAs};
+ghost use Rattle.uefi_node.specs.Messaging.{usb};
+
+use crate::error::NodeConversionError;
+use crate::read::{NodeValue, RestKind, read_node};
+use crate::write::{Tail, joined, write_node};
+use uefi_path::build::{BuildError, BuildNode};
+use uefi_path::{DevicePathNode, DeviceSubType, DeviceType};
+
+/// A USB device, by its port (UEFI 2.10, 10.3.4.5).
+///
+/// | offset | bytes | field |
+/// |---|---|---|
+/// | 4 | 1 | `parent_port_number` |
+/// | 5 | 1 | `interface` |
+///
+/// Offsets are from the start of the node.
+#[derive(Clone, Copy, PartialEq, Eq, Debug)]
+pub struct Usb {
+    /// The port of the hub.
+    pub parent_port_number: u8,
+    /// The interface of the device.
+    pub interface: u8,
+}
+
+impl<'a> TryFrom<DevicePathNode<'a>> for Usb {
+    type Error = NodeConversionError;
+
+    ghost try_from_gives = { λ node read. ReadsAs usb (node_of node) read };
+
+    fn try_from(node: DevicePathNode<'a>) -> Result<Usb, NodeConversionError> {
+        read_node(
+            &node,
+            DeviceType::MESSAGING,
+            DeviceSubType::MESSAGING_USB,
+            2,
+            RestKind::Nothing,
+        )
+    }
+}
+
+impl<'a> NodeValue<'a> for Usb {
+    ghost layout = { usb };
+
+    fn from_data(data: &'a [u8]) -> Option<Usb> {
+        Some(Usb {
+            parent_port_number: data[0],
+            interface: data[1],
+        })
+    }
+}
+
+impl BuildNode for Usb {
+    ghost node = { node_as usb };
+
+    ghost is_valid = { IsValue usb };
+
+    fn full_type(&self) -> (DeviceType, DeviceSubType) {
+        (DeviceType::MESSAGING, DeviceSubType::MESSAGING_USB)
+    }
+
+    fn write(&self, buffer: &mut [u8]) -> Result<usize, BuildError> {
+        let fields = joined::<2>(&[
+            &self.parent_port_number.to_le_bytes(),
+            &self.interface.to_le_bytes(),
+        ]);
+        write_node(buffer, self, self.full_type(), &fields, Tail::Bytes(&[]))
+    }
+}

@@ -1,0 +1,65 @@
+ghost use Rattle.uefi_path.specs.Views.{node_of};
+ghost use Rattle.uefi_node.specs.Layout.{IsValue, node_as};
+ghost use Rattle.uefi_node.specs.Reading.{ReadsAs};
+ghost use Rattle.uefi_node.specs.Messaging.{vlan};
+
+use crate::error::NodeConversionError;
+use crate::read::{NodeValue, RestKind, read_node};
+use crate::write::{Tail, joined, write_node};
+use uefi_base::little_endian::u16_at;
+use uefi_path::build::{BuildError, BuildNode};
+use uefi_path::{DevicePathNode, DeviceSubType, DeviceType};
+
+/// A virtual LAN (UEFI 2.10, 10.3.4.14).
+///
+/// | offset | bytes | field |
+/// |---|---|---|
+/// | 4 | 2 | `vlan_id` |
+///
+/// Offsets are from the start of the node. Numbers are little-endian.
+#[derive(Clone, Copy, PartialEq, Eq, Debug)]
+pub struct Vlan {
+    /// The number of the VLAN, 0 to 4094.
+    pub vlan_id: u16,
+}
+
+impl<'a> TryFrom<DevicePathNode<'a>> for Vlan {
+    type Error = NodeConversionError;
+
+    ghost try_from_gives = { λ node read. ReadsAs vlan (node_of node) read };
+
+    fn try_from(node: DevicePathNode<'a>) -> Result<Vlan, NodeConversionError> {
+        read_node(
+            &node,
+            DeviceType::MESSAGING,
+            DeviceSubType::MESSAGING_VLAN,
+            2,
+            RestKind::Nothing,
+        )
+    }
+}
+
+impl<'a> NodeValue<'a> for Vlan {
+    ghost layout = { vlan };
+
+    fn from_data(data: &'a [u8]) -> Option<Vlan> {
+        Some(Vlan {
+            vlan_id: u16_at(data, 0),
+        })
+    }
+}
+
+impl BuildNode for Vlan {
+    ghost node = { node_as vlan };
+
+    ghost is_valid = { IsValue vlan };
+
+    fn full_type(&self) -> (DeviceType, DeviceSubType) {
+        (DeviceType::MESSAGING, DeviceSubType::MESSAGING_VLAN)
+    }
+
+    fn write(&self, buffer: &mut [u8]) -> Result<usize, BuildError> {
+        let fields = joined::<2>(&[&self.vlan_id.to_le_bytes()]);
+        write_node(buffer, self, self.full_type(), &fields, Tail::Bytes(&[]))
+    }
+}
