@@ -30,6 +30,7 @@ pub use self::node::DevicePathNode;
 pub use self::node_iter::DevicePathNodeIterator;
 pub use self::path::DevicePath;
 
+mod append;
 mod boxed;
 pub mod build;
 mod device_type;
