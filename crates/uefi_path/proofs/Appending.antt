@@ -1,17 +1,11 @@
 -- Nodes that are followed by others.
 use Rattle.std.proofs.Common.{◌≡◌, ℕ, List, [], ◌∷◌, ◌++◌, sym, ◌∙◌, ap, append_assoc, arith, rules}
 use Rattle.std.proofs.lemmas.List.{append-nil}
-use Rattle.std.specs.List.{AllByRecursion}
 use Rattle.uefi_path.specs.Node.{Node, Fits, encoding, joined, IsEnd, IsEndEntire, end_entire, end_instance}
-use Rattle.uefi_path.specs.Path.{AreEndedBy, IsPath, IsInstance, all_but_last}
-use Rattle.uefi_path.specs.private.Encoding.{AreNodes, IsEncodingOfNodes}
+use Rattle.uefi_path.specs.Path.{AreEndedBy, AreBefore, IsPath, IsInstance, all_but_last}
+use Rattle.uefi_path.specs.private.Encoding.{IsEncodingOfNodes}
 use Rattle.uefi_path.specs.private.OnePath.{joined-append}
 use Rattle.uefi_path.proofs.Steps.{AreEndedBy-cons}
-
--- The nodes fit their encodings, and none satisfies P.
-pub record AreBefore (P : Node → Type 0) (nodes : List Node) : Type 0 where
-  pub each : AreNodes nodes
-  pub none : AllByRecursion (λ n. P n → ⊥) nodes
 
 -- One more node before them.
 pub AreBefore-cons : (P : Node → Type 0) (n : Node) (nodes : List Node) → Fits n → (P n → ⊥) → AreBefore P nodes
@@ -49,7 +43,7 @@ AreBefore-weaker P Q weaker (n ∷ nodes) before =
     (AreBefore-weaker P Q weaker nodes (record { each = before.each.1; none = before.none.1 }))
 
 -- The encoding of nodes none of which satisfies P, and then of nodes of which only the last does.
-IsEncodingOfNodes-append : (P : Node → Type 0) (bytes : List ℕ) (before nodes : List Node) → AreBefore P before
+pub IsEncodingOfNodes-append : (P : Node → Type 0) (bytes : List ℕ) (before nodes : List Node) → AreBefore P before
     → AreEndedBy P nodes → bytes ≡ joined before ++ joined nodes → IsEncodingOfNodes P bytes (before ++ nodes)
 IsEncodingOfNodes-append P bytes before nodes is ended e = record {
   ended = AreEndedBy-append P before nodes is ended;
@@ -57,7 +51,7 @@ IsEncodingOfNodes-append P bytes before nodes is ended e = record {
 }
 
 -- The end-entire node is a path.
-path_of_end : IsPath (end_entire ∷ [])
+pub path_of_end : IsPath (end_entire ∷ [])
 path_of_end = search rules
 
 -- A path without its end-entire node, and then another path.
