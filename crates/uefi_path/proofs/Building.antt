@@ -1,13 +1,15 @@
 -- Nodes that are written one after another.
-use Rattle.std.proofs.Common.{◌≡◌, ℕ, ◌+◌, ◌≤◌, List, [], ◌∷◌, ◌++◌, length, take, drop, refl, sym, ◌∙◌, ap, arith}
+use Rattle.std.proofs.Common.{◌≡◌, ℕ, ◌+◌, ◌≤◌, List, [], ◌∷◌, ◌++◌, length, take, drop, refl, sym, ◌∙◌, ap, subst, arith, Ok, Err}
 use Rattle.std.proofs.lemmas.Grind.{common_steps}
 use Rattle.std.proofs.lemmas.List.{append-nil}
+use Rattle.std.specs.Prelude.{Result, OnOk, OnErr}
 use Rattle.uefi_base.specs.Buffer.{put_at, put_prefix}
 use Rattle.uefi_path.specs.Node.{Node, Fits, encoding, joined, IsEndEntire, end_entire}
-use Rattle.uefi_path.specs.Path.{AreBefore}
-use Rattle.uefi_path.specs.private.Encoding.{IsEncodingBefore, IsEncodingOfNodes}
-use Rattle.uefi_path.specs.private.OnePath.{joined-append, same_nodes_before}
-use Rattle.uefi_path.proofs.Appending.{IsEncodingOfNodes-append, path_of_end}
+use Rattle.uefi_path.specs.Laws.{IsBuiltPath}
+use Rattle.uefi_path.specs.Path.{AreBefore, IsPath}
+use Rattle.uefi_path.specs.private.Encoding.{IsEncodingBefore, EncodesBefore, IsEncodingOfNodes}
+use Rattle.uefi_path.specs.private.OnePath.{joined-append, one_path, same_nodes_before}
+use Rattle.uefi_path.proofs.Appending.{AreEndedBy-append, IsEncodingOfNodes-append, path_of_end}
 use Rattle.uefi_path.proofs.Passing.{AllByRecursion-push}
 
 -- What is written to the bytes from an offset on is written at the offset.
@@ -75,3 +77,33 @@ pub finished : (bytes new path : List ℕ) (offset end : ℕ) (nodes : List Node
 finished bytes new path offset end nodes encodes within stated written taken =
     IsEncodingBefore-end (take offset bytes) path nodes encodes
     (taken ∙ ap (take end) written ∙ take-put_at offset end (encoding end_entire) bytes within stated)
+
+-- The same of bytes that grow by the encoding of the end-entire node.
+pub ended_after : (bytes end more : List ℕ) (nodes : List Node) → IsEncodingBefore bytes nodes
+    → end ≡ encoding end_entire → more ≡ bytes ++ end → IsEncodingOfNodes IsEndEntire more (nodes ++ end_entire ∷ [])
+ended_after bytes end more nodes encodes made e =
+    IsEncodingBefore-end bytes more nodes encodes (e ∙ ap (λ s. bytes ++ s) made)
+
+-- Bytes that didn't change encode the same nodes.
+pub still_encoded : (bytes same : List ℕ) (nodes : List Node) → same ≡ bytes → IsEncodingBefore bytes nodes
+    → IsEncodingBefore same nodes
+still_encoded bytes same nodes e encodes = subst (λ b. IsEncodingBefore b nodes) (sym e) encodes
+
+-- Bytes that encode nodes, and that grew by a node or not at all, encode nodes.
+pub appended_or_not : {V E : Type 0} (Valid : Type 0) (result : Result V E) (bytes more : List ℕ) (nodes : List Node)
+    (n : Node) → IsEncodingBefore bytes nodes → OnOk result (Valid × Fits n) → OnOk result (¬ IsEndEntire n)
+    → OnOk result (more ≡ bytes ++ encoding n) → OnErr result (more ≡ bytes) → EncodesBefore more
+appended_or_not Valid (Ok v) bytes more nodes n encodes valid not_end grown same =
+    (nodes ++ n ∷ [], IsEncodingBefore-push bytes more nodes n encodes valid.1 not_end grown)
+appended_or_not Valid (Err e) bytes more nodes n encodes valid not_end grown same =
+    (nodes, still_encoded bytes more nodes same encodes)
+
+-- Nodes that aren't end-entire, and then the end-entire node, are the one path that their encodings start with.
+pub built_paths : (nodes : List Node) → AreBefore IsEndEntire nodes → IsBuiltPath nodes
+built_paths nodes before =
+    let path : IsPath (nodes ++ end_entire ∷ []) = AreEndedBy-append IsEndEntire nodes (end_entire ∷ []) before
+    path_of_end in
+    record {
+      path = path;
+      reads_back = λ q x is prefix. (one_path q (nodes ++ end_entire ∷ []) prefix.0 x is path (sym prefix.1)).0;
+    }

@@ -6,7 +6,9 @@
 pub use self::builder::DevicePathBuilder;
 pub use self::error::BuildError;
 pub use self::node::BuildNode;
+pub use self::vec_builder::DevicePathVecBuilder;
 
 mod builder;
 mod error;
 mod node;
+mod vec_builder;

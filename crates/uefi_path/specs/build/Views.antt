@@ -3,6 +3,7 @@ use Rattle.std.specs.Prelude.{◌≡◌, ℕ, List, length}
 use Rattle.std.specs.Borrow.{MutBor}
 use Rattle.uefi_path.specs.Node.{Node, joined}
 use Rattle.uefi_path.specs.declared.build.builder.DevicePathBuilder.{DevicePathBuilder}
+use Rattle.uefi_path.specs.declared.build.vec_builder.DevicePathVecBuilder.{DevicePathVecBuilder}
 
 -- The nodes that were pushed, in order.
 abbrev pub built_nodes : DevicePathBuilder → List Node
@@ -23,3 +24,7 @@ WritesTo buffer builder = builder.buffer.ghost_name ≡ buffer.ghost_name
 -- Both builders write to what one reference borrows.
 abbrev pub WriteToTheSame : DevicePathBuilder → DevicePathBuilder → Type 0
 WriteToTheSame one other = other.buffer.ghost_name ≡ one.buffer.ghost_name
+
+-- The nodes that were pushed onto the builder over a vector, in order.
+abbrev pub vec_built_nodes : {A : Type 0} → DevicePathVecBuilder A → List Node
+vec_built_nodes builder = builder.nodes.0
