@@ -16,6 +16,29 @@ use uefi_base::buffer::put;
 /// A path that is built in a buffer, node by node (UEFI 2.10, 10.2).
 ///
 /// The nodes lie one after another at the start of the buffer. The bytes after them stay.
+///
+/// # Examples
+///
+/// The path borrows the buffer:
+///
+/// ```
+/// use uefi_path::build::{BuildError, DevicePathBuilder};
+/// use uefi_path::{DevicePath, DevicePathNode};
+///
+/// /// Builds a path of the two nodes in the buffer.
+/// pub fn path_of_two<'a>(
+///     buffer: &'a mut [u8],
+///     first: &DevicePathNode<'_>,
+///     second: &DevicePathNode<'_>,
+/// ) -> Result<DevicePath<'a>, BuildError> {
+///     DevicePathBuilder::with_buf(buffer)
+///         .push(first)?
+///         .push(second)?
+///         .finalize()
+/// }
+/// ```
+///
+/// The function is proved in `crates/uefi_examples/src/path.rt`, which shows its contract.
 #[derive(Drop)]
 pub struct DevicePathBuilder<'a> {
     buffer: &'a mut [u8],
