@@ -1,3 +1,5 @@
+pub mod Appending
+pub mod Building
 pub mod Counts
 pub mod Cuts
 pub mod Decide

@@ -2,10 +2,12 @@
 use Rattle.std.proofs.Common.{◌≡◌, ℕ, ◌-◌, List, [], ◌∷◌, ◌++◌, length, take, refl, sym, ◌∙◌, ap, subst, arith}
 use Rattle.std.proofs.Common.{append_assoc}
 use Rattle.std.proofs.lemmas.Grind.{common_steps, flat_map-append}
+use Rattle.std.proofs.lemmas.List.{append-nil}
 use Rattle.std.specs.List.{AllByRecursion, flat_map}
 use Rattle.uefi_path.specs.Node.{Node, Fits, encoding, joined, HasNode}
-use Rattle.uefi_path.specs.Path.{LastAlone}
-use Rattle.uefi_path.specs.private.Encoding.{AreNodes, HasNodes, EncodesNodes}
+use Rattle.uefi_path.specs.Path.{LastAlone, AreEndedBy, all_but_last}
+use Rattle.uefi_path.specs.private.Encoding.{AreNodes, HasNodes, EncodesNodes, IsEncodingOfNodes}
+use Rattle.uefi_path.specs.private.OnePath.{one_ended}
 use Rattle.uefi_path.proofs.Steps.{HasNodes-node, after_first}
 
 -- The bytes are the encoding of the nodes, none of which satisfies P, and then the rest.
@@ -94,3 +96,26 @@ pub passed_nowhere : (P : Node → Type 0) (bytes rest : List ℕ) → HasPassed
 passed_nowhere P bytes rest before refused has =
     refused (HasNodes-node P rest (HasNodes-after_all P before.0 bytes rest before.1.each before.1.none has
     before.1.split))
+
+-- A list without its last element.
+pub all_but_last-push : {A : Type 0} (xs : List A) (x : A) → all_but_last (xs ++ x ∷ []) ≡ xs
+all_but_last-push [] x = refl
+all_but_last-push (y ∷ []) x = refl
+all_but_last-push (y ∷ z ∷ xs) x = ap (λ s. y ∷ s) (all_but_last-push (z ∷ xs) x)
+
+-- The walk stops at a node that satisfies P: the bytes before it are the nodes before the last.
+pub passed_before : (P : Node → Type 0) (bytes rest after : List ℕ) (n : Node) (nodes : List Node)
+    → HasPassed P bytes rest → Fits n → P n → rest ≡ encoding n ++ after → IsEncodingOfNodes P bytes nodes
+    → take (length bytes - length rest) bytes ≡ joined (all_but_last nodes)
+passed_before P bytes rest after n nodes before fits so e encodes =
+    let passed : List Node = before.0 ++ n ∷ [] in
+    let split : bytes ≡ joined passed ++ after = before.1.split ∙ ap (λ s. joined before.0 ++ s) e
+    ∙ sym (flat_map-push encoding before.0 n after) in
+    let ended : AreEndedBy P passed = record {
+      each = AllByRecursion-push Fits before.0 n before.1.each fits;
+      end = LastAlone-push P before.0 n before.1.none so;
+    } in
+    let same : nodes ≡ passed = (one_ended P nodes passed [] after encodes.ended ended
+    (append-nil (joined nodes) ∙ sym encodes.encoded ∙ split)).0 in
+    front_is bytes (joined before.0) rest before.1.split
+    ∙ ap joined (sym (ap all_but_last same ∙ all_but_last-push before.0 n))

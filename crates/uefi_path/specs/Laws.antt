@@ -1,8 +1,8 @@
 -- Laws of paths.
-use Rattle.std.specs.Prelude.{◌≡◌, ℕ, List, ◌++◌}
-use Rattle.uefi_path.specs.Node.{Node, joined}
+use Rattle.std.specs.Prelude.{◌≡◌, ℕ, List, [], ◌∷◌, ◌++◌}
+use Rattle.uefi_path.specs.Node.{Node, joined, IsEndEntire, end_entire}
 use Rattle.uefi_base.specs.Prefix.{IsPrefix}
-use Rattle.uefi_path.specs.Path.{IsPath}
+use Rattle.uefi_path.specs.Path.{IsPath, AreBefore}
 
 -- No path is a proper prefix of another: paths that start the same bytes are equal, and so are the bytes after them.
 abbrev pub NoProperPrefix : Type 0
@@ -17,3 +17,13 @@ ReadsBack = (p q : List Node) (x : List ℕ) → IsPath p → IsPath q → IsPre
 pub record OneFront : Type 0 where
   pub no_proper_prefix : NoProperPrefix
   pub reads_back : ReadsBack
+
+-- Nodes none of which is end-entire, and then an end-entire node, are a path, and bytes that start with their encodings
+-- start with this path, and with no other.
+pub record IsBuiltPath (nodes : List Node) : Type 0 where
+  pub path : IsPath (nodes ++ end_entire ∷ [])
+  pub reads_back : (q : List Node) (x : List ℕ) → IsPath q → IsPrefix (joined q) (joined (nodes ++ end_entire ∷ []) ++ x)
+      → q ≡ nodes ++ end_entire ∷ []
+
+abbrev pub BuiltPaths : Type 0
+BuiltPaths = (nodes : List Node) → AreBefore IsEndEntire nodes → IsBuiltPath nodes

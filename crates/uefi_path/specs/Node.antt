@@ -1,5 +1,5 @@
 -- Nodes of device paths, and their encodings (UEFI 2.10, 10.3.1 "Generic Device Path Structures").
-use Rattle.std.specs.Prelude.{◌≡◌, ℕ, ◌+◌, ◌≤◌, ◌<◌, List, ◌∷◌, ◌++◌, length}
+use Rattle.std.specs.Prelude.{◌≡◌, ℕ, ◌+◌, ◌≤◌, ◌<◌, List, [], ◌∷◌, ◌++◌, length}
 use Rattle.std.specs.Int.{w16, to_le_bytes}
 use Rattle.std.specs.List.{flat_map}
 use Rattle.uefi_base.specs.Prefix.{IsPrefix}
@@ -32,6 +32,13 @@ IsEnd node = node.device_type ≡ 0x7f
 -- The node ends the path: it has the type END and the subtype END_ENTIRE, whatever its data is.
 abbrev pub IsEndEntire : Node → Type 0
 IsEndEntire node = (node.device_type ≡ 0x7f) × (node.sub_type ≡ 0xff)
+
+-- The end-entire node without data, and the node without data that ends an instance before another one.
+abbrev pub end_entire : Node
+end_entire = record { device_type = 0x7f; sub_type = 0xff; payload = [] }
+
+abbrev pub end_instance : Node
+end_instance = record { device_type = 0x7f; sub_type = 0x01; payload = [] }
 
 -- Some prefix of the bytes is a node.
 abbrev pub HasNode : List ℕ → Type 0

@@ -15,6 +15,11 @@ pub record AreEndedBy (P : Node → Type 0) (nodes : List Node) : Type 0 where
   pub each : AllByRecursion Fits nodes
   pub end : LastAlone P nodes
 
+-- Nodes none of which satisfies P.
+pub record AreBefore (P : Node → Type 0) (nodes : List Node) : Type 0 where
+  pub each : AllByRecursion Fits nodes
+  pub none : AllByRecursion (λ node. ¬ P node) nodes
+
 -- A path: nodes of which only the last is end-entire.
 abbrev pub IsPath : List Node → Type 0
 IsPath = AreEndedBy IsEndEntire

@@ -1,5 +1,5 @@
 ghost use Rattle.std.specs.Prelude.{◌≡◌};
-ghost use Rattle.uefi_path.specs.Header.{header, ReadsHeader};
+ghost use Rattle.uefi_path.specs.Header.{header, header_bytes, ReadsHeader};
 ghost use Rattle.uefi_path.specs.Views.{header_of};
 
 use crate::device_type::{DeviceSubType, DeviceType};
@@ -64,6 +64,14 @@ impl DevicePathHeader {
         ensures { result ≡ (header_of self.now).length }
     {
         self.length
+    }
+
+    /// Returns the four bytes of the header.
+    pub fn to_bytes(self) -> [u8; 4]
+        ensures { result ≡ header_bytes (header_of self) }
+    {
+        let [low, high] = self.length.to_le_bytes();
+        [self.device_type.0, self.sub_type.0, low, high]
     }
 }
 

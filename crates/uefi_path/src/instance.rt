@@ -8,7 +8,7 @@ ghost use Rattle.uefi_path.specs.private.OnePath.{EncodesInstance-prop};
 
 use crate::boxed::BoxedDevicePathInstance;
 use crate::node_iter::DevicePathNodeIterator;
-use crate::walk::StopCondition;
+use crate::walk::{StopCondition, nodes_before_end};
 use std::alloc::{AllocError, Allocator};
 
 /// One instance of a device path (UEFI 2.10, 10.2): nodes of which only the last has the type END.
@@ -39,6 +39,13 @@ impl<'a> DevicePathInstance<'a> {
         ensures countable { length (nodes_left result) < 2 ^ 64 }
     {
         DevicePathNodeIterator::new(self.bytes, StopCondition::AnyEndNode)
+    }
+
+    /// Returns the bytes of the nodes before the one with the type END.
+    pub(crate) fn nodes(&self) -> &'a [u8]
+        ensures { result.now ≡ joined (all_but_last (instance_nodes self.now)) }
+    {
+        nodes_before_end(self.bytes, StopCondition::AnyEndNode)
     }
 
     /// Copies the instance into an allocation of its own.

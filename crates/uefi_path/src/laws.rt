@@ -1,7 +1,7 @@
 //! Laws of the definitions. Each function states a law that holds for all values, and does nothing
 //! when it runs.
 
-ghost use Rattle.uefi_path.specs.Laws.{OneFront};
+ghost use Rattle.uefi_path.specs.Laws.{BuiltPaths, OneFront};
 ghost use Rattle.uefi_path.specs.LoadOption.{OneLoadOption};
 ghost use Rattle.uefi_path.specs.rows.Paths.{RowsHold};
 
@@ -10,6 +10,13 @@ ghost use Rattle.uefi_path.specs.rows.Paths.{RowsHold};
 #[tactic(auto, using(crate::specs::private::OnePath::one_path))]
 pub fn one_front()
     ensures { OneFront }
+{}
+
+/// States that nodes none of which is end-entire, and then an end-entire node, are a path, and that
+/// bytes which start with their encodings start with this path, and with no other. So what a builder
+/// writes is read back.
+pub fn built_paths()
+    ensures { BuiltPaths }
 {}
 
 /// States that the definitions hold on worked rows: the numbers of the types that have a name,

@@ -1,4 +1,4 @@
-//! UEFI device paths, read from bytes (UEFI 2.10, chapter 10).
+//! UEFI device paths, read from bytes or built node by node (UEFI 2.10, chapter 10).
 //!
 //! A device path tells firmware how to reach a device or a file: a list of nodes, each of them one
 //! step, that ends with an end-entire node. It consists of one or more instances, each of them a
@@ -6,8 +6,11 @@
 //!
 //! Begin with [`DevicePath::try_from`]: it returns the prefix of the bytes that is a path, and
 //! fails exactly if no prefix is one. [`DevicePath::instance_iter`] and [`DevicePath::node_iter`]
-//! then return the parts, each a view that lives as long as the source bytes. Nothing is copied,
-//! and no view allocates.
+//! then return the parts, each a view that lives as long as the source bytes. No view copies or
+//! allocates anything.
+//!
+//! [`DevicePath::append_path`], [`DevicePath::append_node`] and [`DevicePath::append_instance`] copy
+//! a path with more nodes, and [`build`] builds one node by node.
 //!
 //! [`LoadOption::try_from`] reads the value of a variable such as `Boot0000`, which has the path to
 //! an image.
@@ -30,6 +33,7 @@ pub use self::node::DevicePathNode;
 pub use self::node_iter::DevicePathNodeIterator;
 pub use self::path::DevicePath;
 
+mod append;
 mod boxed;
 pub mod build;
 mod device_type;

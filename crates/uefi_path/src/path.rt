@@ -12,7 +12,7 @@ use crate::boxed::BoxedDevicePath;
 use crate::error::ByteConversionError;
 use crate::instance_iter::DevicePathInstanceIterator;
 use crate::node_iter::DevicePathNodeIterator;
-use crate::walk::{StopCondition, split_nodes};
+use crate::walk::{StopCondition, nodes_before_end, split_nodes};
 use std::alloc::{AllocError, Allocator};
 use std::fmt;
 
@@ -87,6 +87,13 @@ impl<'a> DevicePath<'a> {
         ensures countable { length (nodes_left result) < 2 ^ 64 }
     {
         DevicePathNodeIterator::new(self.bytes, StopCondition::EndEntireNode)
+    }
+
+    /// Returns the bytes of the nodes before the end-entire one.
+    pub fn nodes(&self) -> &'a [u8]
+        ensures { result.now ≡ joined (all_but_last (path_nodes self.now)) }
+    {
+        nodes_before_end(self.bytes, StopCondition::EndEntireNode)
     }
 
     /// Copies the path into an allocation of its own.

@@ -1,8 +1,8 @@
-ghost use Rattle.std.specs.Prelude.{◌≡◌, ◌↔◌, ◌++◌, IsTrue, IfOk, OnErr};
-ghost use Rattle.uefi_path.specs.Node.{Fits, encoding, HasNode};
-ghost use Rattle.uefi_path.specs.private.Encoding.{HasNodes};
+ghost use Rattle.std.specs.Prelude.{◌≡◌, ◌↔◌, List, ◌++◌, IsTrue, IfOk, OnErr};
+ghost use Rattle.uefi_path.specs.Node.{Node, Fits, encoding, joined, HasNode};
+ghost use Rattle.uefi_path.specs.Path.{all_but_last};
 ghost use Rattle.uefi_path.specs.private.Stop.{Stops};
-ghost use Rattle.uefi_path.specs.private.Encoding.{EncodesNodes};
+ghost use Rattle.uefi_path.specs.private.Encoding.{HasNodes, EncodesNodes, IsEncodingOfNodes};
 ghost use Rattle.uefi_path.specs.Views.{node_of};
 
 use crate::device_type::DeviceType;
@@ -92,5 +92,23 @@ pub(crate) fn first_nodes(bytes: &[u8], stop: StopCondition) -> (&[u8], &[u8])
         if stop.stops_at(&node) {
             return bytes.split_at(bytes.len() - rest.len());
         }
+    }
+}
+
+/// Returns the bytes of the nodes before the one at which the walk stops, of bytes that are known
+/// to be such nodes.
+pub(crate) fn nodes_before_end(bytes: &[u8], stop: StopCondition) -> &[u8]
+    requires { EncodesNodes (Stops stop) bytes.now }
+    ensures { (nodes : List Node) → IsEncodingOfNodes (Stops stop) bytes.now nodes
+        → result.now ≡ joined (all_but_last nodes) }
+{
+    let mut rest = bytes;
+    loop {
+        let (node, after) = first_node(rest);
+        if stop.stops_at(&node) {
+            let (before, _) = bytes.split_at(bytes.len() - rest.len());
+            return before;
+        }
+        rest = after;
     }
 }

@@ -3,7 +3,7 @@ use Rattle.std.specs.Prelude.{◌≡◌, ℕ, List}
 use Rattle.std.specs.List.{AllByRecursion}
 use Rattle.uefi_base.specs.Prefix.{IsPrefix}
 use Rattle.uefi_path.specs.Node.{Node, Fits, encoding, joined, IsEnd, IsEndEntire}
-use Rattle.uefi_path.specs.Path.{AreEndedBy, IsInstance, concat}
+use Rattle.uefi_path.specs.Path.{AreEndedBy, AreBefore, IsInstance, concat}
 
 -- The fields of each node fit its encoding.
 abbrev pub AreNodes : List Node → Type 0
@@ -21,6 +21,11 @@ pub record IsEncodingOfNode (bytes : List ℕ) (node : Node) : Type 0 where
 -- The bytes are the encoding of the nodes, of which only the last satisfies P.
 pub record IsEncodingOfNodes (P : Node → Type 0) (bytes : List ℕ) (nodes : List Node) : Type 0 where
   pub ended : AreEndedBy P nodes
+  pub encoded : bytes ≡ joined nodes
+
+-- The bytes are the encoding of nodes that may precede the end-entire one.
+pub record IsEncodingBefore (bytes : List ℕ) (nodes : List Node) : Type 0 where
+  pub before : AreBefore IsEndEntire nodes
   pub encoded : bytes ≡ joined nodes
 
 -- The bytes are the encoding of the instances.
@@ -42,6 +47,10 @@ EncodesPath = EncodesNodes IsEndEntire
 
 abbrev pub EncodesInstance : List ℕ → Type 0
 EncodesInstance = EncodesNodes IsEnd
+
+-- The bytes encode nodes that may precede the end-entire one.
+abbrev pub EncodesBefore : List ℕ → Type 0
+EncodesBefore bytes = (nodes : List Node) × IsEncodingBefore bytes nodes
 
 abbrev pub EncodesInstances : List ℕ → Type 0
 EncodesInstances bytes = (instances : List (List Node)) × IsEncodingOfInstances bytes instances

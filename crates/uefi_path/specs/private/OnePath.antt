@@ -4,8 +4,8 @@ use Rattle.std.proofs.Props.{props}
 use mathlib.Core.HLevel.{Σ_prop_path, ×_prop, Π_prop, ⊥_prop}
 use Rattle.std.specs.List.{AllByRecursion, AllByRecursion-prop}
 use Rattle.uefi_path.specs.Node.{Node, Fits, encoding, joined, IsEndEntire, IsEnd}
-use Rattle.uefi_path.specs.Path.{LastAlone, AreEndedBy, IsPath, IsInstance, concat}
-use Rattle.uefi_path.specs.private.Encoding.{AreNodes, IsEncodingOfNodes, EncodesNodes, EncodesPath, EncodesInstance, IsEncodingOfInstances, EncodesInstances}
+use Rattle.uefi_path.specs.Path.{LastAlone, AreEndedBy, AreBefore, IsPath, IsInstance, concat}
+use Rattle.uefi_path.specs.private.Encoding.{AreNodes, IsEncodingOfNodes, IsEncodingBefore, EncodesBefore, EncodesNodes, EncodesPath, EncodesInstance, IsEncodingOfInstances, EncodesInstances}
 use Rattle.uefi_path.specs.private.OneNode.{one_encoding, Fits-prop}
 
 -- A node, and nodes that start the same bytes: the first node is the same, and so is what follows it.
@@ -130,3 +130,31 @@ pub EncodesInstances-prop : (bytes : List ℕ) → IsProp (EncodesInstances byte
 EncodesInstances-prop bytes s t =
     Σ_prop_path (IsEncodingOfInstances-prop bytes) (instances_encoded_once s.0 t.0 s.1.each t.1.each
     (sym s.1.encoded ∙ t.1.encoded))
+
+-- Bytes encode at most one list of nodes.
+nodes_before_encoded_once : (ns ms : List Node) → AreNodes ns → AreNodes ms → joined ns ≡ joined ms → ns ≡ ms
+nodes_before_encoded_once [] [] fn fm e = refl
+nodes_before_encoded_once [] (m ∷ ms) fn fm e = cc
+nodes_before_encoded_once (n ∷ ns) [] fn fm e = cc
+nodes_before_encoded_once (n ∷ ns) (m ∷ ms) fn fm e =
+    let first = one_encoding n m (joined ns) (joined ms) fn.0 fm.0 e in
+    let same_head : n ≡ m = first.0 in
+    let same_others : ns ≡ ms = nodes_before_encoded_once ns ms fn.1 fm.1 first.1 in
+    (cc)
+
+-- Equal bytes encode equal lists of nodes.
+pub same_nodes_before : (bytes others : List ℕ) (ns ms : List Node) → bytes ≡ others → IsEncodingBefore bytes ns
+    → IsEncodingBefore others ms → ns ≡ ms
+same_nodes_before bytes others ns ms same s t =
+    nodes_before_encoded_once ns ms s.before.each t.before.each (sym s.encoded ∙ same ∙ t.encoded)
+
+AreBefore-prop : (ns : List Node) → IsProp (AreBefore IsEndEntire ns)
+AreBefore-prop ns =
+    hlevel (AllByRecursion-prop Fits Fits-prop ns, AllByRecursion-prop (λ n. ¬ IsEndEntire n) (λ n. Π_prop (λ _. ⊥_prop)) ns)
+
+IsEncodingBefore-prop : (bytes : List ℕ) (ns : List Node) → IsProp (IsEncodingBefore bytes ns)
+IsEncodingBefore-prop bytes ns = hlevel (props, AreBefore-prop ns)
+
+pub EncodesBefore-prop : (bytes : List ℕ) → IsProp (EncodesBefore bytes)
+EncodesBefore-prop bytes s t =
+    Σ_prop_path (IsEncodingBefore-prop bytes) (same_nodes_before bytes bytes s.0 t.0 refl s.1 t.1)

@@ -3,7 +3,7 @@
 use Rattle.std.specs.Prelude.{◌≡◌, ℕ, List, [], ◌∷◌, ◌++◌}
 use Rattle.uefi_path.specs.declared.device_type.TheConstants.DeviceType.{HARDWARE, ACPI, MESSAGING, MEDIA, BIOS_BOOT_SPEC, END}
 use Rattle.uefi_path.specs.declared.device_type.TheConstants.DeviceSubType.{END_INSTANCE, END_ENTIRE}
-use Rattle.uefi_path.specs.Node.{Node, Fits, encoding, joined, HasNode}
+use Rattle.uefi_path.specs.Node.{Node, Fits, encoding, joined, end_entire, HasNode}
 use Rattle.uefi_base.specs.Prefix.{IsPrefix}
 use Rattle.uefi_path.specs.Path.{IsPath, HasPath, AreInstances, all_but_last}
 
@@ -37,12 +37,9 @@ pub record TwoInstances : Type 0 where
       ∷ node 0xa3 0xb3 (0x28 ∷ 0x29 ∷ 0x2a ∷ 0x2b ∷ [])
       ∷ []
 
--- A node of the type END with an unknown subtype, and an end-entire node.
+-- A node of the type END with an unknown subtype.
 abbrev pub unknown_end : Node
 unknown_end = node 0x7f 0x02 []
-
-abbrev pub end_entire : Node
-end_entire = node 0x7f 0xff []
 
 -- A node of the type END ends an instance, whatever its subtype is; only END_ENTIRE ends the path.
 pub record AnyEnd : Type 0 where

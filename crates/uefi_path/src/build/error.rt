@@ -1,6 +1,7 @@
-ghost use Rattle.std.specs.Prelude.{Some};
+ghost use Rattle.std.specs.Prelude.{◌≡◌, Some};
 ghost use Rattle.uefi_path.specs.build.Texts.{build_error_text};
 
+use std::alloc::AllocError;
 use std::error::Error;
 use std::fmt;
 
@@ -37,3 +38,14 @@ impl fmt::Display for BuildError {
 }
 
 impl Error for BuildError {}
+
+/// A failed allocation is [`BuildError::Memory`].
+impl From<AllocError> for BuildError {
+    ghost use Rattle.uefi_path.specs.declared.build.error.BuildError.TheVariants.{Memory};
+
+    ghost from_gives = { λ _ error. error ≡ Memory };
+
+    fn from(_error: AllocError) -> BuildError {
+        BuildError::Memory
+    }
+}

@@ -1,5 +1,5 @@
-ghost use Rattle.std.specs.Prelude.{◌≡◌, ℕ, length};
-ghost use Rattle.uefi_path.specs.Node.{Node};
+ghost use Rattle.std.specs.Prelude.{◌≡◌, ◌↔◌, ℕ, length, IsTrue};
+ghost use Rattle.uefi_path.specs.Node.{Node, IsEndEntire};
 ghost use Rattle.uefi_path.specs.build.Writing.{WritesNode};
 
 use crate::build::error::BuildError;
@@ -55,4 +55,11 @@ impl<'a> BuildNode for DevicePathNode<'a> {
         put(buffer, 0, bytes);
         Ok(bytes.len())
     }
+}
+
+/// Returns whether the node is an end-entire node.
+pub(crate) fn is_end_entire<N: BuildNode>(node: &N) -> bool
+    ensures { IsTrue result ↔ IsEndEntire (N.node node.now) }
+{
+    node.full_type() == (DeviceType::END, DeviceSubType::END_ENTIRE)
 }

@@ -1,0 +1,188 @@
+ghost use Rattle.std.specs.Prelude.{[]};
+ghost use Rattle.uefi_path.specs.Node.{Node};
+
+use std::alloc::{Allocator, Global};
+use std::test::Fail;
+use test_support::samples::{CON_OUT, TWO_INSTANCES};
+use test_support::{bytes, each_makes, holds, same, same_bytes, takes_memory};
+use uefi_path::build::{BuildError, BuildNode, DevicePathBuilder, DevicePathVecBuilder};
+use uefi_path::{BoxedDevicePath, DevicePath, DevicePathNode, DeviceSubType, DeviceType};
+
+/// Builds a path of the nodes of another one in the buffer.
+fn build_in<'a>(buffer: &'a mut [u8], path: &DevicePath<'_>) -> Result<DevicePath<'a>, BuildError> {
+    let mut builder = DevicePathBuilder::with_buf(buffer);
+    for node in path.node_iter() {
+        builder = builder.push(&node)?;
+    }
+    builder.finalize()
+}
+
+/// Builds a path of the nodes of another one in a vector.
+fn build_boxed<A: Allocator>(
+    alloc: A,
+    path: &DevicePath<'_>,
+) -> Result<BoxedDevicePath<A>, BuildError> {
+    let mut builder = DevicePathVecBuilder::new(alloc);
+    for node in path.node_iter() {
+        builder = builder.push(&node)?;
+    }
+    builder.finalize()
+}
+
+/// Bytes that begin with a path, and the path that is built of its nodes.
+const REBUILT: [[&str; 2]; 4] = [
+    [TWO_INSTANCES, TWO_INSTANCES],
+    [CON_OUT, CON_OUT],
+    ["7f02 0400  7fff 0400  cc", "7f02 0400  7fff 0400"],
+    ["7fff 0600 aabb", "7fff 0400"],
+];
+
+/// Returns the path that is built of the nodes of the path that the bytes begin with.
+fn rebuilt(alloc: Global, input: &[u8]) -> Result<Vec<u8>, Fail> {
+    let mut buffer = vec![in alloc; 0xeeu8; 200]?;
+    let path = DevicePath::try_from(input)?;
+    let built = build_in(&mut buffer, &path).ok().ok_or("a path")?;
+    Ok(Vec::from_slice(alloc, built.as_bytes())?)
+}
+
+#[test]
+fn a_path_is_built_in_a_buffer(rt: HostRuntime) -> Result<(), Fail> {
+    each_makes(rt.alloc(), &REBUILT, rebuilt)
+}
+
+/// Returns the path that is built in a vector.
+fn rebuilt_boxed(alloc: Global, input: &[u8]) -> Result<Vec<u8>, Fail> {
+    let path = DevicePath::try_from(input)?;
+    let built = build_boxed(alloc, &path).ok().ok_or("a path")?;
+    Ok(Vec::from_slice(alloc, built.as_path().as_bytes())?)
+}
+
+#[test]
+fn a_path_is_built_in_a_vector(rt: HostRuntime) -> Result<(), Fail> {
+    each_makes(rt.alloc(), &REBUILT, rebuilt_boxed)
+}
+
+/// Returns the length of the path that is built in a vector; or `None` if memory ran out.
+fn built_length<A: Allocator>(alloc: A, path: &DevicePath<'_>) -> Option<usize> {
+    Some(build_boxed(alloc, path).ok()?.as_path().as_bytes().len())
+}
+
+#[test]
+fn a_vector_has_the_path_or_memory_was_refused(rt: HostRuntime) -> Result<(), Fail> {
+    let input = bytes(rt.alloc(), CON_OUT)?;
+    let path = DevicePath::try_from(input.as_slice())?;
+    takes_memory(rt.alloc(), &103, |heap| built_length(heap, &path))
+}
+
+/// Checks that a path that needs `needed` bytes for its next node isn't built in a buffer of fewer
+/// bytes, of which the first `written` have the nodes before it, and the others stay.
+fn stays_after(
+    alloc: Global,
+    path: &DevicePath<'_>,
+    size: usize,
+    written: usize,
+    needed: usize,
+) -> Result<(), Fail> {
+    let mut buffer = vec![in alloc; 0xeeu8; size]?;
+    let refused = build_in(&mut buffer, path).err();
+    same(
+        "the error",
+        &refused,
+        &Some(BuildError::BufferTooSmall(needed)),
+    )?;
+    let mut front = buffer.iter().zip(path.as_bytes()).take(written);
+    holds("the nodes", front.all(|pair| *pair.0 == *pair.1))?;
+    let mut rest = buffer.iter().skip(written);
+    holds("the other bytes", rest.all(|byte| *byte == 0xee))
+}
+
+/// The offsets at which the nodes of a path of two instances end.
+const ENDS: [usize; 7] = [0, 6, 14, 18, 24, 32, 36];
+
+#[test]
+fn a_buffer_that_is_too_short_keeps_its_bytes(rt: HostRuntime) -> Result<(), Fail> {
+    let input = bytes(rt.alloc(), TWO_INSTANCES)?;
+    let path = DevicePath::try_from(input.as_slice())?;
+    for (written, needed) in ENDS.iter().zip(ENDS.iter().skip(1)) {
+        for size in *written..*needed {
+            stays_after(rt.alloc(), &path, size, *written, *needed)?;
+        }
+    }
+    Ok(())
+}
+
+/// Returns the nodes in bytes, each as the error of a builder without room and of one in a vector.
+fn errors(alloc: Global, input: &[u8]) -> Result<(Option<BuildError>, Option<BuildError>), Fail> {
+    let node = DevicePathNode::try_from(input)?;
+    let mut none: [u8; 0] = [];
+    let in_buffer = DevicePathBuilder::with_buf(&mut none).push(&node).err();
+    let in_vector = DevicePathVecBuilder::new(alloc).push(&node).err();
+    Ok((in_buffer, in_vector))
+}
+
+#[test]
+fn an_end_entire_node_is_not_pushed(rt: HostRuntime) -> Result<(), Fail> {
+    let refused = Some(BuildError::EndEntire);
+    let rows = [
+        ("7fff 0400", (refused, refused)),
+        ("7fff 0600 aabb", (refused, refused)),
+        ("7f01 0400", (Some(BuildError::BufferTooSmall(4)), None)),
+    ];
+    for (row, expected) in rows {
+        let input = bytes(rt.alloc(), row)?;
+        same(row, &errors(rt.alloc(), input.as_slice())?, &expected)?;
+    }
+    Ok(())
+}
+
+/// A value that no node has.
+struct NoNode;
+
+impl BuildNode for NoNode {
+    ghost node = { λ _. record { device_type = 1; sub_type = 1; payload = [] } };
+
+    ghost is_valid = { λ _. ⊥ };
+
+    fn full_type(&self) -> (DeviceType, DeviceSubType) {
+        (DeviceType(1), DeviceSubType(1))
+    }
+
+    fn write(&self, _buffer: &mut [u8]) -> Result<usize, BuildError> {
+        Err(BuildError::Form)
+    }
+}
+
+#[test]
+fn a_value_without_a_node_is_not_pushed(rt: HostRuntime) -> Result<(), Fail> {
+    let input = bytes(rt.alloc(), TWO_INSTANCES)?;
+    let path = DevicePath::try_from(input.as_slice())?;
+    let node = path.node_iter().next().ok_or("a node")?;
+    let mut buffer = vec![in rt.alloc(); 0xeeu8; 16]?;
+    let mut builder = DevicePathBuilder::with_buf(&mut buffer);
+    same("a node", &builder.push_node(&node), &Ok(()))?;
+    same(
+        "no node",
+        &builder.push_node(&NoNode),
+        &Err(BuildError::Form),
+    )?;
+    same("the end", &builder.write_end(), &Ok(10))?;
+    let expected = bytes(rt.alloc(), "a0b0 0600 0a0b  7fff 0400  eeee eeee eeee")?;
+    same_bytes("the buffer", buffer.as_slice(), expected.as_slice())
+}
+
+#[test]
+fn a_vector_without_a_node_for_a_value_keeps_its_nodes(rt: HostRuntime) -> Result<(), Fail> {
+    let input = bytes(rt.alloc(), TWO_INSTANCES)?;
+    let path = DevicePath::try_from(input.as_slice())?;
+    let node = path.node_iter().next().ok_or("a node")?;
+    let mut builder = DevicePathVecBuilder::new(rt.alloc());
+    same("a node", &builder.push_node(&node), &Ok(()))?;
+    same(
+        "no node",
+        &builder.push_node(&NoNode),
+        &Err(BuildError::Form),
+    )?;
+    let built = builder.finalize().ok().ok_or("a path")?;
+    let expected = bytes(rt.alloc(), "a0b0 0600 0a0b  7fff 0400")?;
+    same_bytes("the path", built.as_path().as_bytes(), expected.as_slice())
+}

@@ -1,0 +1,30 @@
+-- What contracts see of builders.
+use Rattle.std.specs.Prelude.{◌≡◌, ℕ, List, length}
+use Rattle.std.specs.Borrow.{MutBor}
+use Rattle.uefi_path.specs.Node.{Node, joined}
+use Rattle.uefi_path.specs.declared.build.builder.DevicePathBuilder.{DevicePathBuilder}
+use Rattle.uefi_path.specs.declared.build.vec_builder.DevicePathVecBuilder.{DevicePathVecBuilder}
+
+-- The nodes that were pushed, in order.
+abbrev pub built_nodes : DevicePathBuilder → List Node
+built_nodes builder = builder.nodes.0
+
+-- The length of their encodings.
+abbrev pub built_length : DevicePathBuilder → ℕ
+built_length builder = length (joined (built_nodes builder))
+
+-- All bytes of the buffer.
+abbrev pub builder_bytes : DevicePathBuilder → List ℕ
+builder_bytes builder = builder.buffer.now
+
+-- The builder writes to what the reference borrows.
+abbrev pub WritesTo : MutBor (List ℕ) → DevicePathBuilder → Type 0
+WritesTo buffer builder = builder.buffer.ghost_name ≡ buffer.ghost_name
+
+-- Both builders write to what one reference borrows.
+abbrev pub WriteToTheSame : DevicePathBuilder → DevicePathBuilder → Type 0
+WriteToTheSame one other = other.buffer.ghost_name ≡ one.buffer.ghost_name
+
+-- The nodes that were pushed onto the builder over a vector, in order.
+abbrev pub vec_built_nodes : {A : Type 0} → DevicePathVecBuilder A → List Node
+vec_built_nodes builder = builder.nodes.0
