@@ -3,3 +3,5 @@ pub mod Readings
 pub mod Parts
 pub mod Written
 pub mod Signatures
+pub mod NulStrings
+pub mod RestServices

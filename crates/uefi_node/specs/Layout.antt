@@ -1,6 +1,6 @@
 -- The layout of a type of nodes (UEFI 2.10, 10.3): its numbers, the fields of its data at fixed offsets, and what
 -- follows them.
-use Rattle.std.specs.Prelude.{ℕ, ◌≡◌, ◌<◌, ◌≤◌, ◌+◌, ◌-◌, ◌%◌, ◌^◌, List, [], ◌∷◌, ◌++◌, length, Bool, true, IsTrue}
+use Rattle.std.specs.Prelude.{ℕ, ◌≡◌, ◌<◌, ◌≤◌, ◌+◌, ◌-◌, ◌%◌, ◌^◌, List, [], ◌∷◌, ◌++◌, length, Bool, true, IsTrue, Option, Some, None}
 use Rattle.std.specs.Int.{Width, w16, w32, w64, to_le_bytes}
 use Rattle.std.specs.List.{AllByRecursion}
 use Rattle.uefi_base.specs.Unaligned.{AreUnits, unit_bytes}
@@ -18,14 +18,15 @@ pub data Field (R : Type 0) : Type 0 where
   number : Size → (R → ℕ) → Field R
   array : ℕ → (R → List ℕ) → Field R
 
--- What follows the fields: nothing; any bytes; units of 16 bits; the bytes of one or more numbers of four bytes; or the
--- bytes of addresses, of 16 each.
+-- What follows the fields: nothing; any bytes; units of 16 bits; the bytes of one or more numbers of four bytes; the
+-- bytes of addresses, of 16 each; or a GUID and any bytes, if the value has them, and else nothing.
 pub data Rest (R : Type 0) : Type 0 where
   nothing : Rest R
   bytes : (R → List ℕ) → Rest R
   units : (R → List ℕ) → Rest R
   numbers : (R → List ℕ) → Rest R
   addresses : (R → List ℕ) → Rest R
+  vendor : (R → Option (List ℕ × List ℕ)) → Rest R
 
 -- A type of nodes: its type and subtype, the layout of its data, and which values it has.
 pub record Layout (R : Type 0) : Type 0 where
@@ -87,6 +88,16 @@ abbrev pub fields_bytes : {R : Type 0} → List (Field R) → R → List ℕ
 fields_bytes [] r = []
 fields_bytes (f ∷ fs) r = field_bytes f r ++ fields_bytes fs r
 
+-- The bytes of a GUID and what follows it, or none.
+abbrev pub vendor_bytes : Option (List ℕ × List ℕ) → List ℕ
+vendor_bytes None = []
+vendor_bytes (Some (guid, more)) = guid ++ more
+
+-- The GUID has 16 bytes.
+abbrev pub IsVendor : Option (List ℕ × List ℕ) → Type 0
+IsVendor None = Unit
+IsVendor (Some (guid, more)) = length guid ≡ 16
+
 -- The bytes that follow the fields.
 abbrev pub rest_bytes : {R : Type 0} → Rest R → R → List ℕ
 rest_bytes nothing r = []
@@ -94,6 +105,7 @@ rest_bytes (bytes get) r = get r
 rest_bytes (units get) r = unit_bytes (get r)
 rest_bytes (numbers get) r = get r
 rest_bytes (addresses get) r = get r
+rest_bytes (vendor get) r = vendor_bytes (get r)
 
 -- So many bytes can follow the fields.
 abbrev pub RestLength : {R : Type 0} → Rest R → ℕ → Type 0
@@ -102,6 +114,7 @@ RestLength (bytes get) n = Unit
 RestLength (units get) n = n % 2 ≡ 0
 RestLength (numbers get) n = (4 ≤ n) × (n % 4 ≡ 0)
 RestLength (addresses get) n = n % 16 ≡ 0
+RestLength (vendor get) n = Unit
 
 -- The value fits what follows the fields.
 abbrev pub RestFits : {R : Type 0} → Rest R → R → Type 0
@@ -110,6 +123,7 @@ RestFits (bytes get) r = Unit
 RestFits (units get) r = AreUnits (get r)
 RestFits (numbers get) r = (4 ≤ length (get r)) × (length (get r) % 4 ≡ 0)
 RestFits (addresses get) r = length (get r) % 16 ≡ 0
+RestFits (vendor get) r = IsVendor (get r)
 
 -- The type has the value, whatever numbers its fields are.
 abbrev pub IsValue : {R : Type 0} → Layout R → R → Type 0

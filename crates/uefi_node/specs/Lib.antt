@@ -6,7 +6,9 @@ pub mod Flags
 pub mod End
 pub mod Hardware
 pub mod Acpi
+pub mod Expanded
 pub mod Messaging
+pub mod RestServices
 pub mod Media
 pub mod BiosBootSpec
 pub mod Laws

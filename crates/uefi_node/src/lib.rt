@@ -11,4 +11,5 @@ pub mod hardware;
 pub mod media;
 pub mod messaging;
 mod read;
+mod strings;
 mod write;

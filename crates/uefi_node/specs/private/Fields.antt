@@ -13,9 +13,9 @@ use Rattle.uefi_path.specs.declared.build.error.BuildError.TheVariants.{Form as 
 use Rattle.uefi_node.specs.declared.read.RestKind.{RestKind}
 use Rattle.uefi_node.specs.declared.read.RestKind.TheVariants.{Nothing, Bytes, Units, Numbers, Addresses}
 use Rattle.uefi_node.specs.declared.write.Tail.{Tail}
-use Rattle.uefi_node.specs.declared.write.Tail.TheVariants.{Bytes as TailBytes, Units as TailUnits}
-use Rattle.uefi_node.specs.Layout.{Size, Field, byte, number, array, Rest, nothing, bytes, units, numbers, addresses, Layout}
-use Rattle.uefi_node.specs.Layout.{width, size_of, field_size, fields_size, FitsLayout, value_bytes}
+use Rattle.uefi_node.specs.declared.write.Tail.TheVariants.{Bytes as TailBytes, Parts as TailParts, Units as TailUnits}
+use Rattle.uefi_node.specs.Layout.{Size, Field, byte, number, array, Rest, nothing, bytes, units, numbers, addresses, vendor, Layout}
+use Rattle.uefi_node.specs.Layout.{width, size_of, field_size, fields_size, vendor_bytes, IsVendor, FitsLayout, value_bytes}
 
 -- The number in bytes at an offset.
 abbrev pub number_at : Size → List ℕ → ℕ → ℕ
@@ -38,6 +38,7 @@ RestIs (bytes get) r b = get r ≡ b
 RestIs (units get) r b = get r ≡ units_of b
 RestIs (numbers get) r b = get r ≡ b
 RestIs (addresses get) r b = get r ≡ b
+RestIs (vendor get) r b = IsVendor (get r) × (vendor_bytes (get r) ≡ b)
 
 -- The bytes have the value.
 pub record HasValue {R : Type 0} (l : Layout R) (r : R) (b : List ℕ) : Type 0 where
@@ -67,6 +68,7 @@ kind_of (bytes get) = Bytes
 kind_of (units get) = Units
 kind_of (numbers get) = Numbers
 kind_of (addresses get) = Addresses
+kind_of (vendor get) = Bytes
 
 -- The layout has these numbers.
 pub record IsLayout {R : Type 0} (l : Layout R) (t s n : ℕ) (kind : RestKind) : Type 0 where
@@ -75,15 +77,16 @@ pub record IsLayout {R : Type 0} (l : Layout R) (t s n : ℕ) (kind : RestKind) 
   pub size : fields_size l.fields ≡ n
   pub rest : kind_of l.rest ≡ kind
 
--- The bytes of what a writer puts after the fields.
-abbrev pub tail_bytes : Tail → List ℕ
-tail_bytes (TailBytes b) = b.now
-tail_bytes (TailUnits slice) = unit_bytes (slice_units slice)
-
 -- The bytes of the parts, in order.
 abbrev pub parts_bytes : List (Bor (List ℕ)) → List ℕ
 parts_bytes [] = []
 parts_bytes (part ∷ parts) = part.now ++ parts_bytes parts
+
+-- The bytes of what a writer puts after the fields.
+abbrev pub tail_bytes : Tail → List ℕ
+tail_bytes (TailBytes b) = b.now
+tail_bytes (TailParts parts) = parts_bytes parts.now
+tail_bytes (TailUnits slice) = unit_bytes (slice_units slice)
 
 -- A node of this length is too long for a header, or for a buffer of this length.
 abbrev pub HasLengthFault : ℕ → ℕ → BuildError → Type 0
