@@ -15,10 +15,9 @@ use Rattle.uefi_path.specs.Node.{Node}
 use Rattle.uefi_node.specs.Layout.{Size, two, four, eight, Field, byte, number, array}
 use Rattle.uefi_node.specs.Layout.{Rest, nothing, bytes, units, numbers, addresses, vendor, vendor_bytes, IsVendor}
 use Rattle.uefi_node.specs.Layout.{Layout, width, size_of, limit, field_size, field_bytes, FieldFits, fields_size, fields_bytes}
-use Rattle.uefi_node.specs.Layout.{rest_bytes, RestLength, RestFits, FitsLayout, value_bytes, node_as}
+use Rattle.uefi_node.specs.Layout.{rest_bytes, kind_of, RestLength, RestFits, HasForm, FitsLayout, value_bytes, node_as}
 use Rattle.uefi_node.specs.Laws.{SameField, SameRest, SameValue, OneValue}
-use Rattle.uefi_node.specs.private.Fields.{FieldAt, FieldsAt, RestIs, HasValue, RestLengthOf, HasLengthOf, kind_of}
-use Rattle.uefi_node.specs.declared.read.RestKind.{RestKind}
+use Rattle.uefi_node.specs.private.Fields.{FieldAt, FieldsAt, RestIs, HasValue}
 
 -- Numbers: the length of their bytes, those that are read, and those that were written.
 number_len : (size : Size) (n : ℕ) → length (to_le_bytes (width size) n) ≡ size_of size
@@ -153,7 +152,7 @@ AreBytes-drop n b fits i = rw get_or-drop (fits (n + i))
 
 -- The rest that bytes go on with.
 rest_read : {R : Type 0} (rest : Rest R) (r : R) (n : ℕ) (b : List ℕ) → AreBytes b → n ≤ length b
-    → RestLength rest (length b - n) → RestIs rest r (drop n b) → RestFits rest r × (rest_bytes rest r ≡ drop n b)
+    → RestLength (kind_of rest) (length b - n) → RestIs rest r (drop n b) → RestFits rest r × (rest_bytes rest r ≡ drop n b)
 rest_read nothing r n b each room long is = (tt, sym (none_left b n (omega (arith, room, long))))
 rest_read (bytes get) r n b each room long is = (tt, is)
 rest_read (units get) r n b each room long is =
@@ -170,17 +169,18 @@ rest_read (vendor get) r n b each room long is = is
 
 -- Bytes that have a value are those of the value.
 pub value_read : {R : Type 0} (l : Layout R) (r : R) (b : List ℕ) → AreBytes b → fields_size l.fields ≤ length b
-    → RestLength l.rest (length b - fields_size l.fields) → HasValue l r b → FitsLayout l r × (b ≡ value_bytes l r)
+    → RestLength (kind_of l.rest) (length b - fields_size l.fields) → HasValue l r b → FitsLayout l r × (b ≡ value_bytes l r)
 unfolding value_bytes
 value_read l r b each room long has =
     let read = front_read l.fields r b each room has.fields in
-    let rest = rest_read l.rest r (fields_size l.fields) b each room long has.rest in (
-      record { fields = read.0; rest = rest.0; value = has.value },
-      sym read.1 ∙ ap (λ tail. fields_bytes l.fields r ++ tail) (sym rest.1),
+    let rest = rest_read l.rest r (fields_size l.fields) b each room long has.rest in
+    let same : b ≡ value_bytes l r = sym read.1 ∙ ap (λ tail. fields_bytes l.fields r ++ tail) (sym rest.1) in (
+      record { fields = read.0; rest = rest.0; value = has.value; form = subst (HasForm l.form) same has.form },
+      same,
     )
 
 -- The bytes of a value have a length of the type.
-rest_sized : {R : Type 0} (rest : Rest R) (r : R) → RestFits rest r → RestLength rest (length (rest_bytes rest r))
+rest_sized : {R : Type 0} (rest : Rest R) (r : R) → RestFits rest r → RestLength (kind_of rest) (length (rest_bytes rest r))
 rest_sized nothing r fits = refl
 rest_sized (bytes get) r fits = tt
 rest_sized (units get) r fits = omega (arith, units_read_back.sized (get r))
@@ -189,7 +189,7 @@ rest_sized (addresses get) r fits = fits
 rest_sized (vendor get) r fits = tt
 
 pub value_sized : {R : Type 0} (l : Layout R) (r : R) (b : List ℕ) → FitsLayout l r → b ≡ value_bytes l r
-    → (fields_size l.fields ≤ length b) × RestLength l.rest (length b - fields_size l.fields)
+    → (fields_size l.fields ≤ length b) × RestLength (kind_of l.rest) (length b - fields_size l.fields)
 unfolding value_bytes
 value_sized l r b fits is =
     let front : length (fields_bytes l.fields r) ≡ fields_size l.fields = length-fields_bytes l.fields r fits.fields in
@@ -197,24 +197,7 @@ value_sized l r b fits is =
     let long : length b ≡ fields_size l.fields + length tail =
     ap length is ∙ length-append (fields_bytes l.fields r) tail ∙ ap (λ n. n + length tail) front in
     let after : length tail ≡ length b - fields_size l.fields = omega (arith, long) in
-    (omega (arith, long), subst (RestLength l.rest) after (rest_sized l.rest r fits.rest))
-
--- The length of a layout by its numbers.
-pub rest_given : {R : Type 0} (rest : Rest R) (n : ℕ) → RestLengthOf (kind_of rest) n → RestLength rest n
-rest_given nothing n h = h
-rest_given (bytes get) n h = h
-rest_given (units get) n h = h
-rest_given (numbers get) n h = h
-rest_given (addresses get) n h = h
-rest_given (vendor get) n h = h
-
-pub rest_known : {R : Type 0} (rest : Rest R) (n : ℕ) → RestLength rest n → RestLengthOf (kind_of rest) n
-rest_known nothing n h = h
-rest_known (bytes get) n h = h
-rest_known (units get) n h = h
-rest_known (numbers get) n h = h
-rest_known (addresses get) n h = h
-rest_known (vendor get) n h = h
+    (omega (arith, long), subst (RestLength (kind_of l.rest)) after (rest_sized l.rest r fits.rest))
 
 -- A node is that of one value.
 same_field : {R : Type 0} (f : Field R) (a c : R) (b : List ℕ) (offset : ℕ) → FieldAt f a b offset

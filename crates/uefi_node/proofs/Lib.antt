@@ -4,4 +4,3 @@ pub mod Parts
 pub mod Written
 pub mod Signatures
 pub mod NulStrings
-pub mod RestServices

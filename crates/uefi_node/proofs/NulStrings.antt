@@ -8,10 +8,7 @@ use Rattle.std.specs.List.{list_all, prefix_len}
 use Rattle.std.proofs.Math.Dec.{eqb-suc-zero}
 use Rattle.std.proofs.lemmas.List.{take_all, drop_more, drop-drop}
 use Rattle.std.proofs.lemmas.List.Sums.{prefix_len_stops}
-use Rattle.uefi_node.specs.Layout.{IsValue}
-use Rattle.uefi_node.specs.Expanded.{is_without_nul, strings_bytes, expanded}
-use Rattle.uefi_node.specs.declared.acpi.expanded.Expanded.{Expanded}
-use Rattle.uefi_node.specs.private.Strings.{AreStrings}
+use Rattle.uefi_node.specs.NulStrings.{is_without_nul, strings_bytes, AreStrings}
 
 -- What passes a test before the first that doesn't.
 before_first : (p : ℕ → Bool) (xs : List ℕ) → list_all p (take (prefix_len p xs) xs) ≡ true
@@ -112,16 +109,3 @@ after_second bytes string rest second third own is its are = (one_string string 
 pub after_third : (bytes string rest third : List ℕ) → IsTrue (is_without_nul string) → bytes ≡ string ++ 0 ∷ rest
     → IsTrue (is_without_nul third) → bytes ≡ third ++ 0 ∷ [] → rest ≡ []
 after_third bytes string rest third own is its are = (one_string string third rest [] own its (sym is ∙ are)).1
-
--- The strings of a value.
-pub are_strings : (bytes : List ℕ) (e : Expanded) → IsValue expanded e
-    → bytes ≡ strings_bytes e.hid_str.now e.uid_str.now e.cid_str.now
-    → AreStrings bytes e.hid_str.now e.uid_str.now e.cid_str.now
-are_strings bytes e own is =
-    let both = left_true (is_without_nul e.hid_str.now && is_without_nul e.uid_str.now) (is_without_nul e.cid_str.now) own in
-    record {
-      first_string = left_true _ (is_without_nul e.uid_str.now) both;
-      second_string = right_true (is_without_nul e.hid_str.now) _ both;
-      third_string = right_true (is_without_nul e.hid_str.now && is_without_nul e.uid_str.now) _ own;
-      joined = is;
-    }

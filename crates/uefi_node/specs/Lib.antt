@@ -1,3 +1,4 @@
+pub mod NulStrings
 pub mod Layout
 pub mod Reading
 pub mod Signature

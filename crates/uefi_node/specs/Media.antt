@@ -2,7 +2,7 @@
 use Rattle.std.specs.Prelude.{[], ◌∷◌}
 use Rattle.uefi_base.specs.Views.{slice_units}
 use Rattle.uefi_node.specs.Signature.{type_of_signature, signature_bytes, is_signature}
-use Rattle.uefi_node.specs.Layout.{Layout, layout, byte, number, array, two, four, eight, nothing, bytes, units}
+use Rattle.uefi_node.specs.Layout.{Layout, layout, byte, number, array, two, four, eight, nothing, bytes, units, any}
 use Rattle.uefi_node.specs.declared.media.hard_drive.HardDrive.{HardDrive}
 use Rattle.uefi_node.specs.declared.media.cd_rom.CdRom.{CdRom}
 use Rattle.uefi_node.specs.declared.media.vendor.Vendor.{Vendor}
@@ -27,6 +27,7 @@ hard_drive = record {
       ∷ byte (λ h. type_of_signature h.partition_signature)
       ∷ [];
   rest = nothing;
+  form = any;
   is_value = λ h. is_signature h.partition_signature;
 }
 

@@ -2,7 +2,7 @@
 use Rattle.std.specs.Prelude.{ℕ, Bool, true, false, not, ◌==◌, List, [], ◌∷◌, Option, Some, None}
 use Rattle.std.specs.Borrow.{Bor}
 use Rattle.uefi_base.specs.declared.guid.Guid.{Guid}
-use Rattle.uefi_node.specs.Layout.{Layout, byte, vendor}
+use Rattle.uefi_node.specs.Layout.{Layout, byte, vendor, vendor_or_none}
 use Rattle.uefi_node.specs.declared.messaging.rest_service.RestService.{RestService}
 
 -- The number of the type whose services have a GUID and data.
@@ -26,5 +26,6 @@ rest_service = record {
   sub_type = 33;
   fields = byte (λ r. r.service_type.0) ∷ byte (λ r. r.access_mode.0) ∷ [];
   rest = vendor (λ r. guid_and_data r.vendor_guid_and_data);
+  form = vendor_or_none;
   is_value = λ r. is_vendor r.service_type.0 r.vendor_guid_and_data;
 }

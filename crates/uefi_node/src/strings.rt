@@ -1,7 +1,7 @@
 //! Strings that end with a NUL each.
 
 ghost use Rattle.std.specs.Prelude.{◌≡◌, ◌==◌, ◌++◌, ◌∷◌, position, IsTrue, IfSome, IfNone};
-ghost use Rattle.uefi_node.specs.Expanded.{is_without_nul};
+ghost use Rattle.uefi_node.specs.NulStrings.{is_without_nul};
 ghost use Rattle.uefi_node.specs.private.Strings.{TakesStrings};
 
 /// Returns whether no byte is a NUL.

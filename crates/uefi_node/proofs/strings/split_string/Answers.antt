@@ -1,5 +1,5 @@
 use Rattle.std.proofs.Common.{◌∷◌, ◌++◌, drop, ◌∙◌, sym, ap}
-use Rattle.uefi_node.specs.Expanded.{is_without_nul}
+use Rattle.uefi_node.specs.NulStrings.{is_without_nul}
 use Rattle.uefi_node.proofs.NulStrings.{no_nul_found, no_nul_before, nul_between}
 use Rattle.uefi_node.proofs.strings.split_string.Goals as goal
 
