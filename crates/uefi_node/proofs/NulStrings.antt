@@ -15,7 +15,7 @@ before_first : (p : ℕ → Bool) (xs : List ℕ) → list_all p (take (prefix_l
 before_first p [] = refl
 before_first p (x ∷ xs) =
     elim (p x) as (λ b. p x ≡ b → list_all p (take (cond b (1 + prefix_len p xs) 0) (x ∷ xs)) ≡ true) [
-      true ↦ λ passes.
+      | true ↦ λ passes.
           let next : 1 + prefix_len p xs ≡ suc (prefix_len p xs) = omega arith in
           ap (λ n. list_all p (take n (x ∷ xs))) next ∙ (λ i. passes i && before_first p xs i)
       | false ↦ λ fails. refl
@@ -26,7 +26,7 @@ pub no_nul_found : (xs : List ℕ) → position (λ byte. byte == 0) xs ≡ None
 no_nul_found xs none =
     let n : ℕ = prefix_len (λ byte. not (byte == 0)) xs in
     elim (nat_lt n (length xs)) as (λ b. nat_lt n (length xs) ≡ b → cond b (Some n) None ≡ None → is_without_nul xs ≡ true) [
-      true ↦ λ within some. absurd cc
+      | true ↦ λ within some. absurd cc
       | false ↦ λ past same.
           let all : take n xs ≡ xs = take_all n xs (grind (arith, nat_tests, past)) in
           ap is_without_nul (sym all) ∙ before_first (λ byte. not (byte == 0)) xs
@@ -36,7 +36,7 @@ pub no_nul_before : (xs : List ℕ) (k : ℕ) → position (λ byte. byte == 0) 
 no_nul_before xs k some =
     let n : ℕ = prefix_len (λ byte. not (byte == 0)) xs in
     elim (nat_lt n (length xs)) as (λ b. cond b (Some n) None ≡ Some k → is_without_nul (take k xs) ≡ true) [
-      true ↦ λ found.
+      | true ↦ λ found.
           let same : n ≡ k = cc in
           ap (λ m. is_without_nul (take m xs)) (sym same) ∙ before_first (λ byte. not (byte == 0)) xs
       | false ↦ λ found. absurd cc
@@ -53,15 +53,15 @@ pub nul_between : (xs : List ℕ) (k : ℕ) → position (λ byte. byte == 0) xs
 nul_between xs k some =
     let n : ℕ = prefix_len (λ byte. not (byte == 0)) xs in
     elim (nat_lt n (length xs)) as (λ b. nat_lt n (length xs) ≡ b → cond b (Some n) None ≡ Some k
-        → xs ≡ take k xs ++ 0 ∷ drop 1 (drop k xs)) [
-      true ↦ λ test found.
+    → xs ≡ take k xs ++ 0 ∷ drop 1 (drop k xs)) [
+      | true ↦ λ test found.
           let same : n ≡ k = cc in
           let within : n < length xs = grind (arith, nat_tests, test) in
           let nul : get_or xs n 0 ≡ 0 = is_nul _ (prefix_len_stops (λ byte. not (byte == 0)) xs 0 within) in
           let after : drop n xs ≡ 0 ∷ drop 1 (drop n xs) =
           drop_more xs n 0 within ∙ (λ i. nul i ∷ sym (drop-drop 1 n xs) i) in
           subst (λ m. xs ≡ take m xs ++ 0 ∷ drop 1 (drop m xs)) same
-              (sym (take-append-drop n xs) ∙ ap (λ rest. take n xs ++ rest) after)
+          (sym (take-append-drop n xs) ∙ ap (λ rest. take n xs ++ rest) after)
       | false ↦ λ test found. absurd cc
     ] refl some
 

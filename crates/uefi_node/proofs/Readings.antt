@@ -60,10 +60,10 @@ pub length_given : {R : Type 0} (l : Layout R) (t s n : ℕ) (kind : RestKind) (
     → HasLengthOf n kind (length b) → HasLength l b
 length_given l t s n kind b is long =
     subst (λ k. HasLengthOf (fields_size l.fields) k (length b)) (sym is.rest)
-        (subst (λ m. HasLengthOf m kind (length b)) (sym is.size) long)
+    (subst (λ m. HasLengthOf m kind (length b)) (sym is.size) long)
 
 pub length_known : {R : Type 0} (l : Layout R) (t s n : ℕ) (kind : RestKind) (b : List ℕ) → IsLayout l t s n kind
     → HasLength l b → HasLengthOf n kind (length b)
 length_known l t s n kind b is long =
     subst (λ k. HasLengthOf n k (length b)) is.rest
-        (subst (λ m. HasLengthOf m (kind_of l.rest) (length b)) is.size long)
+    (subst (λ m. HasLengthOf m (kind_of l.rest) (length b)) is.size long)

@@ -12,5 +12,6 @@ pub mod Messaging
 pub mod RestServices
 pub mod Media
 pub mod BiosBootSpec
+pub mod NodeEnum
 pub mod Laws
 pub mod private

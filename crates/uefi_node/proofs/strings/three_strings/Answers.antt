@@ -17,7 +17,7 @@ returns-in_default-split_string-2 c = record {
   none = λ first second third are.
       let rest = after_first _ _ _ first second third c.in-Some.ensures.string c.in-Some.ensures.split are in
       let last = after_second _ _ _ second third c.in-Some-split_string.ensures.string
-          c.in-Some-split_string.ensures.split are.second_string rest in
+      c.in-Some-split_string.ensures.split are.second_string rest in
       no_string _ third _ c.in_default-split_string-2.ensures.none last;
 }
 
@@ -27,9 +27,9 @@ returns-then-not-is_empty c = record {
   none = λ first second third are.
       let rest = after_first _ _ _ first second third c.in-Some.ensures.string c.in-Some.ensures.split are in
       let last = after_second _ _ _ second third c.in-Some-split_string.ensures.string
-          c.in-Some-split_string.ensures.split are.second_string rest in
+      c.in-Some-split_string.ensures.split are.second_string rest in
       let nothing = after_third _ _ _ third c.in-Some-split_string-2.ensures.string
-          c.in-Some-split_string-2.ensures.split are.third_string last in
+      c.in-Some-split_string-2.ensures.split are.third_string last in
       let never : true ≡ false = sym (ap (λ b. length b == 0) nothing) ∙ sym c.is_empty.ensures ∙ c.if-not-is_empty.true in
       absurd cc;
 }
