@@ -6,6 +6,7 @@ pub mod calls;
 pub mod configuration;
 pub mod file;
 pub mod map;
+pub mod partition;
 pub mod path;
 pub mod register;
 pub mod resources;
