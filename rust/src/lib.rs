@@ -47,9 +47,21 @@ pub mod proto {
     //! Formats that protocols of firmware hand out.
 
     pub mod device_path {
-        //! Device paths (UEFI 2.10, chapter 10). Begin with [`DevicePath::try_from`].
+        //! Device paths (UEFI 2.10, chapter 10). Begin with [`DevicePath::try_from`], or with
+        //! [`build::DevicePathBuilder`].
 
+        pub use crate::formats::uefi_node::*;
         pub use crate::formats::uefi_path::*;
+
+        pub mod build {
+            //! Device paths that are built node by node. Begin with [`DevicePathBuilder::with_buf`].
+
+            /// The types of nodes, where `uefi` has those to build: here a type is read and built.
+            pub use crate::formats::uefi_node::{
+                acpi, bios_boot_spec, end, hardware, media, messaging,
+            };
+            pub use crate::formats::uefi_path::build::*;
+        }
     }
 
     pub mod tcg {

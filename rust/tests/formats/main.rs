@@ -43,6 +43,9 @@ mod uefi_map {
     pub use uefi_formats::mem::memory_map::*;
     pub use uefi_formats::proto::pci::*;
 }
+mod uefi_node {
+    pub use uefi_formats::proto::device_path::*;
+}
 mod uefi_path {
     pub use uefi_formats::proto::device_path::*;
 }
