@@ -2,7 +2,7 @@
 //!
 //! | module | reads |
 //! |---|---|
-//! | [`proto::device_path`] | device paths |
+//! | [`proto::device_path`] | device paths, their nodes by type, and load options |
 //! | [`proto::tcg`] | event logs of measured boot |
 //! | [`proto::hii::config_str`] | HII configuration strings |
 //! | [`proto::media::file`] | file information records |
