@@ -1,14 +1,17 @@
-ghost use Rattle.std.specs.Prelude.{◌≡◌, ◌↔◌, List, ◌++◌, length, map, flat_map, slice_get, option_map, string_bytes, IsTrue, IfOk, OnErr};
+ghost use Rattle.std.specs.Prelude.{◌≡◌, ◌↔◌, ◌+◌, List, [], ◌∷◌, ◌++◌, length, map, flat_map, slice_get, option_map, string_bytes, IsTrue, IfOk, OnOk, OnErr};
+ghost use Rattle.uefi_base.specs.Buffer.{put_at};
 ghost use Rattle.uefi_base.specs.Prefix.{IsPrefix};
-ghost use Rattle.uefi_path.specs.Node.{Node, joined};
+ghost use Rattle.uefi_path.specs.Node.{Node, encoding, joined, end_entire};
 ghost use Rattle.uefi_path.specs.Path.{IsPath, HasPath, AreInstances, all_but_last};
 ghost use Rattle.uefi_path.specs.Texts.{node_text};
-ghost use Rattle.uefi_path.specs.Views.{node_of, header_of, path_nodes, path_bytes, instance_nodes};
+ghost use Rattle.uefi_path.specs.Views.{node_of, header_of, path_nodes, path_bytes, instance_nodes, boxed_nodes};
 
 use std::alloc::{AllocError, Global};
+use uefi_path::build::{BuildError, DevicePathBuilder, DevicePathVecBuilder};
 use uefi_path::laws::one_front;
 use uefi_path::{
-    ByteConversionError, DevicePath, DevicePathHeader, DevicePathInstance, DevicePathNode,
+    BoxedDevicePath, ByteConversionError, DevicePath, DevicePathHeader, DevicePathInstance,
+    DevicePathNode,
 };
 
 /// Returns the first node of the path that `bytes` start with, if a node precedes its end.
@@ -137,4 +140,49 @@ pub fn have_same_parts(
 {
     one_front();
     path.as_bytes() == other.as_bytes() && rest == other_rest
+}
+
+/// Builds a path of the two nodes in the buffer.
+pub fn path_of_two<'a>(
+    buffer: &'a mut [u8],
+    first: &DevicePathNode<'_>,
+    second: &DevicePathNode<'_>,
+) -> Result<DevicePath<'a>, BuildError>
+    ensures { IfOk result (λ path. path_nodes path
+        ≡ node_of first.now ∷ node_of second.now ∷ end_entire ∷ []) }
+{
+    DevicePathBuilder::with_buf(buffer)
+        .push(first)?
+        .push(second)?
+        .finalize()
+}
+
+/// Builds a path of the node in a vector.
+pub fn boxed_path_of(
+    alloc: Global,
+    node: &DevicePathNode<'_>,
+) -> Result<BoxedDevicePath, BuildError>
+    ensures { IfOk result (λ boxed. boxed_nodes boxed ≡ node_of node.now ∷ end_entire ∷ []) }
+{
+    DevicePathVecBuilder::new(alloc).push(node)?.finalize()
+}
+
+/// Writes a path of the node to the start of the buffer, and returns its length.
+pub fn write_path_of(buffer: &mut [u8], node: &DevicePathNode<'_>) -> Result<usize, BuildError>
+    ensures length { IfOk result (λ n. n ≡ length (encoding (node_of node.now)) + 4) }
+    ensures written { OnOk result (buffer.new ≡ put_at (length (encoding (node_of node.now)))
+        (encoding end_entire) (put_at 0 (encoding (node_of node.now)) buffer.old)) }
+{
+    let mut builder = DevicePathBuilder::with_buf(buffer);
+    builder.push_node(node)?;
+    builder.write_end()
+}
+
+/// Writes the node to the start of the buffer, if it fits, and returns whether it does.
+pub fn push_if_it_fits(buffer: &mut [u8], node: &DevicePathNode<'_>) -> bool
+    ensures fits { IsTrue result → buffer.new ≡ put_at 0 (encoding (node_of node.now)) buffer.old }
+    ensures other { ¬ IsTrue result → buffer.new ≡ buffer.old }
+{
+    let mut builder = DevicePathBuilder::with_buf(buffer);
+    builder.push_node(node).is_ok()
 }

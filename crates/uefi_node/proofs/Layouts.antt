@@ -1,11 +1,11 @@
 -- Values in bytes: their fields, one after another, and what follows them.
 use Rattle.std.proofs.Common.{◌≡◌, ℕ, zero, suc, ◌+◌, ◌-◌, ◌%◌, ◌<◌, ◌≤◌, List, [], ◌∷◌, ◌++◌, length, drop, get_or}
-use Rattle.std.proofs.Common.{refl, sym, ◌∙◌, ap, subst, arith, lit<, length-append, length-drop, take-append-drop, append_assoc, Ok, Err}
+use Rattle.std.proofs.Common.{refl, sym, ◌∙◌, ap, subst, arith, lit<, length-append, length-drop, take-append-drop, append_assoc, take}
 use Rattle.std.proofs.lemmas.List.{take_at, drop_at, drop-drop, drop_more, get_or-drop, nil_from_length}
 use Rattle.std.proofs.lemmas.Nat.{le_bytes_2, le_bytes_4, le_bytes_8}
 use Rattle.std.proofs.lemmas.Nat.{from_le_bytes-to_le_bytes_2, from_le_bytes-to_le_bytes_4, from_le_bytes-to_le_bytes_8}
 use Rattle.std.specs.Int.{from_le_bytes, to_le_bytes}
-use Rattle.std.specs.Prelude.{slice_range}
+use Rattle.std.specs.Prelude.{slice_range, Option, Some, None}
 use Rattle.std.specs.List.{AllByRecursion}
 use Rattle.uefi_base.specs.LittleEndian.{AreBytes}
 use Rattle.uefi_base.specs.Unaligned.{AreUnits, units_of, unit_bytes}
@@ -13,12 +13,11 @@ use Rattle.uefi_base.proofs.NumbersBack.{AreBytes-range, length-range}
 use Rattle.uefi_base.proofs.UnitsBack.{units_read_back}
 use Rattle.uefi_path.specs.Node.{Node}
 use Rattle.uefi_node.specs.Layout.{Size, two, four, eight, Field, byte, number, array}
-use Rattle.uefi_node.specs.Layout.{Rest, nothing, bytes, units, numbers, addresses}
+use Rattle.uefi_node.specs.Layout.{Rest, nothing, bytes, units, numbers, addresses, vendor, vendor_bytes, IsVendor}
 use Rattle.uefi_node.specs.Layout.{Layout, width, size_of, limit, field_size, field_bytes, FieldFits, fields_size, fields_bytes}
-use Rattle.uefi_node.specs.Layout.{rest_bytes, RestLength, RestFits, FitsLayout, value_bytes, node_as}
+use Rattle.uefi_node.specs.Layout.{rest_bytes, kind_of, RestLength, RestFits, HasForm, FitsLayout, value_bytes, node_as}
 use Rattle.uefi_node.specs.Laws.{SameField, SameRest, SameValue, OneValue}
-use Rattle.uefi_node.specs.private.Fields.{FieldAt, FieldsAt, RestIs, HasValue, RestLengthOf, HasLengthOf, kind_of}
-use Rattle.uefi_node.specs.declared.read.RestKind.{RestKind}
+use Rattle.uefi_node.specs.private.Fields.{FieldAt, FieldsAt, RestIs, HasValue}
 
 -- Numbers: the length of their bytes, those that are read, and those that were written.
 number_len : (size : Size) (n : ℕ) → length (to_le_bytes (width size) n) ≡ size_of size
@@ -153,7 +152,7 @@ AreBytes-drop n b fits i = rw get_or-drop (fits (n + i))
 
 -- The rest that bytes go on with.
 rest_read : {R : Type 0} (rest : Rest R) (r : R) (n : ℕ) (b : List ℕ) → AreBytes b → n ≤ length b
-    → RestLength rest (length b - n) → RestIs rest r (drop n b) → RestFits rest r × (rest_bytes rest r ≡ drop n b)
+    → RestLength (kind_of rest) (length b - n) → RestIs rest r (drop n b) → RestFits rest r × (rest_bytes rest r ≡ drop n b)
 rest_read nothing r n b each room long is = (tt, sym (none_left b n (omega (arith, room, long))))
 rest_read (bytes get) r n b each room long is = (tt, is)
 rest_read (units get) r n b each room long is =
@@ -166,28 +165,31 @@ rest_read (numbers get) r n b each room (some, whole) is =
     ((omega (arith, long, some), ap (λ k. k % 4) long ∙ whole), is)
 rest_read (addresses get) r n b each room whole is =
     (ap (λ x. length x % 16) is ∙ ap (λ k. k % 16) (length-drop n b) ∙ whole, is)
+rest_read (vendor get) r n b each room long is = is
 
 -- Bytes that have a value are those of the value.
 pub value_read : {R : Type 0} (l : Layout R) (r : R) (b : List ℕ) → AreBytes b → fields_size l.fields ≤ length b
-    → RestLength l.rest (length b - fields_size l.fields) → HasValue l r b → FitsLayout l r × (b ≡ value_bytes l r)
+    → RestLength (kind_of l.rest) (length b - fields_size l.fields) → HasValue l r b → FitsLayout l r × (b ≡ value_bytes l r)
 unfolding value_bytes
 value_read l r b each room long has =
     let read = front_read l.fields r b each room has.fields in
-    let rest = rest_read l.rest r (fields_size l.fields) b each room long has.rest in (
-      record { fields = read.0; rest = rest.0; value = has.value },
-      sym read.1 ∙ ap (λ tail. fields_bytes l.fields r ++ tail) (sym rest.1),
+    let rest = rest_read l.rest r (fields_size l.fields) b each room long has.rest in
+    let same : b ≡ value_bytes l r = sym read.1 ∙ ap (λ tail. fields_bytes l.fields r ++ tail) (sym rest.1) in (
+      record { fields = read.0; rest = rest.0; value = has.value; form = subst (HasForm l.form) same has.form },
+      same,
     )
 
 -- The bytes of a value have a length of the type.
-rest_sized : {R : Type 0} (rest : Rest R) (r : R) → RestFits rest r → RestLength rest (length (rest_bytes rest r))
+rest_sized : {R : Type 0} (rest : Rest R) (r : R) → RestFits rest r → RestLength (kind_of rest) (length (rest_bytes rest r))
 rest_sized nothing r fits = refl
 rest_sized (bytes get) r fits = tt
 rest_sized (units get) r fits = omega (arith, units_read_back.sized (get r))
 rest_sized (numbers get) r fits = fits
 rest_sized (addresses get) r fits = fits
+rest_sized (vendor get) r fits = tt
 
 pub value_sized : {R : Type 0} (l : Layout R) (r : R) (b : List ℕ) → FitsLayout l r → b ≡ value_bytes l r
-    → (fields_size l.fields ≤ length b) × RestLength l.rest (length b - fields_size l.fields)
+    → (fields_size l.fields ≤ length b) × RestLength (kind_of l.rest) (length b - fields_size l.fields)
 unfolding value_bytes
 value_sized l r b fits is =
     let front : length (fields_bytes l.fields r) ≡ fields_size l.fields = length-fields_bytes l.fields r fits.fields in
@@ -195,22 +197,7 @@ value_sized l r b fits is =
     let long : length b ≡ fields_size l.fields + length tail =
     ap length is ∙ length-append (fields_bytes l.fields r) tail ∙ ap (λ n. n + length tail) front in
     let after : length tail ≡ length b - fields_size l.fields = omega (arith, long) in
-    (omega (arith, long), subst (RestLength l.rest) after (rest_sized l.rest r fits.rest))
-
--- The length of a layout by its numbers.
-pub rest_given : {R : Type 0} (rest : Rest R) (n : ℕ) → RestLengthOf (kind_of rest) n → RestLength rest n
-rest_given nothing n h = h
-rest_given (bytes get) n h = h
-rest_given (units get) n h = h
-rest_given (numbers get) n h = h
-rest_given (addresses get) n h = h
-
-pub rest_known : {R : Type 0} (rest : Rest R) (n : ℕ) → RestLength rest n → RestLengthOf (kind_of rest) n
-rest_known nothing n h = h
-rest_known (bytes get) n h = h
-rest_known (units get) n h = h
-rest_known (numbers get) n h = h
-rest_known (addresses get) n h = h
+    (omega (arith, long), subst (RestLength (kind_of l.rest)) after (rest_sized l.rest r fits.rest))
 
 -- A node is that of one value.
 same_field : {R : Type 0} (f : Field R) (a c : R) (b : List ℕ) (offset : ℕ) → FieldAt f a b offset
@@ -225,6 +212,15 @@ same_fields [] a c b offset p q = tt
 same_fields (f ∷ fs) a c b offset p q =
     (same_field f a c b offset p.0 q.0, same_fields fs a c b (offset + field_size f) p.1 q.1)
 
+same_vendor : (a c : Option (List ℕ × List ℕ)) → IsVendor a → IsVendor c → vendor_bytes a ≡ vendor_bytes c → a ≡ c
+same_vendor None None p q e = refl
+same_vendor None (Some (guid, more)) p q e = absurd (omega (arith, ap length e, length-append guid more, q))
+same_vendor (Some (guid, more)) None p q e = absurd (omega (arith, ap length e, length-append guid more, p))
+same_vendor (Some (guid, more)) (Some (other, others)) p q e =
+    let guids : guid ≡ other = sym (take_at guid more 16 p) ∙ ap (take 16) e ∙ take_at other others 16 q in
+    let rests : more ≡ others = sym (drop_at guid more 16 p) ∙ ap (drop 16) e ∙ drop_at other others 16 q in
+    λ i. Some (guids i, rests i)
+
 same_rest : {R : Type 0} (rest : Rest R) (a c : R) → RestFits rest a → RestFits rest c
     → rest_bytes rest a ≡ rest_bytes rest c → SameRest rest a c
 same_rest nothing a c p q e = tt
@@ -233,6 +229,7 @@ same_rest (units get) a c p q e =
     sym (units_read_back.written (get a) p) ∙ ap units_of e ∙ units_read_back.written (get c) q
 same_rest (numbers get) a c p q e = e
 same_rest (addresses get) a c p q e = e
+same_rest (vendor get) a c p q e = same_vendor (get a) (get c) p q e
 
 pub one_value : {R : Type 0} (l : Layout R) → OneValue l
 unfolding value_bytes

@@ -3,3 +3,4 @@ pub mod Readings
 pub mod Parts
 pub mod Written
 pub mod Signatures
+pub mod NulStrings

@@ -3,12 +3,12 @@ use Rattle.std.proofs.Common.{◌≡◌, ℕ, ◌-◌, ◌≤◌, List, length, 
 use Rattle.std.specs.Prelude.{◌↔◌}
 use Rattle.uefi_base.specs.LittleEndian.{AreBytes}
 use Rattle.uefi_path.specs.Node.{Node}
-use Rattle.uefi_node.specs.Layout.{Layout, fields_size, FitsLayout, value_bytes, node_as, IsNodeAs}
+use Rattle.uefi_node.specs.Layout.{Layout, fields_size, kind_of, HasForm, node_as, IsNodeAs}
 use Rattle.uefi_node.specs.Reading.{HasType, HasLength, HasReadingFault, ReadsAs}
-use Rattle.uefi_node.specs.private.Fields.{HasValue, HasLengthOf, IsLayout, RestLengthOf, kind_of}
+use Rattle.uefi_node.specs.private.Fields.{HasValue, HasLengthOf, IsLayout}
 use Rattle.uefi_node.specs.declared.read.RestKind.{RestKind}
 use Rattle.uefi_node.specs.declared.error.NodeConversionError.TheVariants.{DifferentType, Length, Form}
-use Rattle.uefi_node.proofs.Layouts.{value_read, value_sized, rest_given, rest_known}
+use Rattle.uefi_node.proofs.Layouts.{value_read, value_sized}
 
 -- The node with these fields.
 node_is : (node : Node) (t s : ℕ) (p : List ℕ) → node.device_type ≡ t → node.sub_type ≡ s → node.payload ≡ p
@@ -46,23 +46,24 @@ reads_other_length l node same other = record {
 
 -- Nor is one of another form.
 pub reads_other_form : {R : Type 0} (l : Layout R) (node : Node) (b : List ℕ) → b ≡ node.payload → HasType l node
-    → HasLength l b → ((r : R) → FitsLayout l r → b ≡ value_bytes l r → ⊥) → ReadsAs l node (Err Form)
-reads_other_form l node b is same long none = record {
-  ok = tt;
-  err = (same, subst (HasLength l) is long);
-  none = λ r of. none r of.0 (is ∙ ap (λ n. n.payload) of.1);
-}
+    → HasLength l b → ¬ HasForm l.form b → ReadsAs l node (Err Form)
+reads_other_form l node b is same long other =
+    let none : ¬ HasForm l.form node.payload = λ form. other (subst (HasForm l.form) (sym is) form) in
+    record {
+      ok = tt;
+      err = (same, subst (HasLength l) is long, none);
+      none = λ r of. none (subst (HasForm l.form) (sym (ap (λ n. n.payload) of.1)) of.0.form);
+    }
 
 -- The length of a layout by its numbers.
 pub length_given : {R : Type 0} (l : Layout R) (t s n : ℕ) (kind : RestKind) (b : List ℕ) → IsLayout l t s n kind
     → HasLengthOf n kind (length b) → HasLength l b
 length_given l t s n kind b is long =
-    let P : ℕ → RestKind → Type 0 = λ m k. (m ≤ length b) × RestLengthOf k (length b - m) in
-    let here = subst (λ k. P (fields_size l.fields) k) (sym is.rest) (subst (λ m. P m kind) (sym is.size) long) in
-    (here.0, rest_given l.rest _ here.1)
+    subst (λ k. HasLengthOf (fields_size l.fields) k (length b)) (sym is.rest)
+    (subst (λ m. HasLengthOf m kind (length b)) (sym is.size) long)
 
 pub length_known : {R : Type 0} (l : Layout R) (t s n : ℕ) (kind : RestKind) (b : List ℕ) → IsLayout l t s n kind
     → HasLength l b → HasLengthOf n kind (length b)
 length_known l t s n kind b is long =
-    let P : ℕ → RestKind → Type 0 = λ m k. (m ≤ length b) × RestLengthOf k (length b - m) in
-    subst (λ k. P n k) is.rest (subst (λ m. P m (kind_of l.rest)) is.size (long.0, rest_known l.rest _ long.1))
+    subst (λ k. HasLengthOf n k (length b)) is.rest
+    (subst (λ m. HasLengthOf m (kind_of l.rest) (length b)) is.size long)

@@ -1,7 +1,7 @@
 -- Laws of typed nodes.
 use Rattle.std.specs.Prelude.{◌≡◌}
 use Rattle.std.specs.List.{AllByRecursion}
-use Rattle.uefi_node.specs.Layout.{Field, byte, number, array, Rest, nothing, bytes, units, numbers, addresses}
+use Rattle.uefi_node.specs.Layout.{Field, byte, number, array, Rest, nothing, bytes, units, numbers, addresses, vendor}
 use Rattle.uefi_node.specs.Layout.{Layout, FitsLayout, node_as}
 
 -- The values have the same field, and the same after the fields.
@@ -16,6 +16,7 @@ SameRest (bytes get) a b = get a ≡ get b
 SameRest (units get) a b = get a ≡ get b
 SameRest (numbers get) a b = get a ≡ get b
 SameRest (addresses get) a b = get a ≡ get b
+SameRest (vendor get) a b = get a ≡ get b
 
 -- The values are the same in all that a node has of them.
 pub record SameValue {R : Type 0} (l : Layout R) (a b : R) : Type 0 where

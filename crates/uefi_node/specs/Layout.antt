@@ -1,10 +1,13 @@
 -- The layout of a type of nodes (UEFI 2.10, 10.3): its numbers, the fields of its data at fixed offsets, and what
 -- follows them.
-use Rattle.std.specs.Prelude.{ℕ, ◌≡◌, ◌<◌, ◌≤◌, ◌+◌, ◌-◌, ◌%◌, ◌^◌, List, [], ◌∷◌, ◌++◌, length, Bool, true, IsTrue}
+use Rattle.std.specs.Prelude.{ℕ, ◌≡◌, ◌<◌, ◌≤◌, ◌+◌, ◌%◌, ◌^◌, List, [], ◌∷◌, ◌++◌, length, drop, slice_index, Bool, true, IsTrue, Option, Some, None}
 use Rattle.std.specs.Int.{Width, w16, w32, w64, to_le_bytes}
 use Rattle.std.specs.List.{AllByRecursion}
 use Rattle.uefi_base.specs.Unaligned.{AreUnits, unit_bytes}
 use Rattle.uefi_path.specs.Node.{Node}
+use Rattle.uefi_node.specs.NulStrings.{AreStrings}
+use Rattle.uefi_node.specs.declared.read.RestKind.{RestKind}
+use Rattle.uefi_node.specs.declared.read.RestKind.TheVariants.{Nothing, Bytes, Units, Numbers, Addresses}
 
 -- The size of a number: two, four or eight bytes.
 pub data Size : Type 0 where
@@ -18,14 +21,22 @@ pub data Field (R : Type 0) : Type 0 where
   number : Size → (R → ℕ) → Field R
   array : ℕ → (R → List ℕ) → Field R
 
--- What follows the fields: nothing; any bytes; units of 16 bits; the bytes of one or more numbers of four bytes; or the
--- bytes of addresses, of 16 each.
+-- What the data of a type have to be beside their length: anything; three strings after twelve bytes; or, by the
+-- first byte, a vendor's GUID with its data or nothing after two bytes.
+pub data Form : Type 0 where
+  any : Form
+  three_strings : Form
+  vendor_or_none : Form
+
+-- What follows the fields: nothing; any bytes; units of 16 bits; the bytes of one or more numbers of four bytes; the
+-- bytes of addresses, of 16 each; or a GUID and any bytes, if the value has them, and else nothing.
 pub data Rest (R : Type 0) : Type 0 where
   nothing : Rest R
   bytes : (R → List ℕ) → Rest R
   units : (R → List ℕ) → Rest R
   numbers : (R → List ℕ) → Rest R
   addresses : (R → List ℕ) → Rest R
+  vendor : (R → Option (List ℕ × List ℕ)) → Rest R
 
 -- A type of nodes: its type and subtype, the layout of its data, and which values it has.
 pub record Layout (R : Type 0) : Type 0 where
@@ -33,6 +44,7 @@ pub record Layout (R : Type 0) : Type 0 where
   pub sub_type : ℕ
   pub fields : List (Field R)
   pub rest : Rest R
+  pub form : Form
   pub is_value : R → Bool
 
 -- A type that has any value.
@@ -42,6 +54,7 @@ layout device_type sub_type fields rest = record {
   sub_type = sub_type;
   fields = fields;
   rest = rest;
+  form = any;
   is_value = λ r. true;
 }
 
@@ -87,6 +100,16 @@ abbrev pub fields_bytes : {R : Type 0} → List (Field R) → R → List ℕ
 fields_bytes [] r = []
 fields_bytes (f ∷ fs) r = field_bytes f r ++ fields_bytes fs r
 
+-- The bytes of a GUID and what follows it, or none.
+abbrev pub vendor_bytes : Option (List ℕ × List ℕ) → List ℕ
+vendor_bytes None = []
+vendor_bytes (Some (guid, more)) = guid ++ more
+
+-- The GUID has 16 bytes.
+abbrev pub IsVendor : Option (List ℕ × List ℕ) → Type 0
+IsVendor None = Unit
+IsVendor (Some (guid, more)) = length guid ≡ 16
+
 -- The bytes that follow the fields.
 abbrev pub rest_bytes : {R : Type 0} → Rest R → R → List ℕ
 rest_bytes nothing r = []
@@ -94,14 +117,23 @@ rest_bytes (bytes get) r = get r
 rest_bytes (units get) r = unit_bytes (get r)
 rest_bytes (numbers get) r = get r
 rest_bytes (addresses get) r = get r
+rest_bytes (vendor get) r = vendor_bytes (get r)
 
 -- So many bytes can follow the fields.
-abbrev pub RestLength : {R : Type 0} → Rest R → ℕ → Type 0
-RestLength nothing n = n ≡ 0
-RestLength (bytes get) n = Unit
-RestLength (units get) n = n % 2 ≡ 0
-RestLength (numbers get) n = (4 ≤ n) × (n % 4 ≡ 0)
-RestLength (addresses get) n = n % 16 ≡ 0
+abbrev pub kind_of : {R : Type 0} → Rest R → RestKind
+kind_of nothing = Nothing
+kind_of (bytes get) = Bytes
+kind_of (units get) = Units
+kind_of (numbers get) = Numbers
+kind_of (addresses get) = Addresses
+kind_of (vendor get) = Bytes
+
+abbrev pub RestLength : RestKind → ℕ → Type 0
+RestLength Nothing n = n ≡ 0
+RestLength Bytes n = Unit
+RestLength Units n = n % 2 ≡ 0
+RestLength Numbers n = (4 ≤ n) × (n % 4 ≡ 0)
+RestLength Addresses n = n % 16 ≡ 0
 
 -- The value fits what follows the fields.
 abbrev pub RestFits : {R : Type 0} → Rest R → R → Type 0
@@ -110,21 +142,35 @@ RestFits (bytes get) r = Unit
 RestFits (units get) r = AreUnits (get r)
 RestFits (numbers get) r = (4 ≤ length (get r)) × (length (get r) % 4 ≡ 0)
 RestFits (addresses get) r = length (get r) % 16 ≡ 0
+RestFits (vendor get) r = IsVendor (get r)
+
+-- The data of the value.
+unfoldable pub value_bytes : {R : Type 0} → Layout R → R → List ℕ
+value_bytes l r = fields_bytes l.fields r ++ rest_bytes l.rest r
 
 -- The type has the value, whatever numbers its fields are.
 abbrev pub IsValue : {R : Type 0} → Layout R → R → Type 0
 IsValue l r = IsTrue (l.is_value r)
+
+-- Whose data the bytes can be: those of a vendor, by the type of the service, and then their length.
+pub record IsService (kind length : ℕ) : Type 0 where
+  pub vendor : kind ≡ 0xff → 18 ≤ length
+  pub others : (kind ≡ 0xff → ⊥) → length ≡ 2
+
+-- The data have the form.
+abbrev pub HasForm : Form → List ℕ → Type 0
+HasForm any payload = Unit
+HasForm three_strings payload = (first second third : List ℕ) × AreStrings (drop 12 payload) first second third
+HasForm vendor_or_none payload = IsService (slice_index payload 0) (length payload)
 
 -- The type has the value, and its fields fit.
 pub record FitsLayout {R : Type 0} (l : Layout R) (r : R) : Type 0 where
   pub fields : AllByRecursion (FieldFits r) l.fields
   pub rest : RestFits l.rest r
   pub value : IsValue l r
+  pub form : HasForm l.form (value_bytes l r)
 
--- The data of the value, and its node.
-unfoldable pub value_bytes : {R : Type 0} → Layout R → R → List ℕ
-value_bytes l r = fields_bytes l.fields r ++ rest_bytes l.rest r
-
+-- The node of the value.
 abbrev pub node_as : {R : Type 0} → Layout R → R → Node
 node_as l r = record { device_type = l.device_type; sub_type = l.sub_type; payload = value_bytes l r }
 

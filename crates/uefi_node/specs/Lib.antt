@@ -1,3 +1,4 @@
+pub mod NulStrings
 pub mod Layout
 pub mod Reading
 pub mod Signature
@@ -6,8 +7,11 @@ pub mod Flags
 pub mod End
 pub mod Hardware
 pub mod Acpi
+pub mod Expanded
 pub mod Messaging
+pub mod RestServices
 pub mod Media
 pub mod BiosBootSpec
+pub mod NodeEnum
 pub mod Laws
 pub mod private

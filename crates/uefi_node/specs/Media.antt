@@ -1,7 +1,9 @@
 -- Nodes of the type MEDIA (UEFI 2.10, 10.3.5), field by field as in the standard's tables.
 use Rattle.std.specs.Prelude.{[], ◌∷◌}
 use Rattle.uefi_base.specs.Views.{slice_units}
-use Rattle.uefi_node.specs.Layout.{Layout, layout, number, array, two, four, eight, nothing, bytes, units}
+use Rattle.uefi_node.specs.Signature.{type_of_signature, signature_bytes, is_signature}
+use Rattle.uefi_node.specs.Layout.{Layout, layout, byte, number, array, two, four, eight, nothing, bytes, units, any}
+use Rattle.uefi_node.specs.declared.media.hard_drive.HardDrive.{HardDrive}
 use Rattle.uefi_node.specs.declared.media.cd_rom.CdRom.{CdRom}
 use Rattle.uefi_node.specs.declared.media.vendor.Vendor.{Vendor}
 use Rattle.uefi_node.specs.declared.media.file_path.FilePath.{FilePath}
@@ -10,6 +12,24 @@ use Rattle.uefi_node.specs.declared.media.piwg_firmware_file.PiwgFirmwareFile.{P
 use Rattle.uefi_node.specs.declared.media.piwg_firmware_volume.PiwgFirmwareVolume.{PiwgFirmwareVolume}
 use Rattle.uefi_node.specs.declared.media.relative_offset_range.RelativeOffsetRange.{RelativeOffsetRange}
 use Rattle.uefi_node.specs.declared.media.ram_disk.RamDisk.{RamDisk}
+
+-- A partition of a hard drive (10.3.5.1): its signature is no unknown one that the standard defines.
+abbrev pub hard_drive : Layout HardDrive
+hard_drive = record {
+  device_type = 4;
+  sub_type = 1;
+  fields =
+      number four (λ h. h.partition_number)
+      ∷ number eight (λ h. h.partition_start)
+      ∷ number eight (λ h. h.partition_size)
+      ∷ array 16 (λ h. signature_bytes h.partition_signature)
+      ∷ byte (λ h. h.partition_format.0)
+      ∷ byte (λ h. type_of_signature h.partition_signature)
+      ∷ [];
+  rest = nothing;
+  form = any;
+  is_value = λ h. is_signature h.partition_signature;
+}
 
 -- A boot entry of a CD-ROM (10.3.5.2).
 abbrev pub cd_rom : Layout CdRom

@@ -23,6 +23,8 @@ const GREATEST_LENGTH: usize = 0xffff;
 pub(crate) enum Tail<'a> {
     /// Bytes.
     Bytes(&'a [u8]),
+    /// Parts, one after another.
+    Parts(&'a [&'a [u8]]),
     /// Units of 16 bits.
     Units(UnalignedSlice<'a>),
 }
@@ -37,6 +39,7 @@ impl Tail<'_> {
     {
         match self {
             Tail::Bytes(bytes) if bytes.len() <= GREATEST_LENGTH => Some(bytes.len()),
+            Tail::Parts(parts) => length_of(parts),
             Tail::Units(units) if units.len() <= GREATEST_LENGTH / 2 => Some(2 * units.len()),
             _ => None,
         }
@@ -50,7 +53,26 @@ impl Tail<'_> {
     {
         match self {
             Tail::Bytes(bytes) => put(buffer, offset, bytes),
+            Tail::Parts(parts) => put_parts(buffer, offset, parts),
             Tail::Units(units) => put_units(buffer, offset, units),
+        }
+    }
+}
+
+/// Returns the length of all parts, or `None` if no node has so many bytes.
+fn length_of(parts: &[&[u8]]) -> Option<usize>
+    ensures length { IfSome result (λ n. n ≡ length (parts_bytes parts.now)) }
+    ensures few { IfSome result (λ n. n ≤ 0xffff) }
+    ensures many { IfNone result (0xffff < length (parts_bytes parts.now)) }
+{
+    match parts {
+        [] => Some(0),
+        [part, others @ ..] => {
+            let after = length_of(others)?;
+            if part.len() > GREATEST_LENGTH - after {
+                return None;
+            }
+            Some(part.len() + after)
         }
     }
 }

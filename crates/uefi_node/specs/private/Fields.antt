@@ -1,5 +1,5 @@
 -- What readers test of the data of a node, and what they find there; and the parts that a writer puts.
-use Rattle.std.specs.Prelude.{ℕ, ◌≡◌, ◌≤◌, ◌+◌, ◌-◌, ◌%◌, List, [], ◌∷◌, ◌++◌, length, drop, slice_index, slice_range}
+use Rattle.std.specs.Prelude.{ℕ, ◌≡◌, ◌≤◌, ◌+◌, ◌-◌, List, [], ◌∷◌, ◌++◌, length, drop, slice_index, slice_range}
 use Rattle.std.specs.Prelude.{Option, IfSome, IfNone, IsTrue}
 use Rattle.std.specs.Prelude.{◌<◌, Result, IfOk, IfErr, OnOk, OnErr}
 use Rattle.std.specs.Int.{from_le_bytes}
@@ -11,11 +11,10 @@ use Rattle.uefi_path.specs.Node.{encoding}
 use Rattle.uefi_path.specs.declared.build.error.BuildError.{BuildError}
 use Rattle.uefi_path.specs.declared.build.error.BuildError.TheVariants.{Form as BuildForm, NodeTooBig, BufferTooSmall, EndEntire, Memory}
 use Rattle.uefi_node.specs.declared.read.RestKind.{RestKind}
-use Rattle.uefi_node.specs.declared.read.RestKind.TheVariants.{Nothing, Bytes, Units, Numbers, Addresses}
 use Rattle.uefi_node.specs.declared.write.Tail.{Tail}
-use Rattle.uefi_node.specs.declared.write.Tail.TheVariants.{Bytes as TailBytes, Units as TailUnits}
-use Rattle.uefi_node.specs.Layout.{Size, Field, byte, number, array, Rest, nothing, bytes, units, numbers, addresses, Layout}
-use Rattle.uefi_node.specs.Layout.{width, size_of, field_size, fields_size, FitsLayout, value_bytes}
+use Rattle.uefi_node.specs.declared.write.Tail.TheVariants.{Bytes as TailBytes, Parts as TailParts, Units as TailUnits}
+use Rattle.uefi_node.specs.Layout.{Size, Field, byte, number, array, Rest, nothing, bytes, units, numbers, addresses, vendor, Layout}
+use Rattle.uefi_node.specs.Layout.{width, size_of, field_size, fields_size, vendor_bytes, IsVendor, kind_of, RestLength, HasForm}
 
 -- The number in bytes at an offset.
 abbrev pub number_at : Size → List ℕ → ℕ → ℕ
@@ -38,35 +37,22 @@ RestIs (bytes get) r b = get r ≡ b
 RestIs (units get) r b = get r ≡ units_of b
 RestIs (numbers get) r b = get r ≡ b
 RestIs (addresses get) r b = get r ≡ b
+RestIs (vendor get) r b = IsVendor (get r) × (vendor_bytes (get r) ≡ b)
 
 -- The bytes have the value.
 pub record HasValue {R : Type 0} (l : Layout R) (r : R) (b : List ℕ) : Type 0 where
   pub fields : FieldsAt l.fields r b 0
   pub rest : RestIs l.rest r (drop (fields_size l.fields) b)
   pub value : IsTrue (l.is_value r)
+  pub form : HasForm l.form b
 
--- At Some, the value that the bytes have; at None, they are those of no value.
+-- At Some, the value that the bytes have; at None, they haven't the form.
 pub record TakesValue {R : Type 0} (l : Layout R) (b : List ℕ) (taken : Option R) : Type 0 where
   pub some : IfSome taken (λ r. HasValue l r b)
-  pub none : IfNone taken ((r : R) → FitsLayout l r → b ≡ value_bytes l r → ⊥)
-
--- So many bytes can follow the fields, by what follows them.
-abbrev pub RestLengthOf : RestKind → ℕ → Type 0
-RestLengthOf Nothing n = n ≡ 0
-RestLengthOf Bytes n = Unit
-RestLengthOf Units n = n % 2 ≡ 0
-RestLengthOf Numbers n = (4 ≤ n) × (n % 4 ≡ 0)
-RestLengthOf Addresses n = n % 16 ≡ 0
+  pub none : IfNone taken (¬ HasForm l.form b)
 
 abbrev pub HasLengthOf : ℕ → RestKind → ℕ → Type 0
-HasLengthOf size rest n = (size ≤ n) × RestLengthOf rest (n - size)
-
-abbrev pub kind_of : {R : Type 0} → Rest R → RestKind
-kind_of nothing = Nothing
-kind_of (bytes get) = Bytes
-kind_of (units get) = Units
-kind_of (numbers get) = Numbers
-kind_of (addresses get) = Addresses
+HasLengthOf size rest n = (size ≤ n) × RestLength rest (n - size)
 
 -- The layout has these numbers.
 pub record IsLayout {R : Type 0} (l : Layout R) (t s n : ℕ) (kind : RestKind) : Type 0 where
@@ -75,15 +61,16 @@ pub record IsLayout {R : Type 0} (l : Layout R) (t s n : ℕ) (kind : RestKind) 
   pub size : fields_size l.fields ≡ n
   pub rest : kind_of l.rest ≡ kind
 
--- The bytes of what a writer puts after the fields.
-abbrev pub tail_bytes : Tail → List ℕ
-tail_bytes (TailBytes b) = b.now
-tail_bytes (TailUnits slice) = unit_bytes (slice_units slice)
-
 -- The bytes of the parts, in order.
 abbrev pub parts_bytes : List (Bor (List ℕ)) → List ℕ
 parts_bytes [] = []
 parts_bytes (part ∷ parts) = part.now ++ parts_bytes parts
+
+-- The bytes of what a writer puts after the fields.
+abbrev pub tail_bytes : Tail → List ℕ
+tail_bytes (TailBytes b) = b.now
+tail_bytes (TailParts parts) = parts_bytes parts.now
+tail_bytes (TailUnits slice) = unit_bytes (slice_units slice)
 
 -- A node of this length is too long for a header, or for a buffer of this length.
 abbrev pub HasLengthFault : ℕ → ℕ → BuildError → Type 0

@@ -1,0 +1,115 @@
+ghost use Rattle.std.specs.Prelude.{◌≡◌};
+ghost use Rattle.uefi_path.specs.Views.{node_of};
+ghost use Rattle.uefi_node.specs.Layout.{IsValue, node_as};
+ghost use Rattle.uefi_node.specs.Reading.{ReadsAs};
+ghost use Rattle.uefi_node.specs.Expanded.{expanded};
+
+use crate::error::NodeConversionError;
+use crate::read::{NodeValue, RestKind, read_node};
+use crate::strings::{is_without_nul, three_strings};
+use crate::write::{Tail, joined, write_node};
+use uefi_base::little_endian::u32_at;
+use uefi_path::build::{BuildError, BuildNode};
+use uefi_path::{DevicePathNode, DeviceSubType, DeviceType};
+
+/// A device that numbers and strings of its ACPI object name (UEFI 2.10, 10.3.3).
+///
+/// | offset | bytes | field |
+/// |---|---|---|
+/// | 4 | 4 | `hid` |
+/// | 8 | 4 | `uid` |
+/// | 12 | 4 | `cid` |
+/// | 16 | | `hid_str`, `uid_str` and `cid_str`, each with a NUL after it |
+///
+/// Offsets are from the start of the node. Numbers are little-endian.
+///
+/// Writing fails with [`BuildError::Form`] if a string has a NUL.
+#[derive(Clone, Copy, PartialEq, Eq, Debug)]
+pub struct Expanded<'a> {
+    /// The hardware identifier (`_HID`): an EISA identifier, compressed.
+    pub hid: u32,
+    /// The unique identifier (`_UID`).
+    pub uid: u32,
+    /// The identifier of a compatible device (`_CID`): an EISA identifier, compressed.
+    pub cid: u32,
+    /// The hardware identifier as a string, without its NUL. If it is empty, `hid` counts.
+    pub hid_str: &'a [u8],
+    /// The unique identifier as a string, without its NUL. If it is empty, `uid` counts.
+    pub uid_str: &'a [u8],
+    /// The identifier of a compatible device as a string, without its NUL. If it is empty, `cid`
+    /// counts.
+    pub cid_str: &'a [u8],
+}
+
+impl Expanded<'_> {
+    /// Returns whether no string has a NUL.
+    fn is_valid(&self) -> bool
+        ensures { result ≡ expanded.is_value self.now }
+    {
+        is_without_nul(self.hid_str) && is_without_nul(self.uid_str) && is_without_nul(self.cid_str)
+    }
+}
+
+impl<'a> TryFrom<DevicePathNode<'a>> for Expanded<'a> {
+    type Error = NodeConversionError;
+
+    ghost try_from_gives = { λ node read. ReadsAs expanded (node_of node) read };
+
+    fn try_from(node: DevicePathNode<'a>) -> Result<Expanded<'a>, NodeConversionError> {
+        read_node(
+            &node,
+            DeviceType::ACPI,
+            DeviceSubType::ACPI_EXPANDED,
+            12,
+            RestKind::Bytes,
+        )
+    }
+}
+
+impl<'a> NodeValue<'a> for Expanded<'a> {
+    ghost layout = { expanded };
+
+    fn from_data(data: &'a [u8]) -> Option<Expanded<'a>> {
+        let (_, strings) = data.split_at(12);
+        let Some((hid_str, uid_str, cid_str)) = three_strings(strings) else {
+            return None;
+        };
+        Some(Expanded {
+            hid: u32_at(data, 0),
+            uid: u32_at(data, 4),
+            cid: u32_at(data, 8),
+            hid_str,
+            uid_str,
+            cid_str,
+        })
+    }
+}
+
+impl BuildNode for Expanded<'_> {
+    ghost node = { node_as expanded };
+
+    ghost is_valid = { IsValue expanded };
+
+    fn full_type(&self) -> (DeviceType, DeviceSubType) {
+        (DeviceType::ACPI, DeviceSubType::ACPI_EXPANDED)
+    }
+
+    fn write(&self, buffer: &mut [u8]) -> Result<usize, BuildError> {
+        if !self.is_valid() {
+            return Err(BuildError::Form);
+        }
+        let fields = joined::<12>(&[
+            &self.hid.to_le_bytes(),
+            &self.uid.to_le_bytes(),
+            &self.cid.to_le_bytes(),
+        ]);
+        let strings: [&[u8]; 6] = [self.hid_str, &[0], self.uid_str, &[0], self.cid_str, &[0]];
+        write_node(
+            buffer,
+            self,
+            self.full_type(),
+            &fields,
+            Tail::Parts(&strings),
+        )
+    }
+}
