@@ -5,9 +5,11 @@
 pub use self::adr::Adr;
 pub use self::adr_list::AdrList;
 pub use self::device::Acpi;
+pub use self::expanded::Expanded;
 pub use self::nvdimm::Nvdimm;
 
 mod adr;
 mod adr_list;
 mod device;
+mod expanded;
 mod nvdimm;

@@ -4,6 +4,7 @@
 
 pub use self::cd_rom::CdRom;
 pub use self::file_path::FilePath;
+pub use self::hard_drive::{HardDrive, PartitionFormat};
 pub use self::partition_signature::PartitionSignature;
 pub use self::piwg_firmware_file::PiwgFirmwareFile;
 pub use self::piwg_firmware_volume::PiwgFirmwareVolume;
@@ -15,6 +16,7 @@ pub use self::vendor::Vendor;
 
 mod cd_rom;
 mod file_path;
+mod hard_drive;
 mod partition_signature;
 mod piwg_firmware_file;
 mod piwg_firmware_volume;

@@ -16,6 +16,8 @@ const GREATEST_LENGTH: usize = 0xffff;
 pub(crate) enum Tail<'a> {
     /// Bytes.
     Bytes(&'a [u8]),
+    /// Parts, one after another.
+    Parts(&'a [&'a [u8]]),
     /// Units of 16 bits.
     Units(UnalignedSlice<'a>),
 }
@@ -26,6 +28,7 @@ impl Tail<'_> {
     fn length(&self) -> Option<usize> {
         match self {
             Tail::Bytes(bytes) if bytes.len() <= GREATEST_LENGTH => Some(bytes.len()),
+            Tail::Parts(parts) => length_of(parts),
             Tail::Units(units) if units.len() <= GREATEST_LENGTH / 2 => Some(2 * units.len()),
             _ => None,
         }
@@ -36,7 +39,23 @@ impl Tail<'_> {
     fn put(&self, buffer: &mut [u8], offset: usize) {
         match self {
             Tail::Bytes(bytes) => put(buffer, offset, bytes),
+            Tail::Parts(parts) => put_parts(buffer, offset, parts),
             Tail::Units(units) => put_units(buffer, offset, units),
+        }
+    }
+}
+
+/// Returns the length of all parts, or `None` if no node has so many bytes.
+#[inline]
+fn length_of(parts: &[&[u8]]) -> Option<usize> {
+    match parts {
+        [] => Some(0),
+        [part, others @ ..] => {
+            let after = length_of(others)?;
+            if part.len() > GREATEST_LENGTH - after {
+                return None;
+            }
+            Some(part.len() + after)
         }
     }
 }

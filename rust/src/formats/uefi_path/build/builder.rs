@@ -16,22 +16,37 @@ use crate::formats::uefi_base::buffer::put;
 /// The path borrows the buffer:
 ///
 /// ```
+/// use uefi_formats::UnalignedSlice;
+/// use uefi_formats::proto::device_path::DevicePath;
 /// use uefi_formats::proto::device_path::build::{BuildError, DevicePathBuilder};
-/// use uefi_formats::proto::device_path::{DevicePath, hardware, media};
+/// use uefi_formats::proto::device_path::media::{
+///     FilePath, HardDrive, PartitionFormat, PartitionSignature,
+/// };
 ///
-/// /// Builds the path of a CD-ROM drive behind a PCI function in the buffer.
-/// fn drive(buffer: &mut [u8]) -> Result<DevicePath<'_>, BuildError> {
+/// /// Builds the path of a file on a partition. `name` has two bytes a unit, little-endian, and a NUL
+/// /// at its end.
+/// fn file<'a>(
+///     buffer: &'a mut [u8],
+///     partition: &HardDrive,
+///     name: &[u8],
+/// ) -> Result<DevicePath<'a>, BuildError> {
 ///     DevicePathBuilder::with_buf(buffer)
-///         .push(&hardware::Pci { function: 1, device: 31 })?
-///         .push(&media::CdRom { boot_entry: 0, partition_start: 0, partition_size: 9 })?
+///         .push(partition)?
+///         .push(&FilePath { path_name: UnalignedSlice::new(name) })?
 ///         .finalize()
 /// }
 ///
-/// let mut buffer = [0; 64];
-/// let path = drive(&mut buffer)?;
-/// assert_eq!(path.as_bytes().len(), 6 + 24 + 4);
-/// assert_eq!(drive(&mut [0; 33]).err(), Some(BuildError::BufferTooSmall(34)));
-/// # Ok::<(), BuildError>(())
+/// let partition = HardDrive {
+///     partition_number: 2,
+///     partition_start: 4096,
+///     partition_size: 65536,
+///     partition_signature: PartitionSignature::Mbr([0xd4, 0xc3, 0xb2, 0xa1]),
+///     partition_format: PartitionFormat::MBR,
+/// };
+/// let path = file(&mut [0; 60], &partition, b"a\0\0\0").map(|path| path.as_bytes().len());
+/// assert_eq!(path, Ok(42 + 8 + 4));
+/// let refused = file(&mut [0; 53], &partition, b"a\0\0\0").err();
+/// assert_eq!(refused, Some(BuildError::BufferTooSmall(54)));
 /// ```
 ///
 /// Its contract: `crates/uefi_path/src/build/builder.rt`.
