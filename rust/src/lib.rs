@@ -79,7 +79,7 @@ pub mod proto {
         pub mod build {
             //! Device paths that are built node by node. Begin with [`DevicePathBuilder::with_buf`].
 
-            /// The types of nodes, where `uefi` has those to build: here a type is read and built.
+            // Where `uefi` has the types of nodes to build: here they are those that are read.
             pub use crate::formats::uefi_node::{
                 acpi, bios_boot_spec, end, hardware, media, messaging,
             };
