@@ -25,12 +25,12 @@ pub(crate) fn as_enum<'a>(
 #[inline]
 fn end<'a>(node: &DevicePathNode<'a>) -> Result<DevicePathNodeEnum<'a>, NodeConversionError> {
     match node.sub_type() {
-        DeviceSubType::END_INSTANCE => end::Instance::try_from(*node).map(
-            DevicePathNodeEnum::EndInstance,
-        ),
-        DeviceSubType::END_ENTIRE => end::Entire::try_from(*node).map(
-            DevicePathNodeEnum::EndEntire,
-        ),
+        DeviceSubType::END_INSTANCE => Ok(DevicePathNodeEnum::EndInstance(end::Instance::try_from(
+            *node,
+        )?)),
+        DeviceSubType::END_ENTIRE => Ok(DevicePathNodeEnum::EndEntire(end::Entire::try_from(
+            *node,
+        )?)),
         _ => Err(NodeConversionError::UnsupportedType),
     }
 }
@@ -39,24 +39,24 @@ fn end<'a>(node: &DevicePathNode<'a>) -> Result<DevicePathNodeEnum<'a>, NodeConv
 #[inline]
 fn hardware<'a>(node: &DevicePathNode<'a>) -> Result<DevicePathNodeEnum<'a>, NodeConversionError> {
     match node.sub_type() {
-        DeviceSubType::HARDWARE_PCI => hardware::Pci::try_from(*node).map(
-            DevicePathNodeEnum::HardwarePci,
-        ),
-        DeviceSubType::HARDWARE_PCCARD => hardware::Pccard::try_from(*node).map(
-            DevicePathNodeEnum::HardwarePccard,
-        ),
-        DeviceSubType::HARDWARE_MEMORY_MAPPED => hardware::MemoryMapped::try_from(*node).map(
-            DevicePathNodeEnum::HardwareMemoryMapped,
-        ),
-        DeviceSubType::HARDWARE_VENDOR => hardware::Vendor::try_from(*node).map(
-            DevicePathNodeEnum::HardwareVendor,
-        ),
-        DeviceSubType::HARDWARE_CONTROLLER => hardware::Controller::try_from(*node).map(
-            DevicePathNodeEnum::HardwareController,
-        ),
-        DeviceSubType::HARDWARE_BMC => hardware::Bmc::try_from(*node).map(
-            DevicePathNodeEnum::HardwareBmc,
-        ),
+        DeviceSubType::HARDWARE_PCI => Ok(DevicePathNodeEnum::HardwarePci(hardware::Pci::try_from(
+            *node,
+        )?)),
+        DeviceSubType::HARDWARE_PCCARD => Ok(DevicePathNodeEnum::HardwarePccard(
+            hardware::Pccard::try_from(*node)?,
+        )),
+        DeviceSubType::HARDWARE_MEMORY_MAPPED => Ok(DevicePathNodeEnum::HardwareMemoryMapped(
+            hardware::MemoryMapped::try_from(*node)?,
+        )),
+        DeviceSubType::HARDWARE_VENDOR => Ok(DevicePathNodeEnum::HardwareVendor(
+            hardware::Vendor::try_from(*node)?,
+        )),
+        DeviceSubType::HARDWARE_CONTROLLER => Ok(DevicePathNodeEnum::HardwareController(
+            hardware::Controller::try_from(*node)?,
+        )),
+        DeviceSubType::HARDWARE_BMC => Ok(DevicePathNodeEnum::HardwareBmc(hardware::Bmc::try_from(
+            *node,
+        )?)),
         _ => Err(NodeConversionError::UnsupportedType),
     }
 }
@@ -65,14 +65,14 @@ fn hardware<'a>(node: &DevicePathNode<'a>) -> Result<DevicePathNodeEnum<'a>, Nod
 #[inline]
 fn acpi<'a>(node: &DevicePathNode<'a>) -> Result<DevicePathNodeEnum<'a>, NodeConversionError> {
     match node.sub_type() {
-        DeviceSubType::ACPI => acpi::Acpi::try_from(*node).map(DevicePathNodeEnum::AcpiAcpi),
-        DeviceSubType::ACPI_EXPANDED => acpi::Expanded::try_from(*node).map(
-            DevicePathNodeEnum::AcpiExpanded,
-        ),
-        DeviceSubType::ACPI_ADR => acpi::Adr::try_from(*node).map(DevicePathNodeEnum::AcpiAdr),
-        DeviceSubType::ACPI_NVDIMM => acpi::Nvdimm::try_from(*node).map(
-            DevicePathNodeEnum::AcpiNvdimm,
-        ),
+        DeviceSubType::ACPI => Ok(DevicePathNodeEnum::AcpiAcpi(acpi::Acpi::try_from(*node)?)),
+        DeviceSubType::ACPI_EXPANDED => Ok(DevicePathNodeEnum::AcpiExpanded(
+            acpi::Expanded::try_from(*node)?,
+        )),
+        DeviceSubType::ACPI_ADR => Ok(DevicePathNodeEnum::AcpiAdr(acpi::Adr::try_from(*node)?)),
+        DeviceSubType::ACPI_NVDIMM => Ok(DevicePathNodeEnum::AcpiNvdimm(acpi::Nvdimm::try_from(
+            *node,
+        )?)),
         _ => Err(NodeConversionError::UnsupportedType),
     }
 }
@@ -81,102 +81,108 @@ fn acpi<'a>(node: &DevicePathNode<'a>) -> Result<DevicePathNodeEnum<'a>, NodeCon
 #[inline]
 fn messaging<'a>(node: &DevicePathNode<'a>) -> Result<DevicePathNodeEnum<'a>, NodeConversionError> {
     match node.sub_type() {
-        DeviceSubType::MESSAGING_ATAPI => messaging::Atapi::try_from(*node).map(
-            DevicePathNodeEnum::MessagingAtapi,
+        DeviceSubType::MESSAGING_ATAPI => Ok(DevicePathNodeEnum::MessagingAtapi(
+            messaging::Atapi::try_from(*node)?,
+        )),
+        DeviceSubType::MESSAGING_SCSI => Ok(DevicePathNodeEnum::MessagingScsi(
+            messaging::Scsi::try_from(*node)?,
+        )),
+        DeviceSubType::MESSAGING_FIBRE_CHANNEL => Ok(DevicePathNodeEnum::MessagingFibreChannel(
+            messaging::FibreChannel::try_from(*node)?,
+        )),
+        DeviceSubType::MESSAGING_FIBRE_CHANNEL_EX => Ok(DevicePathNodeEnum::MessagingFibreChannelEx(
+            messaging::FibreChannelEx::try_from(*node)?,
+        )),
+        DeviceSubType::MESSAGING_1394 => Ok(DevicePathNodeEnum::MessagingIeee1394(
+            messaging::Ieee1394::try_from(*node)?,
+        )),
+        DeviceSubType::MESSAGING_USB => Ok(DevicePathNodeEnum::MessagingUsb(
+            messaging::Usb::try_from(*node)?,
+        )),
+        DeviceSubType::MESSAGING_SATA => Ok(DevicePathNodeEnum::MessagingSata(
+            messaging::Sata::try_from(*node)?,
+        )),
+        DeviceSubType::MESSAGING_USB_WWID => Ok(DevicePathNodeEnum::MessagingUsbWwid(
+            messaging::UsbWwid::try_from(*node)?,
+        )),
+        DeviceSubType::MESSAGING_DEVICE_LOGICAL_UNIT => Ok(
+            DevicePathNodeEnum::MessagingDeviceLogicalUnit(messaging::DeviceLogicalUnit::try_from(
+                *node,
+            )?),
         ),
-        DeviceSubType::MESSAGING_SCSI => messaging::Scsi::try_from(*node).map(
-            DevicePathNodeEnum::MessagingScsi,
-        ),
-        DeviceSubType::MESSAGING_FIBRE_CHANNEL => messaging::FibreChannel::try_from(*node).map(
-            DevicePathNodeEnum::MessagingFibreChannel,
-        ),
-        DeviceSubType::MESSAGING_FIBRE_CHANNEL_EX => messaging::FibreChannelEx::try_from(*node).map(
-            DevicePathNodeEnum::MessagingFibreChannelEx,
-        ),
-        DeviceSubType::MESSAGING_1394 => messaging::Ieee1394::try_from(*node).map(
-            DevicePathNodeEnum::MessagingIeee1394,
-        ),
-        DeviceSubType::MESSAGING_USB => messaging::Usb::try_from(*node).map(
-            DevicePathNodeEnum::MessagingUsb,
-        ),
-        DeviceSubType::MESSAGING_SATA => messaging::Sata::try_from(*node).map(
-            DevicePathNodeEnum::MessagingSata,
-        ),
-        DeviceSubType::MESSAGING_USB_WWID => messaging::UsbWwid::try_from(*node).map(
-            DevicePathNodeEnum::MessagingUsbWwid,
-        ),
-        DeviceSubType::MESSAGING_DEVICE_LOGICAL_UNIT => messaging::DeviceLogicalUnit::try_from(
+        DeviceSubType::MESSAGING_USB_CLASS => Ok(DevicePathNodeEnum::MessagingUsbClass(
+            messaging::UsbClass::try_from(*node)?,
+        )),
+        DeviceSubType::MESSAGING_I2O => Ok(DevicePathNodeEnum::MessagingI2o(
+            messaging::I2o::try_from(*node)?,
+        )),
+        DeviceSubType::MESSAGING_MAC_ADDRESS => Ok(DevicePathNodeEnum::MessagingMacAddress(
+            messaging::MacAddress::try_from(*node)?,
+        )),
+        DeviceSubType::MESSAGING_IPV4 => Ok(DevicePathNodeEnum::MessagingIpv4(
+            messaging::Ipv4::try_from(*node)?,
+        )),
+        DeviceSubType::MESSAGING_IPV6 => Ok(DevicePathNodeEnum::MessagingIpv6(
+            messaging::Ipv6::try_from(*node)?,
+        )),
+        DeviceSubType::MESSAGING_VLAN => Ok(DevicePathNodeEnum::MessagingVlan(
+            messaging::Vlan::try_from(*node)?,
+        )),
+        DeviceSubType::MESSAGING_INFINIBAND => Ok(DevicePathNodeEnum::MessagingInfiniband(
+            messaging::Infiniband::try_from(*node)?,
+        )),
+        DeviceSubType::MESSAGING_UART => Ok(DevicePathNodeEnum::MessagingUart(
+            messaging::Uart::try_from(*node)?,
+        )),
+        DeviceSubType::MESSAGING_VENDOR => Ok(DevicePathNodeEnum::MessagingVendor(
+            messaging::Vendor::try_from(*node)?,
+        )),
+        DeviceSubType::MESSAGING_SCSI_SAS_EX => Ok(DevicePathNodeEnum::MessagingSasEx(
+            messaging::SasEx::try_from(*node)?,
+        )),
+        DeviceSubType::MESSAGING_ISCSI => Ok(DevicePathNodeEnum::MessagingIscsi(
+            messaging::Iscsi::try_from(*node)?,
+        )),
+        DeviceSubType::MESSAGING_NVME_NAMESPACE => Ok(DevicePathNodeEnum::MessagingNvmeNamespace(
+            messaging::NvmeNamespace::try_from(*node)?,
+        )),
+        DeviceSubType::MESSAGING_URI => Ok(DevicePathNodeEnum::MessagingUri(
+            messaging::Uri::try_from(*node)?,
+        )),
+        DeviceSubType::MESSAGING_UFS => Ok(DevicePathNodeEnum::MessagingUfs(
+            messaging::Ufs::try_from(*node)?,
+        )),
+        DeviceSubType::MESSAGING_SD => Ok(DevicePathNodeEnum::MessagingSd(messaging::Sd::try_from(
             *node,
-        ).map(DevicePathNodeEnum::MessagingDeviceLogicalUnit),
-        DeviceSubType::MESSAGING_USB_CLASS => messaging::UsbClass::try_from(*node).map(
-            DevicePathNodeEnum::MessagingUsbClass,
+        )?)),
+        DeviceSubType::MESSAGING_BLUETOOTH => Ok(DevicePathNodeEnum::MessagingBluetooth(
+            messaging::Bluetooth::try_from(*node)?,
+        )),
+        DeviceSubType::MESSAGING_WIFI => Ok(DevicePathNodeEnum::MessagingWifi(
+            messaging::Wifi::try_from(*node)?,
+        )),
+        DeviceSubType::MESSAGING_EMMC => Ok(DevicePathNodeEnum::MessagingEmmc(
+            messaging::Emmc::try_from(*node)?,
+        )),
+        DeviceSubType::MESSAGING_BLUETOOTH_LE => Ok(DevicePathNodeEnum::MessagingBluetoothLe(
+            messaging::BluetoothLe::try_from(*node)?,
+        )),
+        DeviceSubType::MESSAGING_DNS => Ok(DevicePathNodeEnum::MessagingDns(
+            messaging::Dns::try_from(*node)?,
+        )),
+        DeviceSubType::MESSAGING_NVDIMM_NAMESPACE => Ok(
+            DevicePathNodeEnum::MessagingNvdimmNamespace(messaging::NvdimmNamespace::try_from(
+                *node,
+            )?),
         ),
-        DeviceSubType::MESSAGING_I2O => messaging::I2o::try_from(*node).map(
-            DevicePathNodeEnum::MessagingI2o,
+        DeviceSubType::MESSAGING_REST_SERVICE => Ok(DevicePathNodeEnum::MessagingRestService(
+            messaging::RestService::try_from(*node)?,
+        )),
+        DeviceSubType::MESSAGING_NVME_OF_NAMESPACE => Ok(
+            DevicePathNodeEnum::MessagingNvmeOfNamespace(messaging::NvmeOfNamespace::try_from(
+                *node,
+            )?),
         ),
-        DeviceSubType::MESSAGING_MAC_ADDRESS => messaging::MacAddress::try_from(*node).map(
-            DevicePathNodeEnum::MessagingMacAddress,
-        ),
-        DeviceSubType::MESSAGING_IPV4 => messaging::Ipv4::try_from(*node).map(
-            DevicePathNodeEnum::MessagingIpv4,
-        ),
-        DeviceSubType::MESSAGING_IPV6 => messaging::Ipv6::try_from(*node).map(
-            DevicePathNodeEnum::MessagingIpv6,
-        ),
-        DeviceSubType::MESSAGING_VLAN => messaging::Vlan::try_from(*node).map(
-            DevicePathNodeEnum::MessagingVlan,
-        ),
-        DeviceSubType::MESSAGING_INFINIBAND => messaging::Infiniband::try_from(*node).map(
-            DevicePathNodeEnum::MessagingInfiniband,
-        ),
-        DeviceSubType::MESSAGING_UART => messaging::Uart::try_from(*node).map(
-            DevicePathNodeEnum::MessagingUart,
-        ),
-        DeviceSubType::MESSAGING_VENDOR => messaging::Vendor::try_from(*node).map(
-            DevicePathNodeEnum::MessagingVendor,
-        ),
-        DeviceSubType::MESSAGING_SCSI_SAS_EX => messaging::SasEx::try_from(*node).map(
-            DevicePathNodeEnum::MessagingSasEx,
-        ),
-        DeviceSubType::MESSAGING_ISCSI => messaging::Iscsi::try_from(*node).map(
-            DevicePathNodeEnum::MessagingIscsi,
-        ),
-        DeviceSubType::MESSAGING_NVME_NAMESPACE => messaging::NvmeNamespace::try_from(*node).map(
-            DevicePathNodeEnum::MessagingNvmeNamespace,
-        ),
-        DeviceSubType::MESSAGING_URI => messaging::Uri::try_from(*node).map(
-            DevicePathNodeEnum::MessagingUri,
-        ),
-        DeviceSubType::MESSAGING_UFS => messaging::Ufs::try_from(*node).map(
-            DevicePathNodeEnum::MessagingUfs,
-        ),
-        DeviceSubType::MESSAGING_SD => messaging::Sd::try_from(*node).map(
-            DevicePathNodeEnum::MessagingSd,
-        ),
-        DeviceSubType::MESSAGING_BLUETOOTH => messaging::Bluetooth::try_from(*node).map(
-            DevicePathNodeEnum::MessagingBluetooth,
-        ),
-        DeviceSubType::MESSAGING_WIFI => messaging::Wifi::try_from(*node).map(
-            DevicePathNodeEnum::MessagingWifi,
-        ),
-        DeviceSubType::MESSAGING_EMMC => messaging::Emmc::try_from(*node).map(
-            DevicePathNodeEnum::MessagingEmmc,
-        ),
-        DeviceSubType::MESSAGING_BLUETOOTH_LE => messaging::BluetoothLe::try_from(*node).map(
-            DevicePathNodeEnum::MessagingBluetoothLe,
-        ),
-        DeviceSubType::MESSAGING_DNS => messaging::Dns::try_from(*node).map(
-            DevicePathNodeEnum::MessagingDns,
-        ),
-        DeviceSubType::MESSAGING_NVDIMM_NAMESPACE => messaging::NvdimmNamespace::try_from(
-            *node,
-        ).map(DevicePathNodeEnum::MessagingNvdimmNamespace),
-        DeviceSubType::MESSAGING_REST_SERVICE => messaging::RestService::try_from(*node).map(
-            DevicePathNodeEnum::MessagingRestService,
-        ),
-        DeviceSubType::MESSAGING_NVME_OF_NAMESPACE => messaging::NvmeOfNamespace::try_from(
-            *node,
-        ).map(DevicePathNodeEnum::MessagingNvmeOfNamespace),
         _ => Err(NodeConversionError::UnsupportedType),
     }
 }
@@ -185,33 +191,35 @@ fn messaging<'a>(node: &DevicePathNode<'a>) -> Result<DevicePathNodeEnum<'a>, No
 #[inline]
 fn media<'a>(node: &DevicePathNode<'a>) -> Result<DevicePathNodeEnum<'a>, NodeConversionError> {
     match node.sub_type() {
-        DeviceSubType::MEDIA_HARD_DRIVE => media::HardDrive::try_from(*node).map(
-            DevicePathNodeEnum::MediaHardDrive,
-        ),
-        DeviceSubType::MEDIA_CD_ROM => media::CdRom::try_from(*node).map(
-            DevicePathNodeEnum::MediaCdRom,
-        ),
-        DeviceSubType::MEDIA_VENDOR => media::Vendor::try_from(*node).map(
-            DevicePathNodeEnum::MediaVendor,
-        ),
-        DeviceSubType::MEDIA_FILE_PATH => media::FilePath::try_from(*node).map(
-            DevicePathNodeEnum::MediaFilePath,
-        ),
-        DeviceSubType::MEDIA_PROTOCOL => media::Protocol::try_from(*node).map(
-            DevicePathNodeEnum::MediaProtocol,
-        ),
-        DeviceSubType::MEDIA_PIWG_FIRMWARE_FILE => media::PiwgFirmwareFile::try_from(*node).map(
-            DevicePathNodeEnum::MediaPiwgFirmwareFile,
-        ),
-        DeviceSubType::MEDIA_PIWG_FIRMWARE_VOLUME => media::PiwgFirmwareVolume::try_from(*node).map(
-            DevicePathNodeEnum::MediaPiwgFirmwareVolume,
-        ),
-        DeviceSubType::MEDIA_RELATIVE_OFFSET_RANGE => media::RelativeOffsetRange::try_from(
+        DeviceSubType::MEDIA_HARD_DRIVE => Ok(DevicePathNodeEnum::MediaHardDrive(
+            media::HardDrive::try_from(*node)?,
+        )),
+        DeviceSubType::MEDIA_CD_ROM => Ok(DevicePathNodeEnum::MediaCdRom(media::CdRom::try_from(
             *node,
-        ).map(DevicePathNodeEnum::MediaRelativeOffsetRange),
-        DeviceSubType::MEDIA_RAM_DISK => media::RamDisk::try_from(*node).map(
-            DevicePathNodeEnum::MediaRamDisk,
+        )?)),
+        DeviceSubType::MEDIA_VENDOR => Ok(DevicePathNodeEnum::MediaVendor(media::Vendor::try_from(
+            *node,
+        )?)),
+        DeviceSubType::MEDIA_FILE_PATH => Ok(DevicePathNodeEnum::MediaFilePath(
+            media::FilePath::try_from(*node)?,
+        )),
+        DeviceSubType::MEDIA_PROTOCOL => Ok(DevicePathNodeEnum::MediaProtocol(
+            media::Protocol::try_from(*node)?,
+        )),
+        DeviceSubType::MEDIA_PIWG_FIRMWARE_FILE => Ok(DevicePathNodeEnum::MediaPiwgFirmwareFile(
+            media::PiwgFirmwareFile::try_from(*node)?,
+        )),
+        DeviceSubType::MEDIA_PIWG_FIRMWARE_VOLUME => Ok(DevicePathNodeEnum::MediaPiwgFirmwareVolume(
+            media::PiwgFirmwareVolume::try_from(*node)?,
+        )),
+        DeviceSubType::MEDIA_RELATIVE_OFFSET_RANGE => Ok(
+            DevicePathNodeEnum::MediaRelativeOffsetRange(media::RelativeOffsetRange::try_from(
+                *node,
+            )?),
         ),
+        DeviceSubType::MEDIA_RAM_DISK => Ok(DevicePathNodeEnum::MediaRamDisk(
+            media::RamDisk::try_from(*node)?,
+        )),
         _ => Err(NodeConversionError::UnsupportedType),
     }
 }
@@ -222,9 +230,11 @@ fn bios_boot_spec<'a>(
     node: &DevicePathNode<'a>,
 ) -> Result<DevicePathNodeEnum<'a>, NodeConversionError> {
     match node.sub_type() {
-        DeviceSubType::BIOS_BOOT_SPECIFICATION => bios_boot_spec::BootSpecification::try_from(
-            *node,
-        ).map(DevicePathNodeEnum::BiosBootSpecBootSpecification),
+        DeviceSubType::BIOS_BOOT_SPECIFICATION => Ok(
+            DevicePathNodeEnum::BiosBootSpecBootSpecification(
+                bios_boot_spec::BootSpecification::try_from(*node)?,
+            ),
+        ),
         _ => Err(NodeConversionError::UnsupportedType),
     }
 }
