@@ -4,3 +4,4 @@ pub mod Parts
 pub mod Written
 pub mod Signatures
 pub mod NulStrings
+pub mod Faithful

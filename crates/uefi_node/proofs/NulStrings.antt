@@ -8,6 +8,7 @@ use Rattle.std.specs.List.{list_all, prefix_len}
 use Rattle.std.proofs.Math.Dec.{eqb-suc-zero}
 use Rattle.std.proofs.lemmas.List.{take_all, drop_more, drop-drop}
 use Rattle.std.proofs.lemmas.List.Sums.{prefix_len_stops}
+use Rattle.uefi_node.specs.Laws.{OneWayToSplit}
 use Rattle.uefi_node.specs.NulStrings.{is_without_nul, strings_bytes, AreStrings}
 
 -- What passes a test before the first that doesn't.
@@ -109,3 +110,11 @@ after_second bytes string rest second third own is its are = (one_string string 
 pub after_third : (bytes string rest third : List ℕ) → IsTrue (is_without_nul string) → bytes ≡ string ++ 0 ∷ rest
     → IsTrue (is_without_nul third) → bytes ≡ third ++ 0 ∷ [] → rest ≡ []
 after_third bytes string rest third own is its are = (one_string string third rest [] own its (sym is ∙ are)).1
+
+-- Bytes are three strings in one way.
+pub one_way_to_split : OneWayToSplit
+one_way_to_split a b c x y z own its =
+    let first = one_string x a _ _ its.first_string own.first_string own.joined in
+    let second = one_string y b _ _ its.second_string own.second_string first.1 in
+    let third = one_string z c [] [] its.third_string own.third_string second.1 in
+    (sym first.0, sym second.0, sym third.0)

@@ -10,6 +10,7 @@ pub mod bios_boot_spec;
 pub mod end;
 mod error;
 pub mod hardware;
+pub mod laws;
 pub mod media;
 pub mod messaging;
 mod node_enum;

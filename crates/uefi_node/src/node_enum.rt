@@ -136,6 +136,6 @@ impl<'a> DevicePathNodeExt<'a> for DevicePathNode<'a> {
     fn as_enum(&self) -> Result<DevicePathNodeEnum<'a>, NodeConversionError>
         ensures { ReadsEnum (node_of self.now) result }
     {
-        as_enum(self)
+        as_enum(*self)
     }
 }

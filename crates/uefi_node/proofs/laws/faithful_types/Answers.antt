@@ -1,0 +1,68 @@
+use Rattle.uefi_node.proofs.Faithful.{faithful}
+use Rattle.uefi_node.specs.End as end
+use Rattle.uefi_node.specs.Hardware as hardware
+use Rattle.uefi_node.specs.Acpi as acpi
+use Rattle.uefi_node.specs.Expanded as expanded
+use Rattle.uefi_node.specs.Messaging as messaging
+use Rattle.uefi_node.specs.RestServices as restservices
+use Rattle.uefi_node.specs.Media as media
+use Rattle.uefi_node.specs.BiosBootSpec as biosbootspec
+use Rattle.uefi_node.proofs.laws.faithful_types.Goals as goal
+
+pub returns : goal.returns
+returns c = record {
+  end_instance = faithful end.instance;
+  end_entire = faithful end.entire;
+  hardware_pci = faithful hardware.pci;
+  hardware_pccard = faithful hardware.pccard;
+  hardware_memory_mapped = faithful hardware.memory_mapped;
+  hardware_vendor = faithful hardware.vendor;
+  hardware_controller = faithful hardware.controller;
+  hardware_bmc = faithful hardware.bmc;
+  acpi_acpi = faithful acpi.acpi;
+  acpi_expanded = faithful expanded.expanded;
+  acpi_adr = faithful acpi.adr;
+  acpi_nvdimm = faithful acpi.nvdimm;
+  messaging_atapi = faithful messaging.atapi;
+  messaging_scsi = faithful messaging.scsi;
+  messaging_fibre_channel = faithful messaging.fibre_channel;
+  messaging_fibre_channel_ex = faithful messaging.fibre_channel_ex;
+  messaging_ieee1394 = faithful messaging.ieee1394;
+  messaging_usb = faithful messaging.usb;
+  messaging_sata = faithful messaging.sata;
+  messaging_usb_wwid = faithful messaging.usb_wwid;
+  messaging_device_logical_unit = faithful messaging.device_logical_unit;
+  messaging_usb_class = faithful messaging.usb_class;
+  messaging_i2o = faithful messaging.i2o;
+  messaging_mac_address = faithful messaging.mac_address;
+  messaging_ipv4 = faithful messaging.ipv4;
+  messaging_ipv6 = faithful messaging.ipv6;
+  messaging_vlan = faithful messaging.vlan;
+  messaging_infiniband = faithful messaging.infiniband;
+  messaging_uart = faithful messaging.uart;
+  messaging_vendor = faithful messaging.vendor;
+  messaging_sas_ex = faithful messaging.sas_ex;
+  messaging_iscsi = faithful messaging.iscsi;
+  messaging_nvme_namespace = faithful messaging.nvme_namespace;
+  messaging_uri = faithful messaging.uri;
+  messaging_ufs = faithful messaging.ufs;
+  messaging_sd = faithful messaging.sd;
+  messaging_bluetooth = faithful messaging.bluetooth;
+  messaging_wifi = faithful messaging.wifi;
+  messaging_emmc = faithful messaging.emmc;
+  messaging_bluetooth_le = faithful messaging.bluetooth_le;
+  messaging_dns = faithful messaging.dns;
+  messaging_nvdimm_namespace = faithful messaging.nvdimm_namespace;
+  messaging_rest_service = faithful restservices.rest_service;
+  messaging_nvme_of_namespace = faithful messaging.nvme_of_namespace;
+  media_hard_drive = faithful media.hard_drive;
+  media_cd_rom = faithful media.cd_rom;
+  media_vendor = faithful media.vendor;
+  media_file_path = faithful media.file_path;
+  media_protocol = faithful media.protocol;
+  media_piwg_firmware_file = faithful media.piwg_firmware_file;
+  media_piwg_firmware_volume = faithful media.piwg_firmware_volume;
+  media_relative_offset_range = faithful media.relative_offset_range;
+  media_ram_disk = faithful media.ram_disk;
+  bios_boot_spec_boot_specification = faithful biosbootspec.boot_specification;
+}

@@ -1,0 +1,22 @@
+//! Laws of the definitions. Each function states a law that holds for all values, and does nothing
+//! when it runs.
+
+ghost use Rattle.uefi_node.specs.Laws.{FaithfulTypes, OneSignature, OneWayToSplit};
+
+/// States for each type of nodes that a node is that of one value at most, and that reading the
+/// node of a value returns the value.
+pub fn faithful_types()
+    ensures { FaithfulTypes }
+{}
+
+/// States that a type and 16 bytes are those of one signature of a partition.
+#[tactic(auto, using(crate::proofs::Signatures::one_signature))]
+pub fn one_signature()
+    ensures { OneSignature }
+{}
+
+/// States that bytes are three strings, each with a NUL after it, in one way at most.
+#[tactic(auto, using(crate::proofs::NulStrings::one_way_to_split))]
+pub fn one_way_to_split()
+    ensures { OneWayToSplit }
+{}
