@@ -138,6 +138,6 @@ pub trait DevicePathNodeExt<'a> {
 impl<'a> DevicePathNodeExt<'a> for DevicePathNode<'a> {
     #[inline]
     fn as_enum(&self) -> Result<DevicePathNodeEnum<'a>, NodeConversionError> {
-        as_enum(self)
+        as_enum(*self)
     }
 }
