@@ -6,6 +6,7 @@
 pub(crate) mod uefi_base;
 pub(crate) mod uefi_hii;
 pub(crate) mod uefi_map;
+pub(crate) mod uefi_node;
 pub(crate) mod uefi_path;
 pub(crate) mod uefi_records;
 pub(crate) mod uefi_tcg;

@@ -2,7 +2,7 @@
 //!
 //! | module | reads |
 //! |---|---|
-//! | [`proto::device_path`] | device paths |
+//! | [`proto::device_path`] | device paths, their nodes by type, and load options |
 //! | [`proto::tcg`] | event logs of measured boot |
 //! | [`proto::hii::config_str`] | HII configuration strings |
 //! | [`proto::media::file`] | file information records |
@@ -47,9 +47,44 @@ pub mod proto {
     //! Formats that protocols of firmware hand out.
 
     pub mod device_path {
-        //! Device paths (UEFI 2.10, chapter 10). Begin with [`DevicePath::try_from`].
+        //! Device paths (UEFI 2.10, chapter 10). Begin with [`DevicePath::try_from`], or with
+        //! [`build::DevicePathBuilder`].
+        //!
+        //! # Examples
+        //!
+        //! [`DevicePathNode::as_enum`] returns a node as a value of its type. The partition that a path
+        //! leads to:
+        //!
+        //! ```
+        //! use uefi_formats::proto::device_path::{DevicePath, DevicePathNodeEnum, media::HardDrive};
+        //!
+        //! fn partition(path: DevicePath<'_>) -> Option<HardDrive> {
+        //!     path.node_iter().find_map(|node| match node.as_enum() {
+        //!         Ok(DevicePathNodeEnum::MediaHardDrive(drive)) => Some(drive),
+        //!         _ => None,
+        //!     })
+        //! }
+        //!
+        //! let bytes = [0x02, 0x01, 12, 0, 0xd0, 0x41, 3, 0x0a, 0, 0, 0, 0, 0x7f, 0xff, 4, 0];
+        //! assert_eq!(partition(DevicePath::try_from(&bytes[..]).unwrap()), None);
+        //! ```
 
+        // Without the trait of `as_enum`, which is a call of the node itself here.
+        pub use crate::formats::uefi_node::{
+            DevicePathNodeEnum, NodeConversionError, acpi, bios_boot_spec, end, hardware, media,
+            messaging,
+        };
         pub use crate::formats::uefi_path::*;
+
+        pub mod build {
+            //! Device paths that are built node by node. Begin with [`DevicePathBuilder::with_buf`].
+
+            // Where `uefi` has the types of nodes to build: here they are those that are read.
+            pub use crate::formats::uefi_node::{
+                acpi, bios_boot_spec, end, hardware, media, messaging,
+            };
+            pub use crate::formats::uefi_path::build::*;
+        }
     }
 
     pub mod tcg {
@@ -123,6 +158,28 @@ pub mod runtime {
     pub use crate::formats::uefi_records::{
         Daylight, Time, TimeByteConversionError, TimeError, TimeParams,
     };
+}
+
+mod as_enum {
+    use crate::formats::uefi_node::DevicePathNodeExt;
+    use crate::proto::device_path::{DevicePathNode, DevicePathNodeEnum, NodeConversionError};
+
+    impl<'a> DevicePathNode<'a> {
+        /// Returns the value that the node is, of the type that its type and subtype state.
+        ///
+        /// # Errors
+        ///
+        /// - [`NodeConversionError::UnsupportedType`] if and only if UEFI 2.10 has no node of this
+        ///   type and subtype.
+        /// - [`NodeConversionError::Length`] if the data have another length than the type has.
+        /// - [`NodeConversionError::Form`] if they have the length, and not the form of the type.
+        ///
+        /// Its contract: `crates/uefi_node/src/node_enum.rt`.
+        #[inline]
+        pub fn as_enum(&self) -> Result<DevicePathNodeEnum<'a>, NodeConversionError> {
+            DevicePathNodeExt::as_enum(self)
+        }
+    }
 }
 
 #[cfg(feature = "alloc")]

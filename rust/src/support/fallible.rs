@@ -26,6 +26,11 @@ pub(crate) trait FallibleVec<T>: Sized {
     fn fallible_extend_from_slice(&mut self, items: &[T]) -> Result<(), AllocError>
     where
         T: Copy;
+
+    /// Appends copies of an item until there are this many items, or drops the last ones.
+    fn fallible_resize(&mut self, count: usize, item: T) -> Result<(), AllocError>
+    where
+        T: Copy;
 }
 
 impl<T> FallibleVec<T> for Vec<T> {
@@ -72,6 +77,16 @@ impl<T> FallibleVec<T> for Vec<T> {
     {
         self.try_reserve(items.len())?;
         self.extend_from_slice(items);
+        Ok(())
+    }
+
+    #[inline]
+    fn fallible_resize(&mut self, count: usize, item: T) -> Result<(), AllocError>
+    where
+        T: Copy,
+    {
+        self.try_reserve(count.saturating_sub(self.len()))?;
+        self.resize(count, item);
         Ok(())
     }
 }

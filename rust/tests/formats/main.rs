@@ -43,6 +43,12 @@ mod uefi_map {
     pub use uefi_formats::mem::memory_map::*;
     pub use uefi_formats::proto::pci::*;
 }
+mod uefi_node {
+    pub use uefi_formats::proto::device_path::*;
+
+    /// The trait of `as_enum`, which is a call of the node itself in the package.
+    pub trait DevicePathNodeExt {}
+}
 mod uefi_path {
     pub use uefi_formats::proto::device_path::*;
 }

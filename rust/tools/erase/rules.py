@@ -20,7 +20,9 @@ RUST = rules([
     # What allocates returns an error where Rust's own calls end the program.
     *((f"Vec::{call}(", f"Vec::fallible_{call}(") for call in ("with_capacity", "from_slice", "from_elem")),
     *((f"String::{call}(", f"String::fallible_{call}(") for call in ("with_capacity", "from_str")),
-    *((f".{call}", f".fallible_{call}") for call in ("push(", "push_str(", "extend_from_slice(", "collect(", "collect::")),
+    # What is pushed to a builder of a path, in place of an item of a vector, is behind a reference.
+    (".push(&", ".push(&"),
+    *((f".{call}", f".fallible_{call}") for call in ("push(", "push_str(", "extend_from_slice(", "resize(", "collect(", "collect::")),
     ("vec![in alloc; $$item; $$count]", "Vec::fallible_from_elem($$item, $$count)"),
     # What is displayed stays as it is.
     ("write!(f,", "write!(f,"), ("writeln!(f,", "writeln!(f,"),
@@ -39,6 +41,7 @@ TESTS = rules([(before.replace("ALLOC", alloc), after) for alloc in ("alloc", "r
     (".to_string(ALLOC)", ".to_string().text()"), (".replace(ALLOC, $next", ".fallible_replace($next"),
     (".repeat(ALLOC, $next", ".fallible_repeat($next"), ("format!(in ALLOC; $next", "fallible_format!($next"),
 ]] + [
+    ("vec![in rt.alloc(); $$item; $$count]", "Vec::fallible_from_elem($$item, $$count)"),
     ("let alloc = rt.alloc();", ""), (".clone()", ".fallible_clone()"), ("|heap|", "||"), ("|alloc, $name|", "|$name|"),
 ])
 # Elements that go, of lists of parameters, arguments and fields: allocators, their types, writers' types, handles.

@@ -61,6 +61,13 @@ impl DevicePathHeader {
     pub fn length(&self) -> u16 {
         self.length
     }
+
+    /// Returns the four bytes of the header.
+    #[inline]
+    pub fn to_bytes(self) -> [u8; 4] {
+        let [low, high] = self.length.to_le_bytes();
+        [self.device_type.0, self.sub_type.0, low, high]
+    }
 }
 
 /// Reads the header in the first four bytes, whatever length it states, and ignores the others.

@@ -8,7 +8,7 @@ use crate::support::fallible::*;
 #[cfg(feature = "alloc")]
 use crate::formats::uefi_path::boxed::BoxedDevicePathInstance;
 use crate::formats::uefi_path::node_iter::DevicePathNodeIterator;
-use crate::formats::uefi_path::walk::StopCondition;
+use crate::formats::uefi_path::walk::{StopCondition, nodes_before_end};
 use crate::support::alloc::AllocError;
 
 /// One instance of a device path (UEFI 2.10, 10.2): nodes of which only the last has the type END.
@@ -33,6 +33,12 @@ impl<'a> DevicePathInstance<'a> {
     #[inline]
     pub fn node_iter(&self) -> DevicePathNodeIterator<'a> {
         DevicePathNodeIterator::new(self.bytes, StopCondition::AnyEndNode)
+    }
+
+    /// Returns the bytes of the nodes before the one with the type END.
+    #[inline]
+    pub(crate) fn nodes(&self) -> &'a [u8] {
+        nodes_before_end(self.bytes, StopCondition::AnyEndNode)
     }
 
     /// Copies the instance into an allocation of its own.

@@ -10,7 +10,7 @@ use crate::formats::uefi_path::boxed::BoxedDevicePath;
 use crate::formats::uefi_path::error::ByteConversionError;
 use crate::formats::uefi_path::instance_iter::DevicePathInstanceIterator;
 use crate::formats::uefi_path::node_iter::DevicePathNodeIterator;
-use crate::formats::uefi_path::walk::{StopCondition, split_nodes};
+use crate::formats::uefi_path::walk::{StopCondition, nodes_before_end, split_nodes};
 use crate::support::alloc::AllocError;
 use core::fmt;
 
@@ -61,6 +61,12 @@ impl<'a> DevicePath<'a> {
     #[inline]
     pub fn node_iter(&self) -> DevicePathNodeIterator<'a> {
         DevicePathNodeIterator::new(self.bytes, StopCondition::EndEntireNode)
+    }
+
+    /// Returns the bytes of the nodes before the end-entire one.
+    #[inline]
+    pub fn nodes(&self) -> &'a [u8] {
+        nodes_before_end(self.bytes, StopCondition::EndEntireNode)
     }
 
     /// Copies the path into an allocation of its own.

@@ -76,3 +76,18 @@ pub(crate) fn first_nodes(bytes: &[u8], stop: StopCondition) -> (&[u8], &[u8]) {
         }
     }
 }
+
+/// Returns the bytes of the nodes before the one at which the walk stops, of bytes that are known
+/// to be such nodes.
+#[inline]
+pub(crate) fn nodes_before_end(bytes: &[u8], stop: StopCondition) -> &[u8] {
+    let mut rest = bytes;
+    loop {
+        let (node, after) = first_node(rest);
+        if stop.stops_at(&node) {
+            let (before, _) = bytes.split_at(bytes.len() - rest.len());
+            return before;
+        }
+        rest = after;
+    }
+}

@@ -124,6 +124,17 @@ fn headers_are_equal_where_their_fields_are() -> Result<(), Fail> {
     each_gives(&rows, is_header)
 }
 
+/// Returns the bytes of the header of [`TYPE`], [`SUB_TYPE`] and this length.
+fn header_bytes(length: &u16) -> [u8; 4] {
+    DevicePathHeader::new(TYPE, SUB_TYPE, *length).to_bytes()
+}
+
+#[test]
+fn a_header_has_its_bytes() -> Result<(), Fail> {
+    let rows = [(3, [0xa0, 0xb0, 3, 0]), (0x1234, [0xa0, 0xb0, 0x34, 0x12])];
+    each_gives(&rows, header_bytes)
+}
+
 /// Returns whether the two paths, their first nodes and their first instances are equal, in this
 /// order.
 fn equalities(input: &([u8; 9], [u8; 10])) -> Option<[bool; 3]> {
