@@ -16,6 +16,7 @@ pub mod flags;
 pub mod full_map;
 pub mod logs;
 pub mod map;
+pub mod node;
 pub mod path;
 pub mod records;
 pub mod resources;

@@ -32,7 +32,7 @@ mbr_is_known : (bytes other : List ℕ) (kind : ℕ) → length bytes ≡ 4 → 
 mbr_is_known bytes other kind sized same_type same_bytes its =
     let after = drop_at bytes (four_zeros ++ four_zeros ++ four_zeros) 4 sized in
     let never : false ≡ true = (λ i. not ((true && are_zero (sym after i)) || false))
-        ∙ (λ i. not (is_defined (same_type i) (same_bytes i))) ∙ its in absurd cc
+    ∙ (λ i. not (is_defined (same_type i) (same_bytes i))) ∙ its in absurd cc
 
 not_unknown : (a : PartitionSignature) (kind : ℕ) (bytes : List ℕ) → length (signature_bytes a) ≡ 16
     → type_of_signature a ≡ kind → signature_bytes a ≡ bytes → not (is_defined kind bytes) ≡ true

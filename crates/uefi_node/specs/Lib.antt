@@ -13,5 +13,6 @@ pub mod RestServices
 pub mod Media
 pub mod BiosBootSpec
 pub mod NodeEnum
+pub mod Texts
 pub mod Laws
 pub mod private

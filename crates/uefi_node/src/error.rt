@@ -1,3 +1,9 @@
+ghost use Rattle.std.specs.Prelude.{Some};
+ghost use Rattle.uefi_node.specs.Texts.{error_text};
+
+use std::error::Error;
+use std::fmt;
+
 /// Why a node is no value of a type.
 #[derive(Clone, Copy, PartialEq, Eq, Debug)]
 pub enum NodeConversionError {
@@ -10,3 +16,19 @@ pub enum NodeConversionError {
     /// The data have the length, but not the form of the type.
     Form,
 }
+
+/// Writes what is wrong with the node, such as `a node of another type`.
+impl fmt::Display for NodeConversionError {
+    ghost output = { λ error. Some (error_text error) };
+
+    fn fmt<W: fmt::Write>(&self, f: &mut fmt::Formatter<W>) -> fmt::Result {
+        f.write_str(match self {
+            NodeConversionError::DifferentType => "a node of another type",
+            NodeConversionError::UnsupportedType => "a node of an unknown type",
+            NodeConversionError::Length => "a length that no node of the type has",
+            NodeConversionError::Form => "data that no node of the type has",
+        })
+    }
+}
+
+impl Error for NodeConversionError {}

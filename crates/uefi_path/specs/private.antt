@@ -3,3 +3,4 @@ pub mod Encoding
 pub mod Stop
 pub mod OneNode
 pub mod OnePath
+pub mod NodeFault

@@ -37,11 +37,3 @@ IsTooShortFor length size NodeTooBig = ⊥
 IsTooShortFor length size (BufferTooSmall needed) = (size < needed) × (needed ≡ length)
 IsTooShortFor length size EndEntire = ⊥
 IsTooShortFor length size Memory = ⊥
-
--- Why a value has no node, whatever room there is.
-abbrev pub HasNodeFault : Type 0 → Node → BuildError → Type 0
-HasNodeFault IsValid node Form = ¬ IsValid
-HasNodeFault IsValid node NodeTooBig = IsValid × (greatest_length < length (encoding node))
-HasNodeFault IsValid node (BufferTooSmall needed) = ⊥
-HasNodeFault IsValid node EndEntire = ⊥
-HasNodeFault IsValid node Memory = ⊥

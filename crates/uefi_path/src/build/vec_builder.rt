@@ -1,6 +1,7 @@
 ghost use Rattle.std.specs.Prelude.{◌≡◌, ◌≤◌, ◌∷◌, ◌++◌, [], length, IfOk, IfErr, OnOk, OnErr};
 ghost use Rattle.uefi_path.specs.Node.{Fits, encoding, IsEndEntire, end_entire};
-ghost use Rattle.uefi_path.specs.build.Pushing.{HasVectorFault, CanBePushed, HasNodeFault};
+ghost use Rattle.uefi_path.specs.build.Pushing.{HasVectorFault, CanBePushed};
+ghost use Rattle.uefi_path.specs.private.NodeFault.{HasNodeFault};
 ghost use Rattle.uefi_path.specs.build.Writing.{greatest_length};
 ghost use Rattle.uefi_path.specs.private.Encoding.{EncodesBefore};
 ghost use Rattle.uefi_path.specs.private.OnePath.{EncodesBefore-prop};
