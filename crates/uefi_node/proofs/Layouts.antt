@@ -11,12 +11,11 @@ use Rattle.uefi_base.specs.LittleEndian.{AreBytes}
 use Rattle.uefi_base.specs.Unaligned.{AreUnits, units_of, unit_bytes}
 use Rattle.uefi_base.proofs.NumbersBack.{AreBytes-range, length-range}
 use Rattle.uefi_base.proofs.UnitsBack.{units_read_back}
-use Rattle.uefi_path.specs.Node.{Node}
 use Rattle.uefi_node.specs.Layout.{Size, two, four, eight, Field, byte, number, array}
 use Rattle.uefi_node.specs.Layout.{Rest, nothing, bytes, units, numbers, addresses, vendor, vendor_bytes, IsVendor}
 use Rattle.uefi_node.specs.Layout.{Layout, width, size_of, limit, field_size, field_bytes, FieldFits, fields_size, fields_bytes}
-use Rattle.uefi_node.specs.Layout.{rest_bytes, kind_of, RestLength, RestFits, HasForm, FitsLayout, value_bytes, node_as}
-use Rattle.uefi_node.specs.Laws.{SameField, SameRest, SameValue, OneValue}
+use Rattle.uefi_node.specs.Layout.{rest_bytes, kind_of, RestLength, RestFits, HasForm, FitsLayout, value_bytes}
+use Rattle.uefi_node.specs.Laws.{SameField, SameRest, OneValue}
 use Rattle.uefi_node.specs.private.Fields.{FieldAt, FieldsAt, RestIs, HasValue}
 
 -- Numbers: the length of their bytes, those that are read, and those that were written.

@@ -1,5 +1,5 @@
 -- Strings that end with a NUL each.
-use Rattle.std.proofs.Common.{◌≡◌, ℕ, zero, suc, ◌+◌, ◌≤◌, ◌<◌, List, [], ◌∷◌, ◌++◌, length, take, drop, get_or}
+use Rattle.std.proofs.Common.{◌≡◌, ℕ, zero, suc, ◌+◌, ◌<◌, List, [], ◌∷◌, ◌++◌, length, take, drop, get_or}
 use Rattle.std.proofs.Common.{Bool, true, false, not, cond, ◌&&◌, refl, sym, ◌∙◌, ap, subst, arith, eqb, take-append-drop}
 use Rattle.std.specs.Prelude.{IsTrue, ◌==◌, position, Some, None, nat_lt}
 use Rattle.std.proofs.lemmas.List.Folds.{list_all-append}
@@ -9,7 +9,7 @@ use Rattle.std.proofs.Math.Dec.{eqb-suc-zero}
 use Rattle.std.proofs.lemmas.List.{take_all, drop_more, drop-drop}
 use Rattle.std.proofs.lemmas.List.Sums.{prefix_len_stops}
 use Rattle.uefi_node.specs.Laws.{OneWayToSplit}
-use Rattle.uefi_node.specs.NulStrings.{is_without_nul, strings_bytes, AreStrings}
+use Rattle.uefi_node.specs.NulStrings.{is_without_nul, AreStrings}
 
 -- What passes a test before the first that doesn't.
 before_first : (p : ℕ → Bool) (xs : List ℕ) → list_all p (take (prefix_len p xs) xs) ≡ true

@@ -1,10 +1,9 @@
 -- What a reader returns, from what it tested.
-use Rattle.std.proofs.Common.{◌≡◌, ℕ, ◌-◌, ◌≤◌, List, length, sym, ◌∙◌, ap, subst, Ok, Err}
-use Rattle.std.specs.Prelude.{◌↔◌}
+use Rattle.std.proofs.Common.{◌≡◌, ℕ, List, length, sym, ◌∙◌, ap, subst, Ok, Err}
 use Rattle.uefi_base.specs.LittleEndian.{AreBytes}
 use Rattle.uefi_path.specs.Node.{Node}
-use Rattle.uefi_node.specs.Layout.{Layout, fields_size, kind_of, HasForm, node_as, IsNodeAs}
-use Rattle.uefi_node.specs.Reading.{HasType, HasLength, HasReadingFault, ReadsAs}
+use Rattle.uefi_node.specs.Layout.{Layout, fields_size, kind_of, HasForm}
+use Rattle.uefi_node.specs.Reading.{HasType, HasLength, ReadsAs}
 use Rattle.uefi_node.specs.private.Fields.{HasValue, HasLengthOf, IsLayout}
 use Rattle.uefi_node.specs.declared.read.RestKind.{RestKind}
 use Rattle.uefi_node.specs.declared.error.NodeConversionError.TheVariants.{DifferentType, Length, Form}

@@ -1,5 +1,5 @@
 -- Signatures that are all zero.
-use Rattle.std.proofs.Common.{◌≡◌, ℕ, zero, suc, not, ◌||◌, take, drop, arith, length-append, List, [], ◌∷◌, ◌++◌, length, replicate, true, false, ◌&&◌, ◌∙◌, refl, sym, ap}
+use Rattle.std.proofs.Common.{◌≡◌, ℕ, zero, suc, not, ◌||◌, take, arith, length-append, List, [], ◌∷◌, ◌++◌, length, replicate, true, false, ◌&&◌, ◌∙◌, refl, sym, ap}
 use Rattle.std.proofs.Math.Dec.{eqb-suc-zero}
 use Rattle.std.proofs.lemmas.List.{take_at, drop_at}
 use Rattle.uefi_node.specs.Laws.{OneSignature}

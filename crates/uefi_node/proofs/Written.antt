@@ -1,8 +1,8 @@
 -- The node of a value was written if its fields and its tail were.
-use Rattle.std.proofs.Common.{◌≡◌, ℕ, ◌+◌, ◌≤◌, ◌<◌, List, ◌++◌, length, ◌∙◌, sym, ap, subst, arith, length-append, Ok, Err}
-use Rattle.std.specs.Prelude.{Result, IsOk, IfOk, OnOk, OnErr, IfErr}
+use Rattle.std.proofs.Common.{◌≡◌, ℕ, ◌+◌, List, ◌++◌, length, ◌∙◌, sym, ap, subst, arith, length-append, Ok, Err}
+use Rattle.std.specs.Prelude.{Result}
 use Rattle.uefi_base.specs.Buffer.{put_prefix}
-use Rattle.uefi_path.specs.Node.{Node, Fits, encoding}
+use Rattle.uefi_path.specs.Node.{Node, encoding}
 use Rattle.uefi_path.specs.build.Writing.{WritesNode, HasWritingFault}
 use Rattle.uefi_path.specs.declared.build.error.BuildError.{BuildError}
 use Rattle.uefi_path.specs.declared.build.error.BuildError.TheVariants.{Form, NodeTooBig, BufferTooSmall, EndEntire, Memory}

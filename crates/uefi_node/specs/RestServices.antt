@@ -1,5 +1,5 @@
 -- REST services (UEFI 2.10, 10.3.4.32).
-use Rattle.std.specs.Prelude.{ℕ, Bool, true, false, not, ◌==◌, List, [], ◌∷◌, Option, Some, None}
+use Rattle.std.specs.Prelude.{ℕ, Bool, not, ◌==◌, List, [], ◌∷◌, Option, Some, None}
 use Rattle.std.specs.Borrow.{Bor}
 use Rattle.uefi_base.specs.declared.guid.Guid.{Guid}
 use Rattle.uefi_node.specs.Layout.{Layout, byte, vendor, vendor_or_none}

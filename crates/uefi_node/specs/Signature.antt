@@ -1,5 +1,5 @@
 -- Signatures of partitions (UEFI 2.10, 10.3.5.1).
-use Rattle.std.specs.Prelude.{ℕ, Bool, true, false, not, ◌==◌, ◌&&◌, ◌||◌, List, [], ◌∷◌, ◌++◌, drop}
+use Rattle.std.specs.Prelude.{ℕ, Bool, true, not, ◌==◌, ◌&&◌, ◌||◌, List, [], ◌∷◌, ◌++◌, drop}
 use Rattle.std.specs.List.{list_all}
 use Rattle.uefi_node.specs.declared.media.partition_signature.PartitionSignature.{PartitionSignature}
 use Rattle.uefi_node.specs.declared.media.partition_signature.PartitionSignature.TheVariants.{None, Mbr, Guid, Unknown}

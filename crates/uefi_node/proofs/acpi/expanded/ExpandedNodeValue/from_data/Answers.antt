@@ -1,4 +1,4 @@
-use Rattle.std.proofs.Common.{drop, sym, subst}
+use Rattle.std.proofs.Common.{sym, subst}
 use Rattle.uefi_node.specs.NulStrings.{AreStrings}
 use Rattle.uefi_node.proofs.acpi.expanded.ExpandedNodeValue.from_data.Goals as goal
 

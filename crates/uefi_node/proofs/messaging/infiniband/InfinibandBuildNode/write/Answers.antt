@@ -1,4 +1,4 @@
-use Rattle.std.proofs.Common.{◌++◌, [], length, ◌∙◌, sym, ap, arith, refl}
+use Rattle.std.proofs.Common.{◌++◌, [], ◌∙◌, sym, ap, arith, refl}
 use Rattle.uefi_base.specs.LittleEndian.{u32_bytes}
 use Rattle.uefi_node.proofs.messaging.infiniband.InfinibandBuildNode.write.Goals as goal
 
