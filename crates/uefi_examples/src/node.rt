@@ -7,7 +7,7 @@ ghost use Rattle.uefi_node.specs.Layout.{IsNodeAs, node_as};
 ghost use Rattle.uefi_node.specs.Media.{hard_drive, file_path};
 ghost use Rattle.uefi_node.specs.declared.media.hard_drive.HardDrive.{HardDrive};
 
-use uefi_node::laws::{faithful_types, one_signature, one_way_to_split};
+use uefi_node::laws::{faithful_types, one_signature, one_way_to_split, worked_rows};
 use uefi_node::media::{FilePath, HardDrive};
 use uefi_node::{DevicePathNodeEnum, DevicePathNodeExt};
 use uefi_path::DevicePath;
@@ -47,4 +47,5 @@ pub fn laws_of_nodes() {
     faithful_types();
     one_signature();
     one_way_to_split();
+    worked_rows();
 }

@@ -5,3 +5,4 @@ pub mod Written
 pub mod Signatures
 pub mod NulStrings
 pub mod Faithful
+pub mod Rows

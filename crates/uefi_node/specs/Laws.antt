@@ -107,7 +107,8 @@ pub record FaithfulTypes : Type 0 where
 -- A type and 16 bytes are those of one signature.
 abbrev pub OneSignature : Type 0
 OneSignature = (a b : PartitionSignature) → IsTrue (is_signature a) → IsTrue (is_signature b)
-    → length (signature_bytes a) ≡ 16 → length (signature_bytes b) ≡ 16 → type_of_signature a ≡ type_of_signature b → signature_bytes a ≡ signature_bytes b → a ≡ b
+    → length (signature_bytes a) ≡ 16 → length (signature_bytes b) ≡ 16 → type_of_signature a ≡ type_of_signature b
+    → signature_bytes a ≡ signature_bytes b → a ≡ b
 
 -- Bytes are three strings in one way.
 abbrev pub OneWayToSplit : Type 0

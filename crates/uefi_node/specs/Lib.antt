@@ -15,4 +15,5 @@ pub mod BiosBootSpec
 pub mod NodeEnum
 pub mod Texts
 pub mod Laws
+pub mod rows
 pub mod private

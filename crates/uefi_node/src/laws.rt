@@ -2,6 +2,7 @@
 //! when it runs.
 
 ghost use Rattle.uefi_node.specs.Laws.{FaithfulTypes, OneSignature, OneWayToSplit};
+ghost use Rattle.uefi_node.specs.rows.Nodes.{RowsHold};
 
 /// States for each type of nodes that a node is that of one value at most, and that reading the
 /// node of a value returns the value.
@@ -19,4 +20,10 @@ pub fn one_signature()
 #[tactic(auto, using(crate::proofs::NulStrings::one_way_to_split))]
 pub fn one_way_to_split()
     ensures { OneWayToSplit }
+{}
+
+/// States that the layouts hold on worked rows: for each type of fixed length a node and its bytes.
+#[tactic(auto, using(crate::proofs::Rows::rows_hold))]
+pub fn worked_rows()
+    ensures { RowsHold }
 {}
