@@ -1,0 +1,9 @@
+mod acpi;
+mod bios_boot_spec;
+mod checks;
+mod disks;
+mod end;
+mod hardware;
+mod media;
+mod networks;
+mod ports;
