@@ -11,7 +11,7 @@ fn an_acpi_device_is_two_identifiers(rt: HostRuntime) -> Result<(), Fail> {
         hid: 0x4030201,
         uid: 0x14131211,
     };
-    reads_and_writes(rt.alloc(), &input, &expected, &AcpiAcpi(expected))
+    reads_and_writes(rt.alloc(), &input, &expected, AcpiAcpi)
 }
 
 #[test]
@@ -30,7 +30,7 @@ fn an_expanded_acpi_device_is_three_identifiers_as_numbers_and_strings(
         uid_str: beside(&input, b"D"),
         cid_str: beside(&input, b"EF"),
     };
-    reads_and_writes(rt.alloc(), &input, &expected, &AcpiExpanded(expected))
+    reads_and_writes(rt.alloc(), &input, &expected, AcpiExpanded)
 }
 
 #[test]
@@ -39,7 +39,7 @@ fn video_outputs_are_addresses(rt: HostRuntime) -> Result<(), Fail> {
     let expected = Adr {
         adr: AdrList::new(beside(&input, b"\x01\x02\x03\x04\x11\x12\x13\x14")).ok_or("addresses")?,
     };
-    reads_and_writes(rt.alloc(), &input, &expected, &AcpiAdr(expected))
+    reads_and_writes(rt.alloc(), &input, &expected, AcpiAdr)
 }
 
 #[test]
@@ -48,5 +48,5 @@ fn an_nvdimm_is_a_handle(rt: HostRuntime) -> Result<(), Fail> {
     let expected = Nvdimm {
         nfit_device_handle: 0x4030201,
     };
-    reads_and_writes(rt.alloc(), &input, &expected, &AcpiNvdimm(expected))
+    reads_and_writes(rt.alloc(), &input, &expected, AcpiNvdimm)
 }

@@ -14,10 +14,5 @@ fn a_boot_device_of_a_bios_is_a_type_a_status_and_a_description(
         status_flag: 0x201,
         description_string: beside(&input, b"net\0"),
     };
-    reads_and_writes(
-        rt.alloc(),
-        &input,
-        &expected,
-        &BiosBootSpecBootSpecification(expected),
-    )
+    reads_and_writes(rt.alloc(), &input, &expected, BiosBootSpecBootSpecification)
 }

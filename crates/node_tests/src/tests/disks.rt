@@ -15,7 +15,7 @@ fn an_atapi_device_is_a_channel_a_device_and_a_unit(rt: HostRuntime) -> Result<(
         master_slave: MasterSlave::MASTER,
         logical_unit_number: 0x302,
     };
-    reads_and_writes(rt.alloc(), &input, &expected, &MessagingAtapi(expected))
+    reads_and_writes(rt.alloc(), &input, &expected, MessagingAtapi)
 }
 
 #[test]
@@ -25,7 +25,7 @@ fn a_scsi_device_is_a_target_and_a_unit(rt: HostRuntime) -> Result<(), Fail> {
         target_id: 0x201,
         logical_unit_number: 0x1211,
     };
-    reads_and_writes(rt.alloc(), &input, &expected, &MessagingScsi(expected))
+    reads_and_writes(rt.alloc(), &input, &expected, MessagingScsi)
 }
 
 #[test]
@@ -39,12 +39,7 @@ fn a_fibre_channel_device_is_a_name_and_a_unit(rt: HostRuntime) -> Result<(), Fa
         world_wide_name: 0x1817161514131211,
         logical_unit_number: 0x2827262524232221,
     };
-    reads_and_writes(
-        rt.alloc(),
-        &input,
-        &expected,
-        &MessagingFibreChannel(expected),
-    )
+    reads_and_writes(rt.alloc(), &input, &expected, MessagingFibreChannel)
 }
 
 #[test]
@@ -60,12 +55,7 @@ fn an_extended_fibre_channel_device_is_a_name_and_a_unit_of_bytes(
         world_wide_name: *b"abcdefgh",
         logical_unit_number: *b"ABCDEFGH",
     };
-    reads_and_writes(
-        rt.alloc(),
-        &input,
-        &expected,
-        &MessagingFibreChannelEx(expected),
-    )
+    reads_and_writes(rt.alloc(), &input, &expected, MessagingFibreChannelEx)
 }
 
 #[test]
@@ -76,7 +66,7 @@ fn a_sata_device_is_two_ports_and_a_unit(rt: HostRuntime) -> Result<(), Fail> {
         port_multiplier_port_number: 0x1211,
         logical_unit_number: 0x2221,
     };
-    reads_and_writes(rt.alloc(), &input, &expected, &MessagingSata(expected))
+    reads_and_writes(rt.alloc(), &input, &expected, MessagingSata)
 }
 
 #[test]
@@ -85,12 +75,7 @@ fn a_logical_unit_is_a_number(rt: HostRuntime) -> Result<(), Fail> {
     let expected = DeviceLogicalUnit {
         logical_unit_number: 7,
     };
-    reads_and_writes(
-        rt.alloc(),
-        &input,
-        &expected,
-        &MessagingDeviceLogicalUnit(expected),
-    )
+    reads_and_writes(rt.alloc(), &input, &expected, MessagingDeviceLogicalUnit)
 }
 
 #[test]
@@ -105,7 +90,7 @@ fn an_extended_sas_device_is_an_address_a_unit_and_a_port(rt: HostRuntime) -> Re
         info: 0x201,
         relative_target_port: 0x1211,
     };
-    reads_and_writes(rt.alloc(), &input, &expected, &MessagingSasEx(expected))
+    reads_and_writes(rt.alloc(), &input, &expected, MessagingSasEx)
 }
 
 #[test]
@@ -115,12 +100,7 @@ fn an_nvme_namespace_is_a_number_and_an_identifier(rt: HostRuntime) -> Result<()
         namespace_identifier: 0x4030201,
         ieee_extended_unique_identifier: 0x1817161514131211,
     };
-    reads_and_writes(
-        rt.alloc(),
-        &input,
-        &expected,
-        &MessagingNvmeNamespace(expected),
-    )
+    reads_and_writes(rt.alloc(), &input, &expected, MessagingNvmeNamespace)
 }
 
 #[test]
@@ -134,12 +114,7 @@ fn an_nvme_of_namespace_is_an_identifier_and_a_name(rt: HostRuntime) -> Result<(
         nid: *b"0123456789abcdef",
         subsystem_nqn: beside(&input, b"nqn.x\0"),
     };
-    reads_and_writes(
-        rt.alloc(),
-        &input,
-        &expected,
-        &MessagingNvmeOfNamespace(expected),
-    )
+    reads_and_writes(rt.alloc(), &input, &expected, MessagingNvmeOfNamespace)
 }
 
 #[test]
@@ -148,12 +123,7 @@ fn an_nvdimm_namespace_is_a_uuid(rt: HostRuntime) -> Result<(), Fail> {
     let expected = NvdimmNamespace {
         uuid: *b"0123456789abcdef",
     };
-    reads_and_writes(
-        rt.alloc(),
-        &input,
-        &expected,
-        &MessagingNvdimmNamespace(expected),
-    )
+    reads_and_writes(rt.alloc(), &input, &expected, MessagingNvdimmNamespace)
 }
 
 #[test]
@@ -163,19 +133,19 @@ fn a_ufs_device_is_a_target_and_a_unit(rt: HostRuntime) -> Result<(), Fail> {
         target_id: 1,
         logical_unit_number: 2,
     };
-    reads_and_writes(rt.alloc(), &input, &expected, &MessagingUfs(expected))
+    reads_and_writes(rt.alloc(), &input, &expected, MessagingUfs)
 }
 
 #[test]
 fn an_sd_card_is_a_slot(rt: HostRuntime) -> Result<(), Fail> {
     let input = bytes(rt.alloc(), "031a 0500 02")?;
     let expected = Sd { slot_number: 2 };
-    reads_and_writes(rt.alloc(), &input, &expected, &MessagingSd(expected))
+    reads_and_writes(rt.alloc(), &input, &expected, MessagingSd)
 }
 
 #[test]
 fn an_emmc_device_is_a_slot(rt: HostRuntime) -> Result<(), Fail> {
     let input = bytes(rt.alloc(), "031d 0500 03")?;
     let expected = Emmc { slot_number: 3 };
-    reads_and_writes(rt.alloc(), &input, &expected, &MessagingEmmc(expected))
+    reads_and_writes(rt.alloc(), &input, &expected, MessagingEmmc)
 }

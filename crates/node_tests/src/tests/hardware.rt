@@ -13,14 +13,14 @@ fn a_pci_device_is_a_function_and_a_device(rt: HostRuntime) -> Result<(), Fail> 
         function: 0x1f,
         device: 2,
     };
-    reads_and_writes(rt.alloc(), &input, &expected, &HardwarePci(expected))
+    reads_and_writes(rt.alloc(), &input, &expected, HardwarePci)
 }
 
 #[test]
 fn a_pccard_is_a_function(rt: HostRuntime) -> Result<(), Fail> {
     let input = bytes(rt.alloc(), "0102 0500 03")?;
     let expected = Pccard { function: 3 };
-    reads_and_writes(rt.alloc(), &input, &expected, &HardwarePccard(expected))
+    reads_and_writes(rt.alloc(), &input, &expected, HardwarePccard)
 }
 
 #[test]
@@ -34,12 +34,7 @@ fn memory_mapped_registers_are_a_type_and_two_addresses(rt: HostRuntime) -> Resu
         start_address: 0x1817161514131211,
         end_address: 0x2827262524232221,
     };
-    reads_and_writes(
-        rt.alloc(),
-        &input,
-        &expected,
-        &HardwareMemoryMapped(expected),
-    )
+    reads_and_writes(rt.alloc(), &input, &expected, HardwareMemoryMapped)
 }
 
 #[test]
@@ -52,7 +47,7 @@ fn a_device_of_a_vendor_is_a_guid_and_data(rt: HostRuntime) -> Result<(), Fail> 
         vendor_guid: Guid(*b"0123456789abcdef"),
         vendor_defined_data: beside(&input, b"xyz"),
     };
-    reads_and_writes(rt.alloc(), &input, &expected, &HardwareVendor(expected))
+    reads_and_writes(rt.alloc(), &input, &expected, HardwareVendor)
 }
 
 #[test]
@@ -61,7 +56,7 @@ fn a_controller_is_a_number(rt: HostRuntime) -> Result<(), Fail> {
     let expected = Controller {
         controller_number: 0x4030201,
     };
-    reads_and_writes(rt.alloc(), &input, &expected, &HardwareController(expected))
+    reads_and_writes(rt.alloc(), &input, &expected, HardwareController)
 }
 
 #[test]
@@ -71,5 +66,5 @@ fn a_bmc_is_an_interface_and_an_address(rt: HostRuntime) -> Result<(), Fail> {
         interface_type: BmcInterfaceType::BLOCK_TRANSFER,
         base_address: 0x807060504030201,
     };
-    reads_and_writes(rt.alloc(), &input, &expected, &HardwareBmc(expected))
+    reads_and_writes(rt.alloc(), &input, &expected, HardwareBmc)
 }

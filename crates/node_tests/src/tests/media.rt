@@ -21,7 +21,7 @@ fn a_partition_is_its_blocks_and_its_signature(rt: HostRuntime) -> Result<(), Fa
         partition_signature: PartitionSignature::Guid(Guid(*b"0123456789abcdef")),
         partition_format: PartitionFormat::MBR,
     };
-    reads_and_writes(rt.alloc(), &input, &expected, &MediaHardDrive(expected))
+    reads_and_writes(rt.alloc(), &input, &expected, MediaHardDrive)
 }
 
 #[test]
@@ -35,7 +35,7 @@ fn an_entry_of_a_cd_rom_is_its_blocks(rt: HostRuntime) -> Result<(), Fail> {
         partition_start: 0x1817161514131211,
         partition_size: 0x2827262524232221,
     };
-    reads_and_writes(rt.alloc(), &input, &expected, &MediaCdRom(expected))
+    reads_and_writes(rt.alloc(), &input, &expected, MediaCdRom)
 }
 
 #[test]
@@ -48,7 +48,7 @@ fn a_medium_of_a_vendor_is_a_guid_and_data(rt: HostRuntime) -> Result<(), Fail> 
         vendor_guid: Guid(*b"0123456789abcdef"),
         vendor_defined_data: beside(&input, b"xyz"),
     };
-    reads_and_writes(rt.alloc(), &input, &expected, &MediaVendor(expected))
+    reads_and_writes(rt.alloc(), &input, &expected, MediaVendor)
 }
 
 #[test]
@@ -57,7 +57,7 @@ fn a_file_path_is_its_units(rt: HostRuntime) -> Result<(), Fail> {
     let expected = FilePath {
         path_name: UnalignedSlice::new(beside(&input, b"\\\0a\0AB\0\0")),
     };
-    reads_and_writes(rt.alloc(), &input, &expected, &MediaFilePath(expected))
+    reads_and_writes(rt.alloc(), &input, &expected, MediaFilePath)
 }
 
 #[test]
@@ -66,7 +66,7 @@ fn a_protocol_is_a_guid(rt: HostRuntime) -> Result<(), Fail> {
     let expected = Protocol {
         protocol_guid: Guid(*b"0123456789abcdef"),
     };
-    reads_and_writes(rt.alloc(), &input, &expected, &MediaProtocol(expected))
+    reads_and_writes(rt.alloc(), &input, &expected, MediaProtocol)
 }
 
 #[test]
@@ -75,12 +75,7 @@ fn a_firmware_file_is_its_bytes(rt: HostRuntime) -> Result<(), Fail> {
     let expected = PiwgFirmwareFile {
         data: beside(&input, b"0123456789abcdef"),
     };
-    reads_and_writes(
-        rt.alloc(),
-        &input,
-        &expected,
-        &MediaPiwgFirmwareFile(expected),
-    )
+    reads_and_writes(rt.alloc(), &input, &expected, MediaPiwgFirmwareFile)
 }
 
 #[test]
@@ -89,12 +84,7 @@ fn a_firmware_volume_is_its_bytes(rt: HostRuntime) -> Result<(), Fail> {
     let expected = PiwgFirmwareVolume {
         data: beside(&input, b"ABCDEFGHIJKLMNOP"),
     };
-    reads_and_writes(
-        rt.alloc(),
-        &input,
-        &expected,
-        &MediaPiwgFirmwareVolume(expected),
-    )
+    reads_and_writes(rt.alloc(), &input, &expected, MediaPiwgFirmwareVolume)
 }
 
 #[test]
@@ -108,12 +98,7 @@ fn a_range_is_two_offsets(rt: HostRuntime) -> Result<(), Fail> {
         starting_offset: 0x1817161514131211,
         ending_offset: 0x2827262524232221,
     };
-    reads_and_writes(
-        rt.alloc(),
-        &input,
-        &expected,
-        &MediaRelativeOffsetRange(expected),
-    )
+    reads_and_writes(rt.alloc(), &input, &expected, MediaRelativeOffsetRange)
 }
 
 #[test]
@@ -128,5 +113,5 @@ fn a_ram_disk_is_two_addresses_a_type_and_a_number(rt: HostRuntime) -> Result<()
         disk_type: RamDiskType::PERSISTENT_VIRTUAL_CD,
         disk_instance: 0x201,
     };
-    reads_and_writes(rt.alloc(), &input, &expected, &MediaRamDisk(expected))
+    reads_and_writes(rt.alloc(), &input, &expected, MediaRamDisk)
 }

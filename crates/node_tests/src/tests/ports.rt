@@ -15,7 +15,7 @@ fn an_ieee_1394_device_is_a_guid_of_eight_bytes(rt: HostRuntime) -> Result<(), F
         reserved: 0x4030201,
         guid: *b"abcdefgh",
     };
-    reads_and_writes(rt.alloc(), &input, &expected, &MessagingIeee1394(expected))
+    reads_and_writes(rt.alloc(), &input, &expected, MessagingIeee1394)
 }
 
 #[test]
@@ -25,7 +25,7 @@ fn a_usb_device_is_a_port_and_an_interface(rt: HostRuntime) -> Result<(), Fail> 
         parent_port_number: 1,
         interface: 2,
     };
-    reads_and_writes(rt.alloc(), &input, &expected, &MessagingUsb(expected))
+    reads_and_writes(rt.alloc(), &input, &expected, MessagingUsb)
 }
 
 #[test]
@@ -37,7 +37,7 @@ fn a_usb_device_has_a_serial_number(rt: HostRuntime) -> Result<(), Fail> {
         device_product_id: 0x2221,
         serial_number: UnalignedSlice::new(beside(&input, b"12AB")),
     };
-    reads_and_writes(rt.alloc(), &input, &expected, &MessagingUsbWwid(expected))
+    reads_and_writes(rt.alloc(), &input, &expected, MessagingUsbWwid)
 }
 
 #[test]
@@ -50,7 +50,7 @@ fn a_class_of_usb_devices_is_two_identifiers_and_a_class(rt: HostRuntime) -> Res
         device_subclass: 0x22,
         device_protocol: 0x23,
     };
-    reads_and_writes(rt.alloc(), &input, &expected, &MessagingUsbClass(expected))
+    reads_and_writes(rt.alloc(), &input, &expected, MessagingUsbClass)
 }
 
 #[test]
@@ -59,7 +59,7 @@ fn an_i2o_device_is_a_target(rt: HostRuntime) -> Result<(), Fail> {
     let expected = I2o {
         target_id: 0x4030201,
     };
-    reads_and_writes(rt.alloc(), &input, &expected, &MessagingI2o(expected))
+    reads_and_writes(rt.alloc(), &input, &expected, MessagingI2o)
 }
 
 #[test]
@@ -72,7 +72,7 @@ fn a_serial_port_has_its_settings(rt: HostRuntime) -> Result<(), Fail> {
         parity: Parity::EVEN,
         stop_bits: StopBits::TWO,
     };
-    reads_and_writes(rt.alloc(), &input, &expected, &MessagingUart(expected))
+    reads_and_writes(rt.alloc(), &input, &expected, MessagingUart)
 }
 
 #[test]
@@ -85,7 +85,7 @@ fn a_connection_of_a_vendor_is_a_guid_and_data(rt: HostRuntime) -> Result<(), Fa
         vendor_guid: Guid(*b"0123456789abcdef"),
         vendor_defined_data: beside(&input, b"xyz"),
     };
-    reads_and_writes(rt.alloc(), &input, &expected, &MessagingVendor(expected))
+    reads_and_writes(rt.alloc(), &input, &expected, MessagingVendor)
 }
 
 #[test]
@@ -94,7 +94,7 @@ fn a_bluetooth_device_is_an_address(rt: HostRuntime) -> Result<(), Fail> {
     let expected = Bluetooth {
         device_address: *b"abcdef",
     };
-    reads_and_writes(rt.alloc(), &input, &expected, &MessagingBluetooth(expected))
+    reads_and_writes(rt.alloc(), &input, &expected, MessagingBluetooth)
 }
 
 #[test]
@@ -104,10 +104,5 @@ fn a_bluetooth_le_device_is_an_address_and_its_type(rt: HostRuntime) -> Result<(
         device_address: *b"abcdef",
         address_type: BluetoothLeAddressType::RANDOM,
     };
-    reads_and_writes(
-        rt.alloc(),
-        &input,
-        &expected,
-        &MessagingBluetoothLe(expected),
-    )
+    reads_and_writes(rt.alloc(), &input, &expected, MessagingBluetoothLe)
 }
