@@ -1,0 +1,17 @@
+mod acpi;
+mod bios_boot_spec;
+mod checks;
+mod disks;
+mod end;
+mod flags;
+mod hardware;
+mod lengths;
+mod lists;
+mod media;
+mod networks;
+mod numbers;
+mod paths;
+mod ports;
+mod refusals;
+mod signatures;
+mod writers;

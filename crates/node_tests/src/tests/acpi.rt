@@ -1,0 +1,52 @@
+use crate::tests::checks::{beside, reads_and_writes};
+use std::test::Fail;
+use test_support::bytes;
+use uefi_node::DevicePathNodeEnum::*;
+use uefi_node::acpi::{Acpi, Adr, AdrList, Expanded, Nvdimm};
+
+#[test]
+fn an_acpi_device_is_two_identifiers(rt: HostRuntime) -> Result<(), Fail> {
+    let input = bytes(rt.alloc(), "0201 0c00 01020304 11121314")?;
+    let expected = Acpi {
+        hid: 0x4030201,
+        uid: 0x14131211,
+    };
+    reads_and_writes(rt.alloc(), &input, &expected, AcpiAcpi)
+}
+
+#[test]
+fn an_expanded_acpi_device_is_three_identifiers_as_numbers_and_strings(
+    rt: HostRuntime,
+) -> Result<(), Fail> {
+    let input = bytes(
+        rt.alloc(),
+        "0202 1900 01020304 11121314 21222324 41424300 4400 454600",
+    )?;
+    let expected = Expanded {
+        hid: 0x4030201,
+        uid: 0x14131211,
+        cid: 0x24232221,
+        hid_str: beside(&input, b"ABC"),
+        uid_str: beside(&input, b"D"),
+        cid_str: beside(&input, b"EF"),
+    };
+    reads_and_writes(rt.alloc(), &input, &expected, AcpiExpanded)
+}
+
+#[test]
+fn video_outputs_are_addresses(rt: HostRuntime) -> Result<(), Fail> {
+    let input = bytes(rt.alloc(), "0203 0c00 01020304 11121314")?;
+    let expected = Adr {
+        adr: AdrList::new(beside(&input, b"\x01\x02\x03\x04\x11\x12\x13\x14")).ok_or("addresses")?,
+    };
+    reads_and_writes(rt.alloc(), &input, &expected, AcpiAdr)
+}
+
+#[test]
+fn an_nvdimm_is_a_handle(rt: HostRuntime) -> Result<(), Fail> {
+    let input = bytes(rt.alloc(), "0204 0800 01020304")?;
+    let expected = Nvdimm {
+        nfit_device_handle: 0x4030201,
+    };
+    reads_and_writes(rt.alloc(), &input, &expected, AcpiNvdimm)
+}

@@ -1,0 +1,18 @@
+use crate::tests::checks::{beside, reads_and_writes};
+use std::test::Fail;
+use test_support::bytes;
+use uefi_node::DevicePathNodeEnum::*;
+use uefi_node::bios_boot_spec::{BootSpecification, BootSpecificationDeviceType};
+
+#[test]
+fn a_boot_device_of_a_bios_is_a_type_a_status_and_a_description(
+    rt: HostRuntime,
+) -> Result<(), Fail> {
+    let input = bytes(rt.alloc(), "0501 0c00 8000 0102 6e657400")?;
+    let expected = BootSpecification {
+        device_type: BootSpecificationDeviceType::BOOTSTRAP_ENTRY_VECTOR,
+        status_flag: 0x201,
+        description_string: beside(&input, b"net\0"),
+    };
+    reads_and_writes(rt.alloc(), &input, &expected, BiosBootSpecBootSpecification)
+}

@@ -1,0 +1,70 @@
+use crate::tests::checks::{beside, reads_and_writes};
+use std::test::Fail;
+use test_support::bytes;
+use uefi_base::Guid;
+use uefi_map::MemoryType;
+use uefi_node::DevicePathNodeEnum::*;
+use uefi_node::hardware::{Bmc, BmcInterfaceType, Controller, MemoryMapped, Pccard, Pci, Vendor};
+
+#[test]
+fn a_pci_device_is_a_function_and_a_device(rt: HostRuntime) -> Result<(), Fail> {
+    let input = bytes(rt.alloc(), "0101 0600 1f 02")?;
+    let expected = Pci {
+        function: 0x1f,
+        device: 2,
+    };
+    reads_and_writes(rt.alloc(), &input, &expected, HardwarePci)
+}
+
+#[test]
+fn a_pccard_is_a_function(rt: HostRuntime) -> Result<(), Fail> {
+    let input = bytes(rt.alloc(), "0102 0500 03")?;
+    let expected = Pccard { function: 3 };
+    reads_and_writes(rt.alloc(), &input, &expected, HardwarePccard)
+}
+
+#[test]
+fn memory_mapped_registers_are_a_type_and_two_addresses(rt: HostRuntime) -> Result<(), Fail> {
+    let input = bytes(
+        rt.alloc(),
+        "0103 1800 01020304 1112131415161718 2122232425262728",
+    )?;
+    let expected = MemoryMapped {
+        memory_type: MemoryType(0x4030201),
+        start_address: 0x1817161514131211,
+        end_address: 0x2827262524232221,
+    };
+    reads_and_writes(rt.alloc(), &input, &expected, HardwareMemoryMapped)
+}
+
+#[test]
+fn a_device_of_a_vendor_is_a_guid_and_data(rt: HostRuntime) -> Result<(), Fail> {
+    let input = bytes(
+        rt.alloc(),
+        "0104 1700 30313233343536373839616263646566 78797a",
+    )?;
+    let expected = Vendor {
+        vendor_guid: Guid(*b"0123456789abcdef"),
+        vendor_defined_data: beside(&input, b"xyz"),
+    };
+    reads_and_writes(rt.alloc(), &input, &expected, HardwareVendor)
+}
+
+#[test]
+fn a_controller_is_a_number(rt: HostRuntime) -> Result<(), Fail> {
+    let input = bytes(rt.alloc(), "0105 0800 01020304")?;
+    let expected = Controller {
+        controller_number: 0x4030201,
+    };
+    reads_and_writes(rt.alloc(), &input, &expected, HardwareController)
+}
+
+#[test]
+fn a_bmc_is_an_interface_and_an_address(rt: HostRuntime) -> Result<(), Fail> {
+    let input = bytes(rt.alloc(), "0106 0d00 03 0102030405060708")?;
+    let expected = Bmc {
+        interface_type: BmcInterfaceType::BLOCK_TRANSFER,
+        base_address: 0x807060504030201,
+    };
+    reads_and_writes(rt.alloc(), &input, &expected, HardwareBmc)
+}

@@ -1,0 +1,117 @@
+use crate::tests::checks::{beside, reads_and_writes};
+use std::test::Fail;
+use test_support::bytes;
+use uefi_base::{Guid, UnalignedSlice};
+use uefi_node::DevicePathNodeEnum::*;
+use uefi_node::media::{
+    CdRom, FilePath, HardDrive, PartitionFormat, PartitionSignature, PiwgFirmwareFile,
+    PiwgFirmwareVolume, Protocol, RamDisk, RamDiskType, RelativeOffsetRange, Vendor,
+};
+
+#[test]
+fn a_partition_is_its_blocks_and_its_signature(rt: HostRuntime) -> Result<(), Fail> {
+    let input = bytes(
+        rt.alloc(),
+        "0401 2a00 01020304 1112131415161718 2122232425262728 30313233343536373839616263646566 01 02",
+    )?;
+    let expected = HardDrive {
+        partition_number: 0x4030201,
+        partition_start: 0x1817161514131211,
+        partition_size: 0x2827262524232221,
+        partition_signature: PartitionSignature::Guid(Guid(*b"0123456789abcdef")),
+        partition_format: PartitionFormat::MBR,
+    };
+    reads_and_writes(rt.alloc(), &input, &expected, MediaHardDrive)
+}
+
+#[test]
+fn an_entry_of_a_cd_rom_is_its_blocks(rt: HostRuntime) -> Result<(), Fail> {
+    let input = bytes(
+        rt.alloc(),
+        "0402 1800 01020304 1112131415161718 2122232425262728",
+    )?;
+    let expected = CdRom {
+        boot_entry: 0x4030201,
+        partition_start: 0x1817161514131211,
+        partition_size: 0x2827262524232221,
+    };
+    reads_and_writes(rt.alloc(), &input, &expected, MediaCdRom)
+}
+
+#[test]
+fn a_medium_of_a_vendor_is_a_guid_and_data(rt: HostRuntime) -> Result<(), Fail> {
+    let input = bytes(
+        rt.alloc(),
+        "0403 1700 30313233343536373839616263646566 78797a",
+    )?;
+    let expected = Vendor {
+        vendor_guid: Guid(*b"0123456789abcdef"),
+        vendor_defined_data: beside(&input, b"xyz"),
+    };
+    reads_and_writes(rt.alloc(), &input, &expected, MediaVendor)
+}
+
+#[test]
+fn a_file_path_is_its_units(rt: HostRuntime) -> Result<(), Fail> {
+    let input = bytes(rt.alloc(), "0404 0c00 5c00 6100 4142 0000")?;
+    let expected = FilePath {
+        path_name: UnalignedSlice::new(beside(&input, b"\\\0a\0AB\0\0")),
+    };
+    reads_and_writes(rt.alloc(), &input, &expected, MediaFilePath)
+}
+
+#[test]
+fn a_protocol_is_a_guid(rt: HostRuntime) -> Result<(), Fail> {
+    let input = bytes(rt.alloc(), "0405 1400 30313233343536373839616263646566")?;
+    let expected = Protocol {
+        protocol_guid: Guid(*b"0123456789abcdef"),
+    };
+    reads_and_writes(rt.alloc(), &input, &expected, MediaProtocol)
+}
+
+#[test]
+fn a_firmware_file_is_its_bytes(rt: HostRuntime) -> Result<(), Fail> {
+    let input = bytes(rt.alloc(), "0406 1400 30313233343536373839616263646566")?;
+    let expected = PiwgFirmwareFile {
+        data: beside(&input, b"0123456789abcdef"),
+    };
+    reads_and_writes(rt.alloc(), &input, &expected, MediaPiwgFirmwareFile)
+}
+
+#[test]
+fn a_firmware_volume_is_its_bytes(rt: HostRuntime) -> Result<(), Fail> {
+    let input = bytes(rt.alloc(), "0407 1400 4142434445464748494a4b4c4d4e4f50")?;
+    let expected = PiwgFirmwareVolume {
+        data: beside(&input, b"ABCDEFGHIJKLMNOP"),
+    };
+    reads_and_writes(rt.alloc(), &input, &expected, MediaPiwgFirmwareVolume)
+}
+
+#[test]
+fn a_range_is_two_offsets(rt: HostRuntime) -> Result<(), Fail> {
+    let input = bytes(
+        rt.alloc(),
+        "0408 1800 01020304 1112131415161718 2122232425262728",
+    )?;
+    let expected = RelativeOffsetRange {
+        reserved: 0x4030201,
+        starting_offset: 0x1817161514131211,
+        ending_offset: 0x2827262524232221,
+    };
+    reads_and_writes(rt.alloc(), &input, &expected, MediaRelativeOffsetRange)
+}
+
+#[test]
+fn a_ram_disk_is_two_addresses_a_type_and_a_number(rt: HostRuntime) -> Result<(), Fail> {
+    let input = bytes(
+        rt.alloc(),
+        "0409 2600 1112131415161718 2122232425262728 88810108cd4248bb100f5387d53ded3d 0102",
+    )?;
+    let expected = RamDisk {
+        starting_address: 0x1817161514131211,
+        ending_address: 0x2827262524232221,
+        disk_type: RamDiskType::PERSISTENT_VIRTUAL_CD,
+        disk_instance: 0x201,
+    };
+    reads_and_writes(rt.alloc(), &input, &expected, MediaRamDisk)
+}

@@ -1,0 +1,108 @@
+use crate::tests::checks::{beside, reads_and_writes};
+use std::test::Fail;
+use test_support::bytes;
+use uefi_base::{Guid, UnalignedSlice};
+use uefi_node::DevicePathNodeEnum::*;
+use uefi_node::messaging::{
+    Bluetooth, BluetoothLe, BluetoothLeAddressType, I2o, Ieee1394, Parity, StopBits, Uart, Usb,
+    UsbClass, UsbWwid, Vendor,
+};
+
+#[test]
+fn an_ieee_1394_device_is_a_guid_of_eight_bytes(rt: HostRuntime) -> Result<(), Fail> {
+    let input = bytes(rt.alloc(), "0304 1000 01020304 6162636465666768")?;
+    let expected = Ieee1394 {
+        reserved: 0x4030201,
+        guid: *b"abcdefgh",
+    };
+    reads_and_writes(rt.alloc(), &input, &expected, MessagingIeee1394)
+}
+
+#[test]
+fn a_usb_device_is_a_port_and_an_interface(rt: HostRuntime) -> Result<(), Fail> {
+    let input = bytes(rt.alloc(), "0305 0600 01 02")?;
+    let expected = Usb {
+        parent_port_number: 1,
+        interface: 2,
+    };
+    reads_and_writes(rt.alloc(), &input, &expected, MessagingUsb)
+}
+
+#[test]
+fn a_usb_device_has_a_serial_number(rt: HostRuntime) -> Result<(), Fail> {
+    let input = bytes(rt.alloc(), "0310 0e00 0102 1112 2122 3132 4142")?;
+    let expected = UsbWwid {
+        interface_number: 0x201,
+        device_vendor_id: 0x1211,
+        device_product_id: 0x2221,
+        serial_number: UnalignedSlice::new(beside(&input, b"12AB")),
+    };
+    reads_and_writes(rt.alloc(), &input, &expected, MessagingUsbWwid)
+}
+
+#[test]
+fn a_class_of_usb_devices_is_two_identifiers_and_a_class(rt: HostRuntime) -> Result<(), Fail> {
+    let input = bytes(rt.alloc(), "030f 0b00 0102 1112 21 22 23")?;
+    let expected = UsbClass {
+        vendor_id: 0x201,
+        product_id: 0x1211,
+        device_class: 0x21,
+        device_subclass: 0x22,
+        device_protocol: 0x23,
+    };
+    reads_and_writes(rt.alloc(), &input, &expected, MessagingUsbClass)
+}
+
+#[test]
+fn an_i2o_device_is_a_target(rt: HostRuntime) -> Result<(), Fail> {
+    let input = bytes(rt.alloc(), "0306 0800 01020304")?;
+    let expected = I2o {
+        target_id: 0x4030201,
+    };
+    reads_and_writes(rt.alloc(), &input, &expected, MessagingI2o)
+}
+
+#[test]
+fn a_serial_port_has_its_settings(rt: HostRuntime) -> Result<(), Fail> {
+    let input = bytes(rt.alloc(), "030e 1300 01020304 1112131415161718 08 02 03")?;
+    let expected = Uart {
+        reserved: 0x4030201,
+        baud_rate: 0x1817161514131211,
+        data_bits: 8,
+        parity: Parity::EVEN,
+        stop_bits: StopBits::TWO,
+    };
+    reads_and_writes(rt.alloc(), &input, &expected, MessagingUart)
+}
+
+#[test]
+fn a_connection_of_a_vendor_is_a_guid_and_data(rt: HostRuntime) -> Result<(), Fail> {
+    let input = bytes(
+        rt.alloc(),
+        "030a 1700 30313233343536373839616263646566 78797a",
+    )?;
+    let expected = Vendor {
+        vendor_guid: Guid(*b"0123456789abcdef"),
+        vendor_defined_data: beside(&input, b"xyz"),
+    };
+    reads_and_writes(rt.alloc(), &input, &expected, MessagingVendor)
+}
+
+#[test]
+fn a_bluetooth_device_is_an_address(rt: HostRuntime) -> Result<(), Fail> {
+    let input = bytes(rt.alloc(), "031b 0a00 616263646566")?;
+    let expected = Bluetooth {
+        device_address: *b"abcdef",
+    };
+    reads_and_writes(rt.alloc(), &input, &expected, MessagingBluetooth)
+}
+
+#[test]
+fn a_bluetooth_le_device_is_an_address_and_its_type(rt: HostRuntime) -> Result<(), Fail> {
+    let input = bytes(rt.alloc(), "031e 0b00 616263646566 01")?;
+    let expected = BluetoothLe {
+        device_address: *b"abcdef",
+        address_type: BluetoothLeAddressType::RANDOM,
+    };
+    reads_and_writes(rt.alloc(), &input, &expected, MessagingBluetoothLe)
+}
