@@ -22,6 +22,7 @@ mod hii_tests;
 mod listing_tests;
 mod map_tests;
 mod memory;
+mod node_tests;
 mod panics;
 mod path_tests;
 mod records_tests;

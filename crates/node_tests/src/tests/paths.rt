@@ -64,21 +64,21 @@ fn file<'a>(units: &'a [u8]) -> FilePath<'a> {
 /// Builds the path of a file in a partition.
 fn build_in<'a>(
     buffer: &'a mut [u8],
-    partition: &HardDrive,
-    file: &FilePath<'_>,
+    partition: HardDrive,
+    file: FilePath<'_>,
 ) -> Result<DevicePath<'a>, BuildError> {
     DevicePathBuilder::with_buf(buffer)
-        .push(partition)?
-        .push(file)?
+        .push(&partition)?
+        .push(&file)?
         .finalize()
 }
 
 /// Checks that the path of [`FILE`] in the partition is built as the entry has it.
-fn builds(alloc: Global, entry: &str, partition: &HardDrive) -> Result<(), Fail> {
+fn builds(alloc: Global, entry: &str, partition: HardDrive) -> Result<(), Fail> {
     let expected = bytes(alloc, entry)?;
     let name = units(alloc, FILE)?;
     let mut buffer = vec![in alloc; 0xeeu8; 100]?;
-    let built = build_in(&mut buffer, partition, &file(&name))
+    let built = build_in(&mut buffer, partition, file(&name))
         .ok()
         .ok_or("a path")?;
     same_bytes("the path", built.as_bytes(), &expected)
@@ -86,8 +86,8 @@ fn builds(alloc: Global, entry: &str, partition: &HardDrive) -> Result<(), Fail>
 
 #[test]
 fn the_path_of_a_boot_entry_is_built(rt: HostRuntime) -> Result<(), Fail> {
-    builds(rt.alloc(), GPT_PATH, &GPT)?;
-    builds(rt.alloc(), MBR_PATH, &MBR)
+    builds(rt.alloc(), GPT_PATH, GPT)?;
+    builds(rt.alloc(), MBR_PATH, MBR)
 }
 
 #[test]
@@ -108,21 +108,17 @@ fn the_path_of_a_boot_entry_is_read(rt: HostRuntime) -> Result<(), Fail> {
 /// Builds the path of a file in a partition in a vector.
 fn build_boxed<A: Allocator>(
     alloc: A,
-    partition: &HardDrive,
-    file: &FilePath<'_>,
+    partition: HardDrive,
+    file: FilePath<'_>,
 ) -> Result<BoxedDevicePath<A>, BuildError> {
     DevicePathVecBuilder::new(alloc)
-        .push(partition)?
-        .push(file)?
+        .push(&partition)?
+        .push(&file)?
         .finalize()
 }
 
 /// Returns the length of the path that is built in a vector; or `None` if memory ran out.
-fn built_length<A: Allocator>(
-    alloc: A,
-    partition: &HardDrive,
-    file: &FilePath<'_>,
-) -> Option<usize> {
+fn built_length<A: Allocator>(alloc: A, partition: HardDrive, file: FilePath<'_>) -> Option<usize> {
     let built = build_boxed(alloc, partition, file);
     Some(built.ok()?.as_path().as_bytes().len())
 }
@@ -130,16 +126,12 @@ fn built_length<A: Allocator>(
 #[test]
 fn a_vector_has_the_path_or_memory_was_refused(rt: HostRuntime) -> Result<(), Fail> {
     let name = units(rt.alloc(), FILE)?;
-    let built = build_boxed(rt.alloc(), &MBR, &file(&name))
+    let built = build_boxed(rt.alloc(), MBR, file(&name))
         .ok()
         .ok_or("a path")?;
     let expected = bytes(rt.alloc(), MBR_PATH)?;
     same_bytes("the path", built.as_path().as_bytes(), &expected)?;
-    takes_memory(
-        rt.alloc(),
-        &94,
-        |heap| built_length(heap, &MBR, &file(&name)),
-    )
+    takes_memory(rt.alloc(), &94, |heap| built_length(heap, MBR, file(&name)))
 }
 
 #[test]
@@ -151,6 +143,6 @@ fn a_value_without_a_node_ends_no_path(rt: HostRuntime) -> Result<(), Fail> {
         },
         ..GPT
     };
-    let built = build_boxed(rt.alloc(), &unknown, &file(b"a\0")).err();
+    let built = build_boxed(rt.alloc(), unknown, file(b"a\0")).err();
     same("the error", &built, &Some(BuildError::Form))
 }
