@@ -1,6 +1,6 @@
 use crate::tests::checks::{beside, reads_and_writes};
 use std::test::Fail;
-use test_support::bytes;
+use test_support::{bytes, holds};
 use uefi_node::DevicePathNodeEnum::*;
 use uefi_node::bios_boot_spec::{BootSpecification, BootSpecificationDeviceType};
 
@@ -14,5 +14,9 @@ fn a_boot_device_of_a_bios_is_a_type_a_status_and_a_description(
         status_flag: 0x201,
         description_string: beside(&input, b"net\0"),
     };
-    reads_and_writes(rt.alloc(), &input, &expected, BiosBootSpecBootSpecification)
+    let variant = reads_and_writes(rt.alloc(), &input, &expected)?;
+    holds(
+        "the variant",
+        variant == BiosBootSpecBootSpecification(expected),
+    )
 }

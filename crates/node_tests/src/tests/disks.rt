@@ -1,6 +1,6 @@
 use crate::tests::checks::{beside, reads_and_writes};
 use std::test::Fail;
-use test_support::bytes;
+use test_support::{bytes, holds};
 use uefi_node::DevicePathNodeEnum::*;
 use uefi_node::messaging::{
     Atapi, DeviceLogicalUnit, Emmc, FibreChannel, FibreChannelEx, MasterSlave, NvdimmNamespace,
@@ -15,7 +15,8 @@ fn an_atapi_device_is_a_channel_a_device_and_a_unit(rt: HostRuntime) -> Result<(
         master_slave: MasterSlave::MASTER,
         logical_unit_number: 0x302,
     };
-    reads_and_writes(rt.alloc(), &input, &expected, MessagingAtapi)
+    let variant = reads_and_writes(rt.alloc(), &input, &expected)?;
+    holds("the variant", variant == MessagingAtapi(expected))
 }
 
 #[test]
@@ -25,7 +26,8 @@ fn a_scsi_device_is_a_target_and_a_unit(rt: HostRuntime) -> Result<(), Fail> {
         target_id: 0x201,
         logical_unit_number: 0x1211,
     };
-    reads_and_writes(rt.alloc(), &input, &expected, MessagingScsi)
+    let variant = reads_and_writes(rt.alloc(), &input, &expected)?;
+    holds("the variant", variant == MessagingScsi(expected))
 }
 
 #[test]
@@ -39,7 +41,8 @@ fn a_fibre_channel_device_is_a_name_and_a_unit(rt: HostRuntime) -> Result<(), Fa
         world_wide_name: 0x1817161514131211,
         logical_unit_number: 0x2827262524232221,
     };
-    reads_and_writes(rt.alloc(), &input, &expected, MessagingFibreChannel)
+    let variant = reads_and_writes(rt.alloc(), &input, &expected)?;
+    holds("the variant", variant == MessagingFibreChannel(expected))
 }
 
 #[test]
@@ -55,7 +58,8 @@ fn an_extended_fibre_channel_device_is_a_name_and_a_unit_of_bytes(
         world_wide_name: *b"abcdefgh",
         logical_unit_number: *b"ABCDEFGH",
     };
-    reads_and_writes(rt.alloc(), &input, &expected, MessagingFibreChannelEx)
+    let variant = reads_and_writes(rt.alloc(), &input, &expected)?;
+    holds("the variant", variant == MessagingFibreChannelEx(expected))
 }
 
 #[test]
@@ -66,7 +70,8 @@ fn a_sata_device_is_two_ports_and_a_unit(rt: HostRuntime) -> Result<(), Fail> {
         port_multiplier_port_number: 0x1211,
         logical_unit_number: 0x2221,
     };
-    reads_and_writes(rt.alloc(), &input, &expected, MessagingSata)
+    let variant = reads_and_writes(rt.alloc(), &input, &expected)?;
+    holds("the variant", variant == MessagingSata(expected))
 }
 
 #[test]
@@ -75,7 +80,11 @@ fn a_logical_unit_is_a_number(rt: HostRuntime) -> Result<(), Fail> {
     let expected = DeviceLogicalUnit {
         logical_unit_number: 7,
     };
-    reads_and_writes(rt.alloc(), &input, &expected, MessagingDeviceLogicalUnit)
+    let variant = reads_and_writes(rt.alloc(), &input, &expected)?;
+    holds(
+        "the variant",
+        variant == MessagingDeviceLogicalUnit(expected),
+    )
 }
 
 #[test]
@@ -90,7 +99,8 @@ fn an_extended_sas_device_is_an_address_a_unit_and_a_port(rt: HostRuntime) -> Re
         info: 0x201,
         relative_target_port: 0x1211,
     };
-    reads_and_writes(rt.alloc(), &input, &expected, MessagingSasEx)
+    let variant = reads_and_writes(rt.alloc(), &input, &expected)?;
+    holds("the variant", variant == MessagingSasEx(expected))
 }
 
 #[test]
@@ -100,7 +110,8 @@ fn an_nvme_namespace_is_a_number_and_an_identifier(rt: HostRuntime) -> Result<()
         namespace_identifier: 0x4030201,
         ieee_extended_unique_identifier: 0x1817161514131211,
     };
-    reads_and_writes(rt.alloc(), &input, &expected, MessagingNvmeNamespace)
+    let variant = reads_and_writes(rt.alloc(), &input, &expected)?;
+    holds("the variant", variant == MessagingNvmeNamespace(expected))
 }
 
 #[test]
@@ -114,7 +125,8 @@ fn an_nvme_of_namespace_is_an_identifier_and_a_name(rt: HostRuntime) -> Result<(
         nid: *b"0123456789abcdef",
         subsystem_nqn: beside(&input, b"nqn.x\0"),
     };
-    reads_and_writes(rt.alloc(), &input, &expected, MessagingNvmeOfNamespace)
+    let variant = reads_and_writes(rt.alloc(), &input, &expected)?;
+    holds("the variant", variant == MessagingNvmeOfNamespace(expected))
 }
 
 #[test]
@@ -123,7 +135,8 @@ fn an_nvdimm_namespace_is_a_uuid(rt: HostRuntime) -> Result<(), Fail> {
     let expected = NvdimmNamespace {
         uuid: *b"0123456789abcdef",
     };
-    reads_and_writes(rt.alloc(), &input, &expected, MessagingNvdimmNamespace)
+    let variant = reads_and_writes(rt.alloc(), &input, &expected)?;
+    holds("the variant", variant == MessagingNvdimmNamespace(expected))
 }
 
 #[test]
@@ -133,19 +146,22 @@ fn a_ufs_device_is_a_target_and_a_unit(rt: HostRuntime) -> Result<(), Fail> {
         target_id: 1,
         logical_unit_number: 2,
     };
-    reads_and_writes(rt.alloc(), &input, &expected, MessagingUfs)
+    let variant = reads_and_writes(rt.alloc(), &input, &expected)?;
+    holds("the variant", variant == MessagingUfs(expected))
 }
 
 #[test]
 fn an_sd_card_is_a_slot(rt: HostRuntime) -> Result<(), Fail> {
     let input = bytes(rt.alloc(), "031a 0500 02")?;
     let expected = Sd { slot_number: 2 };
-    reads_and_writes(rt.alloc(), &input, &expected, MessagingSd)
+    let variant = reads_and_writes(rt.alloc(), &input, &expected)?;
+    holds("the variant", variant == MessagingSd(expected))
 }
 
 #[test]
 fn an_emmc_device_is_a_slot(rt: HostRuntime) -> Result<(), Fail> {
     let input = bytes(rt.alloc(), "031d 0500 03")?;
     let expected = Emmc { slot_number: 3 };
-    reads_and_writes(rt.alloc(), &input, &expected, MessagingEmmc)
+    let variant = reads_and_writes(rt.alloc(), &input, &expected)?;
+    holds("the variant", variant == MessagingEmmc(expected))
 }

@@ -1,6 +1,6 @@
 use crate::tests::checks::{beside, reads_and_writes};
 use std::test::Fail;
-use test_support::bytes;
+use test_support::{bytes, holds};
 use uefi_base::Guid;
 use uefi_map::MemoryType;
 use uefi_node::DevicePathNodeEnum::*;
@@ -13,14 +13,16 @@ fn a_pci_device_is_a_function_and_a_device(rt: HostRuntime) -> Result<(), Fail> 
         function: 0x1f,
         device: 2,
     };
-    reads_and_writes(rt.alloc(), &input, &expected, HardwarePci)
+    let variant = reads_and_writes(rt.alloc(), &input, &expected)?;
+    holds("the variant", variant == HardwarePci(expected))
 }
 
 #[test]
 fn a_pccard_is_a_function(rt: HostRuntime) -> Result<(), Fail> {
     let input = bytes(rt.alloc(), "0102 0500 03")?;
     let expected = Pccard { function: 3 };
-    reads_and_writes(rt.alloc(), &input, &expected, HardwarePccard)
+    let variant = reads_and_writes(rt.alloc(), &input, &expected)?;
+    holds("the variant", variant == HardwarePccard(expected))
 }
 
 #[test]
@@ -34,7 +36,8 @@ fn memory_mapped_registers_are_a_type_and_two_addresses(rt: HostRuntime) -> Resu
         start_address: 0x1817161514131211,
         end_address: 0x2827262524232221,
     };
-    reads_and_writes(rt.alloc(), &input, &expected, HardwareMemoryMapped)
+    let variant = reads_and_writes(rt.alloc(), &input, &expected)?;
+    holds("the variant", variant == HardwareMemoryMapped(expected))
 }
 
 #[test]
@@ -47,7 +50,8 @@ fn a_device_of_a_vendor_is_a_guid_and_data(rt: HostRuntime) -> Result<(), Fail> 
         vendor_guid: Guid(*b"0123456789abcdef"),
         vendor_defined_data: beside(&input, b"xyz"),
     };
-    reads_and_writes(rt.alloc(), &input, &expected, HardwareVendor)
+    let variant = reads_and_writes(rt.alloc(), &input, &expected)?;
+    holds("the variant", variant == HardwareVendor(expected))
 }
 
 #[test]
@@ -56,7 +60,8 @@ fn a_controller_is_a_number(rt: HostRuntime) -> Result<(), Fail> {
     let expected = Controller {
         controller_number: 0x4030201,
     };
-    reads_and_writes(rt.alloc(), &input, &expected, HardwareController)
+    let variant = reads_and_writes(rt.alloc(), &input, &expected)?;
+    holds("the variant", variant == HardwareController(expected))
 }
 
 #[test]
@@ -66,5 +71,6 @@ fn a_bmc_is_an_interface_and_an_address(rt: HostRuntime) -> Result<(), Fail> {
         interface_type: BmcInterfaceType::BLOCK_TRANSFER,
         base_address: 0x807060504030201,
     };
-    reads_and_writes(rt.alloc(), &input, &expected, HardwareBmc)
+    let variant = reads_and_writes(rt.alloc(), &input, &expected)?;
+    holds("the variant", variant == HardwareBmc(expected))
 }

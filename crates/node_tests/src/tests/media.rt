@@ -1,7 +1,7 @@
-use crate::tests::checks::{beside, reads_and_writes};
+use crate::tests::checks::{beside, reads_and_writes, units};
 use std::test::Fail;
-use test_support::bytes;
-use uefi_base::{Guid, UnalignedSlice};
+use test_support::{bytes, holds};
+use uefi_base::Guid;
 use uefi_node::DevicePathNodeEnum::*;
 use uefi_node::media::{
     CdRom, FilePath, HardDrive, PartitionFormat, PartitionSignature, PiwgFirmwareFile,
@@ -21,7 +21,8 @@ fn a_partition_is_its_blocks_and_its_signature(rt: HostRuntime) -> Result<(), Fa
         partition_signature: PartitionSignature::Guid(Guid(*b"0123456789abcdef")),
         partition_format: PartitionFormat::MBR,
     };
-    reads_and_writes(rt.alloc(), &input, &expected, MediaHardDrive)
+    let variant = reads_and_writes(rt.alloc(), &input, &expected)?;
+    holds("the variant", variant == MediaHardDrive(expected))
 }
 
 #[test]
@@ -35,7 +36,8 @@ fn an_entry_of_a_cd_rom_is_its_blocks(rt: HostRuntime) -> Result<(), Fail> {
         partition_start: 0x1817161514131211,
         partition_size: 0x2827262524232221,
     };
-    reads_and_writes(rt.alloc(), &input, &expected, MediaCdRom)
+    let variant = reads_and_writes(rt.alloc(), &input, &expected)?;
+    holds("the variant", variant == MediaCdRom(expected))
 }
 
 #[test]
@@ -48,16 +50,18 @@ fn a_medium_of_a_vendor_is_a_guid_and_data(rt: HostRuntime) -> Result<(), Fail> 
         vendor_guid: Guid(*b"0123456789abcdef"),
         vendor_defined_data: beside(&input, b"xyz"),
     };
-    reads_and_writes(rt.alloc(), &input, &expected, MediaVendor)
+    let variant = reads_and_writes(rt.alloc(), &input, &expected)?;
+    holds("the variant", variant == MediaVendor(expected))
 }
 
 #[test]
 fn a_file_path_is_its_units(rt: HostRuntime) -> Result<(), Fail> {
     let input = bytes(rt.alloc(), "0404 0c00 5c00 6100 4142 0000")?;
     let expected = FilePath {
-        path_name: UnalignedSlice::new(beside(&input, b"\\\0a\0AB\0\0")),
+        path_name: units(beside(&input, b"\\\0a\0AB\0\0")).ok_or("units")?,
     };
-    reads_and_writes(rt.alloc(), &input, &expected, MediaFilePath)
+    let variant = reads_and_writes(rt.alloc(), &input, &expected)?;
+    holds("the variant", variant == MediaFilePath(expected))
 }
 
 #[test]
@@ -66,7 +70,8 @@ fn a_protocol_is_a_guid(rt: HostRuntime) -> Result<(), Fail> {
     let expected = Protocol {
         protocol_guid: Guid(*b"0123456789abcdef"),
     };
-    reads_and_writes(rt.alloc(), &input, &expected, MediaProtocol)
+    let variant = reads_and_writes(rt.alloc(), &input, &expected)?;
+    holds("the variant", variant == MediaProtocol(expected))
 }
 
 #[test]
@@ -75,7 +80,8 @@ fn a_firmware_file_is_its_bytes(rt: HostRuntime) -> Result<(), Fail> {
     let expected = PiwgFirmwareFile {
         data: beside(&input, b"0123456789abcdef"),
     };
-    reads_and_writes(rt.alloc(), &input, &expected, MediaPiwgFirmwareFile)
+    let variant = reads_and_writes(rt.alloc(), &input, &expected)?;
+    holds("the variant", variant == MediaPiwgFirmwareFile(expected))
 }
 
 #[test]
@@ -84,7 +90,8 @@ fn a_firmware_volume_is_its_bytes(rt: HostRuntime) -> Result<(), Fail> {
     let expected = PiwgFirmwareVolume {
         data: beside(&input, b"ABCDEFGHIJKLMNOP"),
     };
-    reads_and_writes(rt.alloc(), &input, &expected, MediaPiwgFirmwareVolume)
+    let variant = reads_and_writes(rt.alloc(), &input, &expected)?;
+    holds("the variant", variant == MediaPiwgFirmwareVolume(expected))
 }
 
 #[test]
@@ -98,7 +105,8 @@ fn a_range_is_two_offsets(rt: HostRuntime) -> Result<(), Fail> {
         starting_offset: 0x1817161514131211,
         ending_offset: 0x2827262524232221,
     };
-    reads_and_writes(rt.alloc(), &input, &expected, MediaRelativeOffsetRange)
+    let variant = reads_and_writes(rt.alloc(), &input, &expected)?;
+    holds("the variant", variant == MediaRelativeOffsetRange(expected))
 }
 
 #[test]
@@ -113,5 +121,6 @@ fn a_ram_disk_is_two_addresses_a_type_and_a_number(rt: HostRuntime) -> Result<()
         disk_type: RamDiskType::PERSISTENT_VIRTUAL_CD,
         disk_instance: 0x201,
     };
-    reads_and_writes(rt.alloc(), &input, &expected, MediaRamDisk)
+    let variant = reads_and_writes(rt.alloc(), &input, &expected)?;
+    holds("the variant", variant == MediaRamDisk(expected))
 }

@@ -1,6 +1,6 @@
 use crate::tests::checks::{beside, reads_and_writes};
 use std::test::Fail;
-use test_support::bytes;
+use test_support::{bytes, holds};
 use uefi_base::Guid;
 use uefi_node::DevicePathNodeEnum::*;
 use uefi_node::messaging::{
@@ -19,7 +19,8 @@ fn a_network_interface_is_an_address_and_a_type(rt: HostRuntime) -> Result<(), F
         mac_address: *b"0123456789abcdefghijklmnopqrstuv",
         interface_type: 6,
     };
-    reads_and_writes(rt.alloc(), &input, &expected, MessagingMacAddress)
+    let variant = reads_and_writes(rt.alloc(), &input, &expected)?;
+    holds("the variant", variant == MessagingMacAddress(expected))
 }
 
 #[test]
@@ -38,7 +39,8 @@ fn an_ipv4_connection_is_addresses_ports_and_a_protocol(rt: HostRuntime) -> Resu
         gateway_ip_address: *b"ijkl",
         subnet_mask: *b"mnop",
     };
-    reads_and_writes(rt.alloc(), &input, &expected, MessagingIpv4)
+    let variant = reads_and_writes(rt.alloc(), &input, &expected)?;
+    holds("the variant", variant == MessagingIpv4(expected))
 }
 
 #[test]
@@ -57,14 +59,16 @@ fn an_ipv6_connection_is_addresses_ports_and_a_protocol(rt: HostRuntime) -> Resu
         prefix_length: 0x40,
         gateway_ip_address: *b"ABCDEFGHIJKLMNOP",
     };
-    reads_and_writes(rt.alloc(), &input, &expected, MessagingIpv6)
+    let variant = reads_and_writes(rt.alloc(), &input, &expected)?;
+    holds("the variant", variant == MessagingIpv6(expected))
 }
 
 #[test]
 fn a_vlan_is_a_number(rt: HostRuntime) -> Result<(), Fail> {
     let input = bytes(rt.alloc(), "0314 0600 0102")?;
     let expected = Vlan { vlan_id: 0x201 };
-    reads_and_writes(rt.alloc(), &input, &expected, MessagingVlan)
+    let variant = reads_and_writes(rt.alloc(), &input, &expected)?;
+    holds("the variant", variant == MessagingVlan(expected))
 }
 
 #[test]
@@ -80,7 +84,8 @@ fn an_infiniband_device_is_flags_and_identifiers(rt: HostRuntime) -> Result<(), 
         target_port_id: 0x2827262524232221,
         device_id: 0x3837363534333231,
     };
-    reads_and_writes(rt.alloc(), &input, &expected, MessagingInfiniband)
+    let variant = reads_and_writes(rt.alloc(), &input, &expected)?;
+    holds("the variant", variant == MessagingInfiniband(expected))
 }
 
 #[test]
@@ -96,7 +101,8 @@ fn an_iscsi_target_is_options_a_unit_a_tag_and_a_name(rt: HostRuntime) -> Result
         target_portal_group_tag: 0x1211,
         iscsi_target_name: beside(&input, b"iqn.x"),
     };
-    reads_and_writes(rt.alloc(), &input, &expected, MessagingIscsi)
+    let variant = reads_and_writes(rt.alloc(), &input, &expected)?;
+    holds("the variant", variant == MessagingIscsi(expected))
 }
 
 #[test]
@@ -105,7 +111,8 @@ fn a_uri_is_its_bytes(rt: HostRuntime) -> Result<(), Fail> {
     let expected = Uri {
         value: beside(&input, b"http://x"),
     };
-    reads_and_writes(rt.alloc(), &input, &expected, MessagingUri)
+    let variant = reads_and_writes(rt.alloc(), &input, &expected)?;
+    holds("the variant", variant == MessagingUri(expected))
 }
 
 #[test]
@@ -117,7 +124,8 @@ fn a_wireless_network_is_an_ssid(rt: HostRuntime) -> Result<(), Fail> {
     let expected = Wifi {
         ssid: *b"0123456789abcdefghijklmnopqrstuv",
     };
-    reads_and_writes(rt.alloc(), &input, &expected, MessagingWifi)
+    let variant = reads_and_writes(rt.alloc(), &input, &expected)?;
+    holds("the variant", variant == MessagingWifi(expected))
 }
 
 #[test]
@@ -132,7 +140,8 @@ fn dns_servers_are_a_type_and_addresses(rt: HostRuntime) -> Result<(), Fail> {
             "addresses",
         )?,
     };
-    reads_and_writes(rt.alloc(), &input, &expected, MessagingDns)
+    let variant = reads_and_writes(rt.alloc(), &input, &expected)?;
+    holds("the variant", variant == MessagingDns(expected))
 }
 
 #[test]
@@ -143,7 +152,8 @@ fn a_rest_service_is_a_type_and_an_access_mode(rt: HostRuntime) -> Result<(), Fa
         access_mode: RestServiceAccessMode::IN_BAND,
         vendor_guid_and_data: no_vendor(&input),
     };
-    reads_and_writes(rt.alloc(), &input, &expected, MessagingRestService)
+    let variant = reads_and_writes(rt.alloc(), &input, &expected)?;
+    holds("the variant", variant == MessagingRestService(expected))
 }
 
 #[test]
@@ -157,7 +167,8 @@ fn a_rest_service_of_a_vendor_has_a_guid_and_data(rt: HostRuntime) -> Result<(),
         access_mode: RestServiceAccessMode::OUT_OF_BAND,
         vendor_guid_and_data: Some((Guid(*b"0123456789abcdef"), beside(&input, b"xyz"))),
     };
-    reads_and_writes(rt.alloc(), &input, &expected, MessagingRestService)
+    let variant = reads_and_writes(rt.alloc(), &input, &expected)?;
+    holds("the variant", variant == MessagingRestService(expected))
 }
 
 /// Returns no GUID and no data, at the lifetime of a node's bytes.

@@ -1,7 +1,8 @@
+use crate::tests::checks::units;
 use std::alloc::{AllocError, Allocator, Global};
 use std::test::Fail;
 use test_support::{bytes, holds, same, same_bytes, takes_memory};
-use uefi_base::{Guid, UnalignedSlice};
+use uefi_base::Guid;
 use uefi_node::DevicePathNodeEnum::*;
 use uefi_node::DevicePathNodeExt;
 use uefi_node::media::{FilePath, HardDrive, PartitionFormat, PartitionSignature};
@@ -45,20 +46,20 @@ const MBR: HardDrive = HardDrive {
     partition_format: PartitionFormat::MBR,
 };
 
-/// Returns the units of an ASCII text, two bytes each.
-fn units(alloc: Global, text: &str) -> Result<Vec<u8>, AllocError> {
-    let mut units = Vec::new(alloc);
+/// Returns an ASCII text as units, two bytes each.
+fn unit_bytes(alloc: Global, text: &str) -> Result<Vec<u8>, AllocError> {
+    let mut bytes = Vec::new(alloc);
     for byte in text.bytes() {
-        units.extend_from_slice(&[byte, 0])?;
+        bytes.extend_from_slice(&[byte, 0])?;
     }
-    Ok(units)
+    Ok(bytes)
 }
 
-/// Returns the file whose units the bytes are.
-fn file<'a>(units: &'a [u8]) -> FilePath<'a> {
-    FilePath {
-        path_name: UnalignedSlice::new(units),
-    }
+/// Returns the file whose units the bytes are, or `None` if half a unit is left.
+fn file<'a>(name: &'a [u8]) -> Option<FilePath<'a>> {
+    Some(FilePath {
+        path_name: units(name)?,
+    })
 }
 
 /// Builds the path of a file in a partition.
@@ -76,11 +77,10 @@ fn build_in<'a>(
 /// Checks that the path of [`FILE`] in the partition is built as the entry has it.
 fn builds(alloc: Global, entry: &str, partition: HardDrive) -> Result<(), Fail> {
     let expected = bytes(alloc, entry)?;
-    let name = units(alloc, FILE)?;
+    let name = unit_bytes(alloc, FILE)?;
+    let file = file(&name).ok_or("a file")?;
     let mut buffer = vec![in alloc; 0xeeu8; 100]?;
-    let built = build_in(&mut buffer, partition, file(&name))
-        .ok()
-        .ok_or("a path")?;
+    let built = build_in(&mut buffer, partition, file).ok().ok_or("a path")?;
     same_bytes("the path", built.as_bytes(), &expected)
 }
 
@@ -93,7 +93,8 @@ fn the_path_of_a_boot_entry_is_built(rt: HostRuntime) -> Result<(), Fail> {
 #[test]
 fn the_path_of_a_boot_entry_is_read(rt: HostRuntime) -> Result<(), Fail> {
     let input = bytes(rt.alloc(), GPT_PATH)?;
-    let name = units(rt.alloc(), FILE)?;
+    let name = unit_bytes(rt.alloc(), FILE)?;
+    let file = file(&name).ok_or("a file")?;
     let mut nodes = DevicePath::try_from(input.as_slice())?.node_iter();
     let partition = nodes.next().ok_or("a partition")?;
     holds(
@@ -101,7 +102,7 @@ fn the_path_of_a_boot_entry_is_read(rt: HostRuntime) -> Result<(), Fail> {
         partition.as_enum() == Ok(MediaHardDrive(GPT)),
     )?;
     let path = nodes.next().ok_or("a file")?;
-    holds("a file", path.as_enum() == Ok(MediaFilePath(file(&name))))?;
+    holds("a file", path.as_enum() == Ok(MediaFilePath(file)))?;
     holds("the end", nodes.next().is_none())
 }
 
@@ -125,13 +126,12 @@ fn built_length<A: Allocator>(alloc: A, partition: HardDrive, file: FilePath<'_>
 
 #[test]
 fn a_vector_has_the_path_or_memory_was_refused(rt: HostRuntime) -> Result<(), Fail> {
-    let name = units(rt.alloc(), FILE)?;
-    let built = build_boxed(rt.alloc(), MBR, file(&name))
-        .ok()
-        .ok_or("a path")?;
+    let name = unit_bytes(rt.alloc(), FILE)?;
+    let file = file(&name).ok_or("a file")?;
+    let built = build_boxed(rt.alloc(), MBR, file).ok().ok_or("a path")?;
     let expected = bytes(rt.alloc(), MBR_PATH)?;
     same_bytes("the path", built.as_path().as_bytes(), &expected)?;
-    takes_memory(rt.alloc(), &94, |heap| built_length(heap, MBR, file(&name)))
+    takes_memory(rt.alloc(), &94, |heap| built_length(heap, MBR, file))
 }
 
 #[test]
@@ -143,6 +143,7 @@ fn a_value_without_a_node_ends_no_path(rt: HostRuntime) -> Result<(), Fail> {
         },
         ..GPT
     };
-    let built = build_boxed(rt.alloc(), unknown, file(b"a\0")).err();
+    let file = file(b"a\0").ok_or("a file")?;
+    let built = build_boxed(rt.alloc(), unknown, file).err();
     same("the error", &built, &Some(BuildError::Form))
 }

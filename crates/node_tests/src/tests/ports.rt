@@ -1,7 +1,7 @@
-use crate::tests::checks::{beside, reads_and_writes};
+use crate::tests::checks::{beside, reads_and_writes, units};
 use std::test::Fail;
-use test_support::bytes;
-use uefi_base::{Guid, UnalignedSlice};
+use test_support::{bytes, holds};
+use uefi_base::Guid;
 use uefi_node::DevicePathNodeEnum::*;
 use uefi_node::messaging::{
     Bluetooth, BluetoothLe, BluetoothLeAddressType, I2o, Ieee1394, Parity, StopBits, Uart, Usb,
@@ -15,7 +15,8 @@ fn an_ieee_1394_device_is_a_guid_of_eight_bytes(rt: HostRuntime) -> Result<(), F
         reserved: 0x4030201,
         guid: *b"abcdefgh",
     };
-    reads_and_writes(rt.alloc(), &input, &expected, MessagingIeee1394)
+    let variant = reads_and_writes(rt.alloc(), &input, &expected)?;
+    holds("the variant", variant == MessagingIeee1394(expected))
 }
 
 #[test]
@@ -25,7 +26,8 @@ fn a_usb_device_is_a_port_and_an_interface(rt: HostRuntime) -> Result<(), Fail> 
         parent_port_number: 1,
         interface: 2,
     };
-    reads_and_writes(rt.alloc(), &input, &expected, MessagingUsb)
+    let variant = reads_and_writes(rt.alloc(), &input, &expected)?;
+    holds("the variant", variant == MessagingUsb(expected))
 }
 
 #[test]
@@ -35,9 +37,10 @@ fn a_usb_device_has_a_serial_number(rt: HostRuntime) -> Result<(), Fail> {
         interface_number: 0x201,
         device_vendor_id: 0x1211,
         device_product_id: 0x2221,
-        serial_number: UnalignedSlice::new(beside(&input, b"12AB")),
+        serial_number: units(beside(&input, b"12AB")).ok_or("units")?,
     };
-    reads_and_writes(rt.alloc(), &input, &expected, MessagingUsbWwid)
+    let variant = reads_and_writes(rt.alloc(), &input, &expected)?;
+    holds("the variant", variant == MessagingUsbWwid(expected))
 }
 
 #[test]
@@ -50,7 +53,8 @@ fn a_class_of_usb_devices_is_two_identifiers_and_a_class(rt: HostRuntime) -> Res
         device_subclass: 0x22,
         device_protocol: 0x23,
     };
-    reads_and_writes(rt.alloc(), &input, &expected, MessagingUsbClass)
+    let variant = reads_and_writes(rt.alloc(), &input, &expected)?;
+    holds("the variant", variant == MessagingUsbClass(expected))
 }
 
 #[test]
@@ -59,7 +63,8 @@ fn an_i2o_device_is_a_target(rt: HostRuntime) -> Result<(), Fail> {
     let expected = I2o {
         target_id: 0x4030201,
     };
-    reads_and_writes(rt.alloc(), &input, &expected, MessagingI2o)
+    let variant = reads_and_writes(rt.alloc(), &input, &expected)?;
+    holds("the variant", variant == MessagingI2o(expected))
 }
 
 #[test]
@@ -72,7 +77,8 @@ fn a_serial_port_has_its_settings(rt: HostRuntime) -> Result<(), Fail> {
         parity: Parity::EVEN,
         stop_bits: StopBits::TWO,
     };
-    reads_and_writes(rt.alloc(), &input, &expected, MessagingUart)
+    let variant = reads_and_writes(rt.alloc(), &input, &expected)?;
+    holds("the variant", variant == MessagingUart(expected))
 }
 
 #[test]
@@ -85,7 +91,8 @@ fn a_connection_of_a_vendor_is_a_guid_and_data(rt: HostRuntime) -> Result<(), Fa
         vendor_guid: Guid(*b"0123456789abcdef"),
         vendor_defined_data: beside(&input, b"xyz"),
     };
-    reads_and_writes(rt.alloc(), &input, &expected, MessagingVendor)
+    let variant = reads_and_writes(rt.alloc(), &input, &expected)?;
+    holds("the variant", variant == MessagingVendor(expected))
 }
 
 #[test]
@@ -94,7 +101,8 @@ fn a_bluetooth_device_is_an_address(rt: HostRuntime) -> Result<(), Fail> {
     let expected = Bluetooth {
         device_address: *b"abcdef",
     };
-    reads_and_writes(rt.alloc(), &input, &expected, MessagingBluetooth)
+    let variant = reads_and_writes(rt.alloc(), &input, &expected)?;
+    holds("the variant", variant == MessagingBluetooth(expected))
 }
 
 #[test]
@@ -104,5 +112,6 @@ fn a_bluetooth_le_device_is_an_address_and_its_type(rt: HostRuntime) -> Result<(
         device_address: *b"abcdef",
         address_type: BluetoothLeAddressType::RANDOM,
     };
-    reads_and_writes(rt.alloc(), &input, &expected, MessagingBluetoothLe)
+    let variant = reads_and_writes(rt.alloc(), &input, &expected)?;
+    holds("the variant", variant == MessagingBluetoothLe(expected))
 }

@@ -1,3 +1,4 @@
+use crate::tests::checks::units;
 use std::alloc::Global;
 use std::test::Fail;
 use test_support::{holds, same};
@@ -73,22 +74,22 @@ fn a_node_has_at_most_65535_bytes(rt: HostRuntime) -> Result<(), Fail> {
     let mut buffer = vec![in rt.alloc(); 0xeeu8; 65540]?;
     let longest = of_vendor(data.get(1..).ok_or("data")?);
     same("the longest", &longest.write(&mut buffer), &Ok(65535))?;
-    let units = FilePath {
+    let path = FilePath {
         path_name: UnalignedSlice::new(data.as_slice()),
     };
-    stays(rt.alloc(), &units, 10, BuildError::BufferTooSmall(65520))
+    stays(rt.alloc(), &path, 10, BuildError::BufferTooSmall(65520))
 }
 
 #[test]
 fn units_of_more_than_65535_bytes_are_too_big(rt: HostRuntime) -> Result<(), Fail> {
     let data = vec![in rt.alloc(); 0x61u8; 131080]?;
-    let bytes = of_vendor(&data);
-    stays(rt.alloc(), &bytes, 65540, BuildError::NodeTooBig)?;
+    stays(rt.alloc(), &of_vendor(&data), 65540, BuildError::NodeTooBig)?;
     for length in [65532, 65536, 131074] {
-        let units = FilePath {
-            path_name: UnalignedSlice::new(data.get(..length).ok_or("units")?),
+        let bytes = data.get(..length).ok_or("bytes")?;
+        let path = FilePath {
+            path_name: units(bytes).ok_or("units")?,
         };
-        stays(rt.alloc(), &units, 65540, BuildError::NodeTooBig)?;
+        stays(rt.alloc(), &path, 65540, BuildError::NodeTooBig)?;
     }
     Ok(())
 }
