@@ -2,7 +2,7 @@
 
 use crate::node_tests::tests::checks::{beside, reads_and_writes};
 use crate::support::test::Fail;
-use crate::test_support::bytes;
+use crate::test_support::{bytes, holds};
 use crate::uefi_node::DevicePathNodeEnum::*;
 use crate::uefi_node::acpi::{Acpi, Adr, AdrList, Expanded, Nvdimm};
 
@@ -13,7 +13,8 @@ fn an_acpi_device_is_two_identifiers() -> Result<(), Fail> {
         hid: 0x4030201,
         uid: 0x14131211,
     };
-    reads_and_writes(&input, &expected, AcpiAcpi)
+    let variant = reads_and_writes(&input, &expected)?;
+    holds("the variant", variant == AcpiAcpi(expected))
 }
 
 #[test]
@@ -30,7 +31,8 @@ fn an_expanded_acpi_device_is_three_identifiers_as_numbers_and_strings(
         uid_str: beside(&input, b"D"),
         cid_str: beside(&input, b"EF"),
     };
-    reads_and_writes(&input, &expected, AcpiExpanded)
+    let variant = reads_and_writes(&input, &expected)?;
+    holds("the variant", variant == AcpiExpanded(expected))
 }
 
 #[test]
@@ -39,7 +41,8 @@ fn video_outputs_are_addresses() -> Result<(), Fail> {
     let expected = Adr {
         adr: AdrList::new(beside(&input, b"\x01\x02\x03\x04\x11\x12\x13\x14")).ok_or("addresses")?,
     };
-    reads_and_writes(&input, &expected, AcpiAdr)
+    let variant = reads_and_writes(&input, &expected)?;
+    holds("the variant", variant == AcpiAdr(expected))
 }
 
 #[test]
@@ -48,5 +51,6 @@ fn an_nvdimm_is_a_handle() -> Result<(), Fail> {
     let expected = Nvdimm {
         nfit_device_handle: 0x4030201,
     };
-    reads_and_writes(&input, &expected, AcpiNvdimm)
+    let variant = reads_and_writes(&input, &expected)?;
+    holds("the variant", variant == AcpiNvdimm(expected))
 }

@@ -2,7 +2,7 @@
 
 use crate::node_tests::tests::checks::{beside, reads_and_writes};
 use crate::support::test::Fail;
-use crate::test_support::bytes;
+use crate::test_support::{bytes, holds};
 use crate::uefi_node::DevicePathNodeEnum::*;
 use crate::uefi_node::bios_boot_spec::{BootSpecification, BootSpecificationDeviceType};
 
@@ -15,5 +15,9 @@ fn a_boot_device_of_a_bios_is_a_type_a_status_and_a_description(
         status_flag: 0x201,
         description_string: beside(&input, b"net\0"),
     };
-    reads_and_writes(&input, &expected, BiosBootSpecBootSpecification)
+    let variant = reads_and_writes(&input, &expected)?;
+    holds(
+        "the variant",
+        variant == BiosBootSpecBootSpecification(expected),
+    )
 }

@@ -2,7 +2,7 @@
 
 use crate::node_tests::tests::checks::{beside, reads_and_writes};
 use crate::support::test::Fail;
-use crate::test_support::bytes;
+use crate::test_support::{bytes, holds};
 use crate::uefi_node::DevicePathNodeEnum::*;
 use crate::uefi_node::messaging::{
     Atapi, DeviceLogicalUnit, Emmc, FibreChannel, FibreChannelEx, MasterSlave, NvdimmNamespace,
@@ -17,7 +17,8 @@ fn an_atapi_device_is_a_channel_a_device_and_a_unit() -> Result<(), Fail> {
         master_slave: MasterSlave::MASTER,
         logical_unit_number: 0x302,
     };
-    reads_and_writes(&input, &expected, MessagingAtapi)
+    let variant = reads_and_writes(&input, &expected)?;
+    holds("the variant", variant == MessagingAtapi(expected))
 }
 
 #[test]
@@ -27,7 +28,8 @@ fn a_scsi_device_is_a_target_and_a_unit() -> Result<(), Fail> {
         target_id: 0x201,
         logical_unit_number: 0x1211,
     };
-    reads_and_writes(&input, &expected, MessagingScsi)
+    let variant = reads_and_writes(&input, &expected)?;
+    holds("the variant", variant == MessagingScsi(expected))
 }
 
 #[test]
@@ -40,7 +42,8 @@ fn a_fibre_channel_device_is_a_name_and_a_unit() -> Result<(), Fail> {
         world_wide_name: 0x1817161514131211,
         logical_unit_number: 0x2827262524232221,
     };
-    reads_and_writes(&input, &expected, MessagingFibreChannel)
+    let variant = reads_and_writes(&input, &expected)?;
+    holds("the variant", variant == MessagingFibreChannel(expected))
 }
 
 #[test]
@@ -54,7 +57,8 @@ fn an_extended_fibre_channel_device_is_a_name_and_a_unit_of_bytes(
         world_wide_name: *b"abcdefgh",
         logical_unit_number: *b"ABCDEFGH",
     };
-    reads_and_writes(&input, &expected, MessagingFibreChannelEx)
+    let variant = reads_and_writes(&input, &expected)?;
+    holds("the variant", variant == MessagingFibreChannelEx(expected))
 }
 
 #[test]
@@ -65,7 +69,8 @@ fn a_sata_device_is_two_ports_and_a_unit() -> Result<(), Fail> {
         port_multiplier_port_number: 0x1211,
         logical_unit_number: 0x2221,
     };
-    reads_and_writes(&input, &expected, MessagingSata)
+    let variant = reads_and_writes(&input, &expected)?;
+    holds("the variant", variant == MessagingSata(expected))
 }
 
 #[test]
@@ -74,7 +79,11 @@ fn a_logical_unit_is_a_number() -> Result<(), Fail> {
     let expected = DeviceLogicalUnit {
         logical_unit_number: 7,
     };
-    reads_and_writes(&input, &expected, MessagingDeviceLogicalUnit)
+    let variant = reads_and_writes(&input, &expected)?;
+    holds(
+        "the variant",
+        variant == MessagingDeviceLogicalUnit(expected),
+    )
 }
 
 #[test]
@@ -88,7 +97,8 @@ fn an_extended_sas_device_is_an_address_a_unit_and_a_port() -> Result<(), Fail> 
         info: 0x201,
         relative_target_port: 0x1211,
     };
-    reads_and_writes(&input, &expected, MessagingSasEx)
+    let variant = reads_and_writes(&input, &expected)?;
+    holds("the variant", variant == MessagingSasEx(expected))
 }
 
 #[test]
@@ -98,7 +108,8 @@ fn an_nvme_namespace_is_a_number_and_an_identifier() -> Result<(), Fail> {
         namespace_identifier: 0x4030201,
         ieee_extended_unique_identifier: 0x1817161514131211,
     };
-    reads_and_writes(&input, &expected, MessagingNvmeNamespace)
+    let variant = reads_and_writes(&input, &expected)?;
+    holds("the variant", variant == MessagingNvmeNamespace(expected))
 }
 
 #[test]
@@ -111,7 +122,8 @@ fn an_nvme_of_namespace_is_an_identifier_and_a_name() -> Result<(), Fail> {
         nid: *b"0123456789abcdef",
         subsystem_nqn: beside(&input, b"nqn.x\0"),
     };
-    reads_and_writes(&input, &expected, MessagingNvmeOfNamespace)
+    let variant = reads_and_writes(&input, &expected)?;
+    holds("the variant", variant == MessagingNvmeOfNamespace(expected))
 }
 
 #[test]
@@ -120,7 +132,8 @@ fn an_nvdimm_namespace_is_a_uuid() -> Result<(), Fail> {
     let expected = NvdimmNamespace {
         uuid: *b"0123456789abcdef",
     };
-    reads_and_writes(&input, &expected, MessagingNvdimmNamespace)
+    let variant = reads_and_writes(&input, &expected)?;
+    holds("the variant", variant == MessagingNvdimmNamespace(expected))
 }
 
 #[test]
@@ -130,19 +143,22 @@ fn a_ufs_device_is_a_target_and_a_unit() -> Result<(), Fail> {
         target_id: 1,
         logical_unit_number: 2,
     };
-    reads_and_writes(&input, &expected, MessagingUfs)
+    let variant = reads_and_writes(&input, &expected)?;
+    holds("the variant", variant == MessagingUfs(expected))
 }
 
 #[test]
 fn an_sd_card_is_a_slot() -> Result<(), Fail> {
     let input = bytes("031a 0500 02")?;
     let expected = Sd { slot_number: 2 };
-    reads_and_writes(&input, &expected, MessagingSd)
+    let variant = reads_and_writes(&input, &expected)?;
+    holds("the variant", variant == MessagingSd(expected))
 }
 
 #[test]
 fn an_emmc_device_is_a_slot() -> Result<(), Fail> {
     let input = bytes("031d 0500 03")?;
     let expected = Emmc { slot_number: 3 };
-    reads_and_writes(&input, &expected, MessagingEmmc)
+    let variant = reads_and_writes(&input, &expected)?;
+    holds("the variant", variant == MessagingEmmc(expected))
 }

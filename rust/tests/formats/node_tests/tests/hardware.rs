@@ -2,7 +2,7 @@
 
 use crate::node_tests::tests::checks::{beside, reads_and_writes};
 use crate::support::test::Fail;
-use crate::test_support::bytes;
+use crate::test_support::{bytes, holds};
 use crate::uefi_base::Guid;
 use crate::uefi_map::MemoryType;
 use crate::uefi_node::DevicePathNodeEnum::*;
@@ -15,14 +15,16 @@ fn a_pci_device_is_a_function_and_a_device() -> Result<(), Fail> {
         function: 0x1f,
         device: 2,
     };
-    reads_and_writes(&input, &expected, HardwarePci)
+    let variant = reads_and_writes(&input, &expected)?;
+    holds("the variant", variant == HardwarePci(expected))
 }
 
 #[test]
 fn a_pccard_is_a_function() -> Result<(), Fail> {
     let input = bytes("0102 0500 03")?;
     let expected = Pccard { function: 3 };
-    reads_and_writes(&input, &expected, HardwarePccard)
+    let variant = reads_and_writes(&input, &expected)?;
+    holds("the variant", variant == HardwarePccard(expected))
 }
 
 #[test]
@@ -35,7 +37,8 @@ fn memory_mapped_registers_are_a_type_and_two_addresses() -> Result<(), Fail> {
         start_address: 0x1817161514131211,
         end_address: 0x2827262524232221,
     };
-    reads_and_writes(&input, &expected, HardwareMemoryMapped)
+    let variant = reads_and_writes(&input, &expected)?;
+    holds("the variant", variant == HardwareMemoryMapped(expected))
 }
 
 #[test]
@@ -47,7 +50,8 @@ fn a_device_of_a_vendor_is_a_guid_and_data() -> Result<(), Fail> {
         vendor_guid: Guid(*b"0123456789abcdef"),
         vendor_defined_data: beside(&input, b"xyz"),
     };
-    reads_and_writes(&input, &expected, HardwareVendor)
+    let variant = reads_and_writes(&input, &expected)?;
+    holds("the variant", variant == HardwareVendor(expected))
 }
 
 #[test]
@@ -56,7 +60,8 @@ fn a_controller_is_a_number() -> Result<(), Fail> {
     let expected = Controller {
         controller_number: 0x4030201,
     };
-    reads_and_writes(&input, &expected, HardwareController)
+    let variant = reads_and_writes(&input, &expected)?;
+    holds("the variant", variant == HardwareController(expected))
 }
 
 #[test]
@@ -66,5 +71,6 @@ fn a_bmc_is_an_interface_and_an_address() -> Result<(), Fail> {
         interface_type: BmcInterfaceType::BLOCK_TRANSFER,
         base_address: 0x807060504030201,
     };
-    reads_and_writes(&input, &expected, HardwareBmc)
+    let variant = reads_and_writes(&input, &expected)?;
+    holds("the variant", variant == HardwareBmc(expected))
 }

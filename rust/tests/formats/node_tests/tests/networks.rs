@@ -2,7 +2,7 @@
 
 use crate::node_tests::tests::checks::{beside, reads_and_writes};
 use crate::support::test::Fail;
-use crate::test_support::bytes;
+use crate::test_support::{bytes, holds};
 use crate::uefi_base::Guid;
 use crate::uefi_node::DevicePathNodeEnum::*;
 use crate::uefi_node::messaging::{
@@ -20,7 +20,8 @@ fn a_network_interface_is_an_address_and_a_type() -> Result<(), Fail> {
         mac_address: *b"0123456789abcdefghijklmnopqrstuv",
         interface_type: 6,
     };
-    reads_and_writes(&input, &expected, MessagingMacAddress)
+    let variant = reads_and_writes(&input, &expected)?;
+    holds("the variant", variant == MessagingMacAddress(expected))
 }
 
 #[test]
@@ -38,7 +39,8 @@ fn an_ipv4_connection_is_addresses_ports_and_a_protocol() -> Result<(), Fail> {
         gateway_ip_address: *b"ijkl",
         subnet_mask: *b"mnop",
     };
-    reads_and_writes(&input, &expected, MessagingIpv4)
+    let variant = reads_and_writes(&input, &expected)?;
+    holds("the variant", variant == MessagingIpv4(expected))
 }
 
 #[test]
@@ -56,14 +58,16 @@ fn an_ipv6_connection_is_addresses_ports_and_a_protocol() -> Result<(), Fail> {
         prefix_length: 0x40,
         gateway_ip_address: *b"ABCDEFGHIJKLMNOP",
     };
-    reads_and_writes(&input, &expected, MessagingIpv6)
+    let variant = reads_and_writes(&input, &expected)?;
+    holds("the variant", variant == MessagingIpv6(expected))
 }
 
 #[test]
 fn a_vlan_is_a_number() -> Result<(), Fail> {
     let input = bytes("0314 0600 0102")?;
     let expected = Vlan { vlan_id: 0x201 };
-    reads_and_writes(&input, &expected, MessagingVlan)
+    let variant = reads_and_writes(&input, &expected)?;
+    holds("the variant", variant == MessagingVlan(expected))
 }
 
 #[test]
@@ -78,7 +82,8 @@ fn an_infiniband_device_is_flags_and_identifiers() -> Result<(), Fail> {
         target_port_id: 0x2827262524232221,
         device_id: 0x3837363534333231,
     };
-    reads_and_writes(&input, &expected, MessagingInfiniband)
+    let variant = reads_and_writes(&input, &expected)?;
+    holds("the variant", variant == MessagingInfiniband(expected))
 }
 
 #[test]
@@ -93,7 +98,8 @@ fn an_iscsi_target_is_options_a_unit_a_tag_and_a_name() -> Result<(), Fail> {
         target_portal_group_tag: 0x1211,
         iscsi_target_name: beside(&input, b"iqn.x"),
     };
-    reads_and_writes(&input, &expected, MessagingIscsi)
+    let variant = reads_and_writes(&input, &expected)?;
+    holds("the variant", variant == MessagingIscsi(expected))
 }
 
 #[test]
@@ -102,7 +108,8 @@ fn a_uri_is_its_bytes() -> Result<(), Fail> {
     let expected = Uri {
         value: beside(&input, b"http://x"),
     };
-    reads_and_writes(&input, &expected, MessagingUri)
+    let variant = reads_and_writes(&input, &expected)?;
+    holds("the variant", variant == MessagingUri(expected))
 }
 
 #[test]
@@ -113,7 +120,8 @@ fn a_wireless_network_is_an_ssid() -> Result<(), Fail> {
     let expected = Wifi {
         ssid: *b"0123456789abcdefghijklmnopqrstuv",
     };
-    reads_and_writes(&input, &expected, MessagingWifi)
+    let variant = reads_and_writes(&input, &expected)?;
+    holds("the variant", variant == MessagingWifi(expected))
 }
 
 #[test]
@@ -127,7 +135,8 @@ fn dns_servers_are_a_type_and_addresses() -> Result<(), Fail> {
             "addresses",
         )?,
     };
-    reads_and_writes(&input, &expected, MessagingDns)
+    let variant = reads_and_writes(&input, &expected)?;
+    holds("the variant", variant == MessagingDns(expected))
 }
 
 #[test]
@@ -138,7 +147,8 @@ fn a_rest_service_is_a_type_and_an_access_mode() -> Result<(), Fail> {
         access_mode: RestServiceAccessMode::IN_BAND,
         vendor_guid_and_data: no_vendor(&input),
     };
-    reads_and_writes(&input, &expected, MessagingRestService)
+    let variant = reads_and_writes(&input, &expected)?;
+    holds("the variant", variant == MessagingRestService(expected))
 }
 
 #[test]
@@ -151,7 +161,8 @@ fn a_rest_service_of_a_vendor_has_a_guid_and_data() -> Result<(), Fail> {
         access_mode: RestServiceAccessMode::OUT_OF_BAND,
         vendor_guid_and_data: Some((Guid(*b"0123456789abcdef"), beside(&input, b"xyz"))),
     };
-    reads_and_writes(&input, &expected, MessagingRestService)
+    let variant = reads_and_writes(&input, &expected)?;
+    holds("the variant", variant == MessagingRestService(expected))
 }
 
 /// Returns no GUID and no data, at the lifetime of a node's bytes.

@@ -2,10 +2,11 @@
 
 use crate::support::fallible::*;
 
+use crate::node_tests::tests::checks::units;
 use crate::support::alloc::AllocError;
 use crate::support::test::Fail;
 use crate::test_support::{bytes, holds, same, same_bytes, takes_memory};
-use crate::uefi_base::{Guid, UnalignedSlice};
+use crate::uefi_base::Guid;
 use crate::uefi_node::DevicePathNodeEnum::*;
 use crate::uefi_node::DevicePathNodeExt;
 use crate::uefi_node::media::{FilePath, HardDrive, PartitionFormat, PartitionSignature};
@@ -49,20 +50,20 @@ const MBR: HardDrive = HardDrive {
     partition_format: PartitionFormat::MBR,
 };
 
-/// Returns the units of an ASCII text, two bytes each.
-fn units(text: &str) -> Result<Vec<u8>, AllocError> {
-    let mut units = Vec::new();
+/// Returns an ASCII text as units, two bytes each.
+fn unit_bytes(text: &str) -> Result<Vec<u8>, AllocError> {
+    let mut bytes = Vec::new();
     for byte in text.bytes() {
-        units.fallible_extend_from_slice(&[byte, 0])?;
+        bytes.fallible_extend_from_slice(&[byte, 0])?;
     }
-    Ok(units)
+    Ok(bytes)
 }
 
-/// Returns the file whose units the bytes are.
-fn file<'a>(units: &'a [u8]) -> FilePath<'a> {
-    FilePath {
-        path_name: UnalignedSlice::new(units),
-    }
+/// Returns the file whose units the bytes are, or `None` if half a unit is left.
+fn file<'a>(name: &'a [u8]) -> Option<FilePath<'a>> {
+    Some(FilePath {
+        path_name: units(name)?,
+    })
 }
 
 /// Builds the path of a file in a partition.
@@ -80,11 +81,10 @@ fn build_in<'a>(
 /// Checks that the path of [`FILE`] in the partition is built as the entry has it.
 fn builds(entry: &str, partition: HardDrive) -> Result<(), Fail> {
     let expected = bytes(entry)?;
-    let name = units(FILE)?;
+    let name = unit_bytes(FILE)?;
+    let file = file(&name).ok_or("a file")?;
     let mut buffer = Vec::fallible_from_elem(0xeeu8, 100)?;
-    let built = build_in(&mut buffer, partition, file(&name))
-        .ok()
-        .ok_or("a path")?;
+    let built = build_in(&mut buffer, partition, file).ok().ok_or("a path")?;
     same_bytes("the path", built.as_bytes(), &expected)
 }
 
@@ -97,7 +97,8 @@ fn the_path_of_a_boot_entry_is_built() -> Result<(), Fail> {
 #[test]
 fn the_path_of_a_boot_entry_is_read() -> Result<(), Fail> {
     let input = bytes(GPT_PATH)?;
-    let name = units(FILE)?;
+    let name = unit_bytes(FILE)?;
+    let file = file(&name).ok_or("a file")?;
     let mut nodes = DevicePath::try_from(input.as_slice())?.node_iter();
     let partition = nodes.next().ok_or("a partition")?;
     holds(
@@ -105,7 +106,7 @@ fn the_path_of_a_boot_entry_is_read() -> Result<(), Fail> {
         partition.as_enum() == Ok(MediaHardDrive(GPT)),
     )?;
     let path = nodes.next().ok_or("a file")?;
-    holds("a file", path.as_enum() == Ok(MediaFilePath(file(&name))))?;
+    holds("a file", path.as_enum() == Ok(MediaFilePath(file)))?;
     holds("the end", nodes.next().is_none())
 }
 
@@ -128,13 +129,12 @@ fn built_length(partition: HardDrive, file: FilePath<'_>) -> Option<usize> {
 
 #[test]
 fn a_vector_has_the_path_or_memory_was_refused() -> Result<(), Fail> {
-    let name = units(FILE)?;
-    let built = build_boxed(MBR, file(&name))
-        .ok()
-        .ok_or("a path")?;
+    let name = unit_bytes(FILE)?;
+    let file = file(&name).ok_or("a file")?;
+    let built = build_boxed(MBR, file).ok().ok_or("a path")?;
     let expected = bytes(MBR_PATH)?;
     same_bytes("the path", built.as_path().as_bytes(), &expected)?;
-    takes_memory(&94, || built_length(MBR, file(&name)))
+    takes_memory(&94, || built_length(MBR, file))
 }
 
 #[test]
@@ -146,6 +146,7 @@ fn a_value_without_a_node_ends_no_path() -> Result<(), Fail> {
         },
         ..GPT
     };
-    let built = build_boxed(unknown, file(b"a\0")).err();
+    let file = file(b"a\0").ok_or("a file")?;
+    let built = build_boxed(unknown, file).err();
     same("the error", &built, &Some(BuildError::Form))
 }

@@ -2,6 +2,7 @@
 
 use crate::support::fallible::*;
 
+use crate::node_tests::tests::checks::units;
 use crate::support::test::Fail;
 use crate::test_support::{holds, same};
 use crate::uefi_base::{Guid, UnalignedSlice};
@@ -75,22 +76,22 @@ fn a_node_has_at_most_65535_bytes() -> Result<(), Fail> {
     let mut buffer = Vec::fallible_from_elem(0xeeu8, 65540)?;
     let longest = of_vendor(data.get(1..).ok_or("data")?);
     same("the longest", &longest.write(&mut buffer), &Ok(65535))?;
-    let units = FilePath {
+    let path = FilePath {
         path_name: UnalignedSlice::new(data.as_slice()),
     };
-    stays(&units, 10, BuildError::BufferTooSmall(65520))
+    stays(&path, 10, BuildError::BufferTooSmall(65520))
 }
 
 #[test]
 fn units_of_more_than_65535_bytes_are_too_big() -> Result<(), Fail> {
     let data = Vec::fallible_from_elem(0x61u8, 131080)?;
-    let bytes = of_vendor(&data);
-    stays(&bytes, 65540, BuildError::NodeTooBig)?;
+    stays(&of_vendor(&data), 65540, BuildError::NodeTooBig)?;
     for length in [65532, 65536, 131074] {
-        let units = FilePath {
-            path_name: UnalignedSlice::new(data.get(..length).ok_or("units")?),
+        let bytes = data.get(..length).ok_or("bytes")?;
+        let path = FilePath {
+            path_name: units(bytes).ok_or("units")?,
         };
-        stays(&units, 65540, BuildError::NodeTooBig)?;
+        stays(&path, 65540, BuildError::NodeTooBig)?;
     }
     Ok(())
 }
