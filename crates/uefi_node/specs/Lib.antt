@@ -13,6 +13,7 @@ pub mod RestServices
 pub mod Media
 pub mod BiosBootSpec
 pub mod NodeEnum
+pub mod text
 pub mod Texts
 pub mod Laws
 pub mod rows

@@ -26,4 +26,5 @@ pub mod messaging;
 mod node_enum;
 mod read;
 mod strings;
+mod text;
 mod write;

@@ -2,10 +2,14 @@ ghost use Rattle.uefi_path.specs.Views.{node_of};
 ghost use Rattle.uefi_node.specs.Layout.{IsValue, node_as};
 ghost use Rattle.uefi_node.specs.Reading.{ReadsAs};
 ghost use Rattle.uefi_node.specs.Hardware.{memory_mapped};
+ghost use Rattle.uefi_node.specs.text.Hardware as forms;
 
 use crate::error::NodeConversionError;
 use crate::read::{NodeValue, RestKind, read_node};
+use crate::text::form::WriteText;
+use crate::text::style::Style;
 use crate::write::{Tail, joined, write_node};
+use std::fmt;
 use uefi_base::little_endian::{u32_at, u64_at};
 use uefi_map::MemoryType;
 use uefi_path::build::{BuildError, BuildNode};
@@ -74,5 +78,18 @@ impl BuildNode for MemoryMapped {
             &self.end_address.to_le_bytes(),
         ]);
         write_node(buffer, self, self.full_type(), &fields, Tail::Bytes(&[]))
+    }
+}
+
+impl WriteText for MemoryMapped {
+    ghost form = { forms.memory_mapped };
+
+    fn write_text<W: fmt::Write>(
+        &self,
+        f: &mut fmt::Formatter<W>,
+        _style: Style,
+    ) -> Option<fmt::Result> {
+        let (kind, start, end) = (self.memory_type.0, self.start_address, self.end_address);
+        Some(write!(f, "MemoryMapped(0x{kind:X},0x{start:X},0x{end:X})"))
     }
 }

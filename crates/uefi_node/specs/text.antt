@@ -1,0 +1,9 @@
+pub mod Arguments
+pub mod Form
+pub mod FileName
+pub mod Hardware
+pub mod Acpi
+pub mod Storage
+pub mod Network
+pub mod Media
+pub mod BiosBootSpec
