@@ -19,7 +19,7 @@ use Rattle.uefi_node.specs.Laws.{SameField, SameRest, OneValue}
 use Rattle.uefi_node.specs.private.Fields.{FieldAt, FieldsAt, RestIs, HasValue}
 
 -- Numbers: the length of their bytes, those that are read, and those that were written.
-number_len : (size : Size) (n : ℕ) → length (to_le_bytes (width size) n) ≡ size_of size
+pub number_len : (size : Size) (n : ℕ) → length (to_le_bytes (width size) n) ≡ size_of size
 number_len two n = refl
 number_len four n = refl
 number_len eight n = refl
@@ -30,7 +30,7 @@ number_back two x len each = le_bytes_2 x _ len each refl
 number_back four x len each = le_bytes_4 x _ len each refl
 number_back eight x len each = le_bytes_8 x _ len each refl
 
-number_again : (size : Size) (n : ℕ) → n < limit size → from_le_bytes (width size) (to_le_bytes (width size) n) ≡ n
+pub number_again : (size : Size) (n : ℕ) → n < limit size → from_le_bytes (width size) (to_le_bytes (width size) n) ≡ n
 number_again two n lt = from_le_bytes-to_le_bytes_2 n lt
 number_again four n lt = from_le_bytes-to_le_bytes_4 n lt
 number_again eight n lt = from_le_bytes-to_le_bytes_8 n lt
@@ -123,7 +123,7 @@ front_read fs r b each room are =
     (read.0, ap (λ n. fields_bytes fs r ++ drop n b) (omega arith) ∙ read.1)
 
 -- How many bytes they are.
-field_sized : {R : Type 0} (f : Field R) (r : R) → FieldFits r f → length (field_bytes f r) ≡ field_size f
+pub field_sized : {R : Type 0} (f : Field R) (r : R) → FieldFits r f → length (field_bytes f r) ≡ field_size f
 field_sized (byte get) r fits = refl
 field_sized (number size get) r fits = number_len size (get r)
 field_sized (array n get) r fits = fits
@@ -179,7 +179,7 @@ value_read l r b each room long has =
     )
 
 -- The bytes of a value have a length of the type.
-rest_sized : {R : Type 0} (rest : Rest R) (r : R) → RestFits rest r → RestLength (kind_of rest) (length (rest_bytes rest r))
+pub rest_sized : {R : Type 0} (rest : Rest R) (r : R) → RestFits rest r → RestLength (kind_of rest) (length (rest_bytes rest r))
 rest_sized nothing r fits = refl
 rest_sized (bytes get) r fits = tt
 rest_sized (units get) r fits = omega (arith, units_read_back.sized (get r))

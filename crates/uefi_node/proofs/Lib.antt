@@ -6,3 +6,6 @@ pub mod Signatures
 pub mod NulStrings
 pub mod Faithful
 pub mod Rows
+pub mod DataTests
+pub mod Forms
+pub mod PathTexts

@@ -1,3 +1,4 @@
+pub mod Style
 pub mod Arguments
 pub mod Form
 pub mod FileName
@@ -7,3 +8,6 @@ pub mod Storage
 pub mod Network
 pub mod Media
 pub mod BiosBootSpec
+pub mod NodeText
+pub mod PathText
+pub mod Views

@@ -13,6 +13,9 @@
 
 pub use self::error::NodeConversionError;
 pub use self::node_enum::{DevicePathNodeEnum, DevicePathNodeExt};
+pub use self::text::{
+    AllowShortcuts, DisplayOnly, NodeText, PathText, instance_to_text, node_to_text, to_text,
+};
 
 pub mod acpi;
 mod as_enum;

@@ -103,11 +103,11 @@ all_but_last-push [] x = refl
 all_but_last-push (y ∷ []) x = refl
 all_but_last-push (y ∷ z ∷ xs) x = ap (λ s. y ∷ s) (all_but_last-push (z ∷ xs) x)
 
--- The walk stops at a node that satisfies P: the bytes before it are the nodes before the last.
-pub passed_before : (P : Node → Type 0) (bytes rest after : List ℕ) (n : Node) (nodes : List Node)
-    → HasPassed P bytes rest → Fits n → P n → rest ≡ encoding n ++ after → IsEncodingOfNodes P bytes nodes
-    → take (length bytes - length rest) bytes ≡ joined (all_but_last nodes)
-passed_before P bytes rest after n nodes before fits so e encodes =
+-- The walk stops at a node that satisfies P: the nodes that it has passed and this one are all.
+passed_all : (P : Node → Type 0) (bytes rest after : List ℕ) (n : Node) (nodes : List Node)
+    → (before : HasPassed P bytes rest) → Fits n → P n → rest ≡ encoding n ++ after → IsEncodingOfNodes P bytes nodes
+    → nodes ≡ before.0 ++ n ∷ []
+passed_all P bytes rest after n nodes before fits so e encodes =
     let passed : List Node = before.0 ++ n ∷ [] in
     let split : bytes ≡ joined passed ++ after = before.1.split ∙ ap (λ s. joined before.0 ++ s) e
     ∙ sym (flat_map-push encoding before.0 n after) in
@@ -115,7 +115,22 @@ passed_before P bytes rest after n nodes before fits so e encodes =
       each = AllByRecursion-push Fits before.0 n before.1.each fits;
       end = LastAlone-push P before.0 n before.1.none so;
     } in
-    let same : nodes ≡ passed = (one_ended P nodes passed [] after encodes.ended ended
-    (append-nil (joined nodes) ∙ sym encodes.encoded ∙ split)).0 in
+    (one_ended P nodes passed [] after encodes.ended ended
+    (append-nil (joined nodes) ∙ sym encodes.encoded ∙ split)).0
+
+-- So the bytes before it are the nodes before the last.
+pub passed_before : (P : Node → Type 0) (bytes rest after : List ℕ) (n : Node) (nodes : List Node)
+    → HasPassed P bytes rest → Fits n → P n → rest ≡ encoding n ++ after → IsEncodingOfNodes P bytes nodes
+    → take (length bytes - length rest) bytes ≡ joined (all_but_last nodes)
+passed_before P bytes rest after n nodes before fits so e encodes =
     front_is bytes (joined before.0) rest before.1.split
-    ∙ ap joined (sym (ap all_but_last same ∙ all_but_last-push before.0 n))
+    ∙ ap joined (sym (ap all_but_last (passed_all P bytes rest after n nodes before fits so e encodes)
+    ∙ all_but_last-push before.0 n))
+
+-- And it is the last.
+pub passed_end_node : (P : Node → Type 0) (bytes rest after : List ℕ) (n : Node) (nodes : List Node)
+    → HasPassed P bytes rest → Fits n → P n → rest ≡ encoding n ++ after → IsEncodingOfNodes P bytes nodes
+    → nodes ≡ all_but_last nodes ++ n ∷ []
+passed_end_node P bytes rest after n nodes before fits so e encodes =
+    let all : nodes ≡ before.0 ++ n ∷ [] = passed_all P bytes rest after n nodes before fits so e encodes in
+    all ∙ ap (λ front. front ++ n ∷ []) (sym (ap all_but_last all ∙ all_but_last-push before.0 n))

@@ -1,4 +1,4 @@
-ghost use Rattle.std.specs.Prelude.{◌≡◌, ◌^◌, ◌<◌, length, IfOk, nat_eq};
+ghost use Rattle.std.specs.Prelude.{◌≡◌, [], ◌∷◌, ◌++◌, ◌^◌, ◌<◌, length, IfOk, nat_eq};
 ghost use Rattle.std.specs.Cmp.{partial_equiv_from_equiv, on_per, on_equiv};
 ghost use Rattle.std.specs.Cmp.Lexicographic.{pointwise, nat_list_eq_equiv};
 ghost use Rattle.uefi_path.specs.Node.{joined, IsEnd};
@@ -7,8 +7,9 @@ ghost use Rattle.uefi_path.specs.private.Encoding.{IsEncodingOfNodes, EncodesIns
 ghost use Rattle.uefi_path.specs.private.OnePath.{EncodesInstance-prop};
 
 use crate::boxed::BoxedDevicePathInstance;
+use crate::node::DevicePathNode;
 use crate::node_iter::DevicePathNodeIterator;
-use crate::walk::{StopCondition, nodes_before_end};
+use crate::walk::{StopCondition, end_node, nodes_before_end};
 use std::alloc::{AllocError, Allocator};
 
 /// One instance of a device path (UEFI 2.10, 10.2): nodes of which only the last has the type END.
@@ -23,7 +24,7 @@ pub struct DevicePathInstance<'a> {
 
 #[tactic(auto, using(crate::specs::private::OnePath::same_nodes, crate::proofs::Counts::few_before_end))]
 impl<'a> DevicePathInstance<'a> {
-    ghost use Rattle.uefi_path.specs.Views.{instance_nodes, nodes_left, boxed_instance_nodes};
+    ghost use Rattle.uefi_path.specs.Views.{node_of, instance_nodes, nodes_left, boxed_instance_nodes};
 
     /// Returns the instance that `bytes`, which are known to be an instance, encode.
     pub(crate) fn new_unchecked(bytes: &'a [u8]) -> DevicePathInstance<'a>
@@ -46,6 +47,13 @@ impl<'a> DevicePathInstance<'a> {
         ensures { result.now ≡ joined (all_but_last (instance_nodes self.now)) }
     {
         nodes_before_end(self.bytes, StopCondition::AnyEndNode)
+    }
+
+    /// Returns the node with the type END, which is the last.
+    pub fn end_node(&self) -> DevicePathNode<'a>
+        ensures { instance_nodes self.now ≡ all_but_last (instance_nodes self.now) ++ (node_of result ∷ []) }
+    {
+        end_node(self.bytes, StopCondition::AnyEndNode)
     }
 
     /// Copies the instance into an allocation of its own.

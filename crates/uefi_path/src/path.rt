@@ -1,4 +1,4 @@
-ghost use Rattle.std.specs.Prelude.{◌≡◌, ◌*◌, ◌^◌, ◌<◌, ◌≤◌, length, IfOk, nat_eq, Some};
+ghost use Rattle.std.specs.Prelude.{◌≡◌, [], ◌∷◌, ◌++◌, ◌*◌, ◌^◌, ◌<◌, ◌≤◌, length, IfOk, nat_eq, Some};
 ghost use Rattle.std.specs.Cmp.{partial_equiv_from_equiv, on_per, on_equiv};
 ghost use Rattle.std.specs.Cmp.Lexicographic.{pointwise, nat_list_eq_equiv};
 ghost use Rattle.uefi_path.specs.Header.{header_length};
@@ -11,8 +11,9 @@ ghost use Rattle.uefi_path.specs.Reading.{ReadsPath};
 use crate::boxed::BoxedDevicePath;
 use crate::error::ByteConversionError;
 use crate::instance_iter::DevicePathInstanceIterator;
+use crate::node::DevicePathNode;
 use crate::node_iter::DevicePathNodeIterator;
-use crate::walk::{StopCondition, nodes_before_end, split_nodes};
+use crate::walk::{StopCondition, end_node, nodes_before_end, split_nodes};
 use std::alloc::{AllocError, Allocator};
 use std::fmt;
 
@@ -62,7 +63,7 @@ pub struct DevicePath<'a> {
 
 #[tactic(auto, using(crate::specs::private::OnePath::same_nodes, crate::proofs::Counts::few_before_end))]
 impl<'a> DevicePath<'a> {
-    ghost use Rattle.uefi_path.specs.Views.{path_nodes, nodes_left, instances_left, boxed_nodes};
+    ghost use Rattle.uefi_path.specs.Views.{node_of, path_nodes, nodes_left, instances_left, boxed_nodes};
 
     /// Returns the path that `bytes`, which are known to be a path, encode.
     pub(crate) fn new_unchecked(bytes: &'a [u8]) -> DevicePath<'a>
@@ -94,6 +95,13 @@ impl<'a> DevicePath<'a> {
         ensures { result.now ≡ joined (all_but_last (path_nodes self.now)) }
     {
         nodes_before_end(self.bytes, StopCondition::EndEntireNode)
+    }
+
+    /// Returns the end-entire node, which is the last.
+    pub fn end_node(&self) -> DevicePathNode<'a>
+        ensures { path_nodes self.now ≡ all_but_last (path_nodes self.now) ++ (node_of result ∷ []) }
+    {
+        end_node(self.bytes, StopCondition::EndEntireNode)
     }
 
     /// Copies the path into an allocation of its own.

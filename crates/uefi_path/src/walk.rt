@@ -1,4 +1,4 @@
-ghost use Rattle.std.specs.Prelude.{◌≡◌, ◌↔◌, List, ◌++◌, IsTrue, IfOk, OnErr};
+ghost use Rattle.std.specs.Prelude.{◌≡◌, ◌↔◌, List, [], ◌∷◌, ◌++◌, IsTrue, IfOk, OnErr};
 ghost use Rattle.uefi_path.specs.Node.{Node, Fits, encoding, joined, HasNode};
 ghost use Rattle.uefi_path.specs.Path.{all_but_last};
 ghost use Rattle.uefi_path.specs.private.Stop.{Stops};
@@ -108,6 +108,22 @@ pub(crate) fn nodes_before_end(bytes: &[u8], stop: StopCondition) -> &[u8]
         if stop.stops_at(&node) {
             let (before, _) = bytes.split_at(bytes.len() - rest.len());
             return before;
+        }
+        rest = after;
+    }
+}
+
+/// Returns the node at which the walk stops, of bytes that are known to be such nodes.
+pub(crate) fn end_node(bytes: &[u8], stop: StopCondition) -> DevicePathNode<'_>
+    requires { EncodesNodes (Stops stop) bytes.now }
+    ensures { (nodes : List Node) → IsEncodingOfNodes (Stops stop) bytes.now nodes
+        → nodes ≡ all_but_last nodes ++ (node_of result ∷ []) }
+{
+    let mut rest = bytes;
+    loop {
+        let (node, after) = first_node(rest);
+        if stop.stops_at(&node) {
+            return node;
         }
         rest = after;
     }

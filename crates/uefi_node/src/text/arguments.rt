@@ -139,10 +139,7 @@ pub(crate) fn is_argument_character(c: u8) -> bool
 }
 
 /// Writes a text that can be an argument.
-pub(crate) fn write_argument<W: fmt::Write>(
-    f: &mut fmt::Formatter<W>,
-    text: &[u8],
-) -> fmt::Result
+pub(crate) fn write_argument<W: fmt::Write>(f: &mut fmt::Formatter<W>, text: &[u8]) -> fmt::Result
     requires { IsTrue (is_argument text.now) }
     ensures { DisplaysOnOk W.write_str_gives f.old result (Some text.now) f.new }
 {

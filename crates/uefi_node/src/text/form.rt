@@ -1,5 +1,5 @@
 ghost use Rattle.uefi_path.specs.Views.{node_of};
-ghost use Rattle.uefi_node.specs.Reading.{ReadsAs};
+ghost use Rattle.uefi_node.specs.Reading.{HasType, ReadsAs};
 ghost use Rattle.uefi_node.specs.text.Form.{Form, value_text, data_text};
 ghost use Rattle.uefi_node.specs.private.Writing.{WritesForm};
 
@@ -30,7 +30,8 @@ pub(crate) fn write_read<T: WriteText, W: fmt::Write>(
     read: Result<T, NodeConversionError>,
     style: Style,
 ) -> Option<fmt::Result>
-    requires { ReadsAs T.form.layout (node_of node.now) read }
+    requires typed { HasType T.form.layout (node_of node.now) }
+    requires read { ReadsAs T.form.layout (node_of node.now) read }
     ensures { WritesForm W.write_str_gives f.old result
         (data_text T.form style (node_of node.now).payload) f.new }
 {
