@@ -1,7 +1,10 @@
 -- Strings that end with a NUL each.
-use Rattle.std.proofs.Common.{◌≡◌, ℕ, zero, suc, ◌+◌, ◌<◌, List, [], ◌∷◌, ◌++◌, length, take, drop, get_or}
+use Rattle.std.proofs.Common.{◌≡◌, ℕ, zero, suc, ◌+◌, ◌-◌, ◌<◌, ◌≤◌, ◌↔◌, List, [], ◌∷◌, ◌++◌, length, take, drop, get_or}
 use Rattle.std.proofs.Common.{Bool, true, false, not, cond, ◌&&◌, refl, sym, ◌∙◌, ap, subst, arith, eqb, take-append-drop}
-use Rattle.std.specs.Prelude.{IsTrue, ◌==◌, position, Some, None, nat_lt}
+use Rattle.std.specs.Prelude.{IsTrue, ◌==◌, position, count_by, Some, None, nat_lt}
+use Rattle.std.proofs.lemmas.Bool.{eqb-true, eq-eqb}
+use Rattle.std.proofs.lemmas.List.{append_assoc, length-append, length_push, get_or_push, get_or-append-add}
+use Rattle.std.proofs.lemmas.List.Sums.{sum_by-cons, sum_by-append, get_or-le-sum_by}
 use Rattle.std.proofs.lemmas.List.Folds.{list_all-append}
 use Rattle.std.proofs.lemmas.Bool.Decides.{nat_tests}
 use Rattle.std.specs.List.{list_all, prefix_len}
@@ -9,7 +12,7 @@ use Rattle.std.proofs.Math.Dec.{eqb-suc-zero}
 use Rattle.std.proofs.lemmas.List.{take_all, drop_more, drop-drop}
 use Rattle.std.proofs.lemmas.List.Sums.{prefix_len_stops}
 use Rattle.uefi_node.specs.Laws.{OneWayToSplit}
-use Rattle.uefi_node.specs.NulStrings.{is_without_nul, AreStrings}
+use Rattle.uefi_node.specs.NulStrings.{is_without_nul, strings_bytes, AreStrings, are_three_strings}
 
 -- What passes a test before the first that doesn't.
 before_first : (p : ℕ → Bool) (xs : List ℕ) → list_all p (take (prefix_len p xs) xs) ≡ true
@@ -118,3 +121,119 @@ one_way_to_split a b c x y z own its =
     let second = one_string y b _ _ its.second_string own.second_string first.1 in
     let third = one_string z c [] [] its.third_string own.third_string second.1 in
     (sym first.0, sym second.0, sym third.0)
+
+-- How many NULs there are.
+abbrev nuls : List ℕ → ℕ
+nuls bytes = count_by (λ byte. byte == 0) bytes
+
+nuls-cons : (x : ℕ) (xs : List ℕ) → nuls (x ∷ xs) ≡ cond (x == 0) 1 0 + nuls xs
+nuls-cons x xs = sum_by-cons (λ byte. cond (byte == 0) 1 0) x xs
+
+not_true : (b : Bool) → not b ≡ true → b ≡ false
+not_true true fails = absurd (let never : false ≡ true = fails in cc)
+not_true false fails = refl
+
+no_nuls : (xs : List ℕ) → is_without_nul xs ≡ true → nuls xs ≡ 0
+no_nuls [] own = refl
+no_nuls (x ∷ xs) own =
+    let other : (x == 0) ≡ false = not_true _ (left_true _ (is_without_nul xs) own) in
+    let others : nuls xs ≡ 0 = no_nuls xs (right_true _ _ own) in
+    nuls-cons x xs ∙ (λ i. cond (other i) 1 0 + others i)
+
+nuls_after : (string rest : List ℕ) (n : ℕ) → is_without_nul string ≡ true → nuls rest ≡ n
+    → nuls (string ++ 0 ∷ rest) ≡ 1 + n
+nuls_after string rest n own more =
+    let first : nuls (0 ∷ rest) ≡ 1 + nuls rest = nuls-cons 0 rest in
+    let apart : nuls (string ++ 0 ∷ rest) ≡ nuls string + nuls (0 ∷ rest) =
+    sum_by-append (λ byte. cond (byte == 0) 1 0) string (0 ∷ rest) in
+    let none : nuls string ≡ 0 = no_nuls string own in
+    omega (arith, first, apart, none, more)
+
+-- The last byte is a NUL.
+last_nul : (bytes front : List ℕ) → bytes ≡ front ++ 0 ∷ [] → get_or bytes (length bytes - 1) 0 ≡ 0
+last_nul bytes front is =
+    let long : length (front ++ 0 ∷ []) ≡ length front + 1 = length_push front 0 in
+    let before : length front ≡ length (front ++ 0 ∷ []) - 1 = omega (arith, long) in
+    ap (λ l. get_or l (length l - 1) 0) is ∙ get_or_push front 0 0 (length (front ++ 0 ∷ []) - 1) before
+
+-- Three strings pass the test.
+pub three_strings_pass : (bytes a b c : List ℕ) → AreStrings bytes a b c → IsTrue (are_three_strings bytes)
+three_strings_pass bytes a b c are =
+    let three : nuls (strings_bytes a b c) ≡ 3 =
+    nuls_after a _ 2 are.first_string (nuls_after b _ 1 are.second_string (nuls_after c [] 0 are.third_string refl)) in
+    let front : strings_bytes a b c ≡ (a ++ 0 ∷ (b ++ 0 ∷ c)) ++ 0 ∷ [] = simp append_assoc in
+    let count : nuls bytes ≡ 3 = ap nuls are.joined ∙ three in
+    let last : get_or bytes (length bytes - 1) 0 ≡ 0 = last_nul bytes _ (are.joined ∙ front) in
+    (λ i. eq-eqb _ 3 count i && eq-eqb _ 0 last i)
+
+-- Bytes with a NUL are a string, the NUL, and the rest, which has the other NULs.
+record SplitAtNul (bytes : List ℕ) (others : ℕ) : Type 0 where
+  string : List ℕ
+  rest : List ℕ
+  own : is_without_nul string ≡ true
+  joined : bytes ≡ string ++ 0 ∷ rest
+  more : nuls rest ≡ others
+
+split_at_nul : (bytes : List ℕ) (others : ℕ) → nuls bytes ≡ suc others → SplitAtNul bytes others
+split_at_nul [] others some = absurd (let never : 0 ≡ suc others = some in omega arith)
+split_at_nul (x ∷ xs) others some =
+    elim (x == 0) as (λ b. (x == 0) ≡ b → cond b 1 0 + nuls xs ≡ suc others → SplitAtNul (x ∷ xs) others) [
+      | true ↦ λ nul count. record {
+            string = [];
+            rest = xs;
+            own = refl;
+            joined = ap (λ n. n ∷ xs) (eqb-true x 0 nul);
+            more = omega (arith, count);
+          }
+      | false ↦ λ other count.
+          let next : SplitAtNul xs others = split_at_nul xs others (omega (arith, count)) in
+          record {
+            string = x ∷ next.string;
+            rest = next.rest;
+            own = λ i. not (other i) && next.own i;
+            joined = ap (λ l. x ∷ l) next.joined;
+            more = next.more;
+          }
+    ] refl (sym (nuls-cons x xs) ∙ some)
+
+-- Nothing follows the last NUL, if the last byte is one.
+nothing_after : (front rest : List ℕ) → nuls rest ≡ 0
+    → get_or (front ++ rest) (length (front ++ rest) - 1) 0 ≡ 0 → rest ≡ []
+nothing_after front [] none last = refl
+nothing_after front (x ∷ xs) none last =
+    let place : length (front ++ x ∷ xs) - 1 ≡ length front + length xs =
+    omega (arith, length-append front (x ∷ xs)) in
+    let is_last : get_or (x ∷ xs) (length xs) 0 ≡ 0 =
+    sym (get_or-append-add front (x ∷ xs) (length xs) 0) ∙ ap (λ n. get_or (front ++ x ∷ xs) n 0) (sym place) ∙ last in
+    let counted : cond (get_or (x ∷ xs) (length xs) 0 == 0) 1 0 ≤ nuls (x ∷ xs) =
+    get_or-le-sum_by (λ byte. cond (byte == 0) 1 0) (x ∷ xs) (length xs) 0 (omega arith) in
+    let one : 1 ≤ nuls (x ∷ xs) = subst (λ n. cond (n == 0) 1 0 ≤ nuls (x ∷ xs)) is_last counted in
+    absurd (omega (arith, one, none))
+
+-- Bytes that pass the test are three strings.
+pub passing_three_strings : (bytes : List ℕ) → IsTrue (are_three_strings bytes)
+    → (a b c : List ℕ) × AreStrings bytes a b c
+passing_three_strings bytes passes =
+    let count : nuls bytes ≡ 3 = eqb-true _ 3 (left_true _ (get_or bytes (length bytes - 1) 0 == 0) passes) in
+    let last : get_or bytes (length bytes - 1) 0 ≡ 0 = eqb-true _ 0 (right_true (nuls bytes == 3) _ passes) in
+    let first = split_at_nul bytes 2 count in
+    let second = split_at_nul first.rest 1 first.more in
+    let third = split_at_nul second.rest 0 second.more in
+    let joined : bytes ≡ first.string ++ 0 ∷ (second.string ++ 0 ∷ (third.string ++ 0 ∷ third.rest)) =
+    first.joined ∙ ap (λ l. first.string ++ 0 ∷ l) (second.joined ∙ ap (λ l. second.string ++ 0 ∷ l) third.joined) in
+    let front : bytes ≡ strings_bytes first.string second.string third.string ++ third.rest =
+    joined ∙ simp append_assoc in
+    let nothing : third.rest ≡ [] =
+    nothing_after (strings_bytes first.string second.string third.string) third.rest third.more
+    (subst (λ l. get_or l (length l - 1) 0 ≡ 0) front last) in
+    (first.string, second.string, third.string, record {
+      first_string = first.own;
+      second_string = second.own;
+      third_string = third.own;
+      joined = joined ∙ ap (λ l. first.string ++ 0 ∷ (second.string ++ 0 ∷ (third.string ++ 0 ∷ l))) nothing;
+    })
+
+pub three_strings_test : (bytes : List ℕ)
+    → IsTrue (are_three_strings bytes) ↔ ((a b c : List ℕ) × AreStrings bytes a b c)
+three_strings_test bytes =
+    (passing_three_strings bytes, λ (a, b, c, are). three_strings_pass bytes a b c are)
