@@ -179,12 +179,12 @@ split_at_nul [] others some = absurd (let never : 0 ≡ suc others = some in ome
 split_at_nul (x ∷ xs) others some =
     elim (x == 0) as (λ b. (x == 0) ≡ b → cond b 1 0 + nuls xs ≡ suc others → SplitAtNul (x ∷ xs) others) [
       | true ↦ λ nul count. record {
-            string = [];
-            rest = xs;
-            own = refl;
-            joined = ap (λ n. n ∷ xs) (eqb-true x 0 nul);
-            more = omega (arith, count);
-          }
+        string = [];
+        rest = xs;
+        own = refl;
+        joined = ap (λ n. n ∷ xs) (eqb-true x 0 nul);
+        more = omega (arith, count);
+      }
       | false ↦ λ other count.
           let next : SplitAtNul xs others = split_at_nul xs others (omega (arith, count)) in
           record {
@@ -225,13 +225,17 @@ passing_three_strings bytes passes =
     joined ∙ simp append_assoc in
     let nothing : third.rest ≡ [] =
     nothing_after (strings_bytes first.string second.string third.string) third.rest third.more
-    (subst (λ l. get_or l (length l - 1) 0 ≡ 0) front last) in
-    (first.string, second.string, third.string, record {
-      first_string = first.own;
-      second_string = second.own;
-      third_string = third.own;
-      joined = joined ∙ ap (λ l. first.string ++ 0 ∷ (second.string ++ 0 ∷ (third.string ++ 0 ∷ l))) nothing;
-    })
+    (subst (λ l. get_or l (length l - 1) 0 ≡ 0) front last) in (
+      first.string,
+      second.string,
+      third.string,
+      record {
+        first_string = first.own;
+        second_string = second.own;
+        third_string = third.own;
+        joined = joined ∙ ap (λ l. first.string ++ 0 ∷ (second.string ++ 0 ∷ (third.string ++ 0 ∷ l))) nothing;
+      },
+    )
 
 pub three_strings_test : (bytes : List ℕ)
     → IsTrue (are_three_strings bytes) ↔ ((a b c : List ℕ) × AreStrings bytes a b c)
