@@ -1,11 +1,20 @@
+ghost use Rattle.std.specs.Prelude.{◌≡◌, true, false, Some, IsTrue, IfSome, IfNone};
+ghost use Rattle.std.specs.Fmt.{DisplaysOnOk};
 ghost use Rattle.uefi_path.specs.Views.{node_of};
 ghost use Rattle.uefi_node.specs.Layout.{IsValue, node_as};
 ghost use Rattle.uefi_node.specs.Reading.{ReadsAs};
 ghost use Rattle.uefi_node.specs.BiosBootSpec.{boot_specification};
+ghost use Rattle.uefi_node.specs.text.BiosBootSpec as forms;
+ghost use Rattle.uefi_node.specs.text.BiosBootSpec.{boot_device_type, boot_device};
+ghost use Rattle.uefi_node.specs.text.Arguments.{is_argument, is_nul_ended_argument, without_nul};
 
 use crate::error::NodeConversionError;
 use crate::read::{NodeValue, RestKind, read_node};
+use crate::text::arguments::{is_argument, write_argument};
+use crate::text::form::WriteText;
+use crate::text::style::Style;
 use crate::write::{Tail, joined, write_node};
+use std::fmt;
 use uefi_base::little_endian::u16_at;
 use uefi_path::build::{BuildError, BuildNode};
 use uefi_path::{DevicePathNode, DeviceSubType, DeviceType};
@@ -82,6 +91,93 @@ impl BuildNode for BootSpecification<'_> {
             &fields,
             Tail::Bytes(self.description_string),
         )
+    }
+}
+
+impl WriteText for BootSpecification<'_> {
+    ghost form = { forms.boot_specification };
+
+    fn write_text<W: fmt::Write>(
+        &self,
+        f: &mut fmt::Formatter<W>,
+        style: Style,
+    ) -> Option<fmt::Result> {
+        let (kind, flag) = (self.device_type.0, self.status_flag);
+        let Some(description) = nul_ended_argument(self.description_string) else {
+            return None;
+        };
+        Some(if style.display_only {
+            write_short(f, kind, description)
+        } else {
+            write_full(f, kind, description, flag)
+        })
+    }
+}
+
+/// Returns the bytes without the NUL that they end with, if they are a text that can be an argument.
+fn nul_ended_argument(bytes: &[u8]) -> Option<&[u8]>
+    ensures some { IfSome result (λ text. IsTrue (is_nul_ended_argument bytes.now)) }
+    ensures text { IfSome result (λ text. text.now ≡ without_nul bytes.now) }
+    ensures argument { IfSome result (λ text. IsTrue (is_argument text.now)) }
+    ensures none { IfNone result (is_nul_ended_argument bytes.now ≡ false) }
+{
+    if bytes.is_empty() || bytes[bytes.len() - 1] != 0 {
+        return None;
+    }
+    let text = &bytes[..bytes.len() - 1];
+    if !is_argument(text) {
+        return None;
+    }
+    Some(text)
+}
+
+/// Writes the form for display.
+fn write_short<W: fmt::Write>(
+    f: &mut fmt::Formatter<W>,
+    kind: u16,
+    description: &[u8],
+) -> fmt::Result
+    requires { IsTrue (is_argument description.now) }
+    ensures { DisplaysOnOk W.write_str_gives f.old result (Some (boot_device true kind 0 description.now)) f.new }
+{
+    write!(f, "BBS({},", DeviceTypeText(kind))?;
+    write_argument(f, description)?;
+    write!(f, ")")
+}
+
+/// Writes the form with all fields.
+fn write_full<W: fmt::Write>(
+    f: &mut fmt::Formatter<W>,
+    kind: u16,
+    description: &[u8],
+    flag: u16,
+) -> fmt::Result
+    requires { IsTrue (is_argument description.now) }
+    ensures { DisplaysOnOk W.write_str_gives f.old result (Some (boot_device false kind flag description.now)) f.new }
+{
+    write!(f, "BBS({},", DeviceTypeText(kind))?;
+    write_argument(f, description)?;
+    write!(f, ",0x{flag:X})")
+}
+
+/// The type of a boot device, displayed as its name, or else as its number.
+#[derive(Clone, Copy)]
+struct DeviceTypeText(u16);
+
+impl fmt::Display for DeviceTypeText {
+    ghost output = { λ it. Some (boot_device_type it.0) };
+
+    fn fmt<W: fmt::Write>(&self, f: &mut fmt::Formatter<W>) -> fmt::Result {
+        let number = self.0;
+        match number {
+            1 => f.write_str("Floppy"),
+            2 => f.write_str("HD"),
+            3 => f.write_str("CDROM"),
+            4 => f.write_str("PCMCIA"),
+            5 => f.write_str("USB"),
+            6 => f.write_str("Network"),
+            _ => write!(f, "0x{number:X}"),
+        }
     }
 }
 

@@ -2,10 +2,14 @@ ghost use Rattle.uefi_path.specs.Views.{node_of};
 ghost use Rattle.uefi_node.specs.Layout.{IsValue, node_as};
 ghost use Rattle.uefi_node.specs.Reading.{ReadsAs};
 ghost use Rattle.uefi_node.specs.Hardware.{bmc};
+ghost use Rattle.uefi_node.specs.text.Hardware as forms;
 
 use crate::error::NodeConversionError;
 use crate::read::{NodeValue, RestKind, read_node};
+use crate::text::form::WriteText;
+use crate::text::style::Style;
 use crate::write::{Tail, joined, write_node};
+use std::fmt;
 use uefi_base::little_endian::u64_at;
 use uefi_path::build::{BuildError, BuildNode};
 use uefi_path::{DevicePathNode, DeviceSubType, DeviceType};
@@ -69,6 +73,19 @@ impl BuildNode for Bmc {
             &self.base_address.to_le_bytes(),
         ]);
         write_node(buffer, self, self.full_type(), &fields, Tail::Bytes(&[]))
+    }
+}
+
+impl WriteText for Bmc {
+    ghost form = { forms.bmc };
+
+    fn write_text<W: fmt::Write>(
+        &self,
+        f: &mut fmt::Formatter<W>,
+        _style: Style,
+    ) -> Option<fmt::Result> {
+        let (kind, address) = (self.interface_type.0, self.base_address);
+        Some(write!(f, "BMC(0x{kind:X},0x{address:X})"))
     }
 }
 
