@@ -28,7 +28,7 @@ channel_name channel = if channel == 0 then codes "Primary" else codes "Secondar
 abbrev pub drive_name : ℕ → List ℕ
 drive_name drive = if drive == 0 then codes "Master" else codes "Slave"
 
--- `Ata(Primary|Secondary,Master|Slave,LUN)`
+-- The form with names.
 abbrev pub ata : ℕ → ℕ → ℕ → List ℕ
 ata channel drive lun = call (codes "Ata") (channel_name channel ∷ drive_name drive ∷ hex lun ∷ [])
 

@@ -122,13 +122,15 @@ impl WriteText for Iscsi<'_> {
 
 /// Returns the text of bytes that are one that can be an argument, and a NUL.
 fn nul_ended_argument(bytes: &[u8]) -> Option<&[u8]>
-    ensures {
-        MatchOption result (is_nul_ended_argument bytes.now ≡ false)
-            (λ name. IsTrue (is_nul_ended_argument bytes.now) × (name.now ≡ without_nul bytes.now))
-    }
+    ensures { MatchOption result (is_nul_ended_argument bytes.now ≡ false)
+        (λ name. IsTrue (is_nul_ended_argument bytes.now) × (name.now ≡ without_nul bytes.now)) }
 {
     let (last, name) = bytes.split_last()?;
-    if *last == 0 && is_argument(name) { Some(name) } else { None }
+    if *last == 0 && is_argument(name) {
+        Some(name)
+    } else {
+        None
+    }
 }
 
 /// Writes the form with these options, logical unit, tag and name.
@@ -146,7 +148,10 @@ fn write_iscsi<W: fmt::Write>(
     let (lun, authentication) = (HexBytes(&lun), authentication(options));
     f.write_str("iSCSI(")?;
     write_argument(f, name)?;
-    write!(f, ",0x{tag:X},0x{lun},{headers},{data},{authentication},TCP)")
+    write!(
+        f,
+        ",0x{tag:X},0x{lun},{headers},{data},{authentication},TCP)"
+    )
 }
 
 /// Returns the options that the words of `options` say.
@@ -175,14 +180,22 @@ fn authentication_bits(options: u16) -> u16
 fn header_digest(options: u16) -> &'static str
     ensures { result.now ≡ header_digest options }
 {
-    if options / 0x2 % 2 == 1 { "CRC32C" } else { "None" }
+    if options / 0x2 % 2 == 1 {
+        "CRC32C"
+    } else {
+        "None"
+    }
 }
 
 /// Returns the name of the digest of data.
 fn data_digest(options: u16) -> &'static str
     ensures { result.now ≡ data_digest options }
 {
-    if options / 0x8 % 2 == 1 { "CRC32C" } else { "None" }
+    if options / 0x8 % 2 == 1 {
+        "CRC32C"
+    } else {
+        "None"
+    }
 }
 
 /// Returns the name of the authentication.

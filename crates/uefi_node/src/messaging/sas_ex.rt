@@ -97,7 +97,10 @@ impl WriteText for SasEx {
         f: &mut fmt::Formatter<W>,
         _style: Style,
     ) -> Option<fmt::Result> {
-        let (address, lun) = (HexBytes(&self.sas_address), HexBytes(&self.logical_unit_number));
+        let (address, lun) = (
+            HexBytes(&self.sas_address),
+            HexBytes(&self.logical_unit_number),
+        );
         let (port, topology) = (self.relative_target_port, Topology(self.info));
         Some(write!(f, "SasEx(0x{address},0x{lun},0x{port:X},{topology})"))
     }
@@ -155,12 +158,20 @@ fn interface_name(info: u16) -> &'static str
 fn location_name(info: u16) -> &'static str
     ensures { result.now ≡ sas_location info }
 {
-    if info / 0x20 % 2 == 1 { "External" } else { "Internal" }
+    if info / 0x20 % 2 == 1 {
+        "External"
+    } else {
+        "Internal"
+    }
 }
 
 /// Returns the name of how a device is connected.
 fn connection_name(info: u16) -> &'static str
     ensures { result.now ≡ sas_connection info }
 {
-    if info / 0x40 % 2 == 1 { "Expanded" } else { "Direct" }
+    if info / 0x40 % 2 == 1 {
+        "Expanded"
+    } else {
+        "Direct"
+    }
 }
