@@ -1,1 +1,173 @@
--- To be written.
+-- The forms of nodes of the type MESSAGING that lead to networks, to USB, Bluetooth and serial devices (UEFI 2.10,
+-- 10.6.1.6), each with its fields in the order of its layout.
+use Rattle.std.specs.Prelude.{ℕ, ◌==◌, ◌&&◌, Bool, nat_le, List, [], ◌∷◌, codes, length, take, drop}
+use Rattle.std.specs.Prelude.{Option, Some, None, if◌then◌else◌}
+use Rattle.std.specs.List.{position_or_len}
+use Rattle.std.specs.Fmt.{decimal}
+use Rattle.uefi_node.specs.Messaging as messaging
+use Rattle.uefi_node.specs.text.Arguments.{call, hex, hex_bytes, long_hex, guid, ipv4_address, ipv6_address, is_argument, are_zeros}
+use Rattle.uefi_node.specs.text.Form.{Form, form}
+use Rattle.uefi_node.specs.declared.messaging.usb.Usb.{Usb}
+use Rattle.uefi_node.specs.declared.messaging.usb_class.UsbClass.{UsbClass}
+use Rattle.uefi_node.specs.declared.messaging.mac_address.MacAddress.{MacAddress}
+use Rattle.uefi_node.specs.declared.messaging.ipv4.Ipv4.{Ipv4}
+use Rattle.uefi_node.specs.declared.messaging.ipv6.Ipv6.{Ipv6}
+use Rattle.uefi_node.specs.declared.messaging.vlan.Vlan.{Vlan}
+use Rattle.uefi_node.specs.declared.messaging.infiniband.Infiniband.{Infiniband}
+use Rattle.uefi_node.specs.declared.messaging.uart.Uart.{Uart}
+use Rattle.uefi_node.specs.declared.messaging.uri.Uri.{Uri}
+use Rattle.uefi_node.specs.declared.messaging.bluetooth.Bluetooth.{Bluetooth}
+use Rattle.uefi_node.specs.declared.messaging.wifi.Wifi.{Wifi}
+use Rattle.uefi_node.specs.declared.messaging.bluetooth_le.BluetoothLe.{BluetoothLe}
+
+-- `USB(PORT,INTERFACE)`
+abbrev pub usb : Form Usb
+usb = form messaging.usb (λ port interface. Some (call (codes "USB") (hex port ∷ hex interface ∷ [])))
+
+-- The name of the devices of a class, if the class has one.
+abbrev pub usb_class_name : ℕ → Option (List ℕ)
+usb_class_name class =
+    if class == 1 then Some (codes "UsbAudio") else
+    if class == 2 then Some (codes "UsbCDCControl") else
+    if class == 3 then Some (codes "UsbHID") else
+    if class == 6 then Some (codes "UsbImage") else
+    if class == 7 then Some (codes "UsbPrinter") else
+    if class == 8 then Some (codes "UsbMassStorage") else
+    if class == 9 then Some (codes "UsbHub") else
+    if class == 0x0a then Some (codes "UsbCDCData") else
+    if class == 0x0b then Some (codes "UsbSmartCard") else
+    if class == 0x0e then Some (codes "UsbVideo") else
+    if class == 0xdc then Some (codes "UsbDiagnostic") else
+    if class == 0xe0 then Some (codes "UsbWireless") else None
+
+-- The same of a subclass of the class 0xfe.
+abbrev pub usb_subclass_name : ℕ → ℕ → Option (List ℕ)
+usb_subclass_name class subclass =
+    if class == 0xfe && subclass == 1 then Some (codes "UsbDeviceFirmwareUpdate") else
+    if class == 0xfe && subclass == 2 then Some (codes "UsbIrdaBridge") else
+    if class == 0xfe && subclass == 3 then Some (codes "UsbTestAndMeasurement") else None
+
+-- The text by these names, of which the class's comes first; the numbers that a name says aren't written.
+abbrev pub usb_class_text : Option (List ℕ) → Option (List ℕ) → ℕ → ℕ → ℕ → ℕ → ℕ → List ℕ
+usb_class_text (Some name) of_subclass vendor product class subclass protocol =
+    call name (hex vendor ∷ hex product ∷ hex subclass ∷ hex protocol ∷ [])
+usb_class_text None (Some name) vendor product class subclass protocol =
+    call name (hex vendor ∷ hex product ∷ hex protocol ∷ [])
+usb_class_text None None vendor product class subclass protocol =
+    call (codes "UsbClass") (hex vendor ∷ hex product ∷ hex class ∷ hex subclass ∷ hex protocol ∷ [])
+
+-- `NAME(VENDOR,PRODUCT,SUBCLASS,PROTOCOL)`, `NAME(VENDOR,PRODUCT,PROTOCOL)` or
+-- `UsbClass(VENDOR,PRODUCT,CLASS,SUBCLASS,PROTOCOL)`
+abbrev pub usb_class : Form UsbClass
+usb_class = form messaging.usb_class (λ vendor product class subclass protocol.
+    Some (usb_class_text (usb_class_name class) (usb_subclass_name class subclass)
+        vendor product class subclass protocol))
+
+-- `MAC(ADDRESS,TYPE)`; of the types 0 and 1 the first six bytes, if zeros follow them
+abbrev pub mac_address : Form MacAddress
+mac_address = form messaging.mac_address (λ address kind.
+    if nat_le kind 1 then
+        (if are_zeros (drop 6 address) then Some (call (codes "MAC") (hex_bytes (take 6 address) ∷ hex kind ∷ [])) else None)
+    else Some (call (codes "MAC") (hex_bytes address ∷ hex kind ∷ [])))
+
+-- A network protocol: its name or its number.
+abbrev pub network_protocol : ℕ → List ℕ
+network_protocol protocol =
+    if protocol == 6 then codes "TCP" else if protocol == 17 then codes "UDP" else hex protocol
+
+-- Where an IPv4 address comes from: 0 or 1.
+abbrev pub ipv4_origin : ℕ → List ℕ
+ipv4_origin origin = if origin == 1 then codes "Static" else codes "DHCP"
+
+-- `IPv4(REMOTE,PROTOCOL,ORIGIN,LOCAL,GATEWAY,MASK)` or for display `IPv4(REMOTE)`, if there are no ports
+abbrev pub ipv4 : Form Ipv4
+ipv4 = record {
+    layout = messaging.ipv4;
+    text = λ style local remote local_port remote_port protocol origin gateway mask.
+        if local_port == 0 && remote_port == 0 && nat_le origin 1 then
+            (if style.display_only then Some (call (codes "IPv4") (ipv4_address remote ∷ []))
+            else Some (call (codes "IPv4") (
+                ipv4_address remote ∷ network_protocol protocol ∷ ipv4_origin origin ∷ ipv4_address local
+                ∷ ipv4_address gateway ∷ ipv4_address mask ∷ [])))
+        else None;
+}
+
+-- Where an IPv6 address comes from: 0, 1 or 2.
+abbrev pub ipv6_origin : ℕ → List ℕ
+ipv6_origin origin =
+    if origin == 0 then codes "Static" else
+    if origin == 1 then codes "StatelessAutoConfigure" else codes "StatefulAutoConfigure"
+
+-- `IPv6(REMOTE,PROTOCOL,ORIGIN,LOCAL,PREFIX,GATEWAY)` or for display `IPv6(REMOTE)`, if there are no ports
+abbrev pub ipv6 : Form Ipv6
+ipv6 = record {
+    layout = messaging.ipv6;
+    text = λ style local remote local_port remote_port protocol origin prefix gateway.
+        if local_port == 0 && remote_port == 0 && nat_le origin 2 then
+            (if style.display_only then Some (call (codes "IPv6") (ipv6_address remote ∷ []))
+            else Some (call (codes "IPv6") (
+                ipv6_address remote ∷ network_protocol protocol ∷ ipv6_origin origin ∷ ipv6_address local
+                ∷ hex prefix ∷ ipv6_address gateway ∷ [])))
+        else None;
+}
+
+-- `Vlan(NUMBER)`, in decimal
+abbrev pub vlan : Form Vlan
+vlan = form messaging.vlan (λ number. Some (call (codes "Vlan") (decimal number ∷ [])))
+
+-- `Infiniband(FLAGS,PORT,CONTROLLER,TARGET,DEVICE)`, the port as a GUID
+abbrev pub infiniband : Form Infiniband
+infiniband = form messaging.infiniband (λ flags port controller target device.
+    Some (call (codes "Infiniband") (hex flags ∷ guid port ∷ hex controller ∷ hex target ∷ hex device ∷ [])))
+
+-- A number in decimal, and 0 as `DEFAULT`.
+abbrev pub number_or_default : ℕ → List ℕ
+number_or_default number = if number == 0 then codes "DEFAULT" else decimal number
+
+-- The letter of a parity, 0 to 5.
+abbrev pub parity_letter : ℕ → List ℕ
+parity_letter parity =
+    if parity == 0 then codes "D" else
+    if parity == 1 then codes "N" else
+    if parity == 2 then codes "E" else
+    if parity == 3 then codes "O" else
+    if parity == 4 then codes "M" else codes "S"
+
+-- The number of stop bits, 0 to 3.
+abbrev pub stop_bits_count : ℕ → List ℕ
+stop_bits_count stop_bits =
+    if stop_bits == 0 then codes "D" else
+    if stop_bits == 1 then codes "1" else
+    if stop_bits == 2 then codes "1.5" else codes "2"
+
+-- `Uart(BAUD,BITS,PARITY,STOP)`
+abbrev pub uart : Form Uart
+uart = form messaging.uart (λ reserved baud_rate data_bits parity stop_bits.
+    if reserved == 0 && nat_le parity 5 && nat_le stop_bits 3 then
+        Some (call (codes "Uart") (
+            number_or_default baud_rate ∷ number_or_default data_bits ∷ parity_letter parity
+            ∷ stop_bits_count stop_bits ∷ []))
+    else None)
+
+-- `Uri(TEXT)`, if the text can be an argument
+abbrev pub uri : Form Uri
+uri = form messaging.uri (λ text. if is_argument text then Some (call (codes "Uri") (text ∷ [])) else None)
+
+-- `Bluetooth(ADDRESS)`
+abbrev pub bluetooth : Form Bluetooth
+bluetooth = form messaging.bluetooth (λ address. Some (call (codes "Bluetooth") (hex_bytes address ∷ [])))
+
+-- `BluetoothLE(ADDRESS,TYPE)`, the type with two digits
+abbrev pub bluetooth_le : Form BluetoothLe
+bluetooth_le = form messaging.bluetooth_le (λ address kind.
+    Some (call (codes "BluetoothLE") (hex_bytes address ∷ long_hex (kind ∷ []) ∷ [])))
+
+-- How many bytes are before the first NUL.
+abbrev pub name_length : List ℕ → ℕ
+name_length ssid = position_or_len (λ byte. byte == 0) ssid
+
+-- `Wi-Fi(NAME)`: the bytes before the first NUL, if they can be an argument and the others are zeros
+abbrev pub wifi : Form Wifi
+wifi = form messaging.wifi (λ ssid.
+    if is_argument (take (name_length ssid) ssid) && are_zeros (drop (name_length ssid) ssid)
+    then Some (call (codes "Wi-Fi") (take (name_length ssid) ssid ∷ [])) else None)

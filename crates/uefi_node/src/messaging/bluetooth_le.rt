@@ -2,10 +2,15 @@ ghost use Rattle.uefi_path.specs.Views.{node_of};
 ghost use Rattle.uefi_node.specs.Layout.{IsValue, node_as};
 ghost use Rattle.uefi_node.specs.Reading.{ReadsAs};
 ghost use Rattle.uefi_node.specs.Messaging.{bluetooth_le};
+ghost use Rattle.uefi_node.specs.text.Network as forms;
 
 use crate::error::NodeConversionError;
 use crate::read::{NodeValue, RestKind, bytes_at, read_node};
+use crate::text::arguments::HexBytes;
+use crate::text::form::WriteText;
+use crate::text::style::Style;
 use crate::write::{Tail, joined, write_node};
+use std::fmt;
 use uefi_path::build::{BuildError, BuildNode};
 use uefi_path::{DevicePathNode, DeviceSubType, DeviceType};
 
@@ -64,6 +69,24 @@ impl BuildNode for BluetoothLe {
     fn write(&self, buffer: &mut [u8]) -> Result<usize, BuildError> {
         let fields = joined::<7>(&[&self.device_address, &self.address_type.0.to_le_bytes()]);
         write_node(buffer, self, self.full_type(), &fields, Tail::Bytes(&[]))
+    }
+}
+
+impl WriteText for BluetoothLe {
+    ghost form = { forms.bluetooth_le };
+
+    fn write_text<W: fmt::Write>(
+        &self,
+        f: &mut fmt::Formatter<W>,
+        _style: Style,
+    ) -> Option<fmt::Result> {
+        let address_type = [self.address_type.0];
+        Some(write!(
+            f,
+            "BluetoothLE({},0x{})",
+            HexBytes(&self.device_address),
+            HexBytes(&address_type),
+        ))
     }
 }
 

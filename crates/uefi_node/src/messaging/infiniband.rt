@@ -2,11 +2,17 @@ ghost use Rattle.uefi_path.specs.Views.{node_of};
 ghost use Rattle.uefi_node.specs.Layout.{IsValue, node_as};
 ghost use Rattle.uefi_node.specs.Reading.{ReadsAs};
 ghost use Rattle.uefi_node.specs.Messaging.{infiniband};
+ghost use Rattle.uefi_node.specs.text.Network as forms;
 
 use crate::error::NodeConversionError;
 use crate::messaging::infiniband_resource_flags::InfinibandResourceFlags;
 use crate::read::{NodeValue, RestKind, bytes_at, read_node};
+use crate::text::arguments::UpperGuid;
+use crate::text::form::WriteText;
+use crate::text::style::Style;
 use crate::write::{Tail, joined, write_node};
+use std::fmt;
+use uefi_base::Guid;
 use uefi_base::little_endian::{u32_at, u64_at};
 use uefi_path::build::{BuildError, BuildNode};
 use uefi_path::{DevicePathNode, DeviceSubType, DeviceType};
@@ -84,5 +90,23 @@ impl BuildNode for Infiniband {
             &self.device_id.to_le_bytes(),
         ]);
         write_node(buffer, self, self.full_type(), &fields, Tail::Bytes(&[]))
+    }
+}
+
+impl WriteText for Infiniband {
+    ghost form = { forms.infiniband };
+
+    fn write_text<W: fmt::Write>(
+        &self,
+        f: &mut fmt::Formatter<W>,
+        _style: Style,
+    ) -> Option<fmt::Result> {
+        let (flags, port_gid) = (self.resource_flags.bits(), UpperGuid(Guid(self.port_gid)));
+        let (controller, target) = (self.ioc_guid_or_service_id, self.target_port_id);
+        let device = self.device_id;
+        Some(write!(
+            f,
+            "Infiniband(0x{flags:X},{port_gid},0x{controller:X},0x{target:X},0x{device:X})",
+        ))
     }
 }

@@ -2,10 +2,15 @@ ghost use Rattle.uefi_path.specs.Views.{node_of};
 ghost use Rattle.uefi_node.specs.Layout.{IsValue, node_as};
 ghost use Rattle.uefi_node.specs.Reading.{ReadsAs};
 ghost use Rattle.uefi_node.specs.Messaging.{mac_address};
+ghost use Rattle.uefi_node.specs.text.Network as forms;
 
 use crate::error::NodeConversionError;
 use crate::read::{NodeValue, RestKind, bytes_at, read_node};
+use crate::text::arguments::{HexBytes, are_zeros};
+use crate::text::form::WriteText;
+use crate::text::style::Style;
 use crate::write::{Tail, joined, write_node};
+use std::fmt;
 use uefi_path::build::{BuildError, BuildNode};
 use uefi_path::{DevicePathNode, DeviceSubType, DeviceType};
 
@@ -64,5 +69,26 @@ impl BuildNode for MacAddress {
     fn write(&self, buffer: &mut [u8]) -> Result<usize, BuildError> {
         let fields = joined::<33>(&[&self.mac_address, &self.interface_type.to_le_bytes()]);
         write_node(buffer, self, self.full_type(), &fields, Tail::Bytes(&[]))
+    }
+}
+
+impl WriteText for MacAddress {
+    ghost form = { forms.mac_address };
+
+    fn write_text<W: fmt::Write>(
+        &self,
+        f: &mut fmt::Formatter<W>,
+        _style: Style,
+    ) -> Option<fmt::Result> {
+        let interface_type = self.interface_type;
+        if interface_type > 1 {
+            let address = HexBytes(&self.mac_address);
+            return Some(write!(f, "MAC({address},0x{interface_type:X})"));
+        }
+        let (address, padding) = self.mac_address.split_at(6);
+        if !are_zeros(padding) {
+            return None;
+        }
+        Some(write!(f, "MAC({},0x{interface_type:X})", HexBytes(address)))
     }
 }

@@ -1,11 +1,19 @@
+ghost use Rattle.std.specs.Prelude.{◌∷◌, [], Some, IsTrue, codes};
+ghost use Rattle.std.specs.Fmt.{DisplaysOnOk};
 ghost use Rattle.uefi_path.specs.Views.{node_of};
 ghost use Rattle.uefi_node.specs.Layout.{IsValue, node_as};
 ghost use Rattle.uefi_node.specs.Reading.{ReadsAs};
 ghost use Rattle.uefi_node.specs.Messaging.{uri};
+ghost use Rattle.uefi_node.specs.text.Arguments.{call, is_argument};
+ghost use Rattle.uefi_node.specs.text.Network as forms;
 
 use crate::error::NodeConversionError;
 use crate::read::{NodeValue, RestKind, read_node};
+use crate::text::arguments::{is_argument, write_argument};
+use crate::text::form::WriteText;
+use crate::text::style::Style;
 use crate::write::{Tail, write_node};
+use std::fmt;
 use uefi_path::build::{BuildError, BuildNode};
 use uefi_path::{DevicePathNode, DeviceSubType, DeviceType};
 
@@ -58,4 +66,30 @@ impl BuildNode for Uri<'_> {
     fn write(&self, buffer: &mut [u8]) -> Result<usize, BuildError> {
         write_node(buffer, self, self.full_type(), &[], Tail::Bytes(self.value))
     }
+}
+
+impl WriteText for Uri<'_> {
+    ghost form = { forms.uri };
+
+    fn write_text<W: fmt::Write>(
+        &self,
+        f: &mut fmt::Formatter<W>,
+        _style: Style,
+    ) -> Option<fmt::Result> {
+        if !is_argument(self.value) {
+            return None;
+        }
+        Some(write_uri(f, self.value))
+    }
+}
+
+/// Writes the form of a URI whose text can be an argument.
+fn write_uri<W: fmt::Write>(f: &mut fmt::Formatter<W>, value: &[u8]) -> fmt::Result
+    requires { IsTrue (is_argument value.now) }
+    ensures { DisplaysOnOk W.write_str_gives f.old result
+        (Some (call (codes "Uri") (value.now ∷ []))) f.new }
+{
+    f.write_str("Uri(")?;
+    write_argument(f, value)?;
+    f.write_str(")")
 }
