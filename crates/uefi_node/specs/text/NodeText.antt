@@ -6,6 +6,11 @@ use Rattle.uefi_path.specs.Node.{Node}
 use Rattle.uefi_node.specs.text.Arguments.{call, hex_bytes}
 use Rattle.uefi_node.specs.text.Form.{Form, data_text}
 use Rattle.uefi_node.specs.text.Hardware as hardware
+use Rattle.uefi_node.specs.text.Acpi as acpi
+use Rattle.uefi_node.specs.text.Storage as storage
+use Rattle.uefi_node.specs.text.Network as network
+use Rattle.uefi_node.specs.text.Media as media
+use Rattle.uefi_node.specs.text.BiosBootSpec as biosbootspec
 use Rattle.uefi_node.specs.declared.text.style.Style.{Style}
 
 -- The form of a type, with the subtype of its nodes.
@@ -16,13 +21,81 @@ pub record TypeForm : Type 0 where
 abbrev pub of : {R : Type 0} → Form R → TypeForm
 of form = record { sub_type = form.layout.sub_type; text = data_text form }
 
--- The forms of the types of nodes: HARDWARE, ACPI, MESSAGING, MEDIA and BIOS_BOOT_SPEC.
+-- The forms of the types of nodes: HARDWARE, ACPI, MESSAGING for storage and for the rest, MEDIA and BIOS_BOOT_SPEC.
 abbrev pub hardware_forms : List TypeForm
-hardware_forms = of hardware.pci ∷ of hardware.memory_mapped ∷ []
+hardware_forms =
+    of hardware.pci
+    ∷ of hardware.pccard
+    ∷ of hardware.memory_mapped
+    ∷ of hardware.vendor
+    ∷ of hardware.controller
+    ∷ of hardware.bmc
+    ∷ []
 
+abbrev pub acpi_forms : List TypeForm
+acpi_forms =
+    of acpi.device
+    ∷ []
+
+abbrev pub storage_forms : List TypeForm
+storage_forms =
+    of storage.atapi
+    ∷ of storage.scsi
+    ∷ of storage.fibre_channel
+    ∷ of storage.fibre_channel_ex
+    ∷ of storage.ieee1394
+    ∷ of storage.sata
+    ∷ of storage.device_logical_unit
+    ∷ of storage.i2o
+    ∷ of storage.sas_ex
+    ∷ of storage.iscsi
+    ∷ of storage.nvme_namespace
+    ∷ of storage.ufs
+    ∷ of storage.sd
+    ∷ of storage.emmc
+    ∷ []
+
+abbrev pub network_forms : List TypeForm
+network_forms =
+    of network.usb
+    ∷ of network.usb_class
+    ∷ of network.mac_address
+    ∷ of network.ipv4
+    ∷ of network.ipv6
+    ∷ of network.vlan
+    ∷ of network.infiniband
+    ∷ of network.uart
+    ∷ of network.uri
+    ∷ of network.bluetooth
+    ∷ of network.bluetooth_le
+    ∷ []
+
+abbrev pub media_forms : List TypeForm
+media_forms =
+    of media.hard_drive
+    ∷ of media.cd_rom
+    ∷ of media.vendor
+    ∷ of media.protocol
+    ∷ of media.piwg_firmware_file
+    ∷ of media.piwg_firmware_volume
+    ∷ of media.relative_offset_range
+    ∷ of media.ram_disk
+    ∷ []
+
+abbrev pub bios_boot_spec_forms : List TypeForm
+bios_boot_spec_forms =
+    of biosbootspec.boot_specification
+    ∷ []
+
+-- The forms of a type of devices.
 abbrev pub forms_of : ℕ → List TypeForm
 forms_of device_type =
-    if device_type == 1 then hardware_forms else []
+    if device_type == 1 then hardware_forms
+    else if device_type == 2 then acpi_forms
+    else if device_type == 3 then storage_forms ++ network_forms
+    else if device_type == 4 then media_forms
+    else if device_type == 5 then bios_boot_spec_forms
+    else []
 
 -- The text of a node in one of the forms, if there is one for it that has all of it.
 abbrev pub text_in : List TypeForm → Style → Node → Option (List ℕ)
