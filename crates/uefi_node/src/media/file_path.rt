@@ -233,9 +233,6 @@ impl Iterator for NameCharacters<'_> {
 fn lone_character(unit: u16) -> Option<char>
     ensures { result ≡ lone_unit_char unit }
 {
-    if (0xd800..0xe000).contains(&unit) {
-        return None;
-    }
     char::from_u32(u32::from(unit))
 }
 
