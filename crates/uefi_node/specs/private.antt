@@ -1,3 +1,4 @@
 pub mod Fields
+pub mod FileName
 pub mod Strings
 pub mod Writing

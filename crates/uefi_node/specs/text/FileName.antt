@@ -1,1 +1,43 @@
--- To be written.
+-- The form of a file's path: its name itself, in UTF-8 (UEFI 2.10, 10.6.1.6).
+use Rattle.std.specs.Prelude.{ℕ, ◌-◌, ◌==◌, ◌&&◌, ◌||◌, Bool, not, nat_eq, nat_le, nat_lt, List, length, slice_index}
+use Rattle.std.specs.Prelude.{Option, Some, None, encode_utf8_all, if◌then◌else◌}
+use Rattle.std.specs.Char.Utf16.{has_unpaired_surrogate, utf16_lossy_chars}
+use Rattle.std.specs.List.{list_all, find}
+use Rattle.std.specs.Option.{option_eq}
+use Rattle.uefi_node.specs.Media as media
+use Rattle.uefi_node.specs.text.Arguments.{without_nul}
+use Rattle.uefi_node.specs.text.Form.{Form, form}
+use Rattle.uefi_node.specs.declared.media.file_path.FilePath.{FilePath}
+
+-- A character that a name may have: neither a control character, nor `/`, which ends a node, nor `,`, which ends a
+-- path.
+abbrev pub is_name_character : ℕ → Bool
+is_name_character c = nat_le 0x20 c && not (nat_le 0x7f c && nat_lt c 0xa0) && not (c == 0x2f) && not (c == 0x2c)
+
+-- A character that a type of nodes may have in its name: a letter or a digit of ASCII, or a hyphen.
+abbrev pub is_node_character : ℕ → Bool
+is_node_character c =
+    (nat_le 0x30 c && nat_le c 0x39) || (nat_le 0x41 c && nat_le c 0x5a) || (nat_le 0x61 c && nat_le c 0x7a) || c == 0x2d
+
+-- The characters read as a node with arguments: the first that a type of nodes can't have in its name is `(`.
+abbrev pub reads_as_node : List ℕ → Bool
+reads_as_node name = option_eq nat_eq (find (λ c. not (is_node_character c)) name) (Some 0x28)
+
+-- A name has the characters, and doesn't read as a node.
+abbrev pub is_name : List ℕ → Bool
+is_name name = list_all is_name_character name && not (reads_as_node name)
+
+-- The units are one or more, and then a NUL.
+abbrev pub is_nul_ended : List ℕ → Bool
+is_nul_ended units = nat_lt 1 (length units) && slice_index units (length units - 1) == 0
+
+-- The text of the units before the NUL: that of their characters, if each surrogate has its partner and they are a
+-- name.
+unfoldable pub name_text : List ℕ → Option (List ℕ)
+name_text units =
+    if not (has_unpaired_surrogate units) && is_name (utf16_lossy_chars units)
+    then Some (encode_utf8_all (utf16_lossy_chars units)) else None
+
+-- `NAME`, from units that end with a NUL.
+abbrev pub file_path : Form FilePath
+file_path = form media.file_path (λ units. if is_nul_ended units then name_text (without_nul units) else None)
