@@ -1,13 +1,14 @@
 -- The forms of nodes of the type MESSAGING that lead to networks, to USB, Bluetooth and serial devices (UEFI 2.10,
 -- 10.6.1.6), each with its fields in the order of its layout.
-use Rattle.std.specs.Prelude.{ℕ, ◌==◌, ◌&&◌, Bool, nat_le, List, [], ◌∷◌, codes, length, take, drop}
+use Rattle.std.specs.Prelude.{ℕ, ◌==◌, ◌&&◌, Bool, not, nat_le, List, [], ◌∷◌, ◌++◌, codes, take, drop}
 use Rattle.std.specs.Prelude.{Option, Some, None, if◌then◌else◌}
-use Rattle.std.specs.List.{position_or_len}
+use Rattle.std.specs.List.{list_all, position_or_len}
 use Rattle.std.specs.Fmt.{decimal}
 use Rattle.uefi_node.specs.Messaging as messaging
-use Rattle.uefi_node.specs.text.Arguments.{call, hex, hex_bytes, long_hex, guid, ipv4_address, ipv6_address, is_argument, are_zeros}
+use Rattle.uefi_node.specs.text.Arguments.{call, hex, hex_bytes, long_hex, guid, ipv4_address, ipv6_address, is_argument, is_argument_character, are_zeros}
 use Rattle.uefi_node.specs.text.Form.{Form, form}
 use Rattle.uefi_node.specs.declared.messaging.usb.Usb.{Usb}
+use Rattle.uefi_node.specs.declared.messaging.usb_wwid.UsbWwid.{UsbWwid}
 use Rattle.uefi_node.specs.declared.messaging.usb_class.UsbClass.{UsbClass}
 use Rattle.uefi_node.specs.declared.messaging.mac_address.MacAddress.{MacAddress}
 use Rattle.uefi_node.specs.declared.messaging.ipv4.Ipv4.{Ipv4}
@@ -23,6 +24,23 @@ use Rattle.uefi_node.specs.declared.messaging.bluetooth_le.BluetoothLe.{Bluetoot
 -- `USB(PORT,INTERFACE)`
 abbrev pub usb : Form Usb
 usb = form messaging.usb (λ port interface. Some (call (codes "USB") (hex port ∷ hex interface ∷ [])))
+
+-- A unit that a serial number may have: an argument may have it, and it isn't a quote.
+abbrev pub is_serial_character : ℕ → Bool
+is_serial_character unit = is_argument_character unit && not (unit == 0x22)
+
+abbrev pub is_serial_number : List ℕ → Bool
+is_serial_number serial = list_all is_serial_character serial
+
+-- `UsbWwid(VENDOR,PRODUCT,INTERFACE,"SERIAL")`
+abbrev pub usb_wwid_text : ℕ → ℕ → ℕ → List ℕ → List ℕ
+usb_wwid_text interface vendor product serial =
+    call (codes "UsbWwid") (hex vendor ∷ hex product ∷ hex interface ∷ (codes "\"" ++ (serial ++ codes "\"")) ∷ [])
+
+-- The same, if the units of the serial number can be in an argument
+abbrev pub usb_wwid : Form UsbWwid
+usb_wwid = form messaging.usb_wwid (λ interface vendor product serial.
+    if is_serial_number serial then Some (usb_wwid_text interface vendor product serial) else None)
 
 -- The name of the devices of a class, if the class has one.
 abbrev pub usb_class_name : ℕ → Option (List ℕ)
