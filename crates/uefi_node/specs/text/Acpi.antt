@@ -1,10 +1,13 @@
 -- The forms of nodes of the type ACPI (UEFI 2.10, 10.6.1.6), each with its fields in the order of its layout.
-use Rattle.std.specs.Prelude.{ℕ, ◌/◌, ◌%◌, ◌==◌, List, [], ◌∷◌, ◌++◌, codes, Option, Some, None, if◌then◌else◌}
+use Rattle.std.specs.Prelude.{ℕ, ◌*◌, ◌/◌, ◌%◌, ◌==◌, List, [], ◌∷◌, ◌++◌, length, map, codes, Option, Some, None, if◌then◌else◌}
+use Rattle.std.specs.List.{range_with_len}
 use Rattle.std.specs.Int.{to_be_bytes, w16, w32}
+use Rattle.uefi_base.specs.LittleEndian.{u32_at}
 use Rattle.uefi_node.specs.Acpi as acpi
 use Rattle.uefi_node.specs.text.Arguments.{call, hex, hex_bytes, long_hex}
 use Rattle.uefi_node.specs.text.Form.{Form, form}
 use Rattle.uefi_node.specs.declared.acpi.device.Acpi.{Acpi}
+use Rattle.uefi_node.specs.declared.acpi.adr.Adr.{Adr}
 
 -- The four hex digits of a compressed EISA identifier, which are the number of the product.
 abbrev pub product_digits : ℕ → List ℕ
@@ -33,3 +36,13 @@ device_text None hid uid = call (codes "Acpi") (device_identifier hid ∷ hex ui
 
 abbrev pub device : Form Acpi
 device = form acpi.acpi (λ hid uid. Some (device_text (device_name hid) hid uid))
+
+-- `AcpiAdr(ADDRESS,ADDRESS,..)`, with the addresses, four bytes each, as numbers.
+abbrev pub address_at : List ℕ → ℕ → List ℕ
+address_at bytes index = hex (u32_at bytes (4 * index))
+
+abbrev pub addresses_call : List ℕ → List ℕ
+addresses_call bytes = call (codes "AcpiAdr") (map (address_at bytes) (range_with_len 0 (length bytes / 4)))
+
+abbrev pub adr : Form Adr
+adr = form acpi.adr (λ bytes. Some (addresses_call bytes))
