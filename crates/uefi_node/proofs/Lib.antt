@@ -7,3 +7,4 @@ pub mod NulStrings
 pub mod Faithful
 pub mod Rows
 pub mod Commas
+pub mod ExpandedText
