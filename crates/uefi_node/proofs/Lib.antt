@@ -9,3 +9,5 @@ pub mod Rows
 pub mod DataTests
 pub mod Forms
 pub mod PathTexts
+pub mod Commas
+pub mod ExpandedText

@@ -122,7 +122,7 @@ one_way_to_split a b c x y z own its =
     let third = one_string z c [] [] its.third_string own.third_string second.1 in
     (sym first.0, sym second.0, sym third.0)
 
--- How many NULs there are.
+-- The number of NULs, and that of their parts.
 abbrev nuls : List ℕ → ℕ
 nuls bytes = count_by (λ byte. byte == 0) bytes
 
@@ -140,14 +140,15 @@ no_nuls (x ∷ xs) own =
     let others : nuls xs ≡ 0 = no_nuls xs (right_true _ _ own) in
     nuls-cons x xs ∙ (λ i. cond (other i) 1 0 + others i)
 
-nuls_after : (string rest : List ℕ) (n : ℕ) → is_without_nul string ≡ true → nuls rest ≡ n
-    → nuls (string ++ 0 ∷ rest) ≡ 1 + n
-nuls_after string rest n own more =
-    let first : nuls (0 ∷ rest) ≡ 1 + nuls rest = nuls-cons 0 rest in
+nuls_joined : (string rest : List ℕ) → nuls (string ++ 0 ∷ rest) ≡ nuls string + (1 + nuls rest)
+nuls_joined string rest =
     let apart : nuls (string ++ 0 ∷ rest) ≡ nuls string + nuls (0 ∷ rest) =
     sum_by-append (λ byte. cond (byte == 0) 1 0) string (0 ∷ rest) in
-    let none : nuls string ≡ 0 = no_nuls string own in
-    omega (arith, first, apart, none, more)
+    apart ∙ ap (λ n. nuls string + n) (nuls-cons 0 rest)
+
+nuls_after : (string rest : List ℕ) (n : ℕ) → is_without_nul string ≡ true → nuls rest ≡ n
+    → nuls (string ++ 0 ∷ rest) ≡ 1 + n
+nuls_after string rest n own more = omega (arith, nuls_joined string rest, no_nuls string own, more)
 
 -- The last byte is a NUL.
 last_nul : (bytes front : List ℕ) → bytes ≡ front ++ 0 ∷ [] → get_or bytes (length bytes - 1) 0 ≡ 0
@@ -241,3 +242,41 @@ pub three_strings_test : (bytes : List ℕ)
     → IsTrue (are_three_strings bytes) ↔ ((a b c : List ℕ) × AreStrings bytes a b c)
 three_strings_test bytes =
     (passing_three_strings bytes, λ (a, b, c, are). three_strings_pass bytes a b c are)
+
+-- Bytes with no NUL among them.
+none_counted : (xs : List ℕ) → nuls xs ≡ 0 → is_without_nul xs ≡ true
+none_counted [] none = refl
+none_counted (x ∷ xs) none =
+    elim (x == 0) as (λ b. (x == 0) ≡ b → cond b 1 0 + nuls xs ≡ 0 → is_without_nul (x ∷ xs) ≡ true) [
+      | true ↦ λ nul count. absurd (omega (arith, count))
+      | false ↦ λ other count.
+          let others : nuls xs ≡ 0 = omega (arith, count) in
+          (λ i. not (other i) && none_counted xs others i)
+    ] refl (sym (nuls-cons x xs) ∙ none)
+
+-- Joined strings that pass the test have no NUL.
+pub record AreWithoutNul (a b c : List ℕ) : Type 0 where
+  pub first : is_without_nul a ≡ true
+  pub second : is_without_nul b ≡ true
+  pub third : is_without_nul c ≡ true
+
+pub passing_without_nul : (a b c : List ℕ) → IsTrue (are_three_strings (strings_bytes a b c)) → AreWithoutNul a b c
+passing_without_nul a b c passes =
+    let bytes = strings_bytes a b c in
+    let count : nuls bytes ≡ 3 = eqb-true _ 3 (left_true _ (get_or bytes (length bytes - 1) 0 == 0) passes) in
+    let first : nuls bytes ≡ nuls a + (1 + nuls (b ++ 0 ∷ (c ++ 0 ∷ []))) = nuls_joined a (b ++ 0 ∷ (c ++ 0 ∷ [])) in
+    let second : nuls (b ++ 0 ∷ (c ++ 0 ∷ [])) ≡ nuls b + (1 + nuls (c ++ 0 ∷ [])) = nuls_joined b (c ++ 0 ∷ []) in
+    let third : nuls (c ++ 0 ∷ []) ≡ nuls c + (1 + 0) = nuls_joined c [] in
+    record {
+      first = none_counted a (omega (arith, count, first, second, third));
+      second = none_counted b (omega (arith, count, first, second, third));
+      third = none_counted c (omega (arith, count, first, second, third));
+    }
+
+pub joined_pass : (a b c : List ℕ) → AreWithoutNul a b c → IsTrue (are_three_strings (strings_bytes a b c))
+joined_pass a b c own = three_strings_pass (strings_bytes a b c) a b c (record {
+  first_string = own.first;
+  second_string = own.second;
+  third_string = own.third;
+  joined = refl;
+})

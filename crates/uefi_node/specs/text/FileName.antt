@@ -9,10 +9,20 @@ use Rattle.uefi_node.specs.text.Arguments.{without_nul}
 use Rattle.uefi_node.specs.text.Form.{Form, form}
 use Rattle.uefi_node.specs.declared.media.file_path.FilePath.{FilePath}
 
+abbrev pub is_between : ℕ → ℕ → ℕ → Bool
+is_between low high c = nat_le low c && nat_le c high
+
+-- A control character of ASCII or Latin-1, a separator of lines or paragraphs, or a control of the writing direction
+-- (Unicode's property `Bidi_Control`).
+abbrev pub is_control : ℕ → Bool
+is_control c =
+    is_between 0 0x1f c || is_between 0x7f 0x9f c || (c == 0x61c) || is_between 0x200e 0x200f c
+    || is_between 0x2028 0x202e c || is_between 0x2066 0x2069 c
+
 -- A character that a name may have: neither a control character, nor `/`, which ends a node, nor `,`, which ends a
 -- path.
 abbrev pub is_name_character : ℕ → Bool
-is_name_character c = nat_le 0x20 c && not (nat_le 0x7f c && nat_lt c 0xa0) && not (c == 0x2f) && not (c == 0x2c)
+is_name_character c = not (is_control c) && not (c == 0x2f) && not (c == 0x2c)
 
 -- A character that a type of nodes may have in its name: a letter or a digit of ASCII, or a hyphen.
 abbrev pub is_node_character : ℕ → Bool

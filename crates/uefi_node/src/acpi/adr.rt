@@ -1,12 +1,20 @@
+ghost use Rattle.std.specs.Prelude.{◌≤◌, Some, length};
+ghost use Rattle.std.specs.Fmt.{DisplaysOnOk};
 ghost use Rattle.uefi_path.specs.Views.{node_of};
 ghost use Rattle.uefi_node.specs.Layout.{IsValue, node_as};
 ghost use Rattle.uefi_node.specs.Reading.{ReadsAs};
 ghost use Rattle.uefi_node.specs.Acpi.{adr};
+ghost use Rattle.uefi_node.specs.text.Acpi as forms;
+ghost use Rattle.uefi_node.specs.text.Acpi.{addresses_call};
 
 use crate::acpi::adr_list::AdrList;
 use crate::error::NodeConversionError;
 use crate::read::{NodeValue, RestKind, read_node};
+use crate::text::form::WriteText;
+use crate::text::style::Style;
 use crate::write::{Tail, write_node};
+use std::fmt;
+use uefi_base::little_endian::u32_at;
 use uefi_path::build::{BuildError, BuildNode};
 use uefi_path::{DevicePathNode, DeviceSubType, DeviceType};
 
@@ -67,4 +75,30 @@ impl BuildNode for Adr<'_> {
             Tail::Bytes(self.adr.as_bytes()),
         )
     }
+}
+
+impl WriteText for Adr<'_> {
+    ghost form = { forms.adr };
+
+    fn write_text<W: fmt::Write>(
+        &self,
+        f: &mut fmt::Formatter<W>,
+        _style: Style,
+    ) -> Option<fmt::Result> {
+        Some(write_addresses(f, self.adr.as_bytes()))
+    }
+}
+
+/// Writes the form: the addresses in `bytes`, four bytes each, with commas between them.
+fn write_addresses<W: fmt::Write>(f: &mut fmt::Formatter<W>, bytes: &[u8]) -> fmt::Result
+    requires { 4 ≤ length bytes.now }
+    ensures { DisplaysOnOk W.write_str_gives f.old result (Some (addresses_call bytes.now)) f.new }
+{
+    let first = u32_at(bytes, 0);
+    write!(f, "AcpiAdr(0x{first:X}")?;
+    for index in 1..bytes.len() / 4 {
+        let address = u32_at(bytes, 4 * index);
+        write!(f, ",0x{address:X}")?;
+    }
+    write!(f, ")")
 }

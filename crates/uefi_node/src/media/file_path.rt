@@ -156,10 +156,23 @@ fn write_name<W: fmt::Write>(f: &mut fmt::Formatter<W>, name: NameCharacters<'_>
 fn is_name_character(character: char) -> bool
     ensures { result ≡ text.is_name_character character }
 {
-    character >= ' '
-        && !('\u{7f}'..'\u{a0}').contains(&character)
-        && character != '/'
-        && character != ','
+    !is_control(character) && character != '/' && character != ','
+}
+
+/// Returns whether the character is a control character of ASCII or Latin-1, a separator of lines
+/// or paragraphs, or a control of the writing direction.
+fn is_control(character: char) -> bool
+    ensures { result ≡ text.is_control character }
+{
+    matches!(
+        character,
+        '\0'..='\u{1f}'
+            | '\u{7f}'..='\u{9f}'
+            | '\u{61c}'
+            | '\u{200e}'..='\u{200f}'
+            | '\u{2028}'..='\u{202e}'
+            | '\u{2066}'..='\u{2069}'
+    )
 }
 
 /// Returns whether a type of nodes may have the character in its name.
