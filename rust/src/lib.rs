@@ -85,6 +85,27 @@ pub mod proto {
             };
             pub use crate::formats::uefi_path::build::*;
         }
+
+        pub mod text {
+            //! Device paths and nodes as text (UEFI 2.10, 10.6). Begin with [`to_text`].
+            //!
+            //! # Examples
+            //!
+            //! ```
+            //! use uefi_formats::proto::device_path::DevicePath;
+            //! use uefi_formats::proto::device_path::text::{AllowShortcuts, DisplayOnly, to_text};
+            //!
+            //! let bytes = [0x02, 0x01, 12, 0, 0xd0, 0x41, 3, 0x0a, 0, 0, 0, 0, 0x7f, 0xff, 4, 0];
+            //! let path = DevicePath::try_from(&bytes[..]).unwrap();
+            //! let text = to_text(path, DisplayOnly(false), AllowShortcuts(false));
+            //! assert_eq!(text.to_string(), "PciRoot(0x0)");
+            //! ```
+
+            pub use crate::formats::uefi_node::{
+                AllowShortcuts, DisplayOnly, NodeText, PathText, instance_to_text, node_to_text,
+                to_text,
+            };
+        }
     }
 
     pub mod tcg {

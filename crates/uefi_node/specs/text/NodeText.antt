@@ -10,6 +10,7 @@ use Rattle.uefi_node.specs.text.Acpi as acpi
 use Rattle.uefi_node.specs.text.Storage as storage
 use Rattle.uefi_node.specs.text.Network as network
 use Rattle.uefi_node.specs.text.Media as media
+use Rattle.uefi_node.specs.text.FileName as filename
 use Rattle.uefi_node.specs.text.BiosBootSpec as biosbootspec
 use Rattle.uefi_node.specs.declared.text.style.Style.{Style}
 
@@ -35,6 +36,8 @@ hardware_forms =
 abbrev pub acpi_forms : List TypeForm
 acpi_forms =
     of acpi.device
+    ∷ of acpi.expanded_device
+    ∷ of acpi.adr
     ∷ []
 
 abbrev pub storage_forms : List TypeForm
@@ -68,6 +71,7 @@ network_forms =
     ∷ of network.uri
     ∷ of network.bluetooth
     ∷ of network.bluetooth_le
+    ∷ of network.wifi
     ∷ []
 
 abbrev pub media_forms : List TypeForm
@@ -75,6 +79,7 @@ media_forms =
     of media.hard_drive
     ∷ of media.cd_rom
     ∷ of media.vendor
+    ∷ of filename.file_path
     ∷ of media.protocol
     ∷ of media.piwg_firmware_file
     ∷ of media.piwg_firmware_volume

@@ -254,7 +254,8 @@ fn pair_character(first: u16, second: u16) -> Option<char>
     ensures { result ≡ (if is_high_surrogate first && is_low_surrogate second
         then Some (surrogate_pair_char first second) else None) }
 {
-    if !(0xd800..0xdc00).contains(&first) || !(0xdc00..0xe000).contains(&second) {
+    let (high, low) = (0xd800..0xdc00, 0xdc00..0xe000);
+    if !high.contains(&first) || !low.contains(&second) {
         return None;
     }
     let high = u32::from(first) - 0xd800;

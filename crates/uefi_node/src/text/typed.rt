@@ -82,6 +82,8 @@ fn write_acpi<W: fmt::Write>(
 {
     match node.sub_type() {
         DeviceSubType::ACPI => write_read(f, node, acpi::Acpi::try_from(*node), style),
+        DeviceSubType::ACPI_EXPANDED => write_read(f, node, acpi::Expanded::try_from(*node), style),
+        DeviceSubType::ACPI_ADR => write_read(f, node, acpi::Adr::try_from(*node), style),
         _ => None,
     }
 }
@@ -237,6 +239,12 @@ fn write_network<W: fmt::Write>(
             messaging::BluetoothLe::try_from(*node),
             style,
         ),
+        DeviceSubType::MESSAGING_WIFI => write_read(
+            f,
+            node,
+            messaging::Wifi::try_from(*node),
+            style,
+        ),
         _ => None,
     }
 }
@@ -260,6 +268,12 @@ fn write_media<W: fmt::Write>(
         ),
         DeviceSubType::MEDIA_CD_ROM => write_read(f, node, media::CdRom::try_from(*node), style),
         DeviceSubType::MEDIA_VENDOR => write_read(f, node, media::Vendor::try_from(*node), style),
+        DeviceSubType::MEDIA_FILE_PATH => write_read(
+            f,
+            node,
+            media::FilePath::try_from(*node),
+            style,
+        ),
         DeviceSubType::MEDIA_PROTOCOL => write_read(
             f,
             node,

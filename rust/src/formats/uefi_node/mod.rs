@@ -11,6 +11,9 @@
 
 pub use self::error::NodeConversionError;
 pub use self::node_enum::{DevicePathNodeEnum, DevicePathNodeExt};
+pub use self::text::{
+    AllowShortcuts, DisplayOnly, NodeText, PathText, instance_to_text, node_to_text, to_text,
+};
 
 pub mod acpi;
 mod as_enum;
@@ -23,4 +26,5 @@ pub mod messaging;
 mod node_enum;
 mod read;
 mod strings;
+mod text;
 mod write;

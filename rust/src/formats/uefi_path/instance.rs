@@ -7,8 +7,9 @@ use crate::support::fallible::*;
 
 #[cfg(feature = "alloc")]
 use crate::formats::uefi_path::boxed::BoxedDevicePathInstance;
+use crate::formats::uefi_path::node::DevicePathNode;
 use crate::formats::uefi_path::node_iter::DevicePathNodeIterator;
-use crate::formats::uefi_path::walk::{StopCondition, nodes_before_end};
+use crate::formats::uefi_path::walk::{StopCondition, end_node, nodes_before_end};
 use crate::support::alloc::AllocError;
 
 /// One instance of a device path (UEFI 2.10, 10.2): nodes of which only the last has the type END.
@@ -39,6 +40,12 @@ impl<'a> DevicePathInstance<'a> {
     #[inline]
     pub(crate) fn nodes(&self) -> &'a [u8] {
         nodes_before_end(self.bytes, StopCondition::AnyEndNode)
+    }
+
+    /// Returns the node with the type END, which is the last.
+    #[inline]
+    pub fn end_node(&self) -> DevicePathNode<'a> {
+        end_node(self.bytes, StopCondition::AnyEndNode)
     }
 
     /// Copies the instance into an allocation of its own.

@@ -9,8 +9,9 @@ use crate::support::fallible::*;
 use crate::formats::uefi_path::boxed::BoxedDevicePath;
 use crate::formats::uefi_path::error::ByteConversionError;
 use crate::formats::uefi_path::instance_iter::DevicePathInstanceIterator;
+use crate::formats::uefi_path::node::DevicePathNode;
 use crate::formats::uefi_path::node_iter::DevicePathNodeIterator;
-use crate::formats::uefi_path::walk::{StopCondition, nodes_before_end, split_nodes};
+use crate::formats::uefi_path::walk::{StopCondition, end_node, nodes_before_end, split_nodes};
 use crate::support::alloc::AllocError;
 use core::fmt;
 
@@ -67,6 +68,12 @@ impl<'a> DevicePath<'a> {
     #[inline]
     pub fn nodes(&self) -> &'a [u8] {
         nodes_before_end(self.bytes, StopCondition::EndEntireNode)
+    }
+
+    /// Returns the end-entire node, which is the last.
+    #[inline]
+    pub fn end_node(&self) -> DevicePathNode<'a> {
+        end_node(self.bytes, StopCondition::EndEntireNode)
     }
 
     /// Copies the path into an allocation of its own.

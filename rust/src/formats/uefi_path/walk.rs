@@ -91,3 +91,16 @@ pub(crate) fn nodes_before_end(bytes: &[u8], stop: StopCondition) -> &[u8] {
         rest = after;
     }
 }
+
+/// Returns the node at which the walk stops, of bytes that are known to be such nodes.
+#[inline]
+pub(crate) fn end_node(bytes: &[u8], stop: StopCondition) -> DevicePathNode<'_> {
+    let mut rest = bytes;
+    loop {
+        let (node, after) = first_node(rest);
+        if stop.stops_at(&node) {
+            return node;
+        }
+        rest = after;
+    }
+}

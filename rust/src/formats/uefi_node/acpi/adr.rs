@@ -3,7 +3,11 @@
 use crate::formats::uefi_node::acpi::adr_list::AdrList;
 use crate::formats::uefi_node::error::NodeConversionError;
 use crate::formats::uefi_node::read::{NodeValue, RestKind, read_node};
+use crate::formats::uefi_node::text::form::WriteText;
+use crate::formats::uefi_node::text::style::Style;
 use crate::formats::uefi_node::write::{Tail, write_node};
+use core::fmt;
+use crate::formats::uefi_base::little_endian::u32_at;
 use crate::formats::uefi_path::build::{BuildError, BuildNode};
 use crate::formats::uefi_path::{DevicePathNode, DeviceSubType, DeviceType};
 
@@ -62,4 +66,27 @@ impl BuildNode for Adr<'_> {
             Tail::Bytes(self.adr.as_bytes()),
         )
     }
+}
+
+impl WriteText for Adr<'_> {
+    #[inline]
+    fn write_text(
+        &self,
+        f: &mut fmt::Formatter<'_>,
+        _style: Style,
+    ) -> Option<fmt::Result> {
+        Some(write_addresses(f, self.adr.as_bytes()))
+    }
+}
+
+/// Writes the form: the addresses in `bytes`, four bytes each, with commas between them.
+#[inline]
+fn write_addresses(f: &mut fmt::Formatter<'_>, bytes: &[u8]) -> fmt::Result {
+    let first = u32_at(bytes, 0);
+    write!(f, "AcpiAdr(0x{first:X}")?;
+    for index in 1..bytes.len() / 4 {
+        let address = u32_at(bytes, 4 * index);
+        write!(f, ",0x{address:X}")?;
+    }
+    write!(f, ")")
 }

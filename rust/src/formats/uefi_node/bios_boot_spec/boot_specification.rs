@@ -2,7 +2,11 @@
 
 use crate::formats::uefi_node::error::NodeConversionError;
 use crate::formats::uefi_node::read::{NodeValue, RestKind, read_node};
+use crate::formats::uefi_node::text::arguments::{is_argument, write_argument};
+use crate::formats::uefi_node::text::form::WriteText;
+use crate::formats::uefi_node::text::style::Style;
 use crate::formats::uefi_node::write::{Tail, joined, write_node};
+use core::fmt;
 use crate::formats::uefi_base::little_endian::u16_at;
 use crate::formats::uefi_path::build::{BuildError, BuildNode};
 use crate::formats::uefi_path::{DevicePathNode, DeviceSubType, DeviceType};
@@ -77,6 +81,82 @@ impl BuildNode for BootSpecification<'_> {
             &fields,
             Tail::Bytes(self.description_string),
         )
+    }
+}
+
+impl WriteText for BootSpecification<'_> {
+    #[inline]
+    fn write_text(
+        &self,
+        f: &mut fmt::Formatter<'_>,
+        style: Style,
+    ) -> Option<fmt::Result> {
+        let (kind, flag) = (self.device_type.0, self.status_flag);
+        let Some(description) = nul_ended_argument(self.description_string) else {
+            return None;
+        };
+        Some(if style.display_only {
+            write_short(f, kind, description)
+        } else {
+            write_full(f, kind, description, flag)
+        })
+    }
+}
+
+/// Returns the bytes without the NUL that they end with, if they are a text that can be an argument.
+#[inline]
+fn nul_ended_argument(bytes: &[u8]) -> Option<&[u8]> {
+    if bytes.is_empty() || bytes[bytes.len() - 1] != 0 {
+        return None;
+    }
+    let text = &bytes[..bytes.len() - 1];
+    if !is_argument(text) {
+        return None;
+    }
+    Some(text)
+}
+
+/// Writes the form for display.
+#[inline]
+fn write_short(
+    f: &mut fmt::Formatter<'_>,
+    kind: u16,
+    description: &[u8],
+) -> fmt::Result {
+    write!(f, "BBS({},", DeviceTypeText(kind))?;
+    write_argument(f, description)?;
+    write!(f, ")")
+}
+
+/// Writes the form with all fields.
+#[inline]
+fn write_full(
+    f: &mut fmt::Formatter<'_>,
+    kind: u16,
+    description: &[u8],
+    flag: u16,
+) -> fmt::Result {
+    write!(f, "BBS({},", DeviceTypeText(kind))?;
+    write_argument(f, description)?;
+    write!(f, ",0x{flag:X})")
+}
+
+/// The type of a boot device, displayed as its name, or else as its number.
+#[derive(Clone, Copy, Debug)]
+struct DeviceTypeText(u16);
+
+impl fmt::Display for DeviceTypeText {
+    fn fmt(&self, f: &mut fmt::Formatter<'_>) -> fmt::Result {
+        let number = self.0;
+        match number {
+            1 => f.write_str("Floppy"),
+            2 => f.write_str("HD"),
+            3 => f.write_str("CDROM"),
+            4 => f.write_str("PCMCIA"),
+            5 => f.write_str("USB"),
+            6 => f.write_str("Network"),
+            _ => write!(f, "0x{number:X}"),
+        }
     }
 }
 

@@ -2,7 +2,10 @@
 
 use crate::formats::uefi_node::error::NodeConversionError;
 use crate::formats::uefi_node::read::{NodeValue, RestKind, read_node};
+use crate::formats::uefi_node::text::form::WriteText;
+use crate::formats::uefi_node::text::style::Style;
 use crate::formats::uefi_node::write::{Tail, joined, write_node};
+use core::fmt;
 use crate::formats::uefi_base::little_endian::{u32_at, u64_at};
 use crate::formats::uefi_map::MemoryType;
 use crate::formats::uefi_path::build::{BuildError, BuildNode};
@@ -69,5 +72,17 @@ impl BuildNode for MemoryMapped {
             &self.end_address.to_le_bytes(),
         ]);
         write_node(buffer, self, self.full_type(), &fields, Tail::Bytes(&[]))
+    }
+}
+
+impl WriteText for MemoryMapped {
+    #[inline]
+    fn write_text(
+        &self,
+        f: &mut fmt::Formatter<'_>,
+        _style: Style,
+    ) -> Option<fmt::Result> {
+        let (kind, start, end) = (self.memory_type.0, self.start_address, self.end_address);
+        Some(write!(f, "MemoryMapped(0x{kind:X},0x{start:X},0x{end:X})"))
     }
 }

@@ -2,7 +2,11 @@
 
 use crate::formats::uefi_node::error::NodeConversionError;
 use crate::formats::uefi_node::read::{NodeValue, RestKind, bytes_at, read_node};
+use crate::formats::uefi_node::text::arguments::write_vendor;
+use crate::formats::uefi_node::text::form::WriteText;
+use crate::formats::uefi_node::text::style::Style;
 use crate::formats::uefi_node::write::{Tail, joined, write_node};
+use core::fmt;
 use crate::formats::uefi_base::Guid;
 use crate::formats::uefi_path::build::{BuildError, BuildNode};
 use crate::formats::uefi_path::{DevicePathNode, DeviceSubType, DeviceType};
@@ -67,5 +71,17 @@ impl BuildNode for Vendor<'_> {
             &fields,
             Tail::Bytes(self.vendor_defined_data),
         )
+    }
+}
+
+impl WriteText for Vendor<'_> {
+    #[inline]
+    fn write_text(
+        &self,
+        f: &mut fmt::Formatter<'_>,
+        _style: Style,
+    ) -> Option<fmt::Result> {
+        let (guid, data) = (self.vendor_guid, self.vendor_defined_data);
+        Some(write_vendor(f, "VenHw", guid, data))
     }
 }

@@ -2,7 +2,10 @@
 
 use crate::formats::uefi_node::error::NodeConversionError;
 use crate::formats::uefi_node::read::{NodeValue, RestKind, read_node};
+use crate::formats::uefi_node::text::form::WriteText;
+use crate::formats::uefi_node::text::style::Style;
 use crate::formats::uefi_node::write::{Tail, joined, write_node};
+use core::fmt;
 use crate::formats::uefi_base::little_endian::{u32_at, u64_at};
 use crate::formats::uefi_path::build::{BuildError, BuildNode};
 use crate::formats::uefi_path::{DevicePathNode, DeviceSubType, DeviceType};
@@ -68,5 +71,20 @@ impl BuildNode for CdRom {
             &self.partition_size.to_le_bytes(),
         ]);
         write_node(buffer, self, self.full_type(), &fields, Tail::Bytes(&[]))
+    }
+}
+
+impl WriteText for CdRom {
+    #[inline]
+    fn write_text(
+        &self,
+        f: &mut fmt::Formatter<'_>,
+        style: Style,
+    ) -> Option<fmt::Result> {
+        let (entry, start, size) = (self.boot_entry, self.partition_start, self.partition_size);
+        if style.display_only {
+            return Some(write!(f, "CDROM(0x{entry:X})"));
+        }
+        Some(write!(f, "CDROM(0x{entry:X},0x{start:X},0x{size:X})"))
     }
 }

@@ -2,7 +2,12 @@
 
 use crate::formats::uefi_node::error::NodeConversionError;
 use crate::formats::uefi_node::read::{NodeValue, RestKind, read_node};
+use crate::formats::uefi_node::text::arguments::UpperGuid;
+use crate::formats::uefi_node::text::form::WriteText;
+use crate::formats::uefi_node::text::style::Style;
 use crate::formats::uefi_node::write::{Tail, write_node};
+use core::fmt;
+use crate::formats::uefi_base::Guid;
 use crate::formats::uefi_path::build::{BuildError, BuildNode};
 use crate::formats::uefi_path::{DevicePathNode, DeviceSubType, DeviceType};
 
@@ -52,5 +57,20 @@ impl BuildNode for PiwgFirmwareFile<'_> {
     #[inline]
     fn write(&self, buffer: &mut [u8]) -> Result<usize, BuildError> {
         write_node(buffer, self, self.full_type(), &[], Tail::Bytes(self.data))
+    }
+}
+
+impl WriteText for PiwgFirmwareFile<'_> {
+    #[inline]
+    fn write_text(
+        &self,
+        f: &mut fmt::Formatter<'_>,
+        _style: Style,
+    ) -> Option<fmt::Result> {
+        let Ok(bytes) = <[u8; 16]>::try_from(self.data) else {
+            return None;
+        };
+        let guid = UpperGuid(Guid(bytes));
+        Some(write!(f, "FvFile({guid})"))
     }
 }

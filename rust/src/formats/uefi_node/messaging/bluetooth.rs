@@ -2,7 +2,11 @@
 
 use crate::formats::uefi_node::error::NodeConversionError;
 use crate::formats::uefi_node::read::{NodeValue, RestKind, bytes_at, read_node};
+use crate::formats::uefi_node::text::arguments::HexBytes;
+use crate::formats::uefi_node::text::form::WriteText;
+use crate::formats::uefi_node::text::style::Style;
 use crate::formats::uefi_node::write::{Tail, joined, write_node};
+use core::fmt;
 use crate::formats::uefi_path::build::{BuildError, BuildNode};
 use crate::formats::uefi_path::{DevicePathNode, DeviceSubType, DeviceType};
 
@@ -55,5 +59,16 @@ impl BuildNode for Bluetooth {
     fn write(&self, buffer: &mut [u8]) -> Result<usize, BuildError> {
         let fields = joined::<6>(&[&self.device_address]);
         write_node(buffer, self, self.full_type(), &fields, Tail::Bytes(&[]))
+    }
+}
+
+impl WriteText for Bluetooth {
+    #[inline]
+    fn write_text(
+        &self,
+        f: &mut fmt::Formatter<'_>,
+        _style: Style,
+    ) -> Option<fmt::Result> {
+        Some(write!(f, "Bluetooth({})", HexBytes(&self.device_address)))
     }
 }

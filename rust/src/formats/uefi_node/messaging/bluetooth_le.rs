@@ -2,7 +2,11 @@
 
 use crate::formats::uefi_node::error::NodeConversionError;
 use crate::formats::uefi_node::read::{NodeValue, RestKind, bytes_at, read_node};
+use crate::formats::uefi_node::text::arguments::HexBytes;
+use crate::formats::uefi_node::text::form::WriteText;
+use crate::formats::uefi_node::text::style::Style;
 use crate::formats::uefi_node::write::{Tail, joined, write_node};
+use core::fmt;
 use crate::formats::uefi_path::build::{BuildError, BuildNode};
 use crate::formats::uefi_path::{DevicePathNode, DeviceSubType, DeviceType};
 
@@ -59,6 +63,23 @@ impl BuildNode for BluetoothLe {
     fn write(&self, buffer: &mut [u8]) -> Result<usize, BuildError> {
         let fields = joined::<7>(&[&self.device_address, &self.address_type.0.to_le_bytes()]);
         write_node(buffer, self, self.full_type(), &fields, Tail::Bytes(&[]))
+    }
+}
+
+impl WriteText for BluetoothLe {
+    #[inline]
+    fn write_text(
+        &self,
+        f: &mut fmt::Formatter<'_>,
+        _style: Style,
+    ) -> Option<fmt::Result> {
+        let address_type = [self.address_type.0];
+        Some(write!(
+            f,
+            "BluetoothLE({},0x{})",
+            HexBytes(&self.device_address),
+            HexBytes(&address_type),
+        ))
     }
 }
 

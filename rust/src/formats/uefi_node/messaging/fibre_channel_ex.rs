@@ -2,7 +2,11 @@
 
 use crate::formats::uefi_node::error::NodeConversionError;
 use crate::formats::uefi_node::read::{NodeValue, RestKind, bytes_at, read_node};
+use crate::formats::uefi_node::text::arguments::HexBytes;
+use crate::formats::uefi_node::text::form::WriteText;
+use crate::formats::uefi_node::text::style::Style;
 use crate::formats::uefi_node::write::{Tail, joined, write_node};
+use core::fmt;
 use crate::formats::uefi_base::little_endian::u32_at;
 use crate::formats::uefi_path::build::{BuildError, BuildNode};
 use crate::formats::uefi_path::{DevicePathNode, DeviceSubType, DeviceType};
@@ -71,5 +75,23 @@ impl BuildNode for FibreChannelEx {
             &self.logical_unit_number,
         ]);
         write_node(buffer, self, self.full_type(), &fields, Tail::Bytes(&[]))
+    }
+}
+
+impl WriteText for FibreChannelEx {
+    #[inline]
+    fn write_text(
+        &self,
+        f: &mut fmt::Formatter<'_>,
+        _style: Style,
+    ) -> Option<fmt::Result> {
+        if self.reserved != 0 {
+            return None;
+        }
+        let (name, lun) = (
+            HexBytes(&self.world_wide_name),
+            HexBytes(&self.logical_unit_number),
+        );
+        Some(write!(f, "FibreEx(0x{name},0x{lun})"))
     }
 }

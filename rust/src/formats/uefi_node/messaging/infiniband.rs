@@ -3,7 +3,12 @@
 use crate::formats::uefi_node::error::NodeConversionError;
 use crate::formats::uefi_node::messaging::infiniband_resource_flags::InfinibandResourceFlags;
 use crate::formats::uefi_node::read::{NodeValue, RestKind, bytes_at, read_node};
+use crate::formats::uefi_node::text::arguments::UpperGuid;
+use crate::formats::uefi_node::text::form::WriteText;
+use crate::formats::uefi_node::text::style::Style;
 use crate::formats::uefi_node::write::{Tail, joined, write_node};
+use core::fmt;
+use crate::formats::uefi_base::Guid;
 use crate::formats::uefi_base::little_endian::{u32_at, u64_at};
 use crate::formats::uefi_path::build::{BuildError, BuildNode};
 use crate::formats::uefi_path::{DevicePathNode, DeviceSubType, DeviceType};
@@ -79,5 +84,22 @@ impl BuildNode for Infiniband {
             &self.device_id.to_le_bytes(),
         ]);
         write_node(buffer, self, self.full_type(), &fields, Tail::Bytes(&[]))
+    }
+}
+
+impl WriteText for Infiniband {
+    #[inline]
+    fn write_text(
+        &self,
+        f: &mut fmt::Formatter<'_>,
+        _style: Style,
+    ) -> Option<fmt::Result> {
+        let (flags, port_gid) = (self.resource_flags.bits(), UpperGuid(Guid(self.port_gid)));
+        let (controller, target) = (self.ioc_guid_or_service_id, self.target_port_id);
+        let device = self.device_id;
+        Some(write!(
+            f,
+            "Infiniband(0x{flags:X},{port_gid},0x{controller:X},0x{target:X},0x{device:X})",
+        ))
     }
 }

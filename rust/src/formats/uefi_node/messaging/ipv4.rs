@@ -2,7 +2,11 @@
 
 use crate::formats::uefi_node::error::NodeConversionError;
 use crate::formats::uefi_node::read::{NodeValue, RestKind, bytes_at, read_node};
+use crate::formats::uefi_node::text::arguments::Ipv4Text;
+use crate::formats::uefi_node::text::form::WriteText;
+use crate::formats::uefi_node::text::style::Style;
 use crate::formats::uefi_node::write::{Tail, joined, write_node};
+use core::fmt;
 use crate::formats::uefi_base::little_endian::u16_at;
 use crate::formats::uefi_path::build::{BuildError, BuildNode};
 use crate::formats::uefi_path::{DevicePathNode, DeviceSubType, DeviceType};
@@ -93,6 +97,54 @@ impl BuildNode for Ipv4 {
             &self.subnet_mask,
         ]);
         write_node(buffer, self, self.full_type(), &fields, Tail::Bytes(&[]))
+    }
+}
+
+impl WriteText for Ipv4 {
+    #[inline]
+    fn write_text(
+        &self,
+        f: &mut fmt::Formatter<'_>,
+        style: Style,
+    ) -> Option<fmt::Result> {
+        let (local_port, remote_port) = (self.local_port, self.remote_port);
+        let origin = self.ip_address_origin.0;
+        if local_port != 0 || remote_port != 0 || origin > 1 {
+            return None;
+        }
+        let remote = Ipv4Text(self.remote_ip_address);
+        if style.display_only {
+            return Some(write!(f, "IPv4({remote})"));
+        }
+        let protocol = ProtocolText(self.protocol);
+        let local = Ipv4Text(self.local_ip_address);
+        let gateway = Ipv4Text(self.gateway_ip_address);
+        let mask = Ipv4Text(self.subnet_mask);
+        let origin = origin_name(origin);
+        Some(write!(
+            f,
+            "IPv4({remote},{protocol},{origin},{local},{gateway},{mask})",
+        ))
+    }
+}
+
+/// Returns the name of an origin of an IPv4 address.
+#[inline]
+fn origin_name(origin: u8) -> &'static str {
+    if origin == 1 { "Static" } else { "DHCP" }
+}
+
+/// A network protocol, displayed as its name or its number.
+#[derive(Clone, Copy, Debug)]
+pub(crate) struct ProtocolText(pub(crate) u16);
+
+impl fmt::Display for ProtocolText {
+    fn fmt(&self, f: &mut fmt::Formatter<'_>) -> fmt::Result {
+        match self.0 {
+            6 => f.write_str("TCP"),
+            17 => f.write_str("UDP"),
+            number => write!(f, "0x{number:X}"),
+        }
     }
 }
 

@@ -2,7 +2,11 @@
 
 use crate::formats::uefi_node::error::NodeConversionError;
 use crate::formats::uefi_node::read::{NodeValue, RestKind, bytes_at, read_node};
+use crate::formats::uefi_node::text::arguments::{HexBytes, are_zeros};
+use crate::formats::uefi_node::text::form::WriteText;
+use crate::formats::uefi_node::text::style::Style;
 use crate::formats::uefi_node::write::{Tail, joined, write_node};
+use core::fmt;
 use crate::formats::uefi_path::build::{BuildError, BuildNode};
 use crate::formats::uefi_path::{DevicePathNode, DeviceSubType, DeviceType};
 
@@ -59,5 +63,25 @@ impl BuildNode for MacAddress {
     fn write(&self, buffer: &mut [u8]) -> Result<usize, BuildError> {
         let fields = joined::<33>(&[&self.mac_address, &self.interface_type.to_le_bytes()]);
         write_node(buffer, self, self.full_type(), &fields, Tail::Bytes(&[]))
+    }
+}
+
+impl WriteText for MacAddress {
+    #[inline]
+    fn write_text(
+        &self,
+        f: &mut fmt::Formatter<'_>,
+        _style: Style,
+    ) -> Option<fmt::Result> {
+        let interface_type = self.interface_type;
+        if interface_type > 1 {
+            let address = HexBytes(&self.mac_address);
+            return Some(write!(f, "MAC({address},0x{interface_type:X})"));
+        }
+        let (address, padding) = self.mac_address.split_at(6);
+        if !are_zeros(padding) {
+            return None;
+        }
+        Some(write!(f, "MAC({},0x{interface_type:X})", HexBytes(address)))
     }
 }

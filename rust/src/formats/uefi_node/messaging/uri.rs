@@ -2,7 +2,11 @@
 
 use crate::formats::uefi_node::error::NodeConversionError;
 use crate::formats::uefi_node::read::{NodeValue, RestKind, read_node};
+use crate::formats::uefi_node::text::arguments::{is_argument, write_argument};
+use crate::formats::uefi_node::text::form::WriteText;
+use crate::formats::uefi_node::text::style::Style;
 use crate::formats::uefi_node::write::{Tail, write_node};
+use core::fmt;
 use crate::formats::uefi_path::build::{BuildError, BuildNode};
 use crate::formats::uefi_path::{DevicePathNode, DeviceSubType, DeviceType};
 
@@ -53,4 +57,26 @@ impl BuildNode for Uri<'_> {
     fn write(&self, buffer: &mut [u8]) -> Result<usize, BuildError> {
         write_node(buffer, self, self.full_type(), &[], Tail::Bytes(self.value))
     }
+}
+
+impl WriteText for Uri<'_> {
+    #[inline]
+    fn write_text(
+        &self,
+        f: &mut fmt::Formatter<'_>,
+        _style: Style,
+    ) -> Option<fmt::Result> {
+        if !is_argument(self.value) {
+            return None;
+        }
+        Some(write_uri(f, self.value))
+    }
+}
+
+/// Writes the form of a URI whose text can be an argument.
+#[inline]
+fn write_uri(f: &mut fmt::Formatter<'_>, value: &[u8]) -> fmt::Result {
+    f.write_str("Uri(")?;
+    write_argument(f, value)?;
+    f.write_str(")")
 }
