@@ -62,11 +62,11 @@ eisa_id id = eisa_letter (id / 0x400) ∷ eisa_letter (id / 0x20) ∷ eisa_lette
 abbrev pub is_eisa_id : ℕ → Bool
 is_eisa_id id = nat_lt (id % 0x10000) 0x8000
 
--- The same, or `0`.
+-- The same, or `0` for 0.
 abbrev pub eisa_id_or_zero : ℕ → List ℕ
 eisa_id_or_zero id = if id == 0 then codes "0" else eisa_id id
 
--- `AcpiExp(HID,CID,UIDSTR)`, which has the string of `_UID` alone of the strings, and no number for it.
+-- `AcpiExp(HID,CID,UIDSTR)`, for a device with the string of `_UID` alone, and 0 as its number.
 abbrev pub is_short : ℕ → List ℕ → List ℕ → List ℕ → Bool
 is_short uid hid_str uid_str cid_str =
     uid == 0 && length hid_str == 0 && length cid_str == 0 && not (length uid_str == 0)
