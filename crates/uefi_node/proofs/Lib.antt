@@ -6,3 +6,4 @@ pub mod Signatures
 pub mod NulStrings
 pub mod Faithful
 pub mod Rows
+pub mod Commas

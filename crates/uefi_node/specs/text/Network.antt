@@ -1,8 +1,8 @@
 -- The forms of nodes of the type MESSAGING that lead to networks, to USB, Bluetooth and serial devices (UEFI 2.10,
 -- 10.6.1.6), each with its fields in the order of its layout.
-use Rattle.std.specs.Prelude.{ℕ, ◌==◌, ◌&&◌, Bool, not, nat_le, List, [], ◌∷◌, ◌++◌, codes, take, drop}
+use Rattle.std.specs.Prelude.{ℕ, ◌+◌, ◌*◌, ◌/◌, ◌==◌, ◌&&◌, Bool, not, nat_le, List, [], ◌∷◌, ◌++◌, codes, length, take, drop, slice_range, map}
 use Rattle.std.specs.Prelude.{Option, Some, None, if◌then◌else◌}
-use Rattle.std.specs.List.{list_all, position_or_len}
+use Rattle.std.specs.List.{list_all, position_or_len, range_with_len}
 use Rattle.std.specs.Fmt.{decimal}
 use Rattle.uefi_node.specs.Messaging as messaging
 use Rattle.uefi_node.specs.text.Arguments.{call, hex, hex_bytes, long_hex, guid, ipv4_address, ipv6_address, is_argument, is_argument_character, are_zeros}
@@ -20,6 +20,7 @@ use Rattle.uefi_node.specs.declared.messaging.uri.Uri.{Uri}
 use Rattle.uefi_node.specs.declared.messaging.bluetooth.Bluetooth.{Bluetooth}
 use Rattle.uefi_node.specs.declared.messaging.wifi.Wifi.{Wifi}
 use Rattle.uefi_node.specs.declared.messaging.bluetooth_le.BluetoothLe.{BluetoothLe}
+use Rattle.uefi_node.specs.declared.messaging.dns.Dns.{Dns}
 
 -- `USB(PORT,INTERFACE)`
 abbrev pub usb : Form Usb
@@ -189,3 +190,26 @@ abbrev pub wifi : Form Wifi
 wifi = form messaging.wifi (λ ssid.
     if is_argument (take (name_length ssid) ssid) && are_zeros (drop (name_length ssid) ssid)
     then Some (call (codes "Wi-Fi") (take (name_length ssid) ssid ∷ [])) else None)
+
+-- The address of a DNS server at an index, in 16 bytes; an IPv4 address is in the first four.
+abbrev pub server_at : ℕ → List ℕ → ℕ → List ℕ
+server_at kind bytes index =
+    if kind == 0 then ipv4_address (slice_range bytes (16 * index) (16 * index + 4))
+    else ipv6_address (slice_range bytes (16 * index) (16 * index + 16))
+
+-- It is of the type, 0 or 1, and zeros follow an IPv4 address.
+abbrev pub is_server_at : ℕ → List ℕ → ℕ → Bool
+is_server_at kind bytes index =
+    if kind == 0 then are_zeros (slice_range bytes (16 * index + 4) (16 * index + 16)) else kind == 1
+
+abbrev pub are_servers : ℕ → List ℕ → Bool
+are_servers kind bytes = list_all (is_server_at kind bytes) (range_with_len 0 (length bytes / 16))
+
+-- `Dns(ADDRESS,ADDRESS,..)`
+abbrev pub servers_call : ℕ → List ℕ → List ℕ
+servers_call kind bytes = call (codes "Dns") (map (server_at kind bytes) (range_with_len 0 (length bytes / 16)))
+
+-- The same, if there is an address, and all are of the type
+abbrev pub dns : Form Dns
+dns = form messaging.dns (λ kind bytes.
+    if not (length bytes == 0) && are_servers kind bytes then Some (servers_call kind bytes) else None)
