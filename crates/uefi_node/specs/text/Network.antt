@@ -4,8 +4,9 @@ use Rattle.std.specs.Prelude.{ℕ, ◌+◌, ◌*◌, ◌/◌, ◌==◌, ◌&&◌
 use Rattle.std.specs.Prelude.{Option, Some, None, if◌then◌else◌}
 use Rattle.std.specs.List.{list_all, position_or_len, range_with_len}
 use Rattle.std.specs.Fmt.{decimal}
+use Rattle.uefi_node.specs.Signature.{are_zero}
 use Rattle.uefi_node.specs.Messaging as messaging
-use Rattle.uefi_node.specs.text.Arguments.{call, hex, hex_bytes, long_hex, guid, ipv4_address, ipv6_address, is_argument, is_argument_character, are_zeros}
+use Rattle.uefi_node.specs.text.Arguments.{call, hex, hex_bytes, long_hex, guid, ipv4_address, ipv6_address, is_argument, is_argument_character}
 use Rattle.uefi_node.specs.text.Form.{Form, form}
 use Rattle.uefi_node.specs.declared.messaging.usb.Usb.{Usb}
 use Rattle.uefi_node.specs.declared.messaging.usb_wwid.UsbWwid.{UsbWwid}
@@ -86,7 +87,7 @@ usb_class = form messaging.usb_class (λ vendor product class subclass protocol.
 abbrev pub mac_address : Form MacAddress
 mac_address = form messaging.mac_address (λ address kind.
     if nat_le kind 1 then
-        (if are_zeros (drop 6 address) then Some (call (codes "MAC") (hex_bytes (take 6 address) ∷ hex kind ∷ [])) else None)
+        (if are_zero (drop 6 address) then Some (call (codes "MAC") (hex_bytes (take 6 address) ∷ hex kind ∷ [])) else None)
     else Some (call (codes "MAC") (hex_bytes address ∷ hex kind ∷ [])))
 
 -- A network protocol: its name or its number.
@@ -188,7 +189,7 @@ name_length ssid = position_or_len (λ byte. byte == 0) ssid
 -- `Wi-Fi(NAME)`: the bytes before the first NUL, if they can be an argument and the others are zeros
 abbrev pub wifi : Form Wifi
 wifi = form messaging.wifi (λ ssid.
-    if is_argument (take (name_length ssid) ssid) && are_zeros (drop (name_length ssid) ssid)
+    if is_argument (take (name_length ssid) ssid) && are_zero (drop (name_length ssid) ssid)
     then Some (call (codes "Wi-Fi") (take (name_length ssid) ssid ∷ [])) else None)
 
 -- The address of a DNS server at an index, in 16 bytes; an IPv4 address is in the first four.
@@ -200,7 +201,7 @@ server_at kind bytes index =
 -- It is of the type, 0 or 1, and zeros follow an IPv4 address.
 abbrev pub is_server_at : ℕ → List ℕ → ℕ → Bool
 is_server_at kind bytes index =
-    if kind == 0 then are_zeros (slice_range bytes (16 * index + 4) (16 * index + 16)) else kind == 1
+    if kind == 0 then are_zero (slice_range bytes (16 * index + 4) (16 * index + 16)) else kind == 1
 
 abbrev pub are_servers : ℕ → List ℕ → Bool
 are_servers kind bytes = list_all (is_server_at kind bytes) (range_with_len 0 (length bytes / 16))

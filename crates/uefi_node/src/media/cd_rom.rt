@@ -2,10 +2,14 @@ ghost use Rattle.uefi_path.specs.Views.{node_of};
 ghost use Rattle.uefi_node.specs.Layout.{IsValue, node_as};
 ghost use Rattle.uefi_node.specs.Reading.{ReadsAs};
 ghost use Rattle.uefi_node.specs.Media.{cd_rom};
+ghost use Rattle.uefi_node.specs.text.Media as forms;
 
 use crate::error::NodeConversionError;
 use crate::read::{NodeValue, RestKind, read_node};
+use crate::text::form::WriteText;
+use crate::text::style::Style;
 use crate::write::{Tail, joined, write_node};
+use std::fmt;
 use uefi_base::little_endian::{u32_at, u64_at};
 use uefi_path::build::{BuildError, BuildNode};
 use uefi_path::{DevicePathNode, DeviceSubType, DeviceType};
@@ -73,5 +77,21 @@ impl BuildNode for CdRom {
             &self.partition_size.to_le_bytes(),
         ]);
         write_node(buffer, self, self.full_type(), &fields, Tail::Bytes(&[]))
+    }
+}
+
+impl WriteText for CdRom {
+    ghost form = { forms.cd_rom };
+
+    fn write_text<W: fmt::Write>(
+        &self,
+        f: &mut fmt::Formatter<W>,
+        style: Style,
+    ) -> Option<fmt::Result> {
+        let (entry, start, size) = (self.boot_entry, self.partition_start, self.partition_size);
+        if style.display_only {
+            return Some(write!(f, "CDROM(0x{entry:X})"));
+        }
+        Some(write!(f, "CDROM(0x{entry:X},0x{start:X},0x{size:X})"))
     }
 }

@@ -2,10 +2,16 @@ ghost use Rattle.uefi_path.specs.Views.{node_of};
 ghost use Rattle.uefi_node.specs.Layout.{IsValue, node_as};
 ghost use Rattle.uefi_node.specs.Reading.{ReadsAs};
 ghost use Rattle.uefi_node.specs.Media.{piwg_firmware_volume};
+ghost use Rattle.uefi_node.specs.text.Media as forms;
 
 use crate::error::NodeConversionError;
 use crate::read::{NodeValue, RestKind, read_node};
+use crate::text::arguments::UpperGuid;
+use crate::text::form::WriteText;
+use crate::text::style::Style;
 use crate::write::{Tail, write_node};
+use std::fmt;
+use uefi_base::Guid;
 use uefi_path::build::{BuildError, BuildNode};
 use uefi_path::{DevicePathNode, DeviceSubType, DeviceType};
 
@@ -57,5 +63,21 @@ impl BuildNode for PiwgFirmwareVolume<'_> {
 
     fn write(&self, buffer: &mut [u8]) -> Result<usize, BuildError> {
         write_node(buffer, self, self.full_type(), &[], Tail::Bytes(self.data))
+    }
+}
+
+impl WriteText for PiwgFirmwareVolume<'_> {
+    ghost form = { forms.piwg_firmware_volume };
+
+    fn write_text<W: fmt::Write>(
+        &self,
+        f: &mut fmt::Formatter<W>,
+        _style: Style,
+    ) -> Option<fmt::Result> {
+        let Ok(bytes) = <[u8; 16]>::try_from(self.data) else {
+            return None;
+        };
+        let guid = UpperGuid(Guid(bytes));
+        Some(write!(f, "Fv({guid})"))
     }
 }

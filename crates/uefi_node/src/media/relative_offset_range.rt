@@ -2,10 +2,14 @@ ghost use Rattle.uefi_path.specs.Views.{node_of};
 ghost use Rattle.uefi_node.specs.Layout.{IsValue, node_as};
 ghost use Rattle.uefi_node.specs.Reading.{ReadsAs};
 ghost use Rattle.uefi_node.specs.Media.{relative_offset_range};
+ghost use Rattle.uefi_node.specs.text.Media as forms;
 
 use crate::error::NodeConversionError;
 use crate::read::{NodeValue, RestKind, read_node};
+use crate::text::form::WriteText;
+use crate::text::style::Style;
 use crate::write::{Tail, joined, write_node};
+use std::fmt;
 use uefi_base::little_endian::{u32_at, u64_at};
 use uefi_path::build::{BuildError, BuildNode};
 use uefi_path::{DevicePathNode, DeviceSubType, DeviceType};
@@ -76,5 +80,21 @@ impl BuildNode for RelativeOffsetRange {
             &self.ending_offset.to_le_bytes(),
         ]);
         write_node(buffer, self, self.full_type(), &fields, Tail::Bytes(&[]))
+    }
+}
+
+impl WriteText for RelativeOffsetRange {
+    ghost form = { forms.relative_offset_range };
+
+    fn write_text<W: fmt::Write>(
+        &self,
+        f: &mut fmt::Formatter<W>,
+        _style: Style,
+    ) -> Option<fmt::Result> {
+        if self.reserved != 0 {
+            return None;
+        }
+        let (start, end) = (self.starting_offset, self.ending_offset);
+        Some(write!(f, "Offset(0x{start:X},0x{end:X})"))
     }
 }

@@ -2,10 +2,15 @@ ghost use Rattle.uefi_path.specs.Views.{node_of};
 ghost use Rattle.uefi_node.specs.Layout.{IsValue, node_as};
 ghost use Rattle.uefi_node.specs.Reading.{ReadsAs};
 ghost use Rattle.uefi_node.specs.Media.{vendor};
+ghost use Rattle.uefi_node.specs.text.Media as forms;
 
 use crate::error::NodeConversionError;
 use crate::read::{NodeValue, RestKind, bytes_at, read_node};
+use crate::text::arguments::write_vendor;
+use crate::text::form::WriteText;
+use crate::text::style::Style;
 use crate::write::{Tail, joined, write_node};
+use std::fmt;
 use uefi_base::Guid;
 use uefi_path::build::{BuildError, BuildNode};
 use uefi_path::{DevicePathNode, DeviceSubType, DeviceType};
@@ -72,5 +77,18 @@ impl BuildNode for Vendor<'_> {
             &fields,
             Tail::Bytes(self.vendor_defined_data),
         )
+    }
+}
+
+impl WriteText for Vendor<'_> {
+    ghost form = { forms.vendor };
+
+    fn write_text<W: fmt::Write>(
+        &self,
+        f: &mut fmt::Formatter<W>,
+        _style: Style,
+    ) -> Option<fmt::Result> {
+        let (guid, data) = (self.vendor_guid, self.vendor_defined_data);
+        Some(write_vendor(f, "VenMedia", guid, data))
     }
 }

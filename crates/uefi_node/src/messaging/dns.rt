@@ -9,8 +9,9 @@ ghost use Rattle.uefi_node.specs.text.Network as forms;
 
 use crate::error::NodeConversionError;
 use crate::messaging::dns_addresses::DnsAddresses;
+use crate::media::partition_signature::are_zero;
 use crate::read::{NodeValue, RestKind, bytes_at, read_node};
-use crate::text::arguments::{Ipv4Text, Ipv6Text, are_zeros};
+use crate::text::arguments::{Ipv4Text, Ipv6Text};
 use crate::text::form::WriteText;
 use crate::text::style::Style;
 use crate::write::{Tail, joined, write_node};
@@ -112,7 +113,7 @@ fn is_server(address_type: u8, bytes: &[u8], index: usize) -> bool
     ensures { result ≡ is_server_at address_type bytes.now index }
 {
     match address_type {
-        0 => are_zeros(&bytes[16 * index + 4..16 * index + 16]),
+        0 => are_zero(&bytes[16 * index + 4..16 * index + 16]),
         address_type => address_type == 1,
     }
 }

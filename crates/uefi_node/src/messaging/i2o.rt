@@ -2,10 +2,14 @@ ghost use Rattle.uefi_path.specs.Views.{node_of};
 ghost use Rattle.uefi_node.specs.Layout.{IsValue, node_as};
 ghost use Rattle.uefi_node.specs.Reading.{ReadsAs};
 ghost use Rattle.uefi_node.specs.Messaging.{i2o};
+ghost use Rattle.uefi_node.specs.text.Storage as forms;
 
 use crate::error::NodeConversionError;
 use crate::read::{NodeValue, RestKind, read_node};
+use crate::text::form::WriteText;
+use crate::text::style::Style;
 use crate::write::{Tail, joined, write_node};
+use std::fmt;
 use uefi_base::little_endian::u32_at;
 use uefi_path::build::{BuildError, BuildNode};
 use uefi_path::{DevicePathNode, DeviceSubType, DeviceType};
@@ -61,5 +65,18 @@ impl BuildNode for I2o {
     fn write(&self, buffer: &mut [u8]) -> Result<usize, BuildError> {
         let fields = joined::<4>(&[&self.target_id.to_le_bytes()]);
         write_node(buffer, self, self.full_type(), &fields, Tail::Bytes(&[]))
+    }
+}
+
+impl WriteText for I2o {
+    ghost form = { forms.i2o };
+
+    fn write_text<W: fmt::Write>(
+        &self,
+        f: &mut fmt::Formatter<W>,
+        _style: Style,
+    ) -> Option<fmt::Result> {
+        let target = self.target_id;
+        Some(write!(f, "I2O(0x{target:X})"))
     }
 }

@@ -2,10 +2,15 @@ ghost use Rattle.uefi_path.specs.Views.{node_of};
 ghost use Rattle.uefi_node.specs.Layout.{IsValue, node_as};
 ghost use Rattle.uefi_node.specs.Reading.{ReadsAs};
 ghost use Rattle.uefi_node.specs.Messaging.{ieee1394};
+ghost use Rattle.uefi_node.specs.text.Storage as forms;
 
 use crate::error::NodeConversionError;
 use crate::read::{NodeValue, RestKind, bytes_at, read_node};
+use crate::text::arguments::HexBytes;
+use crate::text::form::WriteText;
+use crate::text::style::Style;
 use crate::write::{Tail, joined, write_node};
+use std::fmt;
 use uefi_base::little_endian::u32_at;
 use uefi_path::build::{BuildError, BuildNode};
 use uefi_path::{DevicePathNode, DeviceSubType, DeviceType};
@@ -65,5 +70,22 @@ impl BuildNode for Ieee1394 {
     fn write(&self, buffer: &mut [u8]) -> Result<usize, BuildError> {
         let fields = joined::<12>(&[&self.reserved.to_le_bytes(), &self.guid]);
         write_node(buffer, self, self.full_type(), &fields, Tail::Bytes(&[]))
+    }
+}
+
+impl WriteText for Ieee1394 {
+    ghost form = { forms.ieee1394 };
+
+    fn write_text<W: fmt::Write>(
+        &self,
+        f: &mut fmt::Formatter<W>,
+        _style: Style,
+    ) -> Option<fmt::Result> {
+        if self.reserved != 0 {
+            return None;
+        }
+        let b = self.guid;
+        let reversed = [b[7], b[6], b[5], b[4], b[3], b[2], b[1], b[0]];
+        Some(write!(f, "I1394({})", HexBytes(&reversed)))
     }
 }

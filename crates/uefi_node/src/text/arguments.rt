@@ -2,7 +2,7 @@
 
 ghost use Rattle.std.specs.Prelude.{◌≡◌, Some, IsTrue};
 ghost use Rattle.std.specs.Fmt.{DisplaysOnOk};
-ghost use Rattle.uefi_node.specs.text.Arguments.{hex_byte, hex_bytes, guid, ipv4_address, ipv6_address, four_groups, is_argument, is_argument_character, are_zeros};
+ghost use Rattle.uefi_node.specs.text.Arguments.{hex_byte, hex_bytes, guid, ipv4_address, ipv6_address, four_groups, vendor_call, is_argument, is_argument_character};
 
 use std::fmt;
 use uefi_base::Guid;
@@ -139,10 +139,7 @@ pub(crate) fn is_argument_character(c: u8) -> bool
 }
 
 /// Writes a text that can be an argument.
-pub(crate) fn write_argument<W: fmt::Write>(
-    f: &mut fmt::Formatter<W>,
-    text: &[u8],
-) -> fmt::Result
+pub(crate) fn write_argument<W: fmt::Write>(f: &mut fmt::Formatter<W>, text: &[u8]) -> fmt::Result
     requires { IsTrue (is_argument text.now) }
     ensures { DisplaysOnOk W.write_str_gives f.old result (Some text.now) f.new }
 {
@@ -152,9 +149,18 @@ pub(crate) fn write_argument<W: fmt::Write>(
     Ok(())
 }
 
-/// Returns whether all bytes are zero.
-pub(crate) fn are_zeros(bytes: &[u8]) -> bool
-    ensures { result ≡ are_zeros bytes.now }
+/// Writes a vendor's node: `NAME(GUID)`, or `NAME(GUID,DATA)` if it has data, which are `bytes`.
+pub(crate) fn write_vendor<W: fmt::Write>(
+    f: &mut fmt::Formatter<W>,
+    name: &str,
+    guid: Guid,
+    bytes: &[u8],
+) -> fmt::Result
+    ensures { DisplaysOnOk W.write_str_gives f.old result (Some (vendor_call name.now guid.0 bytes.now)) f.new }
 {
-    bytes.iter().all(|byte| *byte == 0)
+    if bytes.is_empty() {
+        write!(f, "{name}({})", UpperGuid(guid))
+    } else {
+        write!(f, "{name}({},{})", UpperGuid(guid), HexBytes(bytes))
+    }
 }
