@@ -1,11 +1,12 @@
 -- The forms of nodes of the type MESSAGING that lead to networks, to USB, Bluetooth and serial devices (UEFI 2.10,
 -- 10.6.1.6), each with its fields in the order of its layout.
-use Rattle.std.specs.Prelude.{ℕ, ◌==◌, ◌&&◌, Bool, not, nat_le, List, [], ◌∷◌, ◌++◌, codes, take, drop}
+use Rattle.std.specs.Prelude.{ℕ, ◌+◌, ◌*◌, ◌/◌, ◌==◌, ◌&&◌, Bool, not, nat_le, List, [], ◌∷◌, ◌++◌, codes, length, take, drop, slice_range, map}
 use Rattle.std.specs.Prelude.{Option, Some, None, if◌then◌else◌}
-use Rattle.std.specs.List.{list_all, position_or_len}
+use Rattle.std.specs.List.{list_all, position_or_len, range_with_len}
 use Rattle.std.specs.Fmt.{decimal}
+use Rattle.uefi_node.specs.Signature.{are_zero}
 use Rattle.uefi_node.specs.Messaging as messaging
-use Rattle.uefi_node.specs.text.Arguments.{call, hex, hex_bytes, long_hex, guid, ipv4_address, ipv6_address, is_argument, is_argument_character, are_zeros}
+use Rattle.uefi_node.specs.text.Arguments.{call, hex, hex_bytes, long_hex, guid, ipv4_address, ipv6_address, is_argument, is_argument_character}
 use Rattle.uefi_node.specs.text.Form.{Form, form}
 use Rattle.uefi_node.specs.declared.messaging.usb.Usb.{Usb}
 use Rattle.uefi_node.specs.declared.messaging.usb_wwid.UsbWwid.{UsbWwid}
@@ -20,6 +21,7 @@ use Rattle.uefi_node.specs.declared.messaging.uri.Uri.{Uri}
 use Rattle.uefi_node.specs.declared.messaging.bluetooth.Bluetooth.{Bluetooth}
 use Rattle.uefi_node.specs.declared.messaging.wifi.Wifi.{Wifi}
 use Rattle.uefi_node.specs.declared.messaging.bluetooth_le.BluetoothLe.{BluetoothLe}
+use Rattle.uefi_node.specs.declared.messaging.dns.Dns.{Dns}
 
 -- `USB(PORT,INTERFACE)`
 abbrev pub usb : Form Usb
@@ -79,13 +81,13 @@ usb_class_text None None vendor product class subclass protocol =
 abbrev pub usb_class : Form UsbClass
 usb_class = form messaging.usb_class (λ vendor product class subclass protocol.
     Some (usb_class_text (usb_class_name class) (usb_subclass_name class subclass)
-    vendor product class subclass protocol))
+        vendor product class subclass protocol))
 
 -- `MAC(ADDRESS,TYPE)`; of the types 0 and 1 the first six bytes, if zeros follow them
 abbrev pub mac_address : Form MacAddress
 mac_address = form messaging.mac_address (λ address kind.
     if nat_le kind 1 then
-    (if are_zeros (drop 6 address) then Some (call (codes "MAC") (hex_bytes (take 6 address) ∷ hex kind ∷ [])) else None)
+        (if are_zero (drop 6 address) then Some (call (codes "MAC") (hex_bytes (take 6 address) ∷ hex kind ∷ [])) else None)
     else Some (call (codes "MAC") (hex_bytes address ∷ hex kind ∷ [])))
 
 -- A network protocol: its name or its number.
@@ -100,14 +102,14 @@ ipv4_origin origin = if origin == 1 then codes "Static" else codes "DHCP"
 -- `IPv4(REMOTE,PROTOCOL,ORIGIN,LOCAL,GATEWAY,MASK)` or for display `IPv4(REMOTE)`, if there are no ports
 abbrev pub ipv4 : Form Ipv4
 ipv4 = record {
-  layout = messaging.ipv4;
-  text = λ style local remote local_port remote_port protocol origin gateway mask.
-      if local_port == 0 && remote_port == 0 && nat_le origin 1 then
-      (if style.display_only then Some (call (codes "IPv4") (ipv4_address remote ∷ []))
-      else Some (call (codes "IPv4") (
-      ipv4_address remote ∷ network_protocol protocol ∷ ipv4_origin origin ∷ ipv4_address local
-      ∷ ipv4_address gateway ∷ ipv4_address mask ∷ [])))
-      else None;
+    layout = messaging.ipv4;
+    text = λ style local remote local_port remote_port protocol origin gateway mask.
+        if local_port == 0 && remote_port == 0 && nat_le origin 1 then
+            (if style.display_only then Some (call (codes "IPv4") (ipv4_address remote ∷ []))
+            else Some (call (codes "IPv4") (
+                ipv4_address remote ∷ network_protocol protocol ∷ ipv4_origin origin ∷ ipv4_address local
+                ∷ ipv4_address gateway ∷ ipv4_address mask ∷ [])))
+        else None;
 }
 
 -- Where an IPv6 address comes from: 0, 1 or 2.
@@ -119,14 +121,14 @@ ipv6_origin origin =
 -- `IPv6(REMOTE,PROTOCOL,ORIGIN,LOCAL,PREFIX,GATEWAY)` or for display `IPv6(REMOTE)`, if there are no ports
 abbrev pub ipv6 : Form Ipv6
 ipv6 = record {
-  layout = messaging.ipv6;
-  text = λ style local remote local_port remote_port protocol origin prefix gateway.
-      if local_port == 0 && remote_port == 0 && nat_le origin 2 then
-      (if style.display_only then Some (call (codes "IPv6") (ipv6_address remote ∷ []))
-      else Some (call (codes "IPv6") (
-      ipv6_address remote ∷ network_protocol protocol ∷ ipv6_origin origin ∷ ipv6_address local
-      ∷ hex prefix ∷ ipv6_address gateway ∷ [])))
-      else None;
+    layout = messaging.ipv6;
+    text = λ style local remote local_port remote_port protocol origin prefix gateway.
+        if local_port == 0 && remote_port == 0 && nat_le origin 2 then
+            (if style.display_only then Some (call (codes "IPv6") (ipv6_address remote ∷ []))
+            else Some (call (codes "IPv6") (
+                ipv6_address remote ∷ network_protocol protocol ∷ ipv6_origin origin ∷ ipv6_address local
+                ∷ hex prefix ∷ ipv6_address gateway ∷ [])))
+        else None;
 }
 
 -- `Vlan(NUMBER)`, in decimal
@@ -162,9 +164,9 @@ stop_bits_count stop_bits =
 abbrev pub uart : Form Uart
 uart = form messaging.uart (λ reserved baud_rate data_bits parity stop_bits.
     if reserved == 0 && nat_le parity 5 && nat_le stop_bits 3 then
-    Some (call (codes "Uart") (
-    number_or_default baud_rate ∷ number_or_default data_bits ∷ parity_letter parity
-    ∷ stop_bits_count stop_bits ∷ []))
+        Some (call (codes "Uart") (
+            number_or_default baud_rate ∷ number_or_default data_bits ∷ parity_letter parity
+            ∷ stop_bits_count stop_bits ∷ []))
     else None)
 
 -- `Uri(TEXT)`, if the text can be an argument
@@ -187,5 +189,28 @@ name_length ssid = position_or_len (λ byte. byte == 0) ssid
 -- `Wi-Fi(NAME)`: the bytes before the first NUL, if they can be an argument and the others are zeros
 abbrev pub wifi : Form Wifi
 wifi = form messaging.wifi (λ ssid.
-    if is_argument (take (name_length ssid) ssid) && are_zeros (drop (name_length ssid) ssid)
+    if is_argument (take (name_length ssid) ssid) && are_zero (drop (name_length ssid) ssid)
     then Some (call (codes "Wi-Fi") (take (name_length ssid) ssid ∷ [])) else None)
+
+-- The address of a DNS server at an index, in 16 bytes; an IPv4 address is in the first four.
+abbrev pub server_at : ℕ → List ℕ → ℕ → List ℕ
+server_at kind bytes index =
+    if kind == 0 then ipv4_address (slice_range bytes (16 * index) (16 * index + 4))
+    else ipv6_address (slice_range bytes (16 * index) (16 * index + 16))
+
+-- It is of the type, 0 or 1, and zeros follow an IPv4 address.
+abbrev pub is_server_at : ℕ → List ℕ → ℕ → Bool
+is_server_at kind bytes index =
+    if kind == 0 then are_zero (slice_range bytes (16 * index + 4) (16 * index + 16)) else kind == 1
+
+abbrev pub are_servers : ℕ → List ℕ → Bool
+are_servers kind bytes = list_all (is_server_at kind bytes) (range_with_len 0 (length bytes / 16))
+
+-- `Dns(ADDRESS,ADDRESS,..)`
+abbrev pub servers_call : ℕ → List ℕ → List ℕ
+servers_call kind bytes = call (codes "Dns") (map (server_at kind bytes) (range_with_len 0 (length bytes / 16)))
+
+-- The same, if there is an address, and all are of the type
+abbrev pub dns : Form Dns
+dns = form messaging.dns (λ kind bytes.
+    if not (length bytes == 0) && are_servers kind bytes then Some (servers_call kind bytes) else None)

@@ -5,8 +5,9 @@ ghost use Rattle.uefi_node.specs.Messaging.{mac_address};
 ghost use Rattle.uefi_node.specs.text.Network as forms;
 
 use crate::error::NodeConversionError;
+use crate::media::partition_signature::are_zero;
 use crate::read::{NodeValue, RestKind, bytes_at, read_node};
-use crate::text::arguments::{HexBytes, are_zeros};
+use crate::text::arguments::HexBytes;
 use crate::text::form::WriteText;
 use crate::text::style::Style;
 use crate::write::{Tail, joined, write_node};
@@ -86,7 +87,7 @@ impl WriteText for MacAddress {
             return Some(write!(f, "MAC({address},0x{interface_type:X})"));
         }
         let (address, padding) = self.mac_address.split_at(6);
-        if !are_zeros(padding) {
+        if !are_zero(padding) {
             return None;
         }
         Some(write!(f, "MAC({},0x{interface_type:X})", HexBytes(address)))

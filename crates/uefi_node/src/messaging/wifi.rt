@@ -9,8 +9,9 @@ ghost use Rattle.uefi_node.specs.text.Network.{name_length};
 ghost use Rattle.uefi_node.specs.text.Network as forms;
 
 use crate::error::NodeConversionError;
+use crate::media::partition_signature::are_zero;
 use crate::read::{NodeValue, RestKind, bytes_at, read_node};
-use crate::text::arguments::{are_zeros, is_argument, write_argument};
+use crate::text::arguments::{is_argument, write_argument};
 use crate::text::form::WriteText;
 use crate::text::style::Style;
 use crate::write::{Tail, joined, write_node};
@@ -81,7 +82,7 @@ impl WriteText for Wifi {
         _style: Style,
     ) -> Option<fmt::Result> {
         let (name, padding) = self.ssid.split_at(name_length(&self.ssid));
-        if !is_argument(name) || !are_zeros(padding) {
+        if !is_argument(name) || !are_zero(padding) {
             return None;
         }
         Some(write_wifi(f, name))

@@ -2,7 +2,7 @@
 
 ghost use Rattle.std.specs.Prelude.{◌≡◌, Some, IsTrue};
 ghost use Rattle.std.specs.Fmt.{DisplaysOnOk};
-ghost use Rattle.uefi_node.specs.text.Arguments.{hex_byte, hex_bytes, guid, ipv4_address, ipv6_address, four_groups, vendor_call, is_argument, is_argument_character, are_zeros};
+ghost use Rattle.uefi_node.specs.text.Arguments.{hex_byte, hex_bytes, guid, ipv4_address, ipv6_address, four_groups, vendor_call, is_argument, is_argument_character};
 
 use std::fmt;
 use uefi_base::Guid;
@@ -163,11 +163,4 @@ pub(crate) fn write_vendor<W: fmt::Write>(
     } else {
         write!(f, "{name}({},{})", UpperGuid(guid), HexBytes(bytes))
     }
-}
-
-/// Returns whether all bytes are zero.
-pub(crate) fn are_zeros(bytes: &[u8]) -> bool
-    ensures { result ≡ are_zeros bytes.now }
-{
-    bytes.iter().all(|byte| *byte == 0)
 }
