@@ -81,13 +81,13 @@ usb_class_text None None vendor product class subclass protocol =
 abbrev pub usb_class : Form UsbClass
 usb_class = form messaging.usb_class (λ vendor product class subclass protocol.
     Some (usb_class_text (usb_class_name class) (usb_subclass_name class subclass)
-        vendor product class subclass protocol))
+    vendor product class subclass protocol))
 
 -- `MAC(ADDRESS,TYPE)`; of the types 0 and 1 the first six bytes, if zeros follow them
 abbrev pub mac_address : Form MacAddress
 mac_address = form messaging.mac_address (λ address kind.
     if nat_le kind 1 then
-        (if are_zero (drop 6 address) then Some (call (codes "MAC") (hex_bytes (take 6 address) ∷ hex kind ∷ [])) else None)
+    (if are_zero (drop 6 address) then Some (call (codes "MAC") (hex_bytes (take 6 address) ∷ hex kind ∷ [])) else None)
     else Some (call (codes "MAC") (hex_bytes address ∷ hex kind ∷ [])))
 
 -- A network protocol: its name or its number.
@@ -102,14 +102,14 @@ ipv4_origin origin = if origin == 1 then codes "Static" else codes "DHCP"
 -- `IPv4(REMOTE,PROTOCOL,ORIGIN,LOCAL,GATEWAY,MASK)` or for display `IPv4(REMOTE)`, if there are no ports
 abbrev pub ipv4 : Form Ipv4
 ipv4 = record {
-    layout = messaging.ipv4;
-    text = λ style local remote local_port remote_port protocol origin gateway mask.
-        if local_port == 0 && remote_port == 0 && nat_le origin 1 then
-            (if style.display_only then Some (call (codes "IPv4") (ipv4_address remote ∷ []))
-            else Some (call (codes "IPv4") (
-                ipv4_address remote ∷ network_protocol protocol ∷ ipv4_origin origin ∷ ipv4_address local
-                ∷ ipv4_address gateway ∷ ipv4_address mask ∷ [])))
-        else None;
+  layout = messaging.ipv4;
+  text = λ style local remote local_port remote_port protocol origin gateway mask.
+      if local_port == 0 && remote_port == 0 && nat_le origin 1 then
+      (if style.display_only then Some (call (codes "IPv4") (ipv4_address remote ∷ []))
+      else Some (call (codes "IPv4") (
+      ipv4_address remote ∷ network_protocol protocol ∷ ipv4_origin origin ∷ ipv4_address local
+      ∷ ipv4_address gateway ∷ ipv4_address mask ∷ [])))
+      else None;
 }
 
 -- Where an IPv6 address comes from: 0, 1 or 2.
@@ -121,14 +121,14 @@ ipv6_origin origin =
 -- `IPv6(REMOTE,PROTOCOL,ORIGIN,LOCAL,PREFIX,GATEWAY)` or for display `IPv6(REMOTE)`, if there are no ports
 abbrev pub ipv6 : Form Ipv6
 ipv6 = record {
-    layout = messaging.ipv6;
-    text = λ style local remote local_port remote_port protocol origin prefix gateway.
-        if local_port == 0 && remote_port == 0 && nat_le origin 2 then
-            (if style.display_only then Some (call (codes "IPv6") (ipv6_address remote ∷ []))
-            else Some (call (codes "IPv6") (
-                ipv6_address remote ∷ network_protocol protocol ∷ ipv6_origin origin ∷ ipv6_address local
-                ∷ hex prefix ∷ ipv6_address gateway ∷ [])))
-        else None;
+  layout = messaging.ipv6;
+  text = λ style local remote local_port remote_port protocol origin prefix gateway.
+      if local_port == 0 && remote_port == 0 && nat_le origin 2 then
+      (if style.display_only then Some (call (codes "IPv6") (ipv6_address remote ∷ []))
+      else Some (call (codes "IPv6") (
+      ipv6_address remote ∷ network_protocol protocol ∷ ipv6_origin origin ∷ ipv6_address local
+      ∷ hex prefix ∷ ipv6_address gateway ∷ [])))
+      else None;
 }
 
 -- `Vlan(NUMBER)`, in decimal
@@ -164,9 +164,9 @@ stop_bits_count stop_bits =
 abbrev pub uart : Form Uart
 uart = form messaging.uart (λ reserved baud_rate data_bits parity stop_bits.
     if reserved == 0 && nat_le parity 5 && nat_le stop_bits 3 then
-        Some (call (codes "Uart") (
-            number_or_default baud_rate ∷ number_or_default data_bits ∷ parity_letter parity
-            ∷ stop_bits_count stop_bits ∷ []))
+    Some (call (codes "Uart") (
+    number_or_default baud_rate ∷ number_or_default data_bits ∷ parity_letter parity
+    ∷ stop_bits_count stop_bits ∷ []))
     else None)
 
 -- `Uri(TEXT)`, if the text can be an argument

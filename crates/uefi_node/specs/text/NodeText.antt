@@ -61,6 +61,7 @@ storage_forms =
 abbrev pub network_forms : List TypeForm
 network_forms =
     of network.usb
+    ∷ of network.usb_wwid
     ∷ of network.usb_class
     ∷ of network.mac_address
     ∷ of network.ipv4
@@ -72,6 +73,7 @@ network_forms =
     ∷ of network.bluetooth
     ∷ of network.bluetooth_le
     ∷ of network.wifi
+    ∷ of network.dns
     ∷ []
 
 abbrev pub media_forms : List TypeForm

@@ -1,4 +1,4 @@
-ghost use Rattle.std.specs.Prelude.{◌≡◌, true, false, Some, IsTrue, IfSome, IfNone};
+ghost use Rattle.std.specs.Prelude.{◌≡◌, Some, IsTrue};
 ghost use Rattle.std.specs.Fmt.{DisplaysOnOk};
 ghost use Rattle.uefi_path.specs.Views.{node_of};
 ghost use Rattle.uefi_node.specs.Layout.{IsValue, node_as};
@@ -6,11 +6,11 @@ ghost use Rattle.uefi_node.specs.Reading.{ReadsAs};
 ghost use Rattle.uefi_node.specs.BiosBootSpec.{boot_specification};
 ghost use Rattle.uefi_node.specs.text.BiosBootSpec as forms;
 ghost use Rattle.uefi_node.specs.text.BiosBootSpec.{boot_device_type, boot_device};
-ghost use Rattle.uefi_node.specs.text.Arguments.{is_argument, is_nul_ended_argument, without_nul};
+ghost use Rattle.uefi_node.specs.text.Arguments.{is_argument};
 
 use crate::error::NodeConversionError;
 use crate::read::{NodeValue, RestKind, read_node};
-use crate::text::arguments::{is_argument, write_argument};
+use crate::text::arguments::{nul_ended_argument, write_argument};
 use crate::text::form::WriteText;
 use crate::text::style::Style;
 use crate::write::{Tail, joined, write_node};
@@ -112,23 +112,6 @@ impl WriteText for BootSpecification<'_> {
             write_full(f, kind, description, flag)
         })
     }
-}
-
-/// Returns the bytes without the NUL that they end with, if they are a text that can be an argument.
-fn nul_ended_argument(bytes: &[u8]) -> Option<&[u8]>
-    ensures some { IfSome result (λ text. IsTrue (is_nul_ended_argument bytes.now)) }
-    ensures text { IfSome result (λ text. text.now ≡ without_nul bytes.now) }
-    ensures argument { IfSome result (λ text. IsTrue (is_argument text.now)) }
-    ensures none { IfNone result (is_nul_ended_argument bytes.now ≡ false) }
-{
-    if bytes.is_empty() || bytes[bytes.len() - 1] != 0 {
-        return None;
-    }
-    let text = &bytes[..bytes.len() - 1];
-    if !is_argument(text) {
-        return None;
-    }
-    Some(text)
 }
 
 /// Writes the form for display.

@@ -8,8 +8,8 @@ ghost use Rattle.uefi_node.specs.text.Network.{are_servers, is_server_at, server
 ghost use Rattle.uefi_node.specs.text.Network as forms;
 
 use crate::error::NodeConversionError;
-use crate::messaging::dns_addresses::DnsAddresses;
 use crate::media::partition_signature::are_zero;
+use crate::messaging::dns_addresses::DnsAddresses;
 use crate::read::{NodeValue, RestKind, bytes_at, read_node};
 use crate::text::arguments::{Ipv4Text, Ipv6Text};
 use crate::text::form::WriteText;

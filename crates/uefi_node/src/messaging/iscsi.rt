@@ -3,15 +3,15 @@ ghost use Rattle.uefi_node.specs.Layout.{IsValue, node_as};
 ghost use Rattle.uefi_node.specs.Reading.{ReadsAs};
 ghost use Rattle.uefi_node.specs.Messaging.{iscsi};
 ghost use Rattle.uefi_node.specs.text.Storage as forms;
-ghost use Rattle.std.specs.Prelude.{◌≡◌, Some, IsTrue, false, MatchOption};
+ghost use Rattle.std.specs.Prelude.{◌≡◌, Some, IsTrue};
 ghost use Rattle.std.specs.Fmt.{DisplaysOnOk};
-ghost use Rattle.uefi_node.specs.text.Arguments.{is_argument, is_nul_ended_argument, without_nul};
+ghost use Rattle.uefi_node.specs.text.Arguments.{is_argument};
 ghost use Rattle.uefi_node.specs.text.Storage.{header_digest, data_digest, authentication, authentication_bits, said_options, iscsi_text};
 
 use crate::error::NodeConversionError;
 use crate::messaging::iscsi_login_options::IscsiLoginOptions;
 use crate::read::{NodeValue, RestKind, bytes_at, read_node};
-use crate::text::arguments::{HexBytes, is_argument, write_argument};
+use crate::text::arguments::{HexBytes, nul_ended_argument, write_argument};
 use crate::text::form::WriteText;
 use crate::text::style::Style;
 use crate::write::{Tail, joined, write_node};
@@ -117,19 +117,6 @@ impl WriteText for Iscsi<'_> {
         let name = nul_ended_argument(self.iscsi_target_name)?;
         let (lun, tag) = (self.logical_unit_number, self.target_portal_group_tag);
         Some(write_iscsi(f, options, lun, tag, name))
-    }
-}
-
-/// Returns the text of bytes that are one that can be an argument, and a NUL.
-fn nul_ended_argument(bytes: &[u8]) -> Option<&[u8]>
-    ensures { MatchOption result (is_nul_ended_argument bytes.now ≡ false)
-        (λ name. IsTrue (is_nul_ended_argument bytes.now) × (name.now ≡ without_nul bytes.now)) }
-{
-    let (last, name) = bytes.split_last()?;
-    if *last == 0 && is_argument(name) {
-        Some(name)
-    } else {
-        None
     }
 }
 

@@ -1,8 +1,8 @@
 //! How arguments of nodes are written.
 
-ghost use Rattle.std.specs.Prelude.{◌≡◌, Some, IsTrue};
+ghost use Rattle.std.specs.Prelude.{◌≡◌, false, Some, IfSome, IfNone, IsTrue};
 ghost use Rattle.std.specs.Fmt.{DisplaysOnOk};
-ghost use Rattle.uefi_node.specs.text.Arguments.{hex_byte, hex_bytes, guid, ipv4_address, ipv6_address, four_groups, vendor_call, is_argument, is_argument_character};
+ghost use Rattle.uefi_node.specs.text.Arguments.{hex_byte, hex_bytes, guid, ipv4_address, ipv6_address, four_groups, vendor_call, is_argument, is_argument_character, is_nul_ended_argument, without_nul};
 
 use std::fmt;
 use uefi_base::Guid;
@@ -136,6 +136,21 @@ pub(crate) fn is_argument_character(c: u8) -> bool
     ensures { result ≡ is_argument_character c }
 {
     (0x20..0x7f).contains(&c) && c != b'(' && c != b')' && c != b','
+}
+
+/// Returns the text of bytes that are one that can be an argument, and a NUL.
+pub(crate) fn nul_ended_argument(bytes: &[u8]) -> Option<&[u8]>
+    ensures some { IfSome result (λ text. IsTrue (is_nul_ended_argument bytes.now)) }
+    ensures text { IfSome result (λ text. text.now ≡ without_nul bytes.now) }
+    ensures argument { IfSome result (λ text. IsTrue (is_argument text.now)) }
+    ensures none { IfNone result (is_nul_ended_argument bytes.now ≡ false) }
+{
+    let (last, text) = bytes.split_last()?;
+    if *last == 0 && is_argument(text) {
+        Some(text)
+    } else {
+        None
+    }
 }
 
 /// Writes a text that can be an argument.

@@ -184,6 +184,12 @@ fn write_network<W: fmt::Write>(
 {
     match node.sub_type() {
         DeviceSubType::MESSAGING_USB => write_read(f, node, messaging::Usb::try_from(*node), style),
+        DeviceSubType::MESSAGING_USB_WWID => write_read(
+            f,
+            node,
+            messaging::UsbWwid::try_from(*node),
+            style,
+        ),
         DeviceSubType::MESSAGING_USB_CLASS => write_read(
             f,
             node,
@@ -245,6 +251,7 @@ fn write_network<W: fmt::Write>(
             messaging::Wifi::try_from(*node),
             style,
         ),
+        DeviceSubType::MESSAGING_DNS => write_read(f, node, messaging::Dns::try_from(*node), style),
         _ => None,
     }
 }

@@ -10,5 +10,5 @@ abbrev pub invariant-loop-index : goal.invariant-loop-index
 invariant-loop-index g l =
     IsPlainFormatter l.fn.f → HasWritten g.W.Write.write_str_gives l.fn.f
     (codes "Dns(" ++ (server_at l.address_type l.bytes 0
-        ++ flat_map with_comma (map (server_at l.address_type l.bytes) (range_with_len 1 (l.index - 1)))))
+    ++ flat_map with_comma (map (server_at l.address_type l.bytes) (range_with_len 1 (l.index - 1)))))
     l.f
