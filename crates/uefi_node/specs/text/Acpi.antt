@@ -66,10 +66,13 @@ is_eisa_id id = nat_lt (id % 0x10000) 0x8000
 abbrev pub eisa_id_or_zero : ℕ → List ℕ
 eisa_id_or_zero id = if id == 0 then codes "0" else eisa_id id
 
--- `AcpiExp(HID,CID,UIDSTR)`, for a device with the string of `_UID` alone, and 0 as its number.
+-- Of the strings of a device that of `_UID` alone isn't empty.
+abbrev pub has_uid_alone : List ℕ → List ℕ → List ℕ → Bool
+has_uid_alone hid_str uid_str cid_str = length hid_str == 0 && length cid_str == 0 && not (length uid_str == 0)
+
+-- `AcpiExp(HID,CID,UIDSTR)`, for such a device with 0 as its number.
 abbrev pub is_short : ℕ → List ℕ → List ℕ → List ℕ → Bool
-is_short uid hid_str uid_str cid_str =
-    uid == 0 && length hid_str == 0 && length cid_str == 0 && not (length uid_str == 0)
+is_short uid hid_str uid_str cid_str = uid == 0 && has_uid_alone hid_str uid_str cid_str
 
 abbrev pub short_call : ℕ → ℕ → List ℕ → List ℕ
 short_call hid cid uid_str = call (codes "AcpiExp") (eisa_id hid ∷ eisa_id_or_zero cid ∷ uid_str ∷ [])
@@ -84,8 +87,8 @@ exact_text hid uid cid hid_str uid_str cid_str =
     if is_short uid hid_str uid_str cid_str then short_call hid cid uid_str
     else full_call hid uid cid hid_str uid_str cid_str
 
--- For display: `PciRoot(UIDSTR)` and `PcieRoot(UIDSTR)`, by the products of the identifiers; `AcpiExp(HID,CID,UIDSTR)`;
--- and else `AcpiEx(HIDSTR,CIDSTR,UIDSTR)`.
+-- For display: `PciRoot(UIDSTR)` and `PcieRoot(UIDSTR)`, by the products of the identifiers; `AcpiExp(HID,CID,UIDSTR)`,
+-- whatever the number is; and else `AcpiEx(HIDSTR,CIDSTR,UIDSTR)`.
 abbrev pub root_of_products : ℕ → ℕ → Option (List ℕ)
 root_of_products hid cid =
     if hid == 0x0a03 || (cid == 0x0a03 && not (hid == 0x0a08)) then Some (codes "PciRoot")
@@ -101,7 +104,7 @@ strings_call hid_str uid_str cid_str = call (codes "AcpiEx") (hid_str ∷ cid_st
 abbrev pub shown_as : Option (List ℕ) → ℕ → ℕ → ℕ → List ℕ → List ℕ → List ℕ → List ℕ
 shown_as (Some root) hid uid cid hid_str uid_str cid_str = call root (uid_str ∷ [])
 shown_as None hid uid cid hid_str uid_str cid_str =
-    if is_short uid hid_str uid_str cid_str then short_call hid cid uid_str
+    if has_uid_alone hid_str uid_str cid_str then short_call hid cid uid_str
     else strings_call hid_str uid_str cid_str
 
 -- The text of a device by its numbers and strings, if they are identifiers and arguments.

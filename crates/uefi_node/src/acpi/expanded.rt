@@ -5,7 +5,7 @@ ghost use Rattle.uefi_node.specs.Layout.{IsValue, node_as};
 ghost use Rattle.uefi_node.specs.Reading.{ReadsAs};
 ghost use Rattle.uefi_node.specs.Expanded.{expanded};
 ghost use Rattle.uefi_node.specs.text.Acpi as forms;
-ghost use Rattle.uefi_node.specs.text.Acpi.{has_text, expanded_text, exact_text, short_call, is_short, root_name, shown_as};
+ghost use Rattle.uefi_node.specs.text.Acpi.{has_text, expanded_text, exact_text, short_call, is_short, has_uid_alone, root_name, shown_as};
 ghost use Rattle.uefi_node.specs.text.Arguments.{closed};
 ghost use Rattle.uefi_node.specs.private.Writing.{WritesForm};
 
@@ -144,7 +144,8 @@ fn write_device<W: fmt::Write>(
     display_only: bool,
 ) -> Option<fmt::Result>
     ensures { let d = device.now in WritesForm W.write_str_gives f.old result
-        (expanded_text display_only d.hid d.uid d.cid d.hid_str.now d.uid_str.now d.cid_str.now) f.new }
+        (expanded_text display_only d.hid d.uid d.cid
+            d.hid_str.now d.uid_str.now d.cid_str.now) f.new }
 {
     if !has_text(device) {
         return None;
@@ -158,7 +159,8 @@ fn write_device<W: fmt::Write>(
 
 /// Returns whether the identifiers and the strings of a device can be written.
 fn has_text(device: &Expanded<'_>) -> bool
-    ensures { let d = device.now in result ≡ has_text d.hid d.cid d.hid_str.now d.uid_str.now d.cid_str.now }
+    ensures { let d = device.now
+        in result ≡ has_text d.hid d.cid d.hid_str.now d.uid_str.now d.cid_str.now }
 {
     is_eisa_id(device.hid)
         && is_eisa_id(device.cid)
@@ -169,16 +171,18 @@ fn has_text(device: &Expanded<'_>) -> bool
 
 /// Writes the form for display.
 fn write_shown<W: fmt::Write>(f: &mut fmt::Formatter<W>, device: &Expanded<'_>) -> fmt::Result
-    requires { let d = device.now in IsTrue (has_text d.hid d.cid d.hid_str.now d.uid_str.now d.cid_str.now) }
+    requires { let d = device.now
+        in IsTrue (has_text d.hid d.cid d.hid_str.now d.uid_str.now d.cid_str.now) }
     ensures { let d = device.now in DisplaysOnOk W.write_str_gives f.old result
-        (Some (shown_as (root_name d.hid d.cid) d.hid d.uid d.cid d.hid_str.now d.uid_str.now d.cid_str.now)) f.new }
+        (Some (shown_as (root_name d.hid d.cid) d.hid d.uid d.cid
+            d.hid_str.now d.uid_str.now d.cid_str.now)) f.new }
 {
     if let Some(root) = root_name(device.hid, device.cid) {
         write!(f, "{root}(")?;
         write_argument(f, device.uid_str)?;
         return write!(f, ")");
     }
-    if is_short(device) {
+    if has_uid_alone(device) {
         return write_short(f, device);
     }
     write!(f, "AcpiEx(")?;
@@ -187,7 +191,8 @@ fn write_shown<W: fmt::Write>(f: &mut fmt::Formatter<W>, device: &Expanded<'_>) 
 
 /// Writes the form with all parts of the device.
 fn write_exact<W: fmt::Write>(f: &mut fmt::Formatter<W>, device: &Expanded<'_>) -> fmt::Result
-    requires { let d = device.now in IsTrue (has_text d.hid d.cid d.hid_str.now d.uid_str.now d.cid_str.now) }
+    requires { let d = device.now
+        in IsTrue (has_text d.hid d.cid d.hid_str.now d.uid_str.now d.cid_str.now) }
     ensures { let d = device.now in DisplaysOnOk W.write_str_gives f.old result
         (Some (exact_text d.hid d.uid d.cid d.hid_str.now d.uid_str.now d.cid_str.now)) f.new }
 {
@@ -199,19 +204,26 @@ fn write_exact<W: fmt::Write>(f: &mut fmt::Formatter<W>, device: &Expanded<'_>) 
     write_strings(f, device)
 }
 
-/// Returns whether a device has the string of `_UID` alone of the strings, and no number for it.
+/// Returns whether the form with the string of `_UID` alone has all parts of the device.
 fn is_short(device: &Expanded<'_>) -> bool
-    ensures { let d = device.now in result ≡ is_short d.uid d.hid_str.now d.uid_str.now d.cid_str.now }
+    ensures { let d = device.now
+        in result ≡ is_short d.uid d.hid_str.now d.uid_str.now d.cid_str.now }
 {
-    device.uid == 0
-        && device.hid_str.is_empty()
-        && device.cid_str.is_empty()
-        && !device.uid_str.is_empty()
+    device.uid == 0 && has_uid_alone(device)
+}
+
+/// Returns whether of the strings that of `_UID` alone isn't empty.
+fn has_uid_alone(device: &Expanded<'_>) -> bool
+    ensures { let d = device.now
+        in result ≡ has_uid_alone d.hid_str.now d.uid_str.now d.cid_str.now }
+{
+    device.hid_str.is_empty() && device.cid_str.is_empty() && !device.uid_str.is_empty()
 }
 
 /// Writes the form of a device with the string of `_UID` alone.
 fn write_short<W: fmt::Write>(f: &mut fmt::Formatter<W>, device: &Expanded<'_>) -> fmt::Result
-    requires { let d = device.now in IsTrue (has_text d.hid d.cid d.hid_str.now d.uid_str.now d.cid_str.now) }
+    requires { let d = device.now
+        in IsTrue (has_text d.hid d.cid d.hid_str.now d.uid_str.now d.cid_str.now) }
     ensures { let d = device.now in DisplaysOnOk W.write_str_gives f.old result
         (Some (short_call d.hid d.cid d.uid_str.now)) f.new }
 {
@@ -223,7 +235,8 @@ fn write_short<W: fmt::Write>(f: &mut fmt::Formatter<W>, device: &Expanded<'_>) 
 
 /// Writes the strings as the last arguments.
 fn write_strings<W: fmt::Write>(f: &mut fmt::Formatter<W>, device: &Expanded<'_>) -> fmt::Result
-    requires { let d = device.now in IsTrue (has_text d.hid d.cid d.hid_str.now d.uid_str.now d.cid_str.now) }
+    requires { let d = device.now
+        in IsTrue (has_text d.hid d.cid d.hid_str.now d.uid_str.now d.cid_str.now) }
     ensures { let d = device.now in DisplaysOnOk W.write_str_gives f.old result
         (Some (closed (d.hid_str.now ∷ d.cid_str.now ∷ d.uid_str.now ∷ []))) f.new }
 {

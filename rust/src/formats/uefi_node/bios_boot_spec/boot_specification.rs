@@ -2,7 +2,7 @@
 
 use crate::formats::uefi_node::error::NodeConversionError;
 use crate::formats::uefi_node::read::{NodeValue, RestKind, read_node};
-use crate::formats::uefi_node::text::arguments::{is_argument, write_argument};
+use crate::formats::uefi_node::text::arguments::{nul_ended_argument, write_argument};
 use crate::formats::uefi_node::text::form::WriteText;
 use crate::formats::uefi_node::text::style::Style;
 use crate::formats::uefi_node::write::{Tail, joined, write_node};
@@ -101,19 +101,6 @@ impl WriteText for BootSpecification<'_> {
             write_full(f, kind, description, flag)
         })
     }
-}
-
-/// Returns the bytes without the NUL that they end with, if they are a text that can be an argument.
-#[inline]
-fn nul_ended_argument(bytes: &[u8]) -> Option<&[u8]> {
-    if bytes.is_empty() || bytes[bytes.len() - 1] != 0 {
-        return None;
-    }
-    let text = &bytes[..bytes.len() - 1];
-    if !is_argument(text) {
-        return None;
-    }
-    Some(text)
 }
 
 /// Writes the form for display.

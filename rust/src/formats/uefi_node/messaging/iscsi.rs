@@ -3,7 +3,7 @@
 use crate::formats::uefi_node::error::NodeConversionError;
 use crate::formats::uefi_node::messaging::iscsi_login_options::IscsiLoginOptions;
 use crate::formats::uefi_node::read::{NodeValue, RestKind, bytes_at, read_node};
-use crate::formats::uefi_node::text::arguments::{HexBytes, is_argument, write_argument};
+use crate::formats::uefi_node::text::arguments::{HexBytes, nul_ended_argument, write_argument};
 use crate::formats::uefi_node::text::form::WriteText;
 use crate::formats::uefi_node::text::style::Style;
 use crate::formats::uefi_node::write::{Tail, joined, write_node};
@@ -106,17 +106,6 @@ impl WriteText for Iscsi<'_> {
         let name = nul_ended_argument(self.iscsi_target_name)?;
         let (lun, tag) = (self.logical_unit_number, self.target_portal_group_tag);
         Some(write_iscsi(f, options, lun, tag, name))
-    }
-}
-
-/// Returns the text of bytes that are one that can be an argument, and a NUL.
-#[inline]
-fn nul_ended_argument(bytes: &[u8]) -> Option<&[u8]> {
-    let (last, name) = bytes.split_last()?;
-    if *last == 0 && is_argument(name) {
-        Some(name)
-    } else {
-        None
     }
 }
 

@@ -117,6 +117,17 @@ pub(crate) fn is_argument_character(c: u8) -> bool {
     (0x20..0x7f).contains(&c) && c != b'(' && c != b')' && c != b','
 }
 
+/// Returns the text of bytes that are one that can be an argument, and a NUL.
+#[inline]
+pub(crate) fn nul_ended_argument(bytes: &[u8]) -> Option<&[u8]> {
+    let (last, text) = bytes.split_last()?;
+    if *last == 0 && is_argument(text) {
+        Some(text)
+    } else {
+        None
+    }
+}
+
 /// Writes a text that can be an argument.
 #[inline]
 pub(crate) fn write_argument(f: &mut fmt::Formatter<'_>, text: &[u8]) -> fmt::Result {
@@ -139,10 +150,4 @@ pub(crate) fn write_vendor(
     } else {
         write!(f, "{name}({},{})", UpperGuid(guid), HexBytes(bytes))
     }
-}
-
-/// Returns whether all bytes are zero.
-#[inline]
-pub(crate) fn are_zeros(bytes: &[u8]) -> bool {
-    bytes.iter().all(|byte| *byte == 0)
 }

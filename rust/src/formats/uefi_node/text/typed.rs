@@ -168,6 +168,12 @@ fn write_network(
 ) -> Option<fmt::Result> {
     match node.sub_type() {
         DeviceSubType::MESSAGING_USB => write_read(f, node, messaging::Usb::try_from(*node), style),
+        DeviceSubType::MESSAGING_USB_WWID => write_read(
+            f,
+            node,
+            messaging::UsbWwid::try_from(*node),
+            style,
+        ),
         DeviceSubType::MESSAGING_USB_CLASS => write_read(
             f,
             node,
@@ -229,6 +235,7 @@ fn write_network(
             messaging::Wifi::try_from(*node),
             style,
         ),
+        DeviceSubType::MESSAGING_DNS => write_read(f, node, messaging::Dns::try_from(*node), style),
         _ => None,
     }
 }
