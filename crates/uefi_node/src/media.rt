@@ -15,7 +15,7 @@ pub use self::vendor::Vendor;
 mod cd_rom;
 mod file_path;
 mod hard_drive;
-mod partition_signature;
+pub(crate) mod partition_signature;
 mod piwg_firmware_file;
 mod piwg_firmware_volume;
 mod protocol;
