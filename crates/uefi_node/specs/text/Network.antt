@@ -4,10 +4,14 @@ use Rattle.std.specs.Prelude.{ℕ, ◌+◌, ◌*◌, ◌/◌, ◌==◌, ◌&&◌
 use Rattle.std.specs.Prelude.{Option, Some, None, if◌then◌else◌}
 use Rattle.std.specs.List.{list_all, position_or_len, range_with_len}
 use Rattle.std.specs.Fmt.{decimal}
+use Rattle.std.specs.Str.{bytes_eq}
+use Rattle.std.specs.Option.{option_map, unwrap_or}
+use Rattle.uefi_base.specs.LittleEndian.{u16_at, u32_at, u64_at}
 use Rattle.uefi_node.specs.Signature.{are_zero}
 use Rattle.uefi_node.specs.Messaging as messaging
-use Rattle.uefi_node.specs.text.Arguments.{call, hex, hex_bytes, long_hex, guid, ipv4_address, ipv6_address, is_argument, is_argument_character}
+use Rattle.uefi_node.specs.text.Arguments.{call, hex, hex_bytes, long_hex, guid, ipv4_address, ipv6_address, vendor_call, is_argument, is_argument_character}
 use Rattle.uefi_node.specs.text.Form.{Form, form}
+use Rattle.uefi_node.specs.text.Storage.{topology}
 use Rattle.uefi_node.specs.declared.messaging.usb.Usb.{Usb}
 use Rattle.uefi_node.specs.declared.messaging.usb_wwid.UsbWwid.{UsbWwid}
 use Rattle.uefi_node.specs.declared.messaging.usb_class.UsbClass.{UsbClass}
@@ -17,6 +21,7 @@ use Rattle.uefi_node.specs.declared.messaging.ipv6.Ipv6.{Ipv6}
 use Rattle.uefi_node.specs.declared.messaging.vlan.Vlan.{Vlan}
 use Rattle.uefi_node.specs.declared.messaging.infiniband.Infiniband.{Infiniband}
 use Rattle.uefi_node.specs.declared.messaging.uart.Uart.{Uart}
+use Rattle.uefi_node.specs.declared.messaging.vendor.Vendor.{Vendor}
 use Rattle.uefi_node.specs.declared.messaging.uri.Uri.{Uri}
 use Rattle.uefi_node.specs.declared.messaging.bluetooth.Bluetooth.{Bluetooth}
 use Rattle.uefi_node.specs.declared.messaging.wifi.Wifi.{Wifi}
@@ -214,3 +219,76 @@ servers_call kind bytes = call (codes "Dns") (map (server_at kind bytes) (range_
 abbrev pub dns : Form Dns
 dns = form messaging.dns (λ kind bytes.
     if not (length bytes == 0) && are_servers kind bytes then Some (servers_call kind bytes) else None)
+
+-- The GUIDs of vendors' nodes with a form of their own: PC-ANSI, VT-100, VT-100+ and VT-UTF8 terminals, debug ports, the
+-- flow control of serial ports, and SAS devices.
+-- e0c14753-f9be-11d2-9a0c-0090273fc14d
+abbrev pub pc_ansi : List ℕ
+pc_ansi = 0x53 ∷ 0x47 ∷ 0xc1 ∷ 0xe0 ∷ 0xbe ∷ 0xf9 ∷ 0xd2 ∷ 0x11 ∷ 0x9a ∷ 0x0c ∷ 0x00 ∷ 0x90 ∷ 0x27 ∷ 0x3f ∷ 0xc1 ∷ 0x4d ∷ []
+
+-- dfa66065-b419-11d3-9a2d-0090273fc14d
+abbrev pub vt100 : List ℕ
+vt100 = 0x65 ∷ 0x60 ∷ 0xa6 ∷ 0xdf ∷ 0x19 ∷ 0xb4 ∷ 0xd3 ∷ 0x11 ∷ 0x9a ∷ 0x2d ∷ 0x00 ∷ 0x90 ∷ 0x27 ∷ 0x3f ∷ 0xc1 ∷ 0x4d ∷ []
+
+-- 7baec70b-57e0-4c76-8e87-2f9e28088343
+abbrev pub vt100_plus : List ℕ
+vt100_plus = 0x0b ∷ 0xc7 ∷ 0xae ∷ 0x7b ∷ 0xe0 ∷ 0x57 ∷ 0x76 ∷ 0x4c ∷ 0x8e ∷ 0x87 ∷ 0x2f ∷ 0x9e ∷ 0x28 ∷ 0x08 ∷ 0x83 ∷ 0x43 ∷ []
+
+-- ad15a0d6-8bec-4acf-a073-d01de77e2d88
+abbrev pub vt_utf8 : List ℕ
+vt_utf8 = 0xd6 ∷ 0xa0 ∷ 0x15 ∷ 0xad ∷ 0xec ∷ 0x8b ∷ 0xcf ∷ 0x4a ∷ 0xa0 ∷ 0x73 ∷ 0xd0 ∷ 0x1d ∷ 0xe7 ∷ 0x7e ∷ 0x2d ∷ 0x88 ∷ []
+
+-- eba4e8d2-3858-41ec-a281-2647ba9660d0
+abbrev pub debug_port : List ℕ
+debug_port = 0xd2 ∷ 0xe8 ∷ 0xa4 ∷ 0xeb ∷ 0x58 ∷ 0x38 ∷ 0xec ∷ 0x41 ∷ 0xa2 ∷ 0x81 ∷ 0x26 ∷ 0x47 ∷ 0xba ∷ 0x96 ∷ 0x60 ∷ 0xd0 ∷ []
+
+-- 37499a9d-542f-4c89-a026-35da142094e4
+abbrev pub uart_flow_control : List ℕ
+uart_flow_control = 0x9d ∷ 0x9a ∷ 0x49 ∷ 0x37 ∷ 0x2f ∷ 0x54 ∷ 0x89 ∷ 0x4c ∷ 0xa0 ∷ 0x26 ∷ 0x35 ∷ 0xda ∷ 0x14 ∷ 0x20 ∷ 0x94 ∷ 0xe4 ∷ []
+
+-- d487ddb4-008b-11d9-afdc-001083ffca4d
+abbrev pub sas_device : List ℕ
+sas_device = 0xb4 ∷ 0xdd ∷ 0x87 ∷ 0xd4 ∷ 0x8b ∷ 0x00 ∷ 0xd9 ∷ 0x11 ∷ 0xaf ∷ 0xdc ∷ 0x00 ∷ 0x10 ∷ 0x83 ∷ 0xff ∷ 0xca ∷ 0x4d ∷ []
+
+-- The name of the form of a node without data.
+unfoldable pub terminal_name : List ℕ → Option (List ℕ)
+terminal_name id =
+    if bytes_eq id pc_ansi then Some (codes "VenPcAnsi")
+    else if bytes_eq id vt100 then Some (codes "VenVt100")
+    else if bytes_eq id vt100_plus then Some (codes "VenVt100Plus")
+    else if bytes_eq id vt_utf8 then Some (codes "VenUtf8")
+    else if bytes_eq id debug_port then Some (codes "DebugPort")
+    else None
+
+-- The name of a kind of flow control.
+abbrev pub flow_control_name : ℕ → Option (List ℕ)
+flow_control_name kind =
+    if kind == 0 then Some (codes "None")
+    else if kind == 1 then Some (codes "Hardware")
+    else if kind == 2 then Some (codes "XonXoff")
+    else None
+
+-- `SAS(ADDRESS,LUN,PORT,TOPOLOGY,RESERVED)`, of data that are the reserved bytes (four), the address (eight), the
+-- logical unit (eight), what is known of the device (two), and the port (two)
+abbrev pub sas_device_call : List ℕ → List ℕ
+sas_device_call bytes = call (codes "SAS") (
+    hex (u64_at bytes 4) ∷ hex (u64_at bytes 12) ∷ hex (u16_at bytes 22) ∷ topology (u16_at bytes 20)
+    ∷ hex (u32_at bytes 0) ∷ [])
+
+-- A form of a node's own, if it has one: `NAME()`, `UartFlowCtrl(NAME)`, or that of a SAS device
+abbrev pub vendor_shortcut : List ℕ → List ℕ → Option (List ℕ)
+vendor_shortcut id bytes =
+    if length bytes == 0 then option_map (λ name. call name []) (terminal_name id)
+    else if length bytes == 4 && bytes_eq id uart_flow_control
+    then option_map (λ name. call (codes "UartFlowCtrl") (name ∷ [])) (flow_control_name (u32_at bytes 0))
+    else if length bytes == 24 && bytes_eq id sas_device then Some (sas_device_call bytes)
+    else None
+
+-- A form of the node's own where these are allowed, and else `VenMsg(GUID)` or `VenMsg(GUID,DATA)`
+abbrev pub vendor : Form Vendor
+vendor = record {
+    layout = messaging.vendor;
+    text = λ style id bytes.
+        Some (unwrap_or (if style.allow_shortcuts then vendor_shortcut id bytes else None)
+            (vendor_call (codes "VenMsg") id bytes));
+}

@@ -108,7 +108,7 @@ impl WriteText for SasEx {
 
 /// What is known of a device, displayed as four arguments.
 #[derive(Clone, Copy)]
-struct Topology(u16);
+pub(crate) struct Topology(pub(crate) u16);
 
 impl fmt::Display for Topology {
     ghost output = { λ info. Some (topology info.0) };
