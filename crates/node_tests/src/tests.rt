@@ -14,4 +14,6 @@ mod paths;
 mod ports;
 mod refusals;
 mod signatures;
+mod text_rows;
+mod texts;
 mod writers;

@@ -45,6 +45,7 @@ mod uefi_map {
     pub use uefi_formats::proto::pci::*;
 }
 mod uefi_node {
+    pub use uefi_formats::proto::device_path::text::*;
     pub use uefi_formats::proto::device_path::*;
 
     /// The trait of `as_enum`, which is a call of the node itself in the package.

@@ -287,8 +287,8 @@ vendor_shortcut id bytes =
 -- A form of the node's own where these are allowed, and else `VenMsg(GUID)` or `VenMsg(GUID,DATA)`
 abbrev pub vendor : Form Vendor
 vendor = record {
-    layout = messaging.vendor;
-    text = λ style id bytes.
-        Some (unwrap_or (if style.allow_shortcuts then vendor_shortcut id bytes else None)
-            (vendor_call (codes "VenMsg") id bytes));
+  layout = messaging.vendor;
+  text = λ style id bytes.
+      Some (unwrap_or (if style.allow_shortcuts then vendor_shortcut id bytes else None)
+      (vendor_call (codes "VenMsg") id bytes));
 }

@@ -69,6 +69,7 @@ network_forms =
     ∷ of network.vlan
     ∷ of network.infiniband
     ∷ of network.uart
+    ∷ of network.vendor
     ∷ of network.uri
     ∷ of network.bluetooth
     ∷ of network.bluetooth_le

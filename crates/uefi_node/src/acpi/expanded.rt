@@ -145,7 +145,7 @@ fn write_device<W: fmt::Write>(
 ) -> Option<fmt::Result>
     ensures { let d = device.now in WritesForm W.write_str_gives f.old result
         (expanded_text display_only d.hid d.uid d.cid
-            d.hid_str.now d.uid_str.now d.cid_str.now) f.new }
+        d.hid_str.now d.uid_str.now d.cid_str.now) f.new }
 {
     if !has_text(device) {
         return None;
@@ -175,7 +175,7 @@ fn write_shown<W: fmt::Write>(f: &mut fmt::Formatter<W>, device: &Expanded<'_>) 
         in IsTrue (has_text d.hid d.cid d.hid_str.now d.uid_str.now d.cid_str.now) }
     ensures { let d = device.now in DisplaysOnOk W.write_str_gives f.old result
         (Some (shown_as (root_name d.hid d.cid) d.hid d.uid d.cid
-            d.hid_str.now d.uid_str.now d.cid_str.now)) f.new }
+        d.hid_str.now d.uid_str.now d.cid_str.now)) f.new }
 {
     if let Some(root) = root_name(device.hid, device.cid) {
         write!(f, "{root}(")?;

@@ -16,4 +16,6 @@ mod paths;
 mod ports;
 mod refusals;
 mod signatures;
+mod text_rows;
+mod texts;
 mod writers;

@@ -158,7 +158,7 @@ fn write_shown(f: &mut fmt::Formatter<'_>, device: &Expanded<'_>) -> fmt::Result
         write_argument(f, device.uid_str)?;
         return write!(f, ")");
     }
-    if is_short(device) {
+    if has_uid_alone(device) {
         return write_short(f, device);
     }
     write!(f, "AcpiEx(")?;
@@ -176,13 +176,16 @@ fn write_exact(f: &mut fmt::Formatter<'_>, device: &Expanded<'_>) -> fmt::Result
     write_strings(f, device)
 }
 
-/// Returns whether a device has the string of `_UID` alone of the strings, and no number for it.
+/// Returns whether the form with the string of `_UID` alone has all parts of the device.
 #[inline]
 fn is_short(device: &Expanded<'_>) -> bool {
-    device.uid == 0
-        && device.hid_str.is_empty()
-        && device.cid_str.is_empty()
-        && !device.uid_str.is_empty()
+    device.uid == 0 && has_uid_alone(device)
+}
+
+/// Returns whether of the strings that of `_UID` alone isn't empty.
+#[inline]
+fn has_uid_alone(device: &Expanded<'_>) -> bool {
+    device.hid_str.is_empty() && device.cid_str.is_empty() && !device.uid_str.is_empty()
 }
 
 /// Writes the form of a device with the string of `_UID` alone.

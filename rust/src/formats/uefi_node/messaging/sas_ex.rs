@@ -98,7 +98,7 @@ impl WriteText for SasEx {
 
 /// What is known of a device, displayed as four arguments.
 #[derive(Clone, Copy, Debug)]
-struct Topology(u16);
+pub(crate) struct Topology(pub(crate) u16);
 
 impl fmt::Display for Topology {
     fn fmt(&self, f: &mut fmt::Formatter<'_>) -> fmt::Result {

@@ -216,6 +216,12 @@ fn write_network(
             messaging::Uart::try_from(*node),
             style,
         ),
+        DeviceSubType::MESSAGING_VENDOR => write_read(
+            f,
+            node,
+            messaging::Vendor::try_from(*node),
+            style,
+        ),
         DeviceSubType::MESSAGING_URI => write_read(f, node, messaging::Uri::try_from(*node), style),
         DeviceSubType::MESSAGING_BLUETOOTH => write_read(
             f,
