@@ -13,6 +13,7 @@ ghost use Rattle.uefi_auditing.specs.content.Header.{ReadsHeader};
 ghost use Rattle.uefi_auditing.specs.content.Views.{content_of};
 ghost use Rattle.uefi_auditing.specs.declared.content.form.Form.TheVariants.{OfAuthority, OfCrtmVersion, OfDescribedBlob, OfGpt, OfImage, OfLoaderText, OfTagged, OfVariable};
 
+pub(crate) use self::path::path_text;
 pub use self::said::push_said;
 pub use self::tagged::TaggedData;
 pub use self::value::VariableValue;

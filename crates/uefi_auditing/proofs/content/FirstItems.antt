@@ -4,7 +4,7 @@ use Rattle.std.specs.Prelude.{min, slice_get}
 use Rattle.std.specs.List.{flat_map}
 use Rattle.std.proofs.lemmas.List.{take_all, take_min}
 use Rattle.std.proofs.lemmas.Option.{get_or_from_slice_get, slice_get-get_or}
-use Rattle.uefi_auditing.specs.content.Said.{shown_path_unit, shown_unit}
+use Rattle.uefi_auditing.specs.content.Said.{shown_unit}
 use Rattle.uefi_auditing.proofs.FirstOnes.{one_joined}
 
 -- The text grew by what a function gives for one more item.
@@ -17,17 +17,11 @@ one_grown f all old now new index item within at is more =
     (ap (λ it. flat_map f (take index all) ++ f it) (sym there)) in
     more ∙ ap (λ it. it ++ f item) is ∙ append_assoc old (flat_map f (take index all)) (f item) ∙ ap (λ it. old ++ it) joined
 
--- The units of a name, and those of a file path.
+-- The units of a name.
 pub units_grown : (all old now new : List ℕ) (index item : ℕ) → index < length all → slice_get all index ≡ Some item
     → now ≡ old ++ flat_map shown_unit (take index all) → new ≡ now ++ shown_unit item
     → new ≡ old ++ flat_map shown_unit (take (index + 1) all)
 units_grown all old now new index item within at is more = one_grown shown_unit all old now new index item within at is more
-
-pub path_grown : (all old now new : List ℕ) (index item : ℕ) → index < length all → slice_get all index ≡ Some item
-    → now ≡ old ++ flat_map shown_path_unit (take index all) → new ≡ now ++ shown_path_unit item
-    → new ≡ old ++ flat_map shown_path_unit (take (index + 1) all)
-path_grown all old now new index item within at is more =
-    one_grown shown_path_unit all old now new index item within at is more
 
 -- All of the first ones, of a list and of a part of it.
 pub first_shown : (f : ℕ → List ℕ) (all old now : List ℕ) (index most : ℕ) → index ≡ min most (length all)

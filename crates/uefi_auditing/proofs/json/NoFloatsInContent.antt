@@ -19,7 +19,7 @@ use Rattle.uefi_auditing.specs.json.Content.{content_json, image_json}
 use Rattle.uefi_auditing.specs.json.Firmware.{blob_json, described_json, gpt_json, header_json, partition_json, size_json, tagged_events_json, tagged_json}
 use Rattle.uefi_auditing.specs.json.Algorithm.{algorithm_json, name_or_number}
 use Rattle.uefi_auditing.specs.json.Names.{algorithm_name}
-use Rattle.uefi_auditing.specs.json.Parts.{node_json, nodes_json, path_json, with_rest}
+use Rattle.uefi_auditing.specs.json.Parts.{node_json, nodes_json, path_json, with_rest, with_text}
 use Rattle.uefi_auditing.specs.json.Values.{boot_option_json, certificate_json, hash_json, list_json, longest_hash, number_json, signature_json, value_json, variable_json, with_value}
 
 named : (name : Option (List ℕ)) (n : ℕ) → has_float (name_or_number name n) ≡ false
@@ -53,15 +53,17 @@ image_members n m k path =
     (member (codes "link_address") (number (unsigned k))
     (member (codes "path") path no_members)))
 
-with_all : (rest : List ℕ) (n m k : ℕ) (path : Data) → has_float path ≡ false
-    → has_float (object (with_rest rest (image_members n m k path))) ≡ false
-with_all [] n m k path none = rw none refl
-with_all (byte ∷ rest) n m k path none = rw none refl
+with_all : (rest : List ℕ) (found : Option (List Node)) (n m k : ℕ) (path : Data) → has_float path ≡ false
+    → has_float (object (with_text found (with_rest rest (image_members n m k path)))) ≡ false
+with_all [] None n m k path none = rw none refl
+with_all [] (Some nodes) n m k path none = rw none refl
+with_all (byte ∷ rest) None n m k path none = rw none refl
+with_all (byte ∷ rest) (Some nodes) n m k path none = rw none refl
 
 image_has : (read : Image) (found : Option (List Node)) → has_float (image_json read found) ≡ false
 unfolding image_json
 image_has read found =
-    with_all read.rest read.location_in_memory read.length_in_memory read.link_time_address (path_json read.device_path found)
+    with_all read.rest found read.location_in_memory read.length_in_memory read.link_time_address (path_json read.device_path found)
     (path read.device_path found)
 
 -- Values of variables.

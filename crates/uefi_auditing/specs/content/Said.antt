@@ -1,16 +1,15 @@
 -- What data say, in a few words on one line.
-use Rattle.std.specs.Prelude.{ℕ, ◌==◌, ◌%◌, ◌&&◌, ◌||◌, not, List, [], ◌∷◌, ◌++◌, take, length, codes, encode_utf8, Option, Some, None, Bool, false, if◌then◌else◌}
+use Rattle.std.specs.Prelude.{ℕ, ◌==◌, List, [], ◌++◌, take, length, codes, encode_utf8, Option, Some, None, false, if◌then◌else◌}
 use Rattle.std.specs.List.{flat_map}
 use Rattle.std.specs.Fmt.{decimal, digits}
 use Rattle.uefi_base.specs.GuidText.{guid_text, hex_byte}
-use Rattle.uefi_base.specs.Unaligned.{units_of}
 use Rattle.uefi_path.specs.Node.{Node}
-use Rattle.uefi_path.specs.Path.{all_but_last}
 use Rattle.uefi_tcg.specs.content.Blob.{Blob}
 use Rattle.uefi_tcg.specs.content.CrtmVersion.{CrtmVersion, ucs2, guid, other}
 use Rattle.uefi_tcg.specs.content.Image.{Image}
 use Rattle.uefi_tcg.specs.content.Text.{EventText, ascii, utf16}
 use Rattle.uefi_auditing.specs.content.Content.{Content, unread, text, separator, locality, header, loader_text, crtm_version, blob, described_blob, tagged, gpt, variable, image}
+use Rattle.uefi_auditing.specs.content.Path.{path_text}
 use Rattle.uefi_auditing.specs.json.Texts.{unit_text}
 use Rattle.uefi_auditing.specs.text.Names.{shown_name}
 
@@ -45,33 +44,15 @@ version_text (other it) = event_text it
 unfoldable pub blob_text : Blob → List ℕ
 blob_text it = codes "blob at 0x" ++ digits 16 false it.base
 
--- The data of the last node of a device path that is a file path (UEFI 2.10, 10.3.5.4); these bytes, if none is.
-abbrev pub is_file_path : Node → Bool
-is_file_path node = (node.device_type == 4) && (node.sub_type == 4)
-
-unfoldable pub last_file : List ℕ → List Node → List ℕ
-last_file found [] = found
-last_file found (node ∷ nodes) = last_file (if is_file_path node then node.payload else found) nodes
-
--- A unit of a file path: `/` for a backslash, nothing for the NUL.
-unfoldable pub shown_path_unit : ℕ → List ℕ
-shown_path_unit unit = if unit == 0 then [] else if unit == 0x5c then codes "/" else shown_unit unit
-
--- A file path of whole units; these bytes in hex, if there is none.
-unfoldable pub shown_file : List ℕ → List ℕ → List ℕ
-shown_file file bytes =
-    if (length file == 0) || not (length file % 2 == 0) then flat_map hex_byte (take shown_length bytes)
-    else flat_map shown_path_unit (take shown_length (units_of file))
-
--- A device path, by its nodes, if the bytes are one: its last file path; the first of the bytes in hex, if it has none.
-unfoldable pub path_text : List ℕ → Option (List Node) → List ℕ
-path_text bytes (Some nodes) = shown_file (last_file [] (all_but_last nodes)) bytes
-path_text bytes None = shown_file [] bytes
+-- A device path, by its nodes; the first of its bytes in hex, if they are no path.
+unfoldable pub path_words : List ℕ → Option (List Node) → List ℕ
+path_words bytes (Some nodes) = path_text nodes
+path_words bytes None = flat_map hex_byte (take shown_length bytes)
 
 -- An image, by its device path, if it has one.
 unfoldable pub image_text : Image → Option (List Node) → List ℕ
 image_text it nodes =
-    if length it.device_path == 0 then codes "image" else codes "image " ++ path_text it.device_path nodes
+    if length it.device_path == 0 then codes "image" else codes "image " ++ path_words it.device_path nodes
 
 -- What data say; nothing if they aren't read.
 unfoldable pub said : Content → List ℕ

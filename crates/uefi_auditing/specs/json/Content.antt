@@ -5,17 +5,17 @@ use Rattle.uefi_path.specs.Node.{Node}
 use Rattle.uefi_tcg.specs.content.Image.{Image}
 use Rattle.uefi_auditing.specs.content.Content.{Content, unread, text, separator, locality, header, loader_text, crtm_version, blob, described_blob, tagged, gpt, variable, image}
 use Rattle.uefi_auditing.specs.json.Firmware.{blob_json, described_json, gpt_json, header_json, tagged_events_json}
-use Rattle.uefi_auditing.specs.json.Parts.{only, path_json, with_rest}
+use Rattle.uefi_auditing.specs.json.Parts.{only, path_json, with_rest, with_text}
 use Rattle.uefi_auditing.specs.json.Texts.{event_text, version_text}
 use Rattle.uefi_auditing.specs.json.Values.{variable_json}
 
--- An image: its numbers, its device path, and the bytes after that.
+-- An image: its numbers, its device path, the bytes after that, and the path as text, if there is one.
 unfoldable pub image_json : Image → Option (List Node) → Data
-image_json read nodes = object (with_rest read.rest
+image_json read nodes = object (with_text nodes (with_rest read.rest
     (member (codes "address") (number (unsigned read.location_in_memory))
     (member (codes "length") (number (unsigned read.length_in_memory))
     (member (codes "link_address") (number (unsigned read.link_time_address))
-    (member (codes "path") (path_json read.device_path nodes) no_members)))))
+    (member (codes "path") (path_json read.device_path nodes) no_members))))))
 
 unfoldable pub content_json : Content → Data
 content_json unread = null

@@ -5,6 +5,7 @@ use Rattle.serde_json.specs.Data.{Data, Members, number, unsigned, string, array
 use Rattle.serde_json.specs.View.{items_of}
 use Rattle.uefi_path.specs.Node.{Node}
 use Rattle.uefi_path.specs.Path.{all_but_last}
+use Rattle.uefi_auditing.specs.content.Path.{path_text}
 
 -- An object with one key.
 abbrev pub only : List ℕ → Data → Data
@@ -30,3 +31,8 @@ nodes_json nodes = array (items_of (map node_json (all_but_last nodes)))
 unfoldable pub path_json : List ℕ → Option (List Node) → Data
 path_json bytes (Some nodes) = nodes_json nodes
 path_json bytes None = string (encode_lower bytes)
+
+-- The members, and the text of a device path, if there is one.
+abbrev pub with_text : Option (List Node) → Members → Members
+with_text (Some nodes) members = put (codes "text") (string (path_text nodes)) members
+with_text None members = members

@@ -9,17 +9,19 @@ use Rattle.uefi_base.specs.GuidText.{guid_text}
 use Rattle.uefi_path.specs.LoadOption.{LoadOption}
 use Rattle.uefi_tcg.specs.content.Signature.{Signature, SignatureList}
 use Rattle.uefi_tcg.specs.content.Variable.{Variable}
+use Rattle.uefi_auditing.specs.content.Path.{path_text}
 use Rattle.uefi_auditing.specs.content.Value.{Value, unread, boot_option, boot_order, signature_lists, signature}
 use Rattle.uefi_auditing.specs.json.Parts.{nodes_json, only}
 use Rattle.uefi_auditing.specs.json.Texts.{before_nul, unit_text}
 
--- A boot option: its attributes, its description, of which no unit is NUL, the data that the image is given in hex, and the nodes of its path.
+-- A boot option: its attributes, its description, of which no unit is NUL, the data that the image is given in hex, the nodes of its path, and the path as text.
 unfoldable pub boot_option_json : LoadOption → Data
 boot_option_json option =
     object (member (codes "attributes") (number (unsigned option.attributes))
     (member (codes "description") (string (flat_map unit_text (before_nul option.description)))
     (member (codes "optional_data") (string (encode_lower option.optional_data))
-    (member (codes "path") (nodes_json option.file_path) no_members))))
+    (member (codes "path") (nodes_json option.file_path)
+    (member (codes "text") (string (path_text option.file_path)) no_members)))))
 
 -- The number of an option.
 abbrev pub number_json : ℕ → Data

@@ -1,21 +1,21 @@
-ghost use Rattle.std.specs.Prelude.{◌≡◌, ◌++◌, [], codes, encode_utf8, take, OnOk, option_map};
+ghost use Rattle.std.specs.Prelude.{◌++◌, codes, encode_utf8, take, OnOk, option_map};
 ghost use Rattle.std.specs.List.{flat_map};
 ghost use Rattle.uefi_base.specs.Appending.{AppendsText};
 ghost use Rattle.uefi_base.specs.GuidText.{hex_byte};
 ghost use Rattle.uefi_base.specs.Views.{slice_units};
-ghost use Rattle.uefi_path.specs.Path.{all_but_last};
-ghost use Rattle.uefi_path.specs.Views.{node_of, path_nodes};
+ghost use Rattle.uefi_path.specs.Views.{path_nodes};
 ghost use Rattle.uefi_tcg.specs.content.Views.{blob_of, image_of, text_of, variable_of, version_of};
-ghost use Rattle.uefi_auditing.specs.content.Said.{blob_text, event_text, image_text, is_file_path, last_file, path_text, said, shown_bytes, shown_file, shown_length, shown_path_unit, shown_units, version_text};
+ghost use Rattle.uefi_auditing.specs.content.Said.{blob_text, event_text, image_text, path_words, said, shown_bytes, shown_length, shown_units, version_text};
 ghost use Rattle.uefi_auditing.specs.content.Views.{content_of};
 ghost use Rattle.uefi_auditing.specs.text.Names.{shown_name};
 
 use crate::content::Content;
+use crate::content::path::path_text;
 use crate::json::content::texts::character;
 use crate::text::ShownName;
 use std::alloc::AllocError;
 use uefi_base::UnalignedSlice;
-use uefi_path::{DevicePath, DevicePathNode};
+use uefi_path::DevicePath;
 use uefi_tcg::content::{
     CrtmVersion, EventText, ImageLoadEvent, PlatformFirmwareBlob, VariableData,
 };
@@ -27,7 +27,7 @@ const SHOWN_LENGTH: usize = 80;
 ///
 /// ```text
 /// variable SecureBoot
-/// image /EFI/BOOT/BOOTX64.EFI
+/// image PciRoot(0x0)/Pci(0x1F,0x2)/Sata(0x0,0xFFFF,0x0)/\EFI\BOOT\BOOTX64.EFI
 /// ```
 ///
 /// | data | words |
@@ -44,8 +44,8 @@ const SHOWN_LENGTH: usize = 80;
 /// | an image | `image` and its device path, if it has one |
 ///
 /// A text, a description or a name is shown as [`ShownName`] displays it, at most 80 characters of
-/// it. A device path is shown by its last file path, with `/` for each backslash, without NULs, and
-/// at most 80 units of it. If it has none, its bytes are in hex, at most 80 of them.
+/// it. A device path is shown whole, as [`uefi_node::to_text`] returns it. If the bytes are no path,
+/// they are in hex, at most 80 of them.
 ///
 /// # Errors
 ///
@@ -169,52 +169,23 @@ fn push_image(
     push_path(text, image.device_path, path)
 }
 
-/// Appends the last file path of a device path; these bytes in hex, if it has none.
-#[tactic(auto, unfolding(crate::specs::content::Said::path_text))]
+/// Appends the text of a device path; the first of these bytes in hex, if they are none.
+#[tactic(auto, unfolding(crate::specs::content::Said::path_words))]
 fn push_path(
     text: &mut String,
     bytes: &[u8],
     path: &Option<DevicePath<'_>>,
 ) -> Result<(), AllocError>
     ensures { OnOk result (AppendsText text.old text.new
-        (path_text bytes.now (option_map path_nodes path.now))) }
+        (path_words bytes.now (option_map path_nodes path.now))) }
 {
     match path {
-        Some(path) => push_file(text, last_file(path), bytes),
-        None => push_file(text, &[], bytes),
-    }
-}
-
-/// Returns the data of the last node that is a file path; no bytes, if none is.
-#[tactic(auto, unfolding(crate::specs::content::Said::last_file))]
-fn last_file<'a>(path: &DevicePath<'a>) -> &'a [u8]
-    ensures { result.now ≡ last_file [] (all_but_last (path_nodes path.now)) }
-{
-    let mut found: &'a [u8] = &[];
-    for node in path.node_iter() {
-        if is_file_path(&node) {
-            found = node.data();
+        Some(path) => {
+            let path = path_text(*path);
+            write!(text, "{path}")
         }
+        None => push_hex(text, bytes),
     }
-    found
-}
-
-/// Returns whether a node is a file path.
-fn is_file_path(node: &DevicePathNode<'_>) -> bool
-    ensures { result ≡ is_file_path (node_of node.now) }
-{
-    node.device_type().0 == 4 && node.sub_type().0 == 4
-}
-
-/// Appends a file path of whole units; the other bytes in hex, if there is none.
-#[tactic(auto, unfolding(crate::specs::content::Said::shown_file))]
-fn push_file(text: &mut String, file: &[u8], bytes: &[u8]) -> Result<(), AllocError>
-    ensures { OnOk result (AppendsText text.old text.new (shown_file file.now bytes.now)) }
-{
-    if file.is_empty() || file.len() % 2 != 0 {
-        return push_hex(text, bytes);
-    }
-    push_path_units(text, &UnalignedSlice::new(file))
 }
 
 /// Appends the first bytes in hex.
@@ -234,31 +205,4 @@ fn push_hex_byte(text: &mut String, byte: u8) -> Result<(), AllocError>
     ensures { OnOk result (AppendsText text.old text.new (hex_byte byte)) }
 {
     write!(text, "{byte:02x}")
-}
-
-/// Appends the first units of a file path.
-#[tactic(auto, using(crate::proofs::content::FirstItems::is_there))]
-fn push_path_units(text: &mut String, units: &UnalignedSlice<'_>) -> Result<(), AllocError>
-    ensures { OnOk result (AppendsText text.old text.new
-        (flat_map shown_path_unit (take shown_length (slice_units units.now)))) }
-{
-    for index in 0..SHOWN_LENGTH.min(units.len()) {
-        let Some(unit) = units.get(index) else {
-            return Ok(());
-        };
-        push_path_unit(text, unit)?;
-    }
-    Ok(())
-}
-
-/// Appends a unit of a file path: `/` for a backslash, nothing for the NUL.
-#[tactic(auto, unfolding(crate::specs::content::Said::shown_path_unit))]
-fn push_path_unit(text: &mut String, unit: u16) -> Result<(), AllocError>
-    ensures { OnOk result (AppendsText text.old text.new (shown_path_unit unit)) }
-{
-    match unit {
-        0 => Ok(()),
-        0x5c => text.push('/'),
-        _ => push_character(text, character(unit)),
-    }
 }

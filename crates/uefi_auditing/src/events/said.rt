@@ -1,8 +1,7 @@
-use crate::content::{Content, TaggedData};
+use crate::content::{Content, TaggedData, path_text};
 use crate::events::gpt::push_gpt;
 use crate::events::hex_lines::{push_hex, push_hex_lines};
 use crate::events::names::{push_algorithm, push_bytes, push_units};
-use crate::events::path::push_path;
 use crate::events::value::push_variable;
 use crate::text::ShownName;
 use std::alloc::{AllocError, Global};
@@ -150,9 +149,8 @@ fn push_image(
     )?;
     match path {
         Some(path) => {
-            text.push_str("  path ")?;
-            push_path(text, alloc, path)?;
-            text.push('\n')?;
+            let path = path_text(*path);
+            writeln!(text, "  path {path}")?;
         }
         None => push_hex_lines(text, alloc, "path", image.device_path)?,
     }

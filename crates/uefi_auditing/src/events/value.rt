@@ -1,7 +1,6 @@
-use crate::content::VariableValue;
+use crate::content::{VariableValue, path_text};
 use crate::events::hex_lines::push_hex_lines;
 use crate::events::names::{push_before_nul, push_units};
-use crate::events::path::push_path;
 use crate::events::signatures::{push_signature, push_signature_lists};
 use std::alloc::{AllocError, Global};
 use uefi_path::LoadOption;
@@ -36,9 +35,8 @@ fn push_boot_option(
     let attributes = option.attributes().bits();
     write!(text, "  boot option with attributes 0x{attributes:x}: ")?;
     push_before_nul(text, alloc, &option.description())?;
-    text.push_str("\n  path ")?;
-    push_path(text, alloc, &option.file_path())?;
-    text.push('\n')?;
+    let path = path_text(option.file_path());
+    writeln!(text, "\n  path {path}")?;
     push_hex_lines(text, alloc, "optional data", option.optional_data())
 }
 

@@ -8,7 +8,7 @@ ghost use Rattle.uefi_auditing.specs.content.Views.{content_of};
 use crate::content::Content;
 use crate::json::content::firmware::{blob_json, described_json, header_json, tagged_events_json};
 use crate::json::content::gpt::gpt_json;
-use crate::json::content::path::{only, path_json, put_rest};
+use crate::json::content::path::{only, path_json, put_rest, put_text};
 use crate::json::content::texts::{event_text, version_text};
 use crate::json::content::values::variable_json;
 use serde_json::{Map, Value, put};
@@ -53,7 +53,8 @@ pub(crate) fn content_json(alloc: Global, content: &Content<'_>) -> Result<Value
     }
 }
 
-/// Returns an image: its numbers, its device path, and the bytes after that, if there are any.
+/// Returns an image: its numbers, its device path, the bytes after that, if there are any, and the
+/// path as text, if there is one.
 #[tactic(auto, unfolding(crate::specs::json::Content::image_json))]
 fn image_json(
     alloc: Global,
@@ -70,8 +71,9 @@ fn image_json(
     put(&mut members, alloc, "length", length)?;
     let link_address = Value::from(image.link_time_address);
     put(&mut members, alloc, "link_address", link_address)?;
-    let path = path_json(alloc, image.device_path, path)?;
-    put(&mut members, alloc, "path", path)?;
+    let nodes = path_json(alloc, image.device_path, path)?;
+    put(&mut members, alloc, "path", nodes)?;
     put_rest(&mut members, alloc, image.rest)?;
+    put_text(&mut members, alloc, path)?;
     Ok(Value::Object(members))
 }

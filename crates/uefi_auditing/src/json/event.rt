@@ -57,14 +57,15 @@ use uefi_tcg::EventType;
 /// | `tagged_events` | `events`, each with `data` and `id`; `rest`, the bytes after them, if there are any |
 /// | `gpt` | `disk_guid`, `first_usable_lba`, `last_usable_lba`; `partitions`, each with `attributes`, `first_lba`, `last_lba`, `name`, `type_guid` and `unique_guid` |
 /// | `variable` | `data`, `guid`, `name`; `value`, if it is read: an object with one of the keys below |
-/// | `image` | `address`, `length`, `link_address`; `path`; `rest`, the bytes after it, if there are any |
+/// | `image` | `address`, `length`, `link_address`; `path`; `rest`, the bytes after it, if there are any; `text`, the path as text, if it is one |
 ///
 /// A path is an array of the nodes of a device path but the one that ends it, each with `data`,
-/// `subtype` and `type`. The path of an image is its bytes in hex, if they are no device path.
+/// `subtype` and `type`. The path of an image is its bytes in hex, if they are no device path. The
+/// text of a path is the one that [`uefi_node::to_text`] returns.
 ///
 /// | `value` | of |
 /// |---|---|
-/// | `boot_option`: `attributes`, `description`, `optional_data`, `path` | `Boot0000` and the like |
+/// | `boot_option`: `attributes`, `description`, `optional_data`, `path`, `text` | `Boot0000` and the like |
 /// | `boot_order`: an array of numbers | `BootOrder` |
 /// | `signature_lists`: each with `header`, `signatures` and `type`, a GUID | `PK`, `KEK`, `db`, `dbx` |
 /// | `signature` | in `EV_EFI_VARIABLE_AUTHORITY`: firmware's databases, shim's `MokList` |

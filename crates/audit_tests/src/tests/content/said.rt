@@ -93,30 +93,30 @@ const SAID: [[&str; 2]; 22] = [
         "variable �xxxxxxxxxxxxxxxxxxxxxxxxxxxxxxxxxxxxxxxxxxxxxxxxxxxxxxxxxxxxxxxxxxxxxxxxxx\
          xxxxx",
     ],
-    // An image by the last file path of its device path, or by the bytes of that.
+    // An image by its device path, or by the first of its bytes, if they are none.
     [
         "0100000003000080aaaaaaaaaaaaaaaaaaaaaaaaaaaaaaaaaaaaaaaa7a0000000010000000000000 \
          000200000000000000000000000000005a0000000000000002010c00d041030a0000000004041a00 \
          5c004500460049005c00660069007200730074000000040430005c004500460049005c0042004f00 \
          4f0054005c0042004f004f0054005800360034002e0045004600490000007fff0400",
-        "image /EFI/BOOT/BOOTX64.EFI",
+        "image PciRoot(0x0)/\\EFI\\first/\\EFI\\BOOT\\BOOTX64.EFI",
     ],
     [
         "0100000003000080aaaaaaaaaaaaaaaaaaaaaaaaaaaaaaaaaaaaaaaa800000000010000000000000 \
          00020000000000000000000000000000600000000000000002010c00d041030a0000000004041a00 \
          5c004500460049005c00660069007200730074000000040430005c004500460049005c0042004f00 \
          4f0054005c0042004f004f0054005800360034002e0045004600490000000101060000017fff0400",
-        "image /EFI/BOOT/BOOTX64.EFI",
+        "image PciRoot(0x0)/\\EFI\\first/\\EFI\\BOOT\\BOOTX64.EFI/Pci(0x1,0x0)",
     ],
     [
         "0100000003000080aaaaaaaaaaaaaaaaaaaaaaaaaaaaaaaaaaaaaaaa300000000010000000000000 \
          00020000000000000000000000000000100000000000000002010c00d041030a000000007fff0400",
-        "image 02010c00d041030a000000007fff0400",
+        "image PciRoot(0x0)",
     ],
     [
         "0100000003000080aaaaaaaaaaaaaaaaaaaaaaaaaaaaaaaaaaaaaaaa2b0000000010000000000000 \
          000200000000000000000000000000000b00000000000000040407006162637fff0400",
-        "image 040407006162637fff0400",
+        "image Path(4,4,616263)",
     ],
     [
         "0100000003000080aaaaaaaaaaaaaaaaaaaaaaaaaaaaaaaaaaaaaaaa710000000010000000000000 \

@@ -182,7 +182,7 @@ const LOGS: [[&str; 2]; 34] = [
          \x20 sha1 aaaaaaaaaaaaaaaaaaaaaaaaaaaaaaaaaaaaaaaa\n\
          \x20 variable Boot00AF, 8be4df61-93ca-11d2-aa0d-00e098032b8c\n\
          \x20 boot option with attributes 0x1: UEFI\\x0aOS\n\
-         \x20 path PciRoot(0x0)/Pci(0x1f,0x2)/HD(1,GPT,aaaaaaaa-bbbb-cccc-dddd-eeeeeeeeeeee,0x80\
+         \x20 path PciRoot(0x0)/Pci(0x1F,0x2)/HD(1,GPT,AAAAAAAA-BBBB-CCCC-DDDD-EEEEEEEEEEEE,0x80\
          0,0x64000)/\\EFI\\BOOT\\BOOTX64.EFI\n\
          \x20 optional data\n\
          \x20   abcd\n",
@@ -301,7 +301,7 @@ const LOGS: [[&str; 2]; 34] = [
         "a log: event 0 at offset 0: PCR 4, EV_EFI_BOOT_SERVICES_APPLICATION\n\
          \x20 sha1 aaaaaaaaaaaaaaaaaaaaaaaaaaaaaaaaaaaaaaaa\n\
          \x20 image at 0x1000, 512 bytes, linked for 0x0\n\
-         \x20 path PciRoot(0x0)/Pci(0x1f,0x2)/HD(1,GPT,aaaaaaaa-bbbb-cccc-dddd-eeeeeeeeeeee,0x80\
+         \x20 path PciRoot(0x0)/Pci(0x1F,0x2)/HD(1,GPT,AAAAAAAA-BBBB-CCCC-DDDD-EEEEEEEEEEEE,0x80\
          0,0x64000)/\\EFI\\BOOT\\BOOTX64.EFI\n",
     ],
     [

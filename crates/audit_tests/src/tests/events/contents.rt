@@ -258,14 +258,15 @@ const IMAGES: [[&str; 2]; 2] = [
         "0400000003000080aaaaaaaaaaaaaaaaaaaaaaaaaaaaaaaaaaaaaaaa410000000010000000000000 \
          00020000000000000000000000000000200000000000000002010c00d041030a0000000001010600 \
          021f04040a005c00610000007fff0400ee",
-        "{\"content\":{\"image\":{\"address\":4096,\"length\":512,\"link_address\":0,\"path\"\
-         :[{\"data\":\"d041030a00000000\",\"subtype\":1,\"type\":2},{\"data\":\"021f\",\"subt\
-         ype\":1,\"type\":1},{\"data\":\"5c0061000000\",\"subtype\":4,\"type\":4}],\"rest\":\
-         \"ee\"}},\"data\":\"0010000000000000000200000000000000000000000000002000000000000000\
-         02010c00d041030a0000000001010600021f04040a005c00610000007fff0400ee\",\"digests\":[{\
-         \"algorithm\":\"sha1\",\"digest\":\"aaaaaaaaaaaaaaaaaaaaaaaaaaaaaaaaaaaaaaaa\"}],\"h\
-         ashes_to\":[],\"index\":0,\"log\":\"a log\",\"offset\":0,\"register\":4,\"type\":{\"\
-         name\":\"EV_EFI_BOOT_SERVICES_APPLICATION\",\"number\":2147483651}}\n",
+        "{\"content\":{\"image\":{\"address\":4096,\"length\":512,\"link_address\":0,\"path\
+         \":[{\"data\":\"d041030a00000000\",\"subtype\":1,\"type\":2},{\"data\":\"021f\",\"s\
+         ubtype\":1,\"type\":1},{\"data\":\"5c0061000000\",\"subtype\":4,\"type\":4}],\"rest\
+         \":\"ee\",\"text\":\"PciRoot(0x0)/Pci(0x1F,0x2)/\\\\a\"}},\"data\":\"00100000000000\
+         0000020000000000000000000000000000200000000000000002010c00d041030a00000000010106000\
+         21f04040a005c00610000007fff0400ee\",\"digests\":[{\"algorithm\":\"sha1\",\"digest\"\
+         :\"aaaaaaaaaaaaaaaaaaaaaaaaaaaaaaaaaaaaaaaa\"}],\"hashes_to\":[],\"index\":0,\"log\
+         \":\"a log\",\"offset\":0,\"register\":4,\"type\":{\"name\":\"EV_EFI_BOOT_SERVICES_\
+         APPLICATION\",\"number\":2147483651}}\n",
     ],
 ];
 

@@ -173,7 +173,7 @@ const LOGS: [[&str; 2]; 12] = [
          00ee00",
         "{\"content\":{\"image\":{\"address\":18446744073709551615,\"length\":2,\"link_address\":3,\
          \"path\":[{\"data\":\"0a0b\",\"subtype\":2,\"type\":1},{\"data\":\"\",\"subtype\":5,\"type\
-         \":4}]}},\
+         \":4}],\"text\":\"Path(1,2,0A0B)/Path(4,5)/Path(127,255,EE)\"}},\
          \"data\":\"ffffffffffffffff020000000000000003000000000000000f00000000000000010206000a0b040\
          504007fff0500ee\",\
          \"digests\":[{\"algorithm\":\"sha1\",\

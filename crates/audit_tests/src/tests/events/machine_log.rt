@@ -49,20 +49,21 @@ const MACHINE_LINES: [(usize, &str); 5] = [
     ),
     (
         9,
-        "{\"content\":{\"image\":{\"address\":498802712,\"length\":174536,\"link_address\":0,\
-         \"path\":[{\"data\":\"d041030a00000000\",\"subtype\":1,\"type\":2},{\"data\":\"0002\
-         \",\"subtype\":1,\"type\":1},{\"data\":\"000000000026010000000000ffcf030000000000\",\
-         \"subtype\":8,\"type\":4}]}},\"data\":\"1820bb1d00000000c8a9020000000000000000000000\
-         00002e0000000000000002010c00d041030a000000000101060000020408180000000000002601000000\
-         0000ffcf0300000000007fff0400\",\"digests\":[{\"algorithm\":\"sha1\",\"digest\":\"2ff\
-         434b4a8c1abed6eb11146e83e3153517fcbb3\"},{\"algorithm\":\"sha256\",\"digest\":\"5fdd\
-         42d1b9ce2aa779d6732619d7dd6b306c4f2f480546c66497e712cc44cced\"},{\"algorithm\":\"sha\
-         384\",\"digest\":\"e0ee33221cd262ba1b42e483310284db9a1dea76747e68f1b41e77285628effbe\
-         03ff8ae1f7f5c9c5f3c8d9ab27adf42\"},{\"algorithm\":\"sha512\",\"digest\":\"9a7241aceb\
-         2ce044f3c7f0c053fa7b42ba7b182cbf04f0a44d227f6245fdae1dc4e60fef653a311303465a32f0c014\
-         6e176beb62283b2f44742e34e9127ca305\"}],\"hashes_to\":[],\"index\":9,\"log\":\"ovmf\"\
-         ,\"offset\":2008,\"register\":2,\"type\":{\"name\":\"EV_EFI_BOOT_SERVICES_DRIVER\",\
-         \"number\":2147483652}}",
+        "{\"content\":{\"image\":{\"address\":498802712,\"length\":174536,\"link_address\":0\
+         ,\"path\":[{\"data\":\"d041030a00000000\",\"subtype\":1,\"type\":2},{\"data\":\"000\
+         2\",\"subtype\":1,\"type\":1},{\"data\":\"000000000026010000000000ffcf030000000000\
+         \",\"subtype\":8,\"type\":4}],\"text\":\"PciRoot(0x0)/Pci(0x2,0x0)/Offset(0x12600,0\
+         x3CFFF)\"}},\"data\":\"1820bb1d00000000c8a902000000000000000000000000002e0000000000\
+         000002010c00d041030a0000000001010600000204081800000000000026010000000000ffcf0300000\
+         000007fff0400\",\"digests\":[{\"algorithm\":\"sha1\",\"digest\":\"2ff434b4a8c1abed6\
+         eb11146e83e3153517fcbb3\"},{\"algorithm\":\"sha256\",\"digest\":\"5fdd42d1b9ce2aa77\
+         9d6732619d7dd6b306c4f2f480546c66497e712cc44cced\"},{\"algorithm\":\"sha384\",\"dige\
+         st\":\"e0ee33221cd262ba1b42e483310284db9a1dea76747e68f1b41e77285628effbe03ff8ae1f7f\
+         5c9c5f3c8d9ab27adf42\"},{\"algorithm\":\"sha512\",\"digest\":\"9a7241aceb2ce044f3c7\
+         f0c053fa7b42ba7b182cbf04f0a44d227f6245fdae1dc4e60fef653a311303465a32f0c0146e176beb6\
+         2283b2f44742e34e9127ca305\"}],\"hashes_to\":[],\"index\":9,\"log\":\"ovmf\",\"offse\
+         t\":2008,\"register\":2,\"type\":{\"name\":\"EV_EFI_BOOT_SERVICES_DRIVER\",\"number\
+         \":2147483652}}",
     ),
     (
         13,

@@ -10,31 +10,32 @@ const BOOT_OPTIONS: [[&str; 2]; 6] = [
          aa0d00e098032b8c0800000000000000380000000000000042006f006f0074003000300041004600 \
          09000000200055004500460049000a004f005300000002010c00d041030a0000000001010600021f \
          04040a005c00610000007fff0400abcd",
-        "{\"content\":{\"variable\":{\"data\":\"09000000200055004500460049000a004f00530000000\
-         2010c00d041030a0000000001010600021f04040a005c00610000007fff0400abcd\",\"guid\":\"8be\
-         4df61-93ca-11d2-aa0d-00e098032b8c\",\"name\":\"Boot00AF\",\"value\":{\"boot_option\"\
-         :{\"attributes\":9,\"description\":\"UEFI\\nOS\",\"optional_data\":\"abcd\",\"path\"\
-         :[{\"data\":\"d041030a00000000\",\"subtype\":1,\"type\":2},{\"data\":\"021f\",\"subt\
-         ype\":1,\"type\":1},{\"data\":\"5c0061000000\",\"subtype\":4,\"type\":4}]}}}},\"data\
-         \":\"61dfe48bca93d211aa0d00e098032b8c0800000000000000380000000000000042006f006f00740\
-         0300030004100460009000000200055004500460049000a004f005300000002010c00d041030a0000000\
-         001010600021f04040a005c00610000007fff0400abcd\",\"digests\":[{\"algorithm\":\"sha1\"\
-         ,\"digest\":\"aaaaaaaaaaaaaaaaaaaaaaaaaaaaaaaaaaaaaaaa\"}],\"hashes_to\":[],\"index\
-         \":0,\"log\":\"a log\",\"offset\":0,\"register\":1,\"type\":{\"name\":\"EV_EFI_VARIA\
-         BLE_BOOT\",\"number\":2147483650}}\n",
+        "{\"content\":{\"variable\":{\"data\":\"09000000200055004500460049000a004f0053000000\
+         02010c00d041030a0000000001010600021f04040a005c00610000007fff0400abcd\",\"guid\":\"8\
+         be4df61-93ca-11d2-aa0d-00e098032b8c\",\"name\":\"Boot00AF\",\"value\":{\"boot_optio\
+         n\":{\"attributes\":9,\"description\":\"UEFI\\nOS\",\"optional_data\":\"abcd\",\"pa\
+         th\":[{\"data\":\"d041030a00000000\",\"subtype\":1,\"type\":2},{\"data\":\"021f\",\
+         \"subtype\":1,\"type\":1},{\"data\":\"5c0061000000\",\"subtype\":4,\"type\":4}],\"t\
+         ext\":\"PciRoot(0x0)/Pci(0x1F,0x2)/\\\\a\"}}}},\"data\":\"61dfe48bca93d211aa0d00e09\
+         8032b8c0800000000000000380000000000000042006f006f0074003000300041004600090000002000\
+         55004500460049000a004f005300000002010c00d041030a0000000001010600021f04040a005c00610\
+         000007fff0400abcd\",\"digests\":[{\"algorithm\":\"sha1\",\"digest\":\"aaaaaaaaaaaaa\
+         aaaaaaaaaaaaaaaaaaaaaaaaaaa\"}],\"hashes_to\":[],\"index\":0,\"log\":\"a log\",\"of\
+         fset\":0,\"register\":1,\"type\":{\"name\":\"EV_EFI_VARIABLE_BOOT\",\"number\":2147\
+         483650}}\n",
     ],
     [
         "010000000c000080aaaaaaaaaaaaaaaaaaaaaaaaaaaaaaaaaaaaaaaa3d00000061dfe48bca93d211 \
          aa0d00e098032b8c08000000000000000d0000000000000042006f006f0074004600460046004600 \
          01000000050000007fff0400ee",
-        "{\"content\":{\"variable\":{\"data\":\"01000000050000007fff0400ee\",\"guid\":\"8be4d\
-         f61-93ca-11d2-aa0d-00e098032b8c\",\"name\":\"BootFFFF\",\"value\":{\"boot_option\":{\
-         \"attributes\":1,\"description\":\"\",\"optional_data\":\"\",\"path\":[]}}}},\"data\
-         \":\"61dfe48bca93d211aa0d00e098032b8c08000000000000000d0000000000000042006f006f00740\
-         0460046004600460001000000050000007fff0400ee\",\"digests\":[{\"algorithm\":\"sha1\",\
-         \"digest\":\"aaaaaaaaaaaaaaaaaaaaaaaaaaaaaaaaaaaaaaaa\"}],\"hashes_to\":[],\"index\"\
-         :0,\"log\":\"a log\",\"offset\":0,\"register\":1,\"type\":{\"name\":\"EV_EFI_VARIABL\
-         E_BOOT2\",\"number\":2147483660}}\n",
+        "{\"content\":{\"variable\":{\"data\":\"01000000050000007fff0400ee\",\"guid\":\"8be4\
+         df61-93ca-11d2-aa0d-00e098032b8c\",\"name\":\"BootFFFF\",\"value\":{\"boot_option\"\
+         :{\"attributes\":1,\"description\":\"\",\"optional_data\":\"\",\"path\":[],\"text\"\
+         :\"\"}}}},\"data\":\"61dfe48bca93d211aa0d00e098032b8c08000000000000000d000000000000\
+         0042006f006f007400460046004600460001000000050000007fff0400ee\",\"digests\":[{\"algo\
+         rithm\":\"sha1\",\"digest\":\"aaaaaaaaaaaaaaaaaaaaaaaaaaaaaaaaaaaaaaaa\"}],\"hashes\
+         _to\":[],\"index\":0,\"log\":\"a log\",\"offset\":0,\"register\":1,\"type\":{\"name\
+         \":\"EV_EFI_VARIABLE_BOOT2\",\"number\":2147483660}}\n",
     ],
     [
         "0100000002000080aaaaaaaaaaaaaaaaaaaaaaaaaaaaaaaaaaaaaaaa3800000061dfe48bca93d211 \

@@ -1,9 +1,12 @@
 ghost use Rattle.std.specs.Prelude.{◌≡◌, map, IfOk, OnOk, option_map};
+ghost use Rattle.serde_json.specs.Data.{string};
 ghost use Rattle.serde_json.specs.View.{view, members_view};
 ghost use Rattle.uefi_path.specs.Path.{all_but_last};
 ghost use Rattle.uefi_path.specs.Views.{node_of, path_nodes};
-ghost use Rattle.uefi_auditing.specs.json.Parts.{node_json, nodes_json, only, path_json, with_rest};
+ghost use Rattle.uefi_auditing.specs.content.Path.{path_text};
+ghost use Rattle.uefi_auditing.specs.json.Parts.{node_json, nodes_json, only, path_json, with_rest, with_text};
 
+use crate::content::path_text;
 use crate::json::event::hex_json;
 use serde_json::{Map, Value, json, put};
 use std::alloc::{AllocError, Global};
@@ -32,6 +35,32 @@ pub(crate) fn put_rest(
     }
     let rest = hex_json(alloc, rest)?;
     put(members, alloc, "rest", rest)
+}
+
+/// Adds the text of a device path, if there is one.
+pub(crate) fn put_text(
+    members: &mut Map<String, Value>,
+    alloc: Global,
+    path: &Option<DevicePath<'_>>,
+) -> Result<(), AllocError>
+    ensures { OnOk result (members_view members.new.entries
+        ≡ with_text (option_map path_nodes path.now) (members_view members.old.entries)) }
+{
+    match path {
+        Some(path) => {
+            let text = text_json(alloc, *path)?;
+            put(members, alloc, "text", text)
+        }
+        None => Ok(()),
+    }
+}
+
+/// Returns the text of a device path.
+pub(crate) fn text_json(alloc: Global, path: DevicePath<'_>) -> Result<Value, AllocError>
+    ensures { IfOk result (λ value. view value ≡ string (path_text (path_nodes path.entry))) }
+{
+    let text = path_text(path).to_string(alloc)?;
+    Ok(Value::String(text))
 }
 
 /// Returns the nodes of a device path before the one that ends it; the bytes in hex, if they are no

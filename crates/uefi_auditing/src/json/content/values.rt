@@ -10,7 +10,7 @@ ghost use Rattle.uefi_auditing.specs.json.Texts.{before_nul, unit_text};
 ghost use Rattle.uefi_auditing.specs.json.Values.{boot_option_json, number_json, value_json, variable_json, with_value};
 
 use crate::content::VariableValue;
-use crate::json::content::path::{nodes_json, only};
+use crate::json::content::path::{nodes_json, only, text_json};
 use crate::json::content::signatures::{lists_json, signature_json};
 use crate::json::content::texts::{guid_json, name_text, text_before_nul};
 use crate::json::event::hex_json;
@@ -93,7 +93,8 @@ fn said(alloc: Global, key: &str, value: Value) -> Result<Option<Value>, AllocEr
     Ok(Some(value))
 }
 
-/// Returns a boot option: its attributes, its description, the data for its image, and its path.
+/// Returns a boot option: its attributes, its description, the data for its image, and its path,
+/// also as text.
 #[tactic(auto, unfolding(crate::specs::json::Values::boot_option_json))]
 fn boot_option_json(alloc: Global, option: &LoadOption<'_>) -> Result<Value, AllocError>
     ensures { IfOk result (λ value. view value ≡ boot_option_json (load_option_of option.now)) }
@@ -112,6 +113,8 @@ fn boot_option_json(alloc: Global, option: &LoadOption<'_>) -> Result<Value, All
     put(&mut members, alloc, "optional_data", optional_data)?;
     let path = nodes_json(alloc, &option.file_path())?;
     put(&mut members, alloc, "path", path)?;
+    let text = text_json(alloc, option.file_path())?;
+    put(&mut members, alloc, "text", text)?;
     Ok(Value::Object(members))
 }
 
