@@ -67,7 +67,7 @@ impl fmt::Display for Stamp {
 /// A name with its NUL, displayed as a space and its characters, four hex digits each; as nothing
 /// if it has none.
 #[derive(Clone, Copy)]
-struct Name<'a>(UnalignedSlice<'a>);
+pub(crate) struct Name<'a>(pub(crate) UnalignedSlice<'a>);
 
 impl fmt::Display for Name<'_> {
     ghost output = { λ name. Some (name_field (characters_of (slice_units name.0))) };
