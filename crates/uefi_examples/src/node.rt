@@ -1,15 +1,18 @@
-ghost use Rattle.std.specs.Prelude.{◌≡◌, [], ◌∷◌, IfOk, IfSome};
+ghost use Rattle.std.specs.Prelude.{◌≡◌, [], ◌∷◌, false, string_bytes, IfOk, IfSome};
 ghost use Rattle.std.specs.List.{Any};
 ghost use Rattle.uefi_path.specs.Node.{end_entire};
 ghost use Rattle.uefi_path.specs.Path.{all_but_last};
 ghost use Rattle.uefi_path.specs.Views.{path_nodes};
 ghost use Rattle.uefi_node.specs.Layout.{IsNodeAs, node_as};
 ghost use Rattle.uefi_node.specs.Media.{hard_drive, file_path};
+ghost use Rattle.uefi_node.specs.text.PathText.{path_text};
+ghost use Rattle.uefi_node.specs.text.Style.{style};
 ghost use Rattle.uefi_node.specs.declared.media.hard_drive.HardDrive.{HardDrive};
 
+use std::alloc::{AllocError, Global};
 use uefi_node::laws::{faithful_types, one_signature, one_way_to_split, worked_rows};
 use uefi_node::media::{FilePath, HardDrive};
-use uefi_node::{DevicePathNodeEnum, DevicePathNodeExt};
+use uefi_node::{AllowShortcuts, DevicePathNodeEnum, DevicePathNodeExt, DisplayOnly, to_text};
 use uefi_path::DevicePath;
 use uefi_path::build::{BuildError, DevicePathBuilder};
 
@@ -40,6 +43,15 @@ pub fn boot_path<'a>(
         .push(drive)?
         .push(file)?
         .finalize()
+}
+
+/// Returns the text of a path, such as `PciRoot(0x0)/Pci(0x2,0x0)`.
+pub fn path_string(alloc: Global, path: DevicePath<'_>) -> Result<String, AllocError>
+    ensures { IfOk result (λ text. string_bytes text
+        ≡ path_text (style false false) (path_nodes path.entry)) }
+{
+    let text = to_text(path, DisplayOnly(false), AllowShortcuts(false));
+    format!(in alloc; "{text}")
 }
 
 /// Calls each law of typed nodes.
