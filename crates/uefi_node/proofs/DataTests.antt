@@ -1,10 +1,9 @@
 -- The tests of the length and the form of data say what the definitions say.
-use Rattle.std.proofs.Common.{◌≡◌, ℕ, ◌+◌, ◌-◌, ◌%◌, ◌==◌, ◌≤◌, ◌<◌, List, length, drop, Bool, true, false, cond, ◌&&◌, IsTrue}
-use Rattle.std.proofs.Common.{refl, sym, ◌∙◌, ap, arith, nat_le}
+use Rattle.std.proofs.Common.{ℕ, ◌-◌, ◌%◌, ◌==◌, ◌≤◌, List, length, drop, cond}
+use Rattle.std.proofs.Common.{refl, arith, nat_le}
 use Rattle.std.specs.Bool.{Decides}
-use Rattle.std.specs.Prelude.{slice_index, if◌then◌else◌}
-use Rattle.std.proofs.lemmas.Bool.Decides.{Decides-eqb, Decides-and, Decides-like, nat_tests}
-use Rattle.uefi_node.specs.NulStrings.{AreStrings, are_three_strings}
+use Rattle.std.specs.Prelude.{slice_index}
+use Rattle.std.proofs.lemmas.Bool.Decides.{Decides-eqb, Decides-and, nat_tests}
 use Rattle.uefi_node.specs.Layout.{Form, any, three_strings, vendor_or_none, Layout, fields_size, kind_of, RestLength, HasForm, IsService}
 use Rattle.uefi_node.specs.Reading.{HasLength}
 use Rattle.uefi_node.specs.text.Form.{is_rest_length, has_form, is_data}

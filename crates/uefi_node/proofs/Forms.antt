@@ -1,15 +1,14 @@
 -- The text of a value is that of its data.
-use Rattle.std.proofs.Common.{◌≡◌, ℕ, ◌+◌, ◌-◌, ◌%◌, ◌==◌, ◌≤◌, List, [], ◌∷◌, ◌++◌, length, take, drop, Bool, true, false, IsTrue, ◌&&◌, cond}
-use Rattle.std.proofs.Common.{refl, sym, ◌∙◌, ap, arith, append_assoc, nat_le, Option, Some, None, subst}
+use Rattle.std.proofs.Common.{◌≡◌, ℕ, List, [], ◌∷◌, ◌++◌, take, drop, Bool, true, false, cond}
+use Rattle.std.proofs.Common.{refl, ◌∙◌, ap, append_assoc, None}
 use Rattle.std.proofs.lemmas.List.{take_at, drop_at}
-use Rattle.std.specs.Int.{from_le_bytes}
 use Rattle.std.specs.List.{AllByRecursion}
 use Rattle.uefi_base.proofs.UnitsBack.{units_read_back}
 use Rattle.uefi_node.specs.Layout.{Field, byte, number, array, Rest, nothing, bytes, units, numbers, addresses, vendor}
-use Rattle.uefi_node.specs.Layout.{Layout, field_size, field_bytes, FieldFits, fields_bytes, rest_bytes, RestFits, FitsLayout, value_bytes, width}
-use Rattle.uefi_node.specs.text.Form.{Form, FieldValue, OfRest, OfFields, field_of, rest_text, fields_text, value_text, field_in, rest_in, fields_in}
-use Rattle.uefi_node.specs.Layout.{IsNodeAs, HasForm}
-use Rattle.uefi_node.specs.Reading.{HasLength, HasType, HasReadingFault}
+use Rattle.uefi_node.specs.Layout.{field_size, field_bytes, FieldFits, fields_bytes, rest_bytes, RestFits, value_bytes}
+use Rattle.uefi_node.specs.text.Form.{Form, OfRest, OfFields, field_of, rest_text, fields_text, value_text, field_in, rest_in, fields_in}
+use Rattle.uefi_node.specs.Layout.{IsNodeAs}
+use Rattle.uefi_node.specs.Reading.{HasType, HasReadingFault}
 use Rattle.uefi_node.specs.declared.error.NodeConversionError.{NodeConversionError}
 use Rattle.uefi_node.specs.declared.error.NodeConversionError.TheVariants.{DifferentType, UnsupportedType, Length, Form as WrongForm}
 use Rattle.uefi_node.specs.declared.text.style.Style.{Style}

@@ -1,6 +1,6 @@
 -- The form in which a type of nodes is written, as a function of its fields (UEFI 2.10, 10.6.1.6).
-use Rattle.std.specs.Prelude.{ℕ, ◌≡◌, ◌+◌, ◌-◌, ◌%◌, ◌==◌, ◌&&◌, Bool, true, false, nat_le, List, [], ◌∷◌, ◌++◌, take, drop, length, slice_index}
-use Rattle.std.specs.Prelude.{Option, Some, None, if◌then◌else◌}
+use Rattle.std.specs.Prelude.{ℕ, ◌-◌, ◌%◌, ◌==◌, ◌&&◌, Bool, true, nat_le, List, [], ◌∷◌, take, drop, length, slice_index}
+use Rattle.std.specs.Prelude.{Option, None, if◌then◌else◌}
 use Rattle.std.specs.Int.{from_le_bytes}
 use Rattle.uefi_base.specs.Unaligned.{units_of}
 use Rattle.uefi_node.specs.NulStrings.{are_three_strings}

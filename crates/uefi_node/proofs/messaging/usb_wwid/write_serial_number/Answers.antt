@@ -1,4 +1,4 @@
-use Rattle.std.proofs.Common.{rules, arith, ◌≡◌, ℕ, ◌<◌, ◌+◌, Bool, List, [], ◌∷◌, length, slice_index, IsTrue, sym}
+use Rattle.std.proofs.Common.{rules, arith, ℕ, ◌<◌, Bool, List, [], ◌∷◌, length, slice_index, IsTrue, sym}
 use Rattle.std.specs.List.{list_all}
 use Rattle.std.proofs.lemmas.Grind.{common_steps, put_two}
 use Rattle.std.proofs.lemmas.List.{take_more}

@@ -1,6 +1,5 @@
-use Rattle.std.proofs.Common.{◌≡◌, ℕ, subst, sym, refl}
+use Rattle.std.proofs.Common.{refl}
 use Rattle.uefi_path.specs.Views.{node_of}
-use Rattle.uefi_node.specs.private.Writing.{WritesForm}
 use Rattle.uefi_node.proofs.Forms.{text_of_value, no_text}
 use Rattle.uefi_node.proofs.text.form.write_read.Goals as goal
 

@@ -1,6 +1,6 @@
-use Rattle.std.proofs.Common.{◌≡◌, ◌∙◌, [], ◌∷◌, ◌++◌, ap, sym, subst, refl, true}
+use Rattle.std.proofs.Common.{◌∙◌, [], ◌∷◌, ◌++◌, ap, sym, refl, true}
 use Rattle.uefi_path.specs.Views.{node_of, nodes_left}
-use Rattle.uefi_node.proofs.PathTexts.{WritesUpTo, none_written, next_written, end_written, no_end_written}
+use Rattle.uefi_node.proofs.PathTexts.{none_written, next_written, end_written, no_end_written}
 use Rattle.uefi_node.proofs.text.path_text.write_nodes.Goals as goal
 
 pub loop-node-init : goal.loop-node-init
