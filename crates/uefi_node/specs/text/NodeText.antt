@@ -22,7 +22,7 @@ pub record TypeForm : Type 0 where
 abbrev pub of : {R : Type 0} → Form R → TypeForm
 of form = record { sub_type = form.layout.sub_type; text = data_text form }
 
--- The forms of the types of nodes: HARDWARE, ACPI, MESSAGING for storage and for the rest, MEDIA and BIOS_BOOT_SPEC.
+-- The forms of the types of nodes: HARDWARE, ACPI, MESSAGING for drives and for the rest, MEDIA and BIOS_BOOT_SPEC.
 abbrev pub hardware_forms : List TypeForm
 hardware_forms =
     of hardware.pci
@@ -44,8 +44,6 @@ abbrev pub storage_forms : List TypeForm
 storage_forms =
     of storage.atapi
     ∷ of storage.scsi
-    ∷ of storage.fibre_channel
-    ∷ of storage.fibre_channel_ex
     ∷ of storage.ieee1394
     ∷ of storage.sata
     ∷ of storage.device_logical_unit
@@ -60,7 +58,9 @@ storage_forms =
 
 abbrev pub network_forms : List TypeForm
 network_forms =
-    of network.usb
+    of storage.fibre_channel
+    ∷ of storage.fibre_channel_ex
+    ∷ of network.usb
     ∷ of network.usb_wwid
     ∷ of network.usb_class
     ∷ of network.mac_address

@@ -121,7 +121,8 @@ fn write_short<W: fmt::Write>(
     description: &[u8],
 ) -> fmt::Result
     requires { IsTrue (is_argument description.now) }
-    ensures { DisplaysOnOk W.write_str_gives f.old result (Some (boot_device true kind 0 description.now)) f.new }
+    ensures { DisplaysOnOk W.write_str_gives f.old result
+        (Some (boot_device true kind 0 description.now)) f.new }
 {
     write!(f, "BBS({},", DeviceTypeText(kind))?;
     write_argument(f, description)?;
@@ -136,7 +137,8 @@ fn write_full<W: fmt::Write>(
     flag: u16,
 ) -> fmt::Result
     requires { IsTrue (is_argument description.now) }
-    ensures { DisplaysOnOk W.write_str_gives f.old result (Some (boot_device false kind flag description.now)) f.new }
+    ensures { DisplaysOnOk W.write_str_gives f.old result
+        (Some (boot_device false kind flag description.now)) f.new }
 {
     write!(f, "BBS({},", DeviceTypeText(kind))?;
     write_argument(f, description)?;

@@ -143,7 +143,9 @@ fn write_mbr<W: fmt::Write>(
     style: Style,
     signature: [u8; 16],
 ) -> fmt::Result
-    ensures { DisplaysOnOk W.write_str_gives f.old result (Some (drive_text style.display_only drive.now (codes "MBR") (mbr_signature signature))) f.new }
+    ensures { DisplaysOnOk W.write_str_gives f.old result
+        (Some (drive_text style.display_only drive.now
+        (codes "MBR") (mbr_signature signature))) f.new }
 {
     let (number, start, size) = (
         drive.partition_number,
@@ -167,7 +169,8 @@ fn write_gpt<W: fmt::Write>(
     style: Style,
     signature: [u8; 16],
 ) -> fmt::Result
-    ensures { DisplaysOnOk W.write_str_gives f.old result (Some (drive_text style.display_only drive.now (codes "GPT") (guid signature))) f.new }
+    ensures { DisplaysOnOk W.write_str_gives f.old result
+        (Some (drive_text style.display_only drive.now (codes "GPT") (guid signature))) f.new }
 {
     let (number, start, size) = (
         drive.partition_number,
@@ -189,7 +192,8 @@ fn write_other<W: fmt::Write>(
     style: Style,
     kind: u8,
 ) -> fmt::Result
-    ensures { DisplaysOnOk W.write_str_gives f.old result (Some (drive_text style.display_only drive.now (decimal kind) (codes "0"))) f.new }
+    ensures { DisplaysOnOk W.write_str_gives f.old result
+        (Some (drive_text style.display_only drive.now (decimal kind) (codes "0"))) f.new }
 {
     let (number, start, size) = (
         drive.partition_number,

@@ -129,7 +129,8 @@ fn write_iscsi<W: fmt::Write>(
     name: &[u8],
 ) -> fmt::Result
     requires { IsTrue (is_argument name.now) }
-    ensures { DisplaysOnOk W.write_str_gives f.old result (Some (iscsi_text options lun tag name.now)) f.new }
+    ensures { DisplaysOnOk W.write_str_gives f.old result
+        (Some (iscsi_text options lun tag name.now)) f.new }
 {
     let (headers, data) = (header_digest(options), data_digest(options));
     let (lun, authentication) = (HexBytes(&lun), authentication(options));

@@ -171,7 +171,8 @@ pub(crate) fn write_vendor<W: fmt::Write>(
     guid: Guid,
     bytes: &[u8],
 ) -> fmt::Result
-    ensures { DisplaysOnOk W.write_str_gives f.old result (Some (vendor_call name.now guid.0 bytes.now)) f.new }
+    ensures { DisplaysOnOk W.write_str_gives f.old result
+        (Some (vendor_call name.now guid.0 bytes.now)) f.new }
 {
     if bytes.is_empty() {
         write!(f, "{name}({})", UpperGuid(guid))

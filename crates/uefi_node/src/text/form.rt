@@ -20,7 +20,8 @@ pub(crate) trait WriteText: Copy {
         f: &mut fmt::Formatter<W>,
         style: Style,
     ) -> Option<fmt::Result>
-        ensures { WritesForm W.write_str_gives f.old result (value_text form style self.now) f.new };
+        ensures { WritesForm W.write_str_gives f.old result
+            (value_text form style self.now) f.new };
 }
 
 /// Writes a node that was read in its form, if it is one of the type, and the form has all of it.

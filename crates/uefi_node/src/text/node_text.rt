@@ -55,8 +55,8 @@ pub(crate) fn write_node<W: fmt::Write>(
     }
 }
 
-/// Writes a node in the form that each node has: `Path(TYPE,SUBTYPE,DATA)`, with the data in hex, or
-/// `Path(TYPE,SUBTYPE)` if it has no data.
+/// Writes a node in the form that each node has: `Path(TYPE,SUBTYPE,DATA)`, with the data in hex,
+/// or `Path(TYPE,SUBTYPE)` if it has no data.
 #[tactic(auto, unfolding(crate::specs::text::NodeText::generic_text))]
 fn write_generic<W: fmt::Write>(f: &mut fmt::Formatter<W>, node: &DevicePathNode<'_>) -> fmt::Result
     ensures { DisplaysOnOk W.write_str_gives f.old result

@@ -3,12 +3,23 @@ ghost use Rattle.uefi_path.specs.Views.{node_of};
 ghost use Rattle.uefi_node.specs.text.NodeText.{hardware_forms, acpi_forms, storage_forms, network_forms, media_forms, bios_boot_spec_forms, text_in, typed_text};
 ghost use Rattle.uefi_node.specs.private.Writing.{WritesForm};
 
+use crate::acpi::{Acpi, Adr, Expanded};
 use crate::bios_boot_spec::BootSpecification;
+use crate::hardware::{Bmc, Controller, MemoryMapped, Pccard, Pci};
+use crate::media::{
+    CdRom, FilePath, HardDrive, PiwgFirmwareFile, PiwgFirmwareVolume, Protocol, RamDisk,
+    RelativeOffsetRange,
+};
+use crate::messaging::{
+    Atapi, Bluetooth, BluetoothLe, DeviceLogicalUnit, Dns, Emmc, FibreChannel, FibreChannelEx, I2o,
+    Ieee1394, Infiniband, Ipv4, Ipv6, Iscsi, MacAddress, NvmeNamespace, SasEx, Sata, Scsi, Sd,
+    Uart, Ufs, Uri, Usb, UsbClass, UsbWwid, Vlan, Wifi,
+};
 use crate::text::form::write_read;
 use crate::text::style::Style;
-use crate::{acpi, hardware, media, messaging};
+use crate::{hardware, media, messaging};
 use std::fmt;
-use uefi_path::{DevicePathNode, DeviceSubType, DeviceType};
+use uefi_path::{DevicePathNode, DeviceSubType as SubType, DeviceType};
 
 /// Writes a node in the form of its type, or returns `None` and writes nothing if there is no such
 /// form or it lacks a part of the node.
@@ -17,7 +28,8 @@ pub(crate) fn write_typed<W: fmt::Write>(
     node: &DevicePathNode<'_>,
     style: Style,
 ) -> Option<fmt::Result>
-    ensures { WritesForm W.write_str_gives f.old result (typed_text style (node_of node.now)) f.new }
+    ensures { WritesForm W.write_str_gives f.old result
+        (typed_text style (node_of node.now)) f.new }
 {
     match node.device_type() {
         DeviceType::HARDWARE => write_hardware(f, node, style),
@@ -40,32 +52,17 @@ fn write_hardware<W: fmt::Write>(
         (text_in hardware_forms style (node_of node.now)) f.new }
 {
     match node.sub_type() {
-        DeviceSubType::HARDWARE_PCI => write_read(f, node, hardware::Pci::try_from(*node), style),
-        DeviceSubType::HARDWARE_PCCARD => write_read(
+        SubType::HARDWARE_PCI => write_read(f, node, Pci::try_from(*node), style),
+        SubType::HARDWARE_PCCARD => write_read(f, node, Pccard::try_from(*node), style),
+        SubType::HARDWARE_MEMORY_MAPPED => write_read(
             f,
             node,
-            hardware::Pccard::try_from(*node),
+            MemoryMapped::try_from(*node),
             style,
         ),
-        DeviceSubType::HARDWARE_MEMORY_MAPPED => write_read(
-            f,
-            node,
-            hardware::MemoryMapped::try_from(*node),
-            style,
-        ),
-        DeviceSubType::HARDWARE_VENDOR => write_read(
-            f,
-            node,
-            hardware::Vendor::try_from(*node),
-            style,
-        ),
-        DeviceSubType::HARDWARE_CONTROLLER => write_read(
-            f,
-            node,
-            hardware::Controller::try_from(*node),
-            style,
-        ),
-        DeviceSubType::HARDWARE_BMC => write_read(f, node, hardware::Bmc::try_from(*node), style),
+        SubType::HARDWARE_VENDOR => write_read(f, node, hardware::Vendor::try_from(*node), style),
+        SubType::HARDWARE_CONTROLLER => write_read(f, node, Controller::try_from(*node), style),
+        SubType::HARDWARE_BMC => write_read(f, node, Bmc::try_from(*node), style),
         _ => None,
     }
 }
@@ -81,9 +78,9 @@ fn write_acpi<W: fmt::Write>(
         (text_in acpi_forms style (node_of node.now)) f.new }
 {
     match node.sub_type() {
-        DeviceSubType::ACPI => write_read(f, node, acpi::Acpi::try_from(*node), style),
-        DeviceSubType::ACPI_EXPANDED => write_read(f, node, acpi::Expanded::try_from(*node), style),
-        DeviceSubType::ACPI_ADR => write_read(f, node, acpi::Adr::try_from(*node), style),
+        SubType::ACPI => write_read(f, node, Acpi::try_from(*node), style),
+        SubType::ACPI_EXPANDED => write_read(f, node, Expanded::try_from(*node), style),
+        SubType::ACPI_ADR => write_read(f, node, Adr::try_from(*node), style),
         _ => None,
     }
 }
@@ -99,80 +96,33 @@ fn write_messaging<W: fmt::Write>(
         (text_in (storage_forms ++ network_forms) style (node_of node.now)) f.new }
 {
     match node.sub_type() {
-        DeviceSubType::MESSAGING_ATAPI => write_read(
+        SubType::MESSAGING_ATAPI => write_read(f, node, Atapi::try_from(*node), style),
+        SubType::MESSAGING_SCSI => write_read(f, node, Scsi::try_from(*node), style),
+        SubType::MESSAGING_1394 => write_read(f, node, Ieee1394::try_from(*node), style),
+        SubType::MESSAGING_SATA => write_read(f, node, Sata::try_from(*node), style),
+        SubType::MESSAGING_DEVICE_LOGICAL_UNIT => write_read(
             f,
             node,
-            messaging::Atapi::try_from(*node),
+            DeviceLogicalUnit::try_from(*node),
             style,
         ),
-        DeviceSubType::MESSAGING_SCSI => write_read(
+        SubType::MESSAGING_I2O => write_read(f, node, I2o::try_from(*node), style),
+        SubType::MESSAGING_SCSI_SAS_EX => write_read(f, node, SasEx::try_from(*node), style),
+        SubType::MESSAGING_ISCSI => write_read(f, node, Iscsi::try_from(*node), style),
+        SubType::MESSAGING_NVME_NAMESPACE => write_read(
             f,
             node,
-            messaging::Scsi::try_from(*node),
+            NvmeNamespace::try_from(*node),
             style,
         ),
-        DeviceSubType::MESSAGING_FIBRE_CHANNEL => write_read(
-            f,
-            node,
-            messaging::FibreChannel::try_from(*node),
-            style,
-        ),
-        DeviceSubType::MESSAGING_FIBRE_CHANNEL_EX => write_read(
-            f,
-            node,
-            messaging::FibreChannelEx::try_from(*node),
-            style,
-        ),
-        DeviceSubType::MESSAGING_1394 => write_read(
-            f,
-            node,
-            messaging::Ieee1394::try_from(*node),
-            style,
-        ),
-        DeviceSubType::MESSAGING_SATA => write_read(
-            f,
-            node,
-            messaging::Sata::try_from(*node),
-            style,
-        ),
-        DeviceSubType::MESSAGING_DEVICE_LOGICAL_UNIT => write_read(
-            f,
-            node,
-            messaging::DeviceLogicalUnit::try_from(*node),
-            style,
-        ),
-        DeviceSubType::MESSAGING_I2O => write_read(f, node, messaging::I2o::try_from(*node), style),
-        DeviceSubType::MESSAGING_SCSI_SAS_EX => write_read(
-            f,
-            node,
-            messaging::SasEx::try_from(*node),
-            style,
-        ),
-        DeviceSubType::MESSAGING_ISCSI => write_read(
-            f,
-            node,
-            messaging::Iscsi::try_from(*node),
-            style,
-        ),
-        DeviceSubType::MESSAGING_NVME_NAMESPACE => write_read(
-            f,
-            node,
-            messaging::NvmeNamespace::try_from(*node),
-            style,
-        ),
-        DeviceSubType::MESSAGING_UFS => write_read(f, node, messaging::Ufs::try_from(*node), style),
-        DeviceSubType::MESSAGING_SD => write_read(f, node, messaging::Sd::try_from(*node), style),
-        DeviceSubType::MESSAGING_EMMC => write_read(
-            f,
-            node,
-            messaging::Emmc::try_from(*node),
-            style,
-        ),
+        SubType::MESSAGING_UFS => write_read(f, node, Ufs::try_from(*node), style),
+        SubType::MESSAGING_SD => write_read(f, node, Sd::try_from(*node), style),
+        SubType::MESSAGING_EMMC => write_read(f, node, Emmc::try_from(*node), style),
         _ => write_network(f, node, style),
     }
 }
 
-/// The same for a node of the type MESSAGING that does not lead to storage.
+/// The same for a node of the type MESSAGING that leads to no drive.
 fn write_network<W: fmt::Write>(
     f: &mut fmt::Formatter<W>,
     node: &DevicePathNode<'_>,
@@ -183,81 +133,33 @@ fn write_network<W: fmt::Write>(
         (text_in network_forms style (node_of node.now)) f.new }
 {
     match node.sub_type() {
-        DeviceSubType::MESSAGING_USB => write_read(f, node, messaging::Usb::try_from(*node), style),
-        DeviceSubType::MESSAGING_USB_WWID => write_read(
+        SubType::MESSAGING_FIBRE_CHANNEL => write_read(
             f,
             node,
-            messaging::UsbWwid::try_from(*node),
+            FibreChannel::try_from(*node),
             style,
         ),
-        DeviceSubType::MESSAGING_USB_CLASS => write_read(
+        SubType::MESSAGING_FIBRE_CHANNEL_EX => write_read(
             f,
             node,
-            messaging::UsbClass::try_from(*node),
+            FibreChannelEx::try_from(*node),
             style,
         ),
-        DeviceSubType::MESSAGING_MAC_ADDRESS => write_read(
-            f,
-            node,
-            messaging::MacAddress::try_from(*node),
-            style,
-        ),
-        DeviceSubType::MESSAGING_IPV4 => write_read(
-            f,
-            node,
-            messaging::Ipv4::try_from(*node),
-            style,
-        ),
-        DeviceSubType::MESSAGING_IPV6 => write_read(
-            f,
-            node,
-            messaging::Ipv6::try_from(*node),
-            style,
-        ),
-        DeviceSubType::MESSAGING_VLAN => write_read(
-            f,
-            node,
-            messaging::Vlan::try_from(*node),
-            style,
-        ),
-        DeviceSubType::MESSAGING_INFINIBAND => write_read(
-            f,
-            node,
-            messaging::Infiniband::try_from(*node),
-            style,
-        ),
-        DeviceSubType::MESSAGING_UART => write_read(
-            f,
-            node,
-            messaging::Uart::try_from(*node),
-            style,
-        ),
-        DeviceSubType::MESSAGING_VENDOR => write_read(
-            f,
-            node,
-            messaging::Vendor::try_from(*node),
-            style,
-        ),
-        DeviceSubType::MESSAGING_URI => write_read(f, node, messaging::Uri::try_from(*node), style),
-        DeviceSubType::MESSAGING_BLUETOOTH => write_read(
-            f,
-            node,
-            messaging::Bluetooth::try_from(*node),
-            style,
-        ),
-        DeviceSubType::MESSAGING_BLUETOOTH_LE => write_read(
-            f,
-            node,
-            messaging::BluetoothLe::try_from(*node),
-            style,
-        ),
-        DeviceSubType::MESSAGING_WIFI => write_read(
-            f,
-            node,
-            messaging::Wifi::try_from(*node),
-            style,
-        ),
-        DeviceSubType::MESSAGING_DNS => write_read(f, node, messaging::Dns::try_from(*node), style),
+        SubType::MESSAGING_USB => write_read(f, node, Usb::try_from(*node), style),
+        SubType::MESSAGING_USB_WWID => write_read(f, node, UsbWwid::try_from(*node), style),
+        SubType::MESSAGING_USB_CLASS => write_read(f, node, UsbClass::try_from(*node), style),
+        SubType::MESSAGING_MAC_ADDRESS => write_read(f, node, MacAddress::try_from(*node), style),
+        SubType::MESSAGING_IPV4 => write_read(f, node, Ipv4::try_from(*node), style),
+        SubType::MESSAGING_IPV6 => write_read(f, node, Ipv6::try_from(*node), style),
+        SubType::MESSAGING_VLAN => write_read(f, node, Vlan::try_from(*node), style),
+        SubType::MESSAGING_INFINIBAND => write_read(f, node, Infiniband::try_from(*node), style),
+        SubType::MESSAGING_UART => write_read(f, node, Uart::try_from(*node), style),
+        SubType::MESSAGING_VENDOR => write_read(f, node, messaging::Vendor::try_from(*node), style),
+        SubType::MESSAGING_URI => write_read(f, node, Uri::try_from(*node), style),
+        SubType::MESSAGING_BLUETOOTH => write_read(f, node, Bluetooth::try_from(*node), style),
+        SubType::MESSAGING_BLUETOOTH_LE => write_read(f, node, BluetoothLe::try_from(*node), style),
+        SubType::MESSAGING_WIFI => write_read(f, node, Wifi::try_from(*node), style),
+        SubType::MESSAGING_DNS => write_read(f, node, Dns::try_from(*node), style),
         _ => None,
     }
 }
@@ -273,50 +175,30 @@ fn write_media<W: fmt::Write>(
         (text_in media_forms style (node_of node.now)) f.new }
 {
     match node.sub_type() {
-        DeviceSubType::MEDIA_HARD_DRIVE => write_read(
+        SubType::MEDIA_HARD_DRIVE => write_read(f, node, HardDrive::try_from(*node), style),
+        SubType::MEDIA_CD_ROM => write_read(f, node, CdRom::try_from(*node), style),
+        SubType::MEDIA_VENDOR => write_read(f, node, media::Vendor::try_from(*node), style),
+        SubType::MEDIA_FILE_PATH => write_read(f, node, FilePath::try_from(*node), style),
+        SubType::MEDIA_PROTOCOL => write_read(f, node, Protocol::try_from(*node), style),
+        SubType::MEDIA_PIWG_FIRMWARE_FILE => write_read(
             f,
             node,
-            media::HardDrive::try_from(*node),
+            PiwgFirmwareFile::try_from(*node),
             style,
         ),
-        DeviceSubType::MEDIA_CD_ROM => write_read(f, node, media::CdRom::try_from(*node), style),
-        DeviceSubType::MEDIA_VENDOR => write_read(f, node, media::Vendor::try_from(*node), style),
-        DeviceSubType::MEDIA_FILE_PATH => write_read(
+        SubType::MEDIA_PIWG_FIRMWARE_VOLUME => write_read(
             f,
             node,
-            media::FilePath::try_from(*node),
+            PiwgFirmwareVolume::try_from(*node),
             style,
         ),
-        DeviceSubType::MEDIA_PROTOCOL => write_read(
+        SubType::MEDIA_RELATIVE_OFFSET_RANGE => write_read(
             f,
             node,
-            media::Protocol::try_from(*node),
+            RelativeOffsetRange::try_from(*node),
             style,
         ),
-        DeviceSubType::MEDIA_PIWG_FIRMWARE_FILE => write_read(
-            f,
-            node,
-            media::PiwgFirmwareFile::try_from(*node),
-            style,
-        ),
-        DeviceSubType::MEDIA_PIWG_FIRMWARE_VOLUME => write_read(
-            f,
-            node,
-            media::PiwgFirmwareVolume::try_from(*node),
-            style,
-        ),
-        DeviceSubType::MEDIA_RELATIVE_OFFSET_RANGE => write_read(
-            f,
-            node,
-            media::RelativeOffsetRange::try_from(*node),
-            style,
-        ),
-        DeviceSubType::MEDIA_RAM_DISK => write_read(
-            f,
-            node,
-            media::RamDisk::try_from(*node),
-            style,
-        ),
+        SubType::MEDIA_RAM_DISK => write_read(f, node, RamDisk::try_from(*node), style),
         _ => None,
     }
 }
@@ -332,7 +214,7 @@ fn write_bios_boot_spec<W: fmt::Write>(
         (text_in bios_boot_spec_forms style (node_of node.now)) f.new }
 {
     match node.sub_type() {
-        DeviceSubType::BIOS_BOOT_SPECIFICATION => write_read(
+        SubType::BIOS_BOOT_SPECIFICATION => write_read(
             f,
             node,
             BootSpecification::try_from(*node),
