@@ -41,6 +41,16 @@ fn each_command_is_asked_for_by_its_words(rt: HostRuntime) -> Result<(), Fail> {
 fn a_command_and_a_file_ask_for_a_listing(rt: HostRuntime) -> Result<(), Fail> {
     asks(rt.alloc(), &["path", "boot.dp"], Some(Command::Path))?;
     asks(rt.alloc(), &["path", "path"], Some(Command::Path))?;
+    asks(
+        rt.alloc(),
+        &["pathtext", "boot.dp"],
+        Some(Command::PathText),
+    )?;
+    asks(
+        rt.alloc(),
+        &["option", "boot.opt"],
+        Some(Command::LoadOption),
+    )?;
     asks(rt.alloc(), &["time", "boot.time"], Some(Command::Time))?;
     asks(rt.alloc(), &["config", "setup.txt"], Some(Command::Config))?;
     asks(rt.alloc(), &["pci", "bridge.res"], Some(Command::Pci))
@@ -106,7 +116,7 @@ fn a_number_and_a_last_entry_may_be_asked_for(rt: HostRuntime) -> Result<(), Fai
 
 #[test]
 fn all_other_words_ask_for_none(rt: HostRuntime) -> Result<(), Fail> {
-    const OTHERS: [&[&str]; 20] = [
+    const OTHERS: [&[&str]; 24] = [
         &[],
         &["path"],
         &["boot.dp", "path"],
@@ -114,6 +124,10 @@ fn all_other_words_ask_for_none(rt: HostRuntime) -> Result<(), Fail> {
         &["paths", "boot.dp"],
         &["", "boot.dp"],
         &["path", "boot.dp", "1"],
+        &["path", "text", "boot.dp"],
+        &["pathtext"],
+        &["pathtext", "boot.dp", "1"],
+        &["option", "boot.opt", "1"],
         &["time", "boot.time", "1"],
         &["info", "boot.info"],
         &["info", "86", "boot.info"],
