@@ -14,6 +14,7 @@ mod support;
 // The libraries, by the names that the listings have for them.
 use uefi_formats as uefi_base;
 use uefi_formats::proto::device_path as uefi_path;
+use uefi_formats::proto::device_path::text as uefi_node;
 use uefi_formats::proto::hii::config_str as uefi_hii;
 use uefi_formats::proto::tcg as uefi_tcg;
 mod uefi_map {

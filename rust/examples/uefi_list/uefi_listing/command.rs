@@ -5,6 +5,10 @@
 pub enum Command {
     /// `path FILE`: the device path that is a prefix of the file.
     Path,
+    /// `pathtext FILE`: the same path as text.
+    PathText,
+    /// `option FILE`: the load option that the file is.
+    LoadOption,
     /// `log1 FILE LAST`: the file as a version 1 event log, with LAST as its last entry, or without
     /// one if LAST is `-`.
     Log1(Option<usize>),
@@ -54,6 +58,8 @@ pub fn command_and_file(words: &[String]) -> Option<(Command, &str)> {
 fn command_alone(name: &str) -> Option<Command> {
     match name {
         "path" => Some(Command::Path),
+        "pathtext" => Some(Command::PathText),
+        "option" => Some(Command::LoadOption),
         "config" => Some(Command::Config),
         "pci" => Some(Command::Pci),
         "time" => Some(Command::Time),

@@ -54,7 +54,7 @@ impl fmt::Display for Stamp {
 /// A name with its NUL, displayed as a space and its characters, four hex digits each; as nothing
 /// if it has none.
 #[derive(Clone, Copy, Debug)]
-struct Name<'a>(UnalignedSlice<'a>);
+pub(crate) struct Name<'a>(pub(crate) UnalignedSlice<'a>);
 
 impl fmt::Display for Name<'_> {
     fn fmt(&self, f: &mut fmt::Formatter<'_>) -> fmt::Result {

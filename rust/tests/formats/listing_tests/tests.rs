@@ -3,6 +3,7 @@
 mod configurations;
 mod files;
 mod hex_text;
+mod load_options;
 mod logs;
 mod maps;
 mod memory;

@@ -47,8 +47,8 @@ pub(crate) fn write_node(
     }
 }
 
-/// Writes a node in the form that each node has: `Path(TYPE,SUBTYPE,DATA)`, with the data in hex, or
-/// `Path(TYPE,SUBTYPE)` if it has no data.
+/// Writes a node in the form that each node has: `Path(TYPE,SUBTYPE,DATA)`, with the data in hex,
+/// or `Path(TYPE,SUBTYPE)` if it has no data.
 #[inline]
 fn write_generic(f: &mut fmt::Formatter<'_>, node: &DevicePathNode<'_>) -> fmt::Result {
     let (device_type, sub_type) = (node.device_type().0, node.sub_type().0);

@@ -74,8 +74,8 @@ fn is_shown_end(node: &DevicePathNode<'_>) -> bool {
         && !is_plain_end(node, DeviceSubType::END_ENTIRE)
 }
 
-/// Returns the text of a path: instances with `,` between them, of nodes with `/` between them, each
-/// as [`node_to_text`](crate::formats::uefi_node::node_to_text) returns it (UEFI 2.10, 10.6.1).
+/// Returns the text of a path: instances with `,` between them, of nodes with `/` between them,
+/// each as [`node_to_text`](crate::formats::uefi_node::node_to_text) returns it (UEFI 2.10, 10.6.1).
 ///
 /// An empty instance is an empty text, and so is the path that has no other one.
 #[inline]

@@ -38,16 +38,45 @@ fn a_path_is_listed_by_its_instances() -> Result<(), Fail> {
     each_lists(&ROWS, Outcome::Listed)
 }
 
+#[test]
+fn a_path_is_listed_as_text() -> Result<(), Fail> {
+    const ROWS: [Row<'_>; 5] = [
+        (
+            Command::PathText,
+            TWO_INSTANCES,
+            "Path(160,176,0A0B)/Path(161,177,14151617)\n\
+            Path(162,178,1E1F)/Path(163,179,28292A2B)\n",
+        ),
+        (
+            Command::PathText,
+            "0101 0600 031f  0101 0600 0001  7fff 0400",
+            "Pci(0x1F,0x3)/Pci(0x1,0x0)\n",
+        ),
+        // An instance without nodes has an empty line.
+        (Command::PathText, "7f02 0400  7fff 0400", "Path(127,2)\n\n"),
+        // The node that ends a path is written if it has data.
+        (
+            Command::PathText,
+            "7fff 0600 aabb  cc",
+            "Path(127,255,AABB)\n",
+        ),
+        (Command::PathText, "7fff 0400", "\n"),
+    ];
+    each_lists(&ROWS, Outcome::Listed)
+}
+
 /// The line for bytes with no prefix that is a path.
 const NO_PATH: &str = "refused InvalidLength\n";
 
 #[test]
 fn bytes_without_a_path_are_refused() -> Result<(), Fail> {
-    const ROWS: [Row<'_>; 4] = [
+    const ROWS: [Row<'_>; 6] = [
         (Command::Path, "", NO_PATH),
         (Command::Path, "a0b0 0300", NO_PATH),
         (Command::Path, "a0b0 ffff", NO_PATH),
         (Command::Path, "a0b0 0600 0a0b", NO_PATH),
+        (Command::PathText, "", NO_PATH),
+        (Command::PathText, "a0b0 0600 0a0b", NO_PATH),
     ];
     each_lists(&ROWS, Outcome::Refused)
 }

@@ -3,6 +3,7 @@
 use crate::support::fallible::*;
 
 use crate::listing_tests::tests::files::{AB_FILE, AB_FILE_LISTING};
+use crate::listing_tests::tests::load_options::{SMALL_OPTION, SMALL_OPTION_LISTING};
 use crate::listing_tests::tests::logs::LOG1_LISTING;
 use crate::listing_tests::tests::maps::{FALLING_LISTING, FALLING_MAP, NO_MAP};
 use crate::listing_tests::tests::paths::TWO_INSTANCES_LISTING;
@@ -25,8 +26,10 @@ pub const TWO_ELEMENTS_LISTING: &str =
 
 /// The words of each command after the program's name, with a number where it has one, and what
 /// they ask for. The tests `words` go over them.
-pub const WORDS: [(&[&str], Command); 13] = [
+pub const WORDS: [(&[&str], Command); 15] = [
     (&["path", "FILE"], Command::Path),
+    (&["pathtext", "FILE"], Command::PathText),
+    (&["option", "FILE"], Command::LoadOption),
     (&["log1", "FILE", "34"], Command::Log1(Some(34))),
     (&["log1", "FILE", "-"], Command::Log1(None)),
     (&["log2", "FILE", "69"], Command::Log2(Some(69))),
@@ -46,7 +49,7 @@ pub type Run = (Command, &'static str, &'static str, Outcome);
 
 /// Runs of each command, and of each that can be refused a refused one too. The tests `memory` and
 /// `writers` go over them.
-pub const RUNS: [Run; 19] = [
+pub const RUNS: [Run; 23] = [
     (
         Command::Path,
         "7fff 0600 aabb",
@@ -55,6 +58,20 @@ pub const RUNS: [Run; 19] = [
     ),
     (Command::Path, TWO_INSTANCES, TWO_INSTANCES_LISTING, Listed),
     (Command::Path, "00", "refused InvalidLength\n", Refused),
+    (
+        Command::PathText,
+        "0101 0600 001f  7f01 0400  7fff 0400",
+        "Pci(0x1F,0x0)\n\n",
+        Listed,
+    ),
+    (Command::PathText, "00", "refused InvalidLength\n", Refused),
+    (
+        Command::LoadOption,
+        SMALL_OPTION,
+        SMALL_OPTION_LISTING,
+        Listed,
+    ),
+    (Command::LoadOption, "", "refused TooShort\n", Refused),
     (Command::Log1(Some(34)), LOG1, LOG1_LISTING, Listed),
     (Command::Log1(None), LOG1, "events 0\n", Listed),
     (

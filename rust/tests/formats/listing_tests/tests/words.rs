@@ -44,6 +44,14 @@ fn each_command_is_asked_for_by_its_words() -> Result<(), Fail> {
 fn a_command_and_a_file_ask_for_a_listing() -> Result<(), Fail> {
     asks(&["path", "boot.dp"], Some(Command::Path))?;
     asks(&["path", "path"], Some(Command::Path))?;
+    asks(
+        &["pathtext", "boot.dp"],
+        Some(Command::PathText),
+    )?;
+    asks(
+        &["option", "boot.opt"],
+        Some(Command::LoadOption),
+    )?;
     asks(&["time", "boot.time"], Some(Command::Time))?;
     asks(&["config", "setup.txt"], Some(Command::Config))?;
     asks(&["pci", "bridge.res"], Some(Command::Pci))
@@ -108,7 +116,7 @@ fn a_number_and_a_last_entry_may_be_asked_for() -> Result<(), Fail> {
 
 #[test]
 fn all_other_words_ask_for_none() -> Result<(), Fail> {
-    const OTHERS: [&[&str]; 20] = [
+    const OTHERS: [&[&str]; 24] = [
         &[],
         &["path"],
         &["boot.dp", "path"],
@@ -116,6 +124,10 @@ fn all_other_words_ask_for_none() -> Result<(), Fail> {
         &["paths", "boot.dp"],
         &["", "boot.dp"],
         &["path", "boot.dp", "1"],
+        &["path", "text", "boot.dp"],
+        &["pathtext"],
+        &["pathtext", "boot.dp", "1"],
+        &["option", "boot.opt", "1"],
         &["time", "boot.time", "1"],
         &["info", "boot.info"],
         &["info", "86", "boot.info"],
