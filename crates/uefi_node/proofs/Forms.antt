@@ -6,7 +6,8 @@ use Rattle.std.specs.List.{AllByRecursion}
 use Rattle.uefi_base.proofs.UnitsBack.{units_read_back}
 use Rattle.uefi_node.specs.Layout.{Field, byte, number, array, Rest, nothing, bytes, units, numbers, addresses, vendor}
 use Rattle.uefi_node.specs.Layout.{field_size, field_bytes, FieldFits, fields_bytes, rest_bytes, RestFits, value_bytes}
-use Rattle.uefi_node.specs.text.Form.{Form, OfRest, OfFields, field_of, rest_text, fields_text, value_text, field_in, rest_in, fields_in}
+use Rattle.uefi_node.specs.text.Form.{Form, OfRest, OfFields, field_in, rest_in, fields_in}
+use Rattle.uefi_node.specs.private.ValueText.{field_of, rest_text, fields_text, value_text}
 use Rattle.uefi_node.specs.Layout.{IsNodeAs}
 use Rattle.uefi_node.specs.Reading.{HasType, HasReadingFault}
 use Rattle.uefi_node.specs.declared.error.NodeConversionError.{NodeConversionError}

@@ -6,7 +6,7 @@ use Rattle.uefi_base.specs.Unaligned.{units_of}
 use Rattle.uefi_node.specs.NulStrings.{are_three_strings}
 use Rattle.uefi_node.specs.Layout.{Field, byte, number, array, Rest, nothing, bytes, units, numbers, addresses, vendor}
 use Rattle.uefi_node.specs.Layout.{Form as DataForm, any, three_strings, vendor_or_none}
-use Rattle.uefi_node.specs.Layout.{Layout, width, field_size, fields_size, vendor_bytes, kind_of}
+use Rattle.uefi_node.specs.Layout.{Layout, width, field_size, fields_size, kind_of}
 use Rattle.uefi_node.specs.declared.read.RestKind.{RestKind}
 use Rattle.uefi_node.specs.declared.read.RestKind.TheVariants.{Nothing, Bytes, Units, Numbers, Addresses}
 use Rattle.uefi_node.specs.declared.text.style.Style.{Style}
@@ -39,27 +39,6 @@ pub record Form (R : Type 0) : Type 0 where
 -- A form that is the same in each style.
 abbrev pub form : {R : Type 0} → (l : Layout R) → OfFields l.fields l.rest → Form R
 form l text = record { layout = l; text = λ style. text }
-
--- The text of a value.
-abbrev pub field_of : {R : Type 0} → (f : Field R) → R → FieldValue f
-field_of (byte get) r = get r
-field_of (number size get) r = get r
-field_of (array n get) r = get r
-
-abbrev pub rest_text : {R : Type 0} → (rest : Rest R) → OfRest rest → R → Option (List ℕ)
-rest_text nothing text r = text
-rest_text (bytes get) text r = text (get r)
-rest_text (units get) text r = text (get r)
-rest_text (numbers get) text r = text (get r)
-rest_text (addresses get) text r = text (get r)
-rest_text (vendor get) text r = text (vendor_bytes (get r))
-
-abbrev pub fields_text : {R : Type 0} → (fs : List (Field R)) (rest : Rest R) → OfFields fs rest → R → Option (List ℕ)
-fields_text [] rest text r = rest_text rest text r
-fields_text (f ∷ fs) rest text r = fields_text fs rest (text (field_of f r)) r
-
-abbrev pub value_text : {R : Type 0} → Form R → Style → R → Option (List ℕ)
-value_text form style r = fields_text form.layout.fields form.layout.rest (form.text style) r
 
 -- The text of data.
 abbrev pub field_in : {R : Type 0} → (f : Field R) → List ℕ → FieldValue f

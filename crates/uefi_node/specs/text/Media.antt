@@ -20,11 +20,6 @@ unfoldable pub partition : Bool → ℕ → ℕ → ℕ → List ℕ → List �
 partition display_only number start size format signature =
     call (codes "HD") (decimal number ∷ format ∷ signature ∷ (if display_only then [] else hex start ∷ hex size ∷ []))
 
--- The same of a drive.
-abbrev pub drive_text : Bool → HardDrive → List ℕ → List ℕ → List ℕ
-drive_text display_only drive =
-    partition display_only drive.partition_number drive.partition_start drive.partition_size
-
 -- The signature of a master boot record, four bytes, as a number of eight digits.
 unfoldable pub mbr_signature : List ℕ → List ℕ
 mbr_signature bytes = let at = slice_index bytes in long_hex (at 3 ∷ at 2 ∷ at 1 ∷ at 0 ∷ [])

@@ -106,11 +106,12 @@ forms_of device_type =
     else []
 
 -- The text of a node in one of the forms, if there is one for it that has all of it.
+abbrev pub text_in_form : Option TypeForm → Style → List ℕ → Option (List ℕ)
+text_in_form None style payload = None
+text_in_form (Some form) style payload = form.text style payload
+
 abbrev pub text_in : List TypeForm → Style → Node → Option (List ℕ)
-text_in forms style node = elim (find (λ form. form.sub_type == node.sub_type) forms) [
-  | None ↦ None
-  | Some form ↦ form.text style node.payload
-]
+text_in forms style node = text_in_form (find (λ form. form.sub_type == node.sub_type) forms) style node.payload
 
 abbrev pub typed_text : Style → Node → Option (List ℕ)
 typed_text style node = text_in (forms_of node.device_type) style node
@@ -127,8 +128,11 @@ generic_text node = call (codes "Path") (decimal node.device_type ∷ decimal no
 abbrev pub is_plain_end : ℕ → Node → Bool
 is_plain_end sub_type node = node.device_type == 0x7f && node.sub_type == sub_type && length node.payload == 0
 
+-- The text in the form of the type, if there is one, and else the generic one.
+abbrev pub or_generic : Node → Option (List ℕ) → List ℕ
+or_generic node None = generic_text node
+or_generic node (Some text) = text
+
 -- The text of a node: the end of an instance is a comma.
 abbrev pub node_text : Style → Node → List ℕ
-node_text style node =
-    if is_plain_end 0x01 node then codes ","
-    else elim (typed_text style node) [ None ↦ generic_text node | Some text ↦ text ]
+node_text style node = if is_plain_end 0x01 node then codes "," else or_generic node (typed_text style node)

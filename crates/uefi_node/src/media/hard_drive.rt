@@ -6,7 +6,8 @@ ghost use Rattle.uefi_node.specs.text.Media as forms;
 ghost use Rattle.std.specs.Prelude.{codes, Some};
 ghost use Rattle.std.specs.Fmt.{DisplaysOnOk, decimal};
 ghost use Rattle.uefi_node.specs.text.Arguments.{guid};
-ghost use Rattle.uefi_node.specs.text.Media.{drive_text, mbr_signature};
+ghost use Rattle.uefi_node.specs.text.Media.{mbr_signature};
+ghost use Rattle.uefi_node.specs.private.HardDrive.{drive_text};
 
 use crate::error::NodeConversionError;
 use crate::media::partition_signature::{PartitionSignature, are_zero};

@@ -1,6 +1,7 @@
 ghost use Rattle.uefi_path.specs.Views.{node_of};
 ghost use Rattle.uefi_node.specs.Reading.{HasType, ReadsAs};
-ghost use Rattle.uefi_node.specs.text.Form.{Form, value_text, data_text};
+ghost use Rattle.uefi_node.specs.text.Form.{Form, data_text};
+ghost use Rattle.uefi_node.specs.private.ValueText.{value_text};
 ghost use Rattle.uefi_node.specs.private.Writing.{WritesForm};
 
 use crate::error::NodeConversionError;
