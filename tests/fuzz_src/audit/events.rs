@@ -1,10 +1,13 @@
-//! The events of a log in JSON and in lines, and what their data say.
+//! The events of a log in JSON and in lines, and what their data say. The texts of device paths are
+//! those of the package.
 
 use super::json::{LONGEST, array, hex, hex_text, object, shown, text};
 use super::log::{Event, NO_ACTION, kind_name, type_name};
 use super::replay::{BANKS, SHA256};
 use crate::readers::log2::Header;
 use crate::readers::path::{Node, Nodes, Stop, split};
+use uefi_formats::proto::device_path::DevicePath;
+use uefi_formats::proto::device_path::text::{AllowShortcuts, DisplayOnly, to_text};
 
 const AUTHORITY: u32 = 0x8000_00e0;
 const GLOBAL: &str = "8be4df61-93ca-11d2-aa0d-00e098032b8c";
@@ -148,11 +151,12 @@ fn image(mut data: &[u8]) -> Option<Said> {
     let (address, length) = (number(&mut data, 8)?, number(&mut data, 8)?);
     let (link_address, bytes) = (number(&mut data, 8)?, counted(&mut data, 8)?);
     let nodes = first_path(bytes).filter(|it| it.1.is_empty()).map(|it| it.0);
-    let file = nodes.as_deref().and_then(last_file);
-    let file = file.unwrap_or_else(|| hex(&bytes[..bytes.len().min(LONGEST)]));
+    let shown = nodes.as_ref().map(|_| path_text(bytes));
+    let text = shown.as_deref().map_or(String::new(), text);
+    let shown = shown.unwrap_or_else(|| hex(&bytes[..bytes.len().min(LONGEST)]));
     let path = nodes.map_or_else(|| hex_text(bytes), |it| path_json(&it));
-    let json = object!(address, length, link_address, path, rest: rest_text(data));
-    let words = if bytes.is_empty() { "image".to_owned() } else { format!("image {file}") };
+    let json = object!(address, length, link_address, path, rest: rest_text(data), text);
+    let words = if bytes.is_empty() { "image".to_owned() } else { format!("image {shown}") };
     Some(Said("image", json, words))
 }
 
@@ -168,12 +172,10 @@ fn path_json(nodes: &[Node<'_>]) -> String {
     }))
 }
 
-/// The last file path (4, 4) of nodes, by its first units: `/` for a backslash, nothing for a NUL.
-fn last_file(nodes: &[Node<'_>]) -> Option<String> {
-    let file = nodes.iter().rfind(|node| (node.device_type(), node.sub_type()) == (4, 4))?;
-    let units = units(file.data()).filter(|units| !units.is_empty())?;
-    let name = characters(&units[..units.len().min(LONGEST)]);
-    Some(shown(&name.replace('\\', "/").replace('\0', "")))
+/// The text of the path that bytes begin with.
+fn path_text(bytes: &[u8]) -> String {
+    let path = DevicePath::try_from(bytes).expect("bytes that begin with a path");
+    to_text(path, DisplayOnly(false), AllowShortcuts(false)).to_string()
 }
 
 /// The GUID of a variable, its name and its value.
@@ -217,7 +219,8 @@ fn boot_option(mut data: &[u8]) -> Option<String> {
     let description = text(&characters(&units(data.split_off(..2 * count)?)?));
     let (paths, rest) = data[2..].split_at_checked(length as usize)?;
     let (optional_data, path) = (hex_text(rest), path_json(&first_path(paths)?.0));
-    Some(object!(attributes, description, optional_data, path))
+    let text = text(&path_text(paths));
+    Some(object!(attributes, description, optional_data, path, text))
 }
 
 /// The lists of a database (UEFI 2.10, 32.4.1).
