@@ -11,3 +11,6 @@ pub mod Forms
 pub mod PathTexts
 pub mod Commas
 pub mod ExpandedText
+pub mod arguments
+pub mod reading
+pub mod FileNames

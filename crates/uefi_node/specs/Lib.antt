@@ -14,6 +14,7 @@ pub mod Media
 pub mod BiosBootSpec
 pub mod NodeEnum
 pub mod text
+pub mod parse
 pub mod Texts
 pub mod Laws
 pub mod rows

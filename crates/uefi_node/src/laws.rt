@@ -1,6 +1,7 @@
 //! Laws of the definitions. Each function states a law that holds for all values, and does nothing
 //! when it runs.
 
+ghost use Rattle.uefi_node.specs.parse.Laws.{TextReadsBack, OnePathOfText};
 ghost use Rattle.uefi_node.specs.Laws.{FaithfulTypes, OneSignature, OneWayToSplit};
 ghost use Rattle.uefi_node.specs.rows.Nodes.{RowsHold};
 
@@ -26,4 +27,17 @@ pub fn one_way_to_split()
 #[tactic(auto, using(crate::proofs::Rows::rows_hold))]
 pub fn worked_rows()
     ensures { RowsHold }
+{}
+
+/// States that the text of a path, with both flags false, is that of the path: so reading it gives
+/// the path, byte for byte.
+#[tactic(auto, using(crate::proofs::reading::AllTexts::path_text_reads_back))]
+pub fn text_reads_back()
+    ensures { TextReadsBack }
+{}
+
+/// States that a text is that of one path.
+#[tactic(auto, using(crate::proofs::reading::OnePath::one_path_of_text))]
+pub fn one_path_of_text()
+    ensures { OnePathOfText }
 {}

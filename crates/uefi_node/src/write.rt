@@ -14,7 +14,7 @@ use uefi_path::build::BuildError;
 use uefi_path::{DeviceSubType, DeviceType};
 
 // The length of a header, and the greatest length of a node.
-const HEADER_LENGTH: usize = 4;
+pub(crate) const HEADER_LENGTH: usize = 4;
 
 const GREATEST_LENGTH: usize = 0xffff;
 

@@ -1,6 +1,6 @@
 use std::alloc::Global;
 use std::test::Fail;
-use test_support::{holds, same, same_bytes};
+use test_support::{bytes, holds, same, same_bytes};
 use uefi_base::UnalignedSlice;
 use uefi_node::{DevicePathNodeEnum, DevicePathNodeExt, NodeConversionError};
 use uefi_path::DevicePathNode;
@@ -42,4 +42,19 @@ pub(crate) fn units<'a>(bytes: &'a [u8]) -> Option<UnalignedSlice<'a>> {
         return None;
     }
     Some(UnalignedSlice::new(bytes))
+}
+
+/// Checks the bytes that a function gives for the text of each row, which has them before it, as
+/// hex.
+pub(crate) fn each_parses<F>(alloc: Global, rows: &[[&str; 2]], parse: F) -> Result<(), Fail>
+where
+    F: Fn(Global, &str) -> Result<Vec<u8>, Fail>,
+    requires { F.IsAlwaysCallable parse }
+{
+    for [expected, text] in rows {
+        let expected = bytes(alloc, expected)?;
+        let found = parse(alloc, text)?;
+        same_bytes(text, found.as_slice(), expected.as_slice())?;
+    }
+    Ok(())
 }

@@ -153,7 +153,7 @@ fn write_name<W: fmt::Write>(f: &mut fmt::Formatter<W>, name: NameCharacters<'_>
 }
 
 /// Returns whether a name may have the character.
-fn is_name_character(character: char) -> bool
+pub(crate) fn is_name_character(character: char) -> bool
     ensures { result ≡ text.is_name_character character }
 {
     !is_control(character) && character != '/' && character != ','
@@ -176,7 +176,7 @@ fn is_control(character: char) -> bool
 }
 
 /// Returns whether a type of nodes may have the character in its name.
-fn is_node_character(character: char) -> bool
+pub(crate) fn is_node_character(character: char) -> bool
     ensures { result ≡ text.is_node_character character }
 {
     character.is_ascii_alphanumeric() || character == '-'

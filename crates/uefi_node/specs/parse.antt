@@ -1,0 +1,10 @@
+pub mod Words
+pub mod Values
+pub mod NodeForm
+pub mod Parameters
+pub mod forms
+pub mod AllForms
+pub mod Nodes
+pub mod Paths
+pub mod Errors
+pub mod Laws

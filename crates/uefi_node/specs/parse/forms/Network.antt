@@ -1,0 +1,38 @@
+-- The forms in which nodes of the type MESSAGING that lead to networks and serial devices are read (UEFI 2.10, 10.6.1.6).
+use Rattle.std.specs.Prelude.{[], ◌∷◌, List, codes, replicate}
+use Rattle.uefi_node.specs.parse.NodeForm.{NodeForm, form, listed, repeated, known, bytes, argument, padded}
+use Rattle.uefi_node.specs.parse.Parameters.{optional, required, guid, ipv4, ipv6, optional_ipv4, optional_ipv6, u16, u32, u64, u8}
+use Rattle.uefi_node.specs.declared.parse.argument.Argument.TheVariants.{Bytes, Digits, Ipv4Server, Text, Word}
+use Rattle.uefi_node.specs.declared.parse.words.Words.TheVariants as Words
+use Rattle.uefi_node.specs.declared.parse.size.Size.TheVariants as Size
+use Rattle.uefi_node.specs.declared.parse.shape.Shape.TheVariants as Shape
+
+abbrev pub network_forms : List NodeForm
+network_forms =
+    form (codes "MAC") (known 3) (known 11) (listed (required (Bytes 32) ∷ u8 ∷ []) (padded 0 ∷ argument 1
+    ∷ []))
+    ∷ form (codes "IPv4") (known 3) (known 12) (listed (ipv4 ∷ optional (Word Words.Protocol Size.Two) (codes "0")
+    ∷ optional (Word Words.Ipv4Origin Size.One) (codes "DHCP") ∷ optional_ipv4 ∷ optional_ipv4
+    ∷ optional_ipv4 ∷ []) (argument 3 ∷ argument 0 ∷ bytes (replicate 4 0) ∷ argument 1 ∷ argument 2
+    ∷ argument 4 ∷ argument 5 ∷ []))
+    ∷ form (codes "IPv6") (known 3) (known 13) (listed (ipv6 ∷ optional (Word Words.Protocol Size.Two) (codes "0")
+    ∷ optional (Word Words.Ipv6Origin Size.One) (codes "StatefulAutoConfigure") ∷ optional_ipv6 ∷ u8
+    ∷ optional_ipv6 ∷ []) (argument 3 ∷ argument 0 ∷ bytes (replicate 4 0) ∷ argument 1 ∷ argument 2
+    ∷ argument 4 ∷ argument 5 ∷ []))
+    ∷ form (codes "Vlan") (known 3) (known 20) (listed (u16 ∷ []) (argument 0 ∷ []))
+    ∷ form (codes "Infiniband") (known 3) (known 9) (listed (u32 ∷ guid ∷ u64 ∷ u64 ∷ u64 ∷ []) (argument 0
+    ∷ argument 1 ∷ argument 2 ∷ argument 3 ∷ argument 4 ∷ []))
+    ∷ form (codes "Uart") (known 3) (known 14) (listed (optional (Word Words.Default Size.Eight) (codes "DEFAULT")
+    ∷ optional (Word Words.Default Size.One) (codes "DEFAULT")
+    ∷ optional (Word Words.Parity Size.One) (codes "D")
+    ∷ optional (Word Words.StopBits Size.One) (codes "D") ∷ []) (bytes (replicate 4 0) ∷ argument 0
+    ∷ argument 1 ∷ argument 2 ∷ argument 3 ∷ []))
+    ∷ form (codes "Uri") (known 3) (known 24) (listed (required (Text 65531) ∷ []) (argument 0 ∷ []))
+    ∷ form (codes "Bluetooth") (known 3) (known 27) (listed (required (Digits Shape.Address) ∷ []) (argument 0
+    ∷ []))
+    ∷ form (codes "BluetoothLE") (known 3) (known 30) (listed (required (Digits Shape.Address) ∷ u8
+    ∷ []) (argument 0 ∷ argument 1 ∷ []))
+    ∷ form (codes "Wi-Fi") (known 3) (known 28) (listed (required (Text 32) ∷ []) (padded 0 ∷ []))
+    ∷ form (codes "Dns") (known 3) (known 31) (repeated (0 ∷ []) (Ipv4Server))
+    ∷ form (codes "Dns") (known 3) (known 31) (repeated (1 ∷ []) (Digits Shape.Ipv6))
+    ∷ []

@@ -1,0 +1,43 @@
+ghost use Rattle.std.specs.Prelude.{◌≡◌, ◌+◌, ◌<◌, ◌≤◌, ◌^◌, ℕ};
+
+/// Why arguments aren't those of a form. The offset is from the start of the arguments.
+#[derive(Clone, Copy)]
+pub(crate) struct Fault {
+    pub(crate) offset: usize,
+    pub(crate) kind: FaultKind,
+}
+
+/// What is wrong with arguments.
+#[derive(Clone, Copy, PartialEq, Eq)]
+pub(crate) enum FaultKind {
+    /// A character that can't follow.
+    Argument,
+    /// What is before isn't complete.
+    Missing,
+    /// The node grows too long.
+    TooLong,
+}
+
+impl Fault {
+    /// Returns the fault with its offset from this many bytes before.
+    pub(crate) fn after(self, start: usize) -> Fault
+        requires { start + self.offset < 2 ^ 64 }
+        ensures { result.offset ≡ start + self.offset }
+    {
+        Fault {
+            offset: start + self.offset,
+            kind: self.kind,
+        }
+    }
+
+    /// Returns the other fault, or this one if it is farther.
+    pub(crate) fn or_farther(self, other: Fault) -> Fault
+        ensures { (n : ℕ) → self.offset ≤ n → other.offset ≤ n → result.offset ≤ n }
+    {
+        if self.offset > other.offset {
+            self
+        } else {
+            other
+        }
+    }
+}
