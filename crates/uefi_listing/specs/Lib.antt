@@ -2,6 +2,7 @@ pub mod Arguments
 pub mod HexText
 pub mod Path
 pub mod PathText
+pub mod TextPath
 pub mod Map
 pub mod Pci
 pub mod Time

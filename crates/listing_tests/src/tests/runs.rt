@@ -4,6 +4,7 @@ use crate::tests::logs::LOG1_LISTING;
 use crate::tests::maps::{FALLING_LISTING, FALLING_MAP, NO_MAP};
 use crate::tests::paths::TWO_INSTANCES_LISTING;
 use crate::tests::resources::{CUT_AFTER_A_RECORD, ROOT_BRIDGE_LISTING};
+use crate::tests::text_paths::{FILE_TEXT, FILE_TEXT_LISTING};
 use crate::tests::times::LAST_OF_FEBRUARY_LISTING;
 use crate::tests::v2_logs::{NO_HEADER, TWO_DIGESTS, TWO_DIGESTS_LISTING};
 use std::alloc::Global;
@@ -23,9 +24,10 @@ pub const TWO_ELEMENTS_LISTING: &str =
 
 /// The words of each command after the program's name, with a number where it has one, and what
 /// they ask for. The tests `words` go over them.
-pub const WORDS: [(&[&str], Command); 15] = [
+pub const WORDS: [(&[&str], Command); 16] = [
     (&["path", "FILE"], Command::Path),
     (&["pathtext", "FILE"], Command::PathText),
+    (&["textpath", "FILE"], Command::TextPath),
     (&["option", "FILE"], Command::LoadOption),
     (&["log1", "FILE", "34"], Command::Log1(Some(34))),
     (&["log1", "FILE", "-"], Command::Log1(None)),
@@ -46,7 +48,7 @@ pub type Run = (Command, &'static str, &'static str, Outcome);
 
 /// Runs of each command, and of each that can be refused a refused one too. The tests `memory` and
 /// `writers` go over them.
-pub const RUNS: [Run; 23] = [
+pub const RUNS: [Run; 26] = [
     (
         Command::Path,
         "7fff 0600 aabb",
@@ -62,6 +64,9 @@ pub const RUNS: [Run; 23] = [
         Listed,
     ),
     (Command::PathText, "00", "refused InvalidLength\n", Refused),
+    (Command::TextPath, FILE_TEXT, FILE_TEXT_LISTING, Listed),
+    (Command::TextPath, "00", "refused Argument\n", Refused),
+    (Command::TextPath, "ff", "refused NotUtf8\n", Refused),
     (
         Command::LoadOption,
         SMALL_OPTION,
@@ -112,10 +117,12 @@ pub const RUNS: [Run; 23] = [
     ),
 ];
 
-/// Returns the bytes of a run's input: a configuration text that is listed as it stands, else hex.
+/// Returns the bytes of a run's input: a text that is listed as it stands, else hex.
 pub fn input_of(alloc: Global, (command, input, _, outcome): &Run) -> Result<Vec<u8>, Fail> {
     match (command, outcome) {
-        (Command::Config, Listed) => Ok(Vec::from_slice(alloc, input.as_bytes())?),
+        (Command::Config | Command::TextPath, Listed) => {
+            Ok(Vec::from_slice(alloc, input.as_bytes())?)
+        }
         _ => Ok(bytes(alloc, input)?),
     }
 }

@@ -48,6 +48,11 @@ fn a_command_and_a_file_ask_for_a_listing(rt: HostRuntime) -> Result<(), Fail> {
     )?;
     asks(
         rt.alloc(),
+        &["textpath", "boot.txt"],
+        Some(Command::TextPath),
+    )?;
+    asks(
+        rt.alloc(),
         &["option", "boot.opt"],
         Some(Command::LoadOption),
     )?;
@@ -116,7 +121,7 @@ fn a_number_and_a_last_entry_may_be_asked_for(rt: HostRuntime) -> Result<(), Fai
 
 #[test]
 fn all_other_words_ask_for_none(rt: HostRuntime) -> Result<(), Fail> {
-    const OTHERS: [&[&str]; 24] = [
+    const OTHERS: [&[&str]; 26] = [
         &[],
         &["path"],
         &["boot.dp", "path"],
@@ -127,6 +132,8 @@ fn all_other_words_ask_for_none(rt: HostRuntime) -> Result<(), Fail> {
         &["path", "text", "boot.dp"],
         &["pathtext"],
         &["pathtext", "boot.dp", "1"],
+        &["textpath"],
+        &["textpath", "boot.txt", "1"],
         &["option", "boot.opt", "1"],
         &["time", "boot.time", "1"],
         &["info", "boot.info"],
