@@ -14,7 +14,7 @@ from telling import tells
 PROGRAM = f"{TOP}/crates/uefi_list/out/uefi_list"
 # The words after FILE that each command is tried with, over files of any kind.
 WORDS = {
-    "path": [[]], "pathtext": [[]], "option": [[]], "time": [[]], "pci": [[]], "config": [[]], "info": [["0"], ["80"], ["LENGTH"]],
+    "path": [[]], "pathtext": [[]], "textpath": [[]], "option": [[]], "time": [[]], "pci": [[]], "config": [[]], "info": [["0"], ["80"], ["LENGTH"]],
     "map": [["40"], ["48"], ["41"]], **{log: [["LENGTH"], ["81"], ["5294"], ["-"]] for log in ("log1", "log2", "log2after")},
 }
 MUTATED = 300

@@ -87,7 +87,8 @@ pub mod proto {
         }
 
         pub mod text {
-            //! Device paths and nodes as text (UEFI 2.10, 10.6). Begin with [`to_text`].
+            //! Device paths and nodes as text, and paths from text (UEFI 2.10, 10.6). Begin with
+            //! [`to_text`] and with [`DevicePath::from_text`](super::DevicePath::from_text).
             //!
             //! # Examples
             //!
@@ -100,10 +101,28 @@ pub mod proto {
             //! let text = to_text(path, DisplayOnly(false), AllowShortcuts(false));
             //! assert_eq!(text.to_string(), "PciRoot(0x0)");
             //! ```
+            //!
+            //! The path of a text, in a buffer:
+            //!
+            //! ```
+            //! use uefi_formats::proto::device_path::DevicePath;
+            //! use uefi_formats::proto::device_path::text::FromTextError;
+            //!
+            //! let mut buffer = [0; 64];
+            //! let path = DevicePath::from_text(&mut buffer, "PciRoot(0x0)/Pci(0x1F,0x0)").unwrap();
+            //! let bytes = [2, 1, 12, 0, 0xd0, 0x41, 3, 0x0a, 0, 0, 0, 0, 1, 1, 6, 0, 0, 0x1f, 0x7f, 0xff, 4, 0];
+            //! assert_eq!(path.as_bytes(), bytes);
+            //!
+            //! // No type of nodes has the name before byte 16.
+            //! let path = DevicePath::from_text(&mut buffer, "PciRoot(0x0)/Pcj(0x1F,0x0)");
+            //! assert_eq!(path, Err(FromTextError::UnknownNode(16)));
+            //! ```
 
+            #[cfg(feature = "alloc")]
+            pub use crate::formats::uefi_node::from_text_in;
             pub use crate::formats::uefi_node::{
-                AllowShortcuts, DisplayOnly, NodeText, PathText, instance_to_text, node_to_text,
-                to_text,
+                AllowShortcuts, DisplayOnly, FromTextError, NodeText, PathText, from_text,
+                instance_to_text, node_to_text, to_text, write_from_text,
             };
         }
     }
@@ -199,6 +218,31 @@ mod as_enum {
         #[inline]
         pub fn as_enum(&self) -> Result<DevicePathNodeEnum<'a>, NodeConversionError> {
             DevicePathNodeExt::as_enum(self)
+        }
+    }
+}
+
+mod from_text {
+    use crate::proto::device_path::DevicePath;
+    use crate::proto::device_path::text::{self, FromTextError};
+
+    impl<'a> DevicePath<'a> {
+        /// Reads the text of a path, such as `PciRoot(0x0)/Pci(0x2,0x0)`, and writes the path to the
+        /// start of a buffer (UEFI 2.10, 10.6.1). It does what [`from_text`](text::from_text) does.
+        ///
+        /// # Errors
+        ///
+        /// Fails with the first of these errors that applies, and leaves every byte of the buffer
+        /// unchanged:
+        ///
+        /// - [`FromTextError::UnknownNode`], [`FromTextError::Argument`], [`FromTextError::Missing`] or
+        ///   [`FromTextError::TooLong`] if the text is that of no path.
+        /// - [`FromTextError::Buffer`] with the length of the path if the buffer is shorter.
+        ///
+        /// Its contract: `crates/uefi_node/src/parse/path.rt`.
+        #[inline]
+        pub fn from_text(buffer: &'a mut [u8], text: &str) -> Result<DevicePath<'a>, FromTextError> {
+            text::from_text(buffer, text)
         }
     }
 }

@@ -2,6 +2,7 @@
 
 use crate::support::test::Fail;
 use crate::test_support::{Refusing, in_turn, takes_memory, without_request};
+use uefi_formats::proto::device_path::text::{FromTextError, from_text_in};
 use uefi_formats::proto::device_path::{BoxedDevicePath, DevicePath};
 use uefi_formats::proto::hii::config_str::{
     ConfigurationString, MultiConfigurationStringIter, ParseError, parse_all,
@@ -35,6 +36,8 @@ fn paths_and_texts() -> Result<(), Fail> {
     let instance = path.instance_iter().next().ok_or("an instance")?;
     takes_memory(&Ok(true), || unless(path.to_boxed().map(|it| it.as_path() == path), AllocError))?;
     takes_memory(&Ok(true), || unless(instance.to_boxed().map(|it| it.as_instance() == instance), AllocError))?;
+    let text = "Acpi(0x04030201,0x8070605)";
+    takes_memory(&Ok(true), || unless(from_text_in(text).map(|it| it.as_path() == path), FromTextError::Memory))?;
     let ab = [0x61, 0x62, 0];
     let text = CStr16::from_u16_with_nul(&ab)?;
     takes_memory(&Ok(true), || unless(text.to_string().map(|it| it == "ab"), AllocError))?;
@@ -128,6 +131,7 @@ fn configurations_one_after_another() -> Result<(), Fail> {
 #[test]
 fn faults_ask_for_no_memory() -> Result<(), Fail> {
     without_request(&Some(FromStrError::InteriorNul), || CString16::from_str("a\0").err())?;
+    without_request(&Some(FromTextError::UnknownNode(3)), || from_text_in("Pcj(0x1)").err())?;
     without_request(&Some(pci::ResourceError::UnknownTag(1)), || pci::parse(&[1]).err())?;
     without_request(&true, || ConfigurationString::from_str("GUID=00").is_err())
 }

@@ -7,6 +7,8 @@ pub enum Command {
     Path,
     /// `pathtext FILE`: the same path as text.
     PathText,
+    /// `textpath FILE`: the device path whose text is the file, which is one line.
+    TextPath,
     /// `option FILE`: the load option that the file is.
     LoadOption,
     /// `log1 FILE LAST`: the file as a version 1 event log, with LAST as its last entry, or without
@@ -59,6 +61,7 @@ fn command_alone(name: &str) -> Option<Command> {
     match name {
         "path" => Some(Command::Path),
         "pathtext" => Some(Command::PathText),
+        "textpath" => Some(Command::TextPath),
         "option" => Some(Command::LoadOption),
         "config" => Some(Command::Config),
         "pci" => Some(Command::Pci),

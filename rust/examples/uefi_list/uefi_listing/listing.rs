@@ -14,6 +14,7 @@ use crate::uefi_listing::map::push_map_listing;
 use crate::uefi_listing::path::push_path_listing;
 use crate::uefi_listing::path_text::push_path_text_listing;
 use crate::uefi_listing::pci::push_pci_listing;
+use crate::uefi_listing::text_path::push_text_path_listing;
 use crate::uefi_listing::time::push_time_listing;
 use crate::support::alloc::AllocError;
 use crate::uefi_tcg::v2::Start;
@@ -52,6 +53,7 @@ fn push_listing(
     match command {
         Command::Path => push_path_listing(text, bytes),
         Command::PathText => push_path_text_listing(text, bytes),
+        Command::TextPath => push_text_path_listing(text, bytes),
         Command::LoadOption => push_load_option_listing(text, bytes),
         Command::Log1(last) => push_log1_listing(text, bytes, *last),
         Command::Log2(last) => push_log2_listing(text, bytes, *last, Start::AfterHeader),

@@ -7,8 +7,8 @@
 //!
 //! Each command has a module of its name: it appends the lines of what a reader returned to a text
 //! ([`path::push_path`], [`log1::push_log`]), and names the errors that bytes are refused with.
-//! `log2after` is in `log2`, `pathtext` in [`path_text`], `option` in [`load_option`]. A failed
-//! allocation is the only error of these calls.
+//! `log2after` is in `log2`, `pathtext` in [`path_text`], `textpath` in [`text_path`], `option` in
+//! [`load_option`]. A failed allocation is the only error of these calls.
 //! [`hex_text`] displays bytes and numbers for all of them.
 //!
 //! The contracts say which words ask for what, what is listed and refused, in which lines, and what
@@ -27,4 +27,5 @@ pub mod path;
 pub mod path_text;
 pub mod pci;
 pub mod run;
+pub mod text_path;
 pub mod time;

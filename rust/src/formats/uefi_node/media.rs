@@ -15,7 +15,7 @@ pub use self::relative_offset_range::RelativeOffsetRange;
 pub use self::vendor::Vendor;
 
 mod cd_rom;
-mod file_path;
+pub(crate) mod file_path;
 mod hard_drive;
 pub(crate) mod partition_signature;
 mod piwg_firmware_file;

@@ -7,7 +7,7 @@ use crate::formats::uefi_path::build::BuildError;
 use crate::formats::uefi_path::{DeviceSubType, DeviceType};
 
 // The length of a header, and the greatest length of a node.
-const HEADER_LENGTH: usize = 4;
+pub(crate) const HEADER_LENGTH: usize = 4;
 
 const GREATEST_LENGTH: usize = 0xffff;
 

@@ -11,6 +11,7 @@ mod paths;
 mod resources;
 mod rows;
 mod runs;
+mod text_paths;
 mod times;
 mod v2_logs;
 mod words;

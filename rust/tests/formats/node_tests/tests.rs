@@ -6,6 +6,7 @@ mod checks;
 mod disks;
 mod end;
 mod flags;
+mod from_text;
 mod hardware;
 mod lengths;
 mod lists;

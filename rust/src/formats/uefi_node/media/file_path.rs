@@ -132,7 +132,7 @@ fn write_name(f: &mut fmt::Formatter<'_>, name: NameCharacters<'_>) -> fmt::Resu
 
 /// Returns whether a name may have the character.
 #[inline]
-fn is_name_character(character: char) -> bool {
+pub(crate) fn is_name_character(character: char) -> bool {
     !is_control(character) && character != '/' && character != ','
 }
 
@@ -153,7 +153,7 @@ fn is_control(character: char) -> bool {
 
 /// Returns whether a type of nodes may have the character in its name.
 #[inline]
-fn is_node_character(character: char) -> bool {
+pub(crate) fn is_node_character(character: char) -> bool {
     character.is_ascii_alphanumeric() || character == '-'
 }
 

@@ -8,6 +8,7 @@ use crate::listing_tests::tests::logs::LOG1_LISTING;
 use crate::listing_tests::tests::maps::{FALLING_LISTING, FALLING_MAP, NO_MAP};
 use crate::listing_tests::tests::paths::TWO_INSTANCES_LISTING;
 use crate::listing_tests::tests::resources::{CUT_AFTER_A_RECORD, ROOT_BRIDGE_LISTING};
+use crate::listing_tests::tests::text_paths::{FILE_TEXT, FILE_TEXT_LISTING};
 use crate::listing_tests::tests::times::LAST_OF_FEBRUARY_LISTING;
 use crate::listing_tests::tests::v2_logs::{NO_HEADER, TWO_DIGESTS, TWO_DIGESTS_LISTING};
 use crate::support::test::Fail;
@@ -26,9 +27,10 @@ pub const TWO_ELEMENTS_LISTING: &str =
 
 /// The words of each command after the program's name, with a number where it has one, and what
 /// they ask for. The tests `words` go over them.
-pub const WORDS: [(&[&str], Command); 15] = [
+pub const WORDS: [(&[&str], Command); 16] = [
     (&["path", "FILE"], Command::Path),
     (&["pathtext", "FILE"], Command::PathText),
+    (&["textpath", "FILE"], Command::TextPath),
     (&["option", "FILE"], Command::LoadOption),
     (&["log1", "FILE", "34"], Command::Log1(Some(34))),
     (&["log1", "FILE", "-"], Command::Log1(None)),
@@ -49,7 +51,7 @@ pub type Run = (Command, &'static str, &'static str, Outcome);
 
 /// Runs of each command, and of each that can be refused a refused one too. The tests `memory` and
 /// `writers` go over them.
-pub const RUNS: [Run; 23] = [
+pub const RUNS: [Run; 26] = [
     (
         Command::Path,
         "7fff 0600 aabb",
@@ -65,6 +67,9 @@ pub const RUNS: [Run; 23] = [
         Listed,
     ),
     (Command::PathText, "00", "refused InvalidLength\n", Refused),
+    (Command::TextPath, FILE_TEXT, FILE_TEXT_LISTING, Listed),
+    (Command::TextPath, "00", "refused Argument\n", Refused),
+    (Command::TextPath, "ff", "refused NotUtf8\n", Refused),
     (
         Command::LoadOption,
         SMALL_OPTION,
@@ -115,10 +120,12 @@ pub const RUNS: [Run; 23] = [
     ),
 ];
 
-/// Returns the bytes of a run's input: a configuration text that is listed as it stands, else hex.
+/// Returns the bytes of a run's input: a text that is listed as it stands, else hex.
 pub fn input_of((command, input, _, outcome): &Run) -> Result<Vec<u8>, Fail> {
     match (command, outcome) {
-        (Command::Config, Listed) => Ok(Vec::fallible_from_slice(input.as_bytes())?),
+        (Command::Config | Command::TextPath, Listed) => {
+            Ok(Vec::fallible_from_slice(input.as_bytes())?)
+        }
         _ => Ok(bytes(input)?),
     }
 }

@@ -49,6 +49,10 @@ fn a_command_and_a_file_ask_for_a_listing() -> Result<(), Fail> {
         Some(Command::PathText),
     )?;
     asks(
+        &["textpath", "boot.txt"],
+        Some(Command::TextPath),
+    )?;
+    asks(
         &["option", "boot.opt"],
         Some(Command::LoadOption),
     )?;
@@ -116,7 +120,7 @@ fn a_number_and_a_last_entry_may_be_asked_for() -> Result<(), Fail> {
 
 #[test]
 fn all_other_words_ask_for_none() -> Result<(), Fail> {
-    const OTHERS: [&[&str]; 24] = [
+    const OTHERS: [&[&str]; 26] = [
         &[],
         &["path"],
         &["boot.dp", "path"],
@@ -127,6 +131,8 @@ fn all_other_words_ask_for_none() -> Result<(), Fail> {
         &["path", "text", "boot.dp"],
         &["pathtext"],
         &["pathtext", "boot.dp", "1"],
+        &["textpath"],
+        &["textpath", "boot.txt", "1"],
         &["option", "boot.opt", "1"],
         &["time", "boot.time", "1"],
         &["info", "boot.info"],

@@ -3,7 +3,7 @@
 use crate::support::fallible::*;
 
 use crate::support::test::Fail;
-use crate::test_support::{holds, same, same_bytes};
+use crate::test_support::{bytes, holds, same, same_bytes};
 use crate::uefi_base::UnalignedSlice;
 use crate::uefi_node::{DevicePathNodeEnum, DevicePathNodeExt, NodeConversionError};
 use crate::uefi_path::DevicePathNode;
@@ -44,4 +44,18 @@ pub(crate) fn units<'a>(bytes: &'a [u8]) -> Option<UnalignedSlice<'a>> {
         return None;
     }
     Some(UnalignedSlice::new(bytes))
+}
+
+/// Checks the bytes that a function gives for the text of each row, which has them before it, as
+/// hex.
+pub(crate) fn each_parses<F>(rows: &[[&str; 2]], parse: F) -> Result<(), Fail>
+where
+    F: Fn(&str) -> Result<Vec<u8>, Fail>,
+{
+    for [expected, text] in rows {
+        let expected = bytes(expected)?;
+        let found = parse(text)?;
+        same_bytes(text, found.as_slice(), expected.as_slice())?;
+    }
+    Ok(())
 }

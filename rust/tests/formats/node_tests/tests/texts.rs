@@ -9,7 +9,7 @@ use crate::uefi_node::{AllowShortcuts, DisplayOnly, instance_to_text, node_to_te
 use crate::uefi_path::DevicePath;
 
 /// Names of files.
-const NAMES: [[&str; 2]; 19] = [
+pub(crate) const NAMES: [[&str; 2]; 19] = [
     [
         "0404 3000 5c004500460049005c0042004f004f0054005c0042004f004f0054005800360034002e004500460049000000 7fff0400",
         "\\EFI\\BOOT\\BOOTX64.EFI",
@@ -35,7 +35,7 @@ const NAMES: [[&str; 2]; 19] = [
 ];
 
 /// Names that aren't written as they are.
-const OTHER_NAMES: [[&str; 2]; 23] = [
+pub(crate) const OTHER_NAMES: [[&str; 2]; 23] = [
     [
         "0404 0c00 61003dd862000000 7fff0400",
         "Path(4,4,61003DD862000000)",
@@ -89,7 +89,7 @@ const OTHER_NAMES: [[&str; 2]; 23] = [
 ];
 
 /// Nodes of no type, of a type without a form, or of a length that their type doesn't have.
-const WITHOUT_FORM: [[&str; 2]; 12] = [
+pub(crate) const WITHOUT_FORM: [[&str; 2]; 12] = [
     ["0000 0400 7fff0400", "Path(0,0)"],
     ["0601 0500 ab 7fff0400", "Path(6,1,AB)"],
     ["80ff 0600 0102 7fff0400", "Path(128,255,0102)"],
@@ -114,7 +114,7 @@ const WITHOUT_FORM: [[&str; 2]; 12] = [
 ];
 
 /// Nodes of which the form of their type lacks a part.
-const WITHOUT_A_PART: [[&str; 2]; 47] = [
+pub(crate) const WITHOUT_A_PART: [[&str; 2]; 47] = [
     ["0301 0800 02000100 7fff0400", "Path(3,1,02000100)"],
     ["0301 0800 00020100 7fff0400", "Path(3,1,00020100)"],
     [
@@ -273,7 +273,7 @@ const WITHOUT_A_PART: [[&str; 2]; 47] = [
 ];
 
 /// Instances, and nodes that end them.
-const PATHS: [[&str; 2]; 11] = [
+pub(crate) const PATHS: [[&str; 2]; 11] = [
     ["7fff0400", ""],
     ["7f010400 7fff0400", ","],
     ["01010600 0002 7fff0400", "Pci(0x2,0x0)"],
