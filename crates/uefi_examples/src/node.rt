@@ -61,10 +61,7 @@ pub fn path_string(alloc: Global, path: DevicePath<'_>) -> Result<String, AllocE
 }
 
 /// Builds the path of a text, such as `PciRoot(0x0)/Pci(0x2,0x0)`, in a buffer.
-pub fn path_from_text<'a>(
-    buffer: &'a mut [u8],
-    text: &str,
-) -> Result<DevicePath<'a>, FromTextError>
+pub fn path_from_text<'a>(buffer: &'a mut [u8], text: &str) -> Result<DevicePath<'a>, FromTextError>
     ensures { IfOk result (λ path. IsTextOf (path_nodes path) text.now) }
 {
     from_text(buffer, text)
