@@ -46,7 +46,9 @@ impl<'a> Call<'a> {
         } else {
             Some(arguments)
         };
-        check(&form.arguments, texts, arguments.len())?;
+        if let Err(fault) = check(&form.arguments, texts, arguments.len()) {
+            return Err(fault.or_excess(excess(&form.arguments, texts, arguments.len())));
+        }
         let call = Call { form, texts };
         let Some(size) = call.data_len() else {
             return Err(Fault {

@@ -30,6 +30,20 @@ impl Fault {
         }
     }
 
+    /// Returns the fault of a node that is too long from an offset on, or this one if it is before.
+    pub(crate) fn or_excess(self, excess: usize) -> Fault
+        ensures { result.offset ≤ self.offset }
+    {
+        if excess < self.offset {
+            Fault {
+                offset: excess,
+                kind: FaultKind::TooLong,
+            }
+        } else {
+            self
+        }
+    }
+
     /// Returns the other fault, or this one if it is farther.
     pub(crate) fn or_farther(self, other: Fault) -> Fault
         ensures { (n : ℕ) → self.offset ≤ n → other.offset ≤ n → result.offset ≤ n }

@@ -82,7 +82,7 @@ fn read_closed<'a>(
 {
     let opening = offset + name.len();
     match read_call(name.as_bytes(), arguments.as_bytes()) {
-        Reading::Unknown => Err(FromTextError::UnknownNode(opening)),
+        Reading::Unknown => Err(unknown_error(name, offset)),
         Reading::Wrong(fault) => Err(error_at(fault, opening + 1)),
         Reading::Node(call) => Ok(TextNode::Call(call)),
     }
@@ -97,7 +97,7 @@ fn unclosed_error(name: &str, arguments: &str, offset: usize) -> FromTextError
     let opening = offset + name.len();
     let end = opening + 1 + arguments.len();
     match read_call(name.as_bytes(), arguments.as_bytes()) {
-        Reading::Unknown => FromTextError::UnknownNode(opening),
+        Reading::Unknown => unknown_error(name, offset),
         Reading::Wrong(fault) => error_before(fault, opening + 1, end),
         Reading::Node(_) => FromTextError::Missing(end),
     }
@@ -143,11 +143,38 @@ fn read_name_piece(text: &str, offset: usize) -> Result<(TextNode<'_>, &str), Fr
         return Err(FromTextError::Missing(offset));
     }
     if let Err(at) = check_name(name) {
-        return Err(FromTextError::Argument(offset + at));
+        return Err(name_error(name, at, offset));
     }
     match data_len(name) {
         Some(_) => Ok((TextNode::FileName(FileName::new(name)), rest)),
         None => Err(FromTextError::TooLong(offset + first_excess(name))),
+    }
+}
+
+/// Returns the error of a name that is at an offset and has a character that no name may have.
+fn name_error(name: &str, at: usize, offset: usize) -> FromTextError
+    requires few { offset + length name.now < 2 ^ 64 }
+    requires within { at ≤ length name.now }
+    ensures { IsFrom offset (length name.now) result }
+{
+    let excess = first_excess(name);
+    if excess < at {
+        FromTextError::TooLong(offset + excess)
+    } else {
+        FromTextError::Argument(offset + at)
+    }
+}
+
+/// Returns the error of a name that is at an offset and before a parenthesis, and that no form has.
+fn unknown_error(name: &str, offset: usize) -> FromTextError
+    requires { offset + length name.now < 2 ^ 64 }
+    ensures { IsFrom offset (length name.now) result }
+{
+    let excess = first_excess(name);
+    if excess < name.len() {
+        FromTextError::TooLong(offset + excess)
+    } else {
+        FromTextError::UnknownNode(offset + name.len())
     }
 }
 

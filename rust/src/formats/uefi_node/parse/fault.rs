@@ -28,6 +28,19 @@ impl Fault {
         }
     }
 
+    /// Returns the fault of a node that is too long from an offset on, or this one if it is before.
+    #[inline]
+    pub(crate) fn or_excess(self, excess: usize) -> Fault {
+        if excess < self.offset {
+            Fault {
+                offset: excess,
+                kind: FaultKind::TooLong,
+            }
+        } else {
+            self
+        }
+    }
+
     /// Returns the other fault, or this one if it is farther.
     #[inline]
     pub(crate) fn or_farther(self, other: Fault) -> Fault {
