@@ -5,4 +5,5 @@ mod events;
 mod json;
 mod replay;
 mod text;
+mod types;
 mod verify;

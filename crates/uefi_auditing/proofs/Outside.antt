@@ -4,7 +4,7 @@ use Rattle.std.specs.Prelude.{Bool, true, false, ◌==◌}
 use Rattle.std.proofs.lemmas.Bool.{eqb-true, true≢false}
 use Rattle.uefi_tcg.specs.v2.Event.{Event}
 use Rattle.uefi_auditing.specs.declared.check.form.Form.{Form}
-use Rattle.uefi_auditing.specs.Check.{IsOutside, MayMeasureOther, MayNameFile, forms_of, measures_tagged}
+use Rattle.uefi_auditing.specs.Check.{IsOutside, MayMeasureOther, forms_of}
 
 empty_is : (forms : List Form) (empty : Bool) → empty ≡ (length forms == 0) → empty ≡ true → forms ≡ []
 empty_is [] empty is so = refl
@@ -26,16 +26,3 @@ pub not_outside : (event : Event) (forms : List Form) (empty other : Bool) → f
 not_outside event forms empty other are is no_empty may no_other (inl none) = some_is forms empty is no_empty (are ∙ none)
 not_outside event forms empty other are is no_empty may no_other (inr may_be) =
     true≢false (sym (may.1 may_be) ∙ no_other)
-
--- The data are tagged, or name a file.
-pub other_by_tag : (event : Event) (tagged : Bool) → tagged ≡ measures_tagged event.event_type → tagged ≡ true
-    → IsTrue true ↔ MayMeasureOther event
-other_by_tag event tagged is so = ((λ yes_is. inl (sym is ∙ so)), λ may. refl)
-
-pub other_by_file : (event : Event) (tagged named : Bool) → tagged ≡ measures_tagged event.event_type → tagged ≡ false
-    → IsTrue named ↔ MayNameFile event → IsTrue named ↔ MayMeasureOther event
-other_by_file event tagged named is no_tag may = ((λ so. inr (may.0 so)), λ it. named_by it)
-  where
-    named_by : MayMeasureOther event → IsTrue named
-    named_by (inl tag) = absurd (true≢false (sym tag ∙ sym is ∙ no_tag))
-    named_by (inr file) = may.1 file

@@ -2,6 +2,9 @@
 use Rattle.std.specs.Prelude.{ℕ, ◌≡◌, ◌⊎◌, ◌==◌, ◌||◌, ◌&&◌, not, Bool, true, List, [], ◌∷◌, ◌++◌, codes, flat_map, Some, if◌then◌else◌}
 use Rattle.std.specs.List.{All, Contains, list_all, list_any}
 use Rattle.uefi_tcg.specs.content.Variable.{Variable, ReadsVariable}
+use Rattle.uefi_tcg.specs.declared.event_type.TheConstants.EventType.{SEPARATOR, ACTION, EVENT_TAG, CRTM_VERSION, PLATFORM_CONFIG_FLAGS, TABLE_OF_DEVICES, IPL, OMIT_BOOT_DEVICE_EVENTS}
+use Rattle.uefi_tcg.specs.declared.event_type.TheConstants.EventType.{EFI_VARIABLE_DRIVER_CONFIG, EFI_VARIABLE_BOOT, EFI_GPT_EVENT, EFI_ACTION, EFI_VARIABLE_BOOT2, EFI_GPT_EVENT2, EFI_VARIABLE_AUTHORITY}
+use Rattle.uefi_tcg.specs.declared.event_type.TheConstants.EventType.{EFI_SPDM_FIRMWARE_BLOB, EFI_SPDM_FIRMWARE_CONFIG, EFI_SPDM_DEVICE_POLICY, EFI_SPDM_DEVICE_AUTHORITY}
 use Rattle.uefi_tcg.specs.v2.Event.{Event}
 use Rattle.pcr_replay.specs.declared.bank.Bank.{Bank}
 use Rattle.pcr_replay.specs.Measured.{is_hash_of}
@@ -16,26 +19,30 @@ use Rattle.uefi_auditing.specs.Replay.{all_banks}
 abbrev pub is_one_of : List ℕ → ℕ → Bool
 is_one_of numbers number = list_any (λ it. it == number) numbers
 
--- The types whose events measure all of their data: `EV_SEPARATOR`, `EV_ACTION`, `EV_EVENT_TAG`, `EV_S_CRTM_VERSION`, `EV_PLATFORM_CONFIG_FLAGS`, `EV_TABLE_OF_DEVICES`, `EV_OMIT_BOOT_DEVICE_EVENTS`, `EV_EFI_VARIABLE_DRIVER_CONFIG`, `EV_EFI_GPT_EVENT`, `EV_EFI_ACTION` and `EV_EFI_VARIABLE_AUTHORITY`.
+-- The types whose events measure all of their data.
 abbrev pub measures_data : ℕ → Bool
-measures_data = is_one_of (0x04 ∷ 0x05 ∷ 0x06 ∷ 0x08 ∷ 0x0a ∷ 0x0b ∷ 0x12 ∷ 0x80000001 ∷ 0x80000006 ∷ 0x80000007 ∷ 0x800000e0 ∷ [])
+measures_data =
+    is_one_of (SEPARATOR.0 ∷ ACTION.0 ∷ CRTM_VERSION.0 ∷ OMIT_BOOT_DEVICE_EVENTS.0 ∷ EFI_VARIABLE_DRIVER_CONFIG.0
+    ∷ EFI_GPT_EVENT.0 ∷ EFI_ACTION.0 ∷ EFI_VARIABLE_AUTHORITY.0 ∷ [])
 
--- `EV_EFI_VARIABLE_BOOT` and `EV_EFI_VARIABLE_BOOT2`: firmware measures the variable's value, or the whole structure.
+-- The types whose events measure their data, or what these describe: tagged data, and where firmware chooses the data.
+abbrev pub may_describe : ℕ → Bool
+may_describe =
+    is_one_of (EVENT_TAG.0 ∷ PLATFORM_CONFIG_FLAGS.0 ∷ TABLE_OF_DEVICES.0 ∷ EFI_GPT_EVENT2.0 ∷ EFI_SPDM_FIRMWARE_BLOB.0
+    ∷ EFI_SPDM_FIRMWARE_CONFIG.0 ∷ EFI_SPDM_DEVICE_POLICY.0 ∷ EFI_SPDM_DEVICE_AUTHORITY.0 ∷ [])
+
+-- The types of variables of booting: firmware measures the variable's value, or the whole structure.
 abbrev pub measures_value : ℕ → Bool
-measures_value = is_one_of (0x80000002 ∷ 0x8000000c ∷ [])
+measures_value = is_one_of (EFI_VARIABLE_BOOT.0 ∷ EFI_VARIABLE_BOOT2.0 ∷ [])
 
--- `EV_EVENT_TAG`, whose data are tagged.
-abbrev pub measures_tagged : ℕ → Bool
-measures_tagged event_type = event_type == 0x06
-
--- `EV_IPL`, whose data are a text.
+-- The type whose data are a text.
 abbrev pub measures_text : ℕ → Bool
-measures_text event_type = event_type == 0x0d
+measures_text event_type = event_type == IPL.0
 
 -- The forms of what events of a type measure. Of other types the log has nothing that is measured.
 unfoldable pub forms_of : ℕ → List Form
 forms_of event_type =
-    if measures_data event_type then Data ∷ []
+    if measures_data event_type || may_describe event_type then Data ∷ []
     else if measures_value event_type then VariableValue ∷ Data ∷ []
     else if measures_text event_type then Data ∷ WithoutNul ∷ WithNul ∷ Command ∷ Narrowed ∷ []
     else []
@@ -87,9 +94,9 @@ IsFirstMatch event forms form = (before : List Form) × (after : List Form) × (
 abbrev pub MayNameFile : Event → Type 0
 MayNameFile event = (measures_text event.event_type ≡ true) × ((command : List ℕ) → IsCommand event.event_data command → ⊥)
 
--- The data may name what was measured, which isn't in the log: Linux's stub and systemd-stub tag the options of a loaded image and the initial RAM disk by their names, and a text may name a file.
+-- The data may describe or name what was measured, which isn't in the log: Linux's stub and systemd-stub tag the options of a loaded image and the initial RAM disk by their names, OVMF writes `ACPI DATA` for tables, and a text may name a file.
 abbrev pub MayMeasureOther : Event → Type 0
-MayMeasureOther event = (measures_tagged event.event_type ≡ true) ⊎ MayNameFile event
+MayMeasureOther event = (may_describe event.event_type ≡ true) ⊎ MayNameFile event
 
 -- The log doesn't have what was measured: the event's type has no forms, or the event may measure something else than its data.
 abbrev pub IsOutside : Event → Type 0

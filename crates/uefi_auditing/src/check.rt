@@ -5,10 +5,11 @@
 ghost use Rattle.std.specs.Prelude.{◌≡◌, ◌↔◌, ◌++◌, IfOk, IsTrue, MatchOption};
 ghost use Rattle.std.specs.List.{list_all};
 ghost use Rattle.pcr_replay.specs.Views.{event_of};
-ghost use Rattle.uefi_auditing.specs.Check.{agrees, are_hashes, has_digests, IsChecked, IsFirstMatch, MatchesBy, MatchesNoneOf, MayMeasureOther, MayNameFile, measures_tagged};
+ghost use Rattle.uefi_auditing.specs.Check.{agrees, are_hashes, has_digests, IsChecked, IsFirstMatch, MatchesBy, MatchesNoneOf, MayMeasureOther, MayNameFile};
 ghost use Rattle.uefi_auditing.specs.Replay.{all_banks};
 ghost use Rattle.uefi_auditing.specs.declared.check.form.Form.TheVariants.{Command, Narrowed, VariableValue, WithoutNul};
 
+use self::form::may_describe;
 pub use self::form::{Form, forms_of};
 pub use self::json_lines::{check_summary_line, mismatch_line};
 pub use self::line::{push_check, push_check_summary};
@@ -25,9 +26,6 @@ mod json_lines;
 mod line;
 mod measured;
 mod summary;
-
-/// The number of the type `EV_EVENT_TAG`.
-const EVENT_TAG: u32 = 0x06;
 
 /// What the digests of an event say of its data.
 #[derive(Clone, Copy, PartialEq, Eq, Debug)]
@@ -46,8 +44,9 @@ pub enum Checked {
 /// [`Bank::ALL`], and it has one.
 ///
 /// An event that matches in none of the forms may measure something else than its data, which the
-/// log doesn't have: a file that a text of `EV_IPL` names, or what the data of `EV_EVENT_TAG` name,
-/// such as the initial RAM disk that Linux's stub measures.
+/// log doesn't have: a file that a text of `EV_IPL` names, what the data of `EV_EVENT_TAG` name,
+/// such as the initial RAM disk that Linux's stub measures, or what firmware describes, such as
+/// OVMF's tables in events of `EV_PLATFORM_CONFIG_FLAGS`.
 ///
 /// # Errors
 ///
@@ -83,19 +82,11 @@ fn first_match(
     Ok(None)
 }
 
-/// Returns whether the data of an event may name what was measured: they are tagged, or a text that
-/// is no command.
+/// Returns whether the data of an event may describe or name what was measured.
 fn may_measure_other(event: &LogEvent<'_>) -> bool
     ensures { IsTrue result ↔ MayMeasureOther (event_of event.now) }
 {
-    is_tagged(event) || may_name_file(event)
-}
-
-/// Returns whether an event has the type of tagged data.
-fn is_tagged(event: &LogEvent<'_>) -> bool
-    ensures { result ≡ measures_tagged (event_of event.now).event_type }
-{
-    event.event_type().0 == EVENT_TAG
+    may_describe(event.event_type()) || may_name_file(event)
 }
 
 /// Returns whether an event has the type of a text, and the text is no command.

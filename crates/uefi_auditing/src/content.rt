@@ -13,11 +13,11 @@ ghost use Rattle.uefi_auditing.specs.content.Header.{ReadsHeader};
 ghost use Rattle.uefi_auditing.specs.content.Views.{content_of};
 ghost use Rattle.uefi_auditing.specs.declared.content.form.Form.TheVariants.{OfAuthority, OfCrtmVersion, OfDescribedBlob, OfGpt, OfImage, OfLoaderText, OfTagged, OfVariable};
 
+pub use self::form::{Form, form_of};
 pub(crate) use self::path::path_text;
 pub use self::said::push_said;
 pub use self::tagged::TaggedData;
 pub use self::value::VariableValue;
-use crate::content::form::{Form, form_of};
 use crate::content::path::whole_path;
 use crate::content::value::read_value;
 use crate::content::value_form::{authority_form, value_form};

@@ -65,8 +65,9 @@ def head(source, keyword):
 
 
 def attributes(source, tests):
-    """`Debug` for each type; `#[inline]` for each function of the library but those that display, since a
-    caller in another crate sees only such bodies."""
+    """`Debug` for each type without an `impl` of it; `#[inline]` for each function of the library but those
+    that display, since a caller in another crate sees only such bodies."""
+    by_hand = re.findall(r'impl (?:fmt::)?Debug for (\w+)', source.text())
     for i in range(len(source.tokens) - 2, -1, -1):
         if not source.is_name(i, 'struct', 'enum', 'fn') or not source.is_name(i + 1):
             continue
@@ -76,6 +77,8 @@ def attributes(source, tests):
             has_body = source.at(source.until(i, ';', '{')) == '{'
             if has_body and not tests and 'inline' not in given and source.at(i + 1) != 'fmt':
                 source.insert(start, '#[inline]')
+        elif source.at(i + 1) in by_hand:
+            continue
         elif 'derive' not in given:
             source.insert(start, '#[derive(Debug)]')
         elif 'Debug' not in given:

@@ -10,7 +10,7 @@ use Rattle.uefi_auditing.specs.Replay.{all_banks}
 use Rattle.uefi_auditing.specs.content.Content.{Content}
 use Rattle.uefi_auditing.specs.json.Event.{digest_json, event_json, hashed_bank}
 use Rattle.uefi_auditing.specs.json.Event.{named_number, type_json}
-use Rattle.uefi_auditing.specs.json.Names.{type_name}
+use Rattle.uefi_tcg.specs.EventTypes.{event_type_name}
 use Rattle.uefi_auditing.specs.text.Banks.{bank_name}
 use Rattle.pcr_replay.specs.Measured.{is_hash_of_data}
 use Rattle.pcr_replay.specs.declared.bank.Bank.{Bank}
@@ -22,7 +22,7 @@ typed None n = refl
 
 pub event_type : (n : ℕ) → has_float (type_json n) ≡ false
 unfolding type_json
-event_type n = typed (type_name n) n
+event_type n = typed (event_type_name n) n
 
 digest : (digest : Digest) → has_float (digest_json digest) ≡ false
 unfolding digest_json

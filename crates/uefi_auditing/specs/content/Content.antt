@@ -1,5 +1,5 @@
 -- What the data of an event say, by the event's type (TCG PC Client Platform Firmware Profile 1.06, 10.4.1).
-use Rattle.std.specs.Prelude.{ℕ, ◌≡◌, ◌==◌, ◌&&◌, ◌||◌, nat_le, List, length, Option, Some, None, Bool, true, false, if◌then◌else◌}
+use Rattle.std.specs.Prelude.{ℕ, ◌≡◌, ◌==◌, ◌&&◌, nat_le, List, [], ◌∷◌, length, Option, Some, None, Bool, true, false, if◌then◌else◌}
 use Rattle.std.specs.List.{list_all}
 use Rattle.uefi_base.specs.LittleEndian.{u32_at}
 use Rattle.uefi_path.specs.Node.{Node}
@@ -11,7 +11,11 @@ use Rattle.uefi_tcg.specs.content.Image.{Image, ReadsImage}
 use Rattle.uefi_tcg.specs.content.Tagged.{Tagged, AreTagged}
 use Rattle.uefi_tcg.specs.content.Text.{EventText, ReadsText}
 use Rattle.uefi_tcg.specs.content.Variable.{Variable, ReadsVariable}
+use Rattle.uefi_tcg.specs.declared.event_type.TheConstants.EventType.{POST_CODE, NO_ACTION, SEPARATOR, ACTION, EVENT_TAG, CRTM_VERSION, IPL, OMIT_BOOT_DEVICE_EVENTS, POST_CODE2}
+use Rattle.uefi_tcg.specs.declared.event_type.TheConstants.EventType.{EFI_VARIABLE_DRIVER_CONFIG, EFI_VARIABLE_BOOT, EFI_BOOT_SERVICES_APPLICATION, EFI_BOOT_SERVICES_DRIVER, EFI_RUNTIME_SERVICES_DRIVER}
+use Rattle.uefi_tcg.specs.declared.event_type.TheConstants.EventType.{EFI_GPT_EVENT, EFI_ACTION, EFI_PLATFORM_FIRMWARE_BLOB, EFI_PLATFORM_FIRMWARE_BLOB2, EFI_VARIABLE_BOOT2, EFI_GPT_EVENT2, EFI_HCRTM_EVENT, EFI_VARIABLE_AUTHORITY}
 use Rattle.uefi_tcg.specs.v2.Header.{Header}
+use Rattle.uefi_auditing.specs.Check.{is_one_of}
 use Rattle.uefi_auditing.specs.content.Header.{ReadsHeader}
 use Rattle.uefi_auditing.specs.content.Path.{ReadsNodes}
 use Rattle.uefi_auditing.specs.content.Value.{Value, SaysValue, authority_form, value_form}
@@ -39,19 +43,19 @@ pub data Content : Type 0 where
 -- The form that data have in events of a type.
 unfoldable pub form_of : ℕ → Form
 form_of event_type =
-    if event_type == 0x01 then OfPostCode
-    else if event_type == 0x03 then OfNoAction
-    else if event_type == 0x04 then OfSeparator
-    else if (event_type == 0x05) || (event_type == 0x12) || (event_type == 0x80000007) || (event_type == 0x80000010) then OfText
-    else if event_type == 0x06 then OfTagged
-    else if event_type == 0x08 then OfCrtmVersion
-    else if event_type == 0x0d then OfLoaderText
-    else if (event_type == 0x13) || (event_type == 0x8000000a) then OfDescribedBlob
-    else if (event_type == 0x80000001) || (event_type == 0x80000002) || (event_type == 0x8000000c) then OfVariable
-    else if (event_type == 0x80000003) || (event_type == 0x80000004) || (event_type == 0x80000005) then OfImage
-    else if (event_type == 0x80000006) || (event_type == 0x8000000d) then OfGpt
-    else if event_type == 0x80000008 then OfBlob
-    else if event_type == 0x800000e0 then OfAuthority
+    if event_type == POST_CODE.0 then OfPostCode
+    else if event_type == NO_ACTION.0 then OfNoAction
+    else if event_type == SEPARATOR.0 then OfSeparator
+    else if is_one_of (ACTION.0 ∷ OMIT_BOOT_DEVICE_EVENTS.0 ∷ EFI_ACTION.0 ∷ EFI_HCRTM_EVENT.0 ∷ []) event_type then OfText
+    else if event_type == EVENT_TAG.0 then OfTagged
+    else if event_type == CRTM_VERSION.0 then OfCrtmVersion
+    else if event_type == IPL.0 then OfLoaderText
+    else if is_one_of (POST_CODE2.0 ∷ EFI_PLATFORM_FIRMWARE_BLOB2.0 ∷ []) event_type then OfDescribedBlob
+    else if is_one_of (EFI_VARIABLE_DRIVER_CONFIG.0 ∷ EFI_VARIABLE_BOOT.0 ∷ EFI_VARIABLE_BOOT2.0 ∷ []) event_type then OfVariable
+    else if is_one_of (EFI_BOOT_SERVICES_APPLICATION.0 ∷ EFI_BOOT_SERVICES_DRIVER.0 ∷ EFI_RUNTIME_SERVICES_DRIVER.0 ∷ []) event_type then OfImage
+    else if is_one_of (EFI_GPT_EVENT.0 ∷ EFI_GPT_EVENT2.0 ∷ []) event_type then OfGpt
+    else if event_type == EFI_PLATFORM_FIRMWARE_BLOB.0 then OfBlob
+    else if event_type == EFI_VARIABLE_AUTHORITY.0 then OfAuthority
     else Other
 
 -- What is found, or nothing.

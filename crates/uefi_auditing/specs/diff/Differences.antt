@@ -13,7 +13,7 @@ use Rattle.pcr_replay.specs.Logs.{HasContents}
 use Rattle.uefi_auditing.specs.content.Content.{Content, Says, form_of}
 use Rattle.uefi_auditing.specs.content.Said.{said}
 use Rattle.uefi_auditing.specs.declared.text.LogFile.{LogFile}
-use Rattle.uefi_auditing.specs.json.Names.{type_name}
+use Rattle.uefi_tcg.specs.EventTypes.{event_type_name}
 
 -- An entry of a log with its index, and what its data say.
 pub record Numbered : Type 0 where
@@ -73,7 +73,7 @@ words_text words = if length words == 0 then [] else codes ", " ++ words
 -- An event of a log: its type, what its data say, its index and its offset.
 unfoldable pub event_text : List ℕ → Numbered → List ℕ
 event_text name found =
-    type_text (type_of found) (type_name (type_of found)) ++ (words_text (said found.content)
+    type_text (type_of found) (event_type_name (type_of found)) ++ (words_text (said found.content)
     ++ (codes " (event " ++ (decimal found.index
     ++ (codes " at offset " ++ (decimal found.entry.offset ++ (codes " of " ++ (name ++ codes ")")))))))
 

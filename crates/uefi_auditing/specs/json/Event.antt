@@ -12,7 +12,7 @@ use Rattle.uefi_auditing.specs.content.Content.{Content, Says, form_of}
 use Rattle.uefi_auditing.specs.json.Algorithm.{algorithm_json}
 use Rattle.uefi_auditing.specs.json.Content.{content_json}
 use Rattle.uefi_auditing.specs.json.Line.{line_of}
-use Rattle.uefi_auditing.specs.json.Names.{type_name}
+use Rattle.uefi_tcg.specs.EventTypes.{event_type_name}
 use Rattle.uefi_auditing.specs.text.Banks.{bank_name}
 
 -- A digest: its algorithm, and its bytes in hex.
@@ -25,7 +25,7 @@ named_number (Some name) n = object (member (codes "name") (string name) (member
 named_number None n = object (member (codes "number") (number (unsigned n)) no_members)
 
 unfoldable pub type_json : ℕ → Data
-type_json event_type = named_number (type_name event_type) event_type
+type_json event_type = named_number (event_type_name event_type) event_type
 
 -- The bank's name, if the event's digest of the bank is the hash of its data.
 unfoldable pub hashed_bank : Event → Bank → List Data

@@ -1,5 +1,5 @@
 ghost use Rattle.std.specs.Prelude.{◌≡◌, ◌<◌, slice_get};
-ghost use Rattle.uefi_auditing.specs.Check.{forms_of};
+ghost use Rattle.uefi_auditing.specs.Check.{forms_of, may_describe};
 
 use uefi_tcg::EventType;
 
@@ -27,17 +27,22 @@ pub enum Form {
 pub fn forms_of(event_type: EventType) -> &'static [Form]
     ensures { result.now ≡ forms_of event_type.0 }
 {
-    match event_type.0 {
-        // EV_SEPARATOR, EV_ACTION, EV_EVENT_TAG, EV_S_CRTM_VERSION, EV_PLATFORM_CONFIG_FLAGS,
-        // EV_TABLE_OF_DEVICES and EV_OMIT_BOOT_DEVICE_EVENTS.
-        0x04 | 0x05 | 0x06 | 0x08 | 0x0a | 0x0b | 0x12 => &[Form::Data],
-        // EV_EFI_VARIABLE_DRIVER_CONFIG, EV_EFI_GPT_EVENT, EV_EFI_ACTION and
-        // EV_EFI_VARIABLE_AUTHORITY.
-        0x8000_0001 | 0x8000_0006 | 0x8000_0007 | 0x8000_00e0 => &[Form::Data],
-        // EV_EFI_VARIABLE_BOOT and EV_EFI_VARIABLE_BOOT2.
-        0x8000_0002 | 0x8000_000c => &[Form::VariableValue, Form::Data],
-        // EV_IPL.
-        0x0d => &[
+    if may_describe(event_type) {
+        return &[Form::Data];
+    }
+    match event_type {
+        EventType::SEPARATOR
+        | EventType::ACTION
+        | EventType::CRTM_VERSION
+        | EventType::OMIT_BOOT_DEVICE_EVENTS
+        | EventType::EFI_VARIABLE_DRIVER_CONFIG
+        | EventType::EFI_GPT_EVENT
+        | EventType::EFI_ACTION
+        | EventType::EFI_VARIABLE_AUTHORITY => &[Form::Data],
+        EventType::EFI_VARIABLE_BOOT | EventType::EFI_VARIABLE_BOOT2 => {
+            &[Form::VariableValue, Form::Data]
+        }
+        EventType::IPL => &[
             Form::Data,
             Form::WithoutNul,
             Form::WithNul,
@@ -46,6 +51,24 @@ pub fn forms_of(event_type: EventType) -> &'static [Form]
         ],
         _ => &[],
     }
+}
+
+/// Returns whether events of a type measure their data, or what these describe: their data are
+/// tagged, or firmware chooses them.
+pub(crate) fn may_describe(event_type: EventType) -> bool
+    ensures { result ≡ may_describe event_type.0 }
+{
+    matches!(
+        event_type,
+        EventType::EVENT_TAG
+            | EventType::PLATFORM_CONFIG_FLAGS
+            | EventType::TABLE_OF_DEVICES
+            | EventType::EFI_GPT_EVENT2
+            | EventType::EFI_SPDM_FIRMWARE_BLOB
+            | EventType::EFI_SPDM_FIRMWARE_CONFIG
+            | EventType::EFI_SPDM_DEVICE_POLICY
+            | EventType::EFI_SPDM_DEVICE_AUTHORITY
+    )
 }
 
 impl Form {

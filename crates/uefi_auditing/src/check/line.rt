@@ -4,7 +4,6 @@
 
 use crate::check::summary::{CheckSummary, TypeCounts};
 use crate::check::{Checked, Form};
-use crate::json::names::type_name;
 use pcr_replay::LogEvent;
 use std::alloc::AllocError;
 use uefi_tcg::EventType;
@@ -89,7 +88,7 @@ fn push_forms(text: &mut String, counts: &TypeCounts) -> Result<(), AllocError> 
 
 /// Appends the name of a type, or its number.
 fn push_type(text: &mut String, event_type: EventType) -> Result<(), AllocError> {
-    match type_name(event_type) {
+    match event_type.name() {
         Some(name) => text.push_str(name),
         None => {
             let number = event_type.0;

@@ -3,12 +3,11 @@ ghost use Rattle.uefi_base.specs.Appending.{AppendsText};
 ghost use Rattle.uefi_auditing.specs.content.Said.{said};
 ghost use Rattle.uefi_auditing.specs.content.Views.{content_of};
 ghost use Rattle.uefi_auditing.specs.diff.Differences.{event_text, first_line, last_line, only_line, other_line, place_text, type_text, words_text};
-ghost use Rattle.uefi_auditing.specs.json.Names.{type_name};
+ghost use Rattle.uefi_tcg.specs.EventTypes.{event_type_name};
 ghost use Rattle.uefi_auditing.specs.private.diff.Views.{numbered_of};
 
 use crate::content::{Content, push_said};
 use crate::diff::pcr::NumberedEntry;
-use crate::json::names::type_name;
 use std::alloc::{AllocError, Global};
 use uefi_tcg::EventType;
 
@@ -140,9 +139,9 @@ fn push_words(text: &mut String, alloc: Global, content: &Content<'_>) -> Result
 #[tactic(auto, unfolding(crate::specs::diff::Differences::type_text))]
 fn push_type(text: &mut String, event_type: EventType) -> Result<(), AllocError>
     ensures { OnOk result (AppendsText text.old text.new
-        (type_text event_type.0 (type_name event_type.0))) }
+        (type_text event_type.0 (event_type_name event_type.0))) }
 {
-    match type_name(event_type) {
+    match event_type.name() {
         Some(name) => text.push_str(name),
         None => {
             let number = event_type.0;

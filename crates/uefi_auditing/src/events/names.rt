@@ -1,5 +1,5 @@
 use crate::json::content::texts::{byte_text, name_text, text_before_nul};
-use crate::json::names::{algorithm_name, type_name};
+use crate::json::names::algorithm_name;
 use crate::text::ShownName;
 use std::alloc::{AllocError, Global};
 use uefi_base::UnalignedSlice;
@@ -7,7 +7,7 @@ use uefi_tcg::{AlgorithmId, EventType};
 
 /// Appends the name of a type of events, or its number.
 pub(crate) fn push_type(text: &mut String, event_type: EventType) -> Result<(), AllocError> {
-    match type_name(event_type) {
+    match event_type.name() {
         Some(name) => text.push_str(name),
         None => {
             let number = event_type.0;

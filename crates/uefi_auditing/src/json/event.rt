@@ -10,7 +10,6 @@ use crate::content::{Content, read_content};
 use crate::json::content::content_json;
 use crate::json::digests::{digests_json, hashed_banks};
 use crate::json::line::line_of;
-use crate::json::names::type_name;
 use pcr_replay::LogEntry;
 use serde_json::{Map, Value, json, put};
 use std::alloc::{AllocError, Global};
@@ -137,7 +136,7 @@ pub(crate) fn type_json(alloc: Global, event_type: EventType) -> Result<Value, A
     ensures { IfOk result (λ value. view value ≡ type_json event_type.0) }
 {
     let number = event_type.0;
-    match type_name(event_type) {
+    match event_type.name() {
         Some(name) => json!(in alloc; {"name": name, "number": number}),
         None => json!(in alloc; {"number": number}),
     }

@@ -2,7 +2,9 @@
 
 mod capabilities;
 mod content;
+mod iterators;
 mod machine_log;
+mod names;
 mod texts;
 mod v1;
 mod v2;

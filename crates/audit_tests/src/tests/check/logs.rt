@@ -7,7 +7,7 @@ use uefi_auditing::check::{Checked, Form, check};
 /// Logs, and a word for each of their events: the form in which its digests match, `none` if it has
 /// none, and `outside` if the log doesn't have what was measured. The digests are those of another
 /// implementation.
-const LOGS: [[&str; 2]; 18] = [
+const LOGS: [[&str; 2]; 19] = [
     // A separator, an action and a table.
     [
         "00000000030000000000000000000000000000000000000000000000210000005370656320494420 \
@@ -17,6 +17,19 @@ const LOGS: [[&str; 2]; 18] = [
          6c69636174696f6e010000000b0000000100000004007037807198c22a7d2b0807371d763779a84f \
          dfcf03000000010203",
         "data data data",
+    ],
+    // Data that firmware chooses: OVMF writes them for tables, and measures these.
+    [
+        "00000000030000000000000000000000000000000000000000000000210000005370656320494420 \
+         4576656e743033000000000000020002010000000400140000010000000a00000001000000040039 \
+         15396b5fe58dce8505b3e62c31b4f79b3ccc2c09000000414350492044415441010000000a000000 \
+         01000000040090e8b81bcee7217c49db9c09d6e3b278fcca0e6b0900000041435049204441544101 \
+         0000000b0000000100000004003915396b5fe58dce8505b3e62c31b4f79b3ccc2c03000000010203 \
+         050000000d0000800100000004003915396b5fe58dce8505b3e62c31b4f79b3ccc2c010000000102 \
+         000000e10000800100000004000ca623e2855f2c75c842ad302fe820e41b4d197d02000000010202 \
+         000000e20000800100000004003915396b5fe58dce8505b3e62c31b4f79b3ccc2c02000000010207 \
+         000000010000800100000004003915396b5fe58dce8505b3e62c31b4f79b3ccc2c0100000001",
+        "outside data outside outside data outside none",
     ],
     // A separator whose digest is that of other bytes.
     [
