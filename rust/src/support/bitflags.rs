@@ -12,6 +12,7 @@ pub trait Flags: Sized + Copy + 'static {
         + PartialEq
         + core::ops::BitAnd<Output = Self::Bits>
         + core::ops::BitOr<Output = Self::Bits>
+        + core::ops::Not<Output = Self::Bits>
         + Default;
 
     fn flags<'a>() -> &'a [Flag<Self>];
@@ -40,12 +41,36 @@ pub trait Flags: Sized + Copy + 'static {
         }
     }
 
+    fn is_empty(&self) -> bool {
+        self.bits() == Self::Bits::default()
+    }
+
+    fn is_all(&self) -> bool {
+        self.contains(Self::all())
+    }
+
+    fn intersects(&self, other: Self) -> bool {
+        self.bits() & other.bits() != Self::Bits::default()
+    }
+
     fn contains(&self, other: Self) -> bool {
         self.bits() & other.bits() == other.bits()
     }
 
     fn union(self, other: Self) -> Self {
         Self::from_bits_retain(self.bits() | other.bits())
+    }
+
+    fn insert(&mut self, other: Self) {
+        *self = self.union(other);
+    }
+
+    fn remove(&mut self, other: Self) {
+        *self = self.difference(other);
+    }
+
+    fn difference(self, other: Self) -> Self {
+        Self::from_bits_retain(self.bits() & !other.bits())
     }
 }
 
@@ -67,11 +92,37 @@ macro_rules! items {
             }
         }
 
+        impl core::ops::BitOrAssign for $name {
+            fn bitor_assign(&mut self, other: $name) {
+                self.0 |= other.0;
+            }
+        }
+
         impl core::ops::BitAnd for $name {
             type Output = $name;
 
             fn bitand(self, other: $name) -> $name {
                 $name(self.0 & other.0)
+            }
+        }
+
+        impl core::ops::BitAndAssign for $name {
+            fn bitand_assign(&mut self, other: $name) {
+                self.0 &= other.0;
+            }
+        }
+
+        impl core::ops::Sub for $name {
+            type Output = $name;
+
+            fn sub(self, other: $name) -> $name {
+                $name(self.0 & !other.0)
+            }
+        }
+
+        impl core::ops::SubAssign for $name {
+            fn sub_assign(&mut self, other: $name) {
+                self.0 &= !other.0;
             }
         }
 

@@ -95,6 +95,17 @@ fn a_table_has_entries(rt: HostRuntime) -> Result<(), Fail> {
 }
 
 #[test]
+fn an_iterator_of_entries_has_their_count(rt: HostRuntime) -> Result<(), Fail> {
+    let input = data(rt.alloc(), 128, 2, &[SYSTEM, LINUX])?;
+    let mut entries = GptData::read(input.as_slice()).ok_or("a table")?.iter();
+    let before = (entries.len(), entries.size_hint());
+    entries.next();
+    let after = (entries.len(), entries.size_hint());
+    let expected = ((2, (2, Some(2))), (1, (1, Some(1))));
+    same("before and after one", &(before, after), &expected)
+}
+
+#[test]
 fn bytes_that_are_no_table_are_refused(rt: HostRuntime) -> Result<(), Fail> {
     let alloc = rt.alloc();
     reads(alloc, 128, 1, &[], "none")?;

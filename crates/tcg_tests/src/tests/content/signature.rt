@@ -1,6 +1,6 @@
 use std::alloc::{AllocError, Global};
 use std::test::Fail;
-use test_support::{each_gives, each_makes, each_reads, same_text};
+use test_support::{bytes, each_gives, each_makes, each_reads, same, same_text};
 use uefi_base::Guid;
 use uefi_tcg::content::{SignatureData, SignatureList, SignatureLists, SignatureType};
 use uefi_tcg::laws;
@@ -49,6 +49,18 @@ fn a_database_has_lists_of_signatures(rt: HostRuntime) -> Result<(), Fail> {
         (EMPTY, Some((1, 0))),
     ];
     each_reads(rt.alloc(), &ROWS, counts)
+}
+
+#[test]
+fn an_iterator_of_signatures_has_their_count(rt: HostRuntime) -> Result<(), Fail> {
+    let input = bytes(rt.alloc(), HASHES)?;
+    let lists = SignatureLists::read(input.as_slice()).ok_or("lists")?;
+    let mut signatures = lists.iter().next().ok_or("a list")?.iter();
+    let before = (signatures.len(), signatures.size_hint());
+    signatures.next();
+    let after = (signatures.len(), signatures.size_hint());
+    let expected = ((2, (2, Some(2))), (1, (1, Some(1))));
+    same("before and after one", &(before, after), &expected)
 }
 
 #[test]

@@ -134,6 +134,50 @@ fn a_set_of_algorithms_is_made_of_named_bits_alone() -> Result<(), Fail> {
 }
 
 #[test]
+fn sets_of_algorithms_are_compared() -> Result<(), Fail> {
+    let both = HashAlgorithm::SHA1 | HashAlgorithm::SM3_256;
+    let all = !HashAlgorithm::empty();
+    let found = [
+        both.is_empty(),
+        HashAlgorithm::empty().is_empty(),
+        both.is_all(),
+        all.is_all(),
+        HashAlgorithm::from_bits_retain(0x11f).is_all(),
+        both.intersects(HashAlgorithm::SHA1),
+        both.intersects(HashAlgorithm::SHA256),
+        both.intersects(HashAlgorithm::empty()),
+    ];
+    let expected = [false, true, false, true, true, true, false, false];
+    same("empty, all, in common", &found, &expected)
+}
+
+#[test]
+fn sets_of_algorithms_change() -> Result<(), Fail> {
+    let mut set = HashAlgorithm::SHA1;
+    set.insert(HashAlgorithm::SHA256 | HashAlgorithm::SHA384);
+    let inserted = set.bits();
+    set.remove(HashAlgorithm::SHA256);
+    let removed = set.bits();
+    set |= HashAlgorithm::SHA512;
+    let joined = set.bits();
+    set &= HashAlgorithm::SHA1;
+    let found = [inserted, removed, joined, set.bits()];
+    same(
+        "inserted, removed, |=, &=",
+        &found,
+        &[0x07, 0x05, 0x0d, 0x01],
+    )?;
+    let two = HashAlgorithm::SHA1 | HashAlgorithm::SHA256;
+    let found = [
+        two.difference(HashAlgorithm::SHA256).bits(),
+        HashAlgorithm::SHA256.difference(two).bits(),
+        (two & HashAlgorithm::SHA256).bits(),
+        (!two).bits(),
+    ];
+    same("difference, &, !", &found, &[0x01, 0, 0x02, 0x1c])
+}
+
+#[test]
 fn names_are_numbers() -> Result<(), Fail> {
     same(
         "a type",
@@ -296,4 +340,30 @@ fn a_set_of_formats_is_made_of_named_bits_alone() -> Result<(), Fail> {
     let one = v2::EventLogFormat::TCG_1_2;
     let found = (both.contains(v2::EventLogFormat::TCG_2), one.contains(both));
     same("one in both, both aren't in one", &found, &(true, false))
+}
+
+#[test]
+fn sets_of_formats_are_compared_and_change() -> Result<(), Fail> {
+    let both = v2::EventLogFormat::TCG_1_2 | v2::EventLogFormat::TCG_2;
+    let found = [
+        both.is_empty(),
+        v2::EventLogFormat::empty().is_empty(),
+        both.is_all(),
+        v2::EventLogFormat::TCG_2.is_all(),
+        both.intersects(v2::EventLogFormat::TCG_2),
+        v2::EventLogFormat::TCG_1_2.intersects(v2::EventLogFormat::TCG_2),
+    ];
+    let expected = [false, true, true, false, true, false];
+    same("empty, all, in common", &found, &expected)?;
+    let mut set = v2::EventLogFormat::TCG_1_2;
+    set.insert(v2::EventLogFormat::TCG_2);
+    let inserted = set.bits();
+    set.remove(v2::EventLogFormat::TCG_1_2);
+    let found = [
+        inserted,
+        set.bits(),
+        both.difference(v2::EventLogFormat::TCG_2).bits(),
+        (!set).bits(),
+    ];
+    same("inserted, removed, difference, !", &found, &[3, 2, 1, 1])
 }

@@ -96,6 +96,17 @@ fn a_table_has_entries() -> Result<(), Fail> {
 }
 
 #[test]
+fn an_iterator_of_entries_has_their_count() -> Result<(), Fail> {
+    let input = data(128, 2, &[SYSTEM, LINUX])?;
+    let mut entries = GptData::read(input.as_slice()).ok_or("a table")?.iter();
+    let before = (entries.len(), entries.size_hint());
+    entries.next();
+    let after = (entries.len(), entries.size_hint());
+    let expected = ((2, (2, Some(2))), (1, (1, Some(1))));
+    same("before and after one", &(before, after), &expected)
+}
+
+#[test]
 fn bytes_that_are_no_table_are_refused() -> Result<(), Fail> {
     reads(128, 1, &[], "none")?;
     reads(128, 0, &[SYSTEM], "none")?;

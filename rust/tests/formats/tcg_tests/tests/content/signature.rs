@@ -4,7 +4,7 @@ use crate::support::fallible::*;
 
 use crate::support::alloc::AllocError;
 use crate::support::test::Fail;
-use crate::test_support::{each_gives, each_makes, each_reads, same_text};
+use crate::test_support::{bytes, each_gives, each_makes, each_reads, same, same_text};
 use crate::uefi_base::Guid;
 use crate::uefi_tcg::content::{SignatureData, SignatureList, SignatureLists, SignatureType};
 
@@ -52,6 +52,18 @@ fn a_database_has_lists_of_signatures() -> Result<(), Fail> {
         (EMPTY, Some((1, 0))),
     ];
     each_reads(&ROWS, counts)
+}
+
+#[test]
+fn an_iterator_of_signatures_has_their_count() -> Result<(), Fail> {
+    let input = bytes(HASHES)?;
+    let lists = SignatureLists::read(input.as_slice()).ok_or("lists")?;
+    let mut signatures = lists.iter().next().ok_or("a list")?.iter();
+    let before = (signatures.len(), signatures.size_hint());
+    signatures.next();
+    let after = (signatures.len(), signatures.size_hint());
+    let expected = ((2, (2, Some(2))), (1, (1, Some(1))));
+    same("before and after one", &(before, after), &expected)
 }
 
 #[test]
