@@ -1,5 +1,6 @@
 pub mod Prefix
 pub mod Flags
+pub mod Names
 pub mod LittleEndian
 pub mod Fields
 pub mod Buffer

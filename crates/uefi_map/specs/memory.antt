@@ -1,5 +1,6 @@
 pub mod Descriptor
 pub mod Map
+pub mod Types
 pub mod Flags
 pub mod Texts
 pub mod Views

@@ -1,3 +1,4 @@
+pub mod DeviceTypes
 pub mod Node
 pub mod Path
 pub mod Reading

@@ -1,7 +1,14 @@
+ghost use Rattle.std.specs.Prelude.{◌≡◌, codes, Some};
+ghost use Rattle.std.specs.Option.{option_map};
+ghost use Rattle.uefi_base.specs.Names.{named_text};
+ghost use Rattle.uefi_path.specs.DeviceTypes.{device_type_name};
+
+use std::fmt;
+
 /// The type of a device path node, its first byte (UEFI 2.10, 10.3).
 ///
 /// Numbers without a constant here are valid too.
-#[derive(Clone, Copy, PartialEq, Eq, Debug)]
+#[derive(Clone, Copy, PartialEq, Eq, PartialOrd, Ord, Hash)]
 #[repr(transparent)]
 pub struct DeviceType(pub u8);
 
@@ -24,12 +31,43 @@ impl DeviceType {
 
     /// The end of an instance or of the whole path (UEFI 2.10, 10.3.1).
     pub const END: DeviceType = DeviceType(0x7f);
+
+    /// Returns the standard's name of the type, such as `Hardware Device Path`; `None` for a number
+    /// without a constant here.
+    #[tactic(auto, unfolding(crate::specs::DeviceTypes::device_type_name))]
+    pub fn name(self) -> Option<&'static str>
+        ensures { option_map (λ name. name.now) result ≡ device_type_name self.0 }
+    {
+        match self {
+            DeviceType::HARDWARE => Some("Hardware Device Path"),
+            DeviceType::ACPI => Some("ACPI Device Path"),
+            DeviceType::MESSAGING => Some("Messaging Device Path"),
+            DeviceType::MEDIA => Some("Media Device Path"),
+            DeviceType::BIOS_BOOT_SPEC => Some("BIOS Boot Specification Device Path"),
+            DeviceType::END => Some("End of Hardware Device Path"),
+            _ => None,
+        }
+    }
+}
+
+/// Writes the name, such as `DeviceType(Media Device Path)`, or the number, such as
+/// `DeviceType(0xa0)`.
+impl fmt::Debug for DeviceType {
+    ghost debug_output = { λ device_type. Some
+        (named_text (codes "DeviceType") (device_type_name device_type.0) device_type.0) };
+
+    fn fmt<W: fmt::Write>(&self, f: &mut fmt::Formatter<W>) -> fmt::Result {
+        match self.name() {
+            Some(name) => write!(f, "DeviceType({name})"),
+            None => write!(f, "DeviceType(0x{:x})", self.0),
+        }
+    }
 }
 
 /// The subtype of a device path node, its second byte (UEFI 2.10, 10.3).
 ///
 /// Its meaning depends on the type. Numbers without a constant here are valid too.
-#[derive(Clone, Copy, PartialEq, Eq, Debug)]
+#[derive(Clone, Copy, PartialEq, Eq, PartialOrd, Ord, Hash, Debug)]
 #[repr(transparent)]
 pub struct DeviceSubType(pub u8);
 

@@ -8,7 +8,11 @@ use Rattle.uefi_map.specs.declared.memory.descriptor.TheConstants.MemoryDescript
 use Rattle.uefi_map.specs.declared.memory.map_error.MemoryMapError.TheVariants.{Misaligned, InvalidSize}
 use Rattle.uefi_map.specs.declared.memory.memory_attribute.TheConstants.MemoryAttribute.{UNCACHEABLE, WRITE_COMBINE}
 use Rattle.uefi_map.specs.declared.memory.memory_attribute.TheConstants.MemoryAttribute.{WRITE_THROUGH, WRITE_BACK}
-use Rattle.uefi_map.specs.declared.memory.memory_attribute.TheConstants.MemoryAttribute.{RUNTIME}
+use Rattle.uefi_map.specs.declared.memory.memory_attribute.TheConstants.MemoryAttribute.{UNCACHABLE_EXPORTED, RUNTIME, ISA_VALID, ISA_MASK}
+use Rattle.uefi_map.specs.declared.memory.memory_attribute.TheConstants.MemoryAttribute.{WRITE_PROTECT, READ_PROTECT}
+use Rattle.uefi_map.specs.declared.memory.memory_attribute.TheConstants.MemoryAttribute.{EXECUTE_PROTECT, READ_ONLY}
+use Rattle.uefi_map.specs.declared.memory.memory_attribute.TheConstants.MemoryAttribute.{NON_VOLATILE, MORE_RELIABLE}
+use Rattle.uefi_map.specs.declared.memory.memory_attribute.TheConstants.MemoryAttribute.{SPECIAL_PURPOSE, CPU_CRYPTO}
 use Rattle.uefi_map.specs.declared.memory.memory_type.TheConstants.MemoryType.{RESERVED, LOADER_CODE, LOADER_DATA}
 use Rattle.uefi_map.specs.declared.memory.memory_type.TheConstants.MemoryType.{BOOT_SERVICES_CODE, BOOT_SERVICES_DATA}
 use Rattle.uefi_map.specs.declared.memory.memory_type.TheConstants.MemoryType.{RUNTIME_SERVICES_CODE}
@@ -16,7 +20,7 @@ use Rattle.uefi_map.specs.declared.memory.memory_type.TheConstants.MemoryType.{R
 use Rattle.uefi_map.specs.declared.memory.memory_type.TheConstants.MemoryType.{UNUSABLE, ACPI_RECLAIM}
 use Rattle.uefi_map.specs.declared.memory.memory_type.TheConstants.MemoryType.{ACPI_NON_VOLATILE, MMIO}
 use Rattle.uefi_map.specs.declared.memory.memory_type.TheConstants.MemoryType.{MMIO_PORT_SPACE, PAL_CODE}
-use Rattle.uefi_map.specs.declared.memory.memory_type.TheConstants.MemoryType.{PERSISTENT_MEMORY}
+use Rattle.uefi_map.specs.declared.memory.memory_type.TheConstants.MemoryType.{PERSISTENT_MEMORY, UNACCEPTED}
 use Rattle.uefi_map.specs.declared.memory.meta.MemoryMapMeta.{MemoryMapMeta}
 use Rattle.uefi_map.specs.memory.Descriptor.{encoding, with_descriptor}
 use Rattle.uefi_base.specs.Flags.{has_bits}
@@ -120,11 +124,15 @@ pub record Numbers : Type 0 where
   pub middle_types : (RUNTIME_SERVICES_CODE.0 ≡ 5) × (RUNTIME_SERVICES_DATA.0 ≡ 6) × (CONVENTIONAL.0 ≡ 7)
       × (UNUSABLE.0 ≡ 8) × (ACPI_RECLAIM.0 ≡ 9)
   pub last_types : (ACPI_NON_VOLATILE.0 ≡ 10) × (MMIO.0 ≡ 11) × (MMIO_PORT_SPACE.0 ≡ 12) × (PAL_CODE.0 ≡ 13)
-      × (PERSISTENT_MEMORY.0 ≡ 14)
+      × (PERSISTENT_MEMORY.0 ≡ 14) × (UNACCEPTED.0 ≡ 15)
   pub attributes : (UNCACHEABLE.0 ≡ 1) × (WRITE_COMBINE.0 ≡ 2) × (WRITE_THROUGH.0 ≡ 4) × (WRITE_BACK.0 ≡ 8)
-      × (RUNTIME.0 ≡ 0x8000000000000000)
+      × (UNCACHABLE_EXPORTED.0 ≡ 0x10) × (RUNTIME.0 ≡ 0x8000000000000000)
+  pub protection : (WRITE_PROTECT.0 ≡ 0x1000) × (READ_PROTECT.0 ≡ 0x2000) × (EXECUTE_PROTECT.0 ≡ 0x4000)
+      × (READ_ONLY.0 ≡ 0x20000) × (CPU_CRYPTO.0 ≡ 0x80000)
+  pub kinds : (NON_VOLATILE.0 ≡ 0x8000) × (MORE_RELIABLE.0 ≡ 0x10000) × (SPECIAL_PURPOSE.0 ≡ 0x40000)
+  pub architecture : (ISA_VALID.0 ≡ 0x4000000000000000) × (ISA_MASK.0 ≡ 0x0ffff00000000000)
   pub named : has_bits named_attributes 0x800000000000000f ≡ true
-  pub unnamed : has_bits named_attributes 0x10 ≡ false
+  pub unnamed : has_bits named_attributes 0x20 ≡ false
   pub version : VERSION ≡ 1
   pub texts : (map_error_text Misaligned ≡ codes "Misaligned") × (map_error_text InvalidSize ≡ codes "InvalidSize")
 

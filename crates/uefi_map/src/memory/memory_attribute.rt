@@ -1,5 +1,6 @@
-ghost use Rattle.std.specs.Prelude.{⊤, ◌≡◌, ◌↔◌, [], ◌∷◌, codes, IsTrue, IsSome, IfSome};
-ghost use Rattle.std.specs.Int.RustNames.{bit_or};
+ghost use Rattle.std.specs.Prelude.{⊤, ◌≡◌, ◌↔◌, [], ◌∷◌, codes, IsTrue, IsSome, IfSome, ◌==◌, not};
+ghost use Rattle.std.specs.Int.RustNames.{bit_and, bit_or};
+ghost use Rattle.bitflags.specs.Sets.{without};
 ghost use Rattle.uefi_base.specs.Flags.{has_bits};
 ghost use Rattle.uefi_map.specs.memory.Flags.{named_attributes};
 ghost use Rattle.uefi_map.specs.memory.Views.{attribute_bits};
@@ -26,8 +27,31 @@ bitflag_items! {
         const WRITE_THROUGH = 0x4;
         /// The memory can be cached with writes that wait.
         const WRITE_BACK = 0x8;
+        /// The memory can be left uncached, and is exported and supports the fetch and add mechanism
+        /// of semaphores.
+        const UNCACHABLE_EXPORTED = 0x10;
+        /// The memory can be protected from writes by the hardware's caching rules.
+        const WRITE_PROTECT = 0x1000;
+        /// The memory can be protected from reads.
+        const READ_PROTECT = 0x2000;
+        /// The memory can be protected from execution.
+        const EXECUTE_PROTECT = 0x4000;
+        /// The memory keeps its bytes without power.
+        const NON_VOLATILE = 0x8000;
+        /// The memory is more reliable than other memory of the system.
+        const MORE_RELIABLE = 0x1_0000;
+        /// The memory can be protected from writes.
+        const READ_ONLY = 0x2_0000;
+        /// The memory is set aside for special purposes, such as those of a device's driver.
+        const SPECIAL_PURPOSE = 0x4_0000;
+        /// The memory can be protected by the processor's encryption.
+        const CPU_CRYPTO = 0x8_0000;
         /// Runtime services need the memory mapped.
         const RUNTIME = 0x8000_0000_0000_0000;
+        /// The bits of [`MemoryAttribute::ISA_MASK`] are attributes of the processor's architecture.
+        const ISA_VALID = 0x4000_0000_0000_0000;
+        /// The bits of attributes of the processor's architecture.
+        const ISA_MASK = 0x0fff_f000_0000_0000;
     }
 }
 
@@ -62,6 +86,28 @@ impl MemoryAttribute {
         <MemoryAttribute as Flags>::from_bits_retain(bits)
     }
 
+    /// Returns whether the set has no bit.
+    pub fn is_empty(&self) -> bool
+        ensures { result ≡ (attribute_bits self.now == 0) }
+    {
+        <MemoryAttribute as Flags>::is_empty(self)
+    }
+
+    /// Returns whether the set has each bit with a name.
+    #[tactic(auto, unfolding(bitflags::proofs::OnLiterals::bitflags_on_literals))]
+    pub fn is_all(&self) -> bool
+        ensures { result ≡ (bit_or named_attributes (attribute_bits self.now) == attribute_bits self.now) }
+    {
+        <MemoryAttribute as Flags>::is_all(self)
+    }
+
+    /// Returns whether the sets have a bit in common.
+    pub fn intersects(&self, other: MemoryAttribute) -> bool
+        ensures { result ≡ not (bit_and (attribute_bits self.now) (attribute_bits other) == 0) }
+    {
+        <MemoryAttribute as Flags>::intersects(self, other)
+    }
+
     /// Returns whether each bit of the other set is in this one.
     pub fn contains(&self, other: MemoryAttribute) -> bool
         ensures { result ≡ has_bits (attribute_bits self.now) (attribute_bits other) }
@@ -75,6 +121,27 @@ impl MemoryAttribute {
     {
         <MemoryAttribute as Flags>::union(self, other)
     }
+
+    /// Adds the bits of the other set.
+    pub fn insert(&mut self, other: MemoryAttribute)
+        ensures { attribute_bits self.new ≡ bit_or (attribute_bits self.old) (attribute_bits other) }
+    {
+        <MemoryAttribute as Flags>::insert(self, other);
+    }
+
+    /// Removes the bits of the other set.
+    pub fn remove(&mut self, other: MemoryAttribute)
+        ensures { attribute_bits self.new ≡ without 64 (attribute_bits self.old) (attribute_bits other) }
+    {
+        <MemoryAttribute as Flags>::remove(self, other);
+    }
+
+    /// Returns the bits that the other set doesn't have.
+    pub fn difference(self, other: MemoryAttribute) -> MemoryAttribute
+        ensures { attribute_bits result ≡ without 64 (attribute_bits self) (attribute_bits other) }
+    {
+        <MemoryAttribute as Flags>::difference(self, other)
+    }
 }
 
 impl Flags for MemoryAttribute {
@@ -86,7 +153,18 @@ impl Flags for MemoryAttribute {
         ∷ (codes "WRITE_COMBINE", 0x2)
         ∷ (codes "WRITE_THROUGH", 0x4)
         ∷ (codes "WRITE_BACK", 0x8)
+        ∷ (codes "UNCACHABLE_EXPORTED", 0x10)
+        ∷ (codes "WRITE_PROTECT", 0x1000)
+        ∷ (codes "READ_PROTECT", 0x2000)
+        ∷ (codes "EXECUTE_PROTECT", 0x4000)
+        ∷ (codes "NON_VOLATILE", 0x8000)
+        ∷ (codes "MORE_RELIABLE", 0x10000)
+        ∷ (codes "READ_ONLY", 0x20000)
+        ∷ (codes "SPECIAL_PURPOSE", 0x40000)
+        ∷ (codes "CPU_CRYPTO", 0x80000)
         ∷ (codes "RUNTIME", 0x8000000000000000)
+        ∷ (codes "ISA_VALID", 0x4000000000000000)
+        ∷ (codes "ISA_MASK", 0x0ffff00000000000)
         ∷ [] };
 
     ghost set_of = { λ set. set.0 };

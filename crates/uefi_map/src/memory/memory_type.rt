@@ -1,6 +1,13 @@
-/// What a range of memory is for (UEFI 2.10, 7.2 `EFI_BOOT_SERVICES.AllocatePages()`,
+ghost use Rattle.std.specs.Prelude.{◌≡◌, codes, Some};
+ghost use Rattle.std.specs.Option.{option_map};
+ghost use Rattle.uefi_base.specs.Names.{named_text};
+ghost use Rattle.uefi_map.specs.memory.Types.{is_custom, is_oem, is_os_loader, memory_type_name};
+
+use std::fmt;
+
+/// What a range of memory is for (UEFI 2.10, 7.2.1 `EFI_BOOT_SERVICES.AllocatePages()`,
 /// `EFI_MEMORY_TYPE`). A number without a name here is kept as it is. The layout is that of `u32`.
-#[derive(Clone, Copy, PartialEq, Eq, Debug)]
+#[derive(Clone, Copy, PartialEq, Eq, PartialOrd, Ord, Hash)]
 #[repr(transparent)]
 pub struct MemoryType(pub u32);
 
@@ -35,4 +42,71 @@ impl MemoryType {
     pub const PAL_CODE: MemoryType = MemoryType(13);
     /// Free memory that keeps its bytes without power.
     pub const PERSISTENT_MEMORY: MemoryType = MemoryType(14);
+    /// Memory that a guest has to accept before it is used.
+    pub const UNACCEPTED: MemoryType = MemoryType(15);
+
+    /// Returns the standard's name of the type, such as `EfiLoaderCode`; `None` for a number without
+    /// a constant here.
+    #[tactic(auto, unfolding(crate::specs::memory::Types::memory_type_name))]
+    pub fn name(self) -> Option<&'static str>
+        ensures { option_map (λ name. name.now) result ≡ memory_type_name self.0 }
+    {
+        match self {
+            MemoryType::RESERVED => Some("EfiReservedMemoryType"),
+            MemoryType::LOADER_CODE => Some("EfiLoaderCode"),
+            MemoryType::LOADER_DATA => Some("EfiLoaderData"),
+            MemoryType::BOOT_SERVICES_CODE => Some("EfiBootServicesCode"),
+            MemoryType::BOOT_SERVICES_DATA => Some("EfiBootServicesData"),
+            MemoryType::RUNTIME_SERVICES_CODE => Some("EfiRuntimeServicesCode"),
+            MemoryType::RUNTIME_SERVICES_DATA => Some("EfiRuntimeServicesData"),
+            MemoryType::CONVENTIONAL => Some("EfiConventionalMemory"),
+            MemoryType::UNUSABLE => Some("EfiUnusableMemory"),
+            MemoryType::ACPI_RECLAIM => Some("EfiACPIReclaimMemory"),
+            MemoryType::ACPI_NON_VOLATILE => Some("EfiACPIMemoryNVS"),
+            MemoryType::MMIO => Some("EfiMemoryMappedIO"),
+            MemoryType::MMIO_PORT_SPACE => Some("EfiMemoryMappedIOPortSpace"),
+            MemoryType::PAL_CODE => Some("EfiPalCode"),
+            MemoryType::PERSISTENT_MEMORY => Some("EfiPersistentMemory"),
+            MemoryType::UNACCEPTED => Some("EfiUnacceptedMemoryType"),
+            _ => None,
+        }
+    }
+
+    /// Returns whether the number is one of those that the standard leaves to OEMs: from
+    /// 0x70000000 to 0x7fffffff.
+    pub fn is_oem(self) -> bool
+        ensures { result ≡ is_oem self.0 }
+    {
+        matches!(self.0, 0x7000_0000..=0x7fff_ffff)
+    }
+
+    /// Returns whether the number is one of those that the standard leaves to loaders of operating
+    /// systems: from 0x80000000 on.
+    pub fn is_os_loader(self) -> bool
+        ensures { result ≡ is_os_loader self.0 }
+    {
+        self.0 >= 0x8000_0000
+    }
+
+    /// Returns whether the number is one of those that the standard leaves to OEMs or to loaders of
+    /// operating systems.
+    pub fn is_custom(self) -> bool
+        ensures { result ≡ is_custom self.0 }
+    {
+        self.is_oem() || self.is_os_loader()
+    }
+}
+
+/// Writes the name, such as `MemoryType(EfiLoaderCode)`, or the number, such as
+/// `MemoryType(0x70000000)`.
+impl fmt::Debug for MemoryType {
+    ghost debug_output = { λ memory_type. Some
+        (named_text (codes "MemoryType") (memory_type_name memory_type.0) memory_type.0) };
+
+    fn fmt<W: fmt::Write>(&self, f: &mut fmt::Formatter<W>) -> fmt::Result {
+        match self.name() {
+            Some(name) => write!(f, "MemoryType({name})"),
+            None => write!(f, "MemoryType(0x{:x})", self.0),
+        }
+    }
 }
