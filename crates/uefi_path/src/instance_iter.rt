@@ -5,6 +5,7 @@ ghost use Rattle.uefi_path.specs.private.OnePath.{EncodesInstances-prop};
 
 use crate::instance::DevicePathInstance;
 use crate::walk::{StopCondition, first_nodes};
+use std::iter::FusedIterator;
 use uefi_base::buffer::length_fits;
 
 /// An iterator over the instances of a path, in order.
@@ -47,3 +48,5 @@ impl<'a> Iterator for DevicePathInstanceIterator<'a> {
         Some(DevicePathInstance::new_unchecked(instance))
     }
 }
+
+impl<'a> FusedIterator for DevicePathInstanceIterator<'a> {}

@@ -6,6 +6,7 @@ ghost use Rattle.uefi_path.specs.private.OnePath.{EncodesNodes-prop};
 
 use crate::node::DevicePathNode;
 use crate::walk::{StopCondition, first_node};
+use std::iter::FusedIterator;
 use uefi_base::buffer::length_fits;
 
 /// An iterator over the nodes of a path or of an instance, in order, without the last one.
@@ -49,3 +50,5 @@ impl<'a> Iterator for DevicePathNodeIterator<'a> {
         Some(node)
     }
 }
+
+impl<'a> FusedIterator for DevicePathNodeIterator<'a> {}

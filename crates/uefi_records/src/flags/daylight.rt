@@ -1,5 +1,6 @@
-ghost use Rattle.std.specs.Prelude.{⊤, ◌≡◌, ◌↔◌, [], ◌∷◌, codes, IsTrue, IsSome, IfSome};
-ghost use Rattle.std.specs.Int.RustNames.{bit_or};
+ghost use Rattle.std.specs.Prelude.{⊤, ◌≡◌, ◌↔◌, [], ◌∷◌, codes, IsTrue, IsSome, IfSome, ◌==◌, not};
+ghost use Rattle.std.specs.Int.RustNames.{bit_and, bit_or};
+ghost use Rattle.bitflags.specs.Sets.{without};
 ghost use Rattle.uefi_base.specs.Flags.{has_bits};
 ghost use Rattle.uefi_records.specs.flags.Named.{named_daylight};
 ghost use Rattle.uefi_records.specs.flags.Views.{daylight_bits};
@@ -55,6 +56,28 @@ impl Daylight {
         <Daylight as Flags>::from_bits_retain(bits)
     }
 
+    /// Returns whether the set has no bit.
+    pub fn is_empty(&self) -> bool
+        ensures { result ≡ (daylight_bits self.now == 0) }
+    {
+        <Daylight as Flags>::is_empty(self)
+    }
+
+    /// Returns whether the set has each bit with a name.
+    #[tactic(auto, unfolding(bitflags::proofs::OnLiterals::bitflags_on_literals))]
+    pub fn is_all(&self) -> bool
+        ensures { result ≡ (bit_or named_daylight (daylight_bits self.now) == daylight_bits self.now) }
+    {
+        <Daylight as Flags>::is_all(self)
+    }
+
+    /// Returns whether the sets have a bit in common.
+    pub fn intersects(&self, other: Daylight) -> bool
+        ensures { result ≡ not (bit_and (daylight_bits self.now) (daylight_bits other) == 0) }
+    {
+        <Daylight as Flags>::intersects(self, other)
+    }
+
     /// Returns whether each bit of the other set is in this one.
     pub fn contains(&self, other: Daylight) -> bool
         ensures { result ≡ has_bits (daylight_bits self.now) (daylight_bits other) }
@@ -67,6 +90,27 @@ impl Daylight {
         ensures { daylight_bits result ≡ bit_or (daylight_bits self) (daylight_bits other) }
     {
         <Daylight as Flags>::union(self, other)
+    }
+
+    /// Adds the bits of the other set.
+    pub fn insert(&mut self, other: Daylight)
+        ensures { daylight_bits self.new ≡ bit_or (daylight_bits self.old) (daylight_bits other) }
+    {
+        <Daylight as Flags>::insert(self, other);
+    }
+
+    /// Removes the bits of the other set.
+    pub fn remove(&mut self, other: Daylight)
+        ensures { daylight_bits self.new ≡ without 8 (daylight_bits self.old) (daylight_bits other) }
+    {
+        <Daylight as Flags>::remove(self, other);
+    }
+
+    /// Returns the bits that the other set doesn't have.
+    pub fn difference(self, other: Daylight) -> Daylight
+        ensures { daylight_bits result ≡ without 8 (daylight_bits self) (daylight_bits other) }
+    {
+        <Daylight as Flags>::difference(self, other)
     }
 }
 
