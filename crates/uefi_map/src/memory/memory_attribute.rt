@@ -13,7 +13,7 @@ use bitflags::{Flag, Flags, bitflag_items};
 /// Equality and order are those of the bits as a number, and the default is the empty set. A set
 /// that is read, or made by [`MemoryAttribute::from_bits_retain`], keeps the bits without a name
 /// here. The layout is that of `u64`.
-#[derive(Clone, Copy, PartialEq, Eq, PartialOrd, Ord, Default, Debug)]
+#[derive(Clone, Copy, PartialEq, Eq, PartialOrd, Ord, Hash, Default, Debug)]
 #[repr(transparent)]
 pub struct MemoryAttribute(u64);
 

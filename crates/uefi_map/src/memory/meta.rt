@@ -9,7 +9,7 @@ const MAX_SANE_SIZE: usize = 1 << 30;
 
 /// The key by which firmware knows one state of the memory map (UEFI 2.10, 7.2
 /// `EFI_BOOT_SERVICES.GetMemoryMap()`, `MapKey`). The default is 0. The layout is that of `usize`.
-#[derive(Clone, Copy, PartialEq, Eq, Debug, Default)]
+#[derive(Clone, Copy, PartialEq, Eq, PartialOrd, Ord, Hash, Debug, Default)]
 #[repr(transparent)]
 pub struct MemoryMapKey(usize);
 

@@ -169,7 +169,7 @@ impl fmt::Display for DeviceTypeText {
 /// The type of a boot device (UEFI 2.10, 10.3.6).
 ///
 /// Numbers without a constant here are valid too.
-#[derive(Clone, Copy, PartialEq, Eq, Debug)]
+#[derive(Clone, Copy, PartialEq, Eq, PartialOrd, Ord, Hash, Debug)]
 #[repr(transparent)]
 pub struct BootSpecificationDeviceType(pub u16);
 

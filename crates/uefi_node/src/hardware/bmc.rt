@@ -92,7 +92,7 @@ impl WriteText for Bmc {
 /// How the system talks to a baseboard management controller (UEFI 2.10, 10.3.2.6).
 ///
 /// Numbers without a constant here are valid too.
-#[derive(Clone, Copy, PartialEq, Eq, Debug)]
+#[derive(Clone, Copy, PartialEq, Eq, PartialOrd, Ord, Hash, Debug)]
 #[repr(transparent)]
 pub struct BmcInterfaceType(pub u8);
 

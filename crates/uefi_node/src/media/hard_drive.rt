@@ -210,7 +210,7 @@ fn write_other<W: fmt::Write>(
 /// The format of a partition table (UEFI 2.10, 10.3.5.1).
 ///
 /// Numbers without a constant here are valid too.
-#[derive(Clone, Copy, PartialEq, Eq, Debug)]
+#[derive(Clone, Copy, PartialEq, Eq, PartialOrd, Ord, Hash, Debug)]
 #[repr(transparent)]
 pub struct PartitionFormat(pub u8);
 

@@ -120,7 +120,7 @@ fn drive_name(drive: u8) -> &'static str
 /// The channel of an ATAPI device (UEFI 2.10, 10.3.4.1).
 ///
 /// Numbers without a constant here are valid too.
-#[derive(Clone, Copy, PartialEq, Eq, Debug)]
+#[derive(Clone, Copy, PartialEq, Eq, PartialOrd, Ord, Hash, Debug)]
 #[repr(transparent)]
 pub struct PrimarySecondary(pub u8);
 
@@ -135,7 +135,7 @@ impl PrimarySecondary {
 /// Which of the two devices of a channel an ATAPI device is (UEFI 2.10, 10.3.4.1).
 ///
 /// Numbers without a constant here are valid too.
-#[derive(Clone, Copy, PartialEq, Eq, Debug)]
+#[derive(Clone, Copy, PartialEq, Eq, PartialOrd, Ord, Hash, Debug)]
 #[repr(transparent)]
 pub struct MasterSlave(pub u8);
 

@@ -93,7 +93,7 @@ impl WriteText for BluetoothLe {
 /// The type of a Bluetooth Low Energy address (UEFI 2.10, 10.3.4.29).
 ///
 /// Numbers without a constant here are valid too.
-#[derive(Clone, Copy, PartialEq, Eq, Debug)]
+#[derive(Clone, Copy, PartialEq, Eq, PartialOrd, Ord, Hash, Debug)]
 #[repr(transparent)]
 pub struct BluetoothLeAddressType(pub u8);
 

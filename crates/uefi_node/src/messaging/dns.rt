@@ -158,7 +158,7 @@ fn write_server<W: fmt::Write>(
 /// The type of the addresses of DNS servers (UEFI 2.10, 10.3.4.30).
 ///
 /// Numbers without a constant here are valid too.
-#[derive(Clone, Copy, PartialEq, Eq, Debug)]
+#[derive(Clone, Copy, PartialEq, Eq, PartialOrd, Ord, Hash, Debug)]
 #[repr(transparent)]
 pub struct DnsAddressType(pub u8);
 

@@ -163,7 +163,7 @@ impl fmt::Display for ProtocolText {
 /// Where the local IPv4 address comes from (UEFI 2.10, 10.3.4.12).
 ///
 /// Numbers without a constant here are valid too.
-#[derive(Clone, Copy, PartialEq, Eq, Debug)]
+#[derive(Clone, Copy, PartialEq, Eq, PartialOrd, Ord, Hash, Debug)]
 #[repr(transparent)]
 pub struct Ipv4AddressOrigin(pub u8);
 

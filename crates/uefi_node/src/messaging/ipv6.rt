@@ -152,7 +152,7 @@ fn origin_name(origin: u8) -> &'static str
 /// Where the local IPv6 address comes from (UEFI 2.10, 10.3.4.13).
 ///
 /// Numbers without a constant here are valid too.
-#[derive(Clone, Copy, PartialEq, Eq, Debug)]
+#[derive(Clone, Copy, PartialEq, Eq, PartialOrd, Ord, Hash, Debug)]
 #[repr(transparent)]
 pub struct Ipv6AddressOrigin(pub u8);
 

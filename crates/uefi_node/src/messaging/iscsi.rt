@@ -202,7 +202,7 @@ fn authentication(options: u16) -> &'static str
 /// The protocol below iSCSI (UEFI 2.10, 10.3.4.21).
 ///
 /// Numbers without a constant here are valid too.
-#[derive(Clone, Copy, PartialEq, Eq, Debug)]
+#[derive(Clone, Copy, PartialEq, Eq, PartialOrd, Ord, Hash, Debug)]
 #[repr(transparent)]
 pub struct IscsiProtocol(pub u16);
 

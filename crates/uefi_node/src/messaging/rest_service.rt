@@ -119,7 +119,7 @@ impl BuildNode for RestService<'_> {
 /// The type of a REST service (UEFI 2.10, 10.3.4.32).
 ///
 /// Numbers without a constant here are valid too.
-#[derive(Clone, Copy, PartialEq, Eq, Debug)]
+#[derive(Clone, Copy, PartialEq, Eq, PartialOrd, Ord, Hash, Debug)]
 #[repr(transparent)]
 pub struct RestServiceType(pub u8);
 
@@ -137,7 +137,7 @@ impl RestServiceType {
 /// How a REST service is reached (UEFI 2.10, 10.3.4.32).
 ///
 /// Numbers without a constant here are valid too.
-#[derive(Clone, Copy, PartialEq, Eq, Debug)]
+#[derive(Clone, Copy, PartialEq, Eq, PartialOrd, Ord, Hash, Debug)]
 #[repr(transparent)]
 pub struct RestServiceAccessMode(pub u8);
 

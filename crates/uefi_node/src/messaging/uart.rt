@@ -162,7 +162,7 @@ fn stop_bits_count(stop_bits: u8) -> &'static str
 /// The parity of a serial port (UEFI 2.10, 10.3.4.16).
 ///
 /// Numbers without a constant here are valid too.
-#[derive(Clone, Copy, PartialEq, Eq, Debug)]
+#[derive(Clone, Copy, PartialEq, Eq, PartialOrd, Ord, Hash, Debug)]
 #[repr(transparent)]
 pub struct Parity(pub u8);
 
@@ -189,7 +189,7 @@ impl Parity {
 /// The stop bits of a serial port (UEFI 2.10, 10.3.4.16).
 ///
 /// Numbers without a constant here are valid too.
-#[derive(Clone, Copy, PartialEq, Eq, Debug)]
+#[derive(Clone, Copy, PartialEq, Eq, PartialOrd, Ord, Hash, Debug)]
 #[repr(transparent)]
 pub struct StopBits(pub u8);
 
