@@ -1,3 +1,4 @@
+mod guids;
 mod memory;
 mod requests;
 mod texts;

@@ -12,3 +12,6 @@ pub mod UnitsBack
 pub mod UnitsOfBytes
 pub mod UnitsPut
 pub mod Rows
+pub mod HexDigits
+pub mod GuidReading
+pub mod GuidsBack

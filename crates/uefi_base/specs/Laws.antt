@@ -1,7 +1,10 @@
--- Laws of numbers and of units in bytes.
+-- Laws of numbers and of units in bytes, and of the texts of GUIDs.
 use Rattle.std.specs.Prelude.{ℕ, ◌≡◌, ◌+◌, ◌^◌, ◌<◌, ◌≤◌, List, ◌++◌, length, slice_range, ◌*◌, ◌/◌, ◌%◌, take, drop}
 use Rattle.std.specs.Prelude.{slice_index}
+use Rattle.std.specs.Prelude.{map}
+use Rattle.std.specs.Char.{to_ascii_lowercase}
 use Rattle.uefi_base.specs.LittleEndian.{AreBytes, u16_at, u16_bytes, u32_at, u32_bytes, u64_at, u64_bytes}
+use Rattle.uefi_base.specs.GuidText.{guid_text, IsGuidText, guid_bytes}
 use Rattle.uefi_base.specs.Unaligned.{AreUnits, units_of, unit_bytes}
 
 -- A number reads back from the offset at which its bytes were written, whatever comes before and after them.
@@ -38,3 +41,10 @@ pub record UnitsByPlace : Type 0 where
       → slice_index (units_of bytes) k ≡ u16_at bytes (2 * k)
   pub front : (bytes : List ℕ) (k : ℕ) → units_of (take (2 * k) bytes) ≡ take k (units_of bytes)
   pub rest : (bytes : List ℕ) (k : ℕ) → units_of (drop (2 * k) bytes) ≡ drop k (units_of bytes)
+
+-- The text of sixteen bytes is that of a GUID, and is read as these bytes. The text of the bytes that a text is read
+-- as is that text, with its letters in lower case.
+pub record GuidsReadBack : Type 0 where
+  pub text : (bytes : List ℕ) → AreBytes bytes → length bytes ≡ 16 → IsGuidText (guid_text bytes)
+  pub read : (bytes : List ℕ) → AreBytes bytes → length bytes ≡ 16 → guid_bytes (guid_text bytes) ≡ bytes
+  pub written : (text : List ℕ) → IsGuidText text → guid_text (guid_bytes text) ≡ map to_ascii_lowercase text

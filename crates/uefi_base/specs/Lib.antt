@@ -6,6 +6,7 @@ pub mod Fields
 pub mod Buffer
 pub mod Appending
 pub mod GuidText
+pub mod GuidReading
 pub mod StatusCode
 pub mod Ucs2
 pub mod Faults

@@ -19,6 +19,8 @@ use Rattle.uefi_base.specs.declared.text_error.UnalignedCStr16Error.TheVariants.
 use Rattle.uefi_base.specs.declared.text_error.UnalignedCStr16Error.TheVariants.{InteriorNul as UnalignedInteriorNul}
 use Rattle.uefi_base.specs.declared.text_error.UnalignedCStr16Error.TheVariants.{NotNulTerminated as UnalignedNotNulTerminated}
 use Rattle.uefi_base.specs.declared.text_error.UnalignedCStr16Error.TheVariants.{Memory as UnalignedMemory}
+use Rattle.uefi_base.specs.declared.text_error.GuidFromStrError.{GuidFromStrError}
+use Rattle.uefi_base.specs.declared.text_error.GuidFromStrError.TheVariants.{InvalidLength, InvalidSeparator, InvalidHex}
 
 -- A status: its name in the standard.
 abbrev pub status_name : Status → List ℕ
@@ -50,3 +52,9 @@ unaligned_error_text (UnalignedInvalidChar index) = slice_error_text (InvalidCha
 unaligned_error_text (UnalignedInteriorNul index) = slice_error_text (InteriorNul index)
 unaligned_error_text UnalignedNotNulTerminated = slice_error_text NotNulTerminated
 unaligned_error_text UnalignedMemory = codes "out of memory"
+
+-- The errors of the text of a GUID.
+abbrev pub guid_error_text : GuidFromStrError → List ℕ
+guid_error_text InvalidLength = codes "not 36 bytes"
+guid_error_text (InvalidSeparator index) = codes "no dash at index " ++ decimal index
+guid_error_text (InvalidHex index) = codes "no hex digit at index " ++ decimal index

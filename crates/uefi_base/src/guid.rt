@@ -1,7 +1,15 @@
-ghost use Rattle.std.specs.Prelude.{◌≡◌, ◌++◌, Some};
-ghost use Rattle.uefi_base.specs.GuidText.{guid_text, hex_byte};
+ghost use Rattle.std.specs.Prelude.{◌≡◌, ◌+◌, ◌<◌, ◌++◌, false, length, IsTrue, Some, MatchOption};
+ghost use Rattle.std.specs.Char.{digit_value, is_ascii_hexdigit};
+ghost use Rattle.uefi_base.specs.GuidText.{guid_text, hex_byte, guid_text_length, is_separator, fits_guid, IsGuidText, byte_of_digits, guid_bytes};
+ghost use Rattle.uefi_base.specs.GuidReading.{HasGuidFault, ReadsGuid};
+ghost use Rattle.uefi_base.specs.private.Search.{unfit_at};
 
+use crate::text_error::GuidFromStrError;
 use std::fmt;
+use std::str::FromStr;
+
+/// The length of a GUID's text, in bytes.
+const TEXT_LENGTH: usize = 36;
 
 /// A GUID (UEFI 2.10, Appendix A), as a record holds it.
 ///
@@ -13,8 +21,11 @@ use std::fmt;
 /// | 8 | 2 | clock sequence with the variant, high byte first |
 /// | 10 | 6 | node |
 ///
-/// Two GUIDs are equal if all their bytes are.
-#[derive(Clone, Copy, PartialEq, Eq, Debug)]
+/// Two GUIDs are equal if all their bytes are. Their order is that of the bytes, from the first on,
+/// which isn't the order of their texts.
+///
+/// `FromStr` reads a GUID from its text, and `Display` writes it.
+#[derive(Clone, Copy, PartialEq, Eq, PartialOrd, Ord, Hash, Debug)]
 #[repr(transparent)]
 pub struct Guid(pub [u8; 16]);
 
@@ -64,5 +75,126 @@ impl fmt::Display for HexPair {
     fn fmt<W: fmt::Write>(&self, f: &mut fmt::Formatter<W>) -> fmt::Result {
         let HexPair(first, second) = *self;
         write!(f, "{first:02x}{second:02x}")
+    }
+}
+
+/// Reads `xxxxxxxx-xxxx-xxxx-xxxx-xxxxxxxxxxxx` (UEFI 2.10, Appendix A), where each `x` is a hex
+/// digit of either case. The first three groups are the little-endian numbers of the table of
+/// [`Guid`], so their bytes are read in reverse order. Reads each text that `Display` writes.
+///
+/// # Errors
+///
+/// Fails with the first of these errors that applies:
+///
+/// - [`InvalidLength`](GuidFromStrError::InvalidLength) if the text doesn't have 36 bytes.
+/// - At the lowest index whose byte doesn't fit:
+///   [`InvalidSeparator`](GuidFromStrError::InvalidSeparator) with that index if it is 8, 13, 18 or
+///   23, where the byte isn't `-`; [`InvalidHex`](GuidFromStrError::InvalidHex) with that index if
+///   it is another one, where the byte isn't a hex digit.
+impl FromStr for Guid {
+    type Err = GuidFromStrError;
+
+    ghost from_str_gives = { ReadsGuid };
+
+    #[tactic(auto, using(crate::proofs::GuidReading::guid_is_read, crate::proofs::GuidReading::fault_is_returned))]
+    fn from_str(text: &str) -> Result<Guid, GuidFromStrError> {
+        let text = text.as_bytes();
+        match fault_of(text) {
+            Some(fault) => Err(fault),
+            None => Ok(Guid(bytes_of(text))),
+        }
+    }
+}
+
+/// Returns the error that a text has, or `None` if it is that of a GUID.
+fn fault_of(text: &[u8]) -> Option<GuidFromStrError>
+    ensures { MatchOption result (IsGuidText text.now) (HasGuidFault text.now) }
+{
+    if text.len() != TEXT_LENGTH {
+        return Some(GuidFromStrError::InvalidLength);
+    }
+    for (index, byte) in text.iter().enumerate() {
+        if !fits(index, *byte) {
+            return Some(unfit_at(index));
+        }
+    }
+    None
+}
+
+/// Returns the error for a byte at this index that the text of a GUID doesn't have there.
+fn unfit_at(index: usize) -> GuidFromStrError
+    ensures { result ≡ unfit_at index }
+{
+    if is_separator(index) {
+        GuidFromStrError::InvalidSeparator(index)
+    } else {
+        GuidFromStrError::InvalidHex(index)
+    }
+}
+
+/// Returns whether the text of a GUID may have this byte at this index.
+fn fits(index: usize, byte: u8) -> bool
+    ensures { result ≡ fits_guid index byte }
+{
+    if is_separator(index) {
+        byte == b'-'
+    } else {
+        byte.is_ascii_hexdigit()
+    }
+}
+
+/// Returns whether the text of a GUID has a dash at this index.
+fn is_separator(index: usize) -> bool
+    ensures { result ≡ is_separator index }
+{
+    matches!(index, 8 | 13 | 18 | 23)
+}
+
+/// Returns the bytes of the GUID whose text it is.
+fn bytes_of(text: &[u8]) -> [u8; 16]
+    requires { IsGuidText text.now }
+    ensures { result ≡ guid_bytes text.now }
+{
+    [
+        byte_of_digits(text, 6),
+        byte_of_digits(text, 4),
+        byte_of_digits(text, 2),
+        byte_of_digits(text, 0),
+        byte_of_digits(text, 11),
+        byte_of_digits(text, 9),
+        byte_of_digits(text, 16),
+        byte_of_digits(text, 14),
+        byte_of_digits(text, 19),
+        byte_of_digits(text, 21),
+        byte_of_digits(text, 24),
+        byte_of_digits(text, 26),
+        byte_of_digits(text, 28),
+        byte_of_digits(text, 30),
+        byte_of_digits(text, 32),
+        byte_of_digits(text, 34),
+    ]
+}
+
+/// Returns the byte of the two hex digits from `offset` on, in the text of a GUID.
+fn byte_of_digits(text: &[u8], offset: usize) -> u8
+    requires text { IsGuidText text.now }
+    requires within { offset + 1 < guid_text_length }
+    requires high { is_separator offset ≡ false }
+    requires low { is_separator (offset + 1) ≡ false }
+    ensures { result ≡ byte_of_digits text.now offset }
+{
+    16 * hex_value(text[offset]) + hex_value(text[offset + 1])
+}
+
+/// Returns the value of a hex digit.
+fn hex_value(digit: u8) -> u8
+    requires { IsTrue (is_ascii_hexdigit digit) }
+    ensures value { result ≡ digit_value digit }
+    ensures small { result < 16 }
+{
+    match digit {
+        b'0'..=b'9' => digit - b'0',
+        b'A'..=b'F' => digit - b'A' + 10,
+        _ => digit - b'a' + 10,
     }
 }

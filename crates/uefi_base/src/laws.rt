@@ -1,7 +1,7 @@
 //! Laws of the definitions. Each function states a law that holds for all values, and does nothing
 //! when it runs.
 
-ghost use Rattle.uefi_base.specs.Laws.{NumbersReadBack, UnitsReadBack, UnitsByPlace};
+ghost use Rattle.uefi_base.specs.Laws.{NumbersReadBack, UnitsReadBack, UnitsByPlace, GuidsReadBack};
 ghost use Rattle.uefi_base.specs.rows.Values.{RowsHold};
 
 /// States that a number reads back from the offset at which its bytes were written, whatever comes
@@ -25,6 +25,14 @@ pub fn units_read_back()
 #[tactic(auto, using(crate::proofs::UnitsOfBytes::units_by_place))]
 pub fn units_by_place()
     ensures { UnitsByPlace }
+{}
+
+/// States that texts of GUIDs read back: the text of sixteen bytes is that of a GUID, and is read as
+/// these bytes; and the text of the bytes that a text is read as is that text, with its letters in
+/// lower case.
+#[tactic(auto, using(crate::proofs::GuidsBack::guids_read_back))]
+pub fn guids_read_back()
+    ensures { GuidsReadBack }
 {}
 
 /// States that the definitions hold on worked rows: examples of units, characters, numbers in

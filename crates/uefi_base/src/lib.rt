@@ -16,7 +16,9 @@ pub use self::cstring16::CString16;
 pub use self::guid::Guid;
 pub use self::identify::{IdentifiedBy, Identify};
 pub use self::status::{Error, Status};
-pub use self::text_error::{FromSliceWithNulError, FromStrError, UnalignedCStr16Error};
+pub use self::text_error::{
+    FromSliceWithNulError, FromStrError, GuidFromStrError, UnalignedCStr16Error,
+};
 pub use self::unaligned::{UnalignedSlice, UnalignedSliceIter};
 
 mod align;

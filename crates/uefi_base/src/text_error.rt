@@ -1,6 +1,6 @@
 ghost use Rattle.std.specs.Prelude.{◌≡◌, Some, MatchOption};
 ghost use Rattle.uefi_base.specs.Faults.{unaligned_error};
-ghost use Rattle.uefi_base.specs.Texts.{slice_error_text, str_error_text, unaligned_error_text};
+ghost use Rattle.uefi_base.specs.Texts.{slice_error_text, str_error_text, unaligned_error_text, guid_error_text};
 
 use std::alloc::AllocError;
 use std::error::Error;
@@ -157,3 +157,32 @@ impl From<AllocError> for UnalignedCStr16Error {
         UnalignedCStr16Error::Memory
     }
 }
+
+/// The error for a text that isn't that of a GUID.
+///
+/// `InvalidLength` takes precedence over the others. Otherwise the first byte that doesn't fit
+/// decides: one at 8, 13, 18 or 23 that isn't `-`, or another that isn't a hex digit.
+#[derive(Clone, Copy, PartialEq, Eq, Debug)]
+pub enum GuidFromStrError {
+    /// The text doesn't have 36 bytes.
+    InvalidLength,
+    /// The byte at this index, which is 8, 13, 18 or 23, isn't `-`, and all bytes before it fit.
+    InvalidSeparator(usize),
+    /// The byte at this index, which is another one, isn't a hex digit, and all bytes before it fit.
+    InvalidHex(usize),
+}
+
+/// Writes what the text lacks, or what is wrong at which index.
+impl fmt::Display for GuidFromStrError {
+    ghost output = { λ error. Some (guid_error_text error) };
+
+    fn fmt<W: fmt::Write>(&self, f: &mut fmt::Formatter<W>) -> fmt::Result {
+        match self {
+            GuidFromStrError::InvalidLength => f.write_str("not 36 bytes"),
+            GuidFromStrError::InvalidSeparator(index) => write!(f, "no dash at index {index}"),
+            GuidFromStrError::InvalidHex(index) => write!(f, "no hex digit at index {index}"),
+        }
+    }
+}
+
+impl Error for GuidFromStrError {}

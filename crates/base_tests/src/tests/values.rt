@@ -121,5 +121,6 @@ fn the_laws_take_nothing_to_run() {
     laws::numbers_read_back();
     laws::units_read_back();
     laws::units_by_place();
+    laws::guids_read_back();
     laws::worked_rows();
 }

@@ -1,8 +1,12 @@
--- What the searches through units and characters find, and which error follows: for private contracts alone.
-use Rattle.std.specs.Prelude.{ℕ, ◌≡◌, ◌<◌, Option, None, Some, MatchOption, List, length, slice_index}
+-- What the searches through units, characters and texts of GUIDs find, and which error follows: for private contracts
+-- alone.
+use Rattle.std.specs.Prelude.{ℕ, ◌≡◌, ◌<◌, Option, None, Some, MatchOption, if◌then◌else◌, List, length, slice_index}
 use Rattle.uefi_base.specs.declared.text_error.FromSliceWithNulError.{FromSliceWithNulError}
 use Rattle.uefi_base.specs.declared.text_error.FromStrError.{FromStrError}
 use Rattle.uefi_base.specs.declared.text_error.FromStrError.TheVariants.{TooLong, InvalidChar, InteriorNul, Memory}
+use Rattle.uefi_base.specs.declared.text_error.GuidFromStrError.{GuidFromStrError}
+use Rattle.uefi_base.specs.declared.text_error.GuidFromStrError.TheVariants.{InvalidSeparator, InvalidHex}
+use Rattle.uefi_base.specs.GuidText.{is_separator}
 use Rattle.uefi_base.specs.Ucs2.{last_character, IsCharacter, AreCharactersBefore, IsUcs2Text, HasUnit, HaveUnitsBefore}
 use Rattle.uefi_base.specs.Faults.{HasFault, AreTooMany, OffendsFirst}
 
@@ -30,3 +34,7 @@ HasStrFault characters TooLong = AreTooMany characters
 HasStrFault characters InvalidChar = OffendsFirst characters (λ character. last_character < character)
 HasStrFault characters InteriorNul = OffendsFirst characters (λ character. character ≡ 0)
 HasStrFault characters Memory = ⊥
+
+-- The error for a byte at the index that the text of a GUID doesn't have there.
+abbrev pub unfit_at : ℕ → GuidFromStrError
+unfit_at index = if is_separator index then InvalidSeparator index else InvalidHex index
