@@ -46,13 +46,18 @@ extern "C" {
 #define UEFI_EV_EFI_VARIABLE_AUTHORITY 0x800000e0u
 #define UEFI_EV_EFI_SPDM_FIRMWARE_BLOB 0x800000e1u
 #define UEFI_EV_EFI_SPDM_FIRMWARE_CONFIG 0x800000e2u
+#define UEFI_EV_EFI_SPDM_DEVICE_POLICY 0x800000e3u
+#define UEFI_EV_EFI_SPDM_DEVICE_AUTHORITY 0x800000e4u
 
 /* Algorithms of digests (TCG Algorithm Registry, TPM_ALG_ID), and how many bytes each digest has. */
-#define UEFI_TPM_ALG_SHA1 0x0004u    /* 20 */
-#define UEFI_TPM_ALG_SHA256 0x000bu  /* 32 */
-#define UEFI_TPM_ALG_SHA384 0x000cu  /* 48 */
-#define UEFI_TPM_ALG_SHA512 0x000du  /* 64 */
-#define UEFI_TPM_ALG_SM3_256 0x0012u /* 32 */
+#define UEFI_TPM_ALG_SHA1 0x0004u     /* 20 */
+#define UEFI_TPM_ALG_SHA256 0x000bu   /* 32 */
+#define UEFI_TPM_ALG_SHA384 0x000cu   /* 48 */
+#define UEFI_TPM_ALG_SHA512 0x000du   /* 64 */
+#define UEFI_TPM_ALG_SM3_256 0x0012u  /* 32 */
+#define UEFI_TPM_ALG_SHA3_256 0x0027u /* 32 */
+#define UEFI_TPM_ALG_SHA3_384 0x0028u /* 48 */
+#define UEFI_TPM_ALG_SHA3_512 0x0029u /* 64 */
 
 /* `last_entry` is the offset at which the last event starts, firmware's
  * EventLogLastEntry less EventLogLocation. An event that starts there may end

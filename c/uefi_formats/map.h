@@ -24,6 +24,7 @@ extern "C" {
 #define UEFI_EfiMemoryMappedIOPortSpace 12u
 #define UEFI_EfiPalCode 13u
 #define UEFI_EfiPersistentMemory 14u
+#define UEFI_EfiUnacceptedMemoryType 15u
 
 typedef struct {
     uint32_t memory_type; /* what the memory is used for, such as UEFI_EfiConventionalMemory */

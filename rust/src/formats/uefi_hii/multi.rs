@@ -12,6 +12,7 @@ use crate::formats::uefi_hii::peeked::PeekedPairs;
 #[cfg(feature = "alloc")]
 use crate::formats::uefi_hii::reading::read_group;
 use crate::support::alloc::AllocError;
+use core::iter::FusedIterator;
 
 /// The configurations of a text, and its errors, in order: an item for each group of pairs.
 ///
@@ -83,6 +84,8 @@ impl<'a> Iterator for MultiConfigurationStringIter<'a> {
         Some(result)
     }
 }
+
+impl<'a> FusedIterator for MultiConfigurationStringIter<'a> {}
 
 /// Returns all configurations of a text, and its errors, in order: an item for each group of pairs,
 /// as [`MultiConfigurationStringIter`] gives them.

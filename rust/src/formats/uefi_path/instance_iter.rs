@@ -2,6 +2,7 @@
 
 use crate::formats::uefi_path::instance::DevicePathInstance;
 use crate::formats::uefi_path::walk::{StopCondition, first_nodes};
+use core::iter::FusedIterator;
 use crate::formats::uefi_base::buffer::length_fits;
 
 /// An iterator over the instances of a path, in order.
@@ -37,3 +38,5 @@ impl<'a> Iterator for DevicePathInstanceIterator<'a> {
         Some(DevicePathInstance::new_unchecked(instance))
     }
 }
+
+impl<'a> FusedIterator for DevicePathInstanceIterator<'a> {}

@@ -10,7 +10,7 @@ use crate::support::bitflags::{Flag, Flags, bitflag_items};
 /// `u32`.
 ///
 /// Its contract: `crates/uefi_path/src/load_option_attributes.rt`.
-#[derive(Clone, Copy, PartialEq, Eq, PartialOrd, Ord, Default, Debug)]
+#[derive(Clone, Copy, PartialEq, Eq, PartialOrd, Ord, Hash, Default, Debug)]
 #[repr(transparent)]
 pub struct LoadOptionAttributes(u32);
 
@@ -55,6 +55,24 @@ impl LoadOptionAttributes {
         <LoadOptionAttributes as Flags>::from_bits_retain(bits)
     }
 
+    /// Returns whether the set has no bit.
+    #[inline]
+    pub fn is_empty(&self) -> bool {
+        <LoadOptionAttributes as Flags>::is_empty(self)
+    }
+
+    /// Returns whether the set has each bit with a name.
+    #[inline]
+    pub fn is_all(&self) -> bool {
+        <LoadOptionAttributes as Flags>::is_all(self)
+    }
+
+    /// Returns whether the sets have a bit in common.
+    #[inline]
+    pub fn intersects(&self, other: LoadOptionAttributes) -> bool {
+        <LoadOptionAttributes as Flags>::intersects(self, other)
+    }
+
     /// Returns whether each bit of the other set is in this one.
     #[inline]
     pub fn contains(&self, other: LoadOptionAttributes) -> bool {
@@ -65,6 +83,24 @@ impl LoadOptionAttributes {
     #[inline]
     pub fn union(self, other: LoadOptionAttributes) -> LoadOptionAttributes {
         <LoadOptionAttributes as Flags>::union(self, other)
+    }
+
+    /// Adds the bits of the other set.
+    #[inline]
+    pub fn insert(&mut self, other: LoadOptionAttributes) {
+        <LoadOptionAttributes as Flags>::insert(self, other);
+    }
+
+    /// Removes the bits of the other set.
+    #[inline]
+    pub fn remove(&mut self, other: LoadOptionAttributes) {
+        <LoadOptionAttributes as Flags>::remove(self, other);
+    }
+
+    /// Returns the bits that the other set doesn't have.
+    #[inline]
+    pub fn difference(self, other: LoadOptionAttributes) -> LoadOptionAttributes {
+        <LoadOptionAttributes as Flags>::difference(self, other)
     }
 }
 

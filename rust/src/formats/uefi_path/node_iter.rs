@@ -2,6 +2,7 @@
 
 use crate::formats::uefi_path::node::DevicePathNode;
 use crate::formats::uefi_path::walk::{StopCondition, first_node};
+use core::iter::FusedIterator;
 use crate::formats::uefi_base::buffer::length_fits;
 
 /// An iterator over the nodes of a path or of an instance, in order, without the last one.
@@ -38,3 +39,5 @@ impl<'a> Iterator for DevicePathNodeIterator<'a> {
         Some(node)
     }
 }
+
+impl<'a> FusedIterator for DevicePathNodeIterator<'a> {}

@@ -4,5 +4,6 @@ mod appends;
 mod boxes;
 mod builders;
 mod load_options;
+mod names;
 mod paths;
 mod values;

@@ -10,7 +10,7 @@ use crate::support::bitflags::{Flag, Flags, bitflag_items};
 /// here. The layout is that of `u64`.
 ///
 /// Its contract: `crates/uefi_map/src/memory/memory_attribute.rt`.
-#[derive(Clone, Copy, PartialEq, Eq, PartialOrd, Ord, Default, Debug)]
+#[derive(Clone, Copy, PartialEq, Eq, PartialOrd, Ord, Hash, Default, Debug)]
 #[repr(transparent)]
 pub struct MemoryAttribute(u64);
 
@@ -24,8 +24,31 @@ bitflag_items! {
         const WRITE_THROUGH = 0x4;
         /// The memory can be cached with writes that wait.
         const WRITE_BACK = 0x8;
+        /// The memory can be left uncached, and is exported and supports the fetch and add mechanism
+        /// of semaphores.
+        const UNCACHABLE_EXPORTED = 0x10;
+        /// The memory can be protected from writes by the hardware's caching rules.
+        const WRITE_PROTECT = 0x1000;
+        /// The memory can be protected from reads.
+        const READ_PROTECT = 0x2000;
+        /// The memory can be protected from execution.
+        const EXECUTE_PROTECT = 0x4000;
+        /// The memory keeps its bytes without power.
+        const NON_VOLATILE = 0x8000;
+        /// The memory is more reliable than other memory of the system.
+        const MORE_RELIABLE = 0x1_0000;
+        /// The memory can be protected from writes.
+        const READ_ONLY = 0x2_0000;
+        /// The memory is set aside for special purposes, such as those of a device's driver.
+        const SPECIAL_PURPOSE = 0x4_0000;
+        /// The memory can be protected by the processor's encryption.
+        const CPU_CRYPTO = 0x8_0000;
         /// Runtime services need the memory mapped.
         const RUNTIME = 0x8000_0000_0000_0000;
+        /// The bits of [`MemoryAttribute::ISA_MASK`] are attributes of the processor's architecture.
+        const ISA_VALID = 0x4000_0000_0000_0000;
+        /// The bits of attributes of the processor's architecture.
+        const ISA_MASK = 0x0fff_f000_0000_0000;
     }
 }
 
@@ -54,6 +77,24 @@ impl MemoryAttribute {
         <MemoryAttribute as Flags>::from_bits_retain(bits)
     }
 
+    /// Returns whether the set has no bit.
+    #[inline]
+    pub fn is_empty(&self) -> bool {
+        <MemoryAttribute as Flags>::is_empty(self)
+    }
+
+    /// Returns whether the set has each bit with a name.
+    #[inline]
+    pub fn is_all(&self) -> bool {
+        <MemoryAttribute as Flags>::is_all(self)
+    }
+
+    /// Returns whether the sets have a bit in common.
+    #[inline]
+    pub fn intersects(&self, other: MemoryAttribute) -> bool {
+        <MemoryAttribute as Flags>::intersects(self, other)
+    }
+
     /// Returns whether each bit of the other set is in this one.
     #[inline]
     pub fn contains(&self, other: MemoryAttribute) -> bool {
@@ -64,6 +105,24 @@ impl MemoryAttribute {
     #[inline]
     pub fn union(self, other: MemoryAttribute) -> MemoryAttribute {
         <MemoryAttribute as Flags>::union(self, other)
+    }
+
+    /// Adds the bits of the other set.
+    #[inline]
+    pub fn insert(&mut self, other: MemoryAttribute) {
+        <MemoryAttribute as Flags>::insert(self, other);
+    }
+
+    /// Removes the bits of the other set.
+    #[inline]
+    pub fn remove(&mut self, other: MemoryAttribute) {
+        <MemoryAttribute as Flags>::remove(self, other);
+    }
+
+    /// Returns the bits that the other set doesn't have.
+    #[inline]
+    pub fn difference(self, other: MemoryAttribute) -> MemoryAttribute {
+        <MemoryAttribute as Flags>::difference(self, other)
     }
 }
 

@@ -9,7 +9,7 @@ const MAX_SANE_SIZE: usize = 1 << 30;
 /// `EFI_BOOT_SERVICES.GetMemoryMap()`, `MapKey`). The default is 0. The layout is that of `usize`.
 ///
 /// Its contract: `crates/uefi_map/src/memory/meta.rt`.
-#[derive(Clone, Copy, PartialEq, Eq, Debug, Default)]
+#[derive(Clone, Copy, PartialEq, Eq, PartialOrd, Ord, Hash, Debug, Default)]
 #[repr(transparent)]
 pub struct MemoryMapKey(usize);
 

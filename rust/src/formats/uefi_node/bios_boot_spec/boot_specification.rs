@@ -152,7 +152,7 @@ impl fmt::Display for DeviceTypeText {
 /// Numbers without a constant here are valid too.
 ///
 /// Its contract: `crates/uefi_node/src/bios_boot_spec/boot_specification.rt`.
-#[derive(Clone, Copy, PartialEq, Eq, Debug)]
+#[derive(Clone, Copy, PartialEq, Eq, PartialOrd, Ord, Hash, Debug)]
 #[repr(transparent)]
 pub struct BootSpecificationDeviceType(pub u16);
 

@@ -87,7 +87,7 @@ impl WriteText for Bmc {
 /// Numbers without a constant here are valid too.
 ///
 /// Its contract: `crates/uefi_node/src/hardware/bmc.rt`.
-#[derive(Clone, Copy, PartialEq, Eq, Debug)]
+#[derive(Clone, Copy, PartialEq, Eq, PartialOrd, Ord, Hash, Debug)]
 #[repr(transparent)]
 pub struct BmcInterfaceType(pub u8);
 

@@ -190,7 +190,7 @@ fn write_other(
 /// Numbers without a constant here are valid too.
 ///
 /// Its contract: `crates/uefi_node/src/media/hard_drive.rt`.
-#[derive(Clone, Copy, PartialEq, Eq, Debug)]
+#[derive(Clone, Copy, PartialEq, Eq, PartialOrd, Ord, Hash, Debug)]
 #[repr(transparent)]
 pub struct PartitionFormat(pub u8);
 

@@ -111,7 +111,7 @@ fn drive_name(drive: u8) -> &'static str {
 /// Numbers without a constant here are valid too.
 ///
 /// Its contract: `crates/uefi_node/src/messaging/atapi.rt`.
-#[derive(Clone, Copy, PartialEq, Eq, Debug)]
+#[derive(Clone, Copy, PartialEq, Eq, PartialOrd, Ord, Hash, Debug)]
 #[repr(transparent)]
 pub struct PrimarySecondary(pub u8);
 
@@ -128,7 +128,7 @@ impl PrimarySecondary {
 /// Numbers without a constant here are valid too.
 ///
 /// Its contract: `crates/uefi_node/src/messaging/atapi.rt`.
-#[derive(Clone, Copy, PartialEq, Eq, Debug)]
+#[derive(Clone, Copy, PartialEq, Eq, PartialOrd, Ord, Hash, Debug)]
 #[repr(transparent)]
 pub struct MasterSlave(pub u8);
 

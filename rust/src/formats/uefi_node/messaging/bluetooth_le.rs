@@ -88,7 +88,7 @@ impl WriteText for BluetoothLe {
 /// Numbers without a constant here are valid too.
 ///
 /// Its contract: `crates/uefi_node/src/messaging/bluetooth_le.rt`.
-#[derive(Clone, Copy, PartialEq, Eq, Debug)]
+#[derive(Clone, Copy, PartialEq, Eq, PartialOrd, Ord, Hash, Debug)]
 #[repr(transparent)]
 pub struct BluetoothLeAddressType(pub u8);
 

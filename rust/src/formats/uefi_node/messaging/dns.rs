@@ -141,7 +141,7 @@ fn write_server(
 /// Numbers without a constant here are valid too.
 ///
 /// Its contract: `crates/uefi_node/src/messaging/dns.rt`.
-#[derive(Clone, Copy, PartialEq, Eq, Debug)]
+#[derive(Clone, Copy, PartialEq, Eq, PartialOrd, Ord, Hash, Debug)]
 #[repr(transparent)]
 pub struct DnsAddressType(pub u8);
 

@@ -9,7 +9,7 @@ use crate::support::bitflags::{Flag, Flags, bitflag_items};
 /// `u32`.
 ///
 /// Its contract: `crates/uefi_node/src/messaging/infiniband_resource_flags.rt`.
-#[derive(Clone, Copy, PartialEq, Eq, PartialOrd, Ord, Default, Debug)]
+#[derive(Clone, Copy, PartialEq, Eq, PartialOrd, Ord, Hash, Default, Debug)]
 #[repr(transparent)]
 pub struct InfinibandResourceFlags(u32);
 
@@ -53,6 +53,24 @@ impl InfinibandResourceFlags {
         <InfinibandResourceFlags as Flags>::from_bits_retain(bits)
     }
 
+    /// Returns whether the set has no bit.
+    #[inline]
+    pub fn is_empty(&self) -> bool {
+        <InfinibandResourceFlags as Flags>::is_empty(self)
+    }
+
+    /// Returns whether the set has each bit with a name.
+    #[inline]
+    pub fn is_all(&self) -> bool {
+        <InfinibandResourceFlags as Flags>::is_all(self)
+    }
+
+    /// Returns whether the sets have a bit in common.
+    #[inline]
+    pub fn intersects(&self, other: InfinibandResourceFlags) -> bool {
+        <InfinibandResourceFlags as Flags>::intersects(self, other)
+    }
+
     /// Returns whether each bit of the other set is in this one.
     #[inline]
     pub fn contains(&self, other: InfinibandResourceFlags) -> bool {
@@ -63,6 +81,24 @@ impl InfinibandResourceFlags {
     #[inline]
     pub fn union(self, other: InfinibandResourceFlags) -> InfinibandResourceFlags {
         <InfinibandResourceFlags as Flags>::union(self, other)
+    }
+
+    /// Adds the bits of the other set.
+    #[inline]
+    pub fn insert(&mut self, other: InfinibandResourceFlags) {
+        <InfinibandResourceFlags as Flags>::insert(self, other);
+    }
+
+    /// Removes the bits of the other set.
+    #[inline]
+    pub fn remove(&mut self, other: InfinibandResourceFlags) {
+        <InfinibandResourceFlags as Flags>::remove(self, other);
+    }
+
+    /// Returns the bits that the other set doesn't have.
+    #[inline]
+    pub fn difference(self, other: InfinibandResourceFlags) -> InfinibandResourceFlags {
+        <InfinibandResourceFlags as Flags>::difference(self, other)
     }
 }
 

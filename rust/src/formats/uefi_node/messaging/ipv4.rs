@@ -153,7 +153,7 @@ impl fmt::Display for ProtocolText {
 /// Numbers without a constant here are valid too.
 ///
 /// Its contract: `crates/uefi_node/src/messaging/ipv4.rt`.
-#[derive(Clone, Copy, PartialEq, Eq, Debug)]
+#[derive(Clone, Copy, PartialEq, Eq, PartialOrd, Ord, Hash, Debug)]
 #[repr(transparent)]
 pub struct Ipv4AddressOrigin(pub u8);
 

@@ -144,7 +144,7 @@ fn origin_name(origin: u8) -> &'static str {
 /// Numbers without a constant here are valid too.
 ///
 /// Its contract: `crates/uefi_node/src/messaging/ipv6.rt`.
-#[derive(Clone, Copy, PartialEq, Eq, Debug)]
+#[derive(Clone, Copy, PartialEq, Eq, PartialOrd, Ord, Hash, Debug)]
 #[repr(transparent)]
 pub struct Ipv6AddressOrigin(pub u8);
 

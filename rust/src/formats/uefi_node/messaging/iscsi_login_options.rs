@@ -10,7 +10,7 @@ use crate::support::bitflags::{Flag, Flags, bitflag_items};
 /// [`IscsiLoginOptions::from_bits_retain`] keeps bits without a name. The layout is that of `u16`.
 ///
 /// Its contract: `crates/uefi_node/src/messaging/iscsi_login_options.rt`.
-#[derive(Clone, Copy, PartialEq, Eq, PartialOrd, Ord, Default, Debug)]
+#[derive(Clone, Copy, PartialEq, Eq, PartialOrd, Ord, Hash, Default, Debug)]
 #[repr(transparent)]
 pub struct IscsiLoginOptions(u16);
 
@@ -52,6 +52,24 @@ impl IscsiLoginOptions {
         <IscsiLoginOptions as Flags>::from_bits_retain(bits)
     }
 
+    /// Returns whether the set has no bit.
+    #[inline]
+    pub fn is_empty(&self) -> bool {
+        <IscsiLoginOptions as Flags>::is_empty(self)
+    }
+
+    /// Returns whether the set has each bit with a name.
+    #[inline]
+    pub fn is_all(&self) -> bool {
+        <IscsiLoginOptions as Flags>::is_all(self)
+    }
+
+    /// Returns whether the sets have a bit in common.
+    #[inline]
+    pub fn intersects(&self, other: IscsiLoginOptions) -> bool {
+        <IscsiLoginOptions as Flags>::intersects(self, other)
+    }
+
     /// Returns whether each bit of the other set is in this one.
     #[inline]
     pub fn contains(&self, other: IscsiLoginOptions) -> bool {
@@ -62,6 +80,24 @@ impl IscsiLoginOptions {
     #[inline]
     pub fn union(self, other: IscsiLoginOptions) -> IscsiLoginOptions {
         <IscsiLoginOptions as Flags>::union(self, other)
+    }
+
+    /// Adds the bits of the other set.
+    #[inline]
+    pub fn insert(&mut self, other: IscsiLoginOptions) {
+        <IscsiLoginOptions as Flags>::insert(self, other);
+    }
+
+    /// Removes the bits of the other set.
+    #[inline]
+    pub fn remove(&mut self, other: IscsiLoginOptions) {
+        <IscsiLoginOptions as Flags>::remove(self, other);
+    }
+
+    /// Returns the bits that the other set doesn't have.
+    #[inline]
+    pub fn difference(self, other: IscsiLoginOptions) -> IscsiLoginOptions {
+        <IscsiLoginOptions as Flags>::difference(self, other)
     }
 }
 

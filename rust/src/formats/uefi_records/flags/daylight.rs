@@ -9,7 +9,7 @@ use crate::support::bitflags::{Flag, Flags, bitflag_items};
 /// [`Daylight::from_bits_retain`] keeps bits without a name. The layout is that of `u8`.
 ///
 /// Its contract: `crates/uefi_records/src/flags/daylight.rt`.
-#[derive(Clone, Copy, PartialEq, Eq, PartialOrd, Ord, Default, Debug)]
+#[derive(Clone, Copy, PartialEq, Eq, PartialOrd, Ord, Hash, Default, Debug)]
 #[repr(transparent)]
 pub struct Daylight(u8);
 
@@ -47,6 +47,24 @@ impl Daylight {
         <Daylight as Flags>::from_bits_retain(bits)
     }
 
+    /// Returns whether the set has no bit.
+    #[inline]
+    pub fn is_empty(&self) -> bool {
+        <Daylight as Flags>::is_empty(self)
+    }
+
+    /// Returns whether the set has each bit with a name.
+    #[inline]
+    pub fn is_all(&self) -> bool {
+        <Daylight as Flags>::is_all(self)
+    }
+
+    /// Returns whether the sets have a bit in common.
+    #[inline]
+    pub fn intersects(&self, other: Daylight) -> bool {
+        <Daylight as Flags>::intersects(self, other)
+    }
+
     /// Returns whether each bit of the other set is in this one.
     #[inline]
     pub fn contains(&self, other: Daylight) -> bool {
@@ -57,6 +75,24 @@ impl Daylight {
     #[inline]
     pub fn union(self, other: Daylight) -> Daylight {
         <Daylight as Flags>::union(self, other)
+    }
+
+    /// Adds the bits of the other set.
+    #[inline]
+    pub fn insert(&mut self, other: Daylight) {
+        <Daylight as Flags>::insert(self, other);
+    }
+
+    /// Removes the bits of the other set.
+    #[inline]
+    pub fn remove(&mut self, other: Daylight) {
+        <Daylight as Flags>::remove(self, other);
+    }
+
+    /// Returns the bits that the other set doesn't have.
+    #[inline]
+    pub fn difference(self, other: Daylight) -> Daylight {
+        <Daylight as Flags>::difference(self, other)
     }
 }
 

@@ -9,7 +9,7 @@ use crate::support::bitflags::{Flag, Flags, bitflag_items};
 /// [`FileAttribute::from_bits_retain`] keeps bits without a name. The layout is that of `u64`.
 ///
 /// Its contract: `crates/uefi_records/src/flags/file_attribute.rt`.
-#[derive(Clone, Copy, PartialEq, Eq, PartialOrd, Ord, Default, Debug)]
+#[derive(Clone, Copy, PartialEq, Eq, PartialOrd, Ord, Hash, Default, Debug)]
 #[repr(transparent)]
 pub struct FileAttribute(u64);
 
@@ -55,6 +55,24 @@ impl FileAttribute {
         <FileAttribute as Flags>::from_bits_retain(bits)
     }
 
+    /// Returns whether the set has no bit.
+    #[inline]
+    pub fn is_empty(&self) -> bool {
+        <FileAttribute as Flags>::is_empty(self)
+    }
+
+    /// Returns whether the set has each bit with a name.
+    #[inline]
+    pub fn is_all(&self) -> bool {
+        <FileAttribute as Flags>::is_all(self)
+    }
+
+    /// Returns whether the sets have a bit in common.
+    #[inline]
+    pub fn intersects(&self, other: FileAttribute) -> bool {
+        <FileAttribute as Flags>::intersects(self, other)
+    }
+
     /// Returns whether each bit of the other set is in this one.
     #[inline]
     pub fn contains(&self, other: FileAttribute) -> bool {
@@ -65,6 +83,24 @@ impl FileAttribute {
     #[inline]
     pub fn union(self, other: FileAttribute) -> FileAttribute {
         <FileAttribute as Flags>::union(self, other)
+    }
+
+    /// Adds the bits of the other set.
+    #[inline]
+    pub fn insert(&mut self, other: FileAttribute) {
+        <FileAttribute as Flags>::insert(self, other);
+    }
+
+    /// Removes the bits of the other set.
+    #[inline]
+    pub fn remove(&mut self, other: FileAttribute) {
+        <FileAttribute as Flags>::remove(self, other);
+    }
+
+    /// Returns the bits that the other set doesn't have.
+    #[inline]
+    pub fn difference(self, other: FileAttribute) -> FileAttribute {
+        <FileAttribute as Flags>::difference(self, other)
     }
 }
 

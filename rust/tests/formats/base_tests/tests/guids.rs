@@ -5,7 +5,7 @@
 use crate::support::fallible::*;
 
 use crate::support::test::Fail;
-use crate::test_support::{bytes, each_gives, each_gives_in, same, same_text};
+use crate::test_support::{bytes, each_gives, each_gives_in, holds, same, same_text};
 use crate::uefi_base::{Guid, GuidFromStrError};
 
 /// GUIDs whose texts and bytes are well known: the text, and the bytes as hex.
@@ -37,13 +37,12 @@ const KNOWN: [(&str, &str); 5] = [
     ),
 ];
 
-/// Checks that a text is read as these bytes, and is displayed in lower case.
+/// Checks that a text is read as these bytes, and is displayed but for the case of letters.
 fn check_read(text: &str, expected: &str) -> Result<(), Fail> {
     let guid: Guid = text.parse()?;
     let expected = bytes(expected)?;
     let shown = guid.to_string().text()?;
-    let lower = text.to_ascii_lowercase()?;
-    same_text(text, shown.as_str(), lower.as_str())?;
+    holds(text, shown.as_str().eq_ignore_ascii_case(text))?;
     let found = guid.to_bytes();
     same(text, &found.as_slice(), &expected.as_slice())
 }

@@ -94,3 +94,47 @@ fn the_default_is_the_empty_set_and_comes_first() -> Result<(), Fail> {
         && Daylight::ADJUST_DAYLIGHT < Daylight::IN_DAYLIGHT;
     holds("sets are ordered by their bits", ordered)
 }
+
+#[test]
+fn sets_are_compared() -> Result<(), Fail> {
+    let both = FileAttribute::READ_ONLY | FileAttribute::DIRECTORY;
+    let found = [
+        both.is_empty(),
+        FileAttribute::empty().is_empty(),
+        both.is_all(),
+        FileAttribute::VALID_ATTR.is_all(),
+        both.intersects(FileAttribute::DIRECTORY),
+        both.intersects(FileAttribute::HIDDEN),
+    ];
+    let expected = [false, true, false, true, true, false];
+    same("attributes", &found, &expected)?;
+    let adjust = Daylight::ADJUST_DAYLIGHT;
+    let found = [
+        adjust.is_empty(),
+        Daylight::empty().is_empty(),
+        adjust.is_all(),
+        (!Daylight::empty()).is_all(),
+        adjust.intersects(Daylight::IN_DAYLIGHT),
+        adjust.intersects(adjust),
+    ];
+    let expected = [false, true, false, true, false, true];
+    same("daylight", &found, &expected)
+}
+
+#[test]
+fn sets_change() -> Result<(), Fail> {
+    let mut set = FileAttribute::HIDDEN;
+    set.insert(FileAttribute::SYSTEM);
+    let inserted = set.bits();
+    set.remove(FileAttribute::HIDDEN);
+    let left = FileAttribute::VALID_ATTR.difference(FileAttribute::ARCHIVE);
+    let found = [inserted, set.bits(), left.bits()];
+    same("attributes", &found, &[0x06, 0x04, 0x17])?;
+    let mut set = Daylight::ADJUST_DAYLIGHT;
+    set.insert(Daylight::IN_DAYLIGHT);
+    let inserted = set.bits();
+    set.remove(Daylight::ADJUST_DAYLIGHT);
+    let left = Daylight::IN_DAYLIGHT.difference(Daylight::IN_DAYLIGHT);
+    let found = [inserted, set.bits(), left.bits()];
+    same("daylight", &found, &[3, 2, 0])
+}

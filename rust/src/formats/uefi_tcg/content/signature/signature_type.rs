@@ -7,7 +7,7 @@ use crate::formats::uefi_base::Guid;
 /// GUIDs without a constant here are valid too. The lengths are those of the data, without the owner.
 ///
 /// Its contract: `crates/uefi_tcg/src/content/signature/signature_type.rt`.
-#[derive(Clone, Copy, PartialEq, Eq, Debug)]
+#[derive(Clone, Copy, PartialEq, Eq, PartialOrd, Ord, Hash, Debug)]
 #[repr(transparent)]
 pub struct SignatureType(pub Guid);
 

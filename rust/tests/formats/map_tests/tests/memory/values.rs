@@ -19,14 +19,20 @@ fn made(bits: &u64) -> (Option<u64>, u64) {
 
 #[test]
 fn a_set_is_made_of_named_bits_alone() -> Result<(), Fail> {
-    const ROWS: [(u64, (Option<u64>, u64)); 5] = [
+    const ROWS: [(u64, (Option<u64>, u64)); 8] = [
         (
             0x8000_0000_0000_0009,
             (Some(0x8000_0000_0000_0009), 0x8000_0000_0000_0009),
         ),
         (6, (Some(6), 6)),
-        (0x10, (None, 0x10)),
-        (0x4000_0000_0000_0000, (None, 0x4000_0000_0000_0000)),
+        (0x10, (Some(0x10), 0x10)),
+        (0x20, (None, 0x20)),
+        (0xf_f000, (Some(0xf_f000), 0xf_f000)),
+        (0x10_0000, (None, 0x10_0000)),
+        (
+            0x4fff_f000_0000_0000,
+            (Some(0x4fff_f000_0000_0000), 0x4fff_f000_0000_0000),
+        ),
         (u64::MAX, (None, u64::MAX)),
     ];
     each_gives(&ROWS, made)
@@ -39,7 +45,18 @@ fn sets_have_their_bits() -> Result<(), Fail> {
         (MemoryAttribute::WRITE_COMBINE, 0x2),
         (MemoryAttribute::WRITE_THROUGH, 0x4),
         (MemoryAttribute::WRITE_BACK, 0x8),
+        (MemoryAttribute::UNCACHABLE_EXPORTED, 0x10),
+        (MemoryAttribute::WRITE_PROTECT, 0x1000),
+        (MemoryAttribute::READ_PROTECT, 0x2000),
+        (MemoryAttribute::EXECUTE_PROTECT, 0x4000),
+        (MemoryAttribute::NON_VOLATILE, 0x8000),
+        (MemoryAttribute::MORE_RELIABLE, 0x1_0000),
+        (MemoryAttribute::READ_ONLY, 0x2_0000),
+        (MemoryAttribute::SPECIAL_PURPOSE, 0x4_0000),
+        (MemoryAttribute::CPU_CRYPTO, 0x8_0000),
         (MemoryAttribute::RUNTIME, 0x8000_0000_0000_0000),
+        (MemoryAttribute::ISA_VALID, 0x4000_0000_0000_0000),
+        (MemoryAttribute::ISA_MASK, 0x0fff_f000_0000_0000),
         (
             MemoryAttribute::WRITE_COMBINE.union(MemoryAttribute::WRITE_THROUGH),
             6,
@@ -60,6 +77,31 @@ fn a_set_contains_its_flags() -> Result<(), Fail> {
         set.contains(two),
     );
     same("bits 63, 3 and 0", &seen, &(true, true, false))
+}
+
+#[test]
+fn sets_are_compared_and_change() -> Result<(), Fail> {
+    let both = MemoryAttribute::WRITE_BACK | MemoryAttribute::RUNTIME;
+    let seen = [
+        both.is_empty(),
+        MemoryAttribute::empty().is_empty(),
+        both.is_all(),
+        (!MemoryAttribute::empty()).is_all(),
+        both.intersects(MemoryAttribute::RUNTIME),
+        both.intersects(MemoryAttribute::READ_ONLY),
+    ];
+    let expected = [false, true, false, true, true, false];
+    same("empty, all, in common", &seen, &expected)?;
+    let mut set = MemoryAttribute::WRITE_BACK;
+    set.insert(MemoryAttribute::READ_ONLY);
+    let inserted = set.bits();
+    set.remove(MemoryAttribute::WRITE_BACK);
+    let removed = set.bits();
+    set |= MemoryAttribute::UNCACHEABLE;
+    let left = both.difference(MemoryAttribute::RUNTIME).bits();
+    let seen = [inserted, removed, set.bits(), left];
+    let expected = [0x2_0008, 0x2_0000, 0x2_0001, 8];
+    same("inserted, removed, |=, difference", &seen, &expected)
 }
 
 #[test]
@@ -91,9 +133,58 @@ fn types_have_their_numbers() -> Result<(), Fail> {
         MemoryType::MMIO_PORT_SPACE.0,
         MemoryType::PAL_CODE.0,
         MemoryType::PERSISTENT_MEMORY.0,
+        MemoryType::UNACCEPTED.0,
     ];
-    let numbers = [0, 1, 2, 3, 4, 5, 6, 7, 8, 9, 10, 11, 12, 13, 14];
+    let numbers = [0, 1, 2, 3, 4, 5, 6, 7, 8, 9, 10, 11, 12, 13, 14, 15];
     same("types", &types, &numbers)
+}
+
+/// The names of types by their numbers, and whether these are left to OEMs and to loaders.
+const TYPES: [(u32, (Option<&str>, bool, bool)); 22] = [
+    (0, (Some("EfiReservedMemoryType"), false, false)),
+    (1, (Some("EfiLoaderCode"), false, false)),
+    (2, (Some("EfiLoaderData"), false, false)),
+    (3, (Some("EfiBootServicesCode"), false, false)),
+    (4, (Some("EfiBootServicesData"), false, false)),
+    (5, (Some("EfiRuntimeServicesCode"), false, false)),
+    (6, (Some("EfiRuntimeServicesData"), false, false)),
+    (7, (Some("EfiConventionalMemory"), false, false)),
+    (8, (Some("EfiUnusableMemory"), false, false)),
+    (9, (Some("EfiACPIReclaimMemory"), false, false)),
+    (10, (Some("EfiACPIMemoryNVS"), false, false)),
+    (11, (Some("EfiMemoryMappedIO"), false, false)),
+    (12, (Some("EfiMemoryMappedIOPortSpace"), false, false)),
+    (13, (Some("EfiPalCode"), false, false)),
+    (14, (Some("EfiPersistentMemory"), false, false)),
+    (15, (Some("EfiUnacceptedMemoryType"), false, false)),
+    (16, (None, false, false)),
+    (0x6fff_ffff, (None, false, false)),
+    (0x7000_0000, (None, true, false)),
+    (0x7fff_ffff, (None, true, false)),
+    (0x8000_0000, (None, false, true)),
+    (0xffff_ffff, (None, false, true)),
+];
+
+#[test]
+fn types_have_the_names_of_the_standard() -> Result<(), Fail> {
+    each_gives(&TYPES, |number| {
+        let ty = MemoryType(*number);
+        (ty.name(), ty.is_oem(), ty.is_os_loader())
+    })?;
+    let custom = (
+        MemoryType(0x7000_0000).is_custom(),
+        MemoryType(0x8000_0000).is_custom(),
+        MemoryType::UNACCEPTED.is_custom(),
+    );
+    same("left to others", &custom, &(true, true, false))
+}
+
+#[test]
+fn debug_shows_the_name_or_the_number() -> Result<(), Fail> {
+    let (named, numbered) = (MemoryType::LOADER_CODE, MemoryType(0x7000_0000));
+    let shown = fallible_format!("{named:?} {numbered:?}")?;
+    let expected = "MemoryType(EfiLoaderCode) MemoryType(0x70000000)";
+    same_text("both", shown.as_str(), expected)
 }
 
 #[test]
