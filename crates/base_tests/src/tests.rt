@@ -1,3 +1,4 @@
+mod characters;
 mod guids;
 mod memory;
 mod requests;

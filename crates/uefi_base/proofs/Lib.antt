@@ -15,3 +15,4 @@ pub mod Rows
 pub mod HexDigits
 pub mod GuidReading
 pub mod GuidsBack
+pub mod Utf16

@@ -11,6 +11,7 @@ pub mod StatusCode
 pub mod Ucs2
 pub mod Faults
 pub mod Unaligned
+pub mod Utf16
 pub mod Views
 pub mod Texts
 pub mod Laws

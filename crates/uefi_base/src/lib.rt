@@ -11,6 +11,7 @@
 #![tactic(auto)]
 
 pub use self::align::Align;
+pub use self::chars_lossy::CharsLossy;
 pub use self::cstr16::CStr16;
 pub use self::cstring16::CString16;
 pub use self::guid::Guid;
@@ -23,6 +24,7 @@ pub use self::unaligned::{UnalignedSlice, UnalignedSliceIter};
 
 mod align;
 pub mod buffer;
+mod chars_lossy;
 mod cstr16;
 mod cstring16;
 mod guid;

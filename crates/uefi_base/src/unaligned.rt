@@ -1,4 +1,4 @@
-ghost use Rattle.std.specs.Prelude.{◌≡◌, ◌↔◌, ◌%◌, ◌^◌, ◌<◌, [], length, slice_get, slice_index, IsTrue, IsOk, IfOk, Some, IfSome, nat_eq};
+ghost use Rattle.std.specs.Prelude.{◌≡◌, ◌↔◌, ◌%◌, ◌^◌, ◌<◌, [], length, slice_get, slice_index, IsTrue, IsOk, IfOk, Some, IfSome, IsSome, nat_eq, encode_utf8_all};
 ghost use Rattle.std.specs.Cmp.{partial_equiv_from_equiv, on_per, on_equiv};
 ghost use Rattle.std.specs.Cmp.Lexicographic.{pointwise, nat_list_eq_equiv};
 ghost use Rattle.std.specs.Result.{IsErrOf};
@@ -11,11 +11,13 @@ ghost use Rattle.uefi_base.specs.private.Search.{IsFirstNonCharacter};
 ghost use Rattle.uefi_base.specs.declared.text_error.FromSliceWithNulError.{FromSliceWithNulError};
 
 use crate::buffer::length_fits;
+use crate::chars_lossy::{CharsLossy, write_characters};
 use crate::cstring16::CString16;
 use crate::little_endian::u16_at;
 use crate::text_error::{FromSliceWithNulError, UnalignedCStr16Error};
 use crate::ucs2::{fault_of, is_character};
 use std::alloc::Allocator;
+use std::fmt;
 use std::iter::{ExactSizeIterator, FusedIterator};
 
 /// A slice of 16-bit units (UEFI 2.10, 2.3.1, `CHAR16`) in bytes, which may start at any address.
@@ -24,9 +26,9 @@ use std::iter::{ExactSizeIterator, FusedIterator};
 /// |---|---|---|
 /// | 2 i | 2 | unit i, little-endian |
 ///
-/// The units may be any numbers; [`to_cstring16`](Self::to_cstring16) tests whether they are UCS-2
-/// text. A view: it borrows the bytes, and its iterator lives as long as they do. Two slices are
-/// equal if their units are.
+/// The units may be any numbers. [`to_cstring16`](Self::to_cstring16) tests whether they are UCS-2
+/// text, and [`chars_lossy`](Self::chars_lossy) reads any units as UTF-16. A view: it borrows the
+/// bytes, and its iterators live as long as they do. Two slices are equal if their units are.
 ///
 /// # Examples
 ///
@@ -53,7 +55,8 @@ pub struct UnalignedSlice<'a> {
 
 #[tactic(auto, using(crate::proofs::UnitsOfBytes::half_as_many_units))]
 impl<'a> UnalignedSlice<'a> {
-    ghost use Rattle.uefi_base.specs.Views.{slice_units, units_left, owned_units};
+    ghost use Rattle.uefi_base.specs.Utf16.{lossy_characters};
+    ghost use Rattle.uefi_base.specs.Views.{slice_units, units_left, owned_units, chars_left};
 
     /// Returns the units in all of `bytes`, whose length is even.
     pub fn new(bytes: &'a [u8]) -> UnalignedSlice<'a>
@@ -61,6 +64,17 @@ impl<'a> UnalignedSlice<'a> {
         ensures { slice_units result ≡ units_of bytes.now }
     {
         UnalignedSlice { bytes }
+    }
+
+    /// Returns the units in all of `bytes`, or `None` if the length is odd.
+    pub fn try_new(bytes: &'a [u8]) -> Option<UnalignedSlice<'a>>
+        ensures units { IfSome result (λ slice. slice_units slice ≡ units_of bytes.now) }
+        ensures even { IsSome result ↔ (length bytes.now % 2 ≡ 0) }
+    {
+        if bytes.len() % 2 != 0 {
+            return None;
+        }
+        Some(UnalignedSlice::new(bytes))
     }
 
     /// Returns the number of units.
@@ -104,6 +118,15 @@ impl<'a> UnalignedSlice<'a> {
         ensures countable { length (units_left result) < 2 ^ 64 }
     {
         UnalignedSliceIter::new(self.bytes)
+    }
+
+    /// Returns an iterator over the characters of the units in UTF-16, up to the first NUL or the
+    /// end. A surrogate that isn't in a pair is U+FFFD.
+    pub fn chars_lossy(&self) -> CharsLossy<'a>
+        ensures chars { chars_left result ≡ lossy_characters (slice_units self.now) }
+        ensures countable { length (chars_left result) < 2 ^ 64 }
+    {
+        CharsLossy::new(self.iter())
     }
 
     /// Returns the text that consists of all the units, in an allocation of its own.
@@ -177,6 +200,18 @@ impl Eq for UnalignedSlice<'_> {
     ghost use Rattle.uefi_base.specs.Views.{slice_units};
 
     ghost laws = { on_equiv slice_units nat_list_eq_equiv };
+}
+
+/// Writes the characters of [`chars_lossy`](UnalignedSlice::chars_lossy), without an allocation.
+impl fmt::Display for UnalignedSlice<'_> {
+    ghost use Rattle.uefi_base.specs.Utf16.{lossy_characters};
+    ghost use Rattle.uefi_base.specs.Views.{slice_units};
+
+    ghost output = { λ slice. Some (encode_utf8_all (lossy_characters (slice_units slice))) };
+
+    fn fmt<W: fmt::Write>(&self, f: &mut fmt::Formatter<W>) -> fmt::Result {
+        write_characters(f, self.chars_lossy())
+    }
 }
 
 /// An iterator over the units of an [`UnalignedSlice`], in order.

@@ -9,6 +9,7 @@
 //! A call that allocates takes an allocator, and rules out its other errors first.
 
 pub use self::align::Align;
+pub use self::chars_lossy::CharsLossy;
 pub use self::cstr16::CStr16;
 #[cfg(feature = "alloc")]
 pub use self::cstring16::CString16;
@@ -22,6 +23,7 @@ pub use self::unaligned::{UnalignedSlice, UnalignedSliceIter};
 
 mod align;
 pub mod buffer;
+mod chars_lossy;
 mod cstr16;
 mod cstring16;
 mod guid;

@@ -6,11 +6,13 @@ use alloc::vec::Vec;
 use crate::support::fallible::*;
 
 use crate::formats::uefi_base::buffer::length_fits;
+use crate::formats::uefi_base::chars_lossy::{CharsLossy, write_characters};
 #[cfg(feature = "alloc")]
 use crate::formats::uefi_base::cstring16::CString16;
 use crate::formats::uefi_base::little_endian::u16_at;
 use crate::formats::uefi_base::text_error::{FromSliceWithNulError, UnalignedCStr16Error};
 use crate::formats::uefi_base::ucs2::{fault_of, is_character};
+use core::fmt;
 use core::iter::{ExactSizeIterator, FusedIterator};
 
 /// A slice of 16-bit units (UEFI 2.10, 2.3.1, `CHAR16`) in bytes, which may start at any address.
@@ -19,9 +21,9 @@ use core::iter::{ExactSizeIterator, FusedIterator};
 /// |---|---|---|
 /// | 2 i | 2 | unit i, little-endian |
 ///
-/// The units may be any numbers; [`to_cstring16`](Self::to_cstring16) tests whether they are UCS-2
-/// text. A view: it borrows the bytes, and its iterator lives as long as they do. Two slices are
-/// equal if their units are.
+/// The units may be any numbers. [`to_cstring16`](Self::to_cstring16) tests whether they are UCS-2
+/// text, and [`chars_lossy`](Self::chars_lossy) reads any units as UTF-16. A view: it borrows the
+/// bytes, and its iterators live as long as they do. Two slices are equal if their units are.
 ///
 /// # Examples
 ///
@@ -49,6 +51,15 @@ impl<'a> UnalignedSlice<'a> {
     pub fn new(bytes: &'a [u8]) -> UnalignedSlice<'a> {
         assert!(bytes.len() % 2 == 0);
         UnalignedSlice { bytes }
+    }
+
+    /// Returns the units in all of `bytes`, or `None` if the length is odd.
+    #[inline]
+    pub fn try_new(bytes: &'a [u8]) -> Option<UnalignedSlice<'a>> {
+        if bytes.len() % 2 != 0 {
+            return None;
+        }
+        Some(UnalignedSlice::new(bytes))
     }
 
     /// Returns the number of units.
@@ -83,6 +94,13 @@ impl<'a> UnalignedSlice<'a> {
     #[inline]
     pub fn iter(&self) -> UnalignedSliceIter<'a> {
         UnalignedSliceIter::new(self.bytes)
+    }
+
+    /// Returns an iterator over the characters of the units in UTF-16, up to the first NUL or the
+    /// end. A surrogate that isn't in a pair is U+FFFD.
+    #[inline]
+    pub fn chars_lossy(&self) -> CharsLossy<'a> {
+        CharsLossy::new(self.iter())
     }
 
     /// Returns the text that consists of all the units, in an allocation of its own.
@@ -141,6 +159,13 @@ impl PartialEq for UnalignedSlice<'_> {
 }
 
 impl Eq for UnalignedSlice<'_> {}
+
+/// Writes the characters of [`chars_lossy`](UnalignedSlice::chars_lossy), without an allocation.
+impl fmt::Display for UnalignedSlice<'_> {
+    fn fmt(&self, f: &mut fmt::Formatter<'_>) -> fmt::Result {
+        write_characters(f, self.chars_lossy())
+    }
+}
 
 /// An iterator over the units of an [`UnalignedSlice`], in order.
 ///

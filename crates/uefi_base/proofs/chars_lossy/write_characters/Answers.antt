@@ -1,0 +1,21 @@
+use Rattle.std.proofs.Common.{◌≡◌, ℕ, List, [], ◌∷◌, ◌++◌, true, ap, append_assoc, sym, refl, ◌∙◌, encode_utf8_all}
+use Rattle.std.proofs.Math.Utf8.{encode}
+use Rattle.std.proofs.Output.{has_written_append, has_written_of_eq}
+use Rattle.std.proofs.lemmas.List.{append-nil}
+use Rattle.std.proofs.lemmas.Str.{encodes-append}
+use Rattle.uefi_base.proofs.chars_lossy.write_characters.Goals as goal
+
+-- The bytes of characters and of one more.
+one_more : (cs : List ℕ) (c : ℕ) → encode_utf8_all cs ++ encode c ≡ encode_utf8_all (cs ++ c ∷ [])
+one_more cs c = simp (encodes-append, append-nil) refl
+
+pub loop-character-preserved : goal.loop-character-preserved
+loop-character-preserved g c plain =
+    let before = c.loop-character.invariant plain in
+    let character = c.in-Some.character in
+    let written = has_written_append _ _ _ _ _ _ before.1
+    (c.in_ok-write_char.ensures.writes before.1.plain (refl {a = true})) in (
+      before.0 ++ character ∷ [],
+      has_written_of_eq _ _ _ _ _ (one_more before.0 character) written,
+      append_assoc before.0 (character ∷ []) _ ∙ ap (λ l. before.0 ++ l) (sym c.in-Some.ensures.steps) ∙ before.2,
+    )
