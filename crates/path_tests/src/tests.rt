@@ -5,3 +5,4 @@ mod load_options;
 mod names;
 mod paths;
 mod values;
+mod written_options;

@@ -1,3 +1,4 @@
+pub mod Filled
 pub mod NamedBits
 pub mod NumbersBack
 pub mod Parts
@@ -5,6 +6,7 @@ pub mod Ranges
 pub mod Sharing
 pub mod WalkNames
 pub mod WriterArgs
+pub mod WriterLaws
 pub mod WriterWalk
 pub mod Written
 pub mod Characters

@@ -13,7 +13,7 @@ use Rattle.uefi_base.specs.Unaligned.{AreUnits, units_of, unit_bytes}
 use Rattle.uefi_base.proofs.UnitsBack.{units_read_back}
 use Rattle.uefi_path.specs.LoadOption.{AreNonzeroUnits, HasDescription, with_nul}
 use Rattle.uefi_path.specs.Path.{all_but_last}
-use Rattle.uefi_path.proofs.LoadOptions.{same_unit}
+use Rattle.uefi_path.specs.private.OneLoadOption.{same_unit}
 use Rattle.uefi_path.proofs.Passing.{AllByRecursion-push, flat_map-push, front_is}
 
 -- The search has passed some units, none of which is zero, and is at the rest.

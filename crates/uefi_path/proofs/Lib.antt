@@ -6,6 +6,8 @@ pub mod Decide
 pub mod Descriptions
 pub mod LoadOptions
 pub mod Nodes
+pub mod OptionParts
+pub mod OptionWritten
 pub mod Passing
 pub mod Rows
 pub mod Steps

@@ -1,8 +1,14 @@
--- Laws of paths.
-use Rattle.std.specs.Prelude.{◌≡◌, ℕ, List, [], ◌∷◌, ◌++◌}
+-- Laws of paths and load options.
+use Rattle.std.specs.Prelude.{◌≡◌, ℕ, List, [], ◌∷◌, ◌++◌, Result, MatchResult}
+use Rattle.uefi_path.specs.LoadOption.{LoadOption, IsLoadOption, ReadsLoadOption, load_option_bytes}
+use Rattle.uefi_path.specs.LoadOptionParts.{HasParts}
+use Rattle.uefi_path.specs.LoadOptionViews.{load_option_of}
 use Rattle.uefi_path.specs.Node.{Node, joined, IsEndEntire, end_entire}
 use Rattle.uefi_base.specs.Prefix.{IsPrefix}
 use Rattle.uefi_path.specs.Path.{IsPath, AreBefore}
+use Rattle.uefi_path.specs.declared.load_option.LoadOption.{LoadOption as LoadOptionView}
+use Rattle.uefi_path.specs.declared.load_option_error.LoadOptionError.{LoadOptionError}
+use Rattle.uefi_path.specs.declared.load_option_parts.LoadOptionParts.{LoadOptionParts}
 
 -- No path is a proper prefix of another: paths that start the same bytes are equal, and so are the bytes after them.
 abbrev pub NoProperPrefix : Type 0
@@ -27,3 +33,19 @@ pub record IsBuiltPath (nodes : List Node) : Type 0 where
 
 abbrev pub BuiltPaths : Type 0
 BuiltPaths = (nodes : List Node) → AreBefore IsEndEntire nodes → IsBuiltPath nodes
+
+-- The bytes of a load option are read, and as that option.
+abbrev pub OptionsReadBack : Type 0
+OptionsReadBack = (option : LoadOption) → IsLoadOption option → (read : Result LoadOptionView LoadOptionError)
+    → ReadsLoadOption load_option_of (load_option_bytes option) read
+    → MatchResult read (λ view. load_option_of view ≡ option) (λ _. ⊥)
+
+-- Parts are those of at most one load option.
+abbrev pub OneOptionOfParts : Type 0
+OneOptionOfParts = (parts : LoadOptionParts) (option other : LoadOption) → IsLoadOption option → IsLoadOption other
+    → HasParts parts option → HasParts parts other → option ≡ other
+
+-- Both laws hold: so what is written is read back, and what was read is written again with the same bytes.
+pub record WrittenOptions : Type 0 where
+  pub reads_back : OptionsReadBack
+  pub one_option : OneOptionOfParts

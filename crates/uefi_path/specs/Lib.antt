@@ -9,6 +9,7 @@ pub mod build
 pub mod LoadOption
 pub mod LoadOptionFlags
 pub mod LoadOptionViews
+pub mod LoadOptionParts
 pub mod LoadOptionTexts
 pub mod Laws
 pub mod rows

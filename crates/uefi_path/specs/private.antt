@@ -3,4 +3,5 @@ pub mod Encoding
 pub mod Stop
 pub mod OneNode
 pub mod OnePath
+pub mod OneLoadOption
 pub mod NodeFault

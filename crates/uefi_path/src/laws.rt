@@ -1,7 +1,7 @@
 //! Laws of the definitions. Each function states a law that holds for all values, and does nothing
 //! when it runs.
 
-ghost use Rattle.uefi_path.specs.Laws.{BuiltPaths, OneFront};
+ghost use Rattle.uefi_path.specs.Laws.{BuiltPaths, OneFront, WrittenOptions};
 ghost use Rattle.uefi_path.specs.LoadOption.{OneLoadOption};
 ghost use Rattle.uefi_path.specs.rows.Paths.{RowsHold};
 
@@ -27,7 +27,15 @@ pub fn worked_rows()
 {}
 
 /// States that bytes are at most one load option.
-#[tactic(auto, using(crate::proofs::LoadOptions::one_load_option))]
+#[tactic(auto, using(crate::specs::private::OneLoadOption::one_load_option))]
 pub fn one_load_option()
     ensures { OneLoadOption }
+{}
+
+/// States that the bytes of a load option are read as that option, and that parts are those of at
+/// most one. So what is written is read back, and from the parts of an option that was read, the
+/// same bytes are written.
+#[tactic(auto, using(crate::proofs::OptionParts::written_options))]
+pub fn written_options()
+    ensures { WrittenOptions }
 {}

@@ -1,7 +1,8 @@
--- What a view keeps of its bytes: that they encode a node, nodes or instances.
+-- What a view keeps of its bytes: that they encode a node, nodes, instances or a load option.
 use Rattle.std.specs.Prelude.{◌≡◌, ℕ, List}
 use Rattle.std.specs.List.{AllByRecursion}
 use Rattle.uefi_base.specs.Prefix.{IsPrefix}
+use Rattle.uefi_path.specs.LoadOption.{LoadOption, IsLoadOption, load_option_bytes}
 use Rattle.uefi_path.specs.Node.{Node, Fits, encoding, joined, IsEnd, IsEndEntire}
 use Rattle.uefi_path.specs.Path.{AreEndedBy, AreBefore, IsInstance, concat}
 
@@ -33,6 +34,11 @@ pub record IsEncodingOfInstances (bytes : List ℕ) (instances : List (List Node
   pub each : AllByRecursion IsInstance instances
   pub encoded : bytes ≡ joined (concat instances)
 
+-- The bytes are the encoding of the load option.
+pub record IsEncodingOfOption (bytes : List ℕ) (option : LoadOption) : Type 0 where
+  pub is : IsLoadOption option
+  pub encoded : bytes ≡ load_option_bytes option
+
 -- The bytes encode a node.
 abbrev pub EncodesNode : List ℕ → Type 0
 EncodesNode bytes = (node : Node) × IsEncodingOfNode bytes node
@@ -54,3 +60,7 @@ EncodesBefore bytes = (nodes : List Node) × IsEncodingBefore bytes nodes
 
 abbrev pub EncodesInstances : List ℕ → Type 0
 EncodesInstances bytes = (instances : List (List Node)) × IsEncodingOfInstances bytes instances
+
+-- The bytes encode a load option.
+abbrev pub EncodesOption : List ℕ → Type 0
+EncodesOption bytes = (option : LoadOption) × IsEncodingOfOption bytes option

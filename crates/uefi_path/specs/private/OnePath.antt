@@ -120,6 +120,9 @@ EncodesPath-prop = EncodesNodes-prop IsEndEntire IsEndEntire-prop
 pub EncodesInstance-prop : (bytes : List ℕ) → IsProp (EncodesInstance bytes)
 EncodesInstance-prop = EncodesNodes-prop IsEnd IsEnd-prop
 
+pub IsPath-prop : (p : List Node) → IsProp (IsPath p)
+IsPath-prop = AreEndedBy-prop IsEndEntire IsEndEntire-prop
+
 IsInstance-prop : (p : List Node) → IsProp (IsInstance p)
 IsInstance-prop = AreEndedBy-prop IsEnd IsEnd-prop
 

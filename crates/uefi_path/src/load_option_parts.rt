@@ -1,0 +1,59 @@
+ghost use Rattle.std.specs.Prelude.{◌↔◌, ◌^◌, ◌<◌, SomeIff, IsTrue};
+
+use crate::load_option::DESCRIPTION_OFFSET;
+use crate::load_option_attributes::LoadOptionAttributes;
+use crate::load_option_description::LoadOptionDescription;
+use crate::path::DevicePath;
+
+/// What a load option is written from: by [`write_load_option`](crate::write_load_option),
+/// [`LoadOption::new_in_buffer`](crate::LoadOption::new_in_buffer) and
+/// [`LoadOption::new_in_box`](crate::LoadOption::new_in_box).
+///
+/// They are the parts of a load option if and only if
+///
+/// - the last unit of the description is zero, and no other is,
+/// - the file path list starts with a device path, and
+/// - the file path list has fewer than 65536 bytes.
+///
+/// [`LoadOption::parts`](crate::LoadOption::parts) returns those of an option that was read.
+#[derive(Clone, Copy)]
+pub struct LoadOptionParts<'a> {
+    /// The attributes.
+    pub attributes: LoadOptionAttributes,
+    /// The description, with its NUL.
+    pub description: LoadOptionDescription<'a>,
+    /// The bytes of the file path list: mostly those of one path,
+    /// [`DevicePath::as_bytes`].
+    pub file_path_list: &'a [u8],
+    /// The data that the image is given.
+    pub optional_data: &'a [u8],
+}
+
+impl<'a> LoadOptionParts<'a> {
+    ghost use Rattle.uefi_path.specs.LoadOptionParts.{ArePartsOfOption, parts_size};
+
+    /// Returns whether some load option has these parts.
+    pub(crate) fn are_of_option(&self) -> bool
+        ensures { IsTrue result ↔ ArePartsOfOption self.now }
+    {
+        let _bits = self.attributes.bits();
+        if !self.description.ends_with_only_nul() {
+            return false;
+        }
+        if self.file_path_list.len() > usize::from(u16::MAX) {
+            return false;
+        }
+        DevicePath::try_from(self.file_path_list).is_ok()
+    }
+
+    /// Returns the length of the option with these parts in bytes, or `None` if `usize` has no such
+    /// number.
+    pub(crate) fn size(&self) -> Option<usize>
+        ensures { SomeIff result (parts_size self.now < 2 ^ 64) (parts_size self.now) }
+    {
+        let description = self.description.len().checked_mul(2)?;
+        let before_list = description.checked_add(DESCRIPTION_OFFSET)?;
+        let before_data = before_list.checked_add(self.file_path_list.len())?;
+        before_data.checked_add(self.optional_data.len())
+    }
+}
