@@ -2,6 +2,7 @@
 //! over `/sys/kernel/security/tpm0/binary_bios_measurements`.
 
 use uefi_formats::proto::device_path::LoadOption;
+use uefi_formats::proto::device_path::text::{AllowShortcuts, DisplayOnly, to_text};
 use uefi_formats::proto::tcg::content::VariableData;
 use uefi_formats::proto::tcg::{EventType, v2::EventLog};
 
@@ -16,9 +17,12 @@ fn variable_text(event_type: EventType, data: &[u8]) -> Option<String> {
         return None;
     };
     let variable = VariableData::read(data)?;
-    let option = LoadOption::try_from(variable.data).ok();
-    let option = option.map(|it| format!(" {}: {}", it.description(), it.file_path().to_text()));
-    Some(format!("{} {}{}", variable.guid, variable.name, option.unwrap_or_default()))
+    let mut text = format!("{} {}", variable.guid, variable.name);
+    if let Ok(option) = LoadOption::try_from(variable.data) {
+        let path = to_text(option.file_path(), DisplayOnly(false), AllowShortcuts(false));
+        text += &format!(" {}: {path}", option.description());
+    }
+    Some(text)
 }
 
 fn main() -> Result<(), Box<dyn std::error::Error>> {
@@ -30,7 +34,7 @@ fn main() -> Result<(), Box<dyn std::error::Error>> {
         let (pcr, event_type) = (event.pcr_index().0, event.event_type());
         let name = event_type.name().map_or_else(|| format!("{event_type:?}"), String::from);
         let text = variable_text(event_type, event.event_data()).unwrap_or_default();
-        println!("{pcr:>2} {name} {text}");
+        println!("{}", format!("{pcr:>2} {name} {text}").trim_end());
     }
     Ok(())
 }

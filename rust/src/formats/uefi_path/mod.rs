@@ -19,6 +19,8 @@
 
 #[cfg(feature = "alloc")]
 pub use self::boxed::{BoxedDevicePath, BoxedDevicePathInstance};
+#[cfg(feature = "alloc")]
+pub use self::boxed_load_option::BoxedLoadOption;
 pub use self::device_type::{DeviceSubType, DeviceType};
 pub use self::error::ByteConversionError;
 pub use self::header::DevicePathHeader;
@@ -26,7 +28,10 @@ pub use self::instance::DevicePathInstance;
 pub use self::instance_iter::DevicePathInstanceIterator;
 pub use self::load_option::LoadOption;
 pub use self::load_option_attributes::LoadOptionAttributes;
+pub use self::load_option_description::LoadOptionDescription;
 pub use self::load_option_error::LoadOptionError;
+pub use self::load_option_parts::LoadOptionParts;
+pub use self::load_option_writer::write_load_option;
 pub use self::loaded_image::LoadedImageDevicePath;
 pub use self::node::DevicePathNode;
 pub use self::node_iter::DevicePathNodeIterator;
@@ -34,6 +39,7 @@ pub use self::path::DevicePath;
 
 mod append;
 mod boxed;
+mod boxed_load_option;
 pub mod build;
 mod device_type;
 mod error;
@@ -42,7 +48,10 @@ mod instance;
 mod instance_iter;
 mod load_option;
 mod load_option_attributes;
+mod load_option_description;
 mod load_option_error;
+mod load_option_parts;
+mod load_option_writer;
 mod loaded_image;
 mod node;
 mod node_iter;

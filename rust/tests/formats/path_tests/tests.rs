@@ -7,3 +7,4 @@ mod load_options;
 mod names;
 mod paths;
 mod values;
+mod written_options;

@@ -91,3 +91,48 @@ fn the_named_bits_have_their_numbers() -> Result<(), Fail> {
     let expected = ([0, 1, 2, 4, 8, 0x10], [0, 2, 8, 0x0800, 0x1000]);
     same("resources, options", &found, &expected)
 }
+
+#[test]
+fn sets_are_compared() -> Result<(), Fail> {
+    let both = IscsiLoginOptions::AUTH_METHOD_NONE | IscsiLoginOptions::CHAP_UNI;
+    let found = [
+        both.is_empty(),
+        IscsiLoginOptions::empty().is_empty(),
+        both.is_all(),
+        (!IscsiLoginOptions::empty()).is_all(),
+        both.intersects(IscsiLoginOptions::CHAP_UNI),
+        both.intersects(IscsiLoginOptions::DATA_DIGEST_USING_CRC32C),
+    ];
+    let expected = [false, true, false, true, true, false];
+    same("iSCSI", &found, &expected)?;
+    let all = !InfinibandResourceFlags::empty();
+    let found = [
+        all.is_empty(),
+        InfinibandResourceFlags::empty().is_empty(),
+        InfinibandResourceFlags::SERVICE.is_all(),
+        all.is_all(),
+        all.intersects(InfinibandResourceFlags::SERVICE),
+        all.intersects(InfinibandResourceFlags::empty()),
+    ];
+    let expected = [false, true, false, true, true, false];
+    same("Infiniband", &found, &expected)
+}
+
+#[test]
+fn sets_change() -> Result<(), Fail> {
+    let mut set = IscsiLoginOptions::CHAP_UNI;
+    set.insert(IscsiLoginOptions::HEADER_DIGEST_USING_CRC32C);
+    let inserted = set.bits();
+    set.remove(IscsiLoginOptions::CHAP_UNI);
+    let left = set.difference(IscsiLoginOptions::HEADER_DIGEST_USING_CRC32C);
+    let found = [inserted, set.bits(), left.bits()];
+    same("iSCSI", &found, &[0x1002, 0x0002, 0])?;
+    let mut set = InfinibandResourceFlags::SERVICE;
+    set.insert(InfinibandResourceFlags::from_bits_retain(0x8000_0000));
+    let inserted = set.bits();
+    set.remove(InfinibandResourceFlags::SERVICE);
+    let left = set.difference(set);
+    let found = [inserted, set.bits(), left.bits()];
+    let bit = InfinibandResourceFlags::SERVICE.bits();
+    same("Infiniband", &found, &[0x8000_0000 | bit, 0x8000_0000, 0])
+}

@@ -8,28 +8,28 @@ use crate::uefi_path::{ByteConversionError, LoadOption, LoadOptionAttributes, Lo
 
 /// `Boot0000`, `Boot0001` and `Boot0002` of an OVMF firmware: a menu of the firmware itself, a disk
 /// of QEMU, and the shell of EFI.
-const UI_APP: &str = "09010000 2c00  5500 6900 4100 7000 7000 0000 \
+pub(crate) const UI_APP: &str = "09010000 2c00  5500 6900 4100 7000 7000 0000 \
     0407 1400 c9bdb87cebf8344faaea3ee4af6516a1 \
     0406 1400 21aa2c4614760345836e8ab6f4662331  7fff 0400";
 
-const DISK: &str = "01000000 2000 \
+pub(crate) const DISK: &str = "01000000 2000 \
     5500 4500 4600 4900 2000 5100 4500 4d00 5500 2000 4800 4100 5200 4400 4400 4900 5300 4b00 2000 \
     5100 4d00 3000 3000 3000 3000 3100 2000 0000 \
     0201 0c00 d041030a00000000  0101 0600 021f  0312 0a00 0000ffff0000  7fff 0400 \
     4eac0881119f594d850ee21a522c59b2";
 
-const SHELL: &str = "01000000 2c00 \
+pub(crate) const SHELL: &str = "01000000 2c00 \
     4500 4600 4900 2000 4900 6e00 7400 6500 7200 6e00 6100 6c00 2000 5300 6800 6500 6c00 6c00 0000 \
     0407 1400 c9bdb87cebf8344faaea3ee4af6516a1 \
     0406 1400 83a5047c3e9e1c4fad65e05268d0b4d1  7fff 0400";
 
 /// Options without a description, one with other bytes after its path in the file path list, and
 /// one with a category and a bit that has no name.
-const SMALLEST: &str = "00000000 0400  0000  7fff 0400";
+pub(crate) const SMALLEST: &str = "00000000 0400  0000  7fff 0400";
 
-const TWO_PATHS: &str = "03000000 0a00  4100 0000  7fff 0600 aabb  7f01 0400  cc";
+pub(crate) const TWO_PATHS: &str = "03000000 0a00  4100 0000  7fff 0600 aabb  7f01 0400  cc";
 
-const UNNAMED_BIT: &str = "00010080 0500  ffff 0000  7fff 0400 dd";
+pub(crate) const UNNAMED_BIT: &str = "00010080 0500  ffff 0000  7fff 0400 dd";
 
 /// What is read of options: the attributes, the number of units of the description, the numbers of
 /// bytes of the first path, of the file path list and of the optional data.
@@ -175,6 +175,41 @@ fn attributes_are_joined() -> Result<(), Fail> {
     let none = LoadOptionAttributes::empty();
     same("the bits", &(both.bits(), none.bits()), &(0x101, 0))?;
     same("the default", &LoadOptionAttributes::default(), &none)
+}
+
+/// Returns whether the set of these bits is empty and whether it is all, whether it has a bit in
+/// common with ACTIVE and CATEGORY, and its bits with these added, removed by `remove`, and without
+/// them by `difference`.
+fn edited(bits: &u32) -> ([bool; 3], [u32; 3]) {
+    let set = LoadOptionAttributes::from_bits_retain(*bits);
+    let other = LoadOptionAttributes::ACTIVE.union(LoadOptionAttributes::CATEGORY);
+    let found = [set.is_empty(), set.is_all(), set.intersects(other)];
+    let mut more = set;
+    more.insert(other);
+    let mut fewer = set;
+    fewer.remove(other);
+    (
+        found,
+        [more.bits(), fewer.bits(), set.difference(other).bits()],
+    )
+}
+
+#[test]
+fn attributes_are_edited() -> Result<(), Fail> {
+    let rows = [
+        (0, ([true, false, false], [0x1f01, 0, 0])),
+        (0x0001, ([false, false, true], [0x1f01, 0, 0])),
+        (0x000a, ([false, false, false], [0x1f0b, 0x000a, 0x000a])),
+        (0x1f0b, ([false, true, true], [0x1f0b, 0x000a, 0x000a])),
+        (
+            0x8000_0100,
+            (
+                [false, false, true],
+                [0x8000_1f01, 0x8000_0000, 0x8000_0000],
+            ),
+        ),
+    ];
+    each_gives(&rows, edited)
 }
 
 /// Returns the text of an error.
