@@ -16,11 +16,12 @@ use Rattle.uefi_path.specs.LoadOptionViews.{load_option_of}
 use Rattle.uefi_path.specs.declared.load_option.LoadOption.{LoadOption as LoadOptionView}
 use Rattle.uefi_path.specs.declared.load_option_error.LoadOptionError.{LoadOptionError}
 use Rattle.uefi_path.specs.LoadOptionFlags.{attribute_bits}
-use Rattle.uefi_path.specs.LoadOptionParts.{HasParts, IsDescription, ArePartsOfOption, IsOptionPut, description_units, parts_size}
+use Rattle.uefi_path.specs.LoadOptionParts.{HasParts, ArePartsOfOption, IsOptionPut, description_units, parts_size}
 use Rattle.uefi_path.specs.Node.{Node, joined}
 use Rattle.uefi_path.specs.Path.{IsPath}
 use Rattle.uefi_path.specs.Reading.{ReadsPath}
 use Rattle.uefi_path.specs.Views.{path_nodes}
+use Rattle.uefi_path.specs.private.Description.{IsDescription}
 use Rattle.uefi_path.specs.private.Encoding.{IsEncodingOfOption}
 use Rattle.uefi_path.specs.private.OneLoadOption.{one_load_option}
 use Rattle.uefi_path.specs.declared.load_option_parts.LoadOptionParts.{LoadOptionParts}

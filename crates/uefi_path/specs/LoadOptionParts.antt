@@ -4,7 +4,7 @@ use Rattle.uefi_base.specs.Buffer.{put_prefix}
 use Rattle.uefi_base.specs.Views.{text_units, slice_units, error_status, error_data}
 use Rattle.uefi_base.specs.declared.status.Error.{Error}
 use Rattle.uefi_base.specs.declared.status.Status.TheVariants.{INVALID_PARAMETER, BUFFER_TOO_SMALL, OUT_OF_RESOURCES}
-use Rattle.uefi_path.specs.LoadOption.{LoadOption, IsLoadOption, AreNonzeroUnits, description_offset, file_path_list, load_option_bytes, with_nul}
+use Rattle.uefi_path.specs.LoadOption.{LoadOption, IsLoadOption, description_offset, file_path_list, load_option_bytes, with_nul}
 use Rattle.uefi_path.specs.LoadOptionFlags.{attribute_bits}
 use Rattle.uefi_path.specs.declared.load_option_description.LoadOptionDescription.{LoadOptionDescription}
 use Rattle.uefi_path.specs.declared.load_option_description.LoadOptionDescription.TheVariants.{Text, Units}
@@ -14,10 +14,6 @@ use Rattle.uefi_path.specs.declared.load_option_parts.LoadOptionParts.{LoadOptio
 abbrev pub description_units : LoadOptionDescription → List ℕ
 description_units (Text text) = text_units text
 description_units (Units units) = slice_units units
-
--- The units are a description, with the NUL that ends it.
-abbrev pub IsDescription : List ℕ → Type 0
-IsDescription units = (description : List ℕ) × AreNonzeroUnits description × (units ≡ with_nul description)
 
 -- The option has these parts.
 pub record HasParts (parts : LoadOptionParts) (option : LoadOption) : Type 0 where

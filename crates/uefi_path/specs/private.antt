@@ -4,4 +4,5 @@ pub mod Stop
 pub mod OneNode
 pub mod OnePath
 pub mod OneLoadOption
+pub mod Description
 pub mod NodeFault

@@ -13,7 +13,8 @@
 //! a path with more nodes, and [`build`] builds one node by node.
 //!
 //! [`LoadOption::try_from`] reads the value of a variable such as `Boot0000`, which has the path to
-//! an image.
+//! an image. [`write_load_option`] and [`LoadOption::new_in_box`] write one from its
+//! [`LoadOptionParts`].
 //!
 //! The contracts speak of the nodes that bytes encode: `specs/Node.antt` and `specs/Path.antt`
 //! define nodes, paths and instances, and `specs/LoadOption.antt` load options.

@@ -1,6 +1,7 @@
 ghost use Rattle.std.specs.Prelude.{◌≡◌, ◌↔◌, ◌+◌, ◌*◌, ◌<◌, ◌≤◌, length, slice_index, IsTrue};
 ghost use Rattle.uefi_base.specs.Buffer.{put_at};
 ghost use Rattle.uefi_base.specs.Unaligned.{unit_bytes};
+ghost use Rattle.uefi_path.specs.private.Description.{IsDescription};
 
 use uefi_base::buffer::put;
 use uefi_base::{CStr16, UnalignedSlice};
@@ -19,7 +20,7 @@ pub enum LoadOptionDescription<'a> {
 }
 
 impl<'a> LoadOptionDescription<'a> {
-    ghost use Rattle.uefi_path.specs.LoadOptionParts.{description_units, IsDescription};
+    ghost use Rattle.uefi_path.specs.LoadOptionParts.{description_units};
 
     /// Returns the number of units.
     pub(crate) fn len(&self) -> usize
