@@ -15,7 +15,8 @@
 //! a path with more nodes, and [`build`] builds one node by node.
 //!
 //! [`LoadOption::try_from`] reads the value of a variable such as `Boot0000`, which has the path to
-//! an image.
+//! an image. [`write_load_option`] and [`LoadOption::new_in_box`] write one from its
+//! [`LoadOptionParts`].
 
 #[cfg(feature = "alloc")]
 pub use self::boxed::{BoxedDevicePath, BoxedDevicePathInstance};
