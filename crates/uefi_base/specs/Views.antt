@@ -8,7 +8,7 @@ use Rattle.uefi_base.specs.declared.unaligned.UnalignedSlice.{UnalignedSlice}
 use Rattle.uefi_base.specs.declared.unaligned.UnalignedSliceIter.{UnalignedSliceIter}
 use Rattle.uefi_base.specs.declared.chars_lossy.CharsLossy.{CharsLossy}
 use Rattle.uefi_base.specs.Unaligned.{units_of}
-use Rattle.uefi_base.specs.Utf16.{before_nul, lossy_characters}
+use Rattle.uefi_base.specs.Utf16.{lossy_characters}
 
 -- The status and the data of an error.
 abbrev pub error_status : {D : Type 0} → Error D → Status
@@ -33,9 +33,6 @@ slice_units slice = units_of slice.bytes.now
 abbrev pub units_left : UnalignedSliceIter → List ℕ
 units_left iter = units_of iter.rest.now
 
--- The units up to the first NUL, and the characters, that the iterator hasn't returned yet.
-abbrev pub text_units_left : CharsLossy → List ℕ
-text_units_left iter = before_nul (units_left iter.units)
-
+-- The characters that the iterator hasn't returned yet.
 abbrev pub chars_left : CharsLossy → List ℕ
 chars_left iter = lossy_characters (units_left iter.units)

@@ -4,7 +4,8 @@ ghost use Rattle.std.specs.Option.{unwrap_or};
 ghost use Rattle.std.specs.Fmt.{DisplaysOnOk};
 ghost use Rattle.std.specs.Iterator.{YieldsFirst, item_count};
 ghost use Rattle.uefi_base.specs.Utf16.{lossy_characters};
-ghost use Rattle.uefi_base.specs.Views.{units_left, text_units_left, chars_left};
+ghost use Rattle.uefi_base.specs.Views.{units_left, chars_left};
+ghost use Rattle.uefi_base.specs.private.Characters.{text_units_left};
 
 use crate::unaligned::UnalignedSliceIter;
 use std::fmt;

@@ -2,7 +2,7 @@
 
 use std::alloc::Global;
 use std::test::Fail;
-use test_support::{bytes, each_gives, each_gives_in, holds, same, same_text};
+use test_support::{bytes, each_gives, holds, same, same_text};
 use uefi_base::{Guid, GuidFromStrError};
 
 /// GUIDs whose texts and bytes are well known: the text, and the bytes as hex.
@@ -34,7 +34,7 @@ const KNOWN: [(&str, &str); 5] = [
     ),
 ];
 
-/// Checks that a text is read as these bytes, and is displayed but for the case of letters.
+/// Checks that a text is read as these bytes, and is displayed again, in either case.
 fn check_read(alloc: Global, text: &str, expected: &str) -> Result<(), Fail> {
     let guid: Guid = text.parse()?;
     let expected = bytes(alloc, expected)?;

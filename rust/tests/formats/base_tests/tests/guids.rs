@@ -5,7 +5,7 @@
 use crate::support::fallible::*;
 
 use crate::support::test::Fail;
-use crate::test_support::{bytes, each_gives, each_gives_in, holds, same, same_text};
+use crate::test_support::{bytes, each_gives, holds, same, same_text};
 use crate::uefi_base::{Guid, GuidFromStrError};
 
 /// GUIDs whose texts and bytes are well known: the text, and the bytes as hex.
@@ -37,7 +37,7 @@ const KNOWN: [(&str, &str); 5] = [
     ),
 ];
 
-/// Checks that a text is read as these bytes, and is displayed but for the case of letters.
+/// Checks that a text is read as these bytes, and is displayed again, in either case.
 fn check_read(text: &str, expected: &str) -> Result<(), Fail> {
     let guid: Guid = text.parse()?;
     let expected = bytes(expected)?;
