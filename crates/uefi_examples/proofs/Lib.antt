@@ -4,3 +4,4 @@ pub mod Results
 pub mod LogSteps
 pub mod DigestLogs
 pub mod DigestSteps
+pub mod WrittenOptions

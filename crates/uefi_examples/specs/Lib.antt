@@ -1,2 +1,3 @@
+pub mod ActiveOption
 pub mod Configurations
 pub mod FullMap

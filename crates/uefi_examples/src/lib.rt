@@ -14,6 +14,7 @@ pub mod errors;
 pub mod events;
 pub mod flags;
 pub mod full_map;
+pub mod load_option;
 pub mod logs;
 pub mod map;
 pub mod node;

@@ -93,6 +93,10 @@ length-parts_bytes parts =
       length-append parts.file_path_list.now parts.optional_data.now,
     )
 
+sized : (parts : LoadOptionParts) (option : LoadOption) → HasParts parts option
+    → length (load_option_bytes option) ≡ parts_size parts
+sized parts option has = ap length (option_bytes parts option has) ∙ length-parts_bytes parts
+
 -- Five parts that were put one after another are put as one.
 pub five_put : (a b c d e old o1 o2 o3 o4 o5 : List ℕ) (n2 n3 n4 n5 : ℕ) → n5 ≤ length old → length a ≡ n2
     → n2 + length b ≡ n3 → n3 + length c ≡ n4 → n4 + length d ≡ n5 → o1 ≡ put_at 0 a old → o2 ≡ put_at n2 b o1
@@ -121,8 +125,8 @@ pub option_filled : (parts : LoadOptionParts) (len : ℕ) (old new rest : List �
     → len ≡ parts_size parts → IsOptionPut parts old new
     → (option : LoadOption) × IsEncodingOfOption (take len (new ++ rest)) option × HasParts parts option
 option_filled parts len old new rest room long (option, is, has, put) =
-    let sized = ap length (option_bytes parts option has) ∙ length-parts_bytes parts in
-    (option, record { is = is; encoded = filled (parts_size parts) len _ old new rest sized room long put }, has)
+    let whole = sized parts option has in
+    (option, record { is = is; encoded = filled (parts_size parts) len _ old new rest whole room long put }, has)
 
 -- An option with the bytes of one that has these parts has them as well.
 pub same_parts : (parts : LoadOptionParts) (option other : LoadOption) → IsLoadOption option → IsLoadOption other
@@ -148,4 +152,4 @@ one_option parts option other is is_other has has_other =
     one_load_option option other is is_other (option_bytes parts option has ∙ sym (option_bytes parts other has_other))
 
 pub written_options : WrittenOptions
-written_options = record { reads_back = reads_back; one_option = one_option }
+written_options = record { reads_back = reads_back; one_option = one_option; sized = sized }

@@ -1,7 +1,7 @@
 -- Laws of paths and load options.
-use Rattle.std.specs.Prelude.{◌≡◌, ℕ, List, [], ◌∷◌, ◌++◌, Result, MatchResult}
+use Rattle.std.specs.Prelude.{◌≡◌, ℕ, List, [], ◌∷◌, ◌++◌, length, Result, MatchResult}
 use Rattle.uefi_path.specs.LoadOption.{LoadOption, IsLoadOption, ReadsLoadOption, load_option_bytes}
-use Rattle.uefi_path.specs.LoadOptionParts.{HasParts}
+use Rattle.uefi_path.specs.LoadOptionParts.{HasParts, parts_size}
 use Rattle.uefi_path.specs.LoadOptionViews.{load_option_of}
 use Rattle.uefi_path.specs.Node.{Node, joined, IsEndEntire, end_entire}
 use Rattle.uefi_base.specs.Prefix.{IsPrefix}
@@ -45,7 +45,13 @@ abbrev pub OneOptionOfParts : Type 0
 OneOptionOfParts = (parts : LoadOptionParts) (option other : LoadOption) → IsLoadOption option → IsLoadOption other
     → HasParts parts option → HasParts parts other → option ≡ other
 
--- Both laws hold: so what is written is read back, and what was read is written again with the same bytes.
+-- The length of an option is that of its parts.
+abbrev pub PartsHaveSize : Type 0
+PartsHaveSize = (parts : LoadOptionParts) (option : LoadOption) → HasParts parts option
+    → length (load_option_bytes option) ≡ parts_size parts
+
+-- All laws hold: so what is written is read back, and what was read is written again with the same bytes.
 pub record WrittenOptions : Type 0 where
   pub reads_back : OptionsReadBack
   pub one_option : OneOptionOfParts
+  pub sized : PartsHaveSize

@@ -33,8 +33,8 @@ pub fn one_load_option()
 {}
 
 /// States that the bytes of a load option are read as that option, and that parts are those of at
-/// most one. So what is written is read back, and from the parts of an option that was read, the
-/// same bytes are written.
+/// most one, whose length is theirs. So what is written is read back, and from the parts of an
+/// option that was read, the same bytes are written.
 #[tactic(auto, using(crate::proofs::OptionParts::written_options))]
 pub fn written_options()
     ensures { WrittenOptions }

@@ -24,8 +24,7 @@ pub struct LoadOptionParts<'a> {
     pub attributes: LoadOptionAttributes,
     /// The description, with its NUL.
     pub description: LoadOptionDescription<'a>,
-    /// The bytes of the file path list: mostly those of one path,
-    /// [`DevicePath::as_bytes`].
+    /// The bytes of the file path list: mostly those of one path, [`DevicePath::as_bytes`].
     pub file_path_list: &'a [u8],
     /// The data that the image is given.
     pub optional_data: &'a [u8],
@@ -35,6 +34,7 @@ impl<'a> LoadOptionParts<'a> {
     /// Returns whether some load option has these parts.
     #[inline]
     pub(crate) fn are_of_option(&self) -> bool {
+        // The proof needs to know that the bits are those of a `u32`.
         let _bits = self.attributes.bits();
         if !self.description.ends_with_only_nul() {
             return false;
