@@ -98,20 +98,22 @@ sized : (parts : LoadOptionParts) (option : LoadOption) → HasParts parts optio
 sized parts option has = ap length (option_bytes parts option has) ∙ length-parts_bytes parts
 
 -- Five parts that were put one after another are put as one.
-pub five_put : (a b c d e old o1 o2 o3 o4 o5 : List ℕ) (n2 n3 n4 n5 : ℕ) → n5 ≤ length old → length a ≡ n2
-    → n2 + length b ≡ n3 → n3 + length c ≡ n4 → n4 + length d ≡ n5 → o1 ≡ put_at 0 a old → o2 ≡ put_at n2 b o1
-    → o3 ≡ put_at n3 c o2 → o4 ≡ put_at n4 d o3 → o5 ≡ put_at n5 e o4
-    → o5 ≡ put_prefix (a ++ (b ++ (c ++ (d ++ e)))) old
-five_put a b c d e old o1 o2 o3 o4 o5 n2 n3 n4 n5 room sized_a sized_b sized_c sized_d p1 p2 p3 p4 p5 =
-    let two = length-append a b ∙ ap (λ n. n + length b) sized_a ∙ sized_b in
-    let three = length-append (a ++ b) c ∙ ap (λ n. n + length c) two ∙ sized_c in
-    let four = length-append (a ++ b ++ c) d ∙ ap (λ n. n + length d) three ∙ sized_d in
-    let q1 = put_first a a old o1 refl p1 in
-    let q2 = put_more n2 a b b old o1 o2 q1 sized_a (omega (arith, room)) refl p2 in
-    let q3 = put_more n3 (a ++ b) c c old o2 o3 q2 two (omega (arith, room)) refl p3 in
-    let q4 = put_more n4 (a ++ b ++ c) d d old o3 o4 q3 three (omega (arith, room)) refl p4 in
-    let q5 = put_more n5 (a ++ b ++ c ++ d) e e old o4 o5 q4 four room refl p5 in
-    q5 ∙ ap (λ part. put_prefix part old)
+pub five_put : (a b c d e old after_a after_b after_c after_d after_e : List ℕ) (from_b from_c from_d from_e : ℕ)
+    → from_e ≤ length old → length a ≡ from_b → from_b + length b ≡ from_c → from_c + length c ≡ from_d
+    → from_d + length d ≡ from_e → after_a ≡ put_at 0 a old → after_b ≡ put_at from_b b after_a
+    → after_c ≡ put_at from_c c after_b → after_d ≡ put_at from_d d after_c → after_e ≡ put_at from_e e after_d
+    → after_e ≡ put_prefix (a ++ (b ++ (c ++ (d ++ e)))) old
+five_put a b c d e old after_a after_b after_c after_d after_e from_b from_c from_d from_e room sized_a sized_b sized_c
+    sized_d put_a put_b put_c put_d put_e =
+    let sized_ab = length-append a b ∙ ap (λ n. n + length b) sized_a ∙ sized_b in
+    let sized_abc = length-append (a ++ b) c ∙ ap (λ n. n + length c) sized_ab ∙ sized_c in
+    let sized_abcd = length-append (a ++ b ++ c) d ∙ ap (λ n. n + length d) sized_abc ∙ sized_d in
+    let has_a = put_first a a old after_a refl put_a in
+    let has_b = put_more from_b a b b old after_a after_b has_a sized_a (omega (arith, room)) refl put_b in
+    let has_c = put_more from_c (a ++ b) c c old after_b after_c has_b sized_ab (omega (arith, room)) refl put_c in
+    let has_d = put_more from_d (a ++ b ++ c) d d old after_c after_d has_c sized_abc (omega (arith, room)) refl put_d in
+    let has_e = put_more from_e (a ++ b ++ c ++ d) e e old after_d after_e has_d sized_abcd room refl put_e in
+    has_e ∙ ap (λ part. put_prefix part old)
     (append_assoc (a ++ b ++ c) d e ∙ append_assoc (a ++ b) c (d ++ e) ∙ append_assoc a b (c ++ (d ++ e)))
 
 -- So are the parts of an option.
