@@ -1,4 +1,5 @@
 mod characters;
+mod equality;
 mod guids;
 mod memory;
 mod requests;

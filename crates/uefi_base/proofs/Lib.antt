@@ -18,3 +18,4 @@ pub mod HexDigits
 pub mod GuidReading
 pub mod GuidsBack
 pub mod Utf16
+pub mod Comparing

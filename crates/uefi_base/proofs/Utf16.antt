@@ -13,7 +13,8 @@ unit_kept unit left kept = by_test (unit == 0) refl
   where
     by_test : (test : Bool) → (unit == 0) ≡ test → before_nul (unit ∷ left) ≡ unit ∷ before_nul left
     by_test true is = absurd (kept (eqb-true unit 0 is))
-    by_test false is = take_while-cons (λ u. not (u == 0)) unit left ∙ ap (λ b. cond (not b) (unit ∷ before_nul left) []) is
+    by_test false is = take_while-cons (λ u. not (u == 0)) unit left
+        ∙ ap (λ b. cond (not b) (unit ∷ before_nul left) []) is
 
 -- There are no more characters than units.
 more : (test : Bool) (n : ℕ) (pair single : Option ℕ) (after next : List (Option ℕ)) → length after ≤ n
@@ -26,8 +27,8 @@ unfolding utf16_chars
 fewer_chars [] = omega arith
 fewer_chars (u ∷ []) = omega arith
 fewer_chars (u ∷ v ∷ units) =
-    let few = more (is_high_surrogate u && is_low_surrogate v) (length units) (Some (surrogate_pair_char u v)) (lone_unit_char u)
-    (utf16_chars units) (utf16_chars (v ∷ units)) (fewer_chars units) (omega (arith, fewer_chars (v ∷ units))) in
+    let few = more (is_high_surrogate u && is_low_surrogate v) (length units) (Some (surrogate_pair_char u v))
+    (lone_unit_char u) (utf16_chars units) (utf16_chars (v ∷ units)) (fewer_chars units) (omega (arith, fewer_chars (v ∷ units))) in
     omega (arith, few)
 
 pub fewer_characters : (units : List ℕ) → length (lossy_characters units) ≤ length units

@@ -1,7 +1,11 @@
-ghost use Rattle.std.specs.Prelude.{◌≡◌, ◌↔◌, [], length, encode_utf8_all, string_bytes, IsTrue, IsOk, IfOk, Some};
+ghost use Rattle.std.specs.Prelude.{◌≡◌, ◌↔◌, [], length, encode_utf8_all, string_bytes, nat_eq, IsTrue, IsOk, IfOk, Some};
+ghost use Rattle.std.specs.Cmp.{partial_equiv_from_equiv, on_per, on_equiv};
+ghost use Rattle.std.specs.Cmp.Lexicographic.{pointwise, nat_list_eq_equiv};
 ghost use Rattle.std.specs.Fmt.{DisplaysOnOk};
 ghost use Rattle.std.specs.Result.{IsErrOf};
+ghost use Rattle.std.specs.Str.{chars};
 ghost use Rattle.uefi_base.specs.Ucs2.{AreCharactersBefore, IsUcs2Text, characters_of};
+ghost use Rattle.uefi_base.specs.Utf16.{before_nul};
 ghost use Rattle.uefi_base.specs.Faults.{HasFault};
 ghost use Rattle.uefi_base.specs.private.Search.{IsFirstNonCharacter};
 ghost use Rattle.uefi_base.specs.declared.text_error.FromSliceWithNulError.{FromSliceWithNulError};
@@ -15,7 +19,7 @@ use std::fmt;
 /// which none is a surrogate and only the last is zero.
 ///
 /// A view: it borrows the units that it was made from, and what it returns lives as long as they
-/// do.
+/// do. Two texts are equal if their units are.
 ///
 /// # Examples
 ///
@@ -96,6 +100,15 @@ impl<'a> CStr16<'a> {
         self.num_chars() == 0
     }
 
+    /// Returns whether the characters, without the NUL, are those of `text` before its first
+    /// U+0000, or all of them if it has none.
+    pub fn eq_str_until_nul(&self, text: &str) -> bool
+        ensures { IsTrue result
+            ↔ (characters_of (text_units self.now) ≡ before_nul (chars text.now)) }
+    {
+        are_characters(&self.units[..self.num_chars()], text)
+    }
+
     /// Returns the characters, without the NUL, in a `String`.
     ///
     /// # Errors
@@ -112,6 +125,25 @@ impl<'a> CStr16<'a> {
         }
         Ok(text)
     }
+}
+
+/// Two texts are equal if all their units are.
+impl PartialEq for CStr16<'_> {
+    ghost use Rattle.uefi_base.specs.Views.{text_units};
+
+    ghost eq = { λ x y. pointwise nat_eq (text_units x) (text_units y) };
+
+    ghost laws = { on_per text_units (partial_equiv_from_equiv nat_list_eq_equiv) };
+
+    fn eq(&self, other: &Self) -> bool {
+        self.units == other.units
+    }
+}
+
+impl Eq for CStr16<'_> {
+    ghost use Rattle.uefi_base.specs.Views.{text_units};
+
+    ghost laws = { on_equiv text_units nat_list_eq_equiv };
 }
 
 /// Writes the characters, without the NUL.
@@ -134,6 +166,23 @@ fn write_characters<W: fmt::Write>(f: &mut fmt::Formatter<W>, units: &[u16]) -> 
         f.write_char(char::from_u32(u32::from(*unit)).unwrap())?;
     }
     Ok(())
+}
+
+/// Returns whether the units are the characters of `text` before its first U+0000.
+fn are_characters(units: &[u16], text: &str) -> bool
+    ensures { IsTrue result ↔ (units.now ≡ before_nul (chars text.now)) }
+{
+    let mut index = 0;
+    for character in text.chars() {
+        if character == '\0' {
+            return index == units.len();
+        }
+        if index == units.len() || u32::from(units[index]) != u32::from(character) {
+            return false;
+        }
+        index += 1;
+    }
+    index == units.len()
 }
 
 /// Returns the first unit that isn't a character, with its index.

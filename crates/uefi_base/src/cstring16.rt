@@ -1,7 +1,10 @@
-ghost use Rattle.std.specs.Prelude.{◌≡◌, ◌↔◌, ◌<◌, [], ◌∷◌, ◌++◌, length, IsTrue, IsOk, IfOk, MatchOption, encode_utf8_all, Some};
+ghost use Rattle.std.specs.Prelude.{◌≡◌, ◌↔◌, ◌<◌, [], ◌∷◌, ◌++◌, length, IsTrue, IsOk, IfOk, MatchOption, encode_utf8_all, nat_eq, Some};
+ghost use Rattle.std.specs.Cmp.{partial_equiv_from_equiv, on_per, on_equiv};
+ghost use Rattle.std.specs.Cmp.Lexicographic.{pointwise, nat_list_eq_equiv};
 ghost use Rattle.std.specs.Result.{IsErrOf};
 ghost use Rattle.std.specs.Str.{chars};
 ghost use Rattle.uefi_base.specs.Ucs2.{last_character, HasUnit, IsUcs2Text, MakeUcs2Text, characters_of};
+ghost use Rattle.uefi_base.specs.Utf16.{before_nul};
 ghost use Rattle.uefi_base.specs.Faults.{AreTooMany, OffendsFirst};
 ghost use Rattle.uefi_base.specs.private.Search.{HasStrFault, IsFirstWithoutUnit};
 
@@ -11,7 +14,8 @@ use crate::ucs2::{MAX_UNIT_CHARACTER, MAX_UNITS};
 use std::alloc::{AllocError, Allocator, Global};
 use std::fmt;
 
-/// UCS-2 text that owns its units: the owned form of [`CStr16`].
+/// UCS-2 text that owns its units: the owned form of [`CStr16`]. Two texts are equal if their units
+/// are; to compare one with a view, compare [`as_cstr16`](Self::as_cstr16).
 #[derive(Drop)]
 pub struct CString16<A: Allocator = Global> {
     units: Vec<u16, A>,
@@ -67,6 +71,59 @@ impl<A: Allocator> CString16<A> {
     {
         CStr16::from_u16_with_nul_unchecked(self.units.as_slice())
     }
+
+    /// Returns all units, including the NUL.
+    pub fn as_u16_with_nul(&self) -> &[u16]
+        ensures units { result.now ≡ owned_units self.now }
+        ensures text { IsUcs2Text result.now }
+    {
+        self.units.as_slice()
+    }
+
+    /// Returns whether the characters, without the NUL, are those of `text` before its first
+    /// U+0000, or all of them if it has none.
+    pub fn eq_str_until_nul(&self, text: &str) -> bool
+        ensures { IsTrue result
+            ↔ (characters_of (owned_units self.now) ≡ before_nul (chars text.now)) }
+    {
+        self.as_cstr16().eq_str_until_nul(text)
+    }
+}
+
+impl<A: Allocator + Clone> Clone for CString16<A> {
+    ghost use Rattle.uefi_base.specs.Views.{owned_units};
+
+    ghost is_clone = { λ text copy. owned_units copy ≡ owned_units text };
+
+    /// Returns a copy with the same units, in an allocation of its own.
+    ///
+    /// # Errors
+    ///
+    /// [`AllocError`] if an allocation fails.
+    fn clone(&self) -> Result<CString16<A>, AllocError> {
+        let alloc = self.units.allocator().clone()?;
+        let copy = Vec::from_slice(alloc, self.units.as_slice())?;
+        Ok(CString16::from_vec_with_nul_unchecked(copy))
+    }
+}
+
+/// Two texts are equal if all their units are.
+impl<A: Allocator> PartialEq for CString16<A> {
+    ghost use Rattle.uefi_base.specs.Views.{owned_units};
+
+    ghost eq = { λ x y. pointwise nat_eq (owned_units x) (owned_units y) };
+
+    ghost laws = { on_per owned_units (partial_equiv_from_equiv nat_list_eq_equiv) };
+
+    fn eq(&self, other: &Self) -> bool {
+        self.as_cstr16() == other.as_cstr16()
+    }
+}
+
+impl<A: Allocator> Eq for CString16<A> {
+    ghost use Rattle.uefi_base.specs.Views.{owned_units};
+
+    ghost laws = { on_equiv owned_units nat_list_eq_equiv };
 }
 
 /// Writes the characters, without the NUL.

@@ -27,8 +27,8 @@ pub fn units_by_place()
     ensures { UnitsByPlace }
 {}
 
-/// States that texts of GUIDs read back: the text of sixteen bytes is that of a GUID, and is read as
-/// these bytes; and the text of the bytes that a text is read as is that text, with its letters in
+/// States that texts of GUIDs read back. The text of sixteen bytes is that of a GUID, and is read
+/// as these bytes. The text of the bytes that a text is read as is that text, with its letters in
 /// lower case.
 #[tactic(auto, using(crate::proofs::GuidsBack::guids_read_back))]
 pub fn guids_read_back()

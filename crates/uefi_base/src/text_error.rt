@@ -168,7 +168,8 @@ pub enum GuidFromStrError {
     InvalidLength,
     /// The byte at this index, which is 8, 13, 18 or 23, isn't `-`, and all bytes before it fit.
     InvalidSeparator(usize),
-    /// The byte at this index, which is another one, isn't a hex digit, and all bytes before it fit.
+    /// The byte at this index, which is another one, isn't a hex digit, and all bytes before it
+    /// fit.
     InvalidHex(usize),
 }
 

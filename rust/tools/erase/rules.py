@@ -20,6 +20,9 @@ RUST = rules([
     # What allocates returns an error where Rust's own calls end the program.
     *((f"Vec::{call}(", f"Vec::fallible_{call}(") for call in ("with_capacity", "from_slice", "from_elem")),
     *((f"String::{call}(", f"String::fallible_{call}(") for call in ("with_capacity", "from_str")),
+    # A copy that owns memory: Rust's `Clone` returns no error.
+    ("impl<A: Allocator + Clone> Clone for", "impl"), ("fn clone(&self) -> Result", "pub fn fallible_clone(&self) -> Result"),
+    ("let alloc = self.units.allocator().clone()?;", ""),
     # What is pushed to a builder of a path, in place of an item of a vector, is behind a reference.
     (".push(&", ".push(&"),
     *((f".{call}", f".fallible_{call}") for call in ("push(", "push_str(", "extend_from_slice(", "resize(", "collect(", "collect::")),
@@ -47,7 +50,7 @@ TESTS = rules([(before.replace("ALLOC", alloc), after) for alloc in ("alloc", "r
 # Elements that go, of lists of parameters, arguments and fields: allocators, their types, writers' types, handles.
 ALLOCATOR = re.compile(
     r'&?(alloc|heap)|&?rt\.alloc\(\)|self\.alloc|(alloc|heap): ?&?(A|Global|Refusing<Global>)|&?Refusing<Global>'
-    r'|A(: ?Allocator)?( ?\+ ?Copy)?( = Global)?|Allocator|Global|_?rt: ?HostRuntime|W: ?fmt::Write')
+    r'|A(: ?Allocator)?( ?\+ ?(Copy|Clone))?( = Global)?|Allocator|Global|_?rt: ?HostRuntime|W: ?fmt::Write')
 # The imports of which nothing is left then.
 EMPTY = rules([("use std::alloc::{};", ""), ("use std::alloc::Allocator;", ""), ("use std::alloc::Global;", ""),
                ("use std::alloc::{AllocError};", "use std::alloc::AllocError;")])

@@ -15,7 +15,7 @@ use core::fmt;
 /// which none is a surrogate and only the last is zero.
 ///
 /// A view: it borrows the units that it was made from, and what it returns lives as long as they
-/// do.
+/// do. Two texts are equal if their units are.
 ///
 /// # Examples
 ///
@@ -83,6 +83,13 @@ impl<'a> CStr16<'a> {
         self.num_chars() == 0
     }
 
+    /// Returns whether the characters, without the NUL, are those of `text` before its first
+    /// U+0000, or all of them if it has none.
+    #[inline]
+    pub fn eq_str_until_nul(&self, text: &str) -> bool {
+        are_characters(&self.units[..self.num_chars()], text)
+    }
+
     /// Returns the characters, without the NUL, in a `String`.
     ///
     /// # Errors
@@ -99,6 +106,16 @@ impl<'a> CStr16<'a> {
     }
 }
 
+/// Two texts are equal if all their units are.
+impl PartialEq for CStr16<'_> {
+    #[inline]
+    fn eq(&self, other: &Self) -> bool {
+        self.units == other.units
+    }
+}
+
+impl Eq for CStr16<'_> {}
+
 /// Writes the characters, without the NUL.
 impl fmt::Display for CStr16<'_> {
     fn fmt(&self, f: &mut fmt::Formatter<'_>) -> fmt::Result {
@@ -113,6 +130,22 @@ fn write_characters(f: &mut fmt::Formatter<'_>, units: &[u16]) -> fmt::Result {
         f.write_char(char::from_u32(u32::from(*unit)).unwrap())?;
     }
     Ok(())
+}
+
+/// Returns whether the units are the characters of `text` before its first U+0000.
+#[inline]
+fn are_characters(units: &[u16], text: &str) -> bool {
+    let mut index = 0;
+    for character in text.chars() {
+        if character == '\0' {
+            return index == units.len();
+        }
+        if index == units.len() || u32::from(units[index]) != u32::from(character) {
+            return false;
+        }
+        index += 1;
+    }
+    index == units.len()
 }
 
 /// Returns the first unit that isn't a character, with its index.

@@ -11,7 +11,8 @@ use crate::formats::uefi_base::ucs2::{MAX_UNIT_CHARACTER, MAX_UNITS};
 use crate::support::alloc::AllocError;
 use core::fmt;
 
-/// UCS-2 text that owns its units: the owned form of [`CStr16`].
+/// UCS-2 text that owns its units: the owned form of [`CStr16`]. Two texts are equal if their units
+/// are; to compare one with a view, compare [`as_cstr16`](Self::as_cstr16).
 ///
 /// Its contract: `crates/uefi_base/src/cstring16.rt`.
 #[cfg(feature = "alloc")]
@@ -54,7 +55,46 @@ impl CString16 {
     pub fn as_cstr16(&self) -> CStr16<'_> {
         CStr16::from_u16_with_nul_unchecked(self.units.as_slice())
     }
+
+    /// Returns all units, including the NUL.
+    #[inline]
+    pub fn as_u16_with_nul(&self) -> &[u16] {
+        self.units.as_slice()
+    }
+
+    /// Returns whether the characters, without the NUL, are those of `text` before its first
+    /// U+0000, or all of them if it has none.
+    #[inline]
+    pub fn eq_str_until_nul(&self, text: &str) -> bool {
+        self.as_cstr16().eq_str_until_nul(text)
+    }
 }
+
+#[cfg(feature = "alloc")]
+impl CString16 {
+    /// Returns a copy with the same units, in an allocation of its own.
+    ///
+    /// # Errors
+    ///
+    /// [`AllocError`] if an allocation fails.
+    #[inline]
+    pub fn fallible_clone(&self) -> Result<CString16, AllocError> {
+        let copy = Vec::fallible_from_slice(self.units.as_slice())?;
+        Ok(CString16::from_vec_with_nul_unchecked(copy))
+    }
+}
+
+/// Two texts are equal if all their units are.
+#[cfg(feature = "alloc")]
+impl PartialEq for CString16 {
+    #[inline]
+    fn eq(&self, other: &Self) -> bool {
+        self.as_cstr16() == other.as_cstr16()
+    }
+}
+
+#[cfg(feature = "alloc")]
+impl Eq for CString16 {}
 
 /// Writes the characters, without the NUL.
 #[cfg(feature = "alloc")]

@@ -9,7 +9,8 @@ use Rattle.uefi_base.proofs.chars_lossy.CharsLossyIterator.next.Goals as goal
 
 -- The character of two units, if they are a pair.
 abbrev pair_of : ℕ → ℕ → Option ℕ
-pair_of first second = cond (is_high_surrogate first && is_low_surrogate second) (Some (surrogate_pair_char first second)) None
+pair_of first second =
+    cond (is_high_surrogate first && is_low_surrogate second) (Some (surrogate_pair_char first second)) None
 
 -- Where a test chose a character, it chooses the list that begins with it.
 chosen : (b : Bool) (pair character : ℕ) (more others : List (Option ℕ))
@@ -35,7 +36,8 @@ lone_first : (first second : ℕ) (units left more : List ℕ) → units ≡ fir
     → pair_of first second ≡ None → utf16_chars units ≡ lone_unit_char first ∷ utf16_chars left
 unfolding utf16_chars
 lone_first first second units left more begins continues is =
-    ap utf16_chars (begins ∙ ap (λ l. first ∷ l) continues) ∙ not_chosen _ _ _ _ is ∙ ap (λ l. lone_unit_char first ∷ utf16_chars l) (sym continues)
+    ap utf16_chars (begins ∙ ap (λ l. first ∷ l) continues) ∙ not_chosen _ _ _ _ is
+    ∙ ap (λ l. lone_unit_char first ∷ utf16_chars l) (sym continues)
 
 -- The last unit comes first.
 last_first : (first : ℕ) (units left : List ℕ) → units ≡ first ∷ left → left ≡ []
@@ -48,10 +50,13 @@ last_first first units left begins ends =
 abbrev lossy : List (Option ℕ) → List ℕ
 lossy characters = map (λ o. unwrap_or o 0xfffd) characters
 
+none_left : (units : List ℕ) → units ≡ [] → lossy (utf16_chars units) ≡ []
+none_left units none = ap (λ us. lossy (utf16_chars us)) none ∙ ap lossy utf16_chars-nil
+
 pub returns-in_err-first-clause-steps : goal.returns-in_err-first-clause-steps
 returns-in_err-first-clause-steps c =
     let ended = c.in_err-first.ensures in
-    rw (c.from_residual.ensures) (ap (λ us. lossy (utf16_chars us)) ended.0 ∙ ap lossy utf16_chars-nil, ap (λ us. lossy (utf16_chars us)) ended.1 ∙ ap lossy utf16_chars-nil)
+    rw (c.from_residual.ensures) (none_left _ ended.0, none_left _ ended.1)
 
 pub returns-in-Some-pair_character-clause-steps : goal.returns-in-Some-pair_character-clause-steps
 returns-in-Some-pair_character-clause-steps c =
@@ -74,5 +79,6 @@ returns-clause-steps c =
 
 pub returns-clause-goes : goal.returns-clause-goes
 returns-clause-goes c =
-    let steps : chars_left c.args.self.now ≡ c.lone_character.result ∷ chars_left c.next_unit.new.self = returns-clause-steps c in
+    let steps : chars_left c.args.self.now ≡ c.lone_character.result ∷ chars_left c.next_unit.new.self =
+    returns-clause-steps c in
     search rules
