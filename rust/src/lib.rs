@@ -277,3 +277,38 @@ mod from_str {
         }
     }
 }
+
+mod equality {
+    use crate::CStr16;
+    #[cfg(feature = "alloc")]
+    use crate::CString16;
+
+    /// Equality of all characters.
+    impl PartialEq<&str> for CStr16<'_> {
+        fn eq(&self, text: &&str) -> bool {
+            !text.contains('\0') && self.eq_str_until_nul(text)
+        }
+    }
+
+    /// Equality of all characters.
+    #[cfg(feature = "alloc")]
+    impl PartialEq<&str> for CString16 {
+        fn eq(&self, text: &&str) -> bool {
+            self.as_cstr16() == *text
+        }
+    }
+
+    #[cfg(feature = "alloc")]
+    impl PartialEq<CStr16<'_>> for CString16 {
+        fn eq(&self, other: &CStr16<'_>) -> bool {
+            self.as_cstr16() == *other
+        }
+    }
+
+    #[cfg(feature = "alloc")]
+    impl PartialEq<CString16> for CStr16<'_> {
+        fn eq(&self, other: &CString16) -> bool {
+            *self == other.as_cstr16()
+        }
+    }
+}

@@ -16,6 +16,7 @@ macro_rules! fallible_format {
 }
 
 mod base_tests;
+mod equality;
 #[path = "../../examples/uefi_list/hex.rs"]
 mod hex;
 mod hii_tests;
