@@ -13,7 +13,6 @@ use crate::error::ParseError;
 use crate::peeked::PeekedPairs;
 use crate::reading::read_group;
 use std::alloc::{AllocError, Allocator, Global};
-use std::iter::FusedIterator;
 
 /// The configurations of a text, and its errors, in order: an item for each group of pairs.
 ///
@@ -98,7 +97,7 @@ impl<'a, A: Allocator + Copy> Iterator for MultiConfigurationStringIter<'a, A> {
     }
 }
 
-impl<'a, A: Allocator + Copy> FusedIterator for MultiConfigurationStringIter<'a, A> {}
+impl<'a, A: Allocator + Copy> std::iter::FusedIterator for MultiConfigurationStringIter<'a, A> {}
 
 /// Returns all configurations of a text, and its errors, in order: an item for each group of pairs,
 /// as [`MultiConfigurationStringIter`] gives them.

@@ -23,8 +23,22 @@ def speaks_of(source, first, end, names):
                and (source.at(i)[0].isupper() or source.at(i + 1) == '(') for i in range(first, end))
 
 
+def implementor(source, keyword, trait):
+    """The name of the type that an `impl` block implements the trait for, if it is one of this trait."""
+    names = source.names(keyword, source.until(keyword, '{'))
+    return names[names.index('for') + 1] if trait in names[:names.index('for') if 'for' in names else 0] else None
+
+
+def gated_iterators(source, names):
+    """The types that are iterators with owned memory alone."""
+    blocks = [(keyword, end) for _, keyword, end in source.items() if source.at(keyword) == 'impl']
+    return {implementor(source, keyword, 'Iterator') for keyword, end in blocks
+            if speaks_of(source, keyword, end, names)} - {None}
+
+
 def gate(source, names):
     """Puts the feature before what speaks of owned memory."""
+    iterators = gated_iterators(source, names)
     for start, keyword, end in reversed(list(source.items())):
         kind = source.at(keyword)
         if kind == 'use':
@@ -32,7 +46,8 @@ def gate(source, names):
         elif kind == 'impl':
             body = source.until(keyword, '{')
             whole = 'for' in source.names(keyword, body) and speaks_of(source, body, end, names)
-            if whole or speaks_of(source, keyword, body, names):
+            fused = implementor(source, keyword, 'FusedIterator') in iterators
+            if whole or fused or speaks_of(source, keyword, body, names):
                 source.insert(start, GATE)
                 continue
             for first, inner, last in reversed(list(source.items(body + 1, end - 1))):

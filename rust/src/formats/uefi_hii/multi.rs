@@ -12,7 +12,6 @@ use crate::formats::uefi_hii::peeked::PeekedPairs;
 #[cfg(feature = "alloc")]
 use crate::formats::uefi_hii::reading::read_group;
 use crate::support::alloc::AllocError;
-use core::iter::FusedIterator;
 
 /// The configurations of a text, and its errors, in order: an item for each group of pairs.
 ///
@@ -85,7 +84,8 @@ impl<'a> Iterator for MultiConfigurationStringIter<'a> {
     }
 }
 
-impl<'a> FusedIterator for MultiConfigurationStringIter<'a> {}
+#[cfg(feature = "alloc")]
+impl<'a> core::iter::FusedIterator for MultiConfigurationStringIter<'a> {}
 
 /// Returns all configurations of a text, and its errors, in order: an item for each group of pairs,
 /// as [`MultiConfigurationStringIter`] gives them.
