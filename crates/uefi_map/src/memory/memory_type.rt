@@ -85,7 +85,7 @@ impl MemoryType {
     pub fn is_os_loader(self) -> bool
         ensures { result ≡ is_os_loader self.0 }
     {
-        self.0 >= 0x8000_0000
+        self.0 > 0x7fff_ffff
     }
 
     /// Returns whether the number is one of those that the standard leaves to OEMs or to loaders of

@@ -80,7 +80,7 @@ impl MemoryType {
     /// systems: from 0x80000000 on.
     #[inline]
     pub fn is_os_loader(self) -> bool {
-        self.0 >= 0x8000_0000
+        self.0 > 0x7fff_ffff
     }
 
     /// Returns whether the number is one of those that the standard leaves to OEMs or to loaders of
