@@ -1,11 +1,7 @@
-pub mod Placing
-pub mod LogContents
 pub mod Digests
-pub mod Boundaries
 pub mod Stepping
 pub mod Starting
 pub mod Contradicting
-pub mod Logs
 pub mod EachPcr
 pub mod ItsEvents
 pub mod Rules

@@ -1,7 +1,7 @@
 -- The worked rows hold.
 use Rattle.std.proofs.Common.{refl}
-use Rattle.pcr_replay.specs.Entries.{placed}
-use Rattle.pcr_replay.specs.Logs.{until}
+use Rattle.uefi_tcg.specs.Entries.{placed}
+use Rattle.uefi_tcg.specs.Logs.{until}
 use Rattle.pcr_replay.specs.Replay.{digests_by, only_digest, why_ignored}
 use Rattle.pcr_replay.specs.Rows.{EventRows, PaddingRows, RowsHold, StartRows, ValueRows}
 use Rattle.pcr_replay.specs.Start.{contradiction, locality_fault, locality_in, start_value, stated_locality}

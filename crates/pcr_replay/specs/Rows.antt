@@ -7,8 +7,8 @@ use Rattle.pcr_replay.specs.declared.fault.Fault.{Fault}
 use Rattle.pcr_replay.specs.declared.fault.Fault.TheVariants.{NoDigest, TwoDigests, OtherLength, UnknownLocality, OtherLocality, LateLocality}
 use Rattle.pcr_replay.specs.declared.fault.Undetermined.{Undetermined}
 use Rattle.pcr_replay.specs.declared.ignored.Ignored.TheVariants.{NoPcr, OtherPcr}
-use Rattle.pcr_replay.specs.Entries.{Contents, Entry, placed}
-use Rattle.pcr_replay.specs.Logs.{before_padding}
+use Rattle.uefi_tcg.specs.Entries.{Contents, Entry, placed}
+use Rattle.uefi_tcg.specs.Logs.{before_padding}
 use Rattle.pcr_replay.specs.Replay.{digest_for, why_ignored}
 use Rattle.pcr_replay.specs.Start.{extends, hcrtm_type, is_launched, locality_signature, start_at, start_in, start_value}
 

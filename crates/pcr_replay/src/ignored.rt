@@ -1,6 +1,6 @@
 ghost use Rattle.std.specs.Prelude.{◌≡◌};
 ghost use Rattle.pcr_replay.specs.Replay.{why_ignored};
-ghost use Rattle.pcr_replay.specs.Views.{event_of};
+ghost use Rattle.uefi_tcg.specs.LogViews.{event_of};
 
 use crate::event::LogEvent;
 use crate::pcrs::PCR_COUNT;

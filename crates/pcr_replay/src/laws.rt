@@ -1,17 +1,7 @@
 //! Laws of the definitions. Each holds of every value of them, and takes nothing to run.
 
-ghost use Rattle.pcr_replay.specs.Laws.{FirstContradicts, FirstIsNamed, OneContents, ValueByItsEvents};
+ghost use Rattle.pcr_replay.specs.Laws.{FirstContradicts, FirstIsNamed, ValueByItsEvents};
 ghost use Rattle.pcr_replay.specs.Rows.{RowsHold};
-
-use uefi_tcg::laws::{one_log_v1, one_log_v2};
-
-/// States that a log has one list of entries, with one end.
-pub fn one_contents()
-    ensures { OneContents }
-{
-    one_log_v1();
-    one_log_v2();
-}
 
 /// States that the event that contradicts how PCR 0 starts is the first one that does, and that
 /// without it none does.

@@ -12,7 +12,7 @@ use Rattle.std.proofs.lemmas.List.{map-append, take_more}
 use Rattle.std.proofs.lemmas.Option.{get_or_from_slice_get, slice_get_within}
 use Rattle.std.proofs.lemmas.Map.Keys.{IsStrictlyIncreasing-dedup}
 use Rattle.uefi_tcg.specs.v2.Event.{Table}
-use Rattle.pcr_replay.specs.Entries.{Entry}
+use Rattle.uefi_tcg.specs.Entries.{Entry}
 use Rattle.pcr_replay.specs.declared.bank.Bank.{Bank}
 use Rattle.uefi_auditing.specs.text.Names.{shown_name}
 use Rattle.uefi_audit.specs.Notes.{AreAlgorithmsIn, AreTableNotes, banks_among, hex_text, inactive_lines, unsupported_among, unsupported_line}

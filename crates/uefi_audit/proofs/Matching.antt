@@ -5,7 +5,7 @@ use Rattle.std.specs.List.{All}
 use Rattle.std.proofs.Math.Seq.{get_or-append_seam}
 use Rattle.std.proofs.lemmas.List.{length-append}
 use Rattle.std.proofs.lemmas.List.Elements.{All-cons, All-nil}
-use Rattle.pcr_replay.specs.Entries.{Entry}
+use Rattle.uefi_tcg.specs.Entries.{Entry}
 use Rattle.uefi_auditing.specs.Check.{IsChecked, MatchesBy}
 use Rattle.uefi_auditing.specs.declared.check.Checked.TheVariants.{Matches, MatchesNone, NotInLog}
 use Rattle.uefi_auditing.specs.declared.check.form.Form.{Form}

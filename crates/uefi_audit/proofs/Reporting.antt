@@ -7,7 +7,7 @@ use Rattle.std.specs.declared.string.String.{String}
 use Rattle.std.proofs.lemmas.List.{length-map}
 use Rattle.uefi_base.specs.Appending.{AppendsText}
 use Rattle.uefi_tcg.specs.v2.Event.{Table}
-use Rattle.pcr_replay.specs.Entries.{Contents}
+use Rattle.uefi_tcg.specs.Entries.{Contents}
 use Rattle.pcr_replay.specs.declared.start.Start.{Start}
 use Rattle.uefi_auditing.specs.Replay.{BankOutcomes, bank_outcomes_of}
 use Rattle.uefi_auditing.specs.declared.replay.BankPcrs.{BankPcrs}

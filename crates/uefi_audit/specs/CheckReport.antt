@@ -2,7 +2,7 @@
 use Rattle.std.specs.Prelude.{◌≡◌, Bool, true, false, List, string_bytes}
 use Rattle.std.specs.List.{All, Any}
 use Rattle.uefi_tcg.specs.v2.Event.{Table}
-use Rattle.pcr_replay.specs.Entries.{Contents, Entry}
+use Rattle.uefi_tcg.specs.Entries.{Contents, Entry}
 use Rattle.uefi_auditing.specs.Check.{IsChecked}
 use Rattle.uefi_auditing.specs.declared.check.Checked.TheVariants.{MatchesNone}
 use Rattle.uefi_auditing.specs.declared.text.LogFile.{LogFile}

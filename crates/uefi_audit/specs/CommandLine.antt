@@ -9,8 +9,8 @@ use Rattle.pcr_replay.specs.declared.bank.Bank.{Bank}
 use Rattle.uefi_auditing.specs.text.Banks.{bank_name}
 use Rattle.uefi_audit.specs.declared.request.Format.{Format}
 use Rattle.uefi_audit.specs.declared.request.Format.TheVariants.{Text, Json}
-use Rattle.pcr_replay.specs.declared.log.LastEntry.{LastEntry}
-use Rattle.pcr_replay.specs.declared.log.LastEntry.TheVariants.{Unknown, At, Empty}
+use Rattle.uefi_tcg.specs.declared.log.LastEntry.{LastEntry}
+use Rattle.uefi_tcg.specs.declared.log.LastEntry.TheVariants.{Unknown, At, Empty}
 use Rattle.uefi_audit.specs.declared.request.Reading.{Reading}
 use Rattle.uefi_audit.specs.declared.request.Request.{Request}
 use Rattle.uefi_audit.specs.declared.request.Verification.{Verification}

@@ -3,7 +3,7 @@ use Rattle.std.specs.Prelude.{◌≡◌, ◌&&◌, ◌++◌, Bool, true, false, 
 use Rattle.std.specs.declared.alloc.Global.{Global}
 use Rattle.std.specs.declared.string.String.{String}
 use Rattle.uefi_tcg.specs.v2.Event.{Table}
-use Rattle.pcr_replay.specs.Entries.{Contents}
+use Rattle.uefi_tcg.specs.Entries.{Contents}
 use Rattle.uefi_auditing.specs.diff.Differences.{AppendsDifferences}
 use Rattle.uefi_auditing.specs.json.Diff.{AppendsDifferencesJson}
 use Rattle.uefi_auditing.specs.text.Names.{shown_name}

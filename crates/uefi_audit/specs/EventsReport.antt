@@ -1,7 +1,7 @@
 -- What `events` prints of a log.
 use Rattle.std.specs.Prelude.{◌≡◌, ℕ, Bool, true, false, List, [], string_bytes, ⊤}
 use Rattle.uefi_tcg.specs.v2.Event.{Table}
-use Rattle.pcr_replay.specs.Entries.{Contents, Entry}
+use Rattle.uefi_tcg.specs.Entries.{Contents, Entry}
 use Rattle.uefi_auditing.specs.declared.text.LogFile.{LogFile}
 use Rattle.uefi_auditing.specs.json.Events.{AreEventLines}
 use Rattle.uefi_audit.specs.Judging.{is_read, judged_status, judgement_lines, judgement_of}

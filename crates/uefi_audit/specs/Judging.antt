@@ -4,10 +4,10 @@ use Rattle.std.specs.Fmt.{decimal}
 use Rattle.uefi_tcg.specs.v2.Event.{Table}
 use Rattle.uefi_tcg.specs.v2.Header.{Header}
 use Rattle.uefi_tcg.specs.v2.Log.{HasHeaderOf}
-use Rattle.pcr_replay.specs.Entries.{Contents}
-use Rattle.pcr_replay.specs.Logs.{last_entry_in}
+use Rattle.uefi_tcg.specs.Entries.{Contents}
+use Rattle.uefi_tcg.specs.Logs.{last_entry_in}
 use Rattle.pcr_replay.specs.Replay.{has_measured}
-use Rattle.pcr_replay.specs.declared.log.Log.{Log}
+use Rattle.uefi_tcg.specs.declared.log.Log.{Log}
 use Rattle.uefi_auditing.specs.json.Replay.{is_accepted}
 use Rattle.uefi_auditing.specs.text.Names.{shown_name}
 use Rattle.uefi_auditing.specs.text.Trailing.{left_over_lines, padding_lines}

@@ -5,7 +5,7 @@ use Rattle.std.specs.List.{Contains, filter, list_any}
 use Rattle.std.specs.List.Sorted.{IsStrictlyIncreasing}
 use Rattle.uefi_tcg.specs.v2.Event.{Event, Table}
 use Rattle.pcr_replay.specs.Banks.{algorithm_of}
-use Rattle.pcr_replay.specs.Entries.{Entry}
+use Rattle.uefi_tcg.specs.Entries.{Entry}
 use Rattle.pcr_replay.specs.Replay.{is_active, why_ignored}
 use Rattle.pcr_replay.specs.declared.bank.Bank.{Bank}
 use Rattle.pcr_replay.specs.declared.ignored.Ignored.{Ignored}

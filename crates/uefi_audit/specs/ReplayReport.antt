@@ -1,7 +1,7 @@
 -- What `replay` prints of a log.
 use Rattle.std.specs.Prelude.{◌≡◌, ℕ, List, [], ◌++◌, string_bytes}
 use Rattle.uefi_tcg.specs.v2.Event.{Table}
-use Rattle.pcr_replay.specs.Entries.{Contents}
+use Rattle.uefi_tcg.specs.Entries.{Contents}
 use Rattle.uefi_auditing.specs.declared.text.LogFile.{LogFile}
 use Rattle.uefi_audit.specs.Ends.{worse}
 use Rattle.uefi_audit.specs.Judging.{judged_status, judgement_lines, judgement_of}

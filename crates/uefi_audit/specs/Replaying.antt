@@ -2,7 +2,7 @@
 use Rattle.std.specs.Prelude.{◌≡◌, ℕ, Bool, true, false, ◌||◌, ◌==◌, List, [], ◌∷◌, ◌++◌, length, codes, flat_map, map, is_err, Option, None, Some, is_some, if◌then◌else◌}
 use Rattle.std.specs.List.{list_any}
 use Rattle.uefi_tcg.specs.v2.Event.{Table}
-use Rattle.pcr_replay.specs.Entries.{Contents, Entry}
+use Rattle.uefi_tcg.specs.Entries.{Contents, Entry}
 use Rattle.pcr_replay.specs.Start.{start_at, start_in, startup_locality}
 use Rattle.pcr_replay.specs.declared.bank.Bank.{Bank}
 use Rattle.pcr_replay.specs.declared.start.Start.{Start}

@@ -2,7 +2,7 @@
 use Rattle.std.specs.Prelude.{◌≡◌, ◌++◌, ℕ, Bool, true, false, List, [], ◌∷◌, map, slice_get, string_bytes, Option, Some}
 use Rattle.std.specs.List.{filter}
 use Rattle.uefi_tcg.specs.v2.Event.{Table}
-use Rattle.pcr_replay.specs.Entries.{Contents, Entry}
+use Rattle.uefi_tcg.specs.Entries.{Contents, Entry}
 use Rattle.pcr_replay.specs.Start.{start_at}
 use Rattle.pcr_replay.specs.declared.bank.Bank.{Bank}
 use Rattle.pcr_replay.specs.declared.start.Start.{Start}

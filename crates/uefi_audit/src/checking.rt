@@ -1,8 +1,8 @@
 ghost use Rattle.std.specs.Prelude.{◌≡◌, ◌<◌, ◌^◌, true, length, IfOk, string_bytes};
 ghost use Rattle.uefi_tcg.specs.v2.Event.{Table};
-ghost use Rattle.pcr_replay.specs.Entries.{Contents};
-ghost use Rattle.pcr_replay.specs.Logs.{HasContents};
-ghost use Rattle.pcr_replay.specs.Views.{entries_left, entry_of};
+ghost use Rattle.uefi_tcg.specs.Entries.{Contents};
+ghost use Rattle.uefi_tcg.specs.Logs.{HasContents};
+ghost use Rattle.uefi_tcg.specs.LogViews.{entries_left, entry_of};
 ghost use Rattle.uefi_auditing.specs.text.Names.{shown_name};
 ghost use Rattle.uefi_audit.specs.CheckReport.{IsCheckReport, IsCheckStatus, TellsWhetherAllMatch};
 ghost use Rattle.uefi_audit.specs.Judging.{HasTable};
@@ -12,13 +12,13 @@ use crate::failure::Status;
 use crate::judging::push_judgement;
 use crate::report::Report;
 use crate::request::{Format, Reading};
-use pcr_replay::laws::one_contents;
-use pcr_replay::{LogEntries, LogEntry};
 use std::alloc::{AllocError, Global};
 use uefi_auditing::check::{
     CheckSummary, Checked, check, check_summary_line, mismatch_line, push_check, push_check_summary,
 };
 use uefi_auditing::text::{LogFile, ShownName};
+use uefi_tcg::laws::one_contents;
+use uefi_tcg::{LogEntries, LogEntry};
 
 /// Returns what is printed of the events of a log whose digests aren't the hash of what their type
 /// measures.

@@ -1,7 +1,7 @@
 ghost use Rattle.std.specs.Prelude.{IfOk};
 ghost use Rattle.uefi_tcg.specs.v2.Event.{Table};
-ghost use Rattle.pcr_replay.specs.Entries.{Contents};
-ghost use Rattle.pcr_replay.specs.Logs.{HasContents};
+ghost use Rattle.uefi_tcg.specs.Entries.{Contents};
+ghost use Rattle.uefi_tcg.specs.Logs.{HasContents};
 ghost use Rattle.uefi_audit.specs.Comparison.{AppendsCompared, AppendsIfRead, IsComparison};
 ghost use Rattle.uefi_audit.specs.Judging.{HasTable};
 ghost use Rattle.uefi_audit.specs.declared.request.Format.TheVariants.{Text};

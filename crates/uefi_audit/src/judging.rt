@@ -1,16 +1,17 @@
 ghost use Rattle.std.specs.Prelude.{◌≡◌, length, IfOk, OnOk};
 ghost use Rattle.uefi_base.specs.Appending.{AppendsText};
 ghost use Rattle.uefi_tcg.specs.v2.Event.{Table};
-ghost use Rattle.pcr_replay.specs.Entries.{Contents};
-ghost use Rattle.pcr_replay.specs.Logs.{HasContents};
+ghost use Rattle.uefi_tcg.specs.Entries.{Contents};
+ghost use Rattle.uefi_tcg.specs.Logs.{HasContents};
 ghost use Rattle.uefi_audit.specs.Judging.{HasTable, is_read, judged_status, judgement_lines, judgement_of, many_line, nothing_line, trailing_lines};
 ghost use Rattle.uefi_auditing.specs.json.Replay.{is_accepted};
 
 use crate::failure::Status;
 use crate::request::Reading;
-use pcr_replay::{Log, has_measured};
+use pcr_replay::has_measured;
 use std::alloc::AllocError;
 use uefi_auditing::text::{LogFile, ShownName, push_left_over, push_padding};
+use uefi_tcg::Log;
 
 /// Whether a log can be judged.
 #[derive(Clone, Copy, PartialEq, Eq)]

@@ -2,19 +2,19 @@ ghost use Rattle.std.specs.Prelude.{◌≡◌, ◌++◌, ℕ, List, codes, flat_
 ghost use Rattle.uefi_base.specs.Appending.{AppendsText};
 ghost use Rattle.uefi_tcg.specs.v2.Event.{Table};
 ghost use Rattle.uefi_tcg.specs.v2.Views.{table_of};
-ghost use Rattle.pcr_replay.specs.Entries.{Contents};
-ghost use Rattle.pcr_replay.specs.Logs.{HasContents};
-ghost use Rattle.pcr_replay.specs.Views.{event_of};
+ghost use Rattle.uefi_tcg.specs.Entries.{Contents};
+ghost use Rattle.uefi_tcg.specs.Logs.{HasContents};
+ghost use Rattle.uefi_tcg.specs.LogViews.{event_of};
 ghost use Rattle.uefi_auditing.specs.text.Remarks.{ignored_lines};
 ghost use Rattle.uefi_audit.specs.Judging.{HasTable};
 ghost use Rattle.uefi_audit.specs.Notes.{AreAlgorithmsIn, AreTableNotes, banks_among, extends_no_pcr, has_no_pcr, hex_text, inactive_line, inactive_lines, no_digest_line, unsupported_among, unsupported_line};
 
-use pcr_replay::laws::one_contents;
-use pcr_replay::{Bank, Ignored, Log, LogEvent, is_active, why_ignored};
+use pcr_replay::{Bank, Ignored, is_active, why_ignored};
 use std::alloc::{AllocError, Global};
 use uefi_auditing::text::{LogFile, ShownName, bank_name, bank_of, push_ignored};
-use uefi_tcg::AlgorithmId;
+use uefi_tcg::laws::one_contents;
 use uefi_tcg::v2::AlgorithmDigestSizes;
+use uefi_tcg::{AlgorithmId, Log, LogEvent};
 
 /// Appends a line for each of these banks of which no event has a digest.
 pub(crate) fn push_inactive(

@@ -2,8 +2,8 @@ ghost use Rattle.std.specs.Prelude.{◌≡◌, ◌==◌, ◌||◌, ◌++◌, ℕ
 ghost use Rattle.std.specs.List.{list_any};
 ghost use Rattle.uefi_base.specs.Appending.{AppendsText};
 ghost use Rattle.uefi_tcg.specs.v2.Event.{Table};
-ghost use Rattle.pcr_replay.specs.Entries.{Contents};
-ghost use Rattle.pcr_replay.specs.Logs.{HasContents};
+ghost use Rattle.uefi_tcg.specs.Entries.{Contents};
+ghost use Rattle.uefi_tcg.specs.Logs.{HasContents};
 ghost use Rattle.pcr_replay.specs.Views.{outcome_of};
 ghost use Rattle.uefi_auditing.specs.Replay.{bank_outcomes_of};
 ghost use Rattle.uefi_auditing.specs.json.Replay.{replay_line};

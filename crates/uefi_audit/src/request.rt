@@ -1,12 +1,13 @@
 ghost use Rattle.std.specs.Prelude.{◌≡◌, ℕ, codes, IfSome, IfNone, MatchOption, Option};
 ghost use Rattle.clap.specs.Words.{found_of, one_text};
 ghost use Rattle.pcr_replay.specs.declared.bank.Bank.{Bank};
-ghost use Rattle.pcr_replay.specs.declared.log.LastEntry.{LastEntry};
+ghost use Rattle.uefi_tcg.specs.declared.log.LastEntry.{LastEntry};
 ghost use Rattle.uefi_audit.specs.CommandLine.{Asks, AsksBank, AsksFormat, AsksLastEntry, AsksLocality, AsksMaxRows, AsksReading, AskForNoRequest, AskForNothing, IsDecimal, NamesMaxRows};
 
 use clap::ArgMatches;
-use pcr_replay::{Bank, LastEntry};
+use pcr_replay::Bank;
 use uefi_auditing::text::bank_named;
+use uefi_tcg::LastEntry;
 
 /// What the arguments ask for.
 #[derive(Clone, Copy)]

@@ -2,9 +2,10 @@
 
 use crate::command_line::matches_of;
 use crate::request::{Format, Reading, Request, Verification, request_of};
-use pcr_replay::{Bank, LastEntry};
+use pcr_replay::Bank;
 use std::alloc::{AllocError, Global};
 use std::test::Fail;
+use uefi_tcg::LastEntry;
 
 /// Arguments after the program's name, and what they ask for.
 const ASKED: [(&[&str], &str); 21] = [

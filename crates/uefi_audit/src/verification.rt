@@ -1,8 +1,8 @@
 ghost use Rattle.std.specs.Prelude.{◌≡◌, ◌++◌, false, filter, map, IfOk, OnOk};
 ghost use Rattle.uefi_base.specs.Appending.{AppendsText};
 ghost use Rattle.uefi_tcg.specs.v2.Event.{Table};
-ghost use Rattle.pcr_replay.specs.Entries.{Contents};
-ghost use Rattle.pcr_replay.specs.Logs.{HasContents};
+ghost use Rattle.uefi_tcg.specs.Entries.{Contents};
+ghost use Rattle.uefi_tcg.specs.Logs.{HasContents};
 ghost use Rattle.pcr_replay.specs.Start.{start_at};
 ghost use Rattle.uefi_auditing.specs.Replay.{bank_outcomes_of, replayed};
 ghost use Rattle.uefi_auditing.specs.json.Verdict.{verdict_line};
@@ -24,12 +24,13 @@ use crate::notes::{push_inactive, push_without_effect};
 use crate::replay::{Assumed, start_of};
 use crate::report::Report;
 use crate::request::{Format, Reading, Verification};
-use pcr_replay::{Bank, Log, Start};
+use pcr_replay::{Bank, Start};
 use std::alloc::{AllocError, Global};
 use uefi_auditing::json::push_verdict_json;
 use uefi_auditing::replay::{BankPcrs, replay_banks};
 use uefi_auditing::text::{LogFile, push_start};
 use uefi_auditing::verify::{HeldPcr, PcrSelection, Verdict, held_banks, nearest, push_verdict};
+use uefi_tcg::Log;
 
 /// The localities that are tried where neither the log nor the caller states one.
 const LOCALITIES: [u8; 3] = [0, 3, 4];

@@ -4,7 +4,7 @@ use Rattle.std.specs.List.{filter}
 use Rattle.pcr_replay.specs.declared.bank.Bank.{Bank}
 use Rattle.pcr_replay.specs.declared.bank.Bank.TheVariants.{Sha1, Sha256, Sha384, Sha512, Sm3}
 use Rattle.pcr_replay.specs.declared.start.Start.{Start}
-use Rattle.pcr_replay.specs.Entries.{Entry}
+use Rattle.uefi_tcg.specs.Entries.{Entry}
 use Rattle.pcr_replay.specs.Replay.{Outcome, is_active, outcomes}
 use Rattle.pcr_replay.specs.Views.{outcomes_of}
 use Rattle.uefi_auditing.specs.declared.replay.BankPcrs.{BankPcrs}

@@ -4,7 +4,7 @@
 
 ghost use Rattle.std.specs.Prelude.{◌≡◌, ◌↔◌, ◌++◌, IfOk, IsTrue, MatchOption};
 ghost use Rattle.std.specs.List.{list_all};
-ghost use Rattle.pcr_replay.specs.Views.{event_of};
+ghost use Rattle.uefi_tcg.specs.LogViews.{event_of};
 ghost use Rattle.uefi_auditing.specs.Check.{agrees, are_hashes, has_digests, IsChecked, IsFirstMatch, MatchesBy, MatchesNoneOf, MayMeasureOther, MayNameFile};
 ghost use Rattle.uefi_auditing.specs.Replay.{all_banks};
 ghost use Rattle.uefi_auditing.specs.declared.check.form.Form.TheVariants.{Command, Narrowed, VariableValue, WithoutNul};
@@ -15,11 +15,11 @@ pub use self::json_lines::{check_summary_line, mismatch_line};
 pub use self::line::{push_check, push_check_summary};
 use self::measured::{command_in, narrowed, without_nul};
 pub use self::summary::{CheckSummary, TypeCounts};
-use pcr_replay::{Bank, LogEvent, has_digest, is_hash_of};
+use pcr_replay::{Bank, has_digest, is_hash_of};
 use std::alloc::{AllocError, Global};
-use uefi_tcg::EventType;
 use uefi_tcg::content::VariableData;
 use uefi_tcg::laws::one_value;
+use uefi_tcg::{EventType, LogEvent};
 
 mod form;
 mod json_lines;

@@ -6,7 +6,7 @@
 ghost use Rattle.std.specs.Prelude.{◌≡◌, option_map};
 ghost use Rattle.std.specs.List.{list_all};
 ghost use Rattle.pcr_replay.specs.Start.{locality_in};
-ghost use Rattle.pcr_replay.specs.Views.{event_of};
+ghost use Rattle.uefi_tcg.specs.LogViews.{event_of};
 ghost use Rattle.uefi_tcg.specs.v2.Views.{header_of};
 ghost use Rattle.uefi_auditing.specs.content.Content.{BlobContent, ImageContent, NoActionContent, PostCodeContent, Says, are_printed, form_of, is_printed, separator_content, text_content};
 ghost use Rattle.uefi_auditing.specs.content.Header.{ReadsHeader};
@@ -21,9 +21,10 @@ pub use self::value::VariableValue;
 use crate::content::path::whole_path;
 use crate::content::value::read_value;
 use crate::content::value_form::{authority_form, value_form};
-use pcr_replay::{LogEvent, locality_in};
+use pcr_replay::locality_in;
 use uefi_base::little_endian::u32_at;
 use uefi_path::DevicePath;
+use uefi_tcg::LogEvent;
 use uefi_tcg::content::{
     CrtmVersion, EventText, GptData, ImageLoadEvent, PlatformFirmwareBlob, PlatformFirmwareBlob2,
     VariableData,

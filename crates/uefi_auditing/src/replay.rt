@@ -2,12 +2,13 @@
 //! compared.
 
 ghost use Rattle.std.specs.Prelude.{◌≡◌, map, IfOk};
-ghost use Rattle.pcr_replay.specs.Entries.{Contents};
-ghost use Rattle.pcr_replay.specs.Logs.{HasContents};
+ghost use Rattle.uefi_tcg.specs.Entries.{Contents};
+ghost use Rattle.uefi_tcg.specs.Logs.{HasContents};
 ghost use Rattle.uefi_auditing.specs.Replay.{active_banks, asked, bank_outcomes_of, replayed};
 
-use pcr_replay::{Bank, Log, Pcrs, Start, is_active, replay_from};
+use pcr_replay::{Bank, Pcrs, Start, is_active, replay_from};
 use std::alloc::{AllocError, Allocator};
+use uefi_tcg::Log;
 
 /// What each PCR of a bank holds after the events of a log.
 #[derive(Clone, Copy)]

@@ -18,7 +18,7 @@ pub use self::start::push_start;
 pub(crate) use self::trailing::offset_of_last;
 pub use self::trailing::{push_left_over, push_padding};
 pub use self::undetermined::{fault_text, push_undetermined};
-use pcr_replay::Log;
+use uefi_tcg::Log;
 
 mod banks;
 mod ignored;

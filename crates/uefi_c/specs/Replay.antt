@@ -3,11 +3,11 @@ use Rattle.std.specs.Prelude.{ℕ, ◌==◌, List, Ok, Err, nat_le, nat_lt, leng
 use Rattle.std.specs.Borrow.{Bor}
 use Rattle.pcr_replay.specs.declared.fault.Fault.{Fault}
 use Rattle.pcr_replay.specs.declared.fault.Fault.TheVariants.{NoDigest, TwoDigests, OtherLength, UnknownLocality, OtherLocality, LateLocality}
-use Rattle.pcr_replay.specs.declared.log.LastEntry.{LastEntry}
-use Rattle.pcr_replay.specs.declared.log.LastEntry.TheVariants.{Unknown, Empty, At}
-use Rattle.pcr_replay.specs.declared.log.Log.{Log}
+use Rattle.uefi_tcg.specs.declared.log.LastEntry.{LastEntry}
+use Rattle.uefi_tcg.specs.declared.log.LastEntry.TheVariants.{Unknown, Empty, At}
+use Rattle.uefi_tcg.specs.declared.log.Log.{Log}
 use Rattle.pcr_replay.specs.declared.start.Start.{Start}
-use Rattle.pcr_replay.specs.Entries.{Entry}
+use Rattle.uefi_tcg.specs.Entries.{Entry}
 use Rattle.pcr_replay.specs.Replay.{Outcome}
 use Rattle.pcr_replay.specs.Start.{start_at, start_in}
 use Rattle.uefi_c.specs.declared.replay.UefiPcr.{UefiPcr}

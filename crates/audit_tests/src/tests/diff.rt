@@ -1,9 +1,9 @@
-use pcr_replay::{LastEntry, Log};
 use std::alloc::Global;
 use std::test::Fail;
 use test_support::{bytes, same_text};
 use uefi_auditing::diff::push_differences;
 use uefi_auditing::text::LogFile;
+use uefi_tcg::{LastEntry, Log};
 
 mod json_lines;
 

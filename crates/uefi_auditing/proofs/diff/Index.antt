@@ -5,7 +5,7 @@ use Rattle.std.specs.BTreeSet.{BTreeSet, contains}
 use Rattle.std.specs.Ordering.{is_eq}
 use Rattle.std.proofs.lemmas.List.{map_more}
 use Rattle.uefi_tcg.specs.v2.Event.{Event}
-use Rattle.pcr_replay.specs.Views.{event_of}
+use Rattle.uefi_tcg.specs.LogViews.{event_of}
 use Rattle.uefi_auditing.specs.declared.diff.order.EventKey.{EventKey}
 use Rattle.uefi_auditing.specs.declared.diff.pcr.NumberedEntry.{NumberedEntry}
 use Rattle.uefi_auditing.specs.diff.Differences.{IsAmong, Numbered, event_in}

@@ -1,7 +1,7 @@
 -- The entries of a log, each with its index and what its data say.
 use Rattle.std.proofs.Common.{◌≡◌, ℕ, ◌+◌, List, [], ◌∷◌, ◌++◌, append-nil, append_assoc, ap, map, refl, subst, sym, ◌∙◌}
 use Rattle.std.proofs.lemmas.List.{map-append}
-use Rattle.pcr_replay.specs.Entries.{Entry}
+use Rattle.uefi_tcg.specs.Entries.{Entry}
 use Rattle.uefi_auditing.specs.content.Content.{Content, Says, form_of}
 use Rattle.uefi_auditing.specs.declared.diff.pcr.NumberedEntry.{NumberedEntry}
 use Rattle.uefi_auditing.specs.diff.Differences.{AreNumbered, Numbered}

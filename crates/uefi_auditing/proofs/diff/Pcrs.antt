@@ -8,7 +8,7 @@ use Rattle.std.proofs.lemmas.Bool.{cases_lt, ltb-false, ltb-true}
 use Rattle.std.proofs.lemmas.List.{map-append, map_more}
 use Rattle.std.proofs.lemmas.List.Elements.{filter-append}
 use Rattle.std.proofs.lemmas.Option.{slice_get-map, slice_get_past, slice_get_read}
-use Rattle.pcr_replay.specs.Views.{entry_of, event_of}
+use Rattle.uefi_tcg.specs.LogViews.{entry_of, event_of}
 use Rattle.uefi_auditing.specs.diff.Differences.{Numbered, event_at, event_in, events_in, is_of, of_pcr}
 use Rattle.uefi_auditing.specs.private.diff.Views.{numbered_of}
 use Rattle.uefi_auditing.specs.declared.diff.pcr.NumberedEntry.{NumberedEntry}

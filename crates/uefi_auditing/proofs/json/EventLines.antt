@@ -1,7 +1,7 @@
 -- The lines of events, one after another.
 use Rattle.std.proofs.Common.{◌≡◌, ◌∙◌, ℕ, ◌+◌, List, [], ◌∷◌, ◌++◌, ap, sym, refl, subst, append_assoc, append-nil}
 use Rattle.std.specs.Prelude.{codes}
-use Rattle.pcr_replay.specs.Entries.{Entry}
+use Rattle.uefi_tcg.specs.Entries.{Entry}
 use Rattle.uefi_auditing.specs.json.Event.{IsEventLine}
 use Rattle.uefi_auditing.specs.json.Events.{AreEventLines}
 

@@ -2,10 +2,10 @@
 use Rattle.std.proofs.Common.{◌≡◌, ◌∙◌, ℕ, ◌-◌, ◌<◌, List, [], ◌∷◌, length, ap, arith, refl}
 use Rattle.std.specs.Prelude.{◌==◌, ◌||◌, Bool}
 use Rattle.serde_json.specs.Data.{Data}
-use Rattle.pcr_replay.specs.declared.log.Log.{Log}
+use Rattle.uefi_tcg.specs.declared.log.Log.{Log}
 use Rattle.pcr_replay.specs.declared.start.Start.{Start}
-use Rattle.pcr_replay.specs.Entries.{Contents}
-use Rattle.pcr_replay.specs.Logs.{left_over, padding}
+use Rattle.uefi_tcg.specs.Entries.{Contents}
+use Rattle.uefi_tcg.specs.Logs.{left_over, padding}
 use Rattle.uefi_auditing.specs.Replay.{BankOutcomes}
 use Rattle.uefi_auditing.specs.json.Replay.{banks_json, locality_json, log_json, part_json, replay_json}
 use Rattle.uefi_auditing.proofs.text.Ending.{left_over_at, padding_at}

@@ -2,9 +2,9 @@
 use Rattle.std.proofs.Common.{◌≡◌, ◌∙◌, ℕ, ◌-◌, ◌<◌, List, [], ◌∷◌, ◌++◌, length, drop, ap, append-nil, arith}
 use Rattle.std.proofs.Common.{length-drop, sym}
 use Rattle.std.specs.Prelude.{◌==◌, Bool, true, false, if◌then◌else◌}
-use Rattle.pcr_replay.specs.declared.log.Log.{Log}
-use Rattle.pcr_replay.specs.Entries.{Contents}
-use Rattle.pcr_replay.specs.Logs.{is_padded, left_over, padding}
+use Rattle.uefi_tcg.specs.declared.log.Log.{Log}
+use Rattle.uefi_tcg.specs.Entries.{Contents}
+use Rattle.uefi_tcg.specs.Logs.{is_padded, left_over, padding}
 use Rattle.uefi_auditing.specs.text.Trailing.{line_of_some}
 
 -- Bytes that follow an offset begin there.

@@ -8,8 +8,8 @@ use Rattle.std.specs.declared.alloc.Global.{Global}
 use Rattle.std.specs.declared.string.String.{String}
 use Rattle.uefi_base.specs.Appending.{AppendsText}
 use Rattle.uefi_tcg.specs.v2.Event.{Event}
-use Rattle.pcr_replay.specs.Entries.{Contents, Entry}
-use Rattle.pcr_replay.specs.Logs.{HasContents}
+use Rattle.uefi_tcg.specs.Entries.{Contents, Entry}
+use Rattle.uefi_tcg.specs.Logs.{HasContents}
 use Rattle.uefi_auditing.specs.content.Content.{Content, Says, form_of}
 use Rattle.uefi_auditing.specs.content.Said.{said}
 use Rattle.uefi_auditing.specs.declared.text.LogFile.{LogFile}

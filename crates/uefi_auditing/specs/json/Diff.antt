@@ -5,8 +5,8 @@ use Rattle.std.specs.declared.string.String.{String}
 use Rattle.serde_json.specs.Data.{Data, null, number, unsigned, string, array, object, member, no_members}
 use Rattle.serde_json.specs.View.{items_of}
 use Rattle.uefi_base.specs.Appending.{AppendsText}
-use Rattle.pcr_replay.specs.Entries.{Contents}
-use Rattle.pcr_replay.specs.Logs.{HasContents}
+use Rattle.uefi_tcg.specs.Entries.{Contents}
+use Rattle.uefi_tcg.specs.Logs.{HasContents}
 use Rattle.uefi_auditing.specs.content.Said.{said}
 use Rattle.uefi_auditing.specs.declared.text.LogFile.{LogFile}
 use Rattle.uefi_auditing.specs.diff.Differences.{AreThoseOnly, DifferAt, Numbered, ShowsAll, events_in, pcr_of, type_of}

@@ -3,7 +3,7 @@ use Rattle.std.specs.Prelude.{ℕ, ◌≡◌, ◌+◌, List, [], ◌∷◌, ◌+
 use Rattle.std.specs.declared.alloc.Global.{Global}
 use Rattle.std.specs.declared.string.String.{String}
 use Rattle.uefi_base.specs.Appending.{AppendsText}
-use Rattle.pcr_replay.specs.Entries.{Entry}
+use Rattle.uefi_tcg.specs.Entries.{Entry}
 use Rattle.uefi_auditing.specs.json.Event.{IsEventLine}
 
 -- The text is the lines of these entries, of which the first has this index, each with a line break.

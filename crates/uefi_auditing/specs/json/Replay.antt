@@ -4,10 +4,10 @@ use Rattle.hex.specs.Hex.{encode_lower}
 use Rattle.serde_json.specs.Data.{Data, null, boolean, number, unsigned, string, array, object, member, no_members}
 use Rattle.serde_json.specs.View.{items_of}
 use Rattle.pcr_replay.specs.declared.fault.Undetermined.{Undetermined}
-use Rattle.pcr_replay.specs.declared.log.Log.{Log}
+use Rattle.uefi_tcg.specs.declared.log.Log.{Log}
 use Rattle.pcr_replay.specs.declared.start.Start.{Start}
-use Rattle.pcr_replay.specs.Entries.{Contents}
-use Rattle.pcr_replay.specs.Logs.{left_over, padding}
+use Rattle.uefi_tcg.specs.Entries.{Contents}
+use Rattle.uefi_tcg.specs.Logs.{left_over, padding}
 use Rattle.pcr_replay.specs.Replay.{Outcome}
 use Rattle.uefi_auditing.specs.Replay.{BankOutcomes}
 use Rattle.uefi_auditing.specs.json.Line.{line_of}

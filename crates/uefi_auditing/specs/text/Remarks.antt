@@ -4,7 +4,7 @@ use Rattle.std.specs.Fmt.{decimal}
 use Rattle.pcr_replay.specs.declared.ignored.Ignored.{Ignored}
 use Rattle.pcr_replay.specs.declared.ignored.Ignored.TheVariants.{NoPcr, OtherPcr}
 use Rattle.pcr_replay.specs.declared.start.Start.{Start}
-use Rattle.pcr_replay.specs.Entries.{Entry}
+use Rattle.uefi_tcg.specs.Entries.{Entry}
 use Rattle.pcr_replay.specs.Replay.{why_ignored}
 use Rattle.uefi_auditing.specs.text.Lines.{numbered}
 use Rattle.uefi_auditing.specs.text.Names.{shown_name}

@@ -1,9 +1,9 @@
 -- The lines that say what follows the last event of a log.
 use Rattle.std.specs.Prelude.{ℕ, ◌==◌, Bool, List, [], ◌++◌, length, codes, if◌then◌else◌}
 use Rattle.std.specs.Fmt.{decimal}
-use Rattle.pcr_replay.specs.declared.log.Log.{Log}
-use Rattle.pcr_replay.specs.Entries.{Contents}
-use Rattle.pcr_replay.specs.Logs.{left_over, padding}
+use Rattle.uefi_tcg.specs.declared.log.Log.{Log}
+use Rattle.uefi_tcg.specs.Entries.{Contents}
+use Rattle.uefi_tcg.specs.Logs.{left_over, padding}
 use Rattle.uefi_auditing.specs.text.Names.{shown_name}
 
 -- A log is whole if no bytes are left over.

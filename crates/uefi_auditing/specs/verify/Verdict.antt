@@ -9,7 +9,7 @@ use Rattle.hex.specs.Hex.{encode_upper}
 use Rattle.pcr_replay.specs.declared.bank.Bank.{Bank}
 use Rattle.pcr_replay.specs.declared.fault.Undetermined.{Undetermined}
 use Rattle.pcr_replay.specs.declared.start.Start.{Start}
-use Rattle.pcr_replay.specs.Entries.{Entry}
+use Rattle.uefi_tcg.specs.Entries.{Entry}
 use Rattle.pcr_replay.specs.Replay.{Outcome, outcomes}
 use Rattle.pcr_replay.specs.Views.{value_of}
 use Rattle.uefi_auditing.specs.Replay.{BankOutcomes, replayed}

@@ -5,9 +5,9 @@
 use crate::check::Form;
 use crate::check::summary::{CheckSummary, TypeCounts};
 use crate::json::{line_of, type_json};
-use pcr_replay::LogEvent;
 use serde_json::{Map, Value, put};
 use std::alloc::{AllocError, Global};
+use uefi_tcg::LogEvent;
 
 /// Returns an event that matches in none of its type's forms as one line of JSON, without a line's
 /// end.

@@ -4,9 +4,8 @@
 
 use crate::check::summary::{CheckSummary, TypeCounts};
 use crate::check::{Checked, Form};
-use pcr_replay::LogEvent;
 use std::alloc::AllocError;
-use uefi_tcg::EventType;
+use uefi_tcg::{EventType, LogEvent};
 
 /// Appends a line for an event that matches in none of its type's forms; nothing for another. The
 /// name is that of its log's file, the index is the event's, and the offset is where it starts in

@@ -7,8 +7,8 @@ use crate::diff::lines::push_first;
 use crate::diff::only::push_only;
 use crate::diff::pcr::{NumberedEntry, entries_of, first_difference, numbered_entries};
 use crate::text::LogFile;
-use pcr_replay::laws::one_contents;
 use std::alloc::{AllocError, Global};
+use uefi_tcg::laws::one_contents;
 
 /// How many PCRs are compared: the 24 that a TPM has, and those above as one.
 pub(crate) const COMPARED: u32 = 25;

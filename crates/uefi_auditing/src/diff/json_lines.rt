@@ -13,9 +13,9 @@ use crate::diff::only::those_only;
 use crate::diff::pcr::{ABOVE, NumberedEntry, entries_of, first_difference, numbered_entries};
 use crate::json::{line_of, type_json};
 use crate::text::LogFile;
-use pcr_replay::laws::one_contents;
 use serde_json::{Map, Value, put};
 use std::alloc::{AllocError, Global};
+use uefi_tcg::laws::one_contents;
 
 /// Appends how the events of two logs differ, as JSON: for each PCR whose events differ one line
 /// with an object, those above 23 together. For a PCR whose events are the same there is none.

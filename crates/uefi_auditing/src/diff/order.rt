@@ -3,14 +3,13 @@ ghost use Rattle.std.specs.Ordering.{eq_by_cmp};
 ghost use Rattle.std.specs.Cmp.{eq_by_cmp_equiv, on_equiv, on_per, on_po, on_total, partial_equiv_from_equiv, po};
 ghost use Rattle.std.specs.Cmp.Lexicographic.{slice_cmp};
 ghost use Rattle.uefi_tcg.specs.v2.Views.{digests_of};
-ghost use Rattle.pcr_replay.specs.Entries.{with_sha1};
-ghost use Rattle.pcr_replay.specs.Views.{event_of};
+ghost use Rattle.uefi_tcg.specs.Entries.{with_sha1};
+ghost use Rattle.uefi_tcg.specs.LogViews.{event_of};
 ghost use Rattle.uefi_auditing.specs.private.diff.Order.{content_cmp, digest_cmp, event_cmp, event_cmp_total, kind_cmp};
 
-use pcr_replay::LogEvent;
 use std::cmp::Ordering;
-use uefi_tcg::AlgorithmId;
 use uefi_tcg::v2::PcrEventDigests;
+use uefi_tcg::{AlgorithmId, LogEvent};
 
 /// An event as a key, by which it is sought among others.
 ///

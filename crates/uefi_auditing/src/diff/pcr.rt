@@ -1,12 +1,12 @@
 ghost use Rattle.std.specs.Prelude.{◌≡◌, ◌↔◌, ◌<◌, ◌^◌, length, map, IfOk, IsTrue, MatchOption, option_map};
-ghost use Rattle.pcr_replay.specs.Views.{entries_left, entry_of, event_of};
+ghost use Rattle.uefi_tcg.specs.LogViews.{entries_left, entry_of, event_of};
 ghost use Rattle.uefi_auditing.specs.diff.Differences.{AreNumbered, DifferAt, events_in, is_of, of_pcr};
 ghost use Rattle.uefi_auditing.specs.private.diff.Views.{numbered_of};
 
 use crate::content::{Content, read_content};
 use crate::diff::order::is_same_event;
-use pcr_replay::{LogEntries, LogEntry};
 use std::alloc::{AllocError, Global};
+use uefi_tcg::{LogEntries, LogEntry};
 
 /// The PCR as which those above 23 are taken together.
 pub(crate) const ABOVE: u32 = 24;

@@ -3,10 +3,9 @@ use crate::events::hex_lines::push_hex;
 use crate::events::names::{push_algorithm, push_type};
 use crate::events::said::push_content;
 use crate::text::{LogFile, ShownName};
-use pcr_replay::{LogEntry, LogEvent};
 use std::alloc::{AllocError, Global};
-use uefi_tcg::AlgorithmId;
 use uefi_tcg::v2::PcrEventDigests;
+use uefi_tcg::{AlgorithmId, LogEntry, LogEvent};
 
 /// Appends a block of lines for the header of a log of version 2, and for each event of the log, in
 /// order.

@@ -1,18 +1,18 @@
 ghost use Rattle.std.specs.Prelude.{◌≡◌, ◌++◌, map, IfOk, OnOk};
 ghost use Rattle.serde_json.specs.View.{view};
 ghost use Rattle.uefi_tcg.specs.v2.Views.{digests_of};
-ghost use Rattle.pcr_replay.specs.Entries.{with_sha1};
-ghost use Rattle.pcr_replay.specs.Views.{event_of};
+ghost use Rattle.uefi_tcg.specs.Entries.{with_sha1};
+ghost use Rattle.uefi_tcg.specs.LogViews.{event_of};
 ghost use Rattle.uefi_auditing.specs.json.Algorithm.{algorithm_json};
 ghost use Rattle.uefi_auditing.specs.json.Event.{digest_json, hashed_bank, hashed_banks};
 
 use crate::json::names::algorithm_name;
 use crate::text::bank_name;
-use pcr_replay::{Bank, LogEvent, is_hash_of_data};
+use pcr_replay::{Bank, is_hash_of_data};
 use serde_json::{Value, json};
 use std::alloc::{AllocError, Global};
-use uefi_tcg::AlgorithmId;
 use uefi_tcg::v2::PcrEventDigests;
+use uefi_tcg::{AlgorithmId, LogEvent};
 
 /// Returns the digests of an event as JSON, in order.
 pub(crate) fn digests_json(alloc: Global, event: &LogEvent<'_>) -> Result<Vec<Value>, AllocError>

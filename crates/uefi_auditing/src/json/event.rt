@@ -2,7 +2,7 @@ ghost use Rattle.std.specs.Prelude.{◌≡◌, IfOk, string_bytes};
 ghost use Rattle.hex.specs.Hex.{encode_lower};
 ghost use Rattle.serde_json.specs.Data.{string};
 ghost use Rattle.serde_json.specs.View.{view};
-ghost use Rattle.pcr_replay.specs.Views.{entry_of};
+ghost use Rattle.uefi_tcg.specs.LogViews.{entry_of};
 ghost use Rattle.uefi_auditing.specs.json.Event.{IsEventLine, event_json, type_json};
 ghost use Rattle.uefi_auditing.specs.content.Views.{content_of};
 
@@ -10,10 +10,9 @@ use crate::content::{Content, read_content};
 use crate::json::content::content_json;
 use crate::json::digests::{digests_json, hashed_banks};
 use crate::json::line::line_of;
-use pcr_replay::LogEntry;
 use serde_json::{Map, Value, json, put};
 use std::alloc::{AllocError, Global};
-use uefi_tcg::EventType;
+use uefi_tcg::{EventType, LogEntry};
 
 /// Returns an event as one line of JSON, without a line's end: an object with the name of its log,
 /// the event's index in it, and what the event holds.

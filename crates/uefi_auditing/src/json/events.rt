@@ -1,15 +1,15 @@
 ghost use Rattle.std.specs.Prelude.{◌<◌, ◌^◌, length, OnOk};
-ghost use Rattle.pcr_replay.specs.Entries.{Contents};
-ghost use Rattle.pcr_replay.specs.Logs.{HasContents};
-ghost use Rattle.pcr_replay.specs.Views.{entries_left, entry_of};
+ghost use Rattle.uefi_tcg.specs.Entries.{Contents};
+ghost use Rattle.uefi_tcg.specs.Logs.{HasContents};
+ghost use Rattle.uefi_tcg.specs.LogViews.{entries_left, entry_of};
 ghost use Rattle.uefi_auditing.specs.json.Events.{AppendsEvents};
 ghost use Rattle.uefi_auditing.specs.private.json.Entries.{AppendsEvent};
 
 use crate::json::event::event_line;
 use crate::text::LogFile;
-use pcr_replay::laws::one_contents;
-use pcr_replay::{LogEntries, LogEntry};
 use std::alloc::{AllocError, Global};
+use uefi_tcg::laws::one_contents;
+use uefi_tcg::{LogEntries, LogEntry};
 
 /// Appends the events of a log in order, each as one line of JSON: that of [`event_line`] with the
 /// file's name and the event's index, and a line break.

@@ -1,8 +1,8 @@
 ghost use Rattle.std.specs.Prelude.{◌≡◌, ◌==◌, ◌||◌, ◌-◌, length, map, IfOk, OnOk};
 ghost use Rattle.serde_json.specs.View.{view};
 ghost use Rattle.uefi_base.specs.Appending.{AppendsText};
-ghost use Rattle.pcr_replay.specs.Entries.{Contents};
-ghost use Rattle.pcr_replay.specs.Logs.{HasContents};
+ghost use Rattle.uefi_tcg.specs.Entries.{Contents};
+ghost use Rattle.uefi_tcg.specs.Logs.{HasContents};
 ghost use Rattle.uefi_auditing.specs.Replay.{bank_outcomes_of};
 ghost use Rattle.uefi_auditing.specs.json.Replay.{is_accepted, locality_json, log_json, part_json, replay_line};
 
@@ -10,9 +10,10 @@ use crate::json::bank::banks_json;
 use crate::json::line::line_of;
 use crate::replay::BankPcrs;
 use crate::text::{LogFile, offset_of_last};
-use pcr_replay::{Log, Start};
+use pcr_replay::Start;
 use serde_json::{Map, Value, json, put};
 use std::alloc::{AllocError, Global};
+use uefi_tcg::Log;
 
 /// Appends what a log leads to as one line of JSON: an object, and a line break.
 ///

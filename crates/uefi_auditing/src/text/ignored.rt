@@ -1,14 +1,15 @@
 ghost use Rattle.std.specs.Prelude.{◌<◌, ◌^◌, length, OnOk, Some};
 ghost use Rattle.uefi_base.specs.Appending.{AppendsText};
-ghost use Rattle.pcr_replay.specs.Entries.{Contents};
-ghost use Rattle.pcr_replay.specs.Logs.{HasContents};
-ghost use Rattle.pcr_replay.specs.Views.{entries_left, entry_of};
+ghost use Rattle.uefi_tcg.specs.Entries.{Contents};
+ghost use Rattle.uefi_tcg.specs.Logs.{HasContents};
+ghost use Rattle.uefi_tcg.specs.LogViews.{entries_left, entry_of};
 ghost use Rattle.uefi_auditing.specs.text.Remarks.{entry_lines, ignored_line, ignored_lines};
 
 use crate::text::shown::ShownName;
-use pcr_replay::laws::one_contents;
-use pcr_replay::{Ignored, Log, LogEntries, LogEntry, why_ignored};
+use pcr_replay::{Ignored, why_ignored};
 use std::alloc::{AllocError, Allocator};
+use uefi_tcg::laws::one_contents;
+use uefi_tcg::{Log, LogEntries, LogEntry};
 
 /// Appends a line for each event of a log that has no effect on any PCR and should have: its index,
 /// its offset, and why ([`pcr_replay::why_ignored`]).

@@ -1,13 +1,13 @@
 ghost use Rattle.std.specs.Prelude.{◌≡◌, ◌-◌, ◌==◌, length, IfOk, OnOk};
 ghost use Rattle.uefi_base.specs.Appending.{AppendsText};
-ghost use Rattle.pcr_replay.specs.Entries.{Contents};
-ghost use Rattle.pcr_replay.specs.Logs.{HasContents, left_over};
+ghost use Rattle.uefi_tcg.specs.Entries.{Contents};
+ghost use Rattle.uefi_tcg.specs.Logs.{HasContents, left_over};
 ghost use Rattle.uefi_auditing.specs.text.Trailing.{is_whole, left_over_line, left_over_lines, padding_line, padding_lines};
 
 use crate::text::LogFile;
 use crate::text::shown::ShownName;
-use pcr_replay::Log;
 use std::alloc::{AllocError, Allocator};
+use uefi_tcg::Log;
 
 /// Appends the line that says of a log that it has bytes left over after its last event, with their
 /// count and offset. Returns whether it has none, so that there is no line.

@@ -1,10 +1,10 @@
-use pcr_replay::{LastEntry, Log};
 use std::alloc::Global;
 use std::test::Fail;
 use test_support::{bytes, same_text};
 use uefi_auditing::check::{
     CheckSummary, Checked, check, check_summary_line, mismatch_line, push_check, push_check_summary,
 };
+use uefi_tcg::{LastEntry, Log};
 
 /// A separator that matches and one that doesn't, a command of GRUB, a file of GRUB by its name, a
 /// section of systemd-stub, and an event of a type without a name.

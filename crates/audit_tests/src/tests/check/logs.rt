@@ -1,8 +1,8 @@
-use pcr_replay::{LastEntry, Log};
 use std::alloc::Global;
 use std::test::Fail;
 use test_support::each_shows;
 use uefi_auditing::check::{Checked, Form, check};
+use uefi_tcg::{LastEntry, Log};
 
 /// Logs, and a word for each of their events: the form in which its digests match, `none` if it has
 /// none, and `outside` if the log doesn't have what was measured. The digests are those of another

@@ -1,8 +1,8 @@
-use pcr_replay::{LastEntry, Log};
 use std::alloc::Global;
 use std::test::Fail;
 use test_support::each_shows;
 use uefi_auditing::content::{push_said, read_content};
+use uefi_tcg::{LastEntry, Log};
 
 /// Logs of one event with the last entry at their end, and what its data say in a few words.
 const SAID: [[&str; 2]; 22] = [

@@ -1,9 +1,9 @@
-use pcr_replay::{LastEntry, Log};
 use std::alloc::Global;
 use std::test::Fail;
 use test_support::{bytes, same_text};
 use uefi_auditing::diff::push_differences_json;
 use uefi_auditing::text::LogFile;
+use uefi_tcg::{LastEntry, Log};
 
 /// Two logs, and the lines of JSON of how they differ.
 struct Row {

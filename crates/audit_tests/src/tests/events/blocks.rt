@@ -1,9 +1,9 @@
-use pcr_replay::{LastEntry, Log};
 use std::alloc::Global;
 use std::test::Fail;
 use test_support::each_shows;
 use uefi_auditing::events::push_event_blocks;
 use uefi_auditing::text::LogFile;
+use uefi_tcg::{LastEntry, Log};
 
 /// Logs with the last entry at their end, and the blocks of their events.
 const LOGS: [[&str; 2]; 34] = [

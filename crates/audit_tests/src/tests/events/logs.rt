@@ -1,8 +1,8 @@
-use pcr_replay::{LastEntry, Log};
 use std::alloc::Global;
 use std::test::Fail;
 use test_support::each_shows;
 use uefi_auditing::json::event_line;
+use uefi_tcg::{LastEntry, Log};
 
 /// Logs with the last entry at their end, and the lines of their events.
 const LOGS: [[&str; 2]; 12] = [

@@ -1,9 +1,9 @@
 use super::logs::{outcome_text, pcrs_text};
-use pcr_replay::{Bank, LastEntry, Log, is_active, replay};
+use pcr_replay::{Bank, is_active, replay};
 use std::alloc::Global;
 use std::test::Fail;
 use test_support::each_shows;
-use uefi_tcg::PcrIndex;
+use uefi_tcg::{LastEntry, Log, PcrIndex};
 
 /// Logs, the banks that are active, and PCR 1 of SHA-256, by which an event has no digest of an
 /// inactive bank.

@@ -1,7 +1,7 @@
-use pcr_replay::{LastEntry, Log};
 use std::alloc::Global;
 use std::test::Fail;
 use test_support::{each_reads, each_shows};
+use uefi_tcg::{LastEntry, Log};
 
 /// Logs with an unknown last entry: how many events they have, and how many bytes are padding and
 /// left over.

@@ -1,8 +1,8 @@
-use pcr_replay::{Bank, LastEntry, Log, PcrValue, Undetermined, replay};
+use pcr_replay::{Bank, PcrValue, Undetermined, replay};
 use std::alloc::{AllocError, Global};
 use std::test::Fail;
 use test_support::each_shows;
-use uefi_tcg::PcrIndex;
+use uefi_tcg::{LastEntry, Log, PcrIndex};
 
 /// Logs, and what PCRs 0, 1 and 17 of SHA-1 hold: a value, or the index, the offset and the
 /// fault of the event by which the PCR is undetermined.

@@ -1,10 +1,10 @@
 use super::logs::outcome_text;
-use pcr_replay::{Bank, LastEntry, Log, Pcrs, replay};
+use pcr_replay::{Bank, Pcrs, replay};
 use std::alloc::Global;
 use std::test::Fail;
 use test_support::samples::MACHINE_LOG;
 use test_support::{bytes, same_text};
-use uefi_tcg::PcrIndex;
+use uefi_tcg::{LastEntry, Log, PcrIndex};
 
 /// The PCRs of SHA-1 that `tpm2_eventlog` 5.4 prints for the log of a machine.
 const MACHINE_SHA1: [(u32, &str); 9] = [

@@ -1,7 +1,8 @@
-use pcr_replay::{LastEntry, Log, Start, startup_locality};
+use pcr_replay::{Start, startup_locality};
 use std::alloc::Global;
 use std::test::Fail;
 use test_support::each_shows;
+use uefi_tcg::{LastEntry, Log};
 
 /// Logs, the locality that they state, the one at which PCR 0 starts, and the event that
 /// contradicts it.

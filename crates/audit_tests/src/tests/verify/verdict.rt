@@ -1,9 +1,10 @@
-use pcr_replay::{LastEntry, Log, Start};
+use pcr_replay::Start;
 use std::alloc::Global;
 use std::test::Fail;
 use test_support::{bytes, same_text};
 use uefi_auditing::replay::replay_banks;
 use uefi_auditing::verify::{Verdict, held_banks, held_in_text, push_verdict};
+use uefi_tcg::{LastEntry, Log};
 
 /// A log, the locality at which PCR 0 starts, and the PCRs that a TPM held.
 struct Row {

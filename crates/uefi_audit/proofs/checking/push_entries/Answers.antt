@@ -1,6 +1,6 @@
 use Rattle.std.proofs.Common.{List, ap, arith, length, subst}
-use Rattle.pcr_replay.specs.Entries.{Entry}
-use Rattle.pcr_replay.specs.Views.{entries_left, entry_of}
+use Rattle.uefi_tcg.specs.Entries.{Entry}
+use Rattle.uefi_tcg.specs.LogViews.{entries_left, entry_of}
 use Rattle.uefi_audit.specs.CheckReport.{TellsWhetherAllMatch}
 use Rattle.uefi_audit.proofs.Matching.{all_told, none_yet, one_more}
 use Rattle.uefi_audit.proofs.checking.push_entries.Goals as goal

@@ -1,5 +1,5 @@
 use Rattle.std.proofs.Common.{◌≡◌, ◌+◌, length}
-use Rattle.pcr_replay.specs.Views.{entries_left}
+use Rattle.uefi_tcg.specs.LogViews.{entries_left}
 use Rattle.uefi_audit.proofs.Matching.{MatchSoFar}
 use Rattle.uefi_audit.proofs.checking.push_entries.Given as goal
 

@@ -1,5 +1,5 @@
 use Rattle.std.proofs.Common.{subst, ⊎_elim}
-use Rattle.pcr_replay.specs.Views.{entry_of}
+use Rattle.uefi_tcg.specs.LogViews.{entry_of}
 use Rattle.uefi_auditing.specs.Check.{IsChecked}
 use Rattle.uefi_audit.proofs.Matching.{one_is_outside, one_matches, one_mismatches}
 use Rattle.uefi_audit.proofs.checking.push_entry.Goals as goal

@@ -1,7 +1,7 @@
 use Rattle.std.proofs.Common.{subst}
 use Rattle.std.specs.Prelude.{IfOk}
-use Rattle.pcr_replay.specs.Entries.{Contents}
-use Rattle.pcr_replay.specs.Views.{contents_left}
+use Rattle.uefi_tcg.specs.Entries.{Contents}
+use Rattle.uefi_tcg.specs.LogViews.{contents_left}
 use Rattle.uefi_audit.specs.CheckReport.{TellsWhetherAllMatch}
 use Rattle.uefi_audit.proofs.checking.push_events.Goals as goal
 

@@ -1,7 +1,7 @@
 use Rattle.std.proofs.Common.{take}
 use Rattle.uefi_base.specs.Appending.{AppendsText}
-use Rattle.pcr_replay.specs.Entries.{Contents}
-use Rattle.pcr_replay.specs.Logs.{HasContents}
+use Rattle.uefi_tcg.specs.Entries.{Contents}
+use Rattle.uefi_tcg.specs.Logs.{HasContents}
 use Rattle.uefi_audit.specs.Notes.{inactive_lines}
 use Rattle.uefi_audit.proofs.notes.push_inactive.Given as goal
 

@@ -1,5 +1,5 @@
 use Rattle.std.proofs.Common.{◌≡◌, ◌∙◌, ap, inr, subst}
-use Rattle.pcr_replay.specs.Views.{event_of}
+use Rattle.uefi_tcg.specs.LogViews.{event_of}
 use Rattle.uefi_auditing.specs.Check.{MatchesNoneOf, forms_of}
 use Rattle.uefi_auditing.proofs.Outside.{not_outside, outside_by_type}
 use Rattle.uefi_auditing.proofs.check.check.Goals as goal

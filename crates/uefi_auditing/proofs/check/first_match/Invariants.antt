@@ -1,5 +1,5 @@
 use Rattle.std.proofs.Common.{take}
-use Rattle.pcr_replay.specs.Views.{event_of}
+use Rattle.uefi_tcg.specs.LogViews.{event_of}
 use Rattle.uefi_auditing.specs.Check.{MatchesNoneOf}
 use Rattle.uefi_auditing.proofs.check.first_match.Given as goal
 

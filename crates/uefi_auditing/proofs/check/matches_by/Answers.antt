@@ -1,5 +1,5 @@
 use Rattle.std.proofs.Common.{◌↔◌, IsTrue, subst, sym}
-use Rattle.pcr_replay.specs.Views.{event_of}
+use Rattle.uefi_tcg.specs.LogViews.{event_of}
 use Rattle.uefi_auditing.specs.Check.{MatchesBy}
 use Rattle.uefi_auditing.specs.declared.check.form.Form.{Form}
 use Rattle.uefi_auditing.proofs.Matching.{by_closed, by_data}

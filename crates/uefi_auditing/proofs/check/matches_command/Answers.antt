@@ -1,4 +1,4 @@
-use Rattle.pcr_replay.specs.Views.{event_of}
+use Rattle.uefi_tcg.specs.LogViews.{event_of}
 use Rattle.uefi_auditing.proofs.Matching.{by_command, by_no_command}
 use Rattle.uefi_auditing.proofs.check.matches_command.Goals as goal
 

@@ -1,5 +1,5 @@
 use Rattle.std.proofs.Common.{◌≡◌, ◌∙◌, ap, sym}
-use Rattle.pcr_replay.specs.Views.{event_of}
+use Rattle.uefi_tcg.specs.LogViews.{event_of}
 use Rattle.uefi_auditing.specs.Check.{widened}
 use Rattle.uefi_auditing.proofs.Matching.{by_narrowed, by_not_narrowed}
 use Rattle.uefi_auditing.proofs.check.matches_narrowed.Goals as goal

@@ -1,4 +1,4 @@
-use Rattle.pcr_replay.specs.Views.{event_of}
+use Rattle.uefi_tcg.specs.LogViews.{event_of}
 use Rattle.uefi_tcg.specs.content.Views.{variable_of}
 use Rattle.uefi_auditing.proofs.Matching.{by_no_value, by_value}
 use Rattle.uefi_auditing.proofs.check.matches_value.Goals as goal

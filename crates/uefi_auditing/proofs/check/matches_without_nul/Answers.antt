@@ -1,4 +1,4 @@
-use Rattle.pcr_replay.specs.Views.{event_of}
+use Rattle.uefi_tcg.specs.LogViews.{event_of}
 use Rattle.uefi_auditing.proofs.Matching.{by_no_text, by_text}
 use Rattle.uefi_auditing.proofs.check.matches_without_nul.Goals as goal
 

@@ -1,6 +1,6 @@
 use Rattle.std.proofs.Common.{◌≡◌, map, take}
-use Rattle.pcr_replay.specs.Entries.{Contents}
-use Rattle.pcr_replay.specs.Logs.{HasContents}
+use Rattle.uefi_tcg.specs.Entries.{Contents}
+use Rattle.uefi_tcg.specs.Logs.{HasContents}
 use Rattle.uefi_auditing.specs.Replay.{bank_outcomes_of, replayed}
 use Rattle.uefi_auditing.proofs.replay.replay_banks.Given as goal
 

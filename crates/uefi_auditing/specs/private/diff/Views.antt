@@ -1,5 +1,5 @@
 -- What values stand for: words that contracts name them by.
-use Rattle.pcr_replay.specs.Views.{entry_of, event_of}
+use Rattle.uefi_tcg.specs.LogViews.{entry_of, event_of}
 use Rattle.uefi_tcg.specs.v2.Event.{Event}
 use Rattle.uefi_auditing.specs.content.Views.{content_of}
 use Rattle.uefi_auditing.specs.diff.Differences.{Numbered}

@@ -1,7 +1,7 @@
 use Rattle.std.proofs.Common.{map, subst, sym}
 use Rattle.std.proofs.lemmas.Result.{IfOk-weaker}
-use Rattle.pcr_replay.specs.Entries.{Contents}
-use Rattle.pcr_replay.specs.Views.{contents_left, entries_left}
+use Rattle.uefi_tcg.specs.Entries.{Contents}
+use Rattle.uefi_tcg.specs.LogViews.{contents_left, entries_left}
 use Rattle.uefi_auditing.specs.diff.Differences.{AreNumbered}
 use Rattle.uefi_auditing.specs.private.diff.Views.{numbered_of}
 use Rattle.uefi_auditing.proofs.diff.differences.push_differences.Goals as goal

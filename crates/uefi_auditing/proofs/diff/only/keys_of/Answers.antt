@@ -1,5 +1,5 @@
 use Rattle.std.proofs.Common.{◌∙◌, List, ap, arith, map, subst}
-use Rattle.pcr_replay.specs.Views.{event_of}
+use Rattle.uefi_tcg.specs.LogViews.{event_of}
 use Rattle.uefi_auditing.specs.declared.diff.pcr.NumberedEntry.{NumberedEntry}
 use Rattle.uefi_auditing.specs.private.diff.Index.{AreKeysOf}
 use Rattle.uefi_auditing.specs.private.diff.Views.{numbered_of}

@@ -1,6 +1,6 @@
 use Rattle.std.proofs.Common.{◌≡◌, ◌∙◌, [], ap, append-nil, false, inl, inr, refl, string_bytes, subst, sym, true}
 use Rattle.std.proofs.lemmas.Result.{on_ok_weaker}
-use Rattle.pcr_replay.specs.Views.{event_of}
+use Rattle.uefi_tcg.specs.LogViews.{event_of}
 use Rattle.uefi_tcg.specs.v2.Event.{Event}
 use Rattle.uefi_auditing.specs.diff.Differences.{IsAmong, only_line}
 use Rattle.uefi_auditing.specs.private.diff.Views.{numbered_of}

@@ -1,6 +1,6 @@
 use Rattle.std.proofs.Common.{◌≡◌, ◌∙◌, [], ◌∷◌, ◌++◌, ap, map, rules}
 use Rattle.std.proofs.lemmas.List.{map-append}
-use Rattle.pcr_replay.specs.Views.{event_of}
+use Rattle.uefi_tcg.specs.LogViews.{event_of}
 use Rattle.uefi_auditing.specs.private.diff.Views.{numbered_of}
 use Rattle.uefi_auditing.proofs.diff.ThoseOnly.{known, new_one}
 use Rattle.uefi_auditing.proofs.diff.only.push_if_only.Goals as goal

@@ -1,4 +1,4 @@
-use Rattle.pcr_replay.specs.Views.{event_of}
+use Rattle.uefi_tcg.specs.LogViews.{event_of}
 use Rattle.uefi_auditing.specs.private.diff.Order.{content_cmp, event_cmp, kind_cmp}
 use Rattle.uefi_auditing.proofs.diff.Orders.{first_is, second_is}
 use Rattle.uefi_auditing.proofs.diff.order.compare.Goals as goal

@@ -1,6 +1,6 @@
 use Rattle.std.proofs.Common.{◌∙◌, ap₂}
 use Rattle.std.specs.Ordering.{nat_cmp}
-use Rattle.pcr_replay.specs.Views.{event_of}
+use Rattle.uefi_tcg.specs.LogViews.{event_of}
 use Rattle.uefi_auditing.proofs.diff.Orders.{first_is, second_is}
 use Rattle.uefi_auditing.proofs.diff.order.compare_kinds.Goals as goal
 

@@ -1,6 +1,6 @@
 use Rattle.std.proofs.Common.{◌∙◌}
 use Rattle.uefi_tcg.specs.v2.Views.{digests_of}
-use Rattle.pcr_replay.specs.Entries.{with_sha1}
+use Rattle.uefi_tcg.specs.Entries.{with_sha1}
 use Rattle.uefi_auditing.proofs.diff.Orders.{reversed}
 use Rattle.uefi_auditing.proofs.diff.order.compare_to_sha1.Goals as goal
 

@@ -1,4 +1,4 @@
-use Rattle.pcr_replay.specs.Views.{event_of}
+use Rattle.uefi_tcg.specs.LogViews.{event_of}
 use Rattle.uefi_auditing.proofs.diff.Orders.{told_by_order}
 use Rattle.uefi_auditing.proofs.diff.order.is_same_event.Goals as goal
 

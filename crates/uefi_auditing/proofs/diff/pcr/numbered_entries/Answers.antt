@@ -1,6 +1,6 @@
 use Rattle.std.proofs.Common.{◌≡◌, [], List, ap, arith, length, map, rules, subst}
-use Rattle.pcr_replay.specs.Entries.{Entry}
-use Rattle.pcr_replay.specs.Views.{entries_left, entry_of}
+use Rattle.uefi_tcg.specs.Entries.{Entry}
+use Rattle.uefi_tcg.specs.LogViews.{entries_left, entry_of}
 use Rattle.uefi_auditing.specs.content.Views.{content_of}
 use Rattle.uefi_auditing.specs.diff.Differences.{AreNumbered}
 use Rattle.uefi_auditing.specs.private.diff.Views.{numbered_of}

@@ -1,5 +1,5 @@
 use Rattle.std.proofs.Common.{◌≡◌, ◌+◌, length, map}
-use Rattle.pcr_replay.specs.Views.{entries_left}
+use Rattle.uefi_tcg.specs.LogViews.{entries_left}
 use Rattle.uefi_auditing.specs.private.diff.Views.{numbered_of}
 use Rattle.uefi_auditing.proofs.diff.Numbering.{NumberedSoFar}
 use Rattle.uefi_auditing.proofs.diff.pcr.numbered_entries.Given as goal

@@ -1,7 +1,7 @@
 use Rattle.std.proofs.Common.{◌≡◌, map, take}
 use Rattle.std.specs.List.{flat_map}
 use Rattle.serde_json.specs.View.{view}
-use Rattle.pcr_replay.specs.Views.{event_of}
+use Rattle.uefi_tcg.specs.LogViews.{event_of}
 use Rattle.uefi_auditing.specs.Replay.{all_banks}
 use Rattle.uefi_auditing.specs.json.Event.{hashed_bank}
 use Rattle.uefi_auditing.proofs.json.digests.hashed_banks.Given as goal

@@ -1,6 +1,6 @@
 use Rattle.std.proofs.Common.{◌≡◌, string_bytes, subst, false}
 use Rattle.std.proofs.lemmas.Result.{IfOk-weaker}
-use Rattle.pcr_replay.specs.Views.{entry_of}
+use Rattle.uefi_tcg.specs.LogViews.{entry_of}
 use Rattle.serde_json.specs.Written.{has_float}
 use Rattle.uefi_auditing.specs.content.Views.{content_of}
 use Rattle.uefi_auditing.specs.json.Line.{line_of}

@@ -1,6 +1,6 @@
 use Rattle.std.proofs.Common.{List, ap, arith, length, string_bytes, subst}
-use Rattle.pcr_replay.specs.Entries.{Entry}
-use Rattle.pcr_replay.specs.Views.{entries_left, entry_of}
+use Rattle.uefi_tcg.specs.Entries.{Entry}
+use Rattle.uefi_tcg.specs.LogViews.{entries_left, entry_of}
 use Rattle.uefi_auditing.specs.json.Events.{AppendsEvents}
 use Rattle.uefi_auditing.proofs.json.EventLines.{all_lines, none_yet, one_more}
 use Rattle.uefi_auditing.proofs.json.events.push_entries.Goals as goal

@@ -1,5 +1,5 @@
 use Rattle.std.proofs.Common.{◌≡◌, ◌+◌, length, string_bytes}
-use Rattle.pcr_replay.specs.Views.{entries_left}
+use Rattle.uefi_tcg.specs.LogViews.{entries_left}
 use Rattle.uefi_auditing.proofs.json.EventLines.{LinesSoFar}
 use Rattle.uefi_auditing.proofs.json.events.push_entries.Given as goal
 

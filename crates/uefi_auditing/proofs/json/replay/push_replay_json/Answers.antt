@@ -1,7 +1,7 @@
 use Rattle.std.proofs.Common.{◌∙◌, ◌++◌, ap, map, string_bytes}
 use Rattle.std.specs.Prelude.{codes}
 use Rattle.serde_json.specs.Written.{has_float}
-use Rattle.pcr_replay.specs.Logs.{left_over, padding}
+use Rattle.uefi_tcg.specs.Logs.{left_over, padding}
 use Rattle.uefi_auditing.specs.Replay.{bank_outcomes_of}
 use Rattle.uefi_auditing.specs.json.Line.{line_of}
 use Rattle.uefi_auditing.specs.json.Replay.{is_accepted}

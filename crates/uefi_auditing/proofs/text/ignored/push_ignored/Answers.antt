@@ -1,7 +1,7 @@
 use Rattle.std.proofs.Common.{◌≡◌, ◌++◌, string_bytes, subst}
 use Rattle.std.specs.Prelude.{OnOk}
-use Rattle.pcr_replay.specs.Entries.{Contents}
-use Rattle.pcr_replay.specs.Views.{contents_left}
+use Rattle.uefi_tcg.specs.Entries.{Contents}
+use Rattle.uefi_tcg.specs.LogViews.{contents_left}
 use Rattle.uefi_auditing.specs.text.Remarks.{ignored_lines}
 use Rattle.uefi_auditing.proofs.text.ignored.push_ignored.Goals as goal
 

@@ -1,6 +1,6 @@
 use Rattle.std.proofs.Common.{◌≡◌, ◌++◌, List, ap, arith, length, string_bytes, subst}
-use Rattle.pcr_replay.specs.Entries.{Entry}
-use Rattle.pcr_replay.specs.Views.{entries_left, entry_of}
+use Rattle.uefi_tcg.specs.Entries.{Entry}
+use Rattle.uefi_tcg.specs.LogViews.{entries_left, entry_of}
 use Rattle.uefi_auditing.specs.text.Remarks.{entry_lines, ignored_lines}
 use Rattle.uefi_auditing.proofs.text.Lines.{item_appended, items_appended}
 use Rattle.uefi_auditing.proofs.text.ignored.push_of_entries.Goals as goal

@@ -1,5 +1,5 @@
 use Rattle.std.proofs.Common.{◌≡◌, ◌+◌, ◌++◌, length, string_bytes}
-use Rattle.pcr_replay.specs.Views.{entries_left}
+use Rattle.uefi_tcg.specs.LogViews.{entries_left}
 use Rattle.uefi_auditing.specs.text.Lines.{numbered}
 use Rattle.uefi_auditing.specs.text.Remarks.{entry_lines, ignored_lines}
 use Rattle.uefi_auditing.proofs.text.ignored.push_of_entries.Given as goal
