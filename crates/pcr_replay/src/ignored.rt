@@ -2,10 +2,9 @@ ghost use Rattle.std.specs.Prelude.{◌≡◌};
 ghost use Rattle.pcr_replay.specs.Replay.{why_ignored};
 ghost use Rattle.uefi_tcg.specs.LogViews.{event_of};
 
-use crate::event::LogEvent;
 use crate::pcrs::PCR_COUNT;
 use crate::start::locality_in;
-use uefi_tcg::EventType;
+use uefi_tcg::{EventType, LogEvent};
 
 /// Why an event has no effect on any PCR, and should have.
 #[derive(Clone, Copy, PartialEq, Eq, Debug, Drop)]
