@@ -1,6 +1,7 @@
 mod capabilities;
 mod content;
 mod iterators;
+mod log;
 mod machine_log;
 mod names;
 mod texts;

@@ -1,7 +1,6 @@
 //! The PCRs that a log leads to, how PCR 0 starts, and where a log ends.
 
 mod banks;
-mod ends;
 mod logs;
 mod machine_log;
 mod starts;
