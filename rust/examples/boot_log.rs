@@ -1,17 +1,18 @@
-//! Prints the SHA-256 digests of a boot log by register: `boot_log FILE`, on Linux over
+//! Prints the SHA-256 digests of a boot log by PCR: `boot_log FILE`, on Linux over
 //! `/sys/kernel/security/tpm0/binary_bios_measurements`.
 
-use uefi_formats::proto::tcg::{AlgorithmId, v2::EventLog};
+use uefi_formats::proto::tcg::{AlgorithmId, LastEntry, Log};
 
 fn main() -> Result<(), Box<dyn std::error::Error>> {
-    let file = std::env::args_os().nth(1).ok_or("usage: boot_log FILE")?;
-    let bytes = std::fs::read(file)?;
-    // Without a last entry from firmware, every whole event counts.
-    let log = EventLog::new(Some(&bytes), Some(bytes.len()), false);
-    for event in log.iter() {
-        if let Some(digest) = event.digest(AlgorithmId::SHA256) {
-            let hex: String = digest.iter().map(|byte| format!("{byte:02x}")).collect();
-            println!("{:>2} {hex}", event.pcr_index().0);
+    let bytes = std::fs::read(std::env::args_os().nth(1).ok_or("usage: boot_log FILE")?)?;
+    // A log that is cut or broken is an error.
+    let log = Log::read(&bytes, LastEntry::Unknown)?;
+    for entry in log.entries() {
+        for (algorithm, digest) in entry.event.digests() {
+            if algorithm == AlgorithmId::SHA256 {
+                let hex: String = digest.iter().map(|byte| format!("{byte:02x}")).collect();
+                println!("{:>2} {hex}", entry.event.pcr_index().0);
+            }
         }
     }
     Ok(())

@@ -1,12 +1,11 @@
 //! The PCRs of a TPM that an event log of measured boot leads to.
 //!
-//! Begin with [`Log::new`], which takes a log's bytes and what is known of its last entry, and with
-//! [`replay`], which returns what the 24 PCRs of a [`Bank`] hold: each a value, or the first event
-//! by which it is undetermined. [`Log::entries`] returns the events, each with its offset,
-//! [`Log::padding`] the padding after the last one, and [`Log::left_over`] other bytes after it.
+//! Begin with [`uefi_tcg::Log::read`], which takes a log's bytes and what is known of its last entry,
+//! and with [`replay`], which returns what the 24 PCRs of a [`Bank`] hold: each a value, or the first
+//! event by which it is undetermined.
 //!
-//! The contracts speak of the one list of events that a log has (`specs/Logs.antt`), of what the
-//! PCRs start with (`specs/Start.antt`), and of what each event leaves in its PCR
+//! The contracts speak of the one list of events that a log has (`uefi_tcg`), of what the PCRs start
+//! with (`specs/Start.antt`), and of what each event leaves in its PCR
 //! (`specs/Replay.antt`). Nothing here allocates memory.
 #![tactic(auto)]
 

@@ -10,7 +10,7 @@ PARAMETERS = {"[u8]": ("Bytes", "as_slice"), "mut [u8]": ("Buffer", "into_slice"
 # What the hash functions and PCR replay have beside.
 BELOW = [Rule(before, after) for before, after in [
     ('use std::convert::AsSlice;', ''), ('AsSlice<u8>', 'AsRef<[u8]>'), ('data.as_slice()', 'data.as_ref()'),
-    ('use std::alloc::AllocError;', ''), ('one_contents();', ''), ('#[cfg(test)] mod tests;', ''),
+    ('use std::alloc::AllocError;', ''), ('#[cfg(test)] mod tests;', ''),
 ]]
 EXPORTS = [Rule('#[unsafe(no_mangle)]', ''), Rule('pub extern "C" fn', 'pub fn')]
 

@@ -13,7 +13,7 @@ GHOST = rules([
     ("#![tactic $x]", ""), ("#[tactic $x]", ""), ("#[cycle]", ""), ("#[derive(Drop)]", ""), ("pub mod laws;", ""),
     ("use std::marker::Model;", ""), ("impl Model for $$type { }", ""), ("impl<$a> Model for $$type { }", ""),
     ("(Drop, $next", "($next"), (", Drop, ", ", "), (", Drop)", ")"), (": Drop +", ":"), ("+ Drop", ""), (": Drop", ""),
-    (", laws,", ","), (", laws}", "}"), ("{laws, $next", "{$next"), ("use $a::laws;", ""),
+    (", laws,", ","), (", laws}", "}"), ("{laws, $next", "{$next"), ("use $a::laws;", ""), ("one_contents();", ""),
 ])
 RUST = rules([
     ("fmt::Formatter<W>", "fmt::Formatter<'_>"),

@@ -19,6 +19,11 @@
 pub use self::algorithm_id::AlgorithmId;
 pub use self::event_type::EventType;
 pub use self::hash_algorithm::HashAlgorithm;
+pub use self::log::{LastEntry, Log};
+pub use self::log_entries::{LogEntries, LogEntry};
+pub use self::log_error::LogError;
+pub use self::log_event::LogEvent;
+pub use self::log_event_digests::LogEventDigests;
 pub use self::pcr_index::PcrIndex;
 
 mod algorithm_id;
@@ -26,6 +31,12 @@ pub mod content;
 mod event_type;
 mod hash_algorithm;
 mod keeping;
+mod log;
+mod log_entries;
+mod log_error;
+mod log_event;
+mod log_event_digests;
+mod padding;
 mod pcr_index;
 pub mod v1;
 pub mod v2;

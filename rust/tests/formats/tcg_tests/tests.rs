@@ -3,6 +3,7 @@
 mod capabilities;
 mod content;
 mod iterators;
+mod log;
 mod machine_log;
 mod names;
 mod texts;

@@ -11,11 +11,8 @@
 
 pub use self::bank::Bank;
 pub use self::digest::{has_digest, is_hash_of, is_hash_of_data};
-pub use self::entries::{LogEntries, LogEntry};
-pub use self::event::LogEvent;
 pub use self::fault::{Fault, Undetermined};
 pub use self::ignored::{Ignored, why_ignored};
-pub use self::log::{LastEntry, Log};
 pub use self::pcrs::{PCR_COUNT, Pcrs};
 pub use self::replaying::{has_measured, is_active, replay, replay_from};
 pub use self::start::{Start, locality_in, startup_locality, stated_locality};
@@ -23,13 +20,9 @@ pub use self::value::PcrValue;
 
 mod bank;
 mod digest;
-mod entries;
-mod event;
 mod fault;
 mod hashing;
 mod ignored;
-mod log;
-mod padding;
 mod pcrs;
 mod replaying;
 mod start;
