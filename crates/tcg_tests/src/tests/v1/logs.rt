@@ -121,3 +121,35 @@ fn a_log_without_bytes_has_no_event(rt: HostRuntime) -> Result<(), Fail> {
     same("events", &log.iter().count(), &0)?;
     same("the one is truncated", &truncated, &[true, false])
 }
+
+/// Bytes, a last entry, and the length of the rest of that log's iterator before the first event.
+const RESTS: [(Option<&str>, Option<usize>, usize); 6] = [
+    (Some(LOG1), Some(34), 82),
+    (Some(LOG1), Some(1), 82),
+    (Some(LOG1), None, 0),
+    (Some(""), Some(0), 0),
+    (None, Some(34), 0),
+    (None, None, 0),
+];
+
+/// Checks a row of `RESTS`.
+fn check_rest(
+    alloc: Global,
+    row: Option<&str>,
+    last_entry: Option<usize>,
+    rest: usize,
+) -> Result<(), Fail> {
+    let text = row.unwrap_or("");
+    let input = bytes(alloc, text)?;
+    let input = row.map(|_| input.as_slice());
+    let events = EventLog::new(input, last_entry, false).iter();
+    same(text, &(events.offset(), events.rest().len()), &(0, rest))
+}
+
+#[test]
+fn an_iterator_without_bytes_or_last_entry_has_no_rest(rt: HostRuntime) -> Result<(), Fail> {
+    for &(row, last_entry, rest) in &RESTS {
+        check_rest(rt.alloc(), row, last_entry, rest)?;
+    }
+    Ok(())
+}
