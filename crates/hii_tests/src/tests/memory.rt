@@ -7,17 +7,18 @@ use std::test::Fail;
 use test_support::{Refusing, holds, in_turn, same, same_text, takes_memory, without_request};
 use uefi_hii::{ConfigurationString, MultiConfigurationStringIter, ParseError, parse_all};
 
-/// Returns whether the name in hex is the driver's, or `None` if memory ran out.
-fn is_driver<A: Allocator + Copy>(alloc: A, text: &str) -> Option<bool> {
+/// Returns whether the text in hex spells the name, or `None` if memory ran out.
+fn spells<A: Allocator + Copy>(alloc: A, text: &str, name: &str) -> Option<bool> {
     match ConfigurationString::parse_string_from_hex(alloc, text).ok()? {
-        Some(name) => Some(name.as_str() == "ISCSI_CONFIG_IFR_NVDATA"),
+        Some(found) => Some(found.as_str() == name),
         None => Some(false),
     }
 }
 
 #[test]
 fn a_name_is_read_or_memory_was_refused(rt: HostRuntime) -> Result<(), Fail> {
-    takes_memory(rt.alloc(), &true, |heap| is_driver(heap, ISCSI_NAME))
+    let name = "ISCSI_CONFIG_IFR_NVDATA";
+    takes_memory(rt.alloc(), &true, |heap| spells(heap, ISCSI_NAME, name))
 }
 
 /// Returns the line of the item that `from_str` gives, or `None` if memory ran out.
@@ -26,13 +27,17 @@ fn first_line<A: Allocator + Copy>(heap: A, alloc: Global, text: &str) -> Option
 }
 
 /// Texts, as `text_of` has them, and all their items.
-const TEXTS: [(&str, &str); 4] = [
+const TEXTS: [(&str, &str); 5] = [
     (ISCSI_TWICE, ISCSI_TWICE_ITEMS),
     (ISCSI_ALTERNATIVES, ISCSI_ALTERNATIVES_ITEMS),
     (KEPT_PAIRS, KEPT_PAIRS_ITEMS),
     (
         "GUID=00&@&OFFSET=00&WIDTH=01&VALUE=1122",
         "ConfigHdr(Guid)\nA, 4, None | 0x0 1 2211\n",
+    ),
+    (
+        "GUID=16d6474bd6a852459d44ccad2e0f4cf9&NAME=0041&PATH=00&@",
+        "ConfigHdr(Path)\nA, 4, None\n",
     ),
 ];
 
@@ -199,26 +204,75 @@ fn requests_of(alloc: Global, text: &str) -> Result<u64, Fail> {
     in_turn(alloc, &line, |heap| first_line(heap, alloc, text))
 }
 
-/// Checks that the error of a row is the first item, where the requests of the pairs before it are
-/// granted and every later one is refused.
-fn check_wrong_slot(alloc: Global, row: &(&str, &str, &str)) -> Result<(), Fail> {
-    let &(before, wrong, error) = row;
-    let before = text_of(alloc, before)?;
-    let granted = requests_of(alloc, before.as_str())?;
-    let text = format!(in alloc; "{}{wrong}", before.as_str())?;
+/// Checks that the error is the first item, where so many requests are granted and every later one
+/// is refused.
+fn check_error(alloc: Global, granted: u64, text: &str, error: &str) -> Result<(), Fail> {
     let error = Some(String::from_str(alloc, error)?);
     let heap = Refusing::after(alloc, granted);
-    same(wrong, &first_line(&heap, alloc, text.as_str()), &error)?;
+    same(text, &first_line(&heap, alloc, text), &error)?;
     holds("no request of from_str is refused", heap.is_waiting())?;
     let heap = Refusing::after(alloc, granted);
-    same(wrong, &iterated_line(&heap, alloc, text.as_str()), &error)?;
+    same(text, &iterated_line(&heap, alloc, text), &error)?;
     holds("no request of the iterator is refused", heap.is_waiting())
 }
 
+/// Returns the error of the iterator's first item.
+fn iterated_error<A: Allocator + Copy>(heap: A, text: &str) -> Option<ParseError> {
+    MultiConfigurationStringIter::new(heap, text).next()?.err()
+}
+
+/// Checks that memory runs out in the first item, where each of so many requests in turn is the
+/// first that is refused.
+fn check_memory(alloc: Global, requests: u64, text: &str) -> Result<(), Fail> {
+    let memory = Some(ParseError::Memory);
+    for granted in 0..requests {
+        let heap = Refusing::after(alloc, granted);
+        same(
+            text,
+            &ConfigurationString::from_str(&heap, text).err(),
+            &memory,
+        )?;
+        let heap = Refusing::after(alloc, granted);
+        same(text, &iterated_error(&heap, text), &memory)?;
+        let heap = Refusing::after(alloc, granted);
+        holds(
+            "parse_all runs out of memory",
+            parse_all(&heap, text).is_err(),
+        )?;
+    }
+    Ok(())
+}
+
+/// Checks a row: the error comes before the requests of later pairs, and after those of the pairs
+/// before it.
+fn check_wrong_slot(alloc: Global, row: &(&str, &str, &str)) -> Result<(), Fail> {
+    let &(before, wrong, error) = row;
+    let before = text_of(alloc, before)?;
+    let requests = requests_of(alloc, before.as_str())?;
+    let text = format!(in alloc; "{}{wrong}", before.as_str())?;
+    check_error(alloc, requests, text.as_str(), error)?;
+    check_memory(alloc, requests, text.as_str())
+}
+
 #[test]
-fn an_error_comes_before_the_requests_of_later_pairs(rt: HostRuntime) -> Result<(), Fail> {
+fn an_error_comes_in_the_order_of_the_requests(rt: HostRuntime) -> Result<(), Fail> {
     for row in &WRONG_SLOTS {
         check_wrong_slot(rt.alloc(), row)?;
+    }
+    Ok(())
+}
+
+/// What follows a good name where the path's pair is missing, or has no value.
+const WITHOUT_PATH: [&str; 4] = ["", "&", "&PATH", "&&PATH=7fff0400"];
+
+#[test]
+fn a_missing_path_comes_after_the_requests_of_the_name(rt: HostRuntime) -> Result<(), Fail> {
+    let alloc = rt.alloc();
+    let requests = in_turn(alloc, &true, |heap| spells(heap, "0041", "A"))?;
+    for after in &WITHOUT_PATH {
+        let text = format!(in alloc; "{GUID_PAIR}&NAME=0041{after}")?;
+        check_error(alloc, requests, text.as_str(), "ConfigHdr(Path)\n")?;
+        check_memory(alloc, requests, text.as_str())?;
     }
     Ok(())
 }
