@@ -1,4 +1,4 @@
-//! Buffers filled with the bytes that a text spells in hex, sixteen at a time.
+//! Buffers filled with the bytes that a text spells in hex.
 
 ghost use Rattle.std.specs.Prelude.{◌≡◌, ◌==◌, ◌∷◌, ◌≤◌, ◌<◌, ◌+◌, ◌*◌, true, length, drop, map, IfOk};
 ghost use Rattle.std.specs.List.{list_all};

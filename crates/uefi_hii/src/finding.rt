@@ -1,4 +1,4 @@
-//! The search for a byte, sixteen bytes at a time.
+//! The search for a byte.
 
 ghost use Rattle.std.specs.Prelude.{◌≡◌, ◌==◌, ◌≤◌, ◌<◌, ◌+◌, MatchOption, length};
 ghost use Rattle.std.specs.List.{position_or_len};
