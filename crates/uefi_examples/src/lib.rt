@@ -23,3 +23,4 @@ pub mod records;
 pub mod resources;
 pub mod time;
 pub mod volumes;
+pub mod whole_logs;
