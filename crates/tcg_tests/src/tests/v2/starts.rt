@@ -182,11 +182,10 @@ fn check_rest(
 
 /// Checks a row of `RESTS`.
 fn check_rests(alloc: Global, (log, last_entry, header, event): RestRow) -> Result<(), Fail> {
-    let parts = match log {
-        Some(log) => parts_of(log),
-        None => &[],
+    let row = match log {
+        Some(log) => joined(alloc, parts_of(log))?,
+        None => String::new(alloc),
     };
-    let row = joined(alloc, parts)?;
     let input = bytes(alloc, row.as_str())?;
     let input = log.map(|_| input.as_slice());
     let log = EventLog::new(input, last_entry, false);
