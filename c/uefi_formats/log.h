@@ -173,11 +173,14 @@ UEFI_CALL bool uefi_log2_header(UefiBytes log, size_t last_entry, UefiLogHeader 
 UEFI_CALL bool uefi_log2_next(UefiBytes log, size_t last_entry, UefiBytes rows, size_t *offset,
                               UefiEvent2 *out);
 
-/* The next digest of an event, under the same rows. */
+/* The next digest of an event, under the same rows. False if the bytes from the
+ * offset on begin with none, as at their end, and under a table of 2^32 rows or
+ * more, which no header has. */
 UEFI_CALL bool uefi_digest_next(UefiBytes digests, UefiBytes rows, size_t *offset, UefiDigest *out);
 
 /* The first digest of an algorithm in the event of a version 2 log that starts
- * at the offset: where uefi_log2_next read it from, and not where it ended. */
+ * at the offset: where uefi_log2_next read it from, and not where it ended. False
+ * if there is none, and under a table of 2^32 rows or more. */
 UEFI_CALL bool uefi_log2_digest(UefiBytes log, size_t last_entry, UefiBytes rows, size_t offset, uint16_t algorithm,
                                 UefiBytes *digest);
 
@@ -191,7 +194,8 @@ UEFI_CALL bool uefi_log2_digest(UefiBytes log, size_t last_entry, UefiBytes rows
 #define UEFI_LOG_TOO_MANY_DIGESTS 5u   /* the event states more digests than there are rows */
 
 /* What is at the offset where a walk over a log ended, as one of these numbers:
- * of a version 1 log one of the first four. */
+ * of a version 1 log one of the first four. Under a table of 2^32 rows or more it
+ * is UEFI_LOG_ENDED or UEFI_LOG_CUT. */
 UEFI_CALL uint32_t uefi_log1_state(UefiBytes log, size_t last_entry, size_t offset);
 UEFI_CALL uint32_t uefi_log2_state(UefiBytes log, size_t last_entry, UefiBytes rows, size_t offset);
 
