@@ -1,9 +1,10 @@
 ghost use Rattle.std.specs.Prelude.{◌≡◌, ◌≢◌, [], IfOk, IfSome, Some, string_bytes};
 ghost use Rattle.uefi_audit.specs.Held.{fault_text, pcr_path};
 
+use file_input::{MAX_READS, ReadError, STANDARD_INPUT, read_file};
 use pcr_replay::{Bank, PCR_COUNT};
 use std::alloc::{AllocError, Global};
-use std::io::{self, ErrorKind, Read};
+use std::io::ErrorKind;
 use std::rt::Files;
 use std::{fmt, fs};
 use uefi_auditing::text::{ShownName, bank_name};
@@ -11,21 +12,13 @@ use uefi_auditing::verify::{Held, HeldError, HeldPcr, held_in_file, held_in_text
 
 /// Returns the bytes of a file, of standard input if its name is `-`; `None` if it wasn't read, which
 /// standard error is told.
-///
-/// `/dev/stdin` is read by the handle of standard input too, since a pipe that another user made
-/// can't be opened again by its name.
 pub(crate) fn file_bytes<R: Files + Input + Eprint + AllocGlobal>(
     rt: &R,
     path: &str,
 ) -> Option<Vec<u8>> {
-    let mut bytes = Vec::new(rt.alloc());
-    let read = if path == "-" || path == "/dev/stdin" {
-        rt.reader().read_to_end(&mut bytes)
-    } else {
-        read_file(rt, path, &mut bytes)
-    };
-    match read {
-        Ok(_) => Some(bytes),
+    let file = if path == "-" { STANDARD_INPUT } else { path };
+    match read_file(rt, file, MAX_READS) {
+        Ok(bytes) => Some(bytes),
         Err(error) => {
             tell_unread(rt, path, &error);
             None
@@ -33,13 +26,8 @@ pub(crate) fn file_bytes<R: Files + Input + Eprint + AllocGlobal>(
     }
 }
 
-/// Appends the bytes of the file at a path.
-fn read_file<R: Files>(rt: &R, path: &str, bytes: &mut Vec<u8>) -> io::Result<usize> {
-    fs::open(rt, path)?.read_to_end(bytes)
-}
-
 /// Tells on standard error why a file wasn't read. If that is closed, the exit status still tells.
-fn tell_unread<R: Eprint>(rt: &R, path: &str, error: &io::Error) {
+fn tell_unread<R: Eprint>(rt: &R, path: &str, error: &ReadError) {
     let name = ShownName(path);
     let _ = eprintln!(rt; "uefi_audit: {name}: {error}");
 }

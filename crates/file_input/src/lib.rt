@@ -1,0 +1,14 @@
+//! Files and standard input, read to their end.
+//!
+//! [`read_file`] reads the file at a path, [`read_to_end`] any reader. Both take the most reads that
+//! they may make, so they return also where an input has no end.
+//!
+//! The contract of [`read_to_end`] says that the bytes are all those of the reader, where these are
+//! known, and which inputs are too long for the reads.
+#![tactic(auto)]
+
+pub use self::error::ReadError;
+pub use self::reading::{MAX_READS, PART_LENGTH, STANDARD_INPUT, read_file, read_to_end};
+
+mod error;
+mod reading;
