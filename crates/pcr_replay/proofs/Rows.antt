@@ -1,9 +1,8 @@
 -- The worked rows hold.
 use Rattle.std.proofs.Common.{refl}
 use Rattle.uefi_tcg.specs.Entries.{placed}
-use Rattle.uefi_tcg.specs.Logs.{until}
 use Rattle.pcr_replay.specs.Replay.{digests_by, only_digest, why_ignored}
-use Rattle.pcr_replay.specs.Rows.{EventRows, PaddingRows, RowsHold, StartRows, ValueRows}
+use Rattle.pcr_replay.specs.Rows.{EventRows, RowsHold, StartRows, ValueRows}
 use Rattle.pcr_replay.specs.Start.{contradiction, locality_fault, locality_in, start_value, stated_locality}
 
 starts : StartRows
@@ -50,9 +49,5 @@ events = record {
   other_length = refl;
 }
 
-paddings : PaddingRows
-unfolding placed until
-paddings = record { zeros = refl; ones = refl; both = refl; none = refl }
-
 pub rows_hold : RowsHold
-rows_hold = record { starts = starts; values = values; events = events; paddings = paddings }
+rows_hold = record { starts = starts; values = values; events = events }

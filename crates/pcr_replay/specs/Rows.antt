@@ -1,4 +1,4 @@
--- Worked rows of the definitions: how PCR 0 starts, what PCRs start with, which events have no effect or no digest, and where padding starts.
+-- Worked rows of the definitions: how PCR 0 starts, what PCRs start with, and which events have no effect or no digest.
 use Rattle.std.specs.Prelude.{◌≡◌, ℕ, ◌++◌, true, false, List, [], ◌∷◌, replicate, None, Some, Err}
 use Rattle.uefi_tcg.specs.v2.Event.{Digest, Event}
 use Rattle.uefi_tcg.specs.v2.Header.{no_action}
@@ -7,8 +7,7 @@ use Rattle.pcr_replay.specs.declared.fault.Fault.{Fault}
 use Rattle.pcr_replay.specs.declared.fault.Fault.TheVariants.{NoDigest, TwoDigests, OtherLength, UnknownLocality, OtherLocality, LateLocality}
 use Rattle.pcr_replay.specs.declared.fault.Undetermined.{Undetermined}
 use Rattle.pcr_replay.specs.declared.ignored.Ignored.TheVariants.{NoPcr, OtherPcr}
-use Rattle.uefi_tcg.specs.Entries.{Contents, Entry, placed}
-use Rattle.uefi_tcg.specs.Logs.{before_padding}
+use Rattle.uefi_tcg.specs.Entries.{Entry, placed}
 use Rattle.pcr_replay.specs.Replay.{digest_for, why_ignored}
 use Rattle.pcr_replay.specs.Start.{extends, hcrtm_type, is_launched, locality_signature, start_at, start_in, start_value}
 
@@ -75,18 +74,7 @@ pub record EventRows : Type 0 where
   pub two_digests : digest_for Sha1 (separates 1 (sha1_digest 20 ∷ sha1_digest 20 ∷ [])) ≡ Err TwoDigests
   pub other_length : digest_for Sha1 (separates 1 (sha1_digest 2 ∷ [])) ≡ Err OtherLength
 
--- Three events of one byte, and where they end before the padding of some bytes.
-abbrev pub three : Contents
-three = record { entries = placed (λ (event : Event). 0 ∷ []) (λ event. event) 0 (hcrtm ∷ hcrtm ∷ hcrtm ∷ []); end = 3 }
-
-pub record PaddingRows : Type 0 where
-  pub zeros : (before_padding (7 ∷ 0 ∷ 0 ∷ 0 ∷ []) three).end ≡ 1
-  pub ones : (before_padding (7 ∷ 255 ∷ 255 ∷ 255 ∷ []) three).end ≡ 1
-  pub both : (before_padding (7 ∷ 0 ∷ 255 ∷ 255 ∷ []) three).end ≡ 2
-  pub none : (before_padding (7 ∷ 0 ∷ 0 ∷ 7 ∷ []) three).end ≡ 3
-
 pub record RowsHold : Type 0 where
   pub starts : StartRows
   pub values : ValueRows
   pub events : EventRows
-  pub paddings : PaddingRows

@@ -23,7 +23,7 @@ pub fn first_is_named()
 {}
 
 /// States that the definitions give the values of worked rows: how PCR 0 starts, what PCRs start
-/// with, which events have no effect or no digest, and where padding starts. Each row is a theorem.
+/// with, and which events have no effect or no digest. Each row is a theorem.
 pub fn worked_rows()
     ensures { RowsHold }
 {}
