@@ -240,13 +240,34 @@ static int partitions(void) {
     UefiBytes data = uefi_bytes(bytes, sizeof bytes);
     static UefiGptHeader header;
     static UefiGptEntry entry;
-    if (!uefi_gpt_header(data, &header) || header.my_lba != 1 || header.disk_guid[0] != 2 || header.entry_size != 136)
+    if (!uefi_gpt_header(data, UEFI_UINTN_EIGHT, &header) || header.my_lba != 1 || header.disk_guid[0] != 2 || header.entry_size != 136)
         return 35;
-    if (!uefi_gpt_entry(data, 0, &entry) || entry.type_guid[0] != 3 || entry.unique_guid[0] != 4 || entry.first_lba != 5)
+    if (!uefi_gpt_entry(data, UEFI_UINTN_EIGHT, 0, &entry) || entry.type_guid[0] != 3 || entry.unique_guid[0] != 4 || entry.first_lba != 5)
         return 36;
     if (entry.last_lba != 6 || entry.attributes != 7 || entry.name[0] != 'E' || entry.name[1] || entry.rest.n != 8 || entry.rest.at[7] != 8)
         return 37;
-    return uefi_gpt_entry(data, 1, &entry) || uefi_gpt_header(uefi_bytes(bytes, 235), &header) ? 38 : 0;
+    return uefi_gpt_entry(data, 0, 1, &entry) || uefi_gpt_header(uefi_bytes(bytes, 235), 0, &header) ? 38 : 0;
+}
+
+/* An image and a partition table, with UINTNs of four bytes. */
+static int four_bytes(void) {
+    static const uint8_t image_bytes[23] = {1, [8] = 2, [12] = 3, [16] = 2, [20] = 4, [22] = 5};
+    static const uint8_t table[224] = {[84] = 128, [92] = 1, [96] = 6, [128] = 7};
+    UefiBytes data = uefi_bytes(image_bytes, sizeof image_bytes), gpt = uefi_bytes(table, sizeof table);
+    static UefiImage image;
+    static UefiGptHeader header;
+    static UefiGptEntry entry;
+    if (!uefi_image(data, UEFI_UINTN_FOUR, &image) || image.location_in_memory != 1 || image.length_in_memory != 2 || image.link_time_address != 3)
+        return 66;
+    if (image.device_path.at != image_bytes + 20 || image.device_path.n != 2 || image.rest.n != 1 || image.rest.at[0] != 5)
+        return 67;
+    if (uefi_image(data, UEFI_UINTN_EIGHT, &image) || image.rest.n != 1)
+        return 68;
+    if (!uefi_gpt_header(gpt, UEFI_UINTN_FOUR, &header) || header.entry_size != 128 || !uefi_gpt_entry(gpt, UEFI_UINTN_FOUR, 0, &entry))
+        return 69;
+    if (entry.type_guid[0] != 6 || entry.first_lba != 7)
+        return 70;
+    return uefi_gpt_header(gpt, UEFI_UINTN_EIGHT, &header) || uefi_gpt_entry(gpt, UEFI_UINTN_EIGHT, 0, &entry) ? 71 : 0;
 }
 
 /* Of a log without events the PCRs are start values, and that of PCR 0 ends with the locality. */
@@ -291,6 +312,7 @@ __attribute__((used)) static void run(void) {
     status = status ? status : event_texts();
     status = status ? status : signatures();
     status = status ? status : partitions();
+    status = status ? status : four_bytes();
     end(status ? status : pcrs());
 }
 

@@ -27,7 +27,11 @@ extern "C" {
  *
  * A function returns true if the data are that structure, whole and alone. A
  * loop over uefi_tagged_next is done if it ends at the end of the data. The
- * data of UEFI_EV_POST_CODE may also be a text. */
+ * data of UEFI_EV_POST_CODE may also be a text.
+ *
+ * A parameter uintn_size is that of the log's UefiLogHeader: UEFI_UINTN_FOUR, as
+ * in logs of 32-bit firmware. Every other number is read as UEFI_UINTN_EIGHT. Pass
+ * that for a log without a header, which doesn't state it. */
 
 typedef struct {
     UefiBytes name;  /* units of two bytes, little-endian, without a NUL; the description of a
@@ -48,7 +52,7 @@ typedef struct {
 } UefiImage;
 
 /* The image that the data are (UEFI_IMAGE_LOAD_EVENT). */
-UEFI_CALL bool uefi_image(UefiBytes event_data, UefiImage *out);
+UEFI_CALL bool uefi_image(UefiBytes event_data, uint8_t uintn_size, UefiImage *out);
 
 typedef struct {
     UefiBytes description; /* ASCII as a rule, at most 255 bytes; of uefi_blob no bytes */
@@ -149,7 +153,7 @@ typedef struct {
 
 /* The header of the partition table that the data of an event are, of type
  * UEFI_EV_EFI_GPT_EVENT. No CRC32 is compared. */
-UEFI_CALL bool uefi_gpt_header(UefiBytes event_data, UefiGptHeader *out);
+UEFI_CALL bool uefi_gpt_header(UefiBytes event_data, uint8_t uintn_size, UefiGptHeader *out);
 
 typedef struct {
     UefiBytes rest; /* what an entry of more than 128 bytes has */
@@ -164,7 +168,8 @@ typedef struct {
 /* The entry at an index of that table. False if the data are no table, or it
  * has no such entry: a loop over the index ends. A call goes over the entries
  * before it. */
-UEFI_CALL bool uefi_gpt_entry(UefiBytes event_data, size_t index, UefiGptEntry *out);
+UEFI_CALL bool uefi_gpt_entry(UefiBytes event_data, uint8_t uintn_size, size_t index,
+                              UefiGptEntry *out);
 
 #ifdef __cplusplus
 }

@@ -117,8 +117,12 @@ typedef struct {
     uint8_t major;
     uint8_t minor;
     uint8_t errata;
-    uint8_t uintn_size;
+    uint8_t uintn_size; /* UEFI_UINTN_FOUR or UEFI_UINTN_EIGHT; there is firmware of 64 bits that writes 0 */
 } UefiLogHeader;
+
+/* How many bytes a UINTN has, in some data of events: uefi_image, uefi_gpt_header. */
+#define UEFI_UINTN_FOUR 1u
+#define UEFI_UINTN_EIGHT 2u
 
 typedef struct {
     UefiBytes digests; /* for uefi_digest_next */

@@ -45,18 +45,22 @@ static void one_variable(UefiBytes bytes) {
     READ(UefiVariable, variable, bytes);
 }
 
-static bool plain_image(UefiBytes bytes, UefiImage *out) {
+static bool plain_image(UefiBytes bytes, uint8_t uintn_size, UefiImage *out) {
     const uint8_t *b = bytes.at;
-    if (bytes.n < 32 || u64_at(b + 24) > bytes.n - 32) return false;
-    size_t path = u64_at(b + 24);
-    *out = (UefiImage){{b + 32, path}, from(bytes, 32 + path), u64_at(b), u64_at(b + 8), u64_at(b + 16)};
+    size_t width = uintn_width(uintn_size), start = 8 + 3 * width;
+    if (bytes.n < start || uintn_at(b + start - width, width) > bytes.n - start) return false;
+    size_t path = uintn_at(b + start - width, width);
+    *out = (UefiImage){{b + start, path}, from(bytes, start + path), u64_at(b), uintn_at(b + 8, width),
+                       uintn_at(b + 8 + width, width)};
     return true;
 }
 
 static void one_image(UefiBytes bytes) {
-    uint64_t path = any() & 7 ? below(bytes.n - 30) : any();
-    if (bytes.n >= 32 && any() & 3) memcpy((uint8_t *)bytes.at + 24, &path, 8);
-    READ(UefiImage, image, bytes);
+    uint8_t uintn_size = below(4);
+    size_t width = uintn_width(uintn_size), start = 8 + 3 * width;
+    uint64_t path = any() & 7 ? below(bytes.n - start + 2) : any();
+    if (bytes.n >= start && any() & 3) memcpy((uint8_t *)bytes.at + start - width, &path, width);
+    READ(UefiImage, image, bytes, uintn_size);
 }
 
 static bool plain_blob(UefiBytes bytes, UefiBlob *out) {

@@ -72,11 +72,12 @@ static void one_list(UefiBytes bytes) {
     NEED(next == list.signatures.n);
 }
 
-static bool plain_gpt_header(UefiBytes bytes, UefiGptHeader *out) {
+static bool plain_gpt_header(UefiBytes bytes, uint8_t uintn_size, UefiGptHeader *out) {
     const uint8_t *b = bytes.at;
-    if (bytes.n < 100) return false;
-    uint64_t size = u32_at(b + 84), count = u64_at(b + 92);
-    if (size < 128 || (bytes.n - 100) % size || (bytes.n - 100) / size != count) return false;
+    size_t width = uintn_width(uintn_size), start = 92 + width;
+    if (bytes.n < start) return false;
+    uint64_t size = u32_at(b + 84), count = uintn_at(b + 92, width);
+    if (size < 128 || (bytes.n - start) % size || (bytes.n - start) / size != count) return false;
     *out = (UefiGptHeader){.signature = u64_at(b), .revision = u32_at(b + 8), .header_size = u32_at(b + 12),
         .header_crc32 = u32_at(b + 16), .reserved = u32_at(b + 20), .my_lba = u64_at(b + 24),
         .alternate_lba = u64_at(b + 32), .first_usable_lba = u64_at(b + 40), .last_usable_lba = u64_at(b + 48),
@@ -86,10 +87,11 @@ static bool plain_gpt_header(UefiBytes bytes, UefiGptHeader *out) {
     return true;
 }
 
-static bool plain_gpt_entry(UefiBytes bytes, size_t index, UefiGptEntry *out) {
+static bool plain_gpt_entry(UefiBytes bytes, uint8_t uintn_size, size_t index, UefiGptEntry *out) {
     UefiGptHeader header;
-    if (!plain_gpt_header(bytes, &header) || index >= (bytes.n - 100) / header.entry_size) return false;
-    const uint8_t *b = bytes.at + 100 + index * header.entry_size;
+    size_t start = 92 + uintn_width(uintn_size);
+    if (!plain_gpt_header(bytes, uintn_size, &header) || index >= (bytes.n - start) / header.entry_size) return false;
+    const uint8_t *b = bytes.at + start + index * header.entry_size;
     *out = (UefiGptEntry){.rest = slice(b + 128, header.entry_size - 128), .first_lba = u64_at(b + 32),
                           .last_lba = u64_at(b + 40), .attributes = u64_at(b + 48)};
     memcpy(out->type_guid, b, 16), memcpy(out->unique_guid, b + 16, 16), memcpy(out->name, b + 56, 72);
@@ -97,14 +99,14 @@ static bool plain_gpt_entry(UefiBytes bytes, size_t index, UefiGptEntry *out) {
 }
 
 static void one_table(UefiBytes bytes) {
-    uint8_t *b = (uint8_t *)bytes.at;
-    size_t index = below(4);
+    uint8_t *b = (uint8_t *)bytes.at, uintn_size = below(4);
+    size_t index = below(4), width = uintn_width(uintn_size);
     if (bytes.n > 400 && any() & 7) {
-        memset(b + 84, 0, 4), memset(b + 92, 0, 8);
+        memset(b + 84, 0, 4), memset(b + 92, 0, width);
         b[84] = 127 + below(8), b[92] = below(3);
-        if (any() & 3) bytes.n = 100 + b[84] * b[92];
+        if (any() & 3) bytes.n = 92 + width + b[84] * b[92];
     }
-    READ(UefiGptHeader, gpt_header, bytes), READ(UefiGptEntry, gpt_entry, bytes, index);
+    READ(UefiGptHeader, gpt_header, bytes, uintn_size), READ(UefiGptEntry, gpt_entry, bytes, uintn_size, index);
 }
 
 void contents_of(UefiBytes part) {

@@ -17,6 +17,15 @@ static inline uint64_t u64_at(const uint8_t *at) {
     return u32_at(at) | (uint64_t)u32_at(at + 4) << 32;
 }
 
+/* How many bytes a UINTN has by a header's number, and the one in so many bytes. */
+static inline size_t uintn_width(uint8_t uintn_size) {
+    return uintn_size == 1 ? 4 : 8;
+}
+
+static inline uint64_t uintn_at(const uint8_t *at, size_t width) {
+    return width == 4 ? u32_at(at) : u64_at(at);
+}
+
 /* The length of the node at the offset, 0 for none. */
 size_t plain_node_length(UefiBytes bytes, size_t at);
 bool plain_path(UefiBytes bytes, UefiBytes *path);

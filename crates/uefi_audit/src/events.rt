@@ -45,7 +45,7 @@ fn push_if_read(
     is_read: bool,
 ) -> Result<(), AllocError>
     ensures { (contents : Contents) → HasContents file.now.log contents
-        → string_bytes text.old ≡ [] → OnOk result (AreEventsIf is_read format file.now.name.now
+        → string_bytes text.old ≡ [] → OnOk result (AreEventsIf is_read format file.now
         contents.entries (string_bytes text.new)) }
 {
     if is_read {
@@ -62,7 +62,7 @@ fn push_formatted(
     format: Format,
 ) -> Result<(), AllocError>
     ensures { (contents : Contents) → HasContents file.now.log contents
-        → string_bytes text.old ≡ [] → OnOk result (AreEvents format file.now.name.now
+        → string_bytes text.old ≡ [] → OnOk result (AreEvents format file.now
         contents.entries (string_bytes text.new)) }
 {
     match format {

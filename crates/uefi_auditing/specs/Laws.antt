@@ -1,8 +1,11 @@
 -- What holds of all data.
 use Rattle.std.specs.Prelude.{ℕ, ◌≡◌, List}
+use Rattle.uefi_tcg.specs.declared.uintn_size.UintnSize.{UintnSize}
 use Rattle.uefi_auditing.specs.content.Content.{Content, Says}
 use Rattle.uefi_auditing.specs.declared.content.form.Form.{Form}
 
 -- Data of a form say one thing: so an event has one line.
 abbrev pub OneContent : Type 0
-OneContent = (form : Form) (bytes : List ℕ) (content other : Content) → Says form bytes content → Says form bytes other → content ≡ other
+OneContent =
+    (size : UintnSize) (form : Form) (bytes : List ℕ) (content other : Content) → Says size form bytes content
+    → Says size form bytes other → content ≡ other

@@ -7,6 +7,7 @@ ghost use Rattle.std.specs.Prelude.{◌≡◌, option_map};
 ghost use Rattle.std.specs.List.{list_all};
 ghost use Rattle.pcr_replay.specs.Start.{locality_in};
 ghost use Rattle.uefi_tcg.specs.LogViews.{event_of};
+ghost use Rattle.uefi_tcg.specs.declared.uintn_size.UintnSize.{UintnSize};
 ghost use Rattle.uefi_tcg.specs.v2.Views.{header_of};
 ghost use Rattle.uefi_auditing.specs.content.Content.{BlobContent, ImageContent, NoActionContent, PostCodeContent, Says, are_printed, form_of, is_printed, separator_content, text_content};
 ghost use Rattle.uefi_auditing.specs.content.Header.{ReadsHeader};
@@ -24,12 +25,12 @@ use crate::content::value_form::{authority_form, value_form};
 use pcr_replay::locality_in;
 use uefi_base::little_endian::u32_at;
 use uefi_path::DevicePath;
-use uefi_tcg::LogEvent;
 use uefi_tcg::content::{
     CrtmVersion, EventText, GptData, ImageLoadEvent, PlatformFirmwareBlob, PlatformFirmwareBlob2,
     VariableData,
 };
 use uefi_tcg::v2::EventLogHeader;
+use uefi_tcg::{LogEvent, UintnSize};
 
 mod form;
 mod path;
@@ -69,11 +70,12 @@ pub enum Content<'a> {
     Image(ImageLoadEvent<'a>, Option<DevicePath<'a>>),
 }
 
-/// Returns what the data of an event say, by the event's type.
+/// Returns what the data of an event say, by the event's type. [`Log::uintn_size`](uefi_tcg::Log::uintn_size) returns the size of
+/// a `UINTN` in the event's log.
 #[tactic(auto, unfolding(crate::specs::content::Content::Says))]
-pub fn read_content<'a>(event: &LogEvent<'a>) -> Content<'a>
-    ensures { Says (form_of (event_of event.now).event_type) (event_of event.now).event_data
-        (content_of result) }
+pub fn read_content<'a>(event: &LogEvent<'a>, uintn_size: UintnSize) -> Content<'a>
+    ensures { Says uintn_size (form_of (event_of event.now).event_type)
+        (event_of event.now).event_data (content_of result) }
 {
     let bytes = event.event_data();
     match form_of(event.event_type()) {
@@ -86,10 +88,10 @@ pub fn read_content<'a>(event: &LogEvent<'a>) -> Content<'a>
         Form::OfLoaderText => loader_text_content(bytes),
         Form::OfCrtmVersion => crtm_version_content(bytes),
         Form::OfTagged => Content::Tagged(TaggedData::new(bytes)),
-        Form::OfGpt => gpt_content(bytes),
+        Form::OfGpt => gpt_content(bytes, uintn_size),
         Form::OfVariable => variable_content(bytes),
         Form::OfAuthority => authority_content(bytes),
-        Form::OfImage => image_content(bytes),
+        Form::OfImage => image_content(bytes, uintn_size),
         Form::Other => Content::Unread,
     }
 }
@@ -175,7 +177,7 @@ fn blob_content(bytes: &[u8]) -> Content<'_>
 /// Returns the blob with a description that data are.
 #[tactic(auto, unfolding(crate::specs::content::Content::Says))]
 fn described_blob_content(bytes: &[u8]) -> Content<'_>
-    ensures { Says OfDescribedBlob bytes.now (content_of result) }
+    ensures { (size : UintnSize) → Says size OfDescribedBlob bytes.now (content_of result) }
 {
     match PlatformFirmwareBlob2::read(bytes) {
         Some(blob) => Content::DescribedBlob(blob),
@@ -186,7 +188,7 @@ fn described_blob_content(bytes: &[u8]) -> Content<'_>
 /// Returns the boot loader's text that data are.
 #[tactic(auto, unfolding(crate::specs::content::Content::Says))]
 fn loader_text_content(bytes: &[u8]) -> Content<'_>
-    ensures { Says OfLoaderText bytes.now (content_of result) }
+    ensures { (size : UintnSize) → Says size OfLoaderText bytes.now (content_of result) }
 {
     match EventText::read(bytes) {
         Some(text) => Content::LoaderText(text),
@@ -197,7 +199,7 @@ fn loader_text_content(bytes: &[u8]) -> Content<'_>
 /// Returns the version that data are.
 #[tactic(auto, unfolding(crate::specs::content::Content::Says))]
 fn crtm_version_content(bytes: &[u8]) -> Content<'_>
-    ensures { Says OfCrtmVersion bytes.now (content_of result) }
+    ensures { (size : UintnSize) → Says size OfCrtmVersion bytes.now (content_of result) }
 {
     match CrtmVersion::read(bytes) {
         Some(version) => Content::CrtmVersion(version),
@@ -207,10 +209,10 @@ fn crtm_version_content(bytes: &[u8]) -> Content<'_>
 
 /// Returns the partition table that data are.
 #[tactic(auto, unfolding(crate::specs::content::Content::Says))]
-fn gpt_content(bytes: &[u8]) -> Content<'_>
-    ensures { Says OfGpt bytes.now (content_of result) }
+fn gpt_content(bytes: &[u8], uintn_size: UintnSize) -> Content<'_>
+    ensures { Says uintn_size OfGpt bytes.now (content_of result) }
 {
-    match GptData::read(bytes) {
+    match GptData::read(bytes, uintn_size) {
         Some(gpt) => Content::Gpt(gpt),
         None => Content::Unread,
     }
@@ -219,7 +221,7 @@ fn gpt_content(bytes: &[u8]) -> Content<'_>
 /// Returns the variable that data are, with what its value says.
 #[tactic(auto, unfolding(crate::specs::content::Content::Says, crate::specs::content::Content::VariableContent))]
 fn variable_content(bytes: &[u8]) -> Content<'_>
-    ensures { Says OfVariable bytes.now (content_of result) }
+    ensures { (size : UintnSize) → Says size OfVariable bytes.now (content_of result) }
 {
     let Some(variable) = VariableData::read(bytes) else {
         return Content::Unread;
@@ -231,7 +233,7 @@ fn variable_content(bytes: &[u8]) -> Content<'_>
 /// Returns the variable that data are, with the signature that its value is.
 #[tactic(auto, unfolding(crate::specs::content::Content::Says, crate::specs::content::Content::VariableContent))]
 fn authority_content(bytes: &[u8]) -> Content<'_>
-    ensures { Says OfAuthority bytes.now (content_of result) }
+    ensures { (size : UintnSize) → Says size OfAuthority bytes.now (content_of result) }
 {
     let Some(variable) = VariableData::read(bytes) else {
         return Content::Unread;
@@ -243,10 +245,10 @@ fn authority_content(bytes: &[u8]) -> Content<'_>
 
 /// Returns the image that data are, with its device path.
 #[tactic(auto, unfolding(crate::specs::content::Content::Says, crate::specs::content::Content::ImageContent))]
-fn image_content(bytes: &[u8]) -> Content<'_>
-    ensures { Says OfImage bytes.now (content_of result) }
+fn image_content(bytes: &[u8], uintn_size: UintnSize) -> Content<'_>
+    ensures { Says uintn_size OfImage bytes.now (content_of result) }
 {
-    match ImageLoadEvent::read(bytes) {
+    match ImageLoadEvent::read(bytes, uintn_size) {
         Some(image) => Content::Image(image, whole_path(image.device_path)),
         None => Content::Unread,
     }

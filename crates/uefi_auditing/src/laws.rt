@@ -6,8 +6,9 @@ ghost use Rattle.uefi_auditing.specs.Laws.{OneContent};
 use uefi_path::laws::{one_front, one_load_option};
 use uefi_tcg::laws::{one_boot_order, one_gpt_data, one_signature, one_value};
 
-/// States that the data of an event say one thing, by the form that its type gives them. So an
-/// event has one line, as [`event_line`](crate::event_line) promises it.
+/// States that the data of an event say one thing, by the form that its type gives them and the size
+/// of a `UINTN` in its log. So an event has one line, as
+/// [`event_line`](crate::json::event_line) promises it.
 pub fn one_content()
     ensures { OneContent }
 {

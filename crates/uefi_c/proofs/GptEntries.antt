@@ -11,17 +11,19 @@ use Rattle.uefi_tcg.specs.content.Gpt.{Entry, GptData, HasEntrySize, IsGptData, 
 use Rattle.uefi_tcg.specs.content.GptViews.{entry_of}
 use Rattle.uefi_tcg.specs.content.Reading.{Reads}
 use Rattle.uefi_tcg.specs.declared.content.gpt.gpt_entry.GptEntry.{GptEntry}
+use Rattle.uefi_tcg.specs.declared.uintn_size.UintnSize.{UintnSize}
 use Rattle.uefi_tcg.proofs.content.GptBytes.{one_gpt_data}
 use Rattle.uefi_c.specs.Gpt.{HasEntry, HasHeader}
 
-pub has_header : (bytes : List ℕ) (gpt : GptData) → ReadsGptData bytes (Some gpt) → HasHeader bytes gpt.header
+pub has_header : (size : UintnSize) (bytes : List ℕ) (gpt : GptData) → ReadsGptData size bytes (Some gpt)
+    → HasHeader size bytes gpt.header
 unfolding Reads
-has_header bytes gpt reads = (gpt, reads.0, reads.1, refl)
+has_header size bytes gpt reads = (gpt, reads.0, reads.1, refl)
 
-pub no_table : (bytes : List ℕ) (index : ℕ) → ReadsGptData bytes None → (gpt : GptData) → IsGptData gpt
-    → bytes ≡ gpt_bytes gpt → length gpt.entries ≤ index
+pub no_table : (size : UintnSize) (bytes : List ℕ) (index : ℕ) → ReadsGptData size bytes None → (gpt : GptData)
+    → IsGptData size gpt → bytes ≡ gpt_bytes size gpt → length gpt.entries ≤ index
 unfolding Reads
-no_table bytes index none gpt is same = absurd (none gpt is same)
+no_table size bytes index none gpt is same = absurd (none gpt is same)
 
 each : {A : Type 0} (P : A → Type 0) (xs : List A) (i : ℕ) (x : A) → AllByRecursion P xs → slice_get xs i ≡ Some x → P x
 each P [] i x all is = absurd cc
@@ -31,9 +33,9 @@ each P (y ∷ xs) zero x all is = subst P (some_same is) all.0
     some_same e = cc
 each P (y ∷ xs) (suc i) x all is = each P xs i x all.1 is
 
-module _ (bytes : List ℕ) (gpt : GptData) (index : ℕ) (reads : ReadsGptData bytes (Some gpt)) where
+module _ (size : UintnSize) (bytes : List ℕ) (gpt : GptData) (index : ℕ) (reads : ReadsGptData size bytes (Some gpt)) where
   pub found : (entry : Option GptEntry) → option_map entry_of entry ≡ slice_get gpt.entries index
-      → IfSome entry (λ e. HasEntry bytes index (entry_of e))
+      → IfSome entry (λ e. HasEntry size bytes index (entry_of e))
   unfolding Reads
   found None is = tt
   found (Some e) is = (gpt, reads.0, reads.1, sym is)
@@ -46,11 +48,12 @@ module _ (bytes : List ℕ) (gpt : GptData) (index : ℕ) (reads : ReadsGptData 
       (each (HasEntrySize gpt.header.entry_size) gpt.entries index (entry_of e) reads.0.entries (sym is)).name
 
   pub none : (entry : Option GptEntry) → option_map entry_of entry ≡ slice_get gpt.entries index
-      → IfNone entry ((other : GptData) → IsGptData other → bytes ≡ gpt_bytes other → length other.entries ≤ index)
+      → IfNone entry ((other : GptData) → IsGptData size other → bytes ≡ gpt_bytes size other
+      → length other.entries ≤ index)
   unfolding Reads
   none (Some e) is = tt
   none None is = λ other are same.
-      let one : gpt ≡ other = one_gpt_data gpt other reads.0 are (sym reads.1 ∙ same) in
+      let one : gpt ≡ other = one_gpt_data size gpt other reads.0 are (sym reads.1 ∙ same) in
       subst (λ (g : GptData). length g.entries ≤ index) one (past (slice_get_cases gpt.entries index).1 is)
     where
       past : ((x : Entry) × (index < length gpt.entries) × (slice_get gpt.entries index ≡ Some x) × (get_or gpt.entries index x ≡ x))

@@ -1,6 +1,7 @@
 -- The partition table of a disk (TCG PC Client Platform Firmware Profile 1.06, 10.4.1 "EV_EFI_GPT_EVENT", UEFI_GPT_DATA), as calls give it.
 use Rattle.std.specs.Prelude.{ℕ, ◌≡◌, List, Some, slice_get}
 use Rattle.uefi_tcg.specs.content.Gpt.{Entry, GptData, Header, IsGptData, gpt_bytes}
+use Rattle.uefi_tcg.specs.declared.uintn_size.UintnSize.{UintnSize}
 use Rattle.uefi_c.specs.declared.event_data.gpt.UefiGptEntry.{UefiGptEntry}
 use Rattle.uefi_c.specs.declared.event_data.gpt.UefiGptHeader.{UefiGptHeader}
 
@@ -34,9 +35,11 @@ entry_seen seen = record {
 }
 
 -- The bytes are a table with this header.
-abbrev pub HasHeader : List ℕ → Header → Type 0
-HasHeader bytes header = (gpt : GptData) × IsGptData gpt × (bytes ≡ gpt_bytes gpt) × (gpt.header ≡ header)
+abbrev pub HasHeader : UintnSize → List ℕ → Header → Type 0
+HasHeader size bytes header =
+    (gpt : GptData) × IsGptData size gpt × (bytes ≡ gpt_bytes size gpt) × (gpt.header ≡ header)
 
 -- The bytes are a table that has this entry at this index.
-abbrev pub HasEntry : List ℕ → ℕ → Entry → Type 0
-HasEntry bytes index entry = (gpt : GptData) × IsGptData gpt × (bytes ≡ gpt_bytes gpt) × (slice_get gpt.entries index ≡ Some entry)
+abbrev pub HasEntry : UintnSize → List ℕ → ℕ → Entry → Type 0
+HasEntry size bytes index entry =
+    (gpt : GptData) × IsGptData size gpt × (bytes ≡ gpt_bytes size gpt) × (slice_get gpt.entries index ≡ Some entry)

@@ -98,28 +98,28 @@ one_loaded law None None a b same says other = says ∙ sym other
 -- All of this, as the law states it.
 pub one_content : ReadersLaws → OneContent
 unfolding Says
-one_content laws OfNoAction bytes a b says other = no_action (locality_in bytes) bytes a b says other
-one_content laws OfSeparator bytes a b says other = says ∙ sym other
-one_content laws OfText bytes a b says other = says ∙ sym other
-one_content laws OfPostCode bytes a b says other = post_code laws.readers (are_printed bytes) bytes a b says other
-one_content laws OfBlob bytes a b says other = one_blob laws.readers bytes a b says other
-one_content laws OfDescribedBlob bytes a b says other =
+one_content laws size OfNoAction bytes a b says other = no_action (locality_in bytes) bytes a b says other
+one_content laws size OfSeparator bytes a b says other = says ∙ sym other
+one_content laws size OfText bytes a b says other = says ∙ sym other
+one_content laws size OfPostCode bytes a b says other = post_code laws.readers (are_printed bytes) bytes a b says other
+one_content laws size OfBlob bytes a b says other = one_blob laws.readers bytes a b says other
+one_content laws size OfDescribedBlob bytes a b says other =
     one_found IsDescribedBlob described_bytes described_blob laws.readers.described_blob bytes a b says other
-one_content laws OfLoaderText bytes a b says other =
+one_content laws size OfLoaderText bytes a b says other =
     one_found IsEventText text_bytes loader_text laws.readers.text bytes a b says other
-one_content laws OfCrtmVersion bytes a b says other =
+one_content laws size OfCrtmVersion bytes a b says other =
     one_found IsCrtmVersion crtm_version_bytes crtm_version laws.readers.crtm_version bytes a b says other
-one_content laws OfTagged bytes a b (events, rest, are, is) (others, left, also, that) =
+one_content laws size OfTagged bytes a b (events, rest, are, is) (others, left, also, that) =
     let both = laws.readers.tagged bytes events others rest left are also in
     is ∙ (λ i. tagged (both.0 i) (both.1 i)) ∙ sym that
-one_content laws OfGpt bytes a b says other = one_found IsGptData gpt_bytes gpt laws.gpt bytes a b says other
-one_content laws OfVariable bytes a b (found, read, is) (also, other, that) =
+one_content laws size OfGpt bytes a b says other = one_found (IsGptData size) (gpt_bytes size) gpt (laws.gpt size) bytes a b says other
+one_content laws size OfVariable bytes a b (found, read, is) (also, other, that) =
     one_measured laws.values value_form found also a b
     (one_read IsVariable variable_bytes laws.readers.variable bytes found also read other) is that
-one_content laws OfAuthority bytes a b (found, read, is) (also, other, that) =
+one_content laws size OfAuthority bytes a b (found, read, is) (also, other, that) =
     one_measured laws.values authority_form found also a b
     (one_read IsVariable variable_bytes laws.readers.variable bytes found also read other) is that
-one_content laws OfImage bytes a b (found, read, is) (also, other, that) =
-    one_loaded laws.front found also a b (one_read IsImage image_bytes laws.readers.image bytes found also read other) is
+one_content laws size OfImage bytes a b (found, read, is) (also, other, that) =
+    one_loaded laws.front found also a b (one_read (IsImage size) (image_bytes size) (laws.readers.image size) bytes found also read other) is
     that
-one_content laws Other bytes a b says other = says ∙ sym other
+one_content laws size Other bytes a b says other = says ∙ sym other

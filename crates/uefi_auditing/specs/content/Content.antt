@@ -14,6 +14,7 @@ use Rattle.uefi_tcg.specs.content.Variable.{Variable, ReadsVariable}
 use Rattle.uefi_tcg.specs.declared.event_type.TheConstants.EventType.{POST_CODE, NO_ACTION, SEPARATOR, ACTION, EVENT_TAG, CRTM_VERSION, IPL, OMIT_BOOT_DEVICE_EVENTS, POST_CODE2}
 use Rattle.uefi_tcg.specs.declared.event_type.TheConstants.EventType.{EFI_VARIABLE_DRIVER_CONFIG, EFI_VARIABLE_BOOT, EFI_BOOT_SERVICES_APPLICATION, EFI_BOOT_SERVICES_DRIVER, EFI_RUNTIME_SERVICES_DRIVER}
 use Rattle.uefi_tcg.specs.declared.event_type.TheConstants.EventType.{EFI_GPT_EVENT, EFI_ACTION, EFI_PLATFORM_FIRMWARE_BLOB, EFI_PLATFORM_FIRMWARE_BLOB2, EFI_VARIABLE_BOOT2, EFI_GPT_EVENT2, EFI_HCRTM_EVENT, EFI_VARIABLE_AUTHORITY}
+use Rattle.uefi_tcg.specs.declared.uintn_size.UintnSize.{UintnSize}
 use Rattle.uefi_tcg.specs.v2.Header.{Header}
 use Rattle.uefi_auditing.specs.Check.{is_one_of}
 use Rattle.uefi_auditing.specs.content.Header.{ReadsHeader}
@@ -102,25 +103,25 @@ unfoldable pub ImageContent : Option Image → Content → Type 0
 ImageContent (Some read) content = (nodes : Option (List Node)) × ReadsNodes read.device_path nodes × (content ≡ image read nodes)
 ImageContent None content = content ≡ unread
 
--- What data of a form say.
-unfoldable pub Says : Form → List ℕ → Content → Type 0
-Says OfNoAction bytes content = NoActionContent (locality_in bytes) bytes content
-Says OfSeparator bytes content = content ≡ separator_content bytes
-Says OfText bytes content = content ≡ text_content bytes
-Says OfPostCode bytes content = PostCodeContent (are_printed bytes) bytes content
-Says OfBlob bytes content = BlobContent bytes content
-Says OfDescribedBlob bytes content =
+-- What data of a form say, with a UINTN of this size.
+unfoldable pub Says : UintnSize → Form → List ℕ → Content → Type 0
+Says size OfNoAction bytes content = NoActionContent (locality_in bytes) bytes content
+Says size OfSeparator bytes content = content ≡ separator_content bytes
+Says size OfText bytes content = content ≡ text_content bytes
+Says size OfPostCode bytes content = PostCodeContent (are_printed bytes) bytes content
+Says size OfBlob bytes content = BlobContent bytes content
+Says size OfDescribedBlob bytes content =
     (found : Option DescribedBlob) × ReadsDescribedBlob bytes found × (content ≡ or_unread described_blob found)
-Says OfLoaderText bytes content =
+Says size OfLoaderText bytes content =
     (found : Option EventText) × ReadsText bytes found × (content ≡ or_unread loader_text found)
-Says OfCrtmVersion bytes content =
+Says size OfCrtmVersion bytes content =
     (found : Option CrtmVersion) × ReadsCrtmVersion bytes found × (content ≡ or_unread crtm_version found)
-Says OfTagged bytes content =
+Says size OfTagged bytes content =
     (events : List Tagged) × (rest : List ℕ) × AreTagged bytes events rest × (content ≡ tagged events rest)
-Says OfGpt bytes content = (found : Option GptData) × ReadsGptData bytes found × (content ≡ or_unread gpt found)
-Says OfVariable bytes content =
+Says size OfGpt bytes content = (found : Option GptData) × ReadsGptData size bytes found × (content ≡ or_unread gpt found)
+Says size OfVariable bytes content =
     (found : Option Variable) × ReadsVariable bytes found × VariableContent value_form found content
-Says OfAuthority bytes content =
+Says size OfAuthority bytes content =
     (found : Option Variable) × ReadsVariable bytes found × VariableContent authority_form found content
-Says OfImage bytes content = (found : Option Image) × ReadsImage bytes found × ImageContent found content
-Says Other bytes content = content ≡ unread
+Says size OfImage bytes content = (found : Option Image) × ReadsImage size bytes found × ImageContent found content
+Says size Other bytes content = content ≡ unread

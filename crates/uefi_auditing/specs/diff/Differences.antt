@@ -10,10 +10,13 @@ use Rattle.uefi_base.specs.Appending.{AppendsText}
 use Rattle.uefi_tcg.specs.v2.Event.{Event}
 use Rattle.uefi_tcg.specs.Entries.{Contents, Entry}
 use Rattle.uefi_tcg.specs.Logs.{HasContents}
+use Rattle.uefi_tcg.specs.declared.log.Log.{Log}
 use Rattle.uefi_auditing.specs.content.Content.{Content, Says, form_of}
 use Rattle.uefi_auditing.specs.content.Said.{said}
+use Rattle.uefi_tcg.specs.Logs.{HasUintnSize}
 use Rattle.uefi_auditing.specs.declared.text.LogFile.{LogFile}
 use Rattle.uefi_tcg.specs.EventTypes.{event_type_name}
+use Rattle.uefi_tcg.specs.declared.uintn_size.UintnSize.{UintnSize}
 
 -- An entry of a log with its index, and what its data say.
 pub record Numbered : Type 0 where
@@ -21,12 +24,16 @@ pub record Numbered : Type 0 where
   pub entry : Entry
   pub content : Content
 
--- These are the entries, of which the first has this index.
-abbrev pub AreNumbered : ℕ → List Entry → List Numbered → Type 0
-AreNumbered index [] all = all ≡ []
-AreNumbered index (entry ∷ entries) all =
-    (content : Content) × (rest : List Numbered) × Says (form_of entry.event.event_type) entry.event.event_data content
-    × AreNumbered (index + 1) entries rest × (all ≡ record { index = index; entry = entry; content = content } ∷ rest)
+-- These are the entries, of which the first has this index, of a log with a UINTN of this size.
+abbrev pub AreNumbered : UintnSize → ℕ → List Entry → List Numbered → Type 0
+AreNumbered size index [] all = all ≡ []
+AreNumbered size index (entry ∷ entries) all =
+    (content : Content) × (rest : List Numbered) × Says size (form_of entry.event.event_type) entry.event.event_data content
+    × AreNumbered size (index + 1) entries rest × (all ≡ record { index = index; entry = entry; content = content } ∷ rest)
+
+-- These are all entries of a log.
+abbrev pub AreNumberedIn : Log → Contents → List Numbered → Type 0
+AreNumberedIn log contents all = (size : UintnSize) × HasUintnSize log size × AreNumbered size 0 contents.entries all
 
 -- Those of a PCR. The PCRs above 23, which a PC's TPM doesn't have, are taken together as one, PCR
 -- 24.
@@ -152,19 +159,14 @@ ShowsBelow Shows (suc pcr) old new text same =
     × ShowsBelow Shows pcr old new before all_before × Shows pcr (of_pcr pcr old) (of_pcr pcr new) lines is_same
     × (text ≡ before ++ lines) × (same ≡ (all_before && is_same))
 
--- Of the one log that each file is: of the PCRs 0 to 23, and of those above.
-abbrev pub ShowsAll : (ℕ → List Numbered → List Numbered → List ℕ → Bool → Type 0) → Contents → Contents → List ℕ → Bool → Type 0
-ShowsAll Shows old new text same =
-    (olds : List Numbered) × (news : List Numbered) × AreNumbered 0 old.entries olds × AreNumbered 0 new.entries news
-    × ShowsBelow Shows 25 olds news text same
+-- The string grew by what is shown of all entries of two logs: of the PCRs 0 to 23, and of those above.
+abbrev pub AppendsAll : (ℕ → List Numbered → List Numbered → List ℕ → Bool → Type 0) → Log → Log → String Global → String Global
+    → Bool → Type 0
+AppendsAll Shows old new before after same =
+    (of_old : Contents) (of_new : Contents) → HasContents old of_old → HasContents new of_new
+    → (olds : List Numbered) × (news : List Numbered) × (text : List ℕ) × AreNumberedIn old of_old olds
+    × AreNumberedIn new of_new news × ShowsBelow Shows 25 olds news text same × AppendsText before after text
 
--- What `diff` prints.
-abbrev pub IsDiff : List ℕ → List ℕ → Contents → Contents → List ℕ → Bool → Type 0
-IsDiff old_name new_name = ShowsAll (λ pcr. ShowsPcr old_name new_name)
-
--- The string grew by it.
+-- It grew by what `diff` prints.
 abbrev pub AppendsDifferences : LogFile → LogFile → String Global → String Global → Bool → Type 0
-AppendsDifferences old new before after same =
-    (olds : Contents) (news : Contents) → HasContents old.log olds
-    → HasContents new.log news
-    → (text : List ℕ) × IsDiff old.name.now new.name.now olds news text same × AppendsText before after text
+AppendsDifferences old new = AppendsAll (λ pcr. ShowsPcr old.name.now new.name.now) old.log new.log

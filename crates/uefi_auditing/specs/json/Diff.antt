@@ -4,12 +4,9 @@ use Rattle.std.specs.declared.alloc.Global.{Global}
 use Rattle.std.specs.declared.string.String.{String}
 use Rattle.serde_json.specs.Data.{Data, null, number, unsigned, string, array, object, member, no_members}
 use Rattle.serde_json.specs.View.{items_of}
-use Rattle.uefi_base.specs.Appending.{AppendsText}
-use Rattle.uefi_tcg.specs.Entries.{Contents}
-use Rattle.uefi_tcg.specs.Logs.{HasContents}
 use Rattle.uefi_auditing.specs.content.Said.{said}
 use Rattle.uefi_auditing.specs.declared.text.LogFile.{LogFile}
-use Rattle.uefi_auditing.specs.diff.Differences.{AreThoseOnly, DifferAt, Numbered, ShowsAll, events_in, pcr_of, type_of}
+use Rattle.uefi_auditing.specs.diff.Differences.{AppendsAll, AreThoseOnly, DifferAt, Numbered, events_in, pcr_of, type_of}
 use Rattle.uefi_auditing.specs.json.Event.{type_json}
 use Rattle.uefi_auditing.specs.json.Line.{line_of}
 
@@ -66,7 +63,4 @@ ShowsPcrJson old_name new_name pcr old new text same =
 
 -- The string grew by the lines of all PCRs.
 abbrev pub AppendsDifferencesJson : LogFile → LogFile → String Global → String Global → Bool → Type 0
-AppendsDifferencesJson old new before after same =
-    (olds : Contents) (news : Contents) → HasContents old.log olds
-    → HasContents new.log news
-    → (text : List ℕ) × ShowsAll (ShowsPcrJson old.name.now new.name.now) olds news text same × AppendsText before after text
+AppendsDifferencesJson old new = AppendsAll (ShowsPcrJson old.name.now new.name.now) old.log new.log

@@ -3,6 +3,7 @@ use Rattle.std.specs.Prelude.{ℕ, ◌≡◌, List, [], ◌∷◌, flat_map, map
 use Rattle.hex.specs.Hex.{encode_lower}
 use Rattle.serde_json.specs.Data.{Data, number, unsigned, string, array, object, member, no_members}
 use Rattle.serde_json.specs.View.{items_of}
+use Rattle.uefi_tcg.specs.declared.uintn_size.UintnSize.{UintnSize}
 use Rattle.uefi_tcg.specs.v2.Event.{Digest, Event}
 use Rattle.pcr_replay.specs.declared.bank.Bank.{Bank}
 use Rattle.uefi_tcg.specs.Entries.{Entry}
@@ -48,7 +49,8 @@ event_json log index entry content =
     (member (codes "register") (number (unsigned entry.event.pcr_index))
     (member (codes "type") (type_json entry.event.event_type) no_members)))))))))
 
--- The line of an event, with what its data say by its type.
-abbrev pub IsEventLine : List ℕ → ℕ → Entry → List ℕ → Type 0
-IsEventLine log index entry line = (content : Content) × Says (form_of entry.event.event_type) entry.event.event_data content
+-- The line of an event, with what its data say by its type, with a UINTN of this size.
+abbrev pub IsEventLine : UintnSize → List ℕ → ℕ → Entry → List ℕ → Type 0
+IsEventLine size log index entry line =
+    (content : Content) × Says size (form_of entry.event.event_type) entry.event.event_data content
     × (line ≡ line_of (event_json log index entry content))

@@ -8,7 +8,6 @@ use crate::diff::only::push_only;
 use crate::diff::pcr::{NumberedEntry, entries_of, first_difference, numbered_entries};
 use crate::text::LogFile;
 use std::alloc::{AllocError, Global};
-use uefi_tcg::laws::one_contents;
 
 /// How many PCRs are compared: the 24 that a TPM has, and those above as one.
 pub(crate) const COMPARED: u32 = 25;
@@ -36,9 +35,8 @@ pub fn push_differences<'a>(
 ) -> Result<bool, AllocError>
     ensures { IfOk result (AppendsDifferences old.now new.now text.old text.new) }
 {
-    one_contents();
-    let olds = numbered_entries(alloc, old.log.entries())?;
-    let news = numbered_entries(alloc, new.log.entries())?;
+    let olds = numbered_entries(alloc, &old.log)?;
+    let news = numbered_entries(alloc, &new.log)?;
     push_each(
         text,
         alloc,

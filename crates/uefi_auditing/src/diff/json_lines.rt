@@ -15,7 +15,6 @@ use crate::json::{line_of, type_json};
 use crate::text::LogFile;
 use serde_json::{Map, Value, put};
 use std::alloc::{AllocError, Global};
-use uefi_tcg::laws::one_contents;
 
 /// Appends how the events of two logs differ, as JSON: for each PCR whose events differ one line
 /// with an object, those above 23 together. For a PCR whose events are the same there is none.
@@ -53,9 +52,8 @@ pub fn push_differences_json<'a>(
 ) -> Result<bool, AllocError>
     ensures { IfOk result (AppendsDifferencesJson old.now new.now text.old text.new) }
 {
-    one_contents();
-    let olds = numbered_entries(alloc, old.log.entries())?;
-    let news = numbered_entries(alloc, new.log.entries())?;
+    let olds = numbered_entries(alloc, &old.log)?;
+    let news = numbered_entries(alloc, &new.log)?;
     push_each(
         text,
         alloc,

@@ -1,12 +1,15 @@
 ghost use Rattle.std.specs.Prelude.{◌≡◌, ◌↔◌, ◌<◌, ◌^◌, length, map, IfOk, IsTrue, MatchOption, option_map};
+ghost use Rattle.uefi_tcg.specs.Entries.{Contents};
+ghost use Rattle.uefi_tcg.specs.Logs.{HasContents};
 ghost use Rattle.uefi_tcg.specs.LogViews.{entries_left, entry_of, event_of};
-ghost use Rattle.uefi_auditing.specs.diff.Differences.{AreNumbered, DifferAt, events_in, is_of, of_pcr};
+ghost use Rattle.uefi_auditing.specs.diff.Differences.{AreNumbered, AreNumberedIn, DifferAt, events_in, is_of, of_pcr};
 ghost use Rattle.uefi_auditing.specs.private.diff.Views.{numbered_of};
 
 use crate::content::{Content, read_content};
 use crate::diff::order::is_same_event;
 use std::alloc::{AllocError, Global};
-use uefi_tcg::{LogEntries, LogEntry};
+use uefi_tcg::laws::one_contents;
+use uefi_tcg::{Log, LogEntries, LogEntry, UintnSize};
 
 /// The PCR as which those above 23 are taken together.
 pub(crate) const ABOVE: u32 = 24;
@@ -25,16 +28,29 @@ pub(crate) struct NumberedEntry<'a> {
 /// Returns the events of a log, each with its index and what its data say.
 pub(crate) fn numbered_entries<'a>(
     alloc: Global,
+    log: &Log<'a>,
+) -> Result<Vec<NumberedEntry<'a>>, AllocError>
+    ensures { (contents : Contents) → HasContents log.now contents → IfOk result (λ found.
+        AreNumberedIn log.now contents (map numbered_of found.items)) }
+{
+    one_contents();
+    numbered(alloc, log.entries(), log.uintn_size())
+}
+
+/// Returns these events, each with its index and what its data say with a `UINTN` of this size.
+fn numbered<'a>(
+    alloc: Global,
     entries: LogEntries<'a>,
+    uintn_size: UintnSize,
 ) -> Result<Vec<NumberedEntry<'a>>, AllocError>
     requires { length (entries_left entries) < 2 ^ 64 }
-    ensures { IfOk result (λ found.
-        AreNumbered 0 (entries_left entries.entry) (map numbered_of found.items)) }
+    ensures { IfOk result (λ found. AreNumbered uintn_size 0 (entries_left entries.entry)
+        (map numbered_of found.items)) }
 {
     let mut found = Vec::new(alloc);
     let mut index = 0;
     for entry in entries {
-        let content = read_content(&entry.event);
+        let content = read_content(&entry.event, uintn_size);
         found.push(NumberedEntry {
             index,
             entry,

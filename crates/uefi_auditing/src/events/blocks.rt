@@ -43,16 +43,20 @@ pub fn push_event_blocks(
         writeln!(text, "{name}: header at offset 0")?;
         push_content(text, alloc, &Content::Header(header), &[])?;
     }
+    let uintn_size = file.log.uintn_size();
     for (index, entry) in file.log.entries().enumerate() {
-        push_block(text, alloc, file.name, index, &entry)?;
+        let event = &entry.event;
+        push_first_line(text, file.name, index, &entry)?;
+        push_digests(text, alloc, event)?;
+        let content = read_content(event, uintn_size);
+        push_content(text, alloc, &content, event.event_data())?;
     }
     Ok(())
 }
 
-/// Appends the block of an event.
-fn push_block(
+/// Appends the first line of an event's block.
+fn push_first_line(
     text: &mut String,
-    alloc: Global,
     name: &str,
     index: usize,
     entry: &LogEntry<'_>,
@@ -64,9 +68,7 @@ fn push_block(
         "{name}: event {index} at offset {offset}: PCR {pcr}, "
     )?;
     push_type(text, event.event_type())?;
-    text.push('\n')?;
-    push_digests(text, alloc, event)?;
-    push_content(text, alloc, &read_content(event), event.event_data())
+    text.push('\n')
 }
 
 /// Appends a line for each digest of an event.

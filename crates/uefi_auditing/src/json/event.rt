@@ -12,10 +12,11 @@ use crate::json::digests::{digests_json, hashed_banks};
 use crate::json::line::line_of;
 use serde_json::{Map, Value, json, put};
 use std::alloc::{AllocError, Global};
-use uefi_tcg::{EventType, LogEntry};
+use uefi_tcg::{EventType, LogEntry, UintnSize};
 
 /// Returns an event as one line of JSON, without a line's end: an object with the name of its log,
-/// the event's index in it, and what the event holds.
+/// the event's index in it, and what the event holds. The log has a `UINTN` of this size
+/// ([`Log::uintn_size`](uefi_tcg::Log::uintn_size)).
 ///
 /// | key | value |
 /// |---|---|
@@ -79,11 +80,12 @@ pub fn event_line(
     log: &str,
     index: usize,
     entry: &LogEntry<'_>,
+    uintn_size: UintnSize,
 ) -> Result<String, AllocError>
-    ensures { IfOk result
-        (λ line. IsEventLine log.now index (entry_of entry.now) (string_bytes line)) }
+    ensures { IfOk result (λ line.
+        IsEventLine uintn_size log.now index (entry_of entry.now) (string_bytes line)) }
 {
-    let content = read_content(&entry.event);
+    let content = read_content(&entry.event, uintn_size);
     let value = event_json(alloc, log, index, entry, &content)?;
     line_of(alloc, &value)
 }

@@ -1,10 +1,12 @@
 ghost use Rattle.std.specs.Prelude.{◌≡◌, ◌≤◌, None, length, IsTrue, IsFalse, IfSome, IfNone};
 ghost use Rattle.uefi_base.specs.Views.{slice_units};
+ghost use Rattle.uefi_tcg.specs.UintnSize.{uintn_size_of};
 ghost use Rattle.uefi_tcg.specs.content.Gpt.{GptData as Gpt, IsGptData, ReadsGptData, gpt_bytes};
 ghost use Rattle.uefi_tcg.specs.content.GptViews.{entry_of, header_of};
 ghost use Rattle.uefi_c.specs.Gpt.{HasEntry, HasHeader, entry_seen, header_seen};
 
 use uefi_base::UnalignedSlice;
+use uefi_tcg::UintnSize;
 use uefi_tcg::content::{GptData, GptEntry, GptHeader};
 
 /// The number of units in a partition's name.
@@ -65,48 +67,57 @@ pub struct UefiGptEntry<'a> {
 }
 
 /// Reads the header of the partition table that the data of an event are (TCG PC Client Platform
-/// Firmware Profile 1.06, 10.4.1, `UEFI_GPT_DATA`).
+/// Firmware Profile 1.06, 10.4.1, `UEFI_GPT_DATA`), in a log whose header states this size of a
+/// `UINTN`: 1 is four bytes, every other number eight.
 #[unsafe(no_mangle)]
-pub extern "C" fn uefi_gpt_header(event_data: &[u8], out: &mut UefiGptHeader) -> bool
-    ensures header { IsTrue result → HasHeader event_data.now (header_seen out.new) }
-    ensures none { IsFalse result → ReadsGptData event_data.now None }
+pub extern "C" fn uefi_gpt_header(
+    event_data: &[u8],
+    uintn_size: u8,
+    out: &mut UefiGptHeader,
+) -> bool
+    ensures header { IsTrue result → HasHeader (uintn_size_of uintn_size) event_data.now
+        (header_seen out.new) }
+    ensures none { IsFalse result → ReadsGptData (uintn_size_of uintn_size) event_data.now None }
     ensures unchanged { IsFalse result → out.new ≡ out.old }
 {
-    let Some(gpt) = GptData::read(event_data) else {
+    let Some(gpt) = GptData::read(event_data, UintnSize::from_header(uintn_size)) else {
         return false;
     };
     *out = seen_header(&gpt.header());
     true
 }
 
-/// Reads the entry at an index of the partition table that the data of an event are. It goes over
-/// the entries before it.
+/// Reads the entry at an index of the partition table that the data of an event are, with the size
+/// of a `UINTN` as for [`uefi_gpt_header`]. It goes over the entries before it.
 #[unsafe(no_mangle)]
 pub extern "C" fn uefi_gpt_entry<'a>(
     event_data: &'a [u8],
+    uintn_size: u8,
     index: usize,
     out: &mut UefiGptEntry<'a>,
 ) -> bool
-    ensures entry { IsTrue result → HasEntry event_data.now index (entry_seen out.new) }
-    ensures none { IsFalse result → (gpt : Gpt) → IsGptData gpt
-        → event_data.now ≡ gpt_bytes gpt → length gpt.entries ≤ index }
+    ensures entry { IsTrue result → HasEntry (uintn_size_of uintn_size) event_data.now index
+        (entry_seen out.new) }
+    ensures none { let size = uintn_size_of uintn_size in IsFalse result → (gpt : Gpt)
+        → IsGptData size gpt → event_data.now ≡ gpt_bytes size gpt → length gpt.entries ≤ index }
     ensures unchanged { IsFalse result → out.new ≡ out.old }
 {
-    let Some(entry) = entry_at(event_data, index) else {
+    let size = UintnSize::from_header(uintn_size);
+    let Some(entry) = entry_at(event_data, size, index) else {
         return false;
     };
     *out = seen_entry(&entry);
     true
 }
 
-/// Returns the entry at an index of the table that the bytes are.
-fn entry_at(bytes: &[u8], index: usize) -> Option<GptEntry<'_>>
-    ensures entry { IfSome result (λ entry. HasEntry bytes.now index (entry_of entry)) }
+/// Returns the entry at an index of the table that the bytes are with a `UINTN` of this size.
+fn entry_at(bytes: &[u8], size: UintnSize, index: usize) -> Option<GptEntry<'_>>
+    ensures entry { IfSome result (λ entry. HasEntry size bytes.now index (entry_of entry)) }
     ensures name { IfSome result (λ entry. length (slice_units entry.name) ≡ 36) }
-    ensures none { IfNone result ((gpt : Gpt) → IsGptData gpt
-        → bytes.now ≡ gpt_bytes gpt → length gpt.entries ≤ index) }
+    ensures none { IfNone result ((gpt : Gpt) → IsGptData size gpt
+        → bytes.now ≡ gpt_bytes size gpt → length gpt.entries ≤ index) }
 {
-    let gpt = GptData::read(bytes)?;
+    let gpt = GptData::read(bytes, size)?;
     gpt.iter().nth(index)
 }
 

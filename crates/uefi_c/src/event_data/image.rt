@@ -1,7 +1,9 @@
 ghost use Rattle.std.specs.Prelude.{◌≡◌, IsFalse};
+ghost use Rattle.uefi_tcg.specs.UintnSize.{uintn_size_of};
 ghost use Rattle.uefi_tcg.specs.content.Image.{ReadsImage};
 ghost use Rattle.uefi_c.specs.EventData.{given, image_seen};
 
+use uefi_tcg::UintnSize;
 use uefi_tcg::content::ImageLoadEvent;
 
 /// An image that was loaded (TCG PC Client Platform Firmware Profile 1.06, 10.2.3,
@@ -21,13 +23,19 @@ pub struct UefiImage<'a> {
     pub link_time_address: u64,
 }
 
-/// Reads the image that the data of an event are.
+/// Reads the image that the data of an event are, in a log whose header states this size of a
+/// `UINTN`: 1 is four bytes, every other number eight.
 #[unsafe(no_mangle)]
-pub extern "C" fn uefi_image<'a>(event_data: &'a [u8], out: &mut UefiImage<'a>) -> bool
-    ensures image { ReadsImage event_data.now (given result (image_seen out.new)) }
+pub extern "C" fn uefi_image<'a>(
+    event_data: &'a [u8],
+    uintn_size: u8,
+    out: &mut UefiImage<'a>,
+) -> bool
+    ensures image { ReadsImage (uintn_size_of uintn_size) event_data.now
+        (given result (image_seen out.new)) }
     ensures unchanged { IsFalse result → out.new ≡ out.old }
 {
-    let Some(image) = ImageLoadEvent::read(event_data) else {
+    let Some(image) = ImageLoadEvent::read(event_data, UintnSize::from_header(uintn_size)) else {
         return false;
     };
     *out = UefiImage {

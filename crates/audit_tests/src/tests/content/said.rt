@@ -138,7 +138,8 @@ fn said(alloc: Global, bytes: &[u8]) -> Result<String, Fail> {
     let log = Log::new(bytes, LastEntry::At(bytes.len()));
     let mut text = String::new(alloc);
     for entry in log.entries() {
-        push_said(&mut text, &read_content(&entry.event))?;
+        let content = read_content(&entry.event, log.uintn_size());
+        push_said(&mut text, &content)?;
     }
     Ok(text)
 }

@@ -214,7 +214,7 @@ pub(super) fn lines(alloc: Global, bytes: &[u8]) -> Result<String, Fail> {
     let log = Log::new(bytes, LastEntry::At(bytes.len()));
     let mut text = String::new(alloc);
     for (index, entry) in log.entries().enumerate() {
-        let line = event_line(alloc, "a log", index, &entry)?;
+        let line = event_line(alloc, "a log", index, &entry, log.uintn_size())?;
         text.push_str(line.as_str())?;
         text.push_str("\n")?;
     }

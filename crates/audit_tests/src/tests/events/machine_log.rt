@@ -86,7 +86,7 @@ fn check_line(alloc: Global, log: &Log<'_>, index: usize, expected: &str) -> Res
     let Some(entry) = log.entries().nth(index) else {
         return Err(Fail::new(format_args!("there is no event {index}")));
     };
-    let line = event_line(alloc, "ovmf", index, &entry)?;
+    let line = event_line(alloc, "ovmf", index, &entry, log.uintn_size())?;
     same_text("an event", line.as_str(), expected)
 }
 

@@ -13,7 +13,7 @@ returns c = λ table contents has is.
       judged = c.in_ok-judgement.ensures.judgement table contents has is;
       told = c.in_ok-judgement.ensures.lines table contents has is
           ∙ ap (λ it. it ++ judgement_lines c.args.reading file table contents judgement) none;
-      events = subst (λ (read : Bool). AreEventsIf read c.args.format file.name.now contents.entries
+      events = subst (λ (read : Bool). AreEventsIf read c.args.format file contents.entries
           (string_bytes c.push_if_read.new.text)) c.is_read.ensures
           (c.in_ok-push_if_read.ensures contents is (search rules));
       status = c.status-status.ensures;

@@ -1,32 +1,18 @@
-use Rattle.std.proofs.Common.{◌≡◌, [], List, ap, arith, length, map, rules, subst}
-use Rattle.uefi_tcg.specs.Entries.{Entry}
-use Rattle.uefi_tcg.specs.LogViews.{entries_left, entry_of}
-use Rattle.uefi_auditing.specs.content.Views.{content_of}
+use Rattle.std.proofs.Common.{map, subst}
+use Rattle.std.proofs.lemmas.Result.{IfOk-weaker}
+use Rattle.uefi_tcg.specs.Entries.{Contents}
+use Rattle.uefi_tcg.specs.LogViews.{contents_left}
 use Rattle.uefi_auditing.specs.diff.Differences.{AreNumbered}
 use Rattle.uefi_auditing.specs.private.diff.Views.{numbered_of}
-use Rattle.uefi_auditing.proofs.diff.Numbering.{all_numbered, none_yet, one_more, one_pushed}
 use Rattle.uefi_auditing.proofs.diff.pcr.numbered_entries.Goals as goal
 
-pub loop-entry-init : goal.loop-entry-init
-loop-entry-init c =
-    let none : c.new-found.result.items ≡ [] = search rules in record {
-      found = none_yet _ _ (ap (map numbered_of) none);
-      count = omega arith;
-    }
-
-pub loop-entry-preserved : goal.loop-entry-preserved
-loop-entry-preserved c =
-    let before = c.loop-entry.invariant in
-    let next = c.in-Some.ensures.steps in record {
-      found = one_more (map numbered_of c.loop-entry.found.items) _ c.loop-entry.index
-          (entry_of c.in-Some.entry) (content_of c.read_content-content.result) _ _ _ next
-          (one_pushed c.loop-entry.found.items c.push.new.self.items _ c.in_ok-push.ensures.items)
-          c.read_content-content.ensures before.found;
-      count = omega (arith, before.count, ap length next);
-    }
-
 pub returns : goal.returns
-returns c =
-    subst (λ (entries : List Entry). AreNumbered 0 entries (map numbered_of c.loop-entry.found.items))
-    (ap entries_left c.into_iter-entry-iterator.ensures.into_iter_gives)
-    (all_numbered _ c.loop-entry.index _ _ c.in-None.ensures.steps.0 c.loop-entry.invariant.found)
+returns c = λ contents is.
+    IfOk-weaker c.numbered.result _ _
+    (λ found are. (
+      c.uintn_size.result,
+      c.uintn_size.ensures,
+      subst (λ (it : Contents). AreNumbered c.uintn_size.result 0 it.entries (map numbered_of found.items))
+          (c.one_contents.ensures c.args.log.now (contents_left c.entries.result) contents c.entries.ensures.contents is) are,
+    ))
+    c.numbered.ensures
