@@ -4,7 +4,7 @@
 use uefi_formats::proto::device_path::LoadOption;
 use uefi_formats::proto::device_path::text::{AllowShortcuts, DisplayOnly, to_text};
 use uefi_formats::proto::tcg::content::VariableData;
-use uefi_formats::proto::tcg::{EventType, v2::EventLog};
+use uefi_formats::proto::tcg::{EventType, LastEntry, Log};
 
 /// Returns the variable of an event and, if its value is a boot option, what that says.
 fn variable_text(event_type: EventType, data: &[u8]) -> Option<String> {
@@ -28,9 +28,10 @@ fn variable_text(event_type: EventType, data: &[u8]) -> Option<String> {
 fn main() -> Result<(), Box<dyn std::error::Error>> {
     let file = std::env::args_os().nth(1).ok_or("usage: events FILE")?;
     let bytes = std::fs::read(file)?;
-    // Without a last entry from firmware, every whole event counts.
-    let log = EventLog::new(Some(&bytes), Some(bytes.len()), false);
-    for event in log.iter_after_header_event() {
+    // A log that is cut or broken is an error.
+    let log = Log::read(&bytes, LastEntry::Unknown)?;
+    for entry in log.entries() {
+        let event = entry.event;
         let (pcr, event_type) = (event.pcr_index().0, event.event_type());
         let name = event_type.name().map_or_else(|| format!("{event_type:?}"), String::from);
         let text = variable_text(event_type, event.event_data()).unwrap_or_default();

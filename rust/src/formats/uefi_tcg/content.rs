@@ -5,7 +5,8 @@
 //! The type of an event says which structure its data are. A `read` returns the value whose
 //! encoding the bytes are, whole and alone, or `None` if they are that of none. [`TaggedEvents`]
 //! iterates over as many as there are. A value is a view: it borrows the bytes and allocates
-//! nothing.
+//! nothing. The data of an image and of a partition table have `UINTN`s, whose size the log's header
+//! states: their `read` takes a [`UintnSize`](crate::formats::uefi_tcg::UintnSize).
 //!
 //! | type of the event | data |
 //! |---|---|

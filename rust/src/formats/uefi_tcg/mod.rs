@@ -5,13 +5,15 @@
 //! Firmware extends a register for each thing that it measures, and adds an event to a log. It
 //! returns the log as bytes with a *last entry*: the offset at which the last event starts.
 //!
-//! Begin with [`v1::EventLog::new`] for a log of SHA-1 digests, and with [`v2::EventLog::new`] for
-//! a crypto-agile one, whose header states the size of each algorithm's digests. `iter` returns the
-//! events, each a view that lives as long as the log's bytes: the longest list of events that stand
-//! one after another and keep to the last entry. In version 2 they begin where the header's own
-//! bytes end; `iter_after_header_event` begins where the event that has the header ends. Nothing is
-//! asked of the bytes or of the last entry, which may be past the bytes; nothing is copied, and no
-//! view allocates.
+//! Begin with [`Log::read`], which reads a log of either version, or says why it isn't whole.
+//! [`Log::entries`] returns its events, each a view that lives as long as the log's bytes: the
+//! longest list of events that stand one after another and keep to the last entry. Nothing is asked
+//! of the bytes or of the last entry, which may be past the bytes; nothing is copied, and no view
+//! allocates.
+//!
+//! [`v1::EventLog`] and [`v2::EventLog`] read one version, and judge nothing. In version 2 the events
+//! of `iter` begin where the header's own bytes end, those of `iter_after_header_event` where the
+//! event that has the header ends, as those of [`Log`] do.
 //!
 //! Beside logs there are one event at a time, the inputs that firmware is handed for an event, the
 //! records of what a platform can do, and what the data of events say ([`content`]).
@@ -25,6 +27,7 @@ pub use self::log_error::LogError;
 pub use self::log_event::LogEvent;
 pub use self::log_event_digests::LogEventDigests;
 pub use self::pcr_index::PcrIndex;
+pub use self::uintn_size::UintnSize;
 
 mod algorithm_id;
 pub mod content;
@@ -38,5 +41,6 @@ mod log_event;
 mod log_event_digests;
 mod padding;
 mod pcr_index;
+mod uintn_size;
 pub mod v1;
 pub mod v2;

@@ -7,5 +7,6 @@ mod log;
 mod machine_log;
 mod names;
 mod texts;
+mod uintn_size;
 mod v1;
 mod v2;

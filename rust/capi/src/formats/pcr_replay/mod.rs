@@ -2,10 +2,9 @@
 
 //! The PCRs of a TPM that an event log of measured boot leads to.
 //!
-//! Begin with [`Log::new`], which takes a log's bytes and what is known of its last entry, and with
-//! [`replay`], which returns what the 24 PCRs of a [`Bank`] hold: each a value, or the first event
-//! by which it is undetermined. [`Log::entries`] returns the events, each with its offset,
-//! [`Log::padding`] the padding after the last one, and [`Log::left_over`] other bytes after it.
+//! Begin with [`crate::formats::uefi_tcg::Log::read`], which takes a log's bytes and what is known of its last entry,
+//! and with [`replay`], which returns what the 24 PCRs of a [`Bank`] hold: each a value, or the first
+//! event by which it is undetermined.
 //!
 //! Nothing here allocates memory.
 

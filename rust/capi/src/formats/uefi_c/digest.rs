@@ -7,7 +7,7 @@ use crate::formats::uefi_c::log2::event_at;
 use crate::libraries::uefi_tcg::AlgorithmId;
 
 /// Reads the first digest of an algorithm in the event under the table of these rows that starts at
-/// the offset and keeps to the last entry.
+/// the offset and keeps to the last entry. Under a table of 2^32 rows or more there is none.
 #[unsafe(no_mangle)]
 pub extern "C" fn uefi_log2_digest<'a>(
     log: Bytes<'a>,

@@ -14,8 +14,7 @@ const LANES: usize = 16;
 /// Returns the index of the first zero among the whole units of the bytes, or `None` if no unit is
 /// zero.
 ///
-/// A unit is two bytes, the low byte first; an odd last byte is in none. The units are compared
-/// sixteen at a time.
+/// A unit is two bytes, the low byte first; an odd last byte is in none.
 #[inline]
 pub fn first_zero_unit(bytes: &[u8]) -> Option<usize> {
     let mut index = 0;

@@ -12,7 +12,7 @@ use crate::test_support::{holds, same, same_text};
 use crate::uefi_hii::{ConfigurationString, MultiConfigurationStringIter, parse_all};
 
 /// Texts, as `text_of` has them, and all their items.
-const TEXTS: [(&str, &str); 24] = [
+const TEXTS: [(&str, &str); 27] = [
     ("", ""),
     ("&", "ConfigHdr(Guid)\n"),
     ("@", "A, 4, None\n"),
@@ -20,6 +20,19 @@ const TEXTS: [(&str, &str); 24] = [
     (
         "GUID=16d6474bd6a852459d44ccad2e0f4cf9&NAME=0041&X=7fff0400aa",
         "A, 4, None\n",
+    ),
+    // After a good name the path's pair has no value, or is missing.
+    (
+        "GUID=16d6474bd6a852459d44ccad2e0f4cf9&NAME=0041&PATH&@",
+        "ConfigHdr(Path)\nA, 4, None\n",
+    ),
+    (
+        "GUID=16d6474bd6a852459d44ccad2e0f4cf9&NAME=0041&&@",
+        "ConfigHdr(Path)\nA, 4, None\n",
+    ),
+    (
+        "@&OFFSET=00&WIDTH=01&VALUE=00&GUID=16d6474bd6a852459d44ccad2e0f4cf9&NAME=0041&",
+        "A, 4, None | 0x0 1 00\nConfigHdr(Path)\n",
     ),
     (
         "GUID=00&@&OFFSET=00&WIDTH=01&VALUE=1122",

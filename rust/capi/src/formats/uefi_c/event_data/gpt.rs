@@ -4,6 +4,7 @@ use core::mem::MaybeUninit;
 use crate::bytes::Bytes;
 
 use crate::libraries::uefi_base::UnalignedSlice;
+use crate::libraries::uefi_tcg::UintnSize;
 use crate::libraries::uefi_tcg::content::{GptData, GptEntry, GptHeader};
 
 /// The number of units in a partition's name.
@@ -68,37 +69,44 @@ pub struct UefiGptEntry<'a> {
 }
 
 /// Reads the header of the partition table that the data of an event are (TCG PC Client Platform
-/// Firmware Profile 1.06, 10.4.1, `UEFI_GPT_DATA`).
+/// Firmware Profile 1.06, 10.4.1, `UEFI_GPT_DATA`), in a log whose header states this size of a
+/// `UINTN`: 1 is four bytes, every other number eight.
 #[unsafe(no_mangle)]
-pub extern "C" fn uefi_gpt_header(event_data: Bytes<'_>, out: &mut MaybeUninit<UefiGptHeader>) -> bool {
+pub extern "C" fn uefi_gpt_header(
+    event_data: Bytes<'_>,
+    uintn_size: u8,
+    out: &mut MaybeUninit<UefiGptHeader>,
+) -> bool {
     let event_data = event_data.as_slice();
-    let Some(gpt) = GptData::read(event_data) else {
+    let Some(gpt) = GptData::read(event_data, UintnSize::from_header(uintn_size)) else {
         return false;
     };
     out.write(seen_header(&gpt.header()));
     true
 }
 
-/// Reads the entry at an index of the partition table that the data of an event are. It goes over
-/// the entries before it.
+/// Reads the entry at an index of the partition table that the data of an event are, with the size
+/// of a `UINTN` as for [`uefi_gpt_header`]. It goes over the entries before it.
 #[unsafe(no_mangle)]
 pub extern "C" fn uefi_gpt_entry<'a>(
     event_data: Bytes<'a>,
+    uintn_size: u8,
     index: usize,
     out: &mut MaybeUninit<UefiGptEntry<'a>>,
 ) -> bool {
     let event_data = event_data.as_slice();
-    let Some(entry) = entry_at(event_data, index) else {
+    let size = UintnSize::from_header(uintn_size);
+    let Some(entry) = entry_at(event_data, size, index) else {
         return false;
     };
     out.write(seen_entry(&entry));
     true
 }
 
-/// Returns the entry at an index of the table that the bytes are.
+/// Returns the entry at an index of the table that the bytes are with a `UINTN` of this size.
 #[inline]
-fn entry_at(bytes: &[u8], index: usize) -> Option<GptEntry<'_>> {
-    let gpt = GptData::read(bytes)?;
+fn entry_at(bytes: &[u8], size: UintnSize, index: usize) -> Option<GptEntry<'_>> {
+    let gpt = GptData::read(bytes, size)?;
     gpt.iter().nth(index)
 }
 

@@ -3,6 +3,7 @@
 use core::mem::MaybeUninit;
 use crate::bytes::Bytes;
 
+use crate::libraries::uefi_tcg::UintnSize;
 use crate::libraries::uefi_tcg::content::ImageLoadEvent;
 
 /// An image that was loaded (TCG PC Client Platform Firmware Profile 1.06, 10.2.3,
@@ -24,11 +25,16 @@ pub struct UefiImage<'a> {
     pub link_time_address: u64,
 }
 
-/// Reads the image that the data of an event are.
+/// Reads the image that the data of an event are, in a log whose header states this size of a
+/// `UINTN`: 1 is four bytes, every other number eight.
 #[unsafe(no_mangle)]
-pub extern "C" fn uefi_image<'a>(event_data: Bytes<'a>, out: &mut MaybeUninit<UefiImage<'a>>) -> bool {
+pub extern "C" fn uefi_image<'a>(
+    event_data: Bytes<'a>,
+    uintn_size: u8,
+    out: &mut MaybeUninit<UefiImage<'a>>,
+) -> bool {
     let event_data = event_data.as_slice();
-    let Some(image) = ImageLoadEvent::read(event_data) else {
+    let Some(image) = ImageLoadEvent::read(event_data, UintnSize::from_header(uintn_size)) else {
         return false;
     };
     out.write(UefiImage {

@@ -4,8 +4,9 @@ use crate::support::fallible::*;
 
 use crate::support::alloc::AllocError;
 use crate::support::test::Fail;
-use crate::test_support::{bytes, each_shows, same};
+use crate::test_support::{bytes, each_shows, joined_bytes, same};
 use crate::uefi_tcg::content::{GptData, GptEntry, GptHeader};
+use crate::uefi_tcg::{UintnSize};
 
 /// A header of a table with 128 entries of 128 bytes, and the entries of a system partition and of
 /// one of Linux.
@@ -24,8 +25,17 @@ const LINUX: &str =
     deff030000000000 0000000000000080 72006f006f007400 \
     0000000000000000000000000000000000000000000000000000000000000000 0000000000000000000000000000000000000000000000000000000000000000";
 
-/// Returns the bytes of a header with this size of an entry, of the count of entries, and of all
-/// parts.
+/// The data of an event of a boot by OVMF for IA-32, whose `UINTN`s have four bytes.
+const IA32: &str =
+    "4546492050415254 00000100 5c000000 7b048a75 00000000 0100000000000000 ff0f020000000000 \
+    2200000000000000 de0f020000000000 11111111222233334444555555555555 0200000000000000 \
+    80000000 80000000 4d22351e 01000000 \
+    28732ac11ff8d211ba4b00a0c93ec93b aaaaaaaabbbbccccddddeeeeeeeeeeee 0008000000000000 \
+    ffff010000000000 0000000000000000 4500460049002000530079007300740065006d00 \
+    0000000000000000000000000000000000000000000000000000 0000000000000000000000000000000000000000000000000000";
+
+/// Returns the bytes of a header with this size of an entry, of the count of entries as a `UINTN` of
+/// eight bytes, and of all parts.
 fn data(size: u32, count: u64, parts: &[&str]) -> Result<Vec<u8>, Fail> {
     let header = bytes(HEADER)?;
     let mut data = Vec::new();
@@ -57,10 +67,10 @@ fn push_entry(text: &mut String, entry: &GptEntry<'_>) -> Result<(), AllocError>
     fallible_write!(text, " {}; ", entry.rest.len())
 }
 
-/// Returns this of all entries, or `none` if the bytes are no table.
-fn entries(input: &[u8]) -> Result<String, Fail> {
+/// Returns this of all entries, or `none` if the bytes are no table with `UINTN`s of this size.
+fn entries(input: &[u8], uintn_size: UintnSize) -> Result<String, Fail> {
     let mut text = String::new();
-    let Some(table) = GptData::read(input) else {
+    let Some(table) = GptData::read(input, uintn_size) else {
         text.fallible_push_str("none")?;
         return Ok(text);
     };
@@ -70,17 +80,35 @@ fn entries(input: &[u8]) -> Result<String, Fail> {
     Ok(text)
 }
 
+/// Returns the same with `UINTN`s of eight bytes.
+fn entries_of_eight(input: &[u8]) -> Result<String, Fail> {
+    entries(input, UintnSize::Eight)
+}
+
 /// Checks what is read of a header with this size of an entry, the count and the parts.
 fn reads(size: u32, count: u64, parts: &[&str], expected: &str) -> Result<(), Fail> {
     let input = data(size, count, parts)?;
     same(
         expected,
-        &entries(input.as_slice())?.as_str(),
+        &entries_of_eight(input.as_slice())?.as_str(),
         &expected,
     )
 }
 
+/// Checks what is read of the parts, one after another, with `UINTN`s of this size.
+fn reads_parts(
+    uintn_size: UintnSize,
+    parts: &[&str],
+    expected: &str,
+) -> Result<(), Fail> {
+    let input = joined_bytes(parts)?;
+    let text = entries(input.as_slice(), uintn_size)?;
+    same(expected, &text.as_str(), &expected)
+}
+
 const SYSTEM_TEXT: &str = "c12a7328-f81f-11d2-ba4b-00a0c93ec93b 2048-206847 0 EFI System 0; ";
+
+const IA32_TEXT: &str = "c12a7328-f81f-11d2-ba4b-00a0c93ec93b 2048-131071 0 EFI System 0; ";
 
 const BOTH_TEXT: &str = "c12a7328-f81f-11d2-ba4b-00a0c93ec93b 2048-206847 0 EFI System 0; \
     0fc63daf-8483-4772-8e79-3d69d8477de4 206848-262110 8000000000000000 root 0; ";
@@ -98,7 +126,9 @@ fn a_table_has_entries() -> Result<(), Fail> {
 #[test]
 fn an_iterator_of_entries_has_their_count() -> Result<(), Fail> {
     let input = data(128, 2, &[SYSTEM, LINUX])?;
-    let mut entries = GptData::read(input.as_slice()).ok_or("a table")?.iter();
+    let mut entries = GptData::read(input.as_slice(), UintnSize::Eight)
+        .ok_or("a table")?
+        .iter();
     let before = (entries.len(), entries.size_hint());
     entries.next();
     let after = (entries.len(), entries.size_hint());
@@ -122,13 +152,37 @@ fn bytes_that_are_no_table_are_refused() -> Result<(), Fail> {
 
 #[test]
 fn a_cut_table_is_refused() -> Result<(), Fail> {
-    each_shows(&[["", "none"], [HEADER, "none"]], entries)
+    each_shows(&[["", "none"], [HEADER, "none"]], entries_of_eight)
+}
+
+#[test]
+fn a_count_of_entries_may_have_four_bytes() -> Result<(), Fail> {
+    let (four) = (UintnSize::Four);
+    reads_parts(four, &[HEADER, "00000000"], "")?;
+    reads_parts(four, &[HEADER, "01000000", SYSTEM], SYSTEM_TEXT)?;
+    reads_parts(four, &[HEADER, "02000000", SYSTEM, LINUX], BOTH_TEXT)?;
+    reads_parts(four, &[IA32], IA32_TEXT)?;
+    reads_parts(four, &[HEADER, "000000"], "none")?;
+    reads_parts(four, &[HEADER, "01000000"], "none")?;
+    reads_parts(four, &[HEADER, "00000000", SYSTEM], "none")?;
+    reads_parts(four, &[HEADER, "ffffffff", SYSTEM], "none")
+}
+
+#[test]
+fn a_count_of_another_size_is_refused() -> Result<(), Fail> {
+    let (four, eight) = (UintnSize::Four, UintnSize::Eight);
+    let count = "0100000000000000";
+    reads_parts(eight, &[HEADER, count, SYSTEM], SYSTEM_TEXT)?;
+    reads_parts(four, &[HEADER, count, SYSTEM], "none")?;
+    reads_parts(eight, &[IA32], "none")
 }
 
 #[test]
 fn a_table_has_a_header() -> Result<(), Fail> {
     let input = data(128, 0, &[])?;
-    let header = GptData::read(input.as_slice()).ok_or("a table")?.header();
+    let header = GptData::read(input.as_slice(), UintnSize::Eight)
+        .ok_or("a table")?
+        .header();
     let words = (
         header.revision,
         header.header_size,

@@ -139,3 +139,61 @@ fn a_log_without_bytes_or_last_entry_is_empty_from_both_starts(
     ];
     same("events", &counts, &[0; 3])
 }
+
+/// A log, or `None` for missing bytes, a last entry, and before the first event the offset and the
+/// length of the rest of the iterators from both starts.
+type RestRow = (Option<Log>, Option<usize>, (usize, usize), (usize, usize));
+
+const RESTS: [RestRow; 11] = [
+    (Some(Log::Long), Some(81), (65, 32), (81, 16)),
+    (Some(Log::Four), Some(267), (77, 394), (77, 394)),
+    (Some(Log::Sha1), Some(0), (65, 0), (65, 0)),
+    // Without a header.
+    (Some(Log::Long), Some(80), (0, 0), (0, 0)),
+    (Some(Log::Four), Some(76), (0, 0), (0, 0)),
+    (Some(Log::MostRows), Some(0), (0, 0), (0, 0)),
+    (Some(Log::MostVendorBytes), Some(usize::MAX), (0, 0), (0, 0)),
+    (Some(Log::Empty), Some(0), (0, 0), (0, 0)),
+    // Without last entry or bytes.
+    (Some(Log::Long), None, (0, 0), (0, 0)),
+    (None, Some(81), (0, 0), (0, 0)),
+    (None, None, (0, 0), (0, 0)),
+];
+
+/// Returns the offset of an iterator, and the length of its rest.
+fn rest_of(events: &EventLogIter<'_>) -> (usize, usize) {
+    (events.offset(), events.rest().len())
+}
+
+/// Checks the rest of the iterator from a start, as the log returns it alone and with the header.
+fn check_rest(
+    row: &str,
+    log: &EventLog<'_>,
+    start: Start,
+    rest: (usize, usize),
+) -> Result<(), Fail> {
+    let (_, together) = log.header_and_events(start);
+    let found = [rest_of(&events_from(log, start)), rest_of(&together)];
+    same(row, &found, &[rest; 2])
+}
+
+/// Checks a row of `RESTS`.
+fn check_rests((log, last_entry, header, event): RestRow) -> Result<(), Fail> {
+    let row = match log {
+        Some(log) => joined(parts_of(log))?,
+        None => String::new(),
+    };
+    let input = bytes(row.as_str())?;
+    let input = log.map(|_| input.as_slice());
+    let log = EventLog::new(input, last_entry, false);
+    check_rest(row.as_str(), &log, Start::AfterHeader, header)?;
+    check_rest(row.as_str(), &log, Start::AfterEvent, event)
+}
+
+#[test]
+fn an_iterator_without_a_header_has_the_offset_0_and_no_rest() -> Result<(), Fail> {
+    for &row in &RESTS {
+        check_rests(row)?;
+    }
+    Ok(())
+}
