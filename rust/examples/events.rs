@@ -30,8 +30,7 @@ fn main() -> Result<(), Box<dyn std::error::Error>> {
     let bytes = std::fs::read(file)?;
     // A log that is cut or broken is an error.
     let log = Log::read(&bytes, LastEntry::Unknown)?;
-    for entry in log.entries() {
-        let event = entry.event;
+    for event in log.entries().map(|entry| entry.event) {
         let (pcr, event_type) = (event.pcr_index().0, event.event_type());
         let name = event_type.name().map_or_else(|| format!("{event_type:?}"), String::from);
         let text = variable_text(event_type, event.event_data()).unwrap_or_default();
