@@ -1,12 +1,10 @@
 -- Whether a log can be judged, what standard error is told of it, and which status follows from what was found.
-use Rattle.std.specs.Prelude.{◌≡◌, ◌⊎◌, ℕ, List, [], ◌++◌, codes, length, Bool, true, false, ◌||◌, not, nat_lt, if◌then◌else◌}
+use Rattle.std.specs.Prelude.{ℕ, List, ◌++◌, codes, length, Bool, true, false, ◌||◌, not, nat_lt, if◌then◌else◌}
 use Rattle.std.specs.Fmt.{decimal}
 use Rattle.uefi_tcg.specs.v2.Event.{Table}
-use Rattle.uefi_tcg.specs.v2.Header.{Header}
 use Rattle.uefi_tcg.specs.Entries.{Contents}
 use Rattle.pcr_replay.specs.Replay.{has_measured}
 use Rattle.uefi_tcg.specs.declared.log.Log.{Log}
-use Rattle.uefi_tcg.specs.Logs.{HasHeader}
 use Rattle.uefi_auditing.specs.json.Replay.{is_accepted}
 use Rattle.uefi_auditing.specs.text.Names.{shown_name}
 use Rattle.uefi_auditing.specs.text.Trailing.{left_over_lines, padding_lines}
@@ -18,12 +16,6 @@ use Rattle.uefi_audit.specs.declared.judging.Judgement.TheVariants.{Accepted, No
 use Rattle.uefi_audit.specs.declared.failure.Status.{Status}
 use Rattle.uefi_audit.specs.declared.failure.Status.TheVariants.{Well, Differs, Unjudged}
 use Rattle.uefi_audit.specs.declared.request.Reading.{Reading}
-
--- The table in a log's header: hash algorithms, each with the size of its digests. A log of version 1 has no header, and no rows.
-abbrev pub HasTable : Log → Table → Type 0
-HasTable log table =
-    ((header : Header) × HasHeader log header × (table ≡ header.table))
-    ⊎ (((header : Header) → HasHeader log header → ⊥) × (table ≡ []))
 
 -- Whether it can be judged: the table has few rows, what follows the last event is padding or allowed, and an event extends a PCR.
 unfoldable pub judgement_of : Reading → Log → Table → Contents → Judgement

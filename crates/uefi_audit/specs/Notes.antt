@@ -1,8 +1,6 @@
 -- What standard error is told of the banks and the events of a log whose events are read.
-use Rattle.std.specs.Prelude.{◌≡◌, ◌↔◌, ℕ, ◌==◌, List, [], ◌∷◌, ◌++◌, codes, flat_map, map, nat_lt, Bool, true, false, Option, None, Some, is_none, if◌then◌else◌}
-use Rattle.std.specs.Fmt.{digits}
-use Rattle.std.specs.List.{Contains, filter, list_any}
-use Rattle.std.specs.List.Sorted.{IsStrictlyIncreasing}
+use Rattle.std.specs.Prelude.{◌≡◌, ℕ, ◌==◌, List, [], ◌∷◌, ◌++◌, codes, flat_map, Bool, true, false, Option, None, Some, is_none, if◌then◌else◌}
+use Rattle.std.specs.List.{filter, list_any}
 use Rattle.uefi_tcg.specs.v2.Event.{Event, Table}
 use Rattle.pcr_replay.specs.Banks.{algorithm_of}
 use Rattle.uefi_tcg.specs.Entries.{Entry}
@@ -10,6 +8,7 @@ use Rattle.pcr_replay.specs.Replay.{is_active, why_ignored}
 use Rattle.pcr_replay.specs.declared.bank.Bank.{Bank}
 use Rattle.pcr_replay.specs.declared.ignored.Ignored.{Ignored}
 use Rattle.pcr_replay.specs.declared.ignored.Ignored.TheVariants.{NoPcr, OtherPcr}
+use Rattle.uefi_auditing.specs.Algorithms.{AreAlgorithmsIn, hex_text}
 use Rattle.uefi_auditing.specs.Replay.{all_banks}
 use Rattle.uefi_auditing.specs.text.Banks.{bank_name, bank_of}
 use Rattle.uefi_auditing.specs.text.Names.{shown_name}
@@ -24,21 +23,12 @@ inactive_line name entries bank = if is_active bank entries then [] else no_dige
 abbrev pub inactive_lines : List ℕ → List Entry → List Bank → List ℕ
 inactive_lines name entries banks = flat_map (inactive_line name entries) banks
 
--- The numbers of the algorithms in a table, each once, in ascending order.
-pub record AreAlgorithmsIn (table : Table) (algorithms : List ℕ) : Type 0 where
-  pub ascending : IsStrictlyIncreasing algorithms
-  pub same : (algorithm : ℕ) → Contains algorithms algorithm ↔ Contains (map (λ row. row.0) table) algorithm
-
 -- The banks of such algorithms that can be replayed, and the algorithms whose banks can't.
 abbrev pub banks_among : List ℕ → List Bank
 banks_among algorithms = filter (λ bank. list_any (λ algorithm. algorithm == algorithm_of bank) algorithms) all_banks
 
 abbrev pub unsupported_among : List ℕ → List ℕ
 unsupported_among algorithms = filter (λ algorithm. is_none (bank_of algorithm)) algorithms
-
--- A number in hex, in two digits or more.
-unfoldable pub hex_text : ℕ → List ℕ
-hex_text number = (if nat_lt number 16 then codes "0x0" else codes "0x") ++ digits 16 false number
 
 -- The one line of all banks that can't be replayed, if there are any.
 unfoldable pub unsupported_line : List ℕ → List ℕ → List ℕ

@@ -5,7 +5,7 @@ ghost use Rattle.uefi_tcg.specs.Logs.{HasContents};
 ghost use Rattle.uefi_tcg.specs.LogViews.{entries_left, entry_of};
 ghost use Rattle.uefi_auditing.specs.text.Names.{shown_name};
 ghost use Rattle.uefi_audit.specs.CheckReport.{IsCheckReport, IsCheckStatus, TellsWhetherAllMatch};
-ghost use Rattle.uefi_audit.specs.Judging.{HasTable};
+ghost use Rattle.uefi_auditing.specs.Algorithms.{HasTable};
 ghost use Rattle.uefi_audit.specs.private.Matches.{TellsWhetherMatches};
 
 use crate::failure::Status;

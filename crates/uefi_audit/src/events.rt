@@ -3,7 +3,7 @@ ghost use Rattle.uefi_tcg.specs.v2.Event.{Table};
 ghost use Rattle.uefi_tcg.specs.Entries.{Contents};
 ghost use Rattle.uefi_tcg.specs.Logs.{HasContents};
 ghost use Rattle.uefi_audit.specs.EventsReport.{AreEvents, AreEventsIf, IsEventsReport};
-ghost use Rattle.uefi_audit.specs.Judging.{HasTable};
+ghost use Rattle.uefi_auditing.specs.Algorithms.{HasTable};
 
 use crate::judging::push_judgement;
 use crate::report::Report;

@@ -3,7 +3,8 @@ ghost use Rattle.uefi_base.specs.Appending.{AppendsText};
 ghost use Rattle.uefi_tcg.specs.v2.Event.{Table};
 ghost use Rattle.uefi_tcg.specs.Entries.{Contents};
 ghost use Rattle.uefi_tcg.specs.Logs.{HasContents};
-ghost use Rattle.uefi_audit.specs.Judging.{HasTable, is_read, judged_status, judgement_lines, judgement_of, many_line, nothing_line, trailing_lines};
+ghost use Rattle.uefi_auditing.specs.Algorithms.{HasTable};
+ghost use Rattle.uefi_audit.specs.Judging.{is_read, judged_status, judgement_lines, judgement_of, many_line, nothing_line, trailing_lines};
 ghost use Rattle.uefi_auditing.specs.json.Replay.{is_accepted};
 
 use crate::failure::Status;

@@ -1,19 +1,18 @@
-ghost use Rattle.std.specs.Prelude.{◌≡◌, ◌++◌, ℕ, List, codes, flat_map, map, IfOk, OnOk};
+ghost use Rattle.std.specs.Prelude.{◌≡◌, ◌++◌, ℕ, List, codes, flat_map, IfOk, OnOk};
 ghost use Rattle.uefi_base.specs.Appending.{AppendsText};
 ghost use Rattle.uefi_tcg.specs.v2.Event.{Table};
-ghost use Rattle.uefi_tcg.specs.v2.Views.{table_of};
 ghost use Rattle.uefi_tcg.specs.Entries.{Contents};
 ghost use Rattle.uefi_tcg.specs.Logs.{HasContents};
 ghost use Rattle.uefi_tcg.specs.LogViews.{event_of};
+ghost use Rattle.uefi_auditing.specs.Algorithms.{HasTable, hex_text};
 ghost use Rattle.uefi_auditing.specs.text.Remarks.{ignored_lines};
-ghost use Rattle.uefi_audit.specs.Judging.{HasTable};
-ghost use Rattle.uefi_audit.specs.Notes.{AreAlgorithmsIn, AreTableNotes, banks_among, extends_no_pcr, has_no_pcr, hex_text, inactive_line, inactive_lines, no_digest_line, unsupported_among, unsupported_line};
+ghost use Rattle.uefi_audit.specs.Notes.{AreTableNotes, banks_among, extends_no_pcr, has_no_pcr, inactive_line, inactive_lines, no_digest_line, unsupported_among, unsupported_line};
 
 use pcr_replay::{Bank, Ignored, is_active, why_ignored};
 use std::alloc::{AllocError, Global};
+use uefi_auditing::algorithms::{algorithms_of, push_number};
 use uefi_auditing::text::{LogFile, ShownName, bank_name, bank_of, push_ignored};
 use uefi_tcg::laws::one_contents;
-use uefi_tcg::v2::AlgorithmDigestSizes;
 use uefi_tcg::{AlgorithmId, Log, LogEvent};
 
 /// Appends a line for each of these banks of which no event has a digest.
@@ -71,42 +70,6 @@ pub(crate) fn push_table_notes(
     push_unsupported(told, file.name, unsupported.as_slice())
 }
 
-/// Returns the algorithms in the table of a log's header, each once, in ascending order.
-fn algorithms_of(alloc: Global, log: &Log<'_>) -> Result<Vec<u16>, AllocError>
-    ensures { (table : Table) → HasTable log.now table
-        → IfOk result (λ algorithms. AreAlgorithmsIn table algorithms.items) }
-{
-    match log.header() {
-        Some(header) => in_order(alloc, &header.algorithm_digest_sizes()),
-        None => Ok(Vec::new(alloc)),
-    }
-}
-
-/// Returns the algorithms in a table, each once, in ascending order.
-fn in_order(alloc: Global, table: &AlgorithmDigestSizes<'_>) -> Result<Vec<u16>, AllocError>
-    ensures { IfOk result (λ algorithms. AreAlgorithmsIn (table_of table.now) algorithms.items) }
-{
-    let mut algorithms = each_algorithm(alloc, table)?;
-    algorithms.sort()?;
-    algorithms.dedup();
-    Ok(algorithms)
-}
-
-/// Returns the algorithm in each row of a table.
-fn each_algorithm(alloc: Global, table: &AlgorithmDigestSizes<'_>) -> Result<Vec<u16>, AllocError>
-    ensures { IfOk result
-        (λ algorithms. algorithms.items ≡ map (λ row. row.0) (table_of table.now)) }
-{
-    let mut algorithms = Vec::new(alloc);
-    for index in 0..table.len() {
-        let Some((algorithm, _)) = table.get(index) else {
-            return Ok(algorithms);
-        };
-        algorithms.push(algorithm.0)?;
-    }
-    Ok(algorithms)
-}
-
 /// Returns the banks of these algorithms that can be replayed.
 fn banks_among(alloc: Global, algorithms: &[u16]) -> Result<Vec<Bank>, AllocError>
     ensures { IfOk result (λ banks. banks.items ≡ banks_among algorithms.now) }
@@ -139,7 +102,7 @@ fn push_unsupported(told: &mut String, name: &str, algorithms: &[u16]) -> Result
     };
     let name = ShownName(name);
     write!(told, "{name}: not supported: the bank of algorithm ")?;
-    push_algorithm(told, *first)?;
+    push_number(told, *first)?;
     push_others(told, others)?;
     told.push('\n')?;
     Ok(())
@@ -161,18 +124,7 @@ fn push_other(told: &mut String, algorithm: u16) -> Result<(), AllocError>
     ensures { OnOk result (AppendsText told.old told.new (codes ", " ++ hex_text algorithm)) }
 {
     told.push_str(", ")?;
-    push_algorithm(told, algorithm)
-}
-
-/// Appends an algorithm's number.
-#[tactic(auto, unfolding(crate::specs::Notes::hex_text))]
-fn push_algorithm(told: &mut String, algorithm: u16) -> Result<(), AllocError>
-    ensures { OnOk result (AppendsText told.old told.new (hex_text algorithm)) }
-{
-    if algorithm < 16 {
-        return write!(told, "0x0{algorithm:x}");
-    }
-    write!(told, "0x{algorithm:x}")
+    push_number(told, algorithm)
 }
 
 /// Appends a line for each event of a log that has no effect and should have. Returns whether one of

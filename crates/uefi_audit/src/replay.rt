@@ -10,7 +10,7 @@ ghost use Rattle.uefi_auditing.specs.json.Replay.{replay_line};
 ghost use Rattle.uefi_auditing.specs.text.Pcrs.{bank_lines};
 ghost use Rattle.uefi_auditing.specs.text.Remarks.{ignored_lines, start_lines};
 ghost use Rattle.uefi_auditing.specs.text.Undetermined.{undetermined_lines};
-ghost use Rattle.uefi_audit.specs.Judging.{HasTable};
+ghost use Rattle.uefi_auditing.specs.Algorithms.{HasTable};
 ghost use Rattle.uefi_audit.specs.Notes.{has_no_pcr};
 ghost use Rattle.uefi_audit.specs.Replaying.{AreBankNotes, has_undetermined, is_stated, left_over_text, name_line, replay_status, start_by, text_of};
 ghost use Rattle.uefi_audit.specs.ReplayReport.{IsPcrReport, IsReplayReport, IsReportBy};

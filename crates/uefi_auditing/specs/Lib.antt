@@ -1,4 +1,5 @@
 pub mod Replay
+pub mod Algorithms
 pub mod content
 pub mod text
 pub mod json

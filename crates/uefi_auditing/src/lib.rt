@@ -10,6 +10,7 @@
 //! failed allocation is the only error of the calls that append lines.
 #![tactic(auto)]
 
+pub mod algorithms;
 pub mod check;
 pub mod content;
 pub mod diff;

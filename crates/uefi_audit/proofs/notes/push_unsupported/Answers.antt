@@ -11,4 +11,4 @@ unfolding lib.Utf8.encode
 returns c =
     some_unsupported c.args.name.now c.args.algorithms.now c.in-Some.first.now c.in-Some.others.now
     (string_bytes c.args.told.now) _ _ _ _ c.in-Some.ensures.cases.0 c.in_ok-write.ensures.bytes
-    c.in_ok-push_algorithm.ensures c.in_ok-push_others.ensures c.in_ok-push.ensures.bytes
+    c.in_ok-push_number.ensures c.in_ok-push_others.ensures c.in_ok-push.ensures.bytes

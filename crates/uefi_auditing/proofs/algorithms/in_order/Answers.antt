@@ -1,6 +1,6 @@
 use Rattle.uefi_tcg.specs.v2.Views.{table_of}
-use Rattle.uefi_audit.proofs.Algorithms.{are_algorithms}
-use Rattle.uefi_audit.proofs.notes.in_order.Goals as goal
+use Rattle.uefi_auditing.proofs.algorithms.Tables.{are_algorithms}
+use Rattle.uefi_auditing.proofs.algorithms.in_order.Goals as goal
 
 pub returns : goal.returns
 returns c =

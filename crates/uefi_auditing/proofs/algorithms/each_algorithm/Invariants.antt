@@ -1,6 +1,6 @@
 use Rattle.std.proofs.Common.{◌≡◌, map, take}
 use Rattle.uefi_tcg.specs.v2.Views.{table_of}
-use Rattle.uefi_audit.proofs.notes.each_algorithm.Given as goal
+use Rattle.uefi_auditing.proofs.algorithms.each_algorithm.Given as goal
 
 -- The algorithms of the rows so far.
 abbrev pub invariant-loop-index : goal.invariant-loop-index

@@ -1,7 +1,7 @@
 use Rattle.std.proofs.Common.{sym}
 use Rattle.uefi_tcg.specs.v2.Views.{table_of}
-use Rattle.uefi_audit.proofs.Algorithms.{one_more_row}
-use Rattle.uefi_audit.proofs.notes.each_algorithm.Goals as goal
+use Rattle.uefi_auditing.proofs.algorithms.Tables.{one_more_row}
+use Rattle.uefi_auditing.proofs.algorithms.each_algorithm.Goals as goal
 
 pub loop-index-preserved : goal.loop-index-preserved
 loop-index-preserved c =
