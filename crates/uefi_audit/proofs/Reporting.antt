@@ -14,10 +14,11 @@ use Rattle.uefi_auditing.specs.declared.replay.BankPcrs.{BankPcrs}
 use Rattle.uefi_auditing.specs.declared.text.LogFile.{LogFile}
 use Rattle.uefi_auditing.specs.text.Remarks.{ignored_lines, start_lines}
 use Rattle.uefi_auditing.specs.text.Undetermined.{undetermined_lines}
+use Rattle.uefi_auditing.proofs.Viewed.{any_view}
 use Rattle.uefi_audit.specs.Ends.{worse}
 use Rattle.uefi_audit.specs.Judging.{judged_status, judgement_lines, judgement_of}
 use Rattle.uefi_audit.specs.Notes.{has_no_pcr}
-use Rattle.uefi_audit.specs.Replaying.{AreBankNotes, asked_pcrs, has_undetermined, is_stated, is_unjudged, replay_status, start_by, text_of}
+use Rattle.uefi_audit.specs.Replaying.{AreBankNotes, IsTextOf, asked_pcrs, has_undetermined, is_stated, is_unjudged, replay_status, start_by}
 use Rattle.uefi_audit.specs.ReplayReport.{IsPcrReport, IsReplayReport, IsReportBy, IsUnreadReport}
 use Rattle.uefi_audit.specs.private.Reports.{GrowBy}
 use Rattle.uefi_audit.specs.declared.failure.Status.{Status}
@@ -40,12 +41,7 @@ four_parts old a b c d one two three new first second third fourth =
     fourth ∙ ap (λ t. t ++ d) (three_parts old a b c one two three first second third)
     ∙ append_assoc old (a ++ b ++ c) d
 
--- A test of views.
-pub any_view : {A B : Type 0} (test : B → Bool) (view : A → B) (all : List A)
-    → list_any (λ it. test (view it)) all ≡ list_any test (map view all)
-any_view test view [] = refl
-any_view test view (it ∷ all) = ap (λ rest. test (view it) || rest) (any_view test view all)
-
+-- The test of PCRs, by what they hold.
 pub unjudged_is : (found : List BankPcrs)
     → ((length found == 0) || list_any (λ bank. has_undetermined (bank_outcomes_of bank)) found)
     ≡ is_unjudged (map bank_outcomes_of found)
@@ -56,23 +52,24 @@ unjudged_is found =
 
 -- The report of PCRs.
 pub pcr_report : (file : LogFile) (asked : Asked) (table : Table) (contents : Contents) (start : Start) (stated : Bool)
-    (found : List BankOutcomes) (banks : List ℕ) (ignored : Bool) (status : Status)
+    (found : List BankOutcomes) (banks shown : List ℕ) (ignored : Bool) (status : Status)
     (told_before told_after text_before text_after : String Global)
     → start ≡ start_by asked.locality contents.entries → stated ≡ is_stated asked.locality contents.entries
     → found ≡ asked_pcrs asked contents.entries → AreBankNotes asked.bank file.name.now table contents.entries banks
     → AppendsText told_before told_after (start_lines file.name.now start stated ++ banks
     ++ flat_map (undetermined_lines file.name.now) found ++ ignored_lines file.name.now contents.entries)
-    → AppendsText text_before text_after (text_of asked.format file asked.is_one_of_many contents start stated found)
+    → IsTextOf asked.format file asked.is_one_of_many table contents start stated found shown
+    → AppendsText text_before text_after shown
     → ignored ≡ has_no_pcr contents.entries → status ≡ replay_status found ignored
     → GrowBy told_before told_after text_before text_after (IsPcrReport file asked table contents) status
-pcr_report file asked table contents start stated found banks ignored status told_before told_after text_before text_after
-    starts is_said are_found are telling printing is_ignored is_status = record {
+pcr_report file asked table contents start stated found banks shown ignored status told_before told_after text_before text_after
+    starts is_said are_found are telling is_shown printing is_ignored is_status = record {
       told = start_lines file.name.now start stated ++ banks ++ flat_map (undetermined_lines file.name.now) found
           ++ ignored_lines file.name.now contents.entries;
-      text = text_of asked.format file asked.is_one_of_many contents start stated found;
+      text = shown;
       is = record {
         notes = (banks, are, rw (starts, is_said, are_found) refl);
-        pcrs = rw (starts, is_said, are_found) refl;
+        pcrs = rw (starts, is_said, are_found) at is_shown;
         of_pcrs = rw (is_status, is_ignored, are_found) refl;
       };
       telling = telling;
@@ -80,13 +77,13 @@ pcr_report file asked table contents start stated found banks ignored status tol
     }
 
 -- That of a log whose events aren't read.
-pub unread_report : (without_pcrs : List ℕ) (told text_before text_after : String Global)
-    → AppendsText text_before text_after without_pcrs
-    → GrowBy told told text_before text_after (IsUnreadReport without_pcrs) Well
-unread_report without_pcrs told text_before text_after printing = record {
+pub unread_report : (IsWithoutPcrs : List ℕ → Type 0) (shown : List ℕ) (told text_before text_after : String Global)
+    → IsWithoutPcrs shown → AppendsText text_before text_after shown
+    → GrowBy told told text_before text_after (IsUnreadReport IsWithoutPcrs) Well
+unread_report IsWithoutPcrs shown told text_before text_after is_shown printing = record {
   told = [];
-  text = without_pcrs;
-  is = record { no_notes = refl; no_pcrs = refl; no_more = refl };
+  text = shown;
+  is = record { no_notes = refl; no_pcrs = is_shown; no_more = refl };
   telling = sym (append-nil (string_bytes told));
   printing = printing;
 }

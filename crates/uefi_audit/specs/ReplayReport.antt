@@ -6,7 +6,7 @@ use Rattle.uefi_auditing.specs.declared.text.LogFile.{LogFile}
 use Rattle.uefi_audit.specs.Ends.{worse}
 use Rattle.uefi_audit.specs.Judging.{judged_status, judgement_lines, judgement_of}
 use Rattle.uefi_audit.specs.Notes.{has_no_pcr}
-use Rattle.uefi_audit.specs.Replaying.{AreReplayNotes, asked_pcrs, left_over_text, pcrs_text, replay_status}
+use Rattle.uefi_audit.specs.Replaying.{AreReplayNotes, IsLeftOverText, IsPcrsText, asked_pcrs, replay_status}
 use Rattle.uefi_audit.specs.declared.failure.Status.{Status}
 use Rattle.uefi_audit.specs.declared.failure.Status.TheVariants.{Well}
 use Rattle.uefi_audit.specs.declared.judging.Judgement.{Judgement}
@@ -19,21 +19,21 @@ use Rattle.uefi_audit.specs.declared.request.Reading.{Reading}
 pub record IsPcrReport (file : LogFile) (asked : Asked) (table : Table) (contents : Contents)
     (told text : List ℕ) (status : Status) : Type 0 where
   pub notes : AreReplayNotes file.name.now asked table contents.entries told
-  pub pcrs : text ≡ pcrs_text file asked contents
+  pub pcrs : IsPcrsText file asked table contents text
   pub of_pcrs : status ≡ replay_status (asked_pcrs asked contents.entries) (has_no_pcr contents.entries)
 
 -- Of another log: no more is told, and there is at most an object without PCRs.
-pub record IsUnreadReport (without_pcrs told text : List ℕ) (status : Status) : Type 0 where
+pub record IsUnreadReport (IsWithoutPcrs : List ℕ → Type 0) (told text : List ℕ) (status : Status) : Type 0 where
   pub no_notes : told ≡ []
-  pub no_pcrs : text ≡ without_pcrs
+  pub no_pcrs : IsWithoutPcrs text
   pub no_more : status ≡ Well
 
 -- What follows from the judgement.
 unfoldable pub IsReportBy : Judgement → LogFile → Asked → Table → Contents → List ℕ → List ℕ → Status → Type 0
 IsReportBy Accepted file asked table contents = IsPcrReport file asked table contents
 IsReportBy NothingMeasured file asked table contents = IsPcrReport file asked table contents
-IsReportBy LeftOver file asked table contents = IsUnreadReport (left_over_text asked.format file asked.locality contents)
-IsReportBy ManyAlgorithms file asked table contents = IsUnreadReport []
+IsReportBy LeftOver file asked table contents = IsUnreadReport (IsLeftOverText asked.format file asked.locality table contents)
+IsReportBy ManyAlgorithms file asked table contents = IsUnreadReport (λ text. text ≡ [])
 
 -- What is printed of a log: what is told of its judgement comes first, and the worse status counts.
 pub record IsReplayReport (file : LogFile) (reading : Reading) (asked : Asked) (table : Table) (contents : Contents)

@@ -7,7 +7,7 @@ use Rattle.pcr_replay.specs.Start.{start_at, start_in, startup_locality}
 use Rattle.pcr_replay.specs.declared.bank.Bank.{Bank}
 use Rattle.pcr_replay.specs.declared.start.Start.{Start}
 use Rattle.uefi_auditing.specs.Replay.{BankOutcomes, asked as asked_banks, replayed}
-use Rattle.uefi_auditing.specs.json.Replay.{replay_line}
+use Rattle.uefi_auditing.specs.json.Replay.{IsReplayLine}
 use Rattle.uefi_auditing.specs.text.Names.{shown_name}
 use Rattle.uefi_auditing.specs.text.Pcrs.{bank_lines}
 use Rattle.uefi_auditing.specs.text.Remarks.{ignored_lines, start_lines}
@@ -59,24 +59,23 @@ unfoldable pub name_line : Bool → List ℕ → List ℕ
 name_line is_one_of_many name = if is_one_of_many then shown_name name ++ codes ":\n" else []
 
 -- PCRs as text, or as one object.
-unfoldable pub text_of : Format → LogFile → Bool → Contents → Start → Bool → List BankOutcomes → List ℕ
-text_of Text file is_one_of_many contents start stated found =
-    name_line is_one_of_many file.name.now ++ flat_map bank_lines found
-text_of Json file is_one_of_many contents start stated found =
-    replay_line file.name.now file.log contents start stated found true
+unfoldable pub IsTextOf : Format → LogFile → Bool → Table → Contents → Start → Bool → List BankOutcomes → List ℕ → Type 0
+IsTextOf Text file is_one_of_many table contents start stated found text =
+    text ≡ name_line is_one_of_many file.name.now ++ flat_map bank_lines found
+IsTextOf Json file is_one_of_many table contents start stated found text =
+    IsReplayLine file table contents start stated found true text
 
 -- Those that are asked for.
-abbrev pub pcrs_text : LogFile → Asked → Contents → List ℕ
-pcrs_text file asked contents =
-    text_of asked.format file asked.is_one_of_many contents (start_by asked.locality contents.entries)
+abbrev pub IsPcrsText : LogFile → Asked → Table → Contents → List ℕ → Type 0
+IsPcrsText file asked table contents =
+    IsTextOf asked.format file asked.is_one_of_many table contents (start_by asked.locality contents.entries)
     (is_stated asked.locality contents.entries) (asked_pcrs asked contents.entries)
 
 -- Of a log with trailing bytes that aren't allowed: nothing as text, or an object without PCRs.
-unfoldable pub left_over_text : Format → LogFile → Option ℕ → Contents → List ℕ
-left_over_text Text file locality contents = []
-left_over_text Json file locality contents =
-    replay_line file.name.now file.log contents (start_by locality contents.entries)
-    (is_stated locality contents.entries) [] false
+unfoldable pub IsLeftOverText : Format → LogFile → Option ℕ → Table → Contents → List ℕ → Type 0
+IsLeftOverText Text file locality table contents text = text ≡ []
+IsLeftOverText Json file locality table contents text =
+    IsReplayLine file table contents (start_by locality contents.entries) (is_stated locality contents.entries) [] false text
 
 -- The status of PCRs: no bank was replayed, or a PCR is undetermined; or an event is of a PCR that no TPM has.
 abbrev pub has_undetermined : BankOutcomes → Bool

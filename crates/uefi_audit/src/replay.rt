@@ -6,13 +6,13 @@ ghost use Rattle.uefi_tcg.specs.Entries.{Contents};
 ghost use Rattle.uefi_tcg.specs.Logs.{HasContents};
 ghost use Rattle.pcr_replay.specs.Views.{outcome_of};
 ghost use Rattle.uefi_auditing.specs.Replay.{bank_outcomes_of};
-ghost use Rattle.uefi_auditing.specs.json.Replay.{replay_line};
+ghost use Rattle.uefi_auditing.specs.json.Replay.{IsReplayLine};
 ghost use Rattle.uefi_auditing.specs.text.Pcrs.{bank_lines};
 ghost use Rattle.uefi_auditing.specs.text.Remarks.{ignored_lines, start_lines};
 ghost use Rattle.uefi_auditing.specs.text.Undetermined.{undetermined_lines};
 ghost use Rattle.uefi_auditing.specs.Algorithms.{HasTable};
 ghost use Rattle.uefi_audit.specs.Notes.{has_no_pcr};
-ghost use Rattle.uefi_audit.specs.Replaying.{AreBankNotes, has_undetermined, is_stated, left_over_text, name_line, replay_status, start_by, text_of};
+ghost use Rattle.uefi_audit.specs.Replaying.{AreBankNotes, IsLeftOverText, IsTextOf, has_undetermined, is_stated, name_line, replay_status, start_by};
 ghost use Rattle.uefi_audit.specs.ReplayReport.{IsPcrReport, IsReplayReport, IsReportBy};
 ghost use Rattle.uefi_audit.specs.private.Reports.{GrowBy};
 
@@ -185,7 +185,7 @@ pub(crate) fn start_of(file: &LogFile<'_>, locality: Option<u8>) -> Assumed
 }
 
 /// Appends PCRs in the format that is asked for.
-#[tactic(auto, unfolding(crate::specs::Replaying::text_of))]
+#[tactic(auto, unfolding(crate::specs::Replaying::IsTextOf))]
 fn push_found(
     text: &mut String,
     alloc: Global,
@@ -194,9 +194,11 @@ fn push_found(
     assumed: &Assumed,
     found: &[BankPcrs],
 ) -> Result<(), AllocError>
-    ensures { (contents : Contents) → HasContents file.now.log contents → OnOk result
-        (AppendsText text.old text.new (text_of asked.format file.now asked.is_one_of_many contents
-        assumed.now.start assumed.now.is_stated (map bank_outcomes_of found.now))) }
+    ensures { (table : Table) (contents : Contents) → HasTable file.now.log table
+        → HasContents file.now.log contents → OnOk result ((shown : List ℕ) × IsTextOf
+        asked.format file.now asked.is_one_of_many table contents assumed.now.start
+        assumed.now.is_stated (map bank_outcomes_of found.now) shown
+        × AppendsText text.old text.new shown) }
 {
     match asked.format {
         Format::Text => push_text(text, alloc, file.name, asked.is_one_of_many, found),
@@ -241,9 +243,10 @@ fn push_json(
     found: &[BankPcrs],
     is_accepted: bool,
 ) -> Result<(), AllocError>
-    ensures { (contents : Contents) → HasContents file.now.log contents → OnOk result
-        (AppendsText text.old text.new (replay_line file.now.name.now file.now.log contents
-        assumed.now.start assumed.now.is_stated (map bank_outcomes_of found.now) is_accepted)) }
+    ensures { (table : Table) (contents : Contents) → HasTable file.now.log table
+        → HasContents file.now.log contents → OnOk result ((line : List ℕ) × IsReplayLine file.now
+        table contents assumed.now.start assumed.now.is_stated (map bank_outcomes_of found.now)
+        is_accepted line × AppendsText text.old text.new line) }
 {
     let Assumed { start, is_stated } = *assumed;
     push_replay_json(text, alloc, file, &start, is_stated, found, is_accepted)?;
@@ -251,16 +254,17 @@ fn push_json(
 }
 
 /// Appends the object of a log with trailing bytes, if JSON is asked for.
-#[tactic(auto, unfolding(crate::specs::Replaying::left_over_text))]
+#[tactic(auto, unfolding(crate::specs::Replaying::IsLeftOverText))]
 fn push_left_over(
     text: &mut String,
     alloc: Global,
     file: &LogFile<'_>,
     asked: Asked,
 ) -> Result<(), AllocError>
-    ensures { (contents : Contents) → HasContents file.now.log contents → OnOk result
-        (AppendsText text.old text.new
-        (left_over_text asked.format file.now asked.locality contents)) }
+    ensures { (table : Table) (contents : Contents) → HasTable file.now.log table
+        → HasContents file.now.log contents → OnOk result ((shown : List ℕ) × IsLeftOverText
+        asked.format file.now asked.locality table contents shown
+        × AppendsText text.old text.new shown) }
 {
     match asked.format {
         Format::Text => Ok(()),

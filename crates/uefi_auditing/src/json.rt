@@ -22,5 +22,6 @@ mod event;
 mod events;
 mod line;
 pub(crate) mod names;
+mod not_replayed;
 mod replay;
 mod verdict;

@@ -149,5 +149,17 @@ pub fn json_line(log: &Log<'_>, found: &[Replayed<'_>]) -> String {
     let (left_over, padding) = (part(!log.is_padded), part(log.is_padded));
     let banks = array(found.chunks(REGISTERS as usize).map(bank));
     let locality = object!(number: log.locality().unwrap_or(0), stated: log.locality().is_some());
-    object!(banks, left_over, locality, log: text(log.name), padding) + "\n"
+    let not_replayed = not_replayed(log, found);
+    object!(banks, left_over, locality, log: text(log.name), not_replayed, padding) + "\n"
+}
+
+/// The algorithms of a log's header whose banks weren't replayed.
+fn not_replayed(log: &Log<'_>, found: &[Replayed<'_>]) -> String {
+    let is_found = |number: u16| found.iter().any(|it| it.0.algorithm == number);
+    let others: BTreeSet<_> = log.algorithms.iter().filter(|it| !is_found(**it)).collect();
+    let name = |number: &u16| match BANKS.iter().find(|it| it.algorithm == *number) {
+        Some(bank) => text(bank.name),
+        None => text(&format!("{number:#04x}")),
+    };
+    array(others.into_iter().map(name))
 }

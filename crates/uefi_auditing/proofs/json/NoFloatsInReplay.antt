@@ -1,14 +1,15 @@
 -- No number of a log's JSON is a float.
 use Rattle.std.proofs.Common.{◌≡◌, ℕ, ◌+◌, List, [], ◌∷◌, map, refl, Bool, false, true, ◌==◌, cond, length}
-use Rattle.std.specs.Prelude.{Ok, Err, codes}
+use Rattle.std.specs.Prelude.{Ok, Err, codes, not}
+use Rattle.std.specs.List.{filter}
 use Rattle.serde_json.specs.Data.{null, number, unsigned, object, member, no_members}
 use Rattle.serde_json.specs.View.{items_of}
 use Rattle.serde_json.specs.Written.{has_float, items_have_float}
 use Rattle.pcr_replay.specs.declared.start.Start.{Start}
 use Rattle.pcr_replay.specs.Replay.{Outcome}
 use Rattle.uefi_auditing.specs.Replay.{BankOutcomes}
-use Rattle.uefi_auditing.specs.json.Replay.{bank_json, banks_json, if_undetermined, locality_json, log_json, part_json}
-use Rattle.uefi_auditing.specs.json.Replay.{register_json, undetermined_json}
+use Rattle.uefi_auditing.specs.json.Replay.{algorithm_json, bank_json, banks_json, if_undetermined, is_replayed, locality_json, log_json}
+use Rattle.uefi_auditing.specs.json.Replay.{not_replayed_json, part_json, register_json, undetermined_json}
 use Rattle.uefi_auditing.specs.text.Lines.{numbered}
 
 registers : (outcomes : List Outcome) → items_have_float (items_of (map register_json outcomes)) ≡ false
@@ -38,6 +39,16 @@ unfolding banks_json
 banks true found = each found
 banks false found = refl
 
+-- The algorithms that aren't replayed.
+algorithms_have : (algorithms : List ℕ) → items_have_float (items_of (map algorithm_json algorithms)) ≡ false
+unfolding algorithm_json
+algorithms_have [] = refl
+algorithms_have (algorithm ∷ others) = algorithms_have others
+
+not_replayed : (algorithms : List ℕ) (found : List BankOutcomes) → has_float (not_replayed_json algorithms found) ≡ false
+unfolding not_replayed_json
+not_replayed algorithms found = algorithms_have (filter (λ algorithm. not (is_replayed found algorithm)) algorithms)
+
 part : (offset : ℕ) (bytes : List ℕ) → has_float (part_json offset bytes) ≡ false
 unfolding part_json
 part offset bytes = either (length bytes == 0)
@@ -48,10 +59,10 @@ part offset bytes = either (length bytes == 0)
     either true = refl
     either false = refl
 
-pub no_float : (accepted : Bool) (found : List BankOutcomes) (offset end : ℕ) (left padding : List ℕ) (start : Start)
-    (stated : Bool) (name : List ℕ)
+pub no_float : (accepted : Bool) (found shown : List BankOutcomes) (offset end : ℕ) (left padding : List ℕ) (start : Start)
+    (stated : Bool) (name algorithms : List ℕ)
     → has_float (log_json (banks_json accepted found) (part_json offset left) (locality_json start stated) name
-    (part_json end padding)) ≡ false
+    (not_replayed_json algorithms shown) (part_json end padding)) ≡ false
 unfolding log_json locality_json
-no_float accepted found offset end left padding start stated name =
-    rw (banks accepted found) (rw (part offset left) (rw (part end padding) refl))
+no_float accepted found shown offset end left padding start stated name algorithms =
+    rw (banks accepted found) (rw (part offset left) (rw (not_replayed algorithms shown) (rw (part end padding) refl)))

@@ -7,7 +7,8 @@ use Rattle.pcr_replay.specs.declared.start.Start.{Start}
 use Rattle.uefi_tcg.specs.Entries.{Contents}
 use Rattle.uefi_tcg.specs.Logs.{left_over, padding}
 use Rattle.uefi_auditing.specs.Replay.{BankOutcomes}
-use Rattle.uefi_auditing.specs.json.Replay.{banks_json, locality_json, log_json, part_json, replay_json}
+use Rattle.uefi_auditing.specs.declared.text.LogFile.{LogFile}
+use Rattle.uefi_auditing.specs.json.Replay.{banks_json, locality_json, log_json, not_replayed_json, part_json, replay_json, shown_banks}
 use Rattle.uefi_auditing.proofs.text.Ending.{left_over_at, padding_at}
 
 -- The offset is shown only of bytes that there are.
@@ -24,17 +25,20 @@ part_is log offset found bytes is begins =
     ap (λ them. part_json (length log.bytes.now - length them) them) is
     ∙ same_offset bytes (length log.bytes.now - length bytes) offset begins
 
-pub object_is : (name : List ℕ) (log : Log) (contents : Contents) (start : Start) (stated allowed accepted : Bool)
-    (found : List BankOutcomes) (left pad : List ℕ) (banks part locality last value : Data)
-    → left ≡ left_over log contents → pad ≡ padding log contents → accepted ≡ (allowed || (length left == 0))
-    → banks ≡ banks_json accepted found → part ≡ part_json (length log.bytes.now - length left) left
-    → locality ≡ locality_json start stated → last ≡ part_json (length log.bytes.now - length pad) pad
-    → value ≡ log_json banks part locality name last
-    → value ≡ replay_json name log contents start stated found allowed
-object_is name log contents start stated allowed accepted found left pad banks part locality last value
-    is_left is_pad is_accepted are_banks is_part is_locality is_last is_value =
+pub object_is : (file : LogFile) (algorithms : List ℕ) (contents : Contents) (start : Start) (stated allowed accepted : Bool)
+    (found : List BankOutcomes) (left pad : List ℕ) (banks part locality others last value : Data)
+    → left ≡ left_over file.log contents → pad ≡ padding file.log contents → accepted ≡ (allowed || (length left == 0))
+    → banks ≡ banks_json accepted found → part ≡ part_json (length file.log.bytes.now - length left) left
+    → locality ≡ locality_json start stated → others ≡ not_replayed_json algorithms (shown_banks accepted found)
+    → last ≡ part_json (length file.log.bytes.now - length pad) pad
+    → value ≡ log_json banks part locality file.name.now others last
+    → value ≡ replay_json file algorithms contents start stated found allowed
+object_is file algorithms contents start stated allowed accepted found left pad banks part locality others last value
+    is_left is_pad is_accepted are_banks is_part is_locality are_others is_last is_value =
+    let log : Log = file.log in
     let judged = is_accepted ∙ ap (λ (them : List ℕ). allowed || (length them == 0)) is_left in
     let all = are_banks ∙ ap (λ it. banks_json it found) judged in
+    let rest = are_others ∙ ap (λ it. not_replayed_json algorithms (shown_banks it found)) judged in
     let first = is_part ∙ part_is log contents.end left (left_over log contents) is_left (left_over_at log contents) in
     let second = is_last ∙ part_is log contents.end pad (padding log contents) is_pad (padding_at log contents) in
-    is_value ∙ (λ i. log_json (all i) (first i) (is_locality i) name (second i))
+    is_value ∙ (λ i. log_json (all i) (first i) (is_locality i) file.name.now (rest i) (second i))

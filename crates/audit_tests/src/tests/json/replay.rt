@@ -8,7 +8,7 @@ use uefi_auditing::text::LogFile;
 use uefi_tcg::{LastEntry, Log};
 
 /// Logs with an unknown last entry, and their lines. Those with bytes left over are refused.
-const REFUSED: [[&str; 2]; 5] = [
+const REFUSED: [[&str; 2]; 7] = [
     // One bank; the locality is stated.
     [
         "00000000030000000000000000000000000000000000000000000000210000005370656320494420 \
@@ -41,7 +41,7 @@ const REFUSED: [[&str; 2]; 5] = [
          \"ffffffffffffffffffffffffffffffffffffffff\",\
          \"0000000000000000000000000000000000000000\"],\"undetermined\":[]}],\
          \"left_over\":null,\"locality\":{\"number\":3,\"stated\":true},\"log\":\"a log\",\
-         \"padding\":null}\n",
+         \"not_replayed\":[],\"padding\":null}\n",
     ],
     // PCR 1 is undetermined in one of two banks.
     [
@@ -105,7 +105,7 @@ const REFUSED: [[&str; 2]; 5] = [
          \"0000000000000000000000000000000000000000000000000000000000000000\"],\
          \"undetermined\":[{\"index\":2,\"offset\":213,\"reason\":\"has no digest of the \
          bank\",\"register\":1}]}],\"left_over\":null,\"locality\":{\"number\":0,\
-         \"stated\":false},\"log\":\"a log\",\"padding\":null}\n",
+         \"stated\":false},\"log\":\"a log\",\"not_replayed\":[],\"padding\":null}\n",
     ],
     // PCRs 0 and 1 are undetermined, and padding.
     [
@@ -140,7 +140,8 @@ const REFUSED: [[&str; 2]; 5] = [
          \"offset\":69,\"reason\":\"states a locality other than 0, 3 and 4\",\
          \"register\":0},{\"index\":1,\"offset\":124,\"reason\":\"has two digests of the \
          bank or more\",\"register\":1}]}],\"left_over\":null,\"locality\":{\"number\":1,\
-         \"stated\":true},\"log\":\"a log\",\"padding\":{\"count\":9,\"offset\":184}}\n",
+         \"stated\":true},\"log\":\"a log\",\"not_replayed\":[],\
+         \"padding\":{\"count\":9,\"offset\":184}}\n",
     ],
     // Bytes are left over.
     [
@@ -148,13 +149,59 @@ const REFUSED: [[&str; 2]; 5] = [
         4576656e7430330000000000000200020100000004001400000000000008000000010000000400aa \
         aaaaaaaaaaaaaaaaaaaaaaaaaaaaaaaaaaaaaa000000000102",
         "{\"banks\":null,\"left_over\":{\"count\":2,\"offset\":103},\
-         \"locality\":{\"number\":0,\"stated\":false},\"log\":\"a log\",\"padding\":null}\n",
+         \"locality\":{\"number\":0,\"stated\":false},\"log\":\"a log\",\
+         \"not_replayed\":[\"sha1\"],\"padding\":null}\n",
+    ],
+    // The same, with other algorithms in the header, one twice.
+    [
+        "00000000030000000000000000000000000000000000000000000000350000005370656320494420 \
+        4576656e7430330000000000000200020600000027002000341208000b0020000400140005000400 \
+        27002000000000000008000000010000000400aaaaaaaaaaaaaaaaaaaaaaaaaaaaaaaaaaaaaaaa00 \
+        0000000102",
+        "{\"banks\":null,\"left_over\":{\"count\":2,\"offset\":123},\
+         \"locality\":{\"number\":0,\"stated\":false},\"log\":\"a log\",\
+         \"not_replayed\":[\"sha1\",\"0x05\",\"sha256\",\"0x27\",\"0x1234\"],\
+         \"padding\":null}\n",
+    ],
+    // One of those banks is replayed.
+    [
+        "00000000030000000000000000000000000000000000000000000000350000005370656320494420 \
+        4576656e7430330000000000000200020600000027002000341208000b0020000400140005000400 \
+        27002000000000000008000000010000000400aaaaaaaaaaaaaaaaaaaaaaaaaaaaaaaaaaaaaaaa00 \
+        000000",
+        "{\"banks\":[{\"algorithm\":\"sha1\",\
+         \"registers\":[\"d6ebc4e04e1612a1ae465c51c090608bc5e6e174\",\
+         \"0000000000000000000000000000000000000000\",\
+         \"0000000000000000000000000000000000000000\",\
+         \"0000000000000000000000000000000000000000\",\
+         \"0000000000000000000000000000000000000000\",\
+         \"0000000000000000000000000000000000000000\",\
+         \"0000000000000000000000000000000000000000\",\
+         \"0000000000000000000000000000000000000000\",\
+         \"0000000000000000000000000000000000000000\",\
+         \"0000000000000000000000000000000000000000\",\
+         \"0000000000000000000000000000000000000000\",\
+         \"0000000000000000000000000000000000000000\",\
+         \"0000000000000000000000000000000000000000\",\
+         \"0000000000000000000000000000000000000000\",\
+         \"0000000000000000000000000000000000000000\",\
+         \"0000000000000000000000000000000000000000\",\
+         \"0000000000000000000000000000000000000000\",\
+         \"ffffffffffffffffffffffffffffffffffffffff\",\
+         \"ffffffffffffffffffffffffffffffffffffffff\",\
+         \"ffffffffffffffffffffffffffffffffffffffff\",\
+         \"ffffffffffffffffffffffffffffffffffffffff\",\
+         \"ffffffffffffffffffffffffffffffffffffffff\",\
+         \"ffffffffffffffffffffffffffffffffffffffff\",\
+         \"0000000000000000000000000000000000000000\"],\"undetermined\":[]}],\
+         \"left_over\":null,\"locality\":{\"number\":0,\"stated\":false},\"log\":\"a log\",\
+         \"not_replayed\":[\"0x05\",\"sha256\",\"0x27\",\"0x1234\"],\"padding\":null}\n",
     ],
     // No events.
     [
         "",
         "{\"banks\":[],\"left_over\":null,\"locality\":{\"number\":0,\"stated\":false},\
-         \"log\":\"a log\",\"padding\":null}\n",
+         \"log\":\"a log\",\"not_replayed\":[],\"padding\":null}\n",
     ],
 ];
 
@@ -189,13 +236,13 @@ const ALLOWED: [[&str; 2]; 1] = [[
          \"ffffffffffffffffffffffffffffffffffffffff\",\
          \"0000000000000000000000000000000000000000\"],\"undetermined\":[]}],\
          \"left_over\":{\"count\":2,\"offset\":103},\"locality\":{\"number\":0,\
-         \"stated\":false},\"log\":\"a log\",\"padding\":null}\n",
+         \"stated\":false},\"log\":\"a log\",\"not_replayed\":[],\"padding\":null}\n",
 ]];
 
 /// The line of a log without events whose name has characters that are escaped.
 const NAMED: &str = "{\"banks\":[],\"left_over\":null,\"locality\":{\"number\":0,\"stated\":false},\
      \"log\":\"a\\u202eb\\u007f\\u0085\\u061c\\u2028\\u2066\\n\\\"\\\\ é\u{200d}😀\",\
-     \"padding\":null}\n";
+     \"not_replayed\":[],\"padding\":null}\n";
 
 /// Returns the line of a log in a file of this name.
 fn line(alloc: Global, name: &str, bytes: &[u8], allow_left_over: bool) -> Result<String, Fail> {
