@@ -15,8 +15,8 @@ returns c =
     let algorithms = c.args.algorithms.now in
     let banks = c.args.banks.now in
     let same : filter (λ n. not (list_any (λ found. algorithm_of found.bank == n) banks)) algorithms
-        ≡ filter (λ n. not (is_replayed (map bank_outcomes_of banks) n)) algorithms =
-      λ i. filter (λ n. not (any_view (λ (it : BankOutcomes). algorithm_of it.bank == n) bank_outcomes_of banks i)) algorithms in
+    ≡ filter (λ n. not (is_replayed (map bank_outcomes_of banks) n)) algorithms =
+    λ i. filter (λ n. not (any_view (λ (it : BankOutcomes). algorithm_of it.bank == n) bank_outcomes_of banks i)) algorithms in
     view-Array c.in_ok-each_algorithm.field-0
     ∙ ap (λ it. array (items_of it)) (c.in_ok-each_algorithm.ensures
     ∙ ap (map algorithm_json) (c.as_slice.ensures.value ∙ c.in_ok-others.ensures ∙ same))
