@@ -52,8 +52,8 @@ pub fn said(event: &Event<'_>) -> Option<Said> {
         0x0d => any_text(data).map(|it| text_said("text", &it)),
         0x13 | 0x8000_000a => counted(&mut data, 1).and_then(|it| blob(Some(it), data)),
         0x8000_0001 | 0x8000_0002 | 0x8000_000c | 0x8000_00e0 => variable(event),
-        0x8000_0003..=0x8000_0005 => image(data),
-        0x8000_0006 | 0x8000_000d => partition_table(data),
+        0x8000_0003..=0x8000_0005 => image(data, event.uintn),
+        0x8000_0006 | 0x8000_000d => partition_table(data, event.uintn),
         0x8000_0008 => blob(None, data),
         _ => None,
     }
@@ -125,11 +125,11 @@ fn header(data: &[u8]) -> Option<Said> {
 }
 
 /// The header of a partition table (UEFI 2.10, 5.3.2), the number of entries, and these.
-fn partition_table(data: &[u8]) -> Option<Said> {
+fn partition_table(data: &[u8], uintn: usize) -> Option<Said> {
     let (header, mut rest) = data.split_at_checked(92)?;
     let at = |offset: usize, width| number(&mut &header[offset..], width);
     let (first_usable_lba, last_usable_lba, size) = (at(40, 8)?, at(48, 8)?, at(84, 4)? as usize);
-    let (guid, count) = (guid(&mut &header[56..])?, number(&mut rest, 8)?);
+    let (guid, count) = (guid(&mut &header[56..])?, number(&mut rest, uintn)?);
     if size < 128 || rest.len() % size != 0 || (rest.len() / size) as u64 != count {
         return None;
     }
@@ -147,9 +147,9 @@ fn partition(mut entry: &[u8]) -> Option<String> {
     Some(object!(attributes, first_lba, last_lba, name, type_guid, unique_guid))
 }
 
-fn image(mut data: &[u8]) -> Option<Said> {
-    let (address, length) = (number(&mut data, 8)?, number(&mut data, 8)?);
-    let (link_address, bytes) = (number(&mut data, 8)?, counted(&mut data, 8)?);
+fn image(mut data: &[u8], uintn: usize) -> Option<Said> {
+    let (address, length) = (number(&mut data, 8)?, number(&mut data, uintn)?);
+    let (link_address, bytes) = (number(&mut data, uintn)?, counted(&mut data, uintn)?);
     let nodes = first_path(bytes).filter(|it| it.1.is_empty()).map(|it| it.0);
     let shown = nodes.as_ref().map(|_| path_text(bytes));
     let text = shown.as_deref().map_or(String::new(), text);
