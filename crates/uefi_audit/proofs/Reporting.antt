@@ -1,5 +1,5 @@
 -- What a report has, by the texts that grew.
-use Rattle.std.proofs.Common.{◌≡◌, ◌∙◌, ℕ, List, [], ◌∷◌, ◌++◌, map, append_assoc, append-nil, ap, refl, subst, string_bytes, sym}
+use Rattle.std.proofs.Common.{◌≡◌, ◌∙◌, ℕ, List, [], ◌++◌, map, append_assoc, append-nil, ap, refl, subst, string_bytes, sym}
 use Rattle.std.specs.Prelude.{Bool, ◌==◌, ◌||◌, flat_map, length}
 use Rattle.std.specs.List.{list_any}
 use Rattle.std.specs.declared.alloc.Global.{Global}

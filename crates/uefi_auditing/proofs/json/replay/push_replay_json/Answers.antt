@@ -15,7 +15,8 @@ returns-clause-line c = λ table contents has is.
     let found = map bank_outcomes_of c.args.banks.now in
     let algorithms = c.in_ok-algorithms.algorithms.items in
     let allowed = c.args.allow_left_over in
-    let others = c.in_ok-not_replayed_json.ensures ∙ ap (λ it. not_replayed_json it (map bank_outcomes_of c.shown_banks-shown.result.now)) c.as_slice.ensures.value
+    let shown = map bank_outcomes_of c.shown_banks-shown.result.now in
+    let others = c.in_ok-not_replayed_json.ensures ∙ ap (λ it. not_replayed_json it shown) c.as_slice.ensures.value
     ∙ ap (not_replayed_json algorithms) c.shown_banks-shown.ensures in
     let object = object_is file algorithms contents c.args.start.now c.args.stated allowed
     c.is_accepted-accepted.result found c.left_over-left_over.result.now c.padding.result.now _ _ _ _ _ _
