@@ -158,7 +158,8 @@ fn a_cut_table_is_refused(rt: HostRuntime) -> Result<(), Fail> {
 
 #[test]
 fn a_count_of_entries_may_have_four_bytes(rt: HostRuntime) -> Result<(), Fail> {
-    let (alloc, four) = (rt.alloc(), UintnSize::Four);
+    let alloc = rt.alloc();
+    let four = UintnSize::Four;
     reads_parts(alloc, four, &[HEADER, "00000000"], "")?;
     reads_parts(alloc, four, &[HEADER, "01000000", SYSTEM], SYSTEM_TEXT)?;
     reads_parts(alloc, four, &[HEADER, "02000000", SYSTEM, LINUX], BOTH_TEXT)?;

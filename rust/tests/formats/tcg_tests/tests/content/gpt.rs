@@ -157,7 +157,7 @@ fn a_cut_table_is_refused() -> Result<(), Fail> {
 
 #[test]
 fn a_count_of_entries_may_have_four_bytes() -> Result<(), Fail> {
-    let (four) = (UintnSize::Four);
+    let four = UintnSize::Four;
     reads_parts(four, &[HEADER, "00000000"], "")?;
     reads_parts(four, &[HEADER, "01000000", SYSTEM], SYSTEM_TEXT)?;
     reads_parts(four, &[HEADER, "02000000", SYSTEM, LINUX], BOTH_TEXT)?;
