@@ -6,3 +6,6 @@ pub mod EachPcr
 pub mod ItsEvents
 pub mod Rules
 pub mod Rows
+pub mod Reading
+pub mod OnlyReading
+pub mod Viewed

@@ -5,3 +5,5 @@ pub mod Measured
 pub mod Laws
 pub mod Rows
 pub mod Views
+pub mod WasRead
+pub mod ReadLogs

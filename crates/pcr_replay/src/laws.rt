@@ -1,7 +1,11 @@
 //! Laws of the definitions. Each holds of every value of them, and takes nothing to run.
 
 ghost use Rattle.pcr_replay.specs.Laws.{FirstContradicts, FirstIsNamed, ValueByItsEvents};
+ghost use Rattle.pcr_replay.specs.ReadLogs.{OnlyReading, ReadingHolds};
 ghost use Rattle.pcr_replay.specs.Rows.{RowsHold};
+
+use std::alloc::Allocator;
+use uefi_tcg::laws::one_contents;
 
 /// States that the event that contradicts how PCR 0 starts is the first one that does, and that
 /// without it none does.
@@ -27,3 +31,17 @@ pub fn first_is_named()
 pub fn worked_rows()
     ensures { RowsHold }
 {}
+
+/// States that what was read of a log is what the log has: its header and its contents.
+pub fn reading_holds<A: Allocator>()
+    ensures { ReadingHolds A }
+{}
+
+/// States that a log has no other contents, no other header and no other size of a `UINTN` than those
+/// that were read. So each call over a log returns what the one over its events in memory
+/// ([`entries`](crate::entries)) returns.
+pub fn only_reading<A: Allocator>()
+    ensures { OnlyReading A }
+{
+    one_contents();
+}

@@ -2,11 +2,12 @@
 //!
 //! Begin with [`uefi_tcg::Log::read`], which takes a log's bytes and what is known of its last entry,
 //! and with [`replay`], which returns what the 24 PCRs of a [`Bank`] hold: each a value, or the first
-//! event by which it is undetermined.
+//! event by which it is undetermined. Whoever asks more of a log reads it once, as a [`ReadLog`], and
+//! asks the calls of [`entries`].
 //!
 //! The contracts speak of the one list of events that a log has (`uefi_tcg`), of what the PCRs start
 //! with (`specs/Start.antt`), and of what each event leaves in its PCR
-//! (`specs/Replay.antt`). Nothing here allocates memory.
+//! (`specs/Replay.antt`). Only [`ReadLog::new`] allocates memory.
 #![tactic(auto)]
 
 pub use self::bank::Bank;
@@ -14,17 +15,20 @@ pub use self::digest::{has_digest, is_hash_of, is_hash_of_data};
 pub use self::fault::{Fault, Undetermined};
 pub use self::ignored::{Ignored, why_ignored};
 pub use self::pcrs::{PCR_COUNT, Pcrs};
+pub use self::read_log::ReadLog;
 pub use self::replaying::{has_measured, is_active, replay, replay_from};
 pub use self::start::{Start, locality_in, startup_locality, stated_locality};
 pub use self::value::PcrValue;
 
 mod bank;
 mod digest;
+pub mod entries;
 mod fault;
 mod hashing;
 mod ignored;
 pub mod laws;
 mod pcrs;
+mod read_log;
 mod replaying;
 mod start;
 mod value;
