@@ -4,8 +4,9 @@ use Rattle.std.specs.Prelude.{codes, flat_map}
 use Rattle.uefi_tcg.specs.v2.Event.{Table}
 use Rattle.uefi_tcg.specs.Entries.{Entry}
 use Rattle.pcr_replay.specs.declared.bank.Bank.{Bank}
-use Rattle.uefi_auditing.specs.Algorithms.{AreAlgorithmsIn, hex_text}
-use Rattle.uefi_auditing.specs.text.Names.{shown_name}
+use Rattle.uefi_audits.specs.Algorithms.{AreAlgorithmsIn}
+use Rattle.audit_text.specs.words.Numbers.{hex_text}
+use Rattle.audit_text.specs.words.Shown.{shown_name}
 use Rattle.uefi_audit.specs.Notes.{AreTableNotes, banks_among, inactive_lines, unsupported_among, unsupported_line}
 
 -- Without any nothing is appended.

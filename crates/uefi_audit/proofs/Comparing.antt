@@ -2,8 +2,8 @@
 use Rattle.std.specs.Prelude.{Bool}
 use Rattle.std.specs.declared.alloc.Global.{Global}
 use Rattle.std.specs.declared.string.String.{String}
-use Rattle.uefi_auditing.specs.diff.Differences.{AppendsDifferences}
-use Rattle.uefi_auditing.specs.declared.text.LogFile.{LogFile}
+use Rattle.audit_text.specs.text.Differences.{AppendsDifferences}
+use Rattle.audit_text.specs.declared.text.LogFile.{LogFile}
 use Rattle.uefi_audit.specs.Comparison.{AppendsCompared, IsNamedAsShown}
 use Rattle.uefi_audit.specs.declared.request.Format.TheVariants.{Text}
 

@@ -6,9 +6,9 @@ use Rattle.std.proofs.Math.Seq.{get_or-append_seam}
 use Rattle.std.proofs.lemmas.List.{length-append}
 use Rattle.std.proofs.lemmas.List.Elements.{All-cons, All-nil}
 use Rattle.uefi_tcg.specs.Entries.{Entry}
-use Rattle.uefi_auditing.specs.Check.{IsChecked, MatchesBy}
-use Rattle.uefi_auditing.specs.declared.check.Checked.TheVariants.{Matches, MatchesNone, NotInLog}
-use Rattle.uefi_auditing.specs.declared.check.form.Form.{Form}
+use Rattle.uefi_audits.specs.Check.{IsChecked, MatchesBy}
+use Rattle.uefi_audits.specs.declared.check.Checked.TheVariants.{Matches, MatchesNone, NotInLog}
+use Rattle.uefi_audits.specs.declared.check.form.Form.{Form}
 use Rattle.uefi_audit.specs.CheckReport.{Mismatches, TellsWhetherAllMatch}
 use Rattle.uefi_audit.specs.private.Matches.{TellsWhetherMatches}
 

@@ -9,12 +9,12 @@ use Rattle.uefi_base.specs.Appending.{AppendsText}
 use Rattle.uefi_tcg.specs.v2.Event.{Table}
 use Rattle.uefi_tcg.specs.Entries.{Contents}
 use Rattle.pcr_replay.specs.declared.start.Start.{Start}
-use Rattle.uefi_auditing.specs.Replay.{BankOutcomes, bank_outcomes_of}
-use Rattle.uefi_auditing.specs.declared.replay.BankPcrs.{BankPcrs}
-use Rattle.uefi_auditing.specs.declared.text.LogFile.{LogFile}
-use Rattle.uefi_auditing.specs.text.Remarks.{ignored_lines, start_lines}
-use Rattle.uefi_auditing.specs.text.Undetermined.{undetermined_lines}
-use Rattle.uefi_auditing.proofs.Viewed.{any_view}
+use Rattle.uefi_audits.specs.Replay.{BankOutcomes, bank_outcomes_of}
+use Rattle.uefi_audits.specs.declared.replay.BankPcrs.{BankPcrs}
+use Rattle.audit_text.specs.declared.text.LogFile.{LogFile}
+use Rattle.audit_text.specs.text.Remarks.{ignored_lines, start_lines}
+use Rattle.audit_text.specs.text.Undetermined.{undetermined_lines}
+use Rattle.audit_text.proofs.Viewed.{any_view}
 use Rattle.uefi_audit.specs.Ends.{worse}
 use Rattle.uefi_audit.specs.Judging.{judged_status, judgement_lines, judgement_of}
 use Rattle.uefi_audit.specs.Notes.{has_no_pcr}

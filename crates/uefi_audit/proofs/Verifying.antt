@@ -12,14 +12,14 @@ use Rattle.uefi_tcg.specs.Entries.{Contents, Entry}
 use Rattle.pcr_replay.specs.Start.{start_at}
 use Rattle.pcr_replay.specs.declared.bank.Bank.{Bank}
 use Rattle.pcr_replay.specs.declared.start.Start.{Start}
-use Rattle.uefi_auditing.specs.Replay.{BankOutcomes, replayed}
-use Rattle.uefi_auditing.specs.text.Remarks.{ignored_lines, start_lines}
-use Rattle.uefi_auditing.specs.verify.Banks.{held_banks}
-use Rattle.uefi_auditing.specs.verify.Verdict.{IsNearest, verdict_of}
-use Rattle.uefi_auditing.specs.declared.text.LogFile.{LogFile}
-use Rattle.uefi_auditing.specs.declared.verify.comparison.Verdict.{Verdict}
-use Rattle.uefi_auditing.specs.declared.verify.held.HeldPcr.{HeldPcr}
-use Rattle.uefi_auditing.specs.declared.verify.selection.PcrSelection.{PcrSelection}
+use Rattle.uefi_audits.specs.Replay.{BankOutcomes, replayed}
+use Rattle.audit_text.specs.text.Remarks.{ignored_lines, start_lines}
+use Rattle.uefi_audits.specs.verify.Banks.{held_banks}
+use Rattle.uefi_audits.specs.verify.Verdict.{IsNearest, verdict_of}
+use Rattle.audit_text.specs.declared.text.LogFile.{LogFile}
+use Rattle.uefi_audits.specs.declared.verify.comparison.Verdict.{Verdict}
+use Rattle.uefi_audits.specs.declared.verify.held.HeldPcr.{HeldPcr}
+use Rattle.uefi_audits.specs.declared.verify.selection.PcrSelection.{PcrSelection}
 use Rattle.uefi_audit.specs.Judging.{judgement_lines, judgement_of, verdict_status}
 use Rattle.uefi_audit.specs.Notes.{has_no_pcr, inactive_lines}
 use Rattle.uefi_audit.specs.Replaying.{is_stated, start_by}

@@ -3,9 +3,9 @@ use Rattle.std.specs.Prelude.{◌≡◌, Bool, true, false, List, string_bytes}
 use Rattle.std.specs.List.{All, Any}
 use Rattle.uefi_tcg.specs.v2.Event.{Table}
 use Rattle.uefi_tcg.specs.Entries.{Contents, Entry}
-use Rattle.uefi_auditing.specs.Check.{IsChecked}
-use Rattle.uefi_auditing.specs.declared.check.Checked.TheVariants.{MatchesNone}
-use Rattle.uefi_auditing.specs.declared.text.LogFile.{LogFile}
+use Rattle.uefi_audits.specs.Check.{IsChecked}
+use Rattle.uefi_audits.specs.declared.check.Checked.TheVariants.{MatchesNone}
+use Rattle.audit_text.specs.declared.text.LogFile.{LogFile}
 use Rattle.uefi_audit.specs.Ends.{worse}
 use Rattle.uefi_audit.specs.Judging.{is_read, judged_status, judgement_lines, judgement_of}
 use Rattle.uefi_audit.specs.declared.failure.Status.{Status}

@@ -4,10 +4,10 @@ use Rattle.std.specs.declared.alloc.Global.{Global}
 use Rattle.std.specs.declared.string.String.{String}
 use Rattle.uefi_tcg.specs.v2.Event.{Table}
 use Rattle.uefi_tcg.specs.Entries.{Contents}
-use Rattle.uefi_auditing.specs.diff.Differences.{AppendsDifferences}
-use Rattle.uefi_auditing.specs.json.Diff.{AppendsDifferencesJson}
-use Rattle.uefi_auditing.specs.text.Names.{shown_name}
-use Rattle.uefi_auditing.specs.declared.text.LogFile.{LogFile}
+use Rattle.audit_text.specs.text.Differences.{AppendsDifferences}
+use Rattle.audit_text.specs.json.Diff.{AppendsDifferencesJson}
+use Rattle.audit_text.specs.words.Shown.{shown_name}
+use Rattle.audit_text.specs.declared.text.LogFile.{LogFile}
 use Rattle.uefi_audit.specs.Ends.{worse}
 use Rattle.uefi_audit.specs.Judging.{is_read, judged_status, judgement_lines, judgement_of}
 use Rattle.uefi_audit.specs.declared.failure.Status.{Status}

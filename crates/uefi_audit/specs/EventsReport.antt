@@ -2,8 +2,8 @@
 use Rattle.std.specs.Prelude.{◌≡◌, ℕ, Bool, true, false, List, [], string_bytes, ⊤}
 use Rattle.uefi_tcg.specs.v2.Event.{Table}
 use Rattle.uefi_tcg.specs.Entries.{Contents, Entry}
-use Rattle.uefi_auditing.specs.declared.text.LogFile.{LogFile}
-use Rattle.uefi_auditing.specs.json.Events.{AreLogLines}
+use Rattle.audit_text.specs.declared.text.LogFile.{LogFile}
+use Rattle.audit_text.specs.json.Events.{AreLogLines}
 use Rattle.uefi_audit.specs.Judging.{is_read, judged_status, judgement_lines, judgement_of}
 use Rattle.uefi_audit.specs.declared.judging.Judgement.{Judgement}
 use Rattle.uefi_audit.specs.declared.report.Report.{Report}

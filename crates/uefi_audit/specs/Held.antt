@@ -2,9 +2,9 @@
 use Rattle.std.specs.Prelude.{ℕ, List, ◌++◌, codes}
 use Rattle.std.specs.Fmt.{decimal}
 use Rattle.pcr_replay.specs.declared.bank.Bank.{Bank}
-use Rattle.uefi_auditing.specs.text.Banks.{bank_name}
-use Rattle.uefi_auditing.specs.declared.verify.held.HeldError.{HeldError}
-use Rattle.uefi_auditing.specs.declared.verify.held.HeldError.TheVariants.{Memory, Line}
+use Rattle.uefi_audits.specs.Naming.{bank_name}
+use Rattle.uefi_audits.specs.declared.verify.held.HeldError.{HeldError}
+use Rattle.uefi_audits.specs.declared.verify.held.HeldError.TheVariants.{Memory, Line}
 
 -- What standard error is told of a file that has no PCRs which can be compared.
 abbrev pub fault_text : HeldError → List ℕ

@@ -5,12 +5,12 @@ use Rattle.uefi_tcg.specs.v2.Event.{Table}
 use Rattle.uefi_tcg.specs.Entries.{Contents}
 use Rattle.pcr_replay.specs.Replay.{has_measured}
 use Rattle.uefi_tcg.specs.declared.log.Log.{Log}
-use Rattle.uefi_auditing.specs.json.Replay.{is_accepted}
-use Rattle.uefi_auditing.specs.text.Names.{shown_name}
-use Rattle.uefi_auditing.specs.text.Trailing.{left_over_lines, padding_lines}
-use Rattle.uefi_auditing.specs.declared.text.LogFile.{LogFile}
-use Rattle.uefi_auditing.specs.verify.Verdict.{is_agreement}
-use Rattle.uefi_auditing.specs.declared.verify.comparison.Verdict.{Verdict}
+use Rattle.uefi_audits.specs.Whole.{is_accepted}
+use Rattle.audit_text.specs.words.Shown.{shown_name}
+use Rattle.audit_text.specs.text.Trailing.{left_over_lines, padding_lines}
+use Rattle.audit_text.specs.declared.text.LogFile.{LogFile}
+use Rattle.uefi_audits.specs.verify.Verdict.{is_agreement}
+use Rattle.uefi_audits.specs.declared.verify.comparison.Verdict.{Verdict}
 use Rattle.uefi_audit.specs.declared.judging.Judgement.{Judgement}
 use Rattle.uefi_audit.specs.declared.judging.Judgement.TheVariants.{Accepted, NothingMeasured, LeftOver, ManyAlgorithms}
 use Rattle.uefi_audit.specs.declared.failure.Status.{Status}

@@ -4,13 +4,13 @@ use Rattle.std.specs.Fmt.{decimal}
 use Rattle.std.specs.List.{list_any, range_with_len}
 use Rattle.pcr_replay.specs.Replay.{pcr_count}
 use Rattle.pcr_replay.specs.declared.bank.Bank.{Bank}
-use Rattle.uefi_auditing.specs.Replay.{all_banks}
-use Rattle.uefi_auditing.specs.text.Banks.{bank_name}
-use Rattle.uefi_auditing.specs.text.Names.{shown_name}
-use Rattle.uefi_auditing.specs.verify.Banks.{is_held, is_same_bank}
-use Rattle.uefi_auditing.specs.verify.Selection.{selects}
-use Rattle.uefi_auditing.specs.declared.verify.held.HeldPcr.{HeldPcr}
-use Rattle.uefi_auditing.specs.declared.verify.selection.PcrSelection.{PcrSelection}
+use Rattle.uefi_audits.specs.Replay.{all_banks}
+use Rattle.uefi_audits.specs.Naming.{bank_name}
+use Rattle.audit_text.specs.words.Shown.{shown_name}
+use Rattle.uefi_audits.specs.verify.Banks.{is_held, is_same_bank}
+use Rattle.uefi_audits.specs.verify.Selection.{selects}
+use Rattle.uefi_audits.specs.declared.verify.held.HeldPcr.{HeldPcr}
+use Rattle.uefi_audits.specs.declared.verify.selection.PcrSelection.{PcrSelection}
 
 -- A PCR is among those that a TPM is said to have held.
 abbrev pub is_among : List HeldPcr → Bank → ℕ → Bool

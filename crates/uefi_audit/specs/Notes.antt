@@ -8,10 +8,11 @@ use Rattle.pcr_replay.specs.Replay.{is_active, why_ignored}
 use Rattle.pcr_replay.specs.declared.bank.Bank.{Bank}
 use Rattle.pcr_replay.specs.declared.ignored.Ignored.{Ignored}
 use Rattle.pcr_replay.specs.declared.ignored.Ignored.TheVariants.{NoPcr, OtherPcr}
-use Rattle.uefi_auditing.specs.Algorithms.{AreAlgorithmsIn, hex_text}
-use Rattle.uefi_auditing.specs.Replay.{all_banks}
-use Rattle.uefi_auditing.specs.text.Banks.{bank_name, bank_of}
-use Rattle.uefi_auditing.specs.text.Names.{shown_name}
+use Rattle.uefi_audits.specs.Algorithms.{AreAlgorithmsIn}
+use Rattle.audit_text.specs.words.Numbers.{hex_text}
+use Rattle.uefi_audits.specs.Replay.{all_banks}
+use Rattle.uefi_audits.specs.Naming.{bank_name, bank_of}
+use Rattle.audit_text.specs.words.Shown.{shown_name}
 
 -- The line of a bank that isn't active, and those of some banks.
 unfoldable pub no_digest_line : List ℕ → Bank → List ℕ

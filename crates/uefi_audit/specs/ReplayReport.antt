@@ -2,7 +2,7 @@
 use Rattle.std.specs.Prelude.{◌≡◌, ℕ, List, [], ◌++◌, string_bytes}
 use Rattle.uefi_tcg.specs.v2.Event.{Table}
 use Rattle.uefi_tcg.specs.Entries.{Contents}
-use Rattle.uefi_auditing.specs.declared.text.LogFile.{LogFile}
+use Rattle.audit_text.specs.declared.text.LogFile.{LogFile}
 use Rattle.uefi_audit.specs.Ends.{worse}
 use Rattle.uefi_audit.specs.Judging.{judged_status, judgement_lines, judgement_of}
 use Rattle.uefi_audit.specs.Notes.{has_no_pcr}

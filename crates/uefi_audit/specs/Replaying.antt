@@ -6,16 +6,16 @@ use Rattle.uefi_tcg.specs.Entries.{Contents, Entry}
 use Rattle.pcr_replay.specs.Start.{start_at, start_in, startup_locality}
 use Rattle.pcr_replay.specs.declared.bank.Bank.{Bank}
 use Rattle.pcr_replay.specs.declared.start.Start.{Start}
-use Rattle.uefi_auditing.specs.Replay.{BankOutcomes, asked as asked_banks, replayed}
-use Rattle.uefi_auditing.specs.json.Replay.{IsReplayLine}
-use Rattle.uefi_auditing.specs.text.Names.{shown_name}
-use Rattle.uefi_auditing.specs.text.Pcrs.{bank_lines}
-use Rattle.uefi_auditing.specs.text.Remarks.{ignored_lines, start_lines}
-use Rattle.uefi_auditing.specs.text.Undetermined.{undetermined_lines}
-use Rattle.uefi_auditing.specs.verify.Selection.{selects}
-use Rattle.uefi_auditing.specs.declared.text.LogFile.{LogFile}
-use Rattle.uefi_auditing.specs.declared.verify.held.HeldPcr.{HeldPcr}
-use Rattle.uefi_auditing.specs.declared.verify.selection.PcrSelection.{PcrSelection}
+use Rattle.uefi_audits.specs.Replay.{BankOutcomes, asked as asked_banks, replayed}
+use Rattle.audit_text.specs.json.Replay.{IsReplayLine}
+use Rattle.audit_text.specs.words.Shown.{shown_name}
+use Rattle.audit_text.specs.text.Pcrs.{bank_lines}
+use Rattle.audit_text.specs.text.Remarks.{ignored_lines, start_lines}
+use Rattle.audit_text.specs.text.Undetermined.{undetermined_lines}
+use Rattle.uefi_audits.specs.verify.Selection.{selects}
+use Rattle.audit_text.specs.declared.text.LogFile.{LogFile}
+use Rattle.uefi_audits.specs.declared.verify.held.HeldPcr.{HeldPcr}
+use Rattle.uefi_audits.specs.declared.verify.selection.PcrSelection.{PcrSelection}
 use Rattle.uefi_audit.specs.Notes.{AreTableNotes, inactive_lines}
 use Rattle.uefi_audit.specs.declared.failure.Status.{Status}
 use Rattle.uefi_audit.specs.declared.failure.Status.TheVariants.{Well, Differs, Unjudged}

@@ -3,20 +3,20 @@ ghost use Rattle.uefi_tcg.specs.v2.Event.{Table};
 ghost use Rattle.uefi_tcg.specs.Entries.{Contents};
 ghost use Rattle.uefi_tcg.specs.Logs.{HasContents};
 ghost use Rattle.uefi_tcg.specs.LogViews.{entries_left, entry_of};
-ghost use Rattle.uefi_auditing.specs.text.Names.{shown_name};
+ghost use Rattle.audit_text.specs.words.Shown.{shown_name};
 ghost use Rattle.uefi_audit.specs.CheckReport.{IsCheckReport, IsCheckStatus, TellsWhetherAllMatch};
-ghost use Rattle.uefi_auditing.specs.Algorithms.{HasTable};
+ghost use Rattle.uefi_audits.specs.Algorithms.{HasTable};
 ghost use Rattle.uefi_audit.specs.private.Matches.{TellsWhetherMatches};
 
 use crate::failure::Status;
 use crate::judging::push_judgement;
 use crate::report::Report;
 use crate::request::{Format, Reading};
+use audit_text::json::{check_summary_line, mismatch_line};
+use audit_text::text::{LogFile, push_check, push_check_summary};
+use audit_text::words::ShownName;
 use std::alloc::{AllocError, Global};
-use uefi_auditing::check::{
-    CheckSummary, Checked, check, check_summary_line, mismatch_line, push_check, push_check_summary,
-};
-use uefi_auditing::text::{LogFile, ShownName};
+use uefi_audits::check::{CheckSummary, Checked, check};
 use uefi_tcg::laws::one_contents;
 use uefi_tcg::{LogEntries, LogEntry};
 

@@ -1,6 +1,6 @@
 use clap::{Arg, ArgAction, ArgMatches, Command, Error, value_parser};
 use std::alloc::{AllocError, Global};
-use uefi_auditing::text::BANK_NAMES;
+use uefi_audits::naming::BANK_NAMES;
 
 /// The commands in the order of the help, each with what the help says of it.
 const COMMANDS: [[&str; 2]; 5] = [

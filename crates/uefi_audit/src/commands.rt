@@ -11,11 +11,11 @@ use crate::replay::{Asked, replay_report};
 use crate::report::Report;
 use crate::request::{Format, Reading, Request, Verification};
 use crate::verification::verification_report;
+use audit_text::text::LogFile;
 use std::alloc::{AllocError, Global};
 use std::io::Write;
 use std::rt::Files;
-use uefi_auditing::text::LogFile;
-use uefi_auditing::verify::PcrSelection;
+use uefi_audits::verify::PcrSelection;
 use uefi_tcg::Log;
 
 /// What is done with each of many logs.

@@ -3,7 +3,7 @@ ghost use Rattle.uefi_tcg.specs.v2.Event.{Table};
 ghost use Rattle.uefi_tcg.specs.Entries.{Contents};
 ghost use Rattle.uefi_tcg.specs.Logs.{HasContents};
 ghost use Rattle.uefi_audit.specs.Comparison.{AppendsCompared, AppendsIfRead, IsComparison};
-ghost use Rattle.uefi_auditing.specs.Algorithms.{HasTable};
+ghost use Rattle.uefi_audits.specs.Algorithms.{HasTable};
 ghost use Rattle.uefi_audit.specs.declared.request.Format.TheVariants.{Text};
 
 use crate::checking::shown;
@@ -11,9 +11,9 @@ use crate::failure::Status;
 use crate::judging::push_judgement;
 use crate::report::Report;
 use crate::request::{Format, Reading};
+use audit_text::json::push_differences_json;
+use audit_text::text::{LogFile, push_differences};
 use std::alloc::{AllocError, Global};
-use uefi_auditing::diff::{push_differences, push_differences_json};
-use uefi_auditing::text::LogFile;
 
 /// Returns what is printed of how the events of two logs differ.
 ///

@@ -3,15 +3,14 @@ ghost use Rattle.uefi_tcg.specs.v2.Event.{Table};
 ghost use Rattle.uefi_tcg.specs.Entries.{Contents};
 ghost use Rattle.uefi_tcg.specs.Logs.{HasContents};
 ghost use Rattle.uefi_audit.specs.EventsReport.{AreEvents, AreEventsIf, IsEventsReport};
-ghost use Rattle.uefi_auditing.specs.Algorithms.{HasTable};
+ghost use Rattle.uefi_audits.specs.Algorithms.{HasTable};
 
 use crate::judging::push_judgement;
 use crate::report::Report;
 use crate::request::{Format, Reading};
+use audit_text::json::push_events;
+use audit_text::text::{LogFile, push_event_blocks};
 use std::alloc::{AllocError, Global};
-use uefi_auditing::events::push_event_blocks;
-use uefi_auditing::json::push_events;
-use uefi_auditing::text::LogFile;
 
 /// Returns what is printed of the events of a log.
 ///

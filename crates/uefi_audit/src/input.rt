@@ -1,14 +1,15 @@
 ghost use Rattle.std.specs.Prelude.{◌≡◌, ◌≢◌, [], IfOk, IfSome, Some, string_bytes};
 ghost use Rattle.uefi_audit.specs.Held.{fault_text, pcr_path};
 
+use audit_text::words::ShownName;
 use file_input::{MAX_READS, ReadError, STANDARD_INPUT, read_file};
 use pcr_replay::{Bank, PCR_COUNT};
 use std::alloc::{AllocError, Global};
 use std::io::ErrorKind;
 use std::rt::Files;
 use std::{fmt, fs};
-use uefi_auditing::text::{ShownName, bank_name};
-use uefi_auditing::verify::{Held, HeldError, HeldPcr, held_in_file, held_in_text};
+use uefi_audits::naming::bank_name;
+use uefi_audits::verify::{Held, HeldError, HeldPcr, held_in_file, held_in_text};
 
 /// Returns the bytes of a file, of standard input if its name is `-`; `None` if it wasn't read, which
 /// standard error is told.

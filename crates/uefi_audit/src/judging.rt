@@ -3,15 +3,16 @@ ghost use Rattle.uefi_base.specs.Appending.{AppendsText};
 ghost use Rattle.uefi_tcg.specs.v2.Event.{Table};
 ghost use Rattle.uefi_tcg.specs.Entries.{Contents};
 ghost use Rattle.uefi_tcg.specs.Logs.{HasContents};
-ghost use Rattle.uefi_auditing.specs.Algorithms.{HasTable};
+ghost use Rattle.uefi_audits.specs.Algorithms.{HasTable};
 ghost use Rattle.uefi_audit.specs.Judging.{is_read, judged_status, judgement_lines, judgement_of, many_line, nothing_line, trailing_lines};
-ghost use Rattle.uefi_auditing.specs.json.Replay.{is_accepted};
+ghost use Rattle.uefi_audits.specs.Whole.{is_accepted};
 
 use crate::failure::Status;
 use crate::request::Reading;
+use audit_text::text::{LogFile, push_left_over, push_padding};
+use audit_text::words::ShownName;
 use pcr_replay::has_measured;
 use std::alloc::AllocError;
-use uefi_auditing::text::{LogFile, ShownName, push_left_over, push_padding};
 use uefi_tcg::Log;
 
 /// Whether a log can be judged.

@@ -4,7 +4,8 @@
 //! matches by `clap`. [`request`] says what they ask for, and [`commands`] does it. [`input`] reads
 //! the files, a log at a time, and [`judging`] says whether a log can be judged. [`events`],
 //! [`replay`], [`verification`], [`comparison`] and [`checking`] make the text in memory, by the
-//! library `uefi_auditing`. It is then written. [`notes`] has what standard error is told.
+//! libraries `uefi_audits` and `audit_text`. It is then written. [`notes`] has what standard error
+//! is told.
 //!
 //! The contracts say what the values that `clap` found ask for, and which exit status and which line
 //! on standard error follow from how a run ended ([`failure`]). No contract can speak of what files

@@ -1,14 +1,15 @@
 ghost use Rattle.std.specs.Prelude.{◌≡◌, count_by, flat_map, Some, IfOk, OnOk, string_bytes};
 ghost use Rattle.uefi_base.specs.Appending.{AppendsText};
-ghost use Rattle.uefi_auditing.specs.Replay.{all_banks};
-ghost use Rattle.uefi_auditing.specs.verify.Banks.{is_held, is_same_bank};
-ghost use Rattle.uefi_auditing.specs.verify.Selection.{selects};
+ghost use Rattle.uefi_audits.specs.Replay.{all_banks};
+ghost use Rattle.uefi_audits.specs.verify.Banks.{is_held, is_same_bank};
+ghost use Rattle.uefi_audits.specs.verify.Selection.{selects};
 ghost use Rattle.uefi_audit.specs.Missing.{is_among, is_asked, is_missing, is_of_one_bank, missing_line, missing_lines, missing_of, not_stated_line};
 
+use audit_text::words::ShownName;
 use pcr_replay::{Bank, PCR_COUNT};
 use std::alloc::{AllocError, Global};
-use uefi_auditing::text::{ShownName, bank_name};
-use uefi_auditing::verify::{HeldPcr, PcrSelection};
+use uefi_audits::naming::bank_name;
+use uefi_audits::verify::{HeldPcr, PcrSelection};
 
 /// Returns a line for each PCR that has to be among those that the TPM is said to have held, and
 /// isn't.

@@ -4,14 +4,17 @@ ghost use Rattle.uefi_tcg.specs.v2.Event.{Table};
 ghost use Rattle.uefi_tcg.specs.Entries.{Contents};
 ghost use Rattle.uefi_tcg.specs.Logs.{HasContents};
 ghost use Rattle.uefi_tcg.specs.LogViews.{event_of};
-ghost use Rattle.uefi_auditing.specs.Algorithms.{HasTable, hex_text};
-ghost use Rattle.uefi_auditing.specs.text.Remarks.{ignored_lines};
+ghost use Rattle.uefi_audits.specs.Algorithms.{HasTable};
+ghost use Rattle.audit_text.specs.words.Numbers.{hex_text};
+ghost use Rattle.audit_text.specs.text.Remarks.{ignored_lines};
 ghost use Rattle.uefi_audit.specs.Notes.{AreTableNotes, banks_among, extends_no_pcr, has_no_pcr, inactive_line, inactive_lines, no_digest_line, unsupported_among, unsupported_line};
 
+use audit_text::text::{LogFile, push_ignored};
+use audit_text::words::{ShownName, push_number};
 use pcr_replay::{Bank, Ignored, is_active, why_ignored};
 use std::alloc::{AllocError, Global};
-use uefi_auditing::algorithms::{algorithms_of, push_number};
-use uefi_auditing::text::{LogFile, ShownName, bank_name, bank_of, push_ignored};
+use uefi_audits::algorithms::algorithms_of;
+use uefi_audits::naming::{bank_name, bank_of};
 use uefi_tcg::laws::one_contents;
 use uefi_tcg::{AlgorithmId, Log, LogEvent};
 

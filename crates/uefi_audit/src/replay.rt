@@ -5,12 +5,12 @@ ghost use Rattle.uefi_tcg.specs.v2.Event.{Table};
 ghost use Rattle.uefi_tcg.specs.Entries.{Contents};
 ghost use Rattle.uefi_tcg.specs.Logs.{HasContents};
 ghost use Rattle.pcr_replay.specs.Views.{outcome_of};
-ghost use Rattle.uefi_auditing.specs.Replay.{bank_outcomes_of};
-ghost use Rattle.uefi_auditing.specs.json.Replay.{IsReplayLine};
-ghost use Rattle.uefi_auditing.specs.text.Pcrs.{bank_lines};
-ghost use Rattle.uefi_auditing.specs.text.Remarks.{ignored_lines, start_lines};
-ghost use Rattle.uefi_auditing.specs.text.Undetermined.{undetermined_lines};
-ghost use Rattle.uefi_auditing.specs.Algorithms.{HasTable};
+ghost use Rattle.uefi_audits.specs.Replay.{bank_outcomes_of};
+ghost use Rattle.audit_text.specs.json.Replay.{IsReplayLine};
+ghost use Rattle.audit_text.specs.text.Pcrs.{bank_lines};
+ghost use Rattle.audit_text.specs.text.Remarks.{ignored_lines, start_lines};
+ghost use Rattle.audit_text.specs.text.Undetermined.{undetermined_lines};
+ghost use Rattle.uefi_audits.specs.Algorithms.{HasTable};
 ghost use Rattle.uefi_audit.specs.Notes.{has_no_pcr};
 ghost use Rattle.uefi_audit.specs.Replaying.{AreBankNotes, IsLeftOverText, IsTextOf, has_undetermined, is_stated, name_line, replay_status, start_by};
 ghost use Rattle.uefi_audit.specs.ReplayReport.{IsPcrReport, IsReplayReport, IsReportBy};
@@ -21,11 +21,12 @@ use crate::judging::{Judgement, push_judgement};
 use crate::notes::{push_inactive, push_table_notes, push_without_effect};
 use crate::report::Report;
 use crate::request::{Format, Reading};
+use audit_text::json::push_replay_json;
+use audit_text::text::{LogFile, push_banks, push_start, push_undetermined};
+use audit_text::words::ShownName;
 use pcr_replay::{Bank, PcrValue, Start, Undetermined, startup_locality};
 use std::alloc::{AllocError, Global};
-use uefi_auditing::json::push_replay_json;
-use uefi_auditing::replay::{BankPcrs, asked_banks, replay_banks};
-use uefi_auditing::text::{LogFile, ShownName, push_banks, push_start, push_undetermined};
+use uefi_audits::replay::{BankPcrs, asked_banks, replay_banks};
 
 /// What `replay` asks for.
 #[derive(Clone, Copy)]

@@ -6,7 +6,7 @@ ghost use Rattle.uefi_audit.specs.CommandLine.{Asks, AsksBank, AsksFormat, AsksL
 
 use clap::ArgMatches;
 use pcr_replay::Bank;
-use uefi_auditing::text::bank_named;
+use uefi_audits::naming::bank_named;
 use uefi_tcg::LastEntry;
 
 /// What the arguments ask for.

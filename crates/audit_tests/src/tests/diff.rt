@@ -1,8 +1,7 @@
+use audit_text::text::{LogFile, push_differences};
 use std::alloc::Global;
 use std::test::Fail;
 use test_support::{bytes, same_text};
-use uefi_auditing::diff::push_differences;
-use uefi_auditing::text::LogFile;
 use uefi_tcg::{LastEntry, Log};
 
 mod json_lines;

@@ -2,8 +2,8 @@
 
 use std::test::Fail;
 use test_support::{holds, same};
-use uefi_auditing::check::{Form, forms_of};
-use uefi_auditing::content;
+use uefi_audits::check::{Form, forms_of};
+use uefi_audits::content;
 use uefi_tcg::EventType;
 
 /// What the digests of a type's events are the hash of.

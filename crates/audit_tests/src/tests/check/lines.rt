@@ -1,9 +1,9 @@
+use audit_text::json::{check_summary_line, mismatch_line};
+use audit_text::text::{push_check, push_check_summary};
 use std::alloc::Global;
 use std::test::Fail;
 use test_support::{bytes, same_text};
-use uefi_auditing::check::{
-    CheckSummary, Checked, check, check_summary_line, mismatch_line, push_check, push_check_summary,
-};
+use uefi_audits::check::{CheckSummary, Checked, check};
 use uefi_tcg::{LastEntry, Log};
 
 /// A separator that matches and one that doesn't, a command of GRUB, a file of GRUB by its name, a

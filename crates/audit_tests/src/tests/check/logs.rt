@@ -1,7 +1,7 @@
 use std::alloc::Global;
 use std::test::Fail;
 use test_support::each_shows;
-use uefi_auditing::check::{Checked, Form, check};
+use uefi_audits::check::{Checked, Form, check};
 use uefi_tcg::{LastEntry, Log};
 
 /// Logs, and a word for each of their events: the form in which its digests match, `none` if it has

@@ -1,7 +1,8 @@
+use audit_text::words::push_said;
 use std::alloc::Global;
 use std::test::Fail;
 use test_support::each_shows;
-use uefi_auditing::content::{push_said, read_content};
+use uefi_audits::content::read_content;
 use uefi_tcg::{LastEntry, Log};
 
 /// Logs of one event with the last entry at their end, and what its data say in a few words.

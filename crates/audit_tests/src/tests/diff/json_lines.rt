@@ -1,8 +1,8 @@
+use audit_text::json::push_differences_json;
+use audit_text::text::LogFile;
 use std::alloc::Global;
 use std::test::Fail;
 use test_support::{bytes, same_text};
-use uefi_auditing::diff::push_differences_json;
-use uefi_auditing::text::LogFile;
 use uefi_tcg::{LastEntry, Log};
 
 /// Two logs, and the lines of JSON of how they differ.

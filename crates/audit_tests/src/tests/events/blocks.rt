@@ -1,8 +1,7 @@
+use audit_text::text::{LogFile, push_event_blocks};
 use std::alloc::Global;
 use std::test::Fail;
 use test_support::each_shows;
-use uefi_auditing::events::push_event_blocks;
-use uefi_auditing::text::LogFile;
 use uefi_tcg::{LastEntry, Log};
 
 /// Logs with the last entry at their end, and the blocks of their events.

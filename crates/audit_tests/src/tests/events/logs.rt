@@ -1,7 +1,7 @@
+use audit_text::json::event_line;
 use std::alloc::Global;
 use std::test::Fail;
 use test_support::each_shows;
-use uefi_auditing::json::event_line;
 use uefi_tcg::{LastEntry, Log};
 
 /// Logs with the last entry at their end, and the lines of their events.

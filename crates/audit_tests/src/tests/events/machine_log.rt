@@ -1,8 +1,8 @@
+use audit_text::json::event_line;
 use std::alloc::Global;
 use std::test::Fail;
 use test_support::samples::MACHINE_LOG;
 use test_support::{bytes, same_text};
-use uefi_auditing::json::event_line;
 use uefi_tcg::{LastEntry, Log};
 
 /// Some events of a machine's log, each with its index and its line: the version of its code, a

@@ -1,10 +1,10 @@
+use audit_text::json::push_replay_json;
+use audit_text::text::LogFile;
 use pcr_replay::{Start, startup_locality};
 use std::alloc::Global;
 use std::test::Fail;
 use test_support::{each_shows, same_text};
-use uefi_auditing::json::push_replay_json;
-use uefi_auditing::replay::{asked_banks, replay_banks};
-use uefi_auditing::text::LogFile;
+use uefi_audits::replay::{asked_banks, replay_banks};
 use uefi_tcg::{LastEntry, Log};
 
 /// Logs with an unknown last entry, and their lines. Those with bytes left over are refused.

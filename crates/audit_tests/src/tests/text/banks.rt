@@ -1,9 +1,9 @@
+use audit_text::text::push_banks;
 use pcr_replay::Start;
 use std::alloc::Global;
 use std::test::Fail;
 use test_support::each_shows;
-use uefi_auditing::replay::{asked_banks, replay_banks};
-use uefi_auditing::text::push_banks;
+use uefi_audits::replay::{asked_banks, replay_banks};
 use uefi_tcg::{LastEntry, Log};
 
 /// Logs, and the PCRs of their active banks.

@@ -1,6 +1,6 @@
+use audit_text::words::ShownName;
 use std::test::Fail;
 use test_support::same_text;
-use uefi_auditing::text::ShownName;
 
 /// Names, and how they are displayed.
 const NAMES: [[&str; 2]; 10] = [

@@ -1,11 +1,11 @@
+use audit_text::text::{
+    LogFile, push_ignored, push_left_over, push_padding, push_start, push_undetermined,
+};
 use pcr_replay::{Start, startup_locality};
 use std::alloc::Global;
 use std::test::Fail;
 use test_support::each_shows;
-use uefi_auditing::replay::{asked_banks, replay_banks};
-use uefi_auditing::text::{
-    LogFile, push_ignored, push_left_over, push_padding, push_start, push_undetermined,
-};
+use uefi_audits::replay::{asked_banks, replay_banks};
 use uefi_tcg::{LastEntry, Log};
 
 /// Logs with an unknown last entry, and the lines about them.

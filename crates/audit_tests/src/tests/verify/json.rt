@@ -1,10 +1,10 @@
+use audit_text::json::push_verdict_json;
 use pcr_replay::Start;
 use std::alloc::Global;
 use std::test::Fail;
 use test_support::{bytes, same_text};
-use uefi_auditing::json::push_verdict_json;
-use uefi_auditing::replay::replay_banks;
-use uefi_auditing::verify::{Verdict, held_banks, held_in_text};
+use uefi_audits::replay::replay_banks;
+use uefi_audits::verify::{Verdict, held_banks, held_in_text};
 use uefi_tcg::{LastEntry, Log};
 
 /// A log, the locality at which PCR 0 starts, the PCRs that a TPM held, and the line of the log,

@@ -3,8 +3,8 @@ use pcr_replay::{Bank, Start};
 use std::alloc::{AllocError, Global};
 use std::test::Fail;
 use test_support::bytes;
-use uefi_auditing::replay::{BankPcrs, replay_banks};
-use uefi_auditing::verify::{held_in_text, nearest};
+use uefi_audits::replay::{BankPcrs, replay_banks};
+use uefi_audits::verify::{held_in_text, nearest};
 use uefi_tcg::{LastEntry, Log};
 
 /// A log of version 1 that states no locality: an event of PCR 0, and one of PCR 1.

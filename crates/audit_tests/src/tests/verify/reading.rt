@@ -2,8 +2,8 @@ use crate::tests::verify::each_says;
 use pcr_replay::Bank;
 use std::alloc::{AllocError, Global};
 use std::test::Fail;
-use uefi_auditing::text::bank_name;
-use uefi_auditing::verify::{Held, HeldError, held_in_file, held_in_text};
+use uefi_audits::naming::bank_name;
+use uefi_audits::verify::{Held, HeldError, held_in_file, held_in_text};
 
 /// Texts, and the PCRs and the names of banks that they state, or the offset of the wrong line.
 const TEXTS: [[&str; 2]; 42] = [

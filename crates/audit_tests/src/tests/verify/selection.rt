@@ -2,7 +2,7 @@ use crate::tests::verify::each_says;
 use pcr_replay::Bank;
 use std::alloc::Global;
 use std::test::Fail;
-use uefi_auditing::verify::PcrSelection;
+use uefi_audits::verify::PcrSelection;
 
 /// Texts, and which PCRs of SHA-1 and of SHA-256 they select.
 const SELECTIONS: [[&str; 2]; 45] = [

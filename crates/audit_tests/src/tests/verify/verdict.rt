@@ -1,9 +1,10 @@
+use audit_text::text::push_verdict;
 use pcr_replay::Start;
 use std::alloc::Global;
 use std::test::Fail;
 use test_support::{bytes, same_text};
-use uefi_auditing::replay::replay_banks;
-use uefi_auditing::verify::{Verdict, held_banks, held_in_text, push_verdict};
+use uefi_audits::replay::replay_banks;
+use uefi_audits::verify::{Verdict, held_banks, held_in_text};
 use uefi_tcg::{LastEntry, Log};
 
 /// A log, the locality at which PCR 0 starts, and the PCRs that a TPM held.

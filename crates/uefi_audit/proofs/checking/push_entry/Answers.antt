@@ -1,6 +1,6 @@
 use Rattle.std.proofs.Common.{subst, ⊎_elim}
 use Rattle.uefi_tcg.specs.LogViews.{entry_of}
-use Rattle.uefi_auditing.specs.Check.{IsChecked}
+use Rattle.uefi_audits.specs.Check.{IsChecked}
 use Rattle.uefi_audit.proofs.Matching.{one_is_outside, one_matches, one_mismatches}
 use Rattle.uefi_audit.proofs.checking.push_entry.Goals as goal
 

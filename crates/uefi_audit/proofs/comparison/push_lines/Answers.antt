@@ -1,6 +1,6 @@
 use Rattle.std.proofs.Common.{◌∙◌, refl}
 use Rattle.std.proofs.lemmas.Result.{IfOk-weaker}
-use Rattle.uefi_auditing.specs.declared.text.LogFile.{LogFile}
+use Rattle.audit_text.specs.declared.text.LogFile.{LogFile}
 use Rattle.uefi_audit.proofs.Comparing.{compared_as_text}
 use Rattle.uefi_audit.proofs.comparison.push_lines.Goals as goal
 

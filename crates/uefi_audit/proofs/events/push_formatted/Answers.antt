@@ -1,6 +1,6 @@
 use Rattle.std.proofs.Common.{◌∙◌, ◌++◌, ap, subst, sym}
 use Rattle.std.proofs.lemmas.Result.{on_ok_weaker}
-use Rattle.uefi_auditing.specs.json.Events.{AreLogLines}
+use Rattle.audit_text.specs.json.Events.{AreLogLines}
 use Rattle.uefi_audit.proofs.events.push_formatted.Goals as goal
 
 pub returns-in-Json : goal.returns-in-Json

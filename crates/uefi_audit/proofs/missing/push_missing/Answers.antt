@@ -1,6 +1,6 @@
 use Rattle.std.proofs.Common.{string_bytes}
 use Rattle.pcr_replay.specs.declared.bank.Bank.TheVariants.{Sha1}
-use Rattle.uefi_auditing.specs.Replay.{all_banks}
+use Rattle.uefi_audits.specs.Replay.{all_banks}
 use Rattle.uefi_audit.specs.Missing.{missing_of}
 use Rattle.uefi_audit.proofs.Growing.{one_more}
 use Rattle.uefi_audit.proofs.missing.push_missing.Goals as goal

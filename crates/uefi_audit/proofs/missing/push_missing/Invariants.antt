@@ -1,7 +1,7 @@
 use Rattle.std.proofs.Common.{take}
 use Rattle.std.specs.Prelude.{flat_map}
 use Rattle.uefi_base.specs.Appending.{AppendsText}
-use Rattle.uefi_auditing.specs.Replay.{all_banks}
+use Rattle.uefi_audits.specs.Replay.{all_banks}
 use Rattle.uefi_audit.specs.Missing.{missing_of}
 use Rattle.uefi_audit.proofs.missing.push_missing.Given as goal
 

@@ -1,7 +1,7 @@
 use Rattle.std.proofs.Common.{◌≡◌, take}
 use Rattle.std.specs.Prelude.{count_by}
-use Rattle.uefi_auditing.specs.Replay.{all_banks}
-use Rattle.uefi_auditing.specs.verify.Selection.{selects}
+use Rattle.uefi_audits.specs.Replay.{all_banks}
+use Rattle.uefi_audits.specs.verify.Selection.{selects}
 use Rattle.uefi_audit.proofs.missing.selecting_banks.Given as goal
 
 -- The banks so far were counted.

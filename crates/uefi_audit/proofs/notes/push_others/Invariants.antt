@@ -1,7 +1,7 @@
 use Rattle.std.proofs.Common.{◌++◌, take}
 use Rattle.std.specs.Prelude.{codes, flat_map}
 use Rattle.uefi_base.specs.Appending.{AppendsText}
-use Rattle.uefi_auditing.specs.Algorithms.{hex_text}
+use Rattle.audit_text.specs.words.Numbers.{hex_text}
 use Rattle.uefi_audit.proofs.notes.push_others.Given as goal
 
 -- The algorithms so far were appended.

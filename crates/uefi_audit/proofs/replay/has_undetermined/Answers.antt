@@ -2,7 +2,7 @@ use Rattle.std.proofs.Common.{◌∙◌, ap}
 use Rattle.std.specs.Prelude.{is_err}
 use Rattle.std.specs.List.{list_any}
 use Rattle.pcr_replay.specs.Views.{outcome_of}
-use Rattle.uefi_auditing.proofs.Viewed.{any_view}
+use Rattle.audit_text.proofs.Viewed.{any_view}
 use Rattle.uefi_audit.proofs.replay.has_undetermined.Goals as goal
 
 pub returns : goal.returns

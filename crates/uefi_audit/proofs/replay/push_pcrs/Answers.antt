@@ -1,5 +1,5 @@
 use Rattle.std.proofs.Common.{◌∙◌, ap, map}
-use Rattle.uefi_auditing.specs.Replay.{bank_outcomes_of, replayed}
+use Rattle.uefi_audits.specs.Replay.{bank_outcomes_of, replayed}
 use Rattle.uefi_audit.specs.Replaying.{start_by}
 use Rattle.uefi_audit.proofs.Reporting.{pcr_report}
 use Rattle.uefi_audit.proofs.replay.push_pcrs.Goals as goal

@@ -1,5 +1,5 @@
 use Rattle.std.proofs.Common.{◌∙◌, ap, map, refl, sym}
-use Rattle.uefi_auditing.specs.Replay.{bank_outcomes_of}
+use Rattle.uefi_audits.specs.Replay.{bank_outcomes_of}
 use Rattle.uefi_audit.proofs.Verifying.{at_third, nearest_start, stated_start}
 use Rattle.uefi_audit.proofs.verification.nearest_replay.Goals as goal
 

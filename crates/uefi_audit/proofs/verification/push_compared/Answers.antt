@@ -1,5 +1,5 @@
 use Rattle.std.proofs.Common.{◌∙◌, ap, map}
-use Rattle.uefi_auditing.specs.Replay.{bank_outcomes_of}
+use Rattle.uefi_audits.specs.Replay.{bank_outcomes_of}
 use Rattle.uefi_audit.proofs.Verifying.{verdict_report}
 use Rattle.uefi_audit.proofs.verification.push_compared.Goals as goal
 

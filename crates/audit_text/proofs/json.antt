@@ -1,0 +1,10 @@
+pub mod SizeRows
+pub mod NoFloatsInContent
+pub mod NoFloats
+pub mod NoFloatsInReplay
+pub mod NoFloatsInVerdict
+pub mod NoFloatsInDiff
+pub mod DiffLines
+pub mod Controls
+pub mod EventLines
+pub mod ReplayLines

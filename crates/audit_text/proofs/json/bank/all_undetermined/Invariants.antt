@@ -1,0 +1,12 @@
+use Rattle.std.proofs.Common.{◌≡◌, ◌++◌, drop, map}
+use Rattle.serde_json.specs.View.{view}
+use Rattle.pcr_replay.specs.Views.{outcomes_of}
+use Rattle.audit_text.specs.json.Replay.{if_undetermined}
+use Rattle.audit_text.specs.words.Lines.{numbered}
+use Rattle.audit_text.proofs.json.bank.all_undetermined.Given as goal
+
+-- The values so far and those of the PCRs to come are the values of all.
+abbrev pub invariant-loop-register : goal.invariant-loop-register
+invariant-loop-register l =
+    map view l.values.items ++ numbered if_undetermined l.register (drop l.register (outcomes_of l.pcrs))
+    ≡ numbered if_undetermined 0 (outcomes_of l.pcrs)

@@ -1,0 +1,22 @@
+use Rattle.std.proofs.Common.{◌≡◌, ◌==◌, ◌∙◌, ap, map, not}
+use Rattle.std.specs.List.{filter, list_any}
+use Rattle.serde_json.specs.Data.{array}
+use Rattle.serde_json.specs.View.{items_of}
+use Rattle.serde_json.proofs.Views.{view-Array}
+use Rattle.pcr_replay.specs.Banks.{algorithm_of}
+use Rattle.uefi_audits.specs.Replay.{BankOutcomes, bank_outcomes_of}
+use Rattle.audit_text.specs.json.Replay.{algorithm_json, is_replayed, not_replayed_json}
+use Rattle.audit_text.proofs.Viewed.{any_view}
+use Rattle.audit_text.proofs.json.not_replayed.not_replayed_json.Goals as goal
+
+pub returns : goal.returns
+unfolding not_replayed_json
+returns c =
+    let algorithms = c.args.algorithms.now in
+    let banks = c.args.banks.now in
+    let same : filter (λ n. not (list_any (λ found. algorithm_of found.bank == n) banks)) algorithms
+    ≡ filter (λ n. not (is_replayed (map bank_outcomes_of banks) n)) algorithms =
+    λ i. filter (λ n. not (any_view (λ (it : BankOutcomes). algorithm_of it.bank == n) bank_outcomes_of banks i)) algorithms in
+    view-Array c.in_ok-each_algorithm.field-0
+    ∙ ap (λ it. array (items_of it)) (c.in_ok-each_algorithm.ensures
+    ∙ ap (map algorithm_json) (c.as_slice.ensures.value ∙ c.in_ok-others.ensures ∙ same))

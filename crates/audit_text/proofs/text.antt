@@ -1,0 +1,4 @@
+pub mod Ending
+pub mod Appending
+pub mod OnlyLines
+pub mod Shown

@@ -1,0 +1,12 @@
+use Rattle.std.proofs.Common.{◌≡◌, ◌++◌, drop, string_bytes}
+use Rattle.pcr_replay.specs.Views.{outcomes_of}
+use Rattle.audit_text.specs.words.Lines.{numbered}
+use Rattle.audit_text.specs.text.Undetermined.{undetermined_text}
+use Rattle.audit_text.proofs.text.undetermined.push_of_bank.Given as goal
+
+-- The lines so far and those of the PCRs to come are the lines of all.
+abbrev pub invariant-loop-number : goal.invariant-loop-number
+invariant-loop-number g l =
+    string_bytes l.told
+    ++ numbered (undetermined_text l.name l.bank) l.number (drop l.number (outcomes_of l.pcrs))
+    ≡ string_bytes l.initial.told ++ numbered (undetermined_text l.name l.bank) 0 (outcomes_of l.pcrs)

@@ -1,0 +1,4 @@
+pub mod FirstItems
+pub mod Lines
+pub mod BeforeNul
+pub mod Below

@@ -1,0 +1,10 @@
+use Rattle.std.proofs.Common.{◌≡◌, ◌++◌, string_bytes}
+use Rattle.std.specs.List.{flat_map}
+use Rattle.uefi_base.specs.Views.{units_left}
+use Rattle.audit_text.specs.words.Texts.{before_nul, unit_text}
+use Rattle.audit_text.proofs.words.texts.text_before_nul.Given as goal
+
+-- The text so far and that of the units to come are the text of all.
+abbrev pub invariant-loop-unit : goal.invariant-loop-unit
+invariant-loop-unit l = string_bytes l.text ++ flat_map unit_text (before_nul (units_left l.unit-iterator))
+    ≡ flat_map unit_text (before_nul (units_left l.initial.unit-iterator))

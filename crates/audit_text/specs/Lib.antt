@@ -1,0 +1,4 @@
+pub mod words
+pub mod text
+pub mod json
+pub mod private

@@ -1,0 +1,11 @@
+pub mod Line
+pub mod Algorithm
+pub mod Parts
+pub mod Values
+pub mod Firmware
+pub mod Content
+pub mod Event
+pub mod Events
+pub mod Replay
+pub mod Verdict
+pub mod Diff

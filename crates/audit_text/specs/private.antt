@@ -1,0 +1,3 @@
+-- Words of private contracts and ghost fields alone.
+pub mod Differences
+pub mod Entries

@@ -1,0 +1,6 @@
+pub mod Pcrs
+pub mod Undetermined
+pub mod Trailing
+pub mod Remarks
+pub mod Verdict
+pub mod Differences

@@ -1,0 +1,27 @@
+-- The lines that name the events by which PCRs are undetermined.
+use Rattle.std.specs.Prelude.{ℕ, List, [], ◌++◌, codes, Ok, Err}
+use Rattle.std.specs.Fmt.{decimal}
+use Rattle.pcr_replay.specs.declared.bank.Bank.{Bank}
+use Rattle.pcr_replay.specs.declared.fault.Undetermined.{Undetermined}
+use Rattle.pcr_replay.specs.Replay.{Outcome}
+use Rattle.uefi_audits.specs.Replay.{BankOutcomes}
+use Rattle.uefi_audits.specs.Naming.{bank_name}
+use Rattle.audit_text.specs.words.Lines.{numbered}
+use Rattle.audit_text.specs.words.Shown.{shown_name}
+use Rattle.audit_text.specs.words.Faults.{fault_text}
+
+-- The file's name, the bank, the PCR, and the first event by which it is undetermined.
+unfoldable pub undetermined_line : List ℕ → Bank → ℕ → Undetermined → List ℕ
+undetermined_line name bank number at =
+    shown_name name ++ codes ": " ++ bank_name bank ++ codes ": PCR " ++ decimal number
+    ++ codes " is undetermined: event " ++ decimal at.index ++ codes " at offset " ++ decimal at.offset
+    ++ codes " " ++ fault_text at.fault ++ codes "\n"
+
+-- That line, if the PCR has no value.
+unfoldable pub undetermined_text : List ℕ → Bank → ℕ → Outcome → List ℕ
+undetermined_text name bank number (Ok value) = []
+undetermined_text name bank number (Err at) = undetermined_line name bank number at
+
+-- Those of a bank's PCRs, from the first on.
+abbrev pub undetermined_lines : List ℕ → BankOutcomes → List ℕ
+undetermined_lines name bank = numbered (undetermined_text name bank.bank) 0 bank.outcomes

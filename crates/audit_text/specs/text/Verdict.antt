@@ -1,0 +1,52 @@
+-- What `uefi_audit verify` prints of whether the PCRs that a TPM held are those that a log leads to.
+use Rattle.std.specs.Prelude.{ℕ, zero, suc, List, [], ◌++◌, length, codes}
+use Rattle.std.specs.Prelude.{flat_map, Option, None, Some, Ok, Err, if◌then◌else◌}
+use Rattle.std.specs.Fmt.{decimal}
+use Rattle.hex.specs.Hex.{encode_upper}
+use Rattle.pcr_replay.specs.declared.fault.Undetermined.{Undetermined}
+use Rattle.pcr_replay.specs.Replay.{Outcome}
+use Rattle.pcr_replay.specs.Views.{value_of}
+use Rattle.uefi_audits.specs.Replay.{BankOutcomes}
+use Rattle.uefi_audits.specs.Naming.{bank_name}
+use Rattle.audit_text.specs.words.Faults.{fault_text}
+use Rattle.uefi_audits.specs.declared.verify.held.HeldPcr.{HeldPcr}
+use Rattle.uefi_audits.specs.verify.Verdict.{led_to, agrees, verdict_of, is_agreement}
+
+-- The line of PCRs that all agree: how many they are, and the locality of the start.
+unfoldable pub agree_line : List ℕ → ℕ → ℕ → List ℕ
+agree_line name count locality =
+    name ++ (codes ": " ++ (decimal count ++ (codes " PCRs agree, PCR 0 starts at locality " ++ (decimal locality ++ codes "\n"))))
+
+-- Where PCR 0 starts.
+unfoldable pub start_text : ℕ → ℕ → List ℕ
+start_text zero locality = codes ", PCR 0 starts at locality " ++ decimal locality
+start_text (suc pcr) locality = []
+
+-- A value to which a log leads, and the event by which a PCR is undetermined.
+unfoldable pub value_text : ℕ → ℕ → List ℕ → List ℕ
+value_text pcr locality value = codes ", the log leads to 0x" ++ (encode_upper value ++ (start_text pcr locality ++ codes "\n"))
+
+unfoldable pub undetermined_text : Undetermined → List ℕ
+undetermined_text at =
+    codes ", undetermined: event " ++ (decimal at.index ++ (codes " at offset " ++ (decimal at.offset ++ (codes " " ++ (fault_text at.fault ++ codes "\n")))))
+
+-- What a log leads to in a PCR: one of these, or nothing, since there is no such PCR.
+unfoldable pub outcome_text : ℕ → ℕ → Option Outcome → List ℕ
+outcome_text pcr locality None = codes ", and the log has no such PCR\n"
+outcome_text pcr locality (Some (Ok value)) = value_text pcr locality value
+outcome_text pcr locality (Some (Err at)) = undetermined_text at
+
+-- The line of a PCR that doesn't agree: the log, the bank, the PCR and what it held, and what the log leads to.
+unfoldable pub held_text : List ℕ → HeldPcr → List ℕ
+held_text name held =
+    name ++ (codes ": " ++ (bank_name held.bank ++ (codes " PCR " ++ (decimal held.pcr ++ (codes " held 0x" ++ encode_upper (value_of held.value))))))
+
+unfoldable pub line_of : List ℕ → List BankOutcomes → ℕ → HeldPcr → List ℕ
+line_of name replays locality held =
+    if agrees replays held then [] else held_text name held ++ outcome_text held.pcr locality (led_to replays held)
+
+-- What is printed: one line if all PCRs agree, else one for each that doesn't, in order.
+abbrev pub verdict_lines : List ℕ → List BankOutcomes → ℕ → List HeldPcr → List ℕ
+verdict_lines name replays locality held =
+    if is_agreement (verdict_of replays held) then agree_line name (length held) locality
+    else flat_map (line_of name replays locality) held

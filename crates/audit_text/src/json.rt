@@ -1,0 +1,31 @@
+//! What an event log has, as the lines of JSON that the program `uefi_audit` prints.
+//!
+//! [`push_events`] appends the events of a log, a line each, and [`event_line`] returns the line of
+//! one event. [`push_replay_json`] appends one line for a log: the PCRs that it leads to, by
+//! banks, and why some are undetermined. [`push_verdict_json`] appends one line that says whether a
+//! log leads to the PCRs that a TPM held, and [`push_differences_json`] a line for each PCR in whose
+//! events two logs differ. [`mismatch_line`] and [`check_summary_line`] return what was checked.
+//!
+//! A line is the text without spaces of a value, with each object's keys in order (`specs/json`).
+//! No control character is in it: in a string each is `\u` and four hex digits.
+
+pub use self::check::{check_summary_line, mismatch_line};
+pub use self::diff::push_differences_json;
+pub use self::event::event_line;
+pub(crate) use self::event::type_json;
+pub use self::events::push_events;
+pub(crate) use self::line::line_of;
+pub use self::replay::push_replay_json;
+pub use self::verdict::push_verdict_json;
+
+mod bank;
+mod check;
+mod content;
+mod diff;
+mod digests;
+mod event;
+mod events;
+mod line;
+mod not_replayed;
+mod replay;
+mod verdict;

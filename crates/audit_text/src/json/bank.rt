@@ -1,0 +1,136 @@
+ghost use Rattle.std.specs.Prelude.{◌≡◌, ◌++◌, IfOk, OnOk, map};
+ghost use Rattle.hex.specs.Hex.{encode_lower};
+ghost use Rattle.serde_json.specs.Data.{string};
+ghost use Rattle.serde_json.specs.View.{view};
+ghost use Rattle.pcr_replay.specs.Views.{outcome_of, outcomes_of};
+ghost use Rattle.uefi_audits.specs.Replay.{bank_outcomes_of};
+ghost use Rattle.audit_text.specs.json.Replay.{bank_json, banks_json, if_undetermined, register_json, undetermined_json};
+ghost use Rattle.audit_text.specs.words.Lines.{numbered};
+
+use crate::json::event::hex_json;
+use crate::words::fault_text;
+use pcr_replay::{PcrValue, Pcrs, Undetermined};
+use serde_json::{Map, Value, json, put};
+use std::alloc::{AllocError, Global};
+use uefi_audits::naming::bank_name;
+use uefi_audits::replay::BankPcrs;
+
+/// Returns the banks of a log that is accepted; `null` if it is refused.
+#[tactic(auto, unfolding(crate::specs::json::Replay::banks_json))]
+pub(crate) fn banks_json(
+    alloc: Global,
+    accepted: bool,
+    banks: &[BankPcrs],
+) -> Result<Value, AllocError>
+    ensures { IfOk result
+        (λ value. view value ≡ banks_json accepted (map bank_outcomes_of banks.now)) }
+{
+    if !accepted {
+        return Ok(Value::Null);
+    }
+    Ok(Value::Array(each_bank(alloc, banks)?))
+}
+
+/// Returns each bank.
+fn each_bank(alloc: Global, banks: &[BankPcrs]) -> Result<Vec<Value>, AllocError>
+    ensures { IfOk result (λ values. map view values.items
+        ≡ map bank_json (map bank_outcomes_of banks.now)) }
+{
+    let mut values = Vec::new(alloc);
+    for bank in banks {
+        let value = bank_json(alloc, bank)?;
+        values.push(value)?;
+    }
+    Ok(values)
+}
+
+/// Returns a bank: its name, its PCRs, and the events by which some are undetermined.
+#[tactic(auto, unfolding(crate::specs::json::Replay::bank_json))]
+fn bank_json(alloc: Global, bank: &BankPcrs) -> Result<Value, AllocError>
+    ensures { IfOk result (λ value. view value ≡ bank_json (bank_outcomes_of bank.now)) }
+{
+    let mut members = Map::new(alloc);
+    let name = Value::try_from_str(alloc, bank_name(bank.bank))?;
+    put(&mut members, alloc, "algorithm", name)?;
+    let registers = Value::Array(registers_json(alloc, &bank.pcrs)?);
+    put(&mut members, alloc, "registers", registers)?;
+    let undetermined = Value::Array(all_undetermined(alloc, &bank.pcrs)?);
+    put(&mut members, alloc, "undetermined", undetermined)?;
+    Ok(Value::Object(members))
+}
+
+/// Returns what each PCR holds.
+fn registers_json(alloc: Global, pcrs: &Pcrs) -> Result<Vec<Value>, AllocError>
+    ensures { IfOk result
+        (λ values. map view values.items ≡ map register_json (outcomes_of pcrs.now)) }
+{
+    let mut values = Vec::new(alloc);
+    for outcome in pcrs.outcomes() {
+        let value = register_json(alloc, outcome)?;
+        values.push(value)?;
+    }
+    Ok(values)
+}
+
+/// Returns a PCR's value in hex; `null` if it is undetermined.
+#[tactic(auto, unfolding(crate::specs::json::Replay::register_json))]
+fn register_json(
+    alloc: Global,
+    outcome: &Result<PcrValue, Undetermined>,
+) -> Result<Value, AllocError>
+    ensures { IfOk result (λ value. view value ≡ register_json (outcome_of outcome.now)) }
+{
+    match outcome {
+        Ok(value) => hex_json(alloc, value.as_bytes()),
+        Err(_) => Ok(Value::Null),
+    }
+}
+
+/// Returns the events by which PCRs are undetermined, in the order of the PCRs.
+fn all_undetermined(alloc: Global, pcrs: &Pcrs) -> Result<Vec<Value>, AllocError>
+    ensures { IfOk result (λ values. map view values.items
+        ≡ numbered if_undetermined 0 (outcomes_of pcrs.now)) }
+{
+    let outcomes = pcrs.outcomes();
+    let mut values = Vec::new(alloc);
+    for register in 0..outcomes.len() {
+        push_if_undetermined(&mut values, alloc, register, &outcomes[register])?;
+    }
+    Ok(values)
+}
+
+/// Appends the event by which a PCR is undetermined, if it is.
+#[tactic(auto, unfolding(crate::specs::json::Replay::if_undetermined))]
+fn push_if_undetermined(
+    values: &mut Vec<Value>,
+    alloc: Global,
+    register: usize,
+    outcome: &Result<PcrValue, Undetermined>,
+) -> Result<(), AllocError>
+    ensures { OnOk result (map view values.new.items
+        ≡ map view values.old.items ++ if_undetermined register (outcome_of outcome.now)) }
+{
+    match outcome {
+        Ok(_) => Ok(()),
+        Err(at) => {
+            let value = undetermined_json(alloc, register, at)?;
+            values.push(value)?;
+            Ok(())
+        }
+    }
+}
+
+/// Returns the event by which a PCR is undetermined: its index, its offset, and why.
+#[tactic(auto, unfolding(crate::specs::json::Replay::undetermined_json))]
+fn undetermined_json(alloc: Global, register: usize, at: &Undetermined) -> Result<Value, AllocError>
+    ensures { IfOk result (λ value. view value ≡ undetermined_json register at.now) }
+{
+    let (index, offset) = (at.index, at.offset);
+    let reason = fault_text(at.fault);
+    json!(in alloc; {
+        "index": index,
+        "offset": offset,
+        "reason": reason,
+        "register": register
+    })
+}

@@ -1,0 +1,51 @@
+ghost use Rattle.std.specs.Prelude.{◌≡◌, ◌<◌, ◌^◌, true, false, string_bytes, IfOk, OnOk};
+ghost use Rattle.serde_json.specs.View.{view};
+ghost use Rattle.serde_json.specs.Written.{has_float};
+ghost use Rattle.uefi_base.specs.Appending.{AppendsText};
+ghost use Rattle.audit_text.specs.json.Line.{escaped, line_character, line_of, unicode_escape};
+ghost use Rattle.audit_text.specs.words.Shown.{is_control};
+
+use crate::words::is_control;
+use serde_json::Value;
+use std::alloc::{AllocError, Global};
+
+/// Returns the text of a value on one line, without spaces and without a line's end: each control
+/// character in it is `\u` and four hex digits.
+pub(crate) fn line_of(alloc: Global, value: &Value) -> Result<String, AllocError>
+    ensures { IfOk result (λ line. has_float (view value.now) ≡ false
+        → string_bytes line ≡ line_of (view value.now)) }
+{
+    let text = value.to_string(alloc)?;
+    escaped(alloc, text.as_str())
+}
+
+/// Returns a text of JSON, in which controls are in strings alone, with these escaped.
+fn escaped(alloc: Global, text: &str) -> Result<String, AllocError>
+    ensures { IfOk result (λ line. string_bytes line ≡ escaped text.now) }
+{
+    let mut line = String::new(alloc);
+    for character in text.chars() {
+        push_character(&mut line, character)?;
+    }
+    Ok(line)
+}
+
+/// Appends a character, or the escape of a control.
+#[tactic(auto, unfolding(crate::specs::json::Line::line_character))]
+fn push_character(line: &mut String, character: char) -> Result<(), AllocError>
+    ensures { OnOk result (AppendsText line.old line.new (line_character character)) }
+{
+    if is_control(character) {
+        return push_escape(line, u32::from(character));
+    }
+    line.push(character)
+}
+
+/// Appends `\u` and four hex digits.
+fn push_escape(line: &mut String, character: u32) -> Result<(), AllocError>
+    requires { character < 2 ^ 16 }
+    ensures { OnOk result (AppendsText line.old line.new (unicode_escape character)) }
+{
+    let (high, low) = ((character / 256) as u8, (character % 256) as u8);
+    write!(line, "\\u{high:02x}{low:02x}")
+}

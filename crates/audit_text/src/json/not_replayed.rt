@@ -1,0 +1,86 @@
+ghost use Rattle.std.specs.Prelude.{◌≡◌, ◌==◌, not, map, IfOk};
+ghost use Rattle.std.specs.List.{filter, list_any};
+ghost use Rattle.serde_json.specs.Data.{string};
+ghost use Rattle.serde_json.specs.View.{view};
+ghost use Rattle.pcr_replay.specs.Banks.{algorithm_of};
+ghost use Rattle.audit_text.specs.words.Numbers.{hex_text};
+ghost use Rattle.uefi_audits.specs.Replay.{bank_outcomes_of};
+ghost use Rattle.audit_text.specs.json.Replay.{algorithm_json, not_replayed_json};
+
+use crate::words::push_number;
+use serde_json::Value;
+use std::alloc::{AllocError, Global};
+use uefi_audits::naming::{bank_name, bank_of};
+use uefi_audits::replay::BankPcrs;
+use uefi_tcg::AlgorithmId;
+
+/// Returns those of these algorithms whose banks aren't among these.
+#[tactic(auto, unfolding(crate::specs::json::Replay::not_replayed_json))]
+pub(crate) fn not_replayed_json(
+    alloc: Global,
+    algorithms: &[u16],
+    banks: &[BankPcrs],
+) -> Result<Value, AllocError>
+    ensures { IfOk result (λ value. view value
+        ≡ not_replayed_json algorithms.now (map bank_outcomes_of banks.now)) }
+{
+    let others = algorithms_without(alloc, algorithms, banks)?;
+    Ok(Value::Array(each_algorithm(alloc, others.as_slice())?))
+}
+
+/// Returns those of these algorithms whose banks aren't among these.
+fn algorithms_without(
+    alloc: Global,
+    algorithms: &[u16],
+    banks: &[BankPcrs],
+) -> Result<Vec<u16>, AllocError>
+    ensures { IfOk result (λ others. others.items ≡ filter (λ algorithm.
+        not (list_any (λ found. algorithm_of found.bank == algorithm) banks.now)) algorithms.now) }
+{
+    algorithms
+        .iter()
+        .copied()
+        .filter(|algorithm| !is_replayed(banks, *algorithm))
+        .collect(alloc)
+}
+
+/// Returns whether one of these banks is an algorithm's.
+fn is_replayed(banks: &[BankPcrs], algorithm: u16) -> bool
+    ensures { result ≡ list_any (λ found. algorithm_of found.bank == algorithm) banks.now }
+{
+    banks
+        .iter()
+        .any(|found| found.bank.algorithm().0 == algorithm)
+}
+
+/// Returns each algorithm.
+fn each_algorithm(alloc: Global, algorithms: &[u16]) -> Result<Vec<Value>, AllocError>
+    ensures { IfOk result (λ values. map view values.items ≡ map algorithm_json algorithms.now) }
+{
+    let mut values = Vec::new(alloc);
+    for algorithm in algorithms {
+        let value = algorithm_json(alloc, *algorithm)?;
+        values.push(value)?;
+    }
+    Ok(values)
+}
+
+/// Returns an algorithm: the name of its bank, or its number in hex if that bank can't be replayed.
+#[tactic(auto, unfolding(crate::specs::json::Replay::algorithm_json))]
+fn algorithm_json(alloc: Global, algorithm: u16) -> Result<Value, AllocError>
+    ensures { IfOk result (λ value. view value ≡ algorithm_json algorithm) }
+{
+    match bank_of(AlgorithmId(algorithm)) {
+        Some(bank) => Value::try_from_str(alloc, bank_name(bank)),
+        None => number_json(alloc, algorithm),
+    }
+}
+
+/// Returns an algorithm's number in hex.
+fn number_json(alloc: Global, algorithm: u16) -> Result<Value, AllocError>
+    ensures { IfOk result (λ value. view value ≡ string (hex_text algorithm)) }
+{
+    let mut digits = String::new(alloc);
+    push_number(&mut digits, algorithm)?;
+    Ok(Value::String(digits))
+}

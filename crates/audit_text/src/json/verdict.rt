@@ -1,0 +1,202 @@
+ghost use Rattle.std.specs.Prelude.{◌≡◌, ◌++◌, flat_map, length, map, IfOk, OnOk};
+ghost use Rattle.std.specs.Option.{option_map};
+ghost use Rattle.serde_json.specs.View.{view};
+ghost use Rattle.uefi_base.specs.Appending.{AppendsText};
+ghost use Rattle.pcr_replay.specs.Views.{outcome_of};
+ghost use Rattle.uefi_audits.specs.Replay.{bank_outcomes_of};
+ghost use Rattle.audit_text.specs.json.Verdict.{disagreeing_json, event_json, if_disagreeing, led_json, pcr_json, undetermined_by, verdict_line, verdict_object};
+ghost use Rattle.uefi_audits.specs.verify.Verdict.{verdict_of};
+
+use crate::json::event::hex_json;
+use crate::json::line::line_of;
+use crate::words::fault_text;
+use pcr_replay::{PcrValue, Undetermined};
+use serde_json::{Map, Value, json, put};
+use std::alloc::{AllocError, Global};
+use uefi_audits::naming::bank_name;
+use uefi_audits::replay::BankPcrs;
+use uefi_audits::verify::{HeldPcr, Verdict, agrees, led_to};
+
+/// Appends whether a log leads to these PCRs as one line of JSON: an object, and a line break.
+/// Returns how many differ, and how many are undetermined.
+///
+/// | key | value |
+/// |---|---|
+/// | `agree` | whether all PCRs hold what the log leads to |
+/// | `count` | how many PCRs these are |
+/// | `disagreeing` | an object for each PCR that doesn't, in order |
+/// | `locality` | what was given: the locality at which PCR 0 starts |
+/// | `log` | what was given: the log's name |
+///
+/// | key of a PCR | value |
+/// |---|---|
+/// | `bank` | its bank's name |
+/// | `held` | what it held, in hex |
+/// | `leads_to` | what the log leads to, in hex; `null` if that is no value |
+/// | `register` | its index |
+/// | `undetermined` | the event by which it is undetermined: `index`, `offset`, `reason`; else `null` |
+///
+/// Each PCR is sought in the first of `replays` that is of its bank. If the log has no such PCR,
+/// both `leads_to` and `undetermined` are `null`.
+///
+/// # Errors
+///
+/// [`AllocError`] if an allocation fails. The text may have grown then.
+pub fn push_verdict_json(
+    text: &mut String,
+    alloc: Global,
+    name: &str,
+    held: &[HeldPcr],
+    replays: &[BankPcrs],
+    locality: u8,
+) -> Result<Verdict, AllocError>
+    ensures verdict { IfOk result (λ verdict.
+        verdict ≡ verdict_of (map bank_outcomes_of replays.now) held.now) }
+    ensures line { OnOk result (AppendsText text.old text.new
+        (verdict_line name.now (map bank_outcomes_of replays.now) locality held.now)) }
+{
+    let verdict = Verdict::of(held, replays);
+    let agree = verdict.is_agreement();
+    let disagreeing = disagreeing_json(alloc, held, replays)?;
+    let value = verdict_json(alloc, agree, held.len(), disagreeing, locality, name)?;
+    let line = line_of(alloc, &value)?;
+    writeln!(text, "{line}")?;
+    Ok(verdict)
+}
+
+/// Returns the object of a log.
+#[tactic(auto, unfolding(crate::specs::json::Verdict::verdict_object))]
+fn verdict_json(
+    alloc: Global,
+    agree: bool,
+    count: usize,
+    disagreeing: Value,
+    locality: u8,
+    name: &str,
+) -> Result<Value, AllocError>
+    ensures { IfOk result (λ value. view value
+        ≡ verdict_object agree count (view disagreeing) locality name.now) }
+{
+    let mut members = Map::new(alloc);
+    put(&mut members, alloc, "agree", Value::Bool(agree))?;
+    put(&mut members, alloc, "count", Value::from(count))?;
+    put(&mut members, alloc, "disagreeing", disagreeing)?;
+    put(&mut members, alloc, "locality", Value::from(locality))?;
+    let log = Value::try_from_str(alloc, name)?;
+    put(&mut members, alloc, "log", log)?;
+    Ok(Value::Object(members))
+}
+
+/// Returns the PCRs that don't agree.
+#[tactic(auto, unfolding(crate::specs::json::Verdict::disagreeing_json))]
+fn disagreeing_json(
+    alloc: Global,
+    held: &[HeldPcr],
+    replays: &[BankPcrs],
+) -> Result<Value, AllocError>
+    ensures { IfOk result (λ value. view value
+        ≡ disagreeing_json (map bank_outcomes_of replays.now) held.now) }
+{
+    Ok(Value::Array(each_disagreeing(alloc, held, replays)?))
+}
+
+/// Returns each PCR that doesn't agree.
+fn each_disagreeing(
+    alloc: Global,
+    held: &[HeldPcr],
+    replays: &[BankPcrs],
+) -> Result<Vec<Value>, AllocError>
+    ensures { IfOk result (λ values. map view values.items
+        ≡ flat_map (if_disagreeing (map bank_outcomes_of replays.now)) held.now) }
+{
+    let mut values = Vec::new(alloc);
+    for pcr in held {
+        push_if_disagreeing(&mut values, alloc, pcr, replays)?;
+    }
+    Ok(values)
+}
+
+/// Appends a PCR, unless it agrees.
+#[tactic(auto, unfolding(crate::specs::json::Verdict::if_disagreeing))]
+fn push_if_disagreeing(
+    values: &mut Vec<Value>,
+    alloc: Global,
+    held: &HeldPcr,
+    replays: &[BankPcrs],
+) -> Result<(), AllocError>
+    ensures { OnOk result (map view values.new.items ≡ map view values.old.items
+        ++ if_disagreeing (map bank_outcomes_of replays.now) held.now) }
+{
+    if agrees(held, replays) {
+        return Ok(());
+    }
+    let outcome = led_to(held, replays);
+    let led = led_json(alloc, outcome)?;
+    let undetermined = undetermined_by(alloc, outcome)?;
+    let value = pcr_json(alloc, led, undetermined, held)?;
+    values.push(value)?;
+    Ok(())
+}
+
+/// Returns a PCR that doesn't agree: what it held, what the log leads to, and the event by which it
+/// is undetermined.
+#[tactic(auto, unfolding(crate::specs::json::Verdict::pcr_json))]
+fn pcr_json(
+    alloc: Global,
+    led: Value,
+    undetermined: Value,
+    held: &HeldPcr,
+) -> Result<Value, AllocError>
+    ensures { IfOk result
+        (λ value. view value ≡ pcr_json (view led) (view undetermined) held.now) }
+{
+    let mut members = Map::new(alloc);
+    let bank = Value::try_from_str(alloc, bank_name(held.bank))?;
+    put(&mut members, alloc, "bank", bank)?;
+    let held_value = hex_json(alloc, held.value.as_bytes())?;
+    put(&mut members, alloc, "held", held_value)?;
+    put(&mut members, alloc, "leads_to", led)?;
+    put(&mut members, alloc, "register", Value::from(held.pcr))?;
+    put(&mut members, alloc, "undetermined", undetermined)?;
+    Ok(Value::Object(members))
+}
+
+/// Returns what the log leads to in a PCR, in hex; `null` if it leads to no value.
+#[tactic(auto, unfolding(crate::specs::json::Verdict::led_json))]
+fn led_json(
+    alloc: Global,
+    outcome: Option<&Result<PcrValue, Undetermined>>,
+) -> Result<Value, AllocError>
+    ensures { IfOk result (λ value. view value
+        ≡ led_json (option_map (λ outcome. outcome_of outcome.now) outcome.entry)) }
+{
+    match outcome {
+        Some(Ok(value)) => hex_json(alloc, value.as_bytes()),
+        _ => Ok(Value::Null),
+    }
+}
+
+/// Returns the event by which a PCR is undetermined; `null` if it isn't.
+#[tactic(auto, unfolding(crate::specs::json::Verdict::undetermined_by))]
+fn undetermined_by(
+    alloc: Global,
+    outcome: Option<&Result<PcrValue, Undetermined>>,
+) -> Result<Value, AllocError>
+    ensures { IfOk result (λ value. view value
+        ≡ undetermined_by (option_map (λ outcome. outcome_of outcome.now) outcome.entry)) }
+{
+    match outcome {
+        Some(Err(at)) => event_json(alloc, at),
+        _ => Ok(Value::Null),
+    }
+}
+
+/// Returns the event by which a PCR is undetermined: its index, its offset, and why.
+#[tactic(auto, unfolding(crate::specs::json::Verdict::event_json))]
+fn event_json(alloc: Global, at: &Undetermined) -> Result<Value, AllocError>
+    ensures { IfOk result (λ value. view value ≡ event_json at.now) }
+{
+    let (index, offset) = (at.index, at.offset);
+    let reason = fault_text(at.fault);
+    json!(in alloc; {"index": index, "offset": offset, "reason": reason})
+}

@@ -1,0 +1,44 @@
+//! What an event log leads to, as the lines that the program `uefi_audit` prints.
+//!
+//! Begin with a [`LogFile`], a log with the name of its file, and with the PCRs that
+//! [`replay_banks`](uefi_audits::replay::replay_banks) returns. [`push_banks`] appends them as
+//! `tpm2_pcrread` of tpm2-tools prints PCRs, and [`push_verdict`] whether they are those that a TPM
+//! held. [`push_differences`] compares the events of two logs, [`push_event_blocks`] appends those of
+//! one, and [`push_check`] and [`push_check_summary`] append what was checked of them.
+//!
+//! The other calls append lines for standard error: [`push_undetermined`] names the events by which
+//! PCRs are undetermined, [`push_left_over`] and [`push_padding`] the bytes that follow the last
+//! event, [`push_start`] the locality that is assumed, and [`push_ignored`] the events that have no
+//! effect and should have. Each line begins with the file's name, as
+//! [`ShownName`](crate::words::ShownName) displays it.
+
+pub use self::banks::{push_bank, push_banks};
+pub use self::check::{push_check, push_check_summary};
+pub use self::diff::push_differences;
+pub use self::events::push_event_blocks;
+pub use self::ignored::push_ignored;
+pub use self::start::push_start;
+pub(crate) use self::trailing::offset_of_last;
+pub use self::trailing::{push_left_over, push_padding};
+pub use self::undetermined::push_undetermined;
+pub use self::verdict::push_verdict;
+use uefi_tcg::Log;
+
+mod banks;
+mod check;
+mod diff;
+mod events;
+mod ignored;
+mod start;
+mod trailing;
+mod undetermined;
+mod verdict;
+
+/// An event log that was read from a file: the name to print, and the log.
+#[derive(Clone, Copy)]
+pub struct LogFile<'a> {
+    /// The file's name, as the caller gave it.
+    pub name: &'a str,
+    /// The log.
+    pub log: Log<'a>,
+}

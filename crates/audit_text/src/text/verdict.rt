@@ -1,0 +1,169 @@
+ghost use Rattle.std.specs.Prelude.{◌≡◌, map, flat_map, IfOk, OnOk};
+ghost use Rattle.std.specs.Option.{option_map};
+ghost use Rattle.uefi_base.specs.Appending.{AppendsText};
+ghost use Rattle.pcr_replay.specs.Views.{outcome_of, value_of};
+ghost use Rattle.uefi_audits.specs.Replay.{bank_outcomes_of};
+ghost use Rattle.audit_text.specs.text.Verdict.{agree_line, held_text, line_of, outcome_text, undetermined_text, value_text, verdict_lines};
+ghost use Rattle.uefi_audits.specs.verify.Verdict.{verdict_of};
+
+use crate::words::fault_text;
+use pcr_replay::{PcrValue, Undetermined};
+use std::alloc::{AllocError, Allocator};
+use uefi_audits::naming::bank_name;
+use uefi_audits::replay::BankPcrs;
+use uefi_audits::verify::{HeldPcr, Verdict, agrees, led_to};
+
+/// Appends whether a log leads to these PCRs: one line if it does, or else a line for each PCR that
+/// doesn't agree. Returns how many differ, and how many are undetermined.
+///
+/// The lines name the log by `name`, and the `locality` at which PCR 0 starts. Each PCR is sought
+/// in the first of `replays` that is of its bank.
+///
+/// # Errors
+///
+/// [`AllocError`] if an allocation fails. The text may have grown then.
+pub fn push_verdict<A: Allocator + Copy>(
+    text: &mut String<A>,
+    alloc: A,
+    name: &str,
+    held: &[HeldPcr],
+    replays: &[BankPcrs],
+    locality: u8,
+) -> Result<Verdict, AllocError>
+    ensures verdict { IfOk result (λ verdict.
+        verdict ≡ verdict_of (map bank_outcomes_of replays.now) held.now) }
+    ensures lines { OnOk result (AppendsText text.old text.new
+        (verdict_lines name.now (map bank_outcomes_of replays.now) locality held.now)) }
+{
+    let verdict = Verdict::of(held, replays);
+    if verdict.is_agreement() {
+        push_agreement(text, name, held.len(), locality)?;
+    } else {
+        push_disagreements(text, alloc, name, held, replays, locality)?;
+    }
+    Ok(verdict)
+}
+
+/// Appends the line that says how many PCRs agree, and where PCR 0 starts.
+#[tactic(auto, unfolding(crate::specs::text::Verdict::agree_line))]
+fn push_agreement<A: Allocator>(
+    text: &mut String<A>,
+    name: &str,
+    count: usize,
+    locality: u8,
+) -> Result<(), AllocError>
+    ensures { OnOk result
+        (AppendsText text.old text.new (agree_line name.now count locality)) }
+{
+    writeln!(
+        text,
+        "{name}: {count} PCRs agree, PCR 0 starts at locality {locality}"
+    )
+}
+
+/// Appends a line for each PCR that doesn't agree.
+fn push_disagreements<A: Allocator + Copy>(
+    text: &mut String<A>,
+    alloc: A,
+    name: &str,
+    held: &[HeldPcr],
+    replays: &[BankPcrs],
+    locality: u8,
+) -> Result<(), AllocError>
+    ensures { OnOk result (AppendsText text.old text.new
+        (flat_map (line_of name.now (map bank_outcomes_of replays.now) locality) held.now)) }
+{
+    for pcr in held {
+        push_if_disagreeing(text, alloc, name, pcr, replays, locality)?;
+    }
+    Ok(())
+}
+
+/// Appends the line of a PCR, unless it agrees.
+#[tactic(auto, unfolding(crate::specs::text::Verdict::line_of))]
+fn push_if_disagreeing<A: Allocator + Copy>(
+    text: &mut String<A>,
+    alloc: A,
+    name: &str,
+    held: &HeldPcr,
+    replays: &[BankPcrs],
+    locality: u8,
+) -> Result<(), AllocError>
+    ensures { OnOk result (AppendsText text.old text.new
+        (line_of name.now (map bank_outcomes_of replays.now) locality held.now)) }
+{
+    if agrees(held, replays) {
+        return Ok(());
+    }
+    push_held(text, alloc, name, held)?;
+    push_outcome(text, alloc, held.pcr, locality, led_to(held, replays))
+}
+
+/// Appends which PCR doesn't agree, and what it held.
+#[tactic(auto, unfolding(crate::specs::text::Verdict::held_text))]
+fn push_held<A: Allocator + Copy>(
+    text: &mut String<A>,
+    alloc: A,
+    name: &str,
+    held: &HeldPcr,
+) -> Result<(), AllocError>
+    ensures { OnOk result (AppendsText text.old text.new (held_text name.now held.now)) }
+{
+    let (bank, pcr) = (bank_name(held.bank), held.pcr);
+    let digits = hex::encode_upper(alloc, held.value.as_bytes())?;
+    write!(text, "{name}: {bank} PCR {pcr} held 0x{digits}")
+}
+
+/// Appends what the log leads to in a PCR.
+#[tactic(auto, unfolding(crate::specs::text::Verdict::outcome_text))]
+fn push_outcome<A: Allocator + Copy>(
+    text: &mut String<A>,
+    alloc: A,
+    pcr: u32,
+    locality: u8,
+    outcome: Option<&Result<PcrValue, Undetermined>>,
+) -> Result<(), AllocError>
+    ensures { OnOk result (AppendsText text.old text.new (outcome_text pcr locality
+        (option_map (λ outcome. outcome_of outcome.now) outcome.entry))) }
+{
+    match outcome {
+        None => writeln!(text, ", and the log has no such PCR"),
+        Some(Ok(value)) => push_value(text, alloc, pcr, locality, value),
+        Some(Err(at)) => push_undetermined(text, at),
+    }
+}
+
+/// Appends the value to which the log leads in a PCR, and for PCR 0 where it starts.
+fn push_value<A: Allocator + Copy>(
+    text: &mut String<A>,
+    alloc: A,
+    pcr: u32,
+    locality: u8,
+    value: &PcrValue,
+) -> Result<(), AllocError>
+    ensures { OnOk result (AppendsText text.old text.new
+        (value_text pcr locality (value_of value.now))) }
+{
+    let digits = hex::encode_upper(alloc, value.as_bytes())?;
+    if pcr == 0 {
+        return writeln!(
+            text,
+            ", the log leads to 0x{digits}, PCR 0 starts at locality {locality}"
+        );
+    }
+    writeln!(text, ", the log leads to 0x{digits}")
+}
+
+/// Appends the event by which a PCR is undetermined.
+fn push_undetermined<A: Allocator>(
+    text: &mut String<A>,
+    at: &Undetermined,
+) -> Result<(), AllocError>
+    ensures { OnOk result (AppendsText text.old text.new (undetermined_text at.now)) }
+{
+    let (index, offset, fault) = (at.index, at.offset, fault_text(at.fault));
+    writeln!(
+        text,
+        ", undetermined: event {index} at offset {offset} {fault}"
+    )
+}

@@ -1,0 +1,20 @@
+//! Words that text and JSON share.
+//!
+//! [`push_said`] appends in a few words what the data of an event say. A [`ShownName`] displays a
+//! name so that nothing in it is hidden. [`fault_text`] is what is wrong with an event by which a
+//! PCR is undetermined, and [`push_number`] appends the number of an algorithm.
+
+pub use self::faults::fault_text;
+pub use self::numbers::push_number;
+pub(crate) use self::path::path_text;
+pub use self::said::push_said;
+pub use self::shown::ShownName;
+pub(crate) use self::shown::is_control;
+
+mod faults;
+pub(crate) mod names;
+mod numbers;
+mod path;
+mod said;
+mod shown;
+pub(crate) mod texts;

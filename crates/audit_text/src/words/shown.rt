@@ -1,0 +1,78 @@
+ghost use Rattle.std.specs.Prelude.{◌≡◌, Some};
+ghost use Rattle.std.specs.Fmt.{DisplaysOnOk};
+ghost use Rattle.audit_text.specs.words.Shown.{hex_escape, is_control, is_escaped, shown_character, shown_name};
+
+use std::fmt;
+
+/// The name of a file, displayed on one line and so that nothing in it is hidden: each byte of a
+/// control character and of a backslash is `\x` and two hex digits.
+///
+/// | control characters | what they are |
+/// |---|---|
+/// | U+0000 to U+001F, U+007F to U+009F | those of ASCII and Latin-1 |
+/// | U+2028, U+2029 | separators of lines and of paragraphs |
+/// | U+061C, U+200E, U+200F, U+202A to U+202E, U+2066 to U+2069 | those of the writing direction |
+#[derive(Clone, Copy)]
+pub struct ShownName<'a>(pub &'a str);
+
+impl fmt::Display for ShownName<'_> {
+    ghost output = { λ name. Some (shown_name name.0.now) };
+
+    fn fmt<W: fmt::Write>(&self, f: &mut fmt::Formatter<W>) -> fmt::Result {
+        write_name(f, self.0)
+    }
+}
+
+/// Writes each character of a name.
+fn write_name<W: fmt::Write>(f: &mut fmt::Formatter<W>, name: &str) -> fmt::Result
+    ensures { DisplaysOnOk W.write_str_gives f.old result (Some (shown_name name.now)) f.new }
+{
+    for character in name.chars() {
+        write_character(f, character)?;
+    }
+    Ok(())
+}
+
+/// Writes a character of a name.
+fn write_character<W: fmt::Write>(f: &mut fmt::Formatter<W>, character: char) -> fmt::Result
+    ensures { DisplaysOnOk W.write_str_gives f.old result (Some (shown_character character)) f.new }
+{
+    if !is_escaped(character) {
+        return f.write_char(character);
+    }
+    let mut room = [0; 4];
+    for byte in character.encode_utf8(&mut room).as_bytes() {
+        write_escape(f, *byte)?;
+    }
+    Ok(())
+}
+
+/// Writes a byte as `\x` and two hex digits.
+fn write_escape<W: fmt::Write>(f: &mut fmt::Formatter<W>, byte: u8) -> fmt::Result
+    ensures { DisplaysOnOk W.write_str_gives f.old result (Some (hex_escape byte)) f.new }
+{
+    write!(f, "\\x{byte:02x}")
+}
+
+/// Returns whether a character is written as hex digits: a control, or a backslash.
+fn is_escaped(character: char) -> bool
+    ensures { result ≡ is_escaped character }
+{
+    is_control(character) || character == '\\'
+}
+
+/// Returns whether a character is a control: it isn't printed, and may change how others are.
+#[tactic(auto, unfolding(crate::specs::words::Shown::is_control))]
+pub(crate) fn is_control(character: char) -> bool
+    ensures { result ≡ is_control character }
+{
+    matches!(
+        character,
+        '\0'..='\x1f'
+            | '\x7f'..='\u{9f}'
+            | '\u{61c}'
+            | '\u{200e}'..='\u{200f}'
+            | '\u{2028}'..='\u{202e}'
+            | '\u{2066}'..='\u{2069}'
+    )
+}

@@ -1,0 +1,84 @@
+ghost use Rattle.std.specs.Prelude.{◌≡◌, IfOk, encode_utf8, string_bytes};
+ghost use Rattle.std.specs.List.{flat_map};
+ghost use Rattle.uefi_base.specs.Views.{slice_units};
+ghost use Rattle.uefi_tcg.specs.content.Views.{text_of, version_of};
+ghost use Rattle.audit_text.specs.words.Texts.{before_nul, event_text, unit_text, version_text};
+
+use std::alloc::{AllocError, Global};
+use uefi_base::UnalignedSlice;
+use uefi_tcg::content::{CrtmVersion, EventText};
+
+/// Returns units as text, with U+FFFD for each surrogate.
+pub(crate) fn name_text(alloc: Global, units: &UnalignedSlice<'_>) -> Result<String, AllocError>
+    ensures { IfOk result
+        (λ text. string_bytes text ≡ flat_map unit_text (slice_units units.now)) }
+{
+    let mut text = String::new(alloc);
+    for unit in units.iter() {
+        text.push(character(unit))?;
+    }
+    Ok(text)
+}
+
+/// Returns the units before the first NUL as text.
+#[tactic(auto, unfolding(crate::specs::words::Texts::before_nul))]
+pub(crate) fn text_before_nul(
+    alloc: Global,
+    units: &UnalignedSlice<'_>,
+) -> Result<String, AllocError>
+    ensures { IfOk result
+        (λ text. string_bytes text ≡ flat_map unit_text (before_nul (slice_units units.now))) }
+{
+    let mut text = String::new(alloc);
+    for unit in units.iter() {
+        if unit == 0 {
+            return Ok(text);
+        }
+        text.push(character(unit))?;
+    }
+    Ok(text)
+}
+
+/// Returns the character of a unit: U+FFFD for a surrogate.
+pub(crate) fn character(unit: u16) -> char
+    ensures { encode_utf8 result ≡ unit_text unit }
+{
+    match char::from_u32(u32::from(unit)) {
+        Some(character) => character,
+        None => '\u{fffd}',
+    }
+}
+
+/// Returns bytes as text: each is the character of its number.
+pub(crate) fn byte_text(alloc: Global, bytes: &[u8]) -> Result<String, AllocError>
+    ensures { IfOk result (λ text. string_bytes text ≡ flat_map encode_utf8 bytes.now) }
+{
+    let mut text = String::new(alloc);
+    for byte in bytes {
+        text.push(char::from(*byte))?;
+    }
+    Ok(text)
+}
+
+/// Returns the text of an event.
+#[tactic(auto, unfolding(crate::specs::words::Texts::event_text))]
+pub(crate) fn event_text(alloc: Global, text: &EventText<'_>) -> Result<String, AllocError>
+    ensures { IfOk result (λ shown. string_bytes shown ≡ event_text (text_of text.now)) }
+{
+    match text {
+        EventText::Ascii { text, .. } => byte_text(alloc, text),
+        EventText::Utf16 { units, .. } => name_text(alloc, units),
+    }
+}
+
+/// Returns the text of a version.
+#[tactic(auto, unfolding(crate::specs::words::Texts::version_text))]
+pub(crate) fn version_text(alloc: Global, version: &CrtmVersion<'_>) -> Result<String, AllocError>
+    ensures { IfOk result (λ shown. string_bytes shown ≡ version_text (version_of version.now)) }
+{
+    match version {
+        CrtmVersion::Ucs2(units) => name_text(alloc, units),
+        CrtmVersion::Guid(guid) => guid.to_string(alloc),
+        CrtmVersion::Other(text) => event_text(alloc, text),
+    }
+}

@@ -1,8 +1,0 @@
-use Rattle.std.proofs.Common.{take}
-use Rattle.uefi_tcg.specs.LogViews.{event_of}
-use Rattle.uefi_auditing.specs.Check.{MatchesNoneOf}
-use Rattle.uefi_auditing.proofs.check.first_match.Given as goal
-
--- None of the forms so far matches.
-abbrev pub invariant-loop-form : goal.invariant-loop-form
-invariant-loop-form l = MatchesNoneOf (event_of l.event) (take l.form-index l.forms)

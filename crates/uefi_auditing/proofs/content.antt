@@ -1,6 +1,0 @@
-pub mod PathBytes
-pub mod Printed
-pub mod TaggedSteps
-pub mod OneValue
-pub mod OneContent
-pub mod FirstItems

@@ -1,5 +1,0 @@
-use Rattle.std.proofs.Common.{length}
-use Rattle.uefi_auditing.proofs.events.hex_lines.push_hex_lines.Given as goal
-
-abbrev pub decreases-loop-rest : goal.decreases-loop-rest
-decreases-loop-rest l = length l.rest

@@ -1,8 +1,0 @@
-use Rattle.std.proofs.Common.{◌∙◌, arith, sym}
-use Rattle.uefi_auditing.proofs.json.Controls.{control_fits}
-use Rattle.uefi_auditing.proofs.json.line.push_character.Goals as goal
-
-pub push_escape-requires : goal.push_escape-requires
-push_escape-requires c =
-    let fits = control_fits c.args.character (sym c.is_control.ensures ∙ c.if-is_control.true) in
-    omega (arith, fits, c.from.ensures)

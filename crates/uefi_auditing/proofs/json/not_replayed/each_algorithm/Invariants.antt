@@ -1,8 +1,0 @@
-use Rattle.std.proofs.Common.{◌≡◌, map, take}
-use Rattle.serde_json.specs.View.{view}
-use Rattle.uefi_auditing.specs.json.Replay.{algorithm_json}
-use Rattle.uefi_auditing.proofs.json.not_replayed.each_algorithm.Given as goal
-
--- The values are the algorithms so far.
-abbrev pub invariant-loop-algorithm : goal.invariant-loop-algorithm
-invariant-loop-algorithm l = map view l.values.items ≡ map algorithm_json (take l.algorithm-index l.algorithms)

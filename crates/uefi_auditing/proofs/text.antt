@@ -1,3 +1,0 @@
-pub mod BankOf
-pub mod Lines
-pub mod Ending

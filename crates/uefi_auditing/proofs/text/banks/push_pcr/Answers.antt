@@ -1,7 +1,0 @@
-use Rattle.std.proofs.Common.{append_assoc}
-use Rattle.uefi_auditing.specs.text.Pcrs.{pcr_line}
-use Rattle.uefi_auditing.proofs.text.banks.push_pcr.Goals as goal
-
-pub returns-in-Err : goal.returns-in-Err
-unfolding pcr_line
-returns-in-Err g c = rw c.in-Err.is (simp append_assoc (simp c.padding-gap.ensures at c.writeln-in-Err.ensures.bytes))

@@ -1,5 +1,0 @@
-use Rattle.uefi_auditing.proofs.verify.Agreement.{agree_by_verdict}
-use Rattle.uefi_auditing.proofs.verify.laws.agree_by_verdict.Goals as goal
-
-pub returns : goal.returns
-returns c = agree_by_verdict

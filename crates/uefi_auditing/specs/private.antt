@@ -1,5 +1,0 @@
--- Words of private contracts and ghost fields alone.
-pub mod content
-pub mod diff
-pub mod json
-pub mod verify

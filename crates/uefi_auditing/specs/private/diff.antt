@@ -1,4 +1,0 @@
-pub mod Order
-pub mod Views
-pub mod Index
-pub mod Appending

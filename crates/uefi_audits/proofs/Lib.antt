@@ -1,0 +1,5 @@
+pub mod FirstOnes
+pub mod Commands
+pub mod Outside
+pub mod Matching
+pub mod Widening

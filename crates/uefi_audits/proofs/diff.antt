@@ -1,0 +1,5 @@
+pub mod Orders
+pub mod Index
+pub mod Pcrs
+pub mod ThoseOnly
+pub mod Numbering

@@ -1,0 +1,11 @@
+-- What holds of all data.
+use Rattle.std.specs.Prelude.{ℕ, ◌≡◌, List}
+use Rattle.uefi_tcg.specs.declared.uintn_size.UintnSize.{UintnSize}
+use Rattle.uefi_audits.specs.content.Content.{Content, Says}
+use Rattle.uefi_audits.specs.declared.content.form.Form.{Form}
+
+-- Data of a form say one thing: so an event has one line.
+abbrev pub OneContent : Type 0
+OneContent =
+    (size : UintnSize) (form : Form) (bytes : List ℕ) (content other : Content) → Says size form bytes content
+    → Says size form bytes other → content ≡ other

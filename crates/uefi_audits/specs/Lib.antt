@@ -1,0 +1,10 @@
+pub mod Replay
+pub mod Algorithms
+pub mod Naming
+pub mod Whole
+pub mod content
+pub mod Laws
+pub mod private
+pub mod verify
+pub mod diff
+pub mod Check

@@ -1,0 +1,5 @@
+pub mod Path
+pub mod Header
+pub mod Value
+pub mod Content
+pub mod Views

@@ -1,0 +1,127 @@
+-- What the data of an event say, by the event's type (TCG PC Client Platform Firmware Profile 1.06, 10.4.1).
+use Rattle.std.specs.Prelude.{ℕ, ◌≡◌, ◌==◌, ◌&&◌, nat_le, List, [], ◌∷◌, length, Option, Some, None, Bool, true, false, if◌then◌else◌}
+use Rattle.std.specs.List.{list_all}
+use Rattle.uefi_base.specs.LittleEndian.{u32_at}
+use Rattle.uefi_path.specs.Node.{Node}
+use Rattle.pcr_replay.specs.Start.{locality_in}
+use Rattle.uefi_tcg.specs.content.Blob.{Blob, DescribedBlob, ReadsBlob, ReadsDescribedBlob}
+use Rattle.uefi_tcg.specs.content.CrtmVersion.{CrtmVersion, ReadsCrtmVersion}
+use Rattle.uefi_tcg.specs.content.Gpt.{GptData, ReadsGptData}
+use Rattle.uefi_tcg.specs.content.Image.{Image, ReadsImage}
+use Rattle.uefi_tcg.specs.content.Tagged.{Tagged, AreTagged}
+use Rattle.uefi_tcg.specs.content.Text.{EventText, ReadsText}
+use Rattle.uefi_tcg.specs.content.Variable.{Variable, ReadsVariable}
+use Rattle.uefi_tcg.specs.declared.event_type.TheConstants.EventType.{POST_CODE, NO_ACTION, SEPARATOR, ACTION, EVENT_TAG, CRTM_VERSION, IPL, OMIT_BOOT_DEVICE_EVENTS, POST_CODE2}
+use Rattle.uefi_tcg.specs.declared.event_type.TheConstants.EventType.{EFI_VARIABLE_DRIVER_CONFIG, EFI_VARIABLE_BOOT, EFI_BOOT_SERVICES_APPLICATION, EFI_BOOT_SERVICES_DRIVER, EFI_RUNTIME_SERVICES_DRIVER}
+use Rattle.uefi_tcg.specs.declared.event_type.TheConstants.EventType.{EFI_GPT_EVENT, EFI_ACTION, EFI_PLATFORM_FIRMWARE_BLOB, EFI_PLATFORM_FIRMWARE_BLOB2, EFI_VARIABLE_BOOT2, EFI_GPT_EVENT2, EFI_HCRTM_EVENT, EFI_VARIABLE_AUTHORITY}
+use Rattle.uefi_tcg.specs.declared.uintn_size.UintnSize.{UintnSize}
+use Rattle.uefi_tcg.specs.v2.Header.{Header}
+use Rattle.uefi_audits.specs.Check.{is_one_of}
+use Rattle.uefi_audits.specs.content.Header.{ReadsHeader}
+use Rattle.uefi_audits.specs.content.Path.{ReadsNodes}
+use Rattle.uefi_audits.specs.content.Value.{Value, SaysValue, authority_form, value_form}
+use Rattle.uefi_audits.specs.declared.content.form.Form.{Form}
+use Rattle.uefi_audits.specs.declared.content.form.Form.TheVariants.{OfNoAction, OfSeparator, OfText, OfPostCode, OfBlob, OfDescribedBlob}
+use Rattle.uefi_audits.specs.declared.content.form.Form.TheVariants.{OfLoaderText, OfCrtmVersion, OfTagged, OfGpt, OfVariable, OfAuthority, OfImage, Other}
+use Rattle.uefi_audits.specs.declared.content.value_form.ValueForm.{ValueForm}
+
+-- What data say: a text, the number of a separator, the locality at which the TPM was started, the header of a log, a boot loader's text, the version of the root of trust, a blob of firmware without a description and with one, tagged events and the bytes after them, a partition table, a variable with what its value says, an image with the nodes of its device path; or nothing that is read here.
+pub data Content : Type 0 where
+  unread : Content
+  text : List ℕ → Content
+  separator : ℕ → Content
+  locality : ℕ → Content
+  header : Header → Content
+  loader_text : EventText → Content
+  crtm_version : CrtmVersion → Content
+  blob : Blob → Content
+  described_blob : DescribedBlob → Content
+  tagged : List Tagged → List ℕ → Content
+  gpt : GptData → Content
+  variable : Variable → Value → Content
+  image : Image → Option (List Node) → Content
+
+-- The form that data have in events of a type.
+unfoldable pub form_of : ℕ → Form
+form_of event_type =
+    if event_type == POST_CODE.0 then OfPostCode
+    else if event_type == NO_ACTION.0 then OfNoAction
+    else if event_type == SEPARATOR.0 then OfSeparator
+    else if is_one_of (ACTION.0 ∷ OMIT_BOOT_DEVICE_EVENTS.0 ∷ EFI_ACTION.0 ∷ EFI_HCRTM_EVENT.0 ∷ []) event_type then OfText
+    else if event_type == EVENT_TAG.0 then OfTagged
+    else if event_type == CRTM_VERSION.0 then OfCrtmVersion
+    else if event_type == IPL.0 then OfLoaderText
+    else if is_one_of (POST_CODE2.0 ∷ EFI_PLATFORM_FIRMWARE_BLOB2.0 ∷ []) event_type then OfDescribedBlob
+    else if is_one_of (EFI_VARIABLE_DRIVER_CONFIG.0 ∷ EFI_VARIABLE_BOOT.0 ∷ EFI_VARIABLE_BOOT2.0 ∷ []) event_type then OfVariable
+    else if is_one_of (EFI_BOOT_SERVICES_APPLICATION.0 ∷ EFI_BOOT_SERVICES_DRIVER.0 ∷ EFI_RUNTIME_SERVICES_DRIVER.0 ∷ []) event_type then OfImage
+    else if is_one_of (EFI_GPT_EVENT.0 ∷ EFI_GPT_EVENT2.0 ∷ []) event_type then OfGpt
+    else if event_type == EFI_PLATFORM_FIRMWARE_BLOB.0 then OfBlob
+    else if event_type == EFI_VARIABLE_AUTHORITY.0 then OfAuthority
+    else Other
+
+-- What is found, or nothing.
+abbrev pub or_unread : {A : Type 0} → (A → Content) → Option A → Content
+or_unread says (Some found) = says found
+or_unread says None = unread
+
+-- The number of a separator: the four bytes, little-endian.
+abbrev pub separator_content : List ℕ → Content
+separator_content bytes = if length bytes == 4 then separator (u32_at bytes 0) else unread
+
+-- A text: each byte is a character of ASCII that prints, or a space.
+abbrev pub is_printed : ℕ → Bool
+is_printed byte = nat_le 0x20 byte && nat_le byte 0x7e
+
+abbrev pub are_printed : List ℕ → Bool
+are_printed bytes = list_all is_printed bytes
+
+abbrev pub text_content : List ℕ → Content
+text_content bytes = if are_printed bytes then text bytes else unread
+
+-- An event that extends nothing states a locality, which data are that are `StartupLocality`, a zero byte and it; or it has the header of a log.
+unfoldable pub NoActionContent : Option ℕ → List ℕ → Content → Type 0
+NoActionContent (Some number) bytes content = content ≡ locality number
+NoActionContent None bytes content = (found : Option Header) × ReadsHeader bytes found × (content ≡ or_unread header found)
+
+-- A blob.
+unfoldable pub BlobContent : List ℕ → Content → Type 0
+BlobContent bytes content = (found : Option Blob) × ReadsBlob bytes found × (content ≡ or_unread blob found)
+
+-- What firmware measured as it started the platform: a text, or else a blob.
+unfoldable pub PostCodeContent : Bool → List ℕ → Content → Type 0
+PostCodeContent true bytes content = content ≡ text bytes
+PostCodeContent false bytes content = BlobContent bytes content
+
+-- A variable, with what its value says by its GUID and its name.
+unfoldable pub VariableContent : (List ℕ → List ℕ → ValueForm) → Option Variable → Content → Type 0
+VariableContent form (Some read) content =
+    (value : Value) × SaysValue (form read.guid read.name) read.payload value × (content ≡ variable read value)
+VariableContent form None content = content ≡ unread
+
+-- An image, with the nodes of its path.
+unfoldable pub ImageContent : Option Image → Content → Type 0
+ImageContent (Some read) content = (nodes : Option (List Node)) × ReadsNodes read.device_path nodes × (content ≡ image read nodes)
+ImageContent None content = content ≡ unread
+
+-- What data of a form say, with a UINTN of this size.
+unfoldable pub Says : UintnSize → Form → List ℕ → Content → Type 0
+Says size OfNoAction bytes content = NoActionContent (locality_in bytes) bytes content
+Says size OfSeparator bytes content = content ≡ separator_content bytes
+Says size OfText bytes content = content ≡ text_content bytes
+Says size OfPostCode bytes content = PostCodeContent (are_printed bytes) bytes content
+Says size OfBlob bytes content = BlobContent bytes content
+Says size OfDescribedBlob bytes content =
+    (found : Option DescribedBlob) × ReadsDescribedBlob bytes found × (content ≡ or_unread described_blob found)
+Says size OfLoaderText bytes content =
+    (found : Option EventText) × ReadsText bytes found × (content ≡ or_unread loader_text found)
+Says size OfCrtmVersion bytes content =
+    (found : Option CrtmVersion) × ReadsCrtmVersion bytes found × (content ≡ or_unread crtm_version found)
+Says size OfTagged bytes content =
+    (events : List Tagged) × (rest : List ℕ) × AreTagged bytes events rest × (content ≡ tagged events rest)
+Says size OfGpt bytes content = (found : Option GptData) × ReadsGptData size bytes found × (content ≡ or_unread gpt found)
+Says size OfVariable bytes content =
+    (found : Option Variable) × ReadsVariable bytes found × VariableContent value_form found content
+Says size OfAuthority bytes content =
+    (found : Option Variable) × ReadsVariable bytes found × VariableContent authority_form found content
+Says size OfImage bytes content = (found : Option Image) × ReadsImage size bytes found × ImageContent found content
+Says size Other bytes content = content ≡ unread

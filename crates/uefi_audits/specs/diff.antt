@@ -1,0 +1,4 @@
+pub mod Differences
+pub mod Views
+pub mod Order
+pub mod Index

@@ -1,0 +1,117 @@
+ghost use Rattle.std.specs.Prelude.{◌≡◌, ◌↔◌, ◌<◌, ◌^◌, length, map, IfOk, IsTrue, MatchOption, option_map};
+ghost use Rattle.uefi_tcg.specs.Entries.{Contents};
+ghost use Rattle.uefi_tcg.specs.Logs.{HasContents};
+ghost use Rattle.uefi_tcg.specs.LogViews.{entries_left, entry_of, event_of};
+ghost use Rattle.uefi_audits.specs.diff.Differences.{AreNumbered, AreNumberedIn, DifferAt, events_in, is_of, of_pcr};
+ghost use Rattle.uefi_audits.specs.diff.Views.{numbered_of};
+
+use crate::content::{Content, read_content};
+use crate::diff::order::is_same_event;
+use std::alloc::{AllocError, Global};
+use uefi_tcg::laws::one_contents;
+use uefi_tcg::{Log, LogEntries, LogEntry, UintnSize};
+
+/// How many PCRs are compared: the 24 that a TPM has, and those above as one.
+pub const COMPARED: u32 = 25;
+
+/// The PCR as which those above 23 are taken together.
+pub const ABOVE: u32 = 24;
+
+/// An event of a log with its index, and what its data say.
+#[derive(Clone, Copy)]
+pub struct NumberedEntry<'a> {
+    /// Its index in the log: 0 for the first one.
+    pub index: usize,
+    /// The event with its offset.
+    pub entry: LogEntry<'a>,
+    /// What the event's data say.
+    pub content: Content<'a>,
+}
+
+/// Returns the events of a log, each with its index and what its data say.
+pub fn numbered_entries<'a>(
+    alloc: Global,
+    log: &Log<'a>,
+) -> Result<Vec<NumberedEntry<'a>>, AllocError>
+    ensures { (contents : Contents) → HasContents log.now contents → IfOk result (λ found.
+        AreNumberedIn log.now contents (map numbered_of found.items)) }
+{
+    one_contents();
+    numbered(alloc, log.entries(), log.uintn_size())
+}
+
+/// Returns these events, each with its index and what its data say with a `UINTN` of this size.
+fn numbered<'a>(
+    alloc: Global,
+    entries: LogEntries<'a>,
+    uintn_size: UintnSize,
+) -> Result<Vec<NumberedEntry<'a>>, AllocError>
+    requires { length (entries_left entries) < 2 ^ 64 }
+    ensures { IfOk result (λ found. AreNumbered uintn_size 0 (entries_left entries.entry)
+        (map numbered_of found.items)) }
+{
+    let mut found = Vec::new(alloc);
+    let mut index = 0;
+    for entry in entries {
+        let content = read_content(&entry.event, uintn_size);
+        found.push(NumberedEntry {
+            index,
+            entry,
+            content,
+        })?;
+        index += 1;
+    }
+    Ok(found)
+}
+
+/// Returns the events of a PCR among these, in order; for PCR 24, those of all above 23.
+pub fn entries_of<'a>(
+    alloc: Global,
+    all: &[NumberedEntry<'a>],
+    pcr: u32,
+) -> Result<Vec<NumberedEntry<'a>>, AllocError>
+    ensures { IfOk result (λ found.
+        map numbered_of found.items ≡ of_pcr pcr (map numbered_of all.now)) }
+{
+    let mut found = Vec::new(alloc);
+    for entry in all {
+        if is_of(pcr, &entry.entry) {
+            found.push(*entry)?;
+        }
+    }
+    Ok(found)
+}
+
+/// Returns whether an event is of a PCR; for PCR 24, whether it is of one above 23.
+fn is_of(pcr: u32, entry: &LogEntry<'_>) -> bool
+    ensures { result ≡ is_of pcr (entry_of entry.now) }
+{
+    let of = entry.event.pcr_index().0;
+    of.min(ABOVE) == pcr
+}
+
+/// Returns the first place at which the events differ, or one list has an event and the other none.
+pub fn first_difference(old: &[NumberedEntry<'_>], new: &[NumberedEntry<'_>]) -> Option<usize>
+    ensures { MatchOption result
+        (events_in (map numbered_of old.now) ≡ events_in (map numbered_of new.now))
+        (DifferAt (map numbered_of old.now) (map numbered_of new.now)) }
+{
+    for at in 0..old.len().max(new.len()) {
+        if !is_same_or_none(old.get(at), new.get(at)) {
+            return Some(at);
+        }
+    }
+    None
+}
+
+/// Returns whether there are two events that are the same, or none.
+fn is_same_or_none(one: Option<&NumberedEntry<'_>>, other: Option<&NumberedEntry<'_>>) -> bool
+    ensures { IsTrue result ↔ (option_map (λ found. event_of found.now.entry.event) one.entry
+        ≡ option_map (λ found. event_of found.now.entry.event) other.entry) }
+{
+    match (one, other) {
+        (Some(one), Some(other)) => is_same_event(&one.entry.event, &other.entry.event),
+        (None, None) => true,
+        _ => false,
+    }
+}

@@ -1,0 +1,21 @@
+//! Laws of the definitions. Each function states a law that holds for all values, and does nothing
+//! when it runs.
+
+ghost use Rattle.uefi_audits.specs.Laws.{OneContent};
+
+use uefi_path::laws::{one_front, one_load_option};
+use uefi_tcg::laws::{one_boot_order, one_gpt_data, one_signature, one_value};
+
+/// States that the data of an event say one thing, by the form that its type gives them and the size
+/// of a `UINTN` in its log. So an event has one line, as
+/// `event_line` of `audit_text` promises it.
+pub fn one_content()
+    ensures { OneContent }
+{
+    one_front();
+    one_load_option();
+    one_value();
+    one_gpt_data();
+    one_boot_order();
+    one_signature();
+}

@@ -1,0 +1,19 @@
+//! What an audit of event logs of measured boot computes, over bytes in memory.
+//!
+//! Begin with [`replay::replay_banks`], which returns the PCRs that a log leads to, by banks.
+//! [`verify`] reads the PCRs that a TPM held and compares them with those. [`check`] compares the
+//! digests of an event with the hash of what its type measures, and [`diff`] the events of two logs.
+//! [`content`] reads what the data of an event say. The crate `audit_text` shows all of it.
+//!
+//! The contracts say what each result is, by the one list of events that a log has (`specs/`).
+//! Allocations may fail, and a text of PCRs may be wrong ([`verify::HeldError`]).
+#![tactic(auto)]
+
+pub mod algorithms;
+pub mod check;
+pub mod content;
+pub mod diff;
+pub mod laws;
+pub mod naming;
+pub mod replay;
+pub mod verify;

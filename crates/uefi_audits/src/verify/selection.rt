@@ -1,0 +1,176 @@
+ghost use Rattle.std.specs.Prelude.{◌≡◌, ◌≢◌, ◌≤◌, ◌<◌, ◌++◌, ◌∷◌, [], ℕ, List, Option, IfNone, IfSome, MatchOption};
+ghost use Rattle.pcr_replay.specs.Replay.{pcr_count};
+ghost use Rattle.uefi_audits.specs.Naming.{bank_name};
+ghost use Rattle.pcr_replay.specs.declared.bank.Bank.{Bank};
+ghost use Rattle.uefi_audits.specs.verify.Selection.{is_of_bank, number_of, selects};
+ghost use Rattle.uefi_audits.specs.verify.Selection.{AreItems, IsItem, IsPcrNumber, IsSelection, Selects};
+ghost use Rattle.uefi_audits.specs.private.verify.Selected.{AreNamed};
+ghost use Rattle.uefi_audits.specs.declared.verify.selection.Range.{Range};
+
+use crate::naming::bank_named;
+use crate::verify::banks::is_same_bank;
+use crate::verify::line::two_digits;
+use crate::verify::splitting::split_once;
+use pcr_replay::{Bank, PCR_COUNT};
+
+/// Which PCRs are asked for, in one bank or in all.
+///
+/// It is read from a text such as `0-7,14` or `sha256:0,7`: items separated by commas, after the
+/// name of a bank and a colon or without. An item is the number of a PCR in one decimal digit or
+/// two, 0 to 23, or the first and the last of a range with a `-` between them.
+#[derive(Clone, Copy)]
+pub struct PcrSelection {
+    bank: Option<Bank>,
+    pcrs: [bool; PCR_COUNT],
+}
+
+/// The PCRs from one to another.
+#[derive(Clone, Copy)]
+struct Range {
+    first: u32,
+    last: u32,
+}
+
+impl PcrSelection {
+    /// Returns the selection that a text names; `None` if it names none: an item is empty or no
+    /// number, is above 23, or is a range that goes down, or no bank that can be replayed has the
+    /// name.
+    pub fn parse(text: &str) -> Option<PcrSelection>
+        ensures selection { IfSome result (Selects text.now) }
+        ensures none { IfNone result
+            ((bank : Option Bank) (ranges : List Range) → IsSelection text.now bank ranges → ⊥) }
+    {
+        let text = text.as_bytes();
+        let Some((name, items)) = split_once(text, b':') else {
+            return selected(None, text);
+        };
+        let Some(bank) = bank_of_name(name) else {
+            return None;
+        };
+        selected(Some(bank), items)
+    }
+
+    /// Returns whether a PCR of a bank is selected.
+    pub fn is_selected(&self, bank: Bank, pcr: u32) -> bool
+        ensures { result ≡ selects self.now bank pcr }
+    {
+        self.is_of(bank) && self.pcrs.get(pcr as usize).copied().unwrap_or(false)
+    }
+
+    /// Returns whether PCRs of a bank may be selected.
+    fn is_of(&self, bank: Bank) -> bool
+        ensures { result ≡ is_of_bank self.now.bank bank }
+    {
+        match self.bank {
+            Some(only) => is_same_bank(only, bank),
+            None => true,
+        }
+    }
+}
+
+/// Returns the bank of this name; `None` if none that can be replayed has it.
+fn bank_of_name(name: &[u8]) -> Option<Bank>
+    ensures { MatchOption result ((bank : Bank) → name.now ≢ bank_name bank)
+        (λ bank. name.now ≡ bank_name bank) }
+{
+    match str::from_utf8(name) {
+        Ok(name) => bank_named(name),
+        Err(_) => None,
+    }
+}
+
+/// Returns the PCRs in a bank that items name; `None` if one of them is wrong.
+fn selected(bank: Option<Bank>, items: &[u8]) -> Option<PcrSelection>
+    ensures { MatchOption result ((ranges : List Range) → AreItems items.now ranges → ⊥)
+        (λ found. (found.bank ≡ bank)
+        × ((ranges : List Range) × AreItems items.now ranges × AreNamed ranges found.pcrs)) }
+{
+    let mut pcrs = [false; PCR_COUNT];
+    let mut rest = items;
+    while let Some((item, after)) = split_once(rest, b',') {
+        let Some(range) = range_in(item) else {
+            return None;
+        };
+        select(&mut pcrs, &range);
+        rest = after;
+    }
+    let Some(range) = range_in(rest) else {
+        return None;
+    };
+    select(&mut pcrs, &range);
+    Some(PcrSelection { bank, pcrs })
+}
+
+/// Selects the PCRs of a range.
+fn select(pcrs: &mut [bool; PCR_COUNT], range: &Range)
+    requires ascends { range.now.first ≤ range.now.last }
+    requires within { range.now.last < pcr_count }
+    ensures { (ranges : List Range) → AreNamed ranges pcrs.old
+        → AreNamed (ranges ++ range.now ∷ []) pcrs.new }
+{
+    for pcr in range.first..range.last + 1 {
+        pcrs[pcr as usize] = true;
+    }
+}
+
+/// Returns the range that an item names: one PCR, or those from one to another.
+fn range_in(item: &[u8]) -> Option<Range>
+    ensures { MatchOption result ((range : Range) → IsItem item.now range → ⊥) (IsItem item.now) }
+{
+    let Some((first, last)) = split_once(item, b'-') else {
+        let Some(pcr) = pcr_number(item) else {
+            return None;
+        };
+        return Some(Range {
+            first: pcr,
+            last: pcr,
+        });
+    };
+    range_between(first, last)
+}
+
+/// Returns the range between two numbers of PCRs.
+fn range_between(first: &[u8], last: &[u8]) -> Option<Range>
+    ensures { MatchOption result
+        ((range : Range) → IsPcrNumber first.now range.first → IsPcrNumber last.now range.last
+        → range.first ≤ range.last → ⊥)
+        (λ range. IsPcrNumber first.now range.first × IsPcrNumber last.now range.last
+        × (range.first ≤ range.last)) }
+{
+    let Some(first) = pcr_number(first) else {
+        return None;
+    };
+    let Some(last) = pcr_number(last) else {
+        return None;
+    };
+    if first > last {
+        return None;
+    }
+    Some(Range { first, last })
+}
+
+/// Returns the number of a PCR, which is below 24.
+fn pcr_number(text: &[u8]) -> Option<u32>
+    ensures { MatchOption result ((pcr : ℕ) → IsPcrNumber text.now pcr → ⊥)
+        (IsPcrNumber text.now) }
+{
+    let Some(number) = number_of(text) else {
+        return None;
+    };
+    if number as usize >= PCR_COUNT {
+        return None;
+    }
+    Some(number)
+}
+
+/// Returns the number of one digit or two.
+#[tactic(auto, unfolding(crate::specs::verify::Selection::number_of))]
+fn number_of(text: &[u8]) -> Option<u32>
+    ensures { result ≡ number_of text.now }
+{
+    match text {
+        [ones] if ones.is_ascii_digit() => Some(u32::from(ones - b'0')),
+        [tens, ones] => two_digits(*tens, *ones),
+        _ => None,
+    }
+}
