@@ -10,6 +10,10 @@ use std::alloc::{AllocError, Global};
 use std::collections::BTreeSet;
 
 /// Returns the events of a log that the other log doesn't have, in order.
+///
+/// # Errors
+///
+/// [`AllocError`] if an allocation fails.
 pub fn those_only<'a>(
     alloc: Global,
     found: &[NumberedEntry<'a>],
@@ -44,6 +48,10 @@ fn push_if_only<'a>(
 }
 
 /// Returns the keys of the events of entries.
+///
+/// # Errors
+///
+/// [`AllocError`] if an allocation fails.
 pub fn keys_of<'a>(
     alloc: Global,
     entries: &[NumberedEntry<'a>],

@@ -29,6 +29,10 @@ pub struct NumberedEntry<'a> {
 }
 
 /// Returns the events of a log, each with its index and what its data say.
+///
+/// # Errors
+///
+/// [`AllocError`] if an allocation fails.
 pub fn numbered_entries<'a>(
     alloc: Global,
     log: &Log<'a>,
@@ -65,6 +69,10 @@ fn numbered<'a>(
 }
 
 /// Returns the events of a PCR among these, in order; for PCR 24, those of all above 23.
+///
+/// # Errors
+///
+/// [`AllocError`] if an allocation fails.
 pub fn entries_of<'a>(
     alloc: Global,
     all: &[NumberedEntry<'a>],
