@@ -1,4 +1,3 @@
 pub mod FirstItems
-pub mod Lines
 pub mod BeforeNul
 pub mod Below

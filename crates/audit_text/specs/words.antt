@@ -5,5 +5,4 @@ pub mod Numbers
 pub mod Faults
 pub mod Path
 pub mod Said
-pub mod Lines
 pub mod Differences

@@ -3,3 +3,4 @@ pub mod Commands
 pub mod Outside
 pub mod Matching
 pub mod Widening
+pub mod Numbered

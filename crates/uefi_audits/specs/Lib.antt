@@ -8,3 +8,6 @@ pub mod private
 pub mod verify
 pub mod diff
 pub mod Check
+pub mod Trailing
+pub mod Judgement
+pub mod Numbered

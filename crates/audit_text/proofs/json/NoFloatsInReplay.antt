@@ -10,7 +10,7 @@ use Rattle.pcr_replay.specs.Replay.{Outcome}
 use Rattle.uefi_audits.specs.Replay.{BankOutcomes}
 use Rattle.audit_text.specs.json.Replay.{algorithm_json, bank_json, banks_json, if_undetermined, is_replayed, locality_json, log_json}
 use Rattle.audit_text.specs.json.Replay.{not_replayed_json, part_json, register_json, undetermined_json}
-use Rattle.audit_text.specs.words.Lines.{numbered}
+use Rattle.uefi_audits.specs.Numbered.{numbered}
 
 registers : (outcomes : List Outcome) → items_have_float (items_of (map register_json outcomes)) ≡ false
 unfolding register_json

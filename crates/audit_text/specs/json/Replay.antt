@@ -18,7 +18,7 @@ use Rattle.uefi_audits.specs.Replay.{BankOutcomes}
 use Rattle.audit_text.specs.json.Line.{line_of}
 use Rattle.audit_text.specs.declared.text.LogFile.{LogFile}
 use Rattle.uefi_audits.specs.Naming.{bank_name, bank_of}
-use Rattle.audit_text.specs.words.Lines.{numbered}
+use Rattle.uefi_audits.specs.Numbered.{numbered}
 use Rattle.audit_text.specs.words.Faults.{fault_text}
 use Rattle.uefi_audits.specs.Whole.{is_accepted}
 

@@ -5,7 +5,7 @@ use Rattle.hex.specs.Hex.{encode_upper}
 use Rattle.pcr_replay.specs.Replay.{Outcome}
 use Rattle.uefi_audits.specs.Replay.{BankOutcomes}
 use Rattle.uefi_audits.specs.Naming.{bank_name}
-use Rattle.audit_text.specs.words.Lines.{numbered}
+use Rattle.uefi_audits.specs.Numbered.{numbered}
 
 -- A space after a number of one digit.
 unfoldable pub padding : ℕ → List ℕ

@@ -6,7 +6,7 @@ use Rattle.pcr_replay.specs.declared.ignored.Ignored.TheVariants.{NoPcr, OtherPc
 use Rattle.pcr_replay.specs.declared.start.Start.{Start}
 use Rattle.uefi_tcg.specs.Entries.{Entry}
 use Rattle.pcr_replay.specs.Replay.{why_ignored}
-use Rattle.audit_text.specs.words.Lines.{numbered}
+use Rattle.uefi_audits.specs.Numbered.{numbered}
 use Rattle.audit_text.specs.words.Shown.{shown_name}
 
 -- The locality at which PCR 0 starts, if none is stated.

@@ -6,7 +6,7 @@ use Rattle.pcr_replay.specs.declared.fault.Undetermined.{Undetermined}
 use Rattle.pcr_replay.specs.Replay.{Outcome}
 use Rattle.uefi_audits.specs.Replay.{BankOutcomes}
 use Rattle.uefi_audits.specs.Naming.{bank_name}
-use Rattle.audit_text.specs.words.Lines.{numbered}
+use Rattle.uefi_audits.specs.Numbered.{numbered}
 use Rattle.audit_text.specs.words.Shown.{shown_name}
 use Rattle.audit_text.specs.words.Faults.{fault_text}
 

@@ -5,7 +5,7 @@ ghost use Rattle.serde_json.specs.View.{view};
 ghost use Rattle.pcr_replay.specs.Views.{outcome_of, outcomes_of};
 ghost use Rattle.uefi_audits.specs.Replay.{bank_outcomes_of};
 ghost use Rattle.audit_text.specs.json.Replay.{bank_json, banks_json, if_undetermined, register_json, undetermined_json};
-ghost use Rattle.audit_text.specs.words.Lines.{numbered};
+ghost use Rattle.uefi_audits.specs.Numbered.{numbered};
 
 use crate::json::event::hex_json;
 use crate::words::fault_text;

@@ -2,7 +2,7 @@ ghost use Rattle.std.specs.Prelude.{flat_map, map, OnOk};
 ghost use Rattle.uefi_base.specs.Appending.{AppendsText};
 ghost use Rattle.pcr_replay.specs.Views.{outcome_of, outcomes_of};
 ghost use Rattle.uefi_audits.specs.Replay.{bank_outcomes_of};
-ghost use Rattle.audit_text.specs.words.Lines.{numbered};
+ghost use Rattle.uefi_audits.specs.Numbered.{numbered};
 ghost use Rattle.audit_text.specs.words.Faults.{fault_text};
 ghost use Rattle.audit_text.specs.text.Undetermined.{undetermined_line, undetermined_lines, undetermined_text};
 

@@ -1,6 +1,6 @@
 use Rattle.pcr_replay.specs.Views.{outcome_of}
 use Rattle.audit_text.specs.json.Replay.{if_undetermined}
-use Rattle.audit_text.proofs.words.Lines.{all_appended, text_appended}
+use Rattle.uefi_audits.proofs.Numbered.{all_appended, text_appended}
 use Rattle.audit_text.proofs.json.bank.all_undetermined.Goals as goal
 
 pub loop-register-preserved : goal.loop-register-preserved

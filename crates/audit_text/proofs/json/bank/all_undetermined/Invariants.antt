@@ -2,7 +2,7 @@ use Rattle.std.proofs.Common.{◌≡◌, ◌++◌, drop, map}
 use Rattle.serde_json.specs.View.{view}
 use Rattle.pcr_replay.specs.Views.{outcomes_of}
 use Rattle.audit_text.specs.json.Replay.{if_undetermined}
-use Rattle.audit_text.specs.words.Lines.{numbered}
+use Rattle.uefi_audits.specs.Numbered.{numbered}
 use Rattle.audit_text.proofs.json.bank.all_undetermined.Given as goal
 
 -- The values so far and those of the PCRs to come are the values of all.

@@ -1,6 +1,6 @@
 use Rattle.pcr_replay.specs.Views.{outcome_of}
 use Rattle.audit_text.specs.text.Pcrs.{pcr_line}
-use Rattle.audit_text.proofs.words.Lines.{all_appended, text_appended}
+use Rattle.uefi_audits.proofs.Numbered.{all_appended, text_appended}
 use Rattle.audit_text.proofs.text.banks.push_pcrs.Goals as goal
 
 pub loop-number-preserved : goal.loop-number-preserved

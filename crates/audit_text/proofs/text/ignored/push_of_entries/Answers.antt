@@ -2,7 +2,7 @@ use Rattle.std.proofs.Common.{◌≡◌, ◌++◌, List, ap, arith, length, stri
 use Rattle.uefi_tcg.specs.Entries.{Entry}
 use Rattle.uefi_tcg.specs.LogViews.{entries_left, entry_of}
 use Rattle.audit_text.specs.text.Remarks.{entry_lines, ignored_lines}
-use Rattle.audit_text.proofs.words.Lines.{item_appended, items_appended}
+use Rattle.uefi_audits.proofs.Numbered.{item_appended, items_appended}
 use Rattle.audit_text.proofs.text.ignored.push_of_entries.Goals as goal
 
 pub loop-entry-preserved : goal.loop-entry-preserved

@@ -1,6 +1,6 @@
 use Rattle.std.proofs.Common.{◌≡◌, ◌+◌, ◌++◌, length, string_bytes}
 use Rattle.uefi_tcg.specs.LogViews.{entries_left}
-use Rattle.audit_text.specs.words.Lines.{numbered}
+use Rattle.uefi_audits.specs.Numbered.{numbered}
 use Rattle.audit_text.specs.text.Remarks.{entry_lines, ignored_lines}
 use Rattle.audit_text.proofs.text.ignored.push_of_entries.Given as goal
 

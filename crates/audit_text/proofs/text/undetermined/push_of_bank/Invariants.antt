@@ -1,6 +1,6 @@
 use Rattle.std.proofs.Common.{◌≡◌, ◌++◌, drop, string_bytes}
 use Rattle.pcr_replay.specs.Views.{outcomes_of}
-use Rattle.audit_text.specs.words.Lines.{numbered}
+use Rattle.uefi_audits.specs.Numbered.{numbered}
 use Rattle.audit_text.specs.text.Undetermined.{undetermined_text}
 use Rattle.audit_text.proofs.text.undetermined.push_of_bank.Given as goal
 

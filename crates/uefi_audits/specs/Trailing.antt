@@ -1,0 +1,14 @@
+-- What follows the last event of a log.
+use Rattle.std.specs.Prelude.{length}
+use Rattle.uefi_tcg.specs.Logs.{left_over, padding}
+use Rattle.pcr_replay.specs.ReadLogs.{contents_in}
+use Rattle.pcr_replay.specs.declared.read_log.ReadLog.{ReadLog}
+use Rattle.uefi_audits.specs.declared.trailing.Trailing.{Trailing}
+
+-- How many bytes of padding, or how many others, and where they begin.
+abbrev pub trailing_of : {A : Type 0} → ReadLog A → Trailing
+trailing_of read = record {
+  offset = (contents_in read).end;
+  padding = length (padding read.log (contents_in read));
+  left_over = length (left_over read.log (contents_in read));
+}
