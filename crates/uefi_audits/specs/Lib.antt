@@ -11,3 +11,5 @@ pub mod Check
 pub mod Trailing
 pub mod Judgement
 pub mod Numbered
+pub mod Ignored
+pub mod Start

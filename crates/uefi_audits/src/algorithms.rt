@@ -1,12 +1,12 @@
 //! The hash algorithms in the table of a log's header, by their numbers.
 
 ghost use Rattle.std.specs.Prelude.{◌≡◌, map, IfOk};
-ghost use Rattle.uefi_tcg.specs.v2.Event.{Table};
+ghost use Rattle.pcr_replay.specs.ReadLogs.{table_in};
 ghost use Rattle.uefi_tcg.specs.v2.Views.{table_of};
-ghost use Rattle.uefi_audits.specs.Algorithms.{AreAlgorithmsIn, HasTable};
+ghost use Rattle.uefi_audits.specs.Algorithms.{AreAlgorithmsIn};
 
+use pcr_replay::ReadLog;
 use std::alloc::{AllocError, Global};
-use uefi_tcg::Log;
 use uefi_tcg::v2::AlgorithmDigestSizes;
 
 /// Returns the algorithms in the table of a log's header, each once, in ascending order. A log of
@@ -15,11 +15,10 @@ use uefi_tcg::v2::AlgorithmDigestSizes;
 /// # Errors
 ///
 /// [`AllocError`] if an allocation fails.
-pub fn algorithms_of(alloc: Global, log: &Log<'_>) -> Result<Vec<u16>, AllocError>
-    ensures { (table : Table) → HasTable log.now table
-        → IfOk result (λ algorithms. AreAlgorithmsIn table algorithms.items) }
+pub fn algorithms_in(alloc: Global, read: &ReadLog<'_>) -> Result<Vec<u16>, AllocError>
+    ensures { IfOk result (λ algorithms. AreAlgorithmsIn (table_in read.now) algorithms.items) }
 {
-    match log.header() {
+    match read.header() {
         Some(header) => in_order(alloc, &header.algorithm_digest_sizes()),
         None => Ok(Vec::new(alloc)),
     }
