@@ -13,3 +13,5 @@ pub mod Judgement
 pub mod Numbered
 pub mod Ignored
 pub mod Start
+pub mod Facts
+pub mod LogReplay

@@ -1,6 +1,6 @@
 -- The PCRs that a log leads to, by bank.
-use Rattle.std.specs.Prelude.{List, [], ◌∷◌, Option, None, Some}
-use Rattle.std.specs.List.{filter}
+use Rattle.std.specs.Prelude.{Bool, List, [], ◌∷◌, is_err, Option, None, Some}
+use Rattle.std.specs.List.{filter, list_any}
 use Rattle.pcr_replay.specs.declared.bank.Bank.{Bank}
 use Rattle.pcr_replay.specs.declared.bank.Bank.TheVariants.{Sha1, Sha256, Sha384, Sha512, Sm3}
 use Rattle.pcr_replay.specs.declared.start.Start.{Start}
@@ -34,3 +34,7 @@ asked None entries = active_banks entries
 -- What a value of the code stands for.
 abbrev pub bank_outcomes_of : BankPcrs → BankOutcomes
 bank_outcomes_of found = record { bank = found.bank; outcomes = outcomes_of found.pcrs }
+
+-- A PCR of a bank is undetermined.
+abbrev pub has_undetermined : BankOutcomes → Bool
+has_undetermined bank = list_any is_err bank.outcomes

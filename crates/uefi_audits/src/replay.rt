@@ -2,13 +2,13 @@
 //! compared.
 
 ghost use Rattle.std.specs.Prelude.{◌≡◌, map, IfOk};
-ghost use Rattle.uefi_tcg.specs.Entries.{Contents};
-ghost use Rattle.uefi_tcg.specs.Logs.{HasContents};
-ghost use Rattle.uefi_audits.specs.Replay.{active_banks, asked, bank_outcomes_of, replayed};
+ghost use Rattle.uefi_tcg.specs.LogViews.{entry_of};
+ghost use Rattle.uefi_audits.specs.Replay.{active_banks, asked, bank_outcomes_of, has_undetermined, replayed};
 
-use pcr_replay::{Bank, Pcrs, Start, is_active, replay_from};
+use pcr_replay::entries::{is_active, replay};
+use pcr_replay::{Bank, Pcrs, Start};
 use std::alloc::{AllocError, Allocator};
-use uefi_tcg::Log;
+use uefi_tcg::LogEntry;
 
 /// What each PCR of a bank holds after the events of a log.
 #[derive(Clone, Copy)]
@@ -19,7 +19,16 @@ pub struct BankPcrs {
     pub pcrs: Pcrs,
 }
 
-/// Returns the banks that are asked for: one, or without one each that is active in the log, in
+impl BankPcrs {
+    /// Returns whether one of the PCRs is undetermined.
+    pub fn has_undetermined(&self) -> bool
+        ensures { result ≡ has_undetermined (bank_outcomes_of self.now) }
+    {
+        self.pcrs.outcomes().iter().any(|outcome| outcome.is_err())
+    }
+}
+
+/// Returns the banks that are asked for: one, or without one each that is active in these events, in
 /// the order of [`Bank::ALL`].
 ///
 /// # Errors
@@ -27,62 +36,58 @@ pub struct BankPcrs {
 /// [`AllocError`] if an allocation fails.
 pub fn asked_banks<A: Allocator>(
     alloc: A,
-    log: &Log<'_>,
+    entries: &[LogEntry<'_>],
     bank: Option<Bank>,
 ) -> Result<Vec<Bank, A>, AllocError>
-    ensures { (contents : Contents) → HasContents log.now contents
-        → IfOk result (λ banks. banks.items ≡ asked bank contents.entries) }
+    ensures { IfOk result (λ banks. banks.items ≡ asked bank (map entry_of entries.now)) }
 {
     match bank {
         Some(bank) => Vec::from_slice(alloc, &[bank]),
-        None => active_banks(alloc, log),
+        None => active_banks(alloc, entries),
     }
 }
 
-/// Returns the banks that are active in a log.
-fn active_banks<A: Allocator>(alloc: A, log: &Log<'_>) -> Result<Vec<Bank, A>, AllocError>
-    ensures { (contents : Contents) → HasContents log.now contents
-        → IfOk result (λ banks. banks.items ≡ active_banks contents.entries) }
+/// Returns the banks that are active in these events.
+fn active_banks<A: Allocator>(
+    alloc: A,
+    entries: &[LogEntry<'_>],
+) -> Result<Vec<Bank, A>, AllocError>
+    ensures { IfOk result (λ banks. banks.items ≡ active_banks (map entry_of entries.now)) }
 {
-    let mut banks = Vec::new(alloc);
-    for bank in &Bank::ALL {
-        if is_active(log, *bank) {
-            banks.push(*bank)?;
-        }
-    }
-    Ok(banks)
+    Bank::ALL
+        .iter()
+        .copied()
+        .filter(|bank| is_active(entries, *bank))
+        .collect(alloc)
 }
 
-/// Returns what the events of a log leave in the PCRs of each of these banks, in a TPM that was
-/// started so.
+/// Returns what these events leave in the PCRs of each of these banks, in a TPM that was started so.
 ///
 /// # Errors
 ///
 /// [`AllocError`] if an allocation fails.
 pub fn replay_banks<A: Allocator>(
     alloc: A,
-    log: &Log<'_>,
+    entries: &[LogEntry<'_>],
     banks: &[Bank],
     start: &Start,
 ) -> Result<Vec<BankPcrs, A>, AllocError>
-    ensures { (contents : Contents) → HasContents log.now contents
-        → IfOk result (λ found. map bank_outcomes_of found.items
-        ≡ map (replayed start.now contents.entries) banks.now) }
+    ensures { IfOk result (λ found. map bank_outcomes_of found.items
+        ≡ map (replayed start.now (map entry_of entries.now)) banks.now) }
 {
     let mut found = Vec::new(alloc);
     for bank in banks {
-        found.push(replay_bank(log, *bank, start))?;
+        found.push(replay_bank(entries, *bank, start))?;
     }
     Ok(found)
 }
 
-/// Returns what the events of a log leave in the PCRs of a bank.
-fn replay_bank(log: &Log<'_>, bank: Bank, start: &Start) -> BankPcrs
-    ensures { (contents : Contents) → HasContents log.now contents
-        → bank_outcomes_of result ≡ replayed start.now contents.entries bank }
+/// Returns what these events leave in the PCRs of a bank.
+fn replay_bank(entries: &[LogEntry<'_>], bank: Bank, start: &Start) -> BankPcrs
+    ensures { bank_outcomes_of result ≡ replayed start.now (map entry_of entries.now) bank }
 {
     BankPcrs {
         bank,
-        pcrs: replay_from(log, bank, start),
+        pcrs: replay(entries, bank, start),
     }
 }

@@ -4,8 +4,8 @@ use Rattle.uefi_audits.proofs.replay.asked_banks.Goals as goal
 
 pub returns-in-Some : goal.returns-in-Some
 unfolding asked
-returns-in-Some g c = λ contents is. rw c.in-Some.is (search rules)
+returns-in-Some g c = rw c.in-Some.is (search rules)
 
 pub returns-in-None : goal.returns-in-None
 unfolding asked
-returns-in-None g c = λ contents is. rw c.in-None.is (c.active_banks.ensures contents is)
+returns-in-None g c = rw c.in-None.is c.active_banks.ensures
