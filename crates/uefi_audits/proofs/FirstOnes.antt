@@ -1,10 +1,11 @@
 -- What is collected of the first ones of a list.
-use Rattle.std.proofs.Common.{◌≡◌, ◌∙◌, ℕ, suc, ◌+◌, ◌<◌, ◌≤◌, List, [], ◌∷◌, ◌++◌, length, map, take, get_or, ap, sym, refl, append-nil, arith}
+use Rattle.std.proofs.Common.{◌≡◌, ◌∙◌, ℕ, zero, suc, ◌+◌, ◌<◌, ◌≤◌, List, [], ◌∷◌, ◌++◌, length, map, take, get_or, ap, sym, refl, append_assoc, append-nil, arith}
 use Rattle.std.specs.Prelude.{Bool, true, false}
-use Rattle.std.specs.List.{filter, flat_map}
+use Rattle.std.specs.List.{filter, flat_map, range_with_len}
 use Rattle.std.proofs.Math.Seq.{take-suc}
 use Rattle.std.proofs.lemmas.Grind.{flat_map-append}
-use Rattle.std.proofs.lemmas.List.{map-append, take_all}
+use Rattle.std.proofs.lemmas.List.{length-map, map-append, map-id, take_all}
+use Rattle.std.proofs.lemmas.List.FromFn.{map-range_with_len_more}
 use Rattle.std.proofs.lemmas.List.Elements.{filter-append}
 
 -- The first ones and one more.
@@ -58,3 +59,47 @@ one_joined f all found new index default within is more =
     ∙ sym (ap (flat_map f) (one_more all index default within)
     ∙ flat_map-append f (take index all) (get_or all index default ∷ [])
     ∙ ap (λ it. flat_map f (take index all) ++ it) (append-nil (f (get_or all index default))))
+
+-- One more number.
+range_more : (count : ℕ) → range_with_len 0 (count + 1) ≡ range_with_len 0 count ++ count ∷ []
+range_more count =
+    sym (map-id (range_with_len 0 (count + 1))) ∙ map-range_with_len_more (λ number. number) 0 count count (omega arith)
+    ∙ ap (λ numbers. numbers ++ count ∷ []) (map-id (range_with_len 0 count))
+
+-- What a function gives for one more number, if it passes.
+passing_more : {A : Type 0} (f : ℕ → A) (passes : ℕ → Bool) (count : ℕ)
+    → map f (filter passes (range_with_len 0 (count + 1)))
+    ≡ map f (filter passes (range_with_len 0 count)) ++ map f (filter passes (count ∷ []))
+passing_more f passes count =
+    ap (λ numbers. map f (filter passes numbers)) (range_more count)
+    ∙ ap (map f) (filter-append passes (range_with_len 0 count) (count ∷ []))
+    ∙ map-append f (filter passes (range_with_len 0 count)) (filter passes (count ∷ []))
+
+pub number_passes : {A : Type 0} (f : ℕ → A) (passes : ℕ → Bool) (count : ℕ) (old now new : List A)
+    → now ≡ old ++ map f (filter passes (range_with_len 0 count)) → passes count ≡ true → new ≡ now ++ f count ∷ []
+    → new ≡ old ++ map f (filter passes (range_with_len 0 (count + 1)))
+number_passes f passes count old now new before passed pushed =
+    pushed ∙ ap (λ it. it ++ f count ∷ []) before
+    ∙ append_assoc old (map f (filter passes (range_with_len 0 count))) (f count ∷ [])
+    ∙ sym (ap (λ it. old ++ it) (passing_more f passes count
+    ∙ ap (λ it. map f (filter passes (range_with_len 0 count)) ++ it) (simp passed refl)))
+
+pub number_left_out : {A : Type 0} (f : ℕ → A) (passes : ℕ → Bool) (count : ℕ) (old now : List A)
+    → now ≡ old ++ map f (filter passes (range_with_len 0 count)) → passes count ≡ false
+    → now ≡ old ++ map f (filter passes (range_with_len 0 (count + 1)))
+number_left_out f passes count old now before other =
+    before ∙ sym (ap (λ it. old ++ it) (passing_more f passes count
+    ∙ ap (λ it. map f (filter passes (range_with_len 0 count)) ++ it) (simp other refl)
+    ∙ append-nil (map f (filter passes (range_with_len 0 count)))))
+
+-- Two lists of which functions give the same have as many elements, and give the same of each.
+pub as_many : {A B C : Type 0} (f : A → C) (g : B → C) (xs : List A) (ys : List B) → map f xs ≡ map g ys → length xs ≡ length ys
+as_many f g xs ys same = simp length-map at (ap length same)
+
+pub same_at : {A B C : Type 0} (f : A → C) (g : B → C) (xs : List A) (ys : List B) (index : ℕ) (x : A) (y : B)
+    → map f xs ≡ map g ys → index < length xs → f (get_or xs index x) ≡ g (get_or ys index y)
+same_at f g [] ys index x y same within = absurd (omega (arith, within))
+same_at f g (one ∷ xs) [] index x y same within = cc
+same_at f g (one ∷ xs) (other ∷ ys) zero x y same within = cc
+same_at f g (one ∷ xs) (other ∷ ys) (suc index) x y same within =
+    same_at f g xs ys index x y (let rest : map f xs ≡ map g ys = cc in rest) (omega (arith, within))

@@ -5,3 +5,4 @@ pub mod BankNames
 pub mod Cuts
 pub mod Selections
 pub mod Agreement
+pub mod Verdicts

@@ -1,4 +1,5 @@
 pub mod Reading
 pub mod Banks
 pub mod Selection
+pub mod Missing
 pub mod Verdict

@@ -1,25 +1,29 @@
 //! Whether an event log leads to the PCRs that a TPM held.
 //!
 //! [`held_in_text`] reads PCRs from a text, [`held_in_file`] one PCR from its file in Linux's
-//! sysfs. [`PcrSelection`] says which of them are asked for. [`held_banks`] are the banks that have
-//! to be replayed. [`Verdict::of`] counts the PCRs that aren't those that the log leads to.
-//! [`nearest`] serves a log that doesn't say how PCR 0 starts.
+//! sysfs. [`PcrSelection`] says which of them are asked for: [`selected_pcrs`] are those that are
+//! held, and [`missing_pcrs`] those that aren't. [`Verdict::new`] compares PCRs with those that the
+//! events of a log lead to.
 //!
 //! The contracts say what text is read as which PCRs, and where another text is wrong
-//! (`specs/verify/Reading.antt`); which text selects which PCRs (`specs/verify/Selection.antt`);
-//! and which PCRs agree (`specs/verify/Verdict.antt`).
+//! (`specs/verify/Reading.antt`); which text selects which PCRs (`specs/verify/Selection.antt`), and
+//! which of them are missing (`specs/verify/Missing.antt`); and which PCRs agree
+//! (`specs/verify/Verdict.antt`).
 
-pub use self::banks::held_banks;
-pub use self::comparison::{Verdict, agrees, led_to, nearest};
+pub use self::comparison::{agrees, led_to};
 pub use self::held::{Held, HeldError, HeldPcr};
+pub use self::missing::{MissingPcr, missing_pcrs};
 pub use self::reading::{held_in_file, held_in_text};
-pub use self::selection::PcrSelection;
+pub use self::selection::{PcrSelection, selected_pcrs};
+pub use self::verdict::Verdict;
 
 mod banks;
 mod comparison;
 mod held;
 pub mod laws;
 mod line;
+mod missing;
 mod reading;
 mod selection;
 mod splitting;
+mod verdict;

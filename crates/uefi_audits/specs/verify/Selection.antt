@@ -5,6 +5,7 @@ use Rattle.std.specs.List.{list_any}
 use Rattle.pcr_replay.specs.declared.bank.Bank.{Bank}
 use Rattle.pcr_replay.specs.Replay.{pcr_count}
 use Rattle.uefi_audits.specs.Naming.{bank_name}
+use Rattle.uefi_audits.specs.declared.verify.held.HeldPcr.{HeldPcr}
 use Rattle.uefi_audits.specs.declared.verify.selection.PcrSelection.{PcrSelection}
 use Rattle.uefi_audits.specs.declared.verify.selection.Range.{Range}
 use Rattle.uefi_audits.specs.verify.Banks.{is_same_bank}
@@ -64,6 +65,11 @@ is_named ranges pcr = list_any (is_in pcr) ranges
 -- Which PCRs a value of the code selects.
 abbrev pub selects : PcrSelection → Bank → ℕ → Bool
 selects selection bank pcr = is_of_bank selection.bank bank && slice_index_or selection.pcrs pcr false
+
+-- It selects a PCR that a TPM held. Without a selection each is selected.
+abbrev pub is_selected : Option PcrSelection → HeldPcr → Bool
+is_selected None held = true
+is_selected (Some selection) held = selects selection held.bank held.pcr
 
 -- It selects those that the text names.
 pub record Selects (text : List ℕ) (selection : PcrSelection) : Type 0 where

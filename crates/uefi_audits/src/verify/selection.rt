@@ -1,17 +1,18 @@
-ghost use Rattle.std.specs.Prelude.{◌≡◌, ◌≢◌, ◌≤◌, ◌<◌, ◌++◌, ◌∷◌, [], ℕ, List, Option, IfNone, IfSome, MatchOption};
+ghost use Rattle.std.specs.Prelude.{◌≡◌, ◌≢◌, ◌≤◌, ◌<◌, ◌++◌, ◌∷◌, [], ℕ, List, Option, filter, IfNone, IfOk, IfSome, MatchOption};
 ghost use Rattle.pcr_replay.specs.Replay.{pcr_count};
 ghost use Rattle.uefi_audits.specs.Naming.{bank_name};
 ghost use Rattle.pcr_replay.specs.declared.bank.Bank.{Bank};
-ghost use Rattle.uefi_audits.specs.verify.Selection.{is_of_bank, number_of, selects};
+ghost use Rattle.uefi_audits.specs.verify.Selection.{is_of_bank, is_selected, number_of, selects};
 ghost use Rattle.uefi_audits.specs.verify.Selection.{AreItems, IsItem, IsPcrNumber, IsSelection, Selects};
 ghost use Rattle.uefi_audits.specs.private.verify.Selected.{AreNamed};
 ghost use Rattle.uefi_audits.specs.declared.verify.selection.Range.{Range};
 
 use crate::naming::bank_named;
-use crate::verify::banks::is_same_bank;
+use crate::verify::held::HeldPcr;
 use crate::verify::line::two_digits;
 use crate::verify::splitting::split_once;
 use pcr_replay::{Bank, PCR_COUNT};
+use std::alloc::{AllocError, Allocator};
 
 /// Which PCRs are asked for, in one bank or in all.
 ///
@@ -57,14 +58,50 @@ impl PcrSelection {
         self.is_of(bank) && self.pcrs.get(pcr as usize).copied().unwrap_or(false)
     }
 
+    /// Returns the one bank of which PCRs are selected, or `None` if they are in all.
+    pub(crate) fn bank(&self) -> Option<Bank>
+        ensures { result ≡ self.now.bank }
+    {
+        self.bank
+    }
+
     /// Returns whether PCRs of a bank may be selected.
     fn is_of(&self, bank: Bank) -> bool
         ensures { result ≡ is_of_bank self.now.bank bank }
     {
         match self.bank {
-            Some(only) => is_same_bank(only, bank),
+            Some(only) => only == bank,
             None => true,
         }
+    }
+}
+
+/// Returns those of these PCRs that are selected. Without a selection each is.
+///
+/// # Errors
+///
+/// [`AllocError`] if an allocation fails.
+pub fn selected_pcrs<A: Allocator>(
+    alloc: A,
+    held: &[HeldPcr],
+    selection: &Option<PcrSelection>,
+) -> Result<Vec<HeldPcr, A>, AllocError>
+    ensures { IfOk result
+        (λ selected. selected.items ≡ filter (is_selected selection.now) held.now) }
+{
+    held.iter()
+        .copied()
+        .filter(|pcr| is_selected(selection, pcr))
+        .collect(alloc)
+}
+
+/// Returns whether a PCR that a TPM held is selected.
+fn is_selected(selection: &Option<PcrSelection>, held: &HeldPcr) -> bool
+    ensures { result ≡ is_selected selection.now held.now }
+{
+    match selection {
+        Some(selection) => selection.is_selected(held.bank, held.pcr),
+        None => true,
     }
 }
 
