@@ -4,3 +4,6 @@ pub mod Outside
 pub mod Matching
 pub mod Widening
 pub mod Numbered
+pub mod Findings
+pub mod Counting
+pub mod OneChecked

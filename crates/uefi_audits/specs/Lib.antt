@@ -15,3 +15,4 @@ pub mod Ignored
 pub mod Start
 pub mod Facts
 pub mod LogReplay
+pub mod CheckResult

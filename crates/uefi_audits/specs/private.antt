@@ -2,3 +2,4 @@
 pub mod content
 pub mod diff
 pub mod verify
+pub mod Counting

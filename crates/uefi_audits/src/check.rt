@@ -9,19 +9,21 @@ ghost use Rattle.uefi_audits.specs.Check.{agrees, are_hashes, has_digests, IsChe
 ghost use Rattle.uefi_audits.specs.Replay.{all_banks};
 ghost use Rattle.uefi_audits.specs.declared.check.form.Form.TheVariants.{Command, Narrowed, VariableValue, WithoutNul};
 
+pub use self::counts::TypeCounts;
 use self::form::may_describe;
 pub use self::form::{Form, forms_of};
 use self::measured::{command_in, narrowed, without_nul};
-pub use self::summary::{CheckSummary, TypeCounts};
+pub use self::result::{CheckResult, Mismatch, check_entries};
 use pcr_replay::{Bank, has_digest, is_hash_of};
-use std::alloc::{AllocError, Global};
+use std::alloc::{AllocError, Allocator};
 use uefi_tcg::content::VariableData;
 use uefi_tcg::laws::one_value;
 use uefi_tcg::{EventType, LogEvent};
 
+mod counts;
 mod form;
 mod measured;
-mod summary;
+mod result;
 
 /// What the digests of an event say of its data.
 #[derive(Clone, Copy, PartialEq, Eq, Debug)]
@@ -47,7 +49,7 @@ pub enum Checked {
 /// # Errors
 ///
 /// [`AllocError`] if an allocation fails.
-pub fn check(alloc: Global, event: &LogEvent<'_>) -> Result<Checked, AllocError>
+pub fn check<A: Allocator + Copy>(alloc: A, event: &LogEvent<'_>) -> Result<Checked, AllocError>
     ensures { IfOk result (IsChecked (event_of event.now)) }
 {
     let forms = forms_of(event.event_type());
@@ -61,8 +63,8 @@ pub fn check(alloc: Global, event: &LogEvent<'_>) -> Result<Checked, AllocError>
 }
 
 /// Returns the first form in which an event matches.
-fn first_match(
-    alloc: Global,
+fn first_match<A: Allocator + Copy>(
+    alloc: A,
     event: &LogEvent<'_>,
     forms: &[Form],
 ) -> Result<Option<Form>, AllocError>
@@ -93,7 +95,7 @@ fn may_name_file(event: &LogEvent<'_>) -> bool
 }
 
 /// Returns whether an event's digests are the hash of what its data measure in a form.
-fn matches_by(alloc: Global, event: &LogEvent<'_>, form: Form) -> Result<bool, AllocError>
+fn matches_by<A: Allocator>(alloc: A, event: &LogEvent<'_>, form: Form) -> Result<bool, AllocError>
     ensures { IfOk result (λ found. IsTrue found ↔ MatchesBy (event_of event.now) form) }
 {
     match form {
@@ -138,7 +140,7 @@ fn matches_command(event: &LogEvent<'_>) -> bool
 }
 
 /// Returns whether an event matches by the bytes whose units, of UTF-16, its data are.
-fn matches_narrowed(alloc: Global, event: &LogEvent<'_>) -> Result<bool, AllocError>
+fn matches_narrowed<A: Allocator>(alloc: A, event: &LogEvent<'_>) -> Result<bool, AllocError>
     ensures { IfOk result (λ found. IsTrue found ↔ MatchesBy (event_of event.now) Narrowed) }
 {
     match narrowed(alloc, event.event_data())? {

@@ -1,7 +1,7 @@
 //! Laws of the definitions. Each function states a law that holds for all values, and does nothing
 //! when it runs.
 
-ghost use Rattle.uefi_audits.specs.Laws.{OneContent};
+ghost use Rattle.uefi_audits.specs.Laws.{OneChecked, OneContent};
 
 use uefi_path::laws::{one_front, one_load_option};
 use uefi_tcg::laws::{one_boot_order, one_gpt_data, one_signature, one_value};
@@ -19,3 +19,9 @@ pub fn one_content()
     one_boot_order();
     one_signature();
 }
+
+/// States that [`check`](crate::check::check) finds one thing of an event. So the events of a log have
+/// one [`CheckResult`](crate::check::CheckResult).
+pub fn one_checked()
+    ensures { OneChecked }
+{}

@@ -1,5 +1,6 @@
 ghost use Rattle.std.specs.Prelude.{◌≡◌, ◌<◌, slice_get};
 ghost use Rattle.uefi_audits.specs.Check.{forms_of, may_describe};
+ghost use Rattle.uefi_audits.specs.CheckResult.{form_index};
 
 use uefi_tcg::EventType;
 
@@ -86,6 +87,7 @@ impl Form {
     pub fn index(self) -> usize
         ensures within { result < 6 }
         ensures place { slice_get Form.ALL result ≡ Some self }
+        ensures index { result ≡ form_index self }
     {
         match self {
             Form::Data => 0,
@@ -94,18 +96,6 @@ impl Form {
             Form::WithNul => 3,
             Form::Command => 4,
             Form::Narrowed => 5,
-        }
-    }
-
-    /// Returns the form's name, as the lines of what was checked have it.
-    pub fn name(self) -> &'static str {
-        match self {
-            Form::Data => "data",
-            Form::VariableValue => "variable value",
-            Form::WithoutNul => "without NUL",
-            Form::WithNul => "with NUL",
-            Form::Command => "command",
-            Form::Narrowed => "narrowed",
         }
     }
 }

@@ -3,7 +3,7 @@
 ghost use Rattle.std.specs.Prelude.{◌≡◌, ◌++◌, ◌∷◌, [], IfOk, MatchOption, List, ℕ};
 ghost use Rattle.uefi_audits.specs.Check.{IsCommand, widened};
 
-use std::alloc::{AllocError, Global};
+use std::alloc::{AllocError, Allocator};
 
 /// Returns the data without their closing NUL; `None` if they have none.
 pub(super) fn without_nul(bytes: &[u8]) -> Option<&[u8]>
@@ -33,7 +33,10 @@ pub(super) fn command_in(bytes: &[u8]) -> Option<&[u8]>
 
 /// Returns the bytes whose units, of UTF-16, the data are; `None` if a unit is 256 or more, or the
 /// data have no even length.
-pub(super) fn narrowed(alloc: Global, units: &[u8]) -> Result<Option<Vec<u8>>, AllocError>
+pub(super) fn narrowed<A: Allocator>(
+    alloc: A,
+    units: &[u8],
+) -> Result<Option<Vec<u8, A>>, AllocError>
     ensures { IfOk result (λ found. MatchOption found
         ((bytes : List ℕ) → units.now ≡ widened bytes → ⊥)
         (λ bytes. units.now ≡ widened bytes.items)) }

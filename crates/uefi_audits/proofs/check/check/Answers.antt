@@ -6,7 +6,7 @@ use Rattle.uefi_audits.proofs.check.check.Goals as goal
 use Rattle.uefi_audits.proofs.check.check.Goals.{then-is_empty-via-then-is_empty, then-is_empty-via-else-is_empty+then-may_measure_other}
 
 pub returns-then-is_empty : goal.returns-then-is_empty
-returns-then-is_empty c =
+returns-then-is_empty g c =
     let event = event_of c.args.event.now in
     let are : c.forms_of-forms.result.now ≡ forms_of event.event_type =
     c.forms_of-forms.ensures ∙ ap forms_of c.event_type.ensures in (
@@ -20,7 +20,7 @@ returns-then-is_empty c =
     )
 
 pub returns : goal.returns
-returns c =
+returns g c =
     let event = event_of c.args.event.now in
     let are : c.forms_of-forms.result.now ≡ forms_of event.event_type =
     c.forms_of-forms.ensures ∙ ap forms_of c.event_type.ensures in (

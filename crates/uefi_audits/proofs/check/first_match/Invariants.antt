@@ -5,4 +5,4 @@ use Rattle.uefi_audits.proofs.check.first_match.Given as goal
 
 -- None of the forms so far matches.
 abbrev pub invariant-loop-form : goal.invariant-loop-form
-invariant-loop-form l = MatchesNoneOf (event_of l.event) (take l.form-index l.forms)
+invariant-loop-form g l = MatchesNoneOf (event_of l.event) (take l.form-index l.forms)

@@ -4,7 +4,7 @@ use Rattle.uefi_audits.proofs.check.measured.narrowed.Given as goal
 
 -- The bytes so far are those of the units before the rest.
 abbrev pub invariant-loop-byte : goal.invariant-loop-byte
-invariant-loop-byte l = l.units ≡ widened l.bytes.items ++ l.rest
+invariant-loop-byte g l = l.units ≡ widened l.bytes.items ++ l.rest
 
 abbrev pub decreases-loop-byte : goal.decreases-loop-byte
-decreases-loop-byte l = length l.rest
+decreases-loop-byte g l = length l.rest

@@ -1,0 +1,22 @@
+use Rattle.std.proofs.Common.{arith}
+use Rattle.std.proofs.lemmas.Result.{IfOk-weaker}
+use Rattle.uefi_audits.proofs.Counting.{all_counted, has_room, one_more_of}
+use Rattle.uefi_audits.proofs.check.counts.counts_of.Goals as goal
+
+pub count-requires : goal.count-requires
+count-requires g c =
+    has_room c.loop-index.types c.args.all.now c.loop-index.index c.event_type.result.0 c.loop-index.invariant
+    (omega (arith, c.loop-index-test.true)) (omega arith)
+
+pub loop-index-preserved : goal.loop-index-preserved
+loop-index-preserved g c =
+    one_more_of c.loop-index.types c.count.new.types c.args.all.now c.loop-index.index c.index-all-index.result
+    (omega (arith, c.loop-index-test.true)) c.index-all-index.is c.loop-index.invariant
+    (rw (← c.event_type.ensures) c.in_ok-count.ensures)
+
+pub returns : goal.returns
+returns g c =
+    IfOk-weaker c.in_order.result _ _
+    (λ counts is. all_counted c.loop-index.types c.args.all.now c.loop-index.index counts.items
+    (omega (arith, c.loop-index-test.false)) c.in_order.ensures.order c.loop-index.invariant is)
+    c.in_order.ensures.counts

@@ -1,0 +1,110 @@
+-- What is found of the events of a log: those that match in none of the forms of their types, and how many events of each type match.
+use Rattle.std.specs.Prelude.{ℕ, ◌≡◌, ◌==◌, ◌&&◌, ◌↔◌, Bool, true, false, List, [], ◌∷◌, map, if◌then◌else◌}
+use Rattle.std.specs.List.{All, Contains, count_by}
+use Rattle.std.specs.List.Sorted.{IsStrictlyIncreasing}
+use Rattle.uefi_tcg.specs.Entries.{Entry}
+use Rattle.uefi_tcg.specs.LogViews.{entry_of}
+use Rattle.uefi_audits.specs.Check.{IsChecked}
+use Rattle.uefi_audits.specs.Numbered.{numbered}
+use Rattle.uefi_audits.specs.declared.check.Checked.{Checked}
+use Rattle.uefi_audits.specs.declared.check.Checked.TheVariants.{Matches, MatchesNone, NotInLog}
+use Rattle.uefi_audits.specs.declared.check.form.Form.{Form}
+use Rattle.uefi_audits.specs.declared.check.form.Form.TheVariants.{Data, VariableValue, WithoutNul, WithNul, Command, Narrowed}
+use Rattle.uefi_audits.specs.declared.check.counts.TypeCounts.{TypeCounts}
+use Rattle.uefi_audits.specs.declared.check.result.CheckResult.{CheckResult}
+use Rattle.uefi_audits.specs.declared.check.result.Mismatch.{Mismatch}
+
+-- An event of a log, and what is said of it.
+pub record Finding : Type 0 where
+  pub entry : Entry
+  pub checked : Checked
+
+-- What is said of each event of a log, in order.
+pub record AreFindings (entries : List Entry) (findings : List Finding) : Type 0 where
+  pub of_each : map (λ it. it.entry) findings ≡ entries
+  pub each_is : All (λ it. IsChecked it.entry.event it.checked) findings
+
+-- What is said of an event, by the kind.
+abbrev pub is_match : Checked → Bool
+is_match (Matches form) = true
+is_match MatchesNone = false
+is_match NotInLog = false
+
+abbrev pub is_mismatch : Checked → Bool
+is_mismatch (Matches form) = false
+is_mismatch MatchesNone = true
+is_mismatch NotInLog = false
+
+abbrev pub is_outside : Checked → Bool
+is_outside (Matches form) = false
+is_outside MatchesNone = false
+is_outside NotInLog = true
+
+-- The forms in order, and the index of each.
+abbrev pub all_forms : List Form
+all_forms = Data ∷ VariableValue ∷ WithoutNul ∷ WithNul ∷ Command ∷ Narrowed ∷ []
+
+abbrev pub form_index : Form → ℕ
+form_index Data = 0
+form_index VariableValue = 1
+form_index WithoutNul = 2
+form_index WithNul = 3
+form_index Command = 4
+form_index Narrowed = 5
+
+-- A match in the form with this index.
+abbrev pub is_match_at : ℕ → Checked → Bool
+is_match_at index (Matches form) = form_index form == index
+is_match_at index MatchesNone = false
+is_match_at index NotInLog = false
+
+abbrev pub is_match_in : Form → Checked → Bool
+is_match_in form = is_match_at (form_index form)
+
+-- An event that matches in none of the forms of its type, with its index in the log.
+pub record Mismatched : Type 0 where
+  pub index : ℕ
+  pub entry : Entry
+
+unfoldable pub if_mismatch : ℕ → Finding → List Mismatched
+if_mismatch index it = if is_mismatch it.checked then record { index = index; entry = it.entry } ∷ [] else []
+
+-- All such events, in order.
+abbrev pub mismatches_in : List Finding → List Mismatched
+mismatches_in findings = numbered if_mismatch 0 findings
+
+-- The number of the event's type.
+abbrev pub type_of : Finding → ℕ
+type_of it = it.entry.event.event_type
+
+-- Of how many events of a type this is said.
+unfoldable pub how_many : (Checked → Bool) → ℕ → List Finding → ℕ
+how_many is_said number findings = count_by (λ it. (number == type_of it) && is_said it.checked) findings
+
+-- The counts of a type.
+abbrev pub counts_in : List Finding → ℕ → TypeCounts
+counts_in findings number = record {
+  event_type = record { 0 = number };
+  matches = how_many is_match number findings;
+  by_form = map (λ form. how_many (is_match_in form) number findings) all_forms;
+  matches_none = how_many is_mismatch number findings;
+  not_in_log = how_many is_outside number findings;
+}
+
+-- The counts of each type of which there is an event, in the order of the types' numbers.
+pub record AreCounts (findings : List Finding) (counts : List TypeCounts) : Type 0 where
+  pub numbers : List ℕ
+  pub in_order : IsStrictlyIncreasing numbers
+  pub of_each : (number : ℕ) → Contains numbers number ↔ Contains (map type_of findings) number
+  pub each_is : counts ≡ map (counts_in findings) numbers
+
+-- What a value of the code stands for.
+abbrev pub mismatch_of : Mismatch → Mismatched
+mismatch_of found = record { index = found.index; entry = entry_of found.entry }
+
+-- What is found of the events of a log.
+pub record IsCheckResult {A : Type 0} (entries : List Entry) (result : CheckResult A) : Type 0 where
+  pub findings : List Finding
+  pub found : AreFindings entries findings
+  pub mismatches : map mismatch_of result.mismatches.items ≡ mismatches_in findings
+  pub types : AreCounts findings result.types.items

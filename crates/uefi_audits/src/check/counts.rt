@@ -1,0 +1,108 @@
+//! How many events of each type match.
+
+ghost use Rattle.std.specs.Prelude.{◌≡◌, map, slice_index, IfOk, OnOk};
+ghost use Rattle.std.specs.BTreeMap.{IsOrdered, values};
+ghost use Rattle.std.specs.Ordering.{nat_cmp};
+ghost use Rattle.uefi_audits.specs.CheckResult.{AreCounts, form_index};
+ghost use Rattle.uefi_audits.specs.private.Counting.{counted, counts_at, finding_of, no_counts, CountsOneMore, HasRoom};
+
+use crate::check::result::CheckedEntry;
+use crate::check::{Checked, Form};
+use std::alloc::{AllocError, Allocator};
+use std::collections::BTreeMap;
+use uefi_tcg::EventType;
+
+/// How many events of a type match, and in which forms, and how many don't.
+#[derive(Clone, Copy, PartialEq, Eq, Debug)]
+pub struct TypeCounts {
+    /// The type.
+    pub event_type: EventType,
+    /// How many match.
+    pub matches: u64,
+    /// How many match in each form, in the order of [`Form::ALL`].
+    pub by_form: [u64; 6],
+    /// How many match in none of the type's forms.
+    pub matches_none: u64,
+    /// Of how many the log doesn't have what was measured.
+    pub not_in_log: u64,
+}
+
+impl TypeCounts {
+    /// Returns the counts of a type of which there is no event yet.
+    fn new(event_type: EventType) -> TypeCounts
+        ensures { result ≡ no_counts event_type.0 }
+    {
+        TypeCounts {
+            event_type,
+            matches: 0,
+            by_form: [0; 6],
+            matches_none: 0,
+            not_in_log: 0,
+        }
+    }
+
+    /// Counts one more event.
+    fn add(&mut self, checked: Checked)
+        requires { HasRoom self.old }
+        ensures { self.new ≡ counted checked self.old }
+    {
+        match checked {
+            Checked::Matches(form) => {
+                self.matches += 1;
+                self.by_form[form.index()] += 1;
+            }
+            Checked::MatchesNone => self.matches_none += 1,
+            Checked::NotInLog => self.not_in_log += 1,
+        }
+    }
+
+    /// Returns how many match in a form.
+    pub fn matching_in(&self, form: Form) -> u64
+        ensures { result ≡ slice_index self.now.by_form (form_index form) }
+    {
+        self.by_form[form.index()]
+    }
+}
+
+/// Returns how many of these events of each type match, in the order of the types' numbers.
+pub(super) fn counts_of<A: Allocator + Copy>(
+    alloc: A,
+    all: &[CheckedEntry<'_>],
+) -> Result<Vec<TypeCounts, A>, AllocError>
+    ensures { IfOk result (λ counts. AreCounts (map finding_of all.now) counts.items) }
+{
+    let mut types = BTreeMap::new(alloc);
+    for index in 0..all.len() {
+        let it = &all[index];
+        count(&mut types, it.entry.event.event_type(), it.checked)?;
+    }
+    in_order(alloc, &types)
+}
+
+/// Returns the counts in the order of the types' numbers.
+fn in_order<A: Allocator>(
+    alloc: A,
+    types: &BTreeMap<u32, TypeCounts, A>,
+) -> Result<Vec<TypeCounts, A>, AllocError>
+    ensures order { IsOrdered nat_cmp types.now }
+    ensures counts { IfOk result (λ counts. counts.items ≡ values types.now) }
+{
+    types.values().copied().collect(alloc)
+}
+
+/// Counts one more event of a type.
+fn count<A: Allocator + Copy>(
+    types: &mut BTreeMap<u32, TypeCounts, A>,
+    event_type: EventType,
+    checked: Checked,
+) -> Result<(), AllocError>
+    requires { HasRoom (counts_at types.old event_type.0) }
+    ensures { OnOk result (CountsOneMore types.old types.new event_type.0 checked) }
+{
+    let number = event_type.0;
+    let none = TypeCounts::new(event_type);
+    let mut counts = types.get(&number).copied().unwrap_or(none);
+    counts.add(checked);
+    types.insert(number, counts)?;
+    Ok(())
+}
