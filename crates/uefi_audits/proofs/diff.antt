@@ -3,3 +3,4 @@ pub mod Index
 pub mod Pcrs
 pub mod ThoseOnly
 pub mod Numbering
+pub mod Below

@@ -1,8 +1,12 @@
 -- The entries of a log, each with its index and what its data say.
-use Rattle.std.proofs.Common.{◌≡◌, ℕ, ◌+◌, List, [], ◌∷◌, ◌++◌, append-nil, append_assoc, ap, map, refl, subst, sym, ◌∙◌}
+use Rattle.std.proofs.Common.{◌≡◌, ℕ, suc, ◌+◌, ◌<◌, ◌≤◌, List, [], ◌∷◌, ◌++◌, append-nil, append_assoc, ap, arith, drop, drop-cons, get_or, length, map}
+use Rattle.std.proofs.Common.{refl, subst, sym, ◌∙◌}
+use Rattle.std.proofs.Math.ListN.{drop_of_length-le}
 use Rattle.std.proofs.lemmas.List.{map-append}
 use Rattle.uefi_tcg.specs.declared.uintn_size.UintnSize.{UintnSize}
 use Rattle.uefi_tcg.specs.Entries.{Entry}
+use Rattle.uefi_tcg.specs.LogViews.{entry_of}
+use Rattle.uefi_tcg.specs.declared.log_entries.LogEntry.{LogEntry}
 use Rattle.uefi_audits.specs.content.Content.{Content, Says, form_of}
 use Rattle.uefi_audits.specs.declared.diff.pcr.NumberedEntry.{NumberedEntry}
 use Rattle.uefi_audits.specs.diff.Differences.{AreNumbered, Numbered}
@@ -35,3 +39,15 @@ pub all_numbered : (size : UintnSize) (now : List Numbered) (index : ℕ) (left 
     → NumberedSoFar size now index left all → AreNumbered size 0 all now
 all_numbered size now index left all none before =
     subst (AreNumbered size 0 all) (append-nil now) (before [] (subst (λ es. AreNumbered size index es []) (sym none) refl))
+
+-- What is left of a slice begins with the item at the index; past the last one nothing is left.
+pub next_left : (entries : List LogEntry) (index : ℕ) (item : LogEntry) → index < length entries → item ≡ get_or entries index item
+    → map entry_of (drop index entries) ≡ entry_of item ∷ map entry_of (drop (index + 1) entries)
+next_left entries index item within is =
+    let after : suc index ≡ index + 1 = omega arith in
+    ap (map entry_of) (drop-cons entries index item within)
+    ∙ ap (λ (first : LogEntry). entry_of first ∷ map entry_of (drop (suc index) entries)) (sym is)
+    ∙ ap (λ n. entry_of item ∷ map entry_of (drop n entries)) after
+
+pub none_left : (entries : List LogEntry) (index : ℕ) → length entries ≤ index → map entry_of (drop index entries) ≡ []
+none_left entries index past = ap (map entry_of) (drop_of_length-le entries {i = index} past)

@@ -97,9 +97,8 @@ all_same (a ∷ ones) (b ∷ others) same =
     ap₂ (λ x xs. x ∷ xs) head (all_same ones others (λ k below. same (suc k) (omega arith)))
 
 -- The entry at a place of a slice.
-pub entry_got : (all : List NumberedEntry) (at : ℕ) (got : Option (Bor NumberedEntry))
-    → option_map (λ found. found.now) got ≡ slice_get all at
-    → option_map (λ found. numbered_of found.now) got ≡ slice_get (map numbered_of all) at
-entry_got all at got is =
-    sym (map_twice numbered_of (λ found. found.now) got) ∙ ap (option_map numbered_of) is
-    ∙ sym (slice_get-map numbered_of all at)
+pub entry_copied : (all : List NumberedEntry) (at : ℕ) (got : Option (Bor NumberedEntry)) (first : Option NumberedEntry)
+    → is_some got ≡ nat_lt at (length all) → IfSome got (λ found. found.now ≡ get_or all at found.now)
+    → first ≡ option_map (λ found. found.now) got → option_map numbered_of first ≡ slice_get (map numbered_of all) at
+entry_copied all at got first test is copied =
+    ap (option_map numbered_of) (copied ∙ got_is all at got test is) ∙ sym (slice_get-map numbered_of all at)

@@ -1,8 +1,11 @@
 -- What values stand for: words that contracts name them by.
+use Rattle.std.specs.Prelude.{map, option_map}
 use Rattle.uefi_tcg.specs.LogViews.{entry_of, event_of}
 use Rattle.uefi_tcg.specs.v2.Event.{Event}
 use Rattle.uefi_audits.specs.content.Views.{content_of}
-use Rattle.uefi_audits.specs.diff.Differences.{Numbered}
+use Rattle.uefi_audits.specs.diff.Differences.{Difference, Numbered, Side}
+use Rattle.uefi_audits.specs.declared.diff.difference.LogSide.{LogSide}
+use Rattle.uefi_audits.specs.declared.diff.difference.PcrDifference.{PcrDifference}
 use Rattle.uefi_audits.specs.declared.diff.order.EventKey.{EventKey}
 use Rattle.uefi_audits.specs.declared.diff.pcr.NumberedEntry.{NumberedEntry}
 
@@ -13,3 +16,11 @@ numbered_of found = record { index = found.index; entry = entry_of found.entry; 
 -- The event of a key.
 abbrev pub keyed_event : EventKey → Event
 keyed_event key = event_of key.event
+
+-- What one log has of a PCR, and how its events differ.
+abbrev pub side_of : LogSide → Side
+side_of side = record { first = option_map numbered_of side.first; only = map numbered_of side.only.items }
+
+abbrev pub difference_of : PcrDifference → Difference
+difference_of difference =
+    record { pcr = difference.pcr; old = side_of difference.old; new = side_of difference.new }

@@ -1,6 +1,5 @@
-ghost use Rattle.std.specs.Prelude.{List, map, IfOk, OnOk};
-ghost use Rattle.uefi_audits.specs.diff.Differences.{AreThoseOnly, Numbered};
-ghost use Rattle.uefi_audits.specs.private.diff.Adding.{AddsIfOnly};
+ghost use Rattle.std.specs.Prelude.{map, IfOk};
+ghost use Rattle.uefi_audits.specs.diff.Differences.{AreThoseOnly};
 ghost use Rattle.uefi_audits.specs.diff.Index.{AreKeysOf};
 ghost use Rattle.uefi_audits.specs.diff.Views.{numbered_of};
 
@@ -10,11 +9,7 @@ use std::alloc::{AllocError, Global};
 use std::collections::BTreeSet;
 
 /// Returns the events of a log that the other log doesn't have, in order.
-///
-/// # Errors
-///
-/// [`AllocError`] if an allocation fails.
-pub fn those_only<'a>(
+pub(crate) fn those_only<'a>(
     alloc: Global,
     found: &[NumberedEntry<'a>],
     others: &[NumberedEntry<'a>],
@@ -25,34 +20,15 @@ pub fn those_only<'a>(
     let keys = keys_of(alloc, others)?;
     let mut only = Vec::new(alloc);
     for entry in found {
-        push_if_only(&mut only, entry, &keys)?;
+        if !keys.contains(&EventKey::new(entry.entry.event)) {
+            only.push(*entry)?;
+        }
     }
     Ok(only)
 }
 
-/// Appends an event, if it isn't among the others, whose keys these are.
-fn push_if_only<'a>(
-    only: &mut Vec<NumberedEntry<'a>>,
-    found: &NumberedEntry<'a>,
-    keys: &BTreeSet<EventKey<'a>>,
-) -> Result<(), AllocError>
-    ensures { (others : List Numbered) → AreKeysOf keys.now others
-        → OnOk result (AddsIfOnly others (numbered_of found.now)
-        (map numbered_of only.old.items) (map numbered_of only.new.items)) }
-{
-    if keys.contains(&EventKey::new(found.entry.event)) {
-        return Ok(());
-    }
-    only.push(*found)?;
-    Ok(())
-}
-
 /// Returns the keys of the events of entries.
-///
-/// # Errors
-///
-/// [`AllocError`] if an allocation fails.
-pub fn keys_of<'a>(
+fn keys_of<'a>(
     alloc: Global,
     entries: &[NumberedEntry<'a>],
 ) -> Result<BTreeSet<EventKey<'a>>, AllocError>

@@ -16,13 +16,13 @@ use uefi_tcg::{AlgorithmId, LogEvent};
 /// Two are equal if their events are the same: of one PCR and one type, with the same data, and with
 /// the same digests in the same order.
 #[derive(Clone, Copy)]
-pub struct EventKey<'a> {
+pub(crate) struct EventKey<'a> {
     event: LogEvent<'a>,
 }
 
 impl<'a> EventKey<'a> {
     /// Returns the key of an event.
-    pub fn new(event: LogEvent<'a>) -> EventKey<'a>
+    pub(crate) fn new(event: LogEvent<'a>) -> EventKey<'a>
         ensures { result.event ≡ event.entry }
     {
         EventKey { event }

@@ -1,18 +1,16 @@
-ghost use Rattle.std.specs.Prelude.{◌≡◌, ◌↔◌, ◌<◌, ◌^◌, length, map, IfOk, IsTrue, MatchOption, option_map};
-ghost use Rattle.uefi_tcg.specs.Entries.{Contents};
-ghost use Rattle.uefi_tcg.specs.Logs.{HasContents};
-ghost use Rattle.uefi_tcg.specs.LogViews.{entries_left, entry_of, event_of};
-ghost use Rattle.uefi_audits.specs.diff.Differences.{AreNumbered, AreNumberedIn, DifferAt, events_in, is_of, of_pcr};
+ghost use Rattle.std.specs.Prelude.{◌≡◌, ◌↔◌, map, IfOk, IsTrue, MatchOption, option_map};
+ghost use Rattle.uefi_tcg.specs.LogViews.{entry_of, event_of};
+ghost use Rattle.uefi_audits.specs.diff.Differences.{AreNumberedIn, DifferAt, events_in, is_of, of_pcr};
 ghost use Rattle.uefi_audits.specs.diff.Views.{numbered_of};
 
 use crate::content::{Content, read_content};
 use crate::diff::order::is_same_event;
+use pcr_replay::ReadLog;
 use std::alloc::{AllocError, Global};
-use uefi_tcg::laws::one_contents;
-use uefi_tcg::{Log, LogEntries, LogEntry, UintnSize};
+use uefi_tcg::LogEntry;
 
 /// How many PCRs are compared: the 24 that a TPM has, and those above as one.
-pub const COMPARED: u32 = 25;
+pub(crate) const COMPARED: u32 = 25;
 
 /// The PCR as which those above 23 are taken together.
 pub const ABOVE: u32 = 24;
@@ -35,45 +33,25 @@ pub struct NumberedEntry<'a> {
 /// [`AllocError`] if an allocation fails.
 pub fn numbered_entries<'a>(
     alloc: Global,
-    log: &Log<'a>,
+    read: &ReadLog<'a>,
 ) -> Result<Vec<NumberedEntry<'a>>, AllocError>
-    ensures { (contents : Contents) → HasContents log.now contents → IfOk result (λ found.
-        AreNumberedIn log.now contents (map numbered_of found.items)) }
+    ensures { IfOk result (λ found. AreNumberedIn read.now (map numbered_of found.items)) }
 {
-    one_contents();
-    numbered(alloc, log.entries(), log.uintn_size())
-}
-
-/// Returns these events, each with its index and what its data say with a `UINTN` of this size.
-fn numbered<'a>(
-    alloc: Global,
-    entries: LogEntries<'a>,
-    uintn_size: UintnSize,
-) -> Result<Vec<NumberedEntry<'a>>, AllocError>
-    requires { length (entries_left entries) < 2 ^ 64 }
-    ensures { IfOk result (λ found. AreNumbered uintn_size 0 (entries_left entries.entry)
-        (map numbered_of found.items)) }
-{
+    let (entries, uintn_size) = (read.entries(), read.uintn_size());
     let mut found = Vec::new(alloc);
-    let mut index = 0;
-    for entry in entries {
+    for (index, entry) in entries.iter().enumerate() {
         let content = read_content(&entry.event, uintn_size);
         found.push(NumberedEntry {
             index,
-            entry,
+            entry: *entry,
             content,
         })?;
-        index += 1;
     }
     Ok(found)
 }
 
 /// Returns the events of a PCR among these, in order; for PCR 24, those of all above 23.
-///
-/// # Errors
-///
-/// [`AllocError`] if an allocation fails.
-pub fn entries_of<'a>(
+pub(crate) fn entries_of<'a>(
     alloc: Global,
     all: &[NumberedEntry<'a>],
     pcr: u32,
@@ -99,7 +77,10 @@ fn is_of(pcr: u32, entry: &LogEntry<'_>) -> bool
 }
 
 /// Returns the first place at which the events differ, or one list has an event and the other none.
-pub fn first_difference(old: &[NumberedEntry<'_>], new: &[NumberedEntry<'_>]) -> Option<usize>
+pub(crate) fn first_difference(
+    old: &[NumberedEntry<'_>],
+    new: &[NumberedEntry<'_>],
+) -> Option<usize>
     ensures { MatchOption result
         (events_in (map numbered_of old.now) ≡ events_in (map numbered_of new.now))
         (DifferAt (map numbered_of old.now) (map numbered_of new.now)) }
