@@ -4,7 +4,6 @@ pub mod NoFloats
 pub mod NoFloatsInReplay
 pub mod NoFloatsInVerdict
 pub mod NoFloatsInDiff
-pub mod DiffLines
 pub mod Controls
 pub mod EventLines
 pub mod ReplayLines

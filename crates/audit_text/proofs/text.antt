@@ -1,4 +1,2 @@
 pub mod Ending
 pub mod Appending
-pub mod OnlyLines
-pub mod Shown

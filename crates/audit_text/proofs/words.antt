@@ -1,3 +1,2 @@
 pub mod FirstItems
 pub mod BeforeNul
-pub mod Below

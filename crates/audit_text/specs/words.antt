@@ -5,4 +5,3 @@ pub mod Numbers
 pub mod Faults
 pub mod Path
 pub mod Said
-pub mod Differences

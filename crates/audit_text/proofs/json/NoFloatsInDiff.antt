@@ -5,7 +5,7 @@ use Rattle.serde_json.specs.Data.{null, number, string, unsigned}
 use Rattle.serde_json.specs.View.{items_of}
 use Rattle.serde_json.specs.Written.{has_float, items_have_float}
 use Rattle.audit_text.specs.words.Said.{said}
-use Rattle.uefi_audits.specs.diff.Differences.{Numbered, type_of}
+use Rattle.uefi_audits.specs.diff.Differences.{Difference, Numbered, Side, type_of}
 use Rattle.audit_text.specs.json.Diff.{first_json, found_json, pcr_json, register_json, says_json, side_json}
 use Rattle.audit_text.proofs.json.NoFloats.{event_type}
 
@@ -30,9 +30,9 @@ unfolding first_json
 first_has None = refl
 first_has (Some found) = found_has found
 
-side_has : (first : Option Numbered) (name : List ℕ) (only : List Numbered) → has_float (side_json first name only) ≡ false
+side_has : (name : List ℕ) (side : Side) → has_float (side_json name side) ≡ false
 unfolding side_json
-side_has first name only = rw (first_has first) (rw (all_have only) refl)
+side_has name side = rw (first_has side.first) (rw (all_have side.only) refl)
 
 register_has : (pcr : ℕ) → has_float (register_json pcr) ≡ false
 unfolding register_json
@@ -42,8 +42,7 @@ register_has pcr = either (pcr == 24)
     either true = refl
     either false = refl
 
-pub no_float : (new_first old_first : Option Numbered) (new_name old_name : List ℕ) (only_new only_old : List Numbered) (pcr : ℕ)
-    → has_float (pcr_json (side_json new_first new_name only_new) (side_json old_first old_name only_old) pcr) ≡ false
+pub no_float : (old_name new_name : List ℕ) (difference : Difference) → has_float (pcr_json old_name new_name difference) ≡ false
 unfolding pcr_json
-no_float new_first old_first new_name old_name only_new only_old pcr =
-    rw (side_has new_first new_name only_new) (rw (side_has old_first old_name only_old) (rw (register_has pcr) refl))
+no_float old_name new_name difference =
+    rw (side_has new_name difference.new) (rw (side_has old_name difference.old) (rw (register_has difference.pcr) refl))

@@ -1,13 +1,9 @@
 -- What `uefi_audit diff --json` prints of two logs: an object for each PCR whose events differ. The keys of an object come in order.
-use Rattle.std.specs.Prelude.{ℕ, ◌≡◌, ◌⊎◌, ◌==◌, Bool, true, false, List, [], ◌++◌, length, map, slice_get, codes, Option, None, Some, if◌then◌else◌}
-use Rattle.std.specs.declared.alloc.Global.{Global}
-use Rattle.std.specs.declared.string.String.{String}
+use Rattle.std.specs.Prelude.{ℕ, ◌==◌, List, ◌++◌, flat_map, length, map, codes, Option, None, Some, if◌then◌else◌}
 use Rattle.serde_json.specs.Data.{Data, null, number, unsigned, string, array, object, member, no_members}
 use Rattle.serde_json.specs.View.{items_of}
 use Rattle.audit_text.specs.words.Said.{said}
-use Rattle.audit_text.specs.declared.text.LogFile.{LogFile}
-use Rattle.audit_text.specs.words.Differences.{AppendsAll}
-use Rattle.uefi_audits.specs.diff.Differences.{AreThoseOnly, DifferAt, Numbered, events_in, pcr_of, type_of}
+use Rattle.uefi_audits.specs.diff.Differences.{Difference, Numbered, Side, pcr_of, type_of}
 use Rattle.audit_text.specs.json.Event.{type_json}
 use Rattle.audit_text.specs.json.Line.{line_of}
 
@@ -30,38 +26,25 @@ first_json None = null
 first_json (Some found) = found_json found
 
 -- What a log has: that event, the log's name, and its events that the other log doesn't have.
-unfoldable pub side_json : Option Numbered → List ℕ → List Numbered → Data
-side_json first name only =
-    object (member (codes "first") (first_json first)
+unfoldable pub side_json : List ℕ → Side → Data
+side_json name side =
+    object (member (codes "first") (first_json side.first)
     (member (codes "log") (string name)
-    (member (codes "only") (array (items_of (map found_json only))) no_members)))
+    (member (codes "only") (array (items_of (map found_json side.only))) no_members)))
 
 -- The PCR; `null` for those above 23.
 unfoldable pub register_json : ℕ → Data
 register_json pcr = if pcr == 24 then null else number (unsigned pcr)
 
--- The object of a PCR, by what each log has.
-unfoldable pub pcr_json : Data → Data → ℕ → Data
-pcr_json new old pcr =
-    object (member (codes "new") new (member (codes "old") old (member (codes "register") (register_json pcr) no_members)))
+-- The object of a PCR, and the lines of all.
+unfoldable pub pcr_json : List ℕ → List ℕ → Difference → Data
+pcr_json old_name new_name difference =
+    object (member (codes "new") (side_json new_name difference.new)
+    (member (codes "old") (side_json old_name difference.old)
+    (member (codes "register") (register_json difference.pcr) no_members)))
 
--- The events of a PCR differ, and this is the line of its object.
-pub record DifferAsJson (old_name new_name : List ℕ) (pcr : ℕ) (old new : List Numbered) (text : List ℕ) : Type 0 where
-  pub at : ℕ
-  pub first : DifferAt old new at
-  pub only_old : List Numbered
-  pub of_old : AreThoseOnly new old only_old
-  pub only_new : List Numbered
-  pub of_new : AreThoseOnly old new only_new
-  pub line : text ≡ line_of (pcr_json (side_json (slice_get new at) new_name only_new)
-      (side_json (slice_get old at) old_name only_old) pcr) ++ codes "\n"
+abbrev pub pcr_json_line : List ℕ → List ℕ → Difference → List ℕ
+pcr_json_line old_name new_name difference = line_of (pcr_json old_name new_name difference) ++ codes "\n"
 
--- They are the same, and there is no line; or they differ.
-abbrev pub ShowsPcrJson : List ℕ → List ℕ → ℕ → List Numbered → List Numbered → List ℕ → Bool → Type 0
-ShowsPcrJson old_name new_name pcr old new text same =
-    ((events_in old ≡ events_in new) × (text ≡ []) × (same ≡ true))
-    ⊎ (DifferAsJson old_name new_name pcr old new text × (same ≡ false))
-
--- The string grew by the lines of all PCRs.
-abbrev pub AppendsDifferencesJson : LogFile → LogFile → String Global → String Global → Bool → Type 0
-AppendsDifferencesJson old new = AppendsAll (ShowsPcrJson old.name.now new.name.now) old.log new.log
+abbrev pub difference_json_lines : List ℕ → List ℕ → List Difference → List ℕ
+difference_json_lines old_name new_name differences = flat_map (pcr_json_line old_name new_name) differences

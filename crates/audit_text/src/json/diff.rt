@@ -1,24 +1,20 @@
-ghost use Rattle.std.specs.Prelude.{◌≡◌, map, IfOk, option_map};
+ghost use Rattle.std.specs.Prelude.{◌≡◌, map, IfOk, OnOk, option_map};
 ghost use Rattle.serde_json.specs.View.{view};
+ghost use Rattle.uefi_base.specs.Appending.{AppendsText};
 ghost use Rattle.audit_text.specs.words.Said.{said};
 ghost use Rattle.uefi_audits.specs.content.Views.{content_of};
-ghost use Rattle.uefi_audits.specs.diff.Differences.{of_pcr};
-ghost use Rattle.audit_text.specs.json.Diff.{AppendsDifferencesJson, ShowsPcrJson, first_json, found_json, pcr_json, register_json, says_json, side_json};
-ghost use Rattle.audit_text.specs.private.Differences.{AppendsBelow, AppendsShown};
-ghost use Rattle.uefi_audits.specs.diff.Views.{numbered_of};
+ghost use Rattle.audit_text.specs.json.Diff.{difference_json_lines, first_json, found_json, pcr_json, pcr_json_line, register_json, says_json, side_json};
+ghost use Rattle.uefi_audits.specs.diff.Views.{difference_of, numbered_of, side_of};
 
 use crate::json::{line_of, type_json};
-use crate::text::LogFile;
 use crate::words::push_said;
 use serde_json::{Map, Value, put};
 use std::alloc::{AllocError, Global};
 use uefi_audits::content::Content;
-use uefi_audits::diff::{
-    ABOVE, COMPARED, NumberedEntry, entries_of, first_difference, numbered_entries, those_only,
-};
+use uefi_audits::diff::{ABOVE, LogSide, NumberedEntry, PcrDifference};
 
 /// Appends how the events of two logs differ, as JSON: for each PCR whose events differ one line
-/// with an object, those above 23 together. For a PCR whose events are the same there is none.
+/// with an object.
 ///
 /// | key | value |
 /// |---|---|
@@ -39,113 +35,63 @@ use uefi_audits::diff::{
 /// | `says` | what its data say, as [`push_said`] has it; `null` if that is nothing |
 /// | `type` | an object with `name`, if the type has one, and `number` |
 ///
-/// Events are the same as [`push_differences`](crate::text::push_differences) has it. Returns
-/// whether the events of all PCRs are.
-///
 /// # Errors
 ///
 /// [`AllocError`] if an allocation fails. The text may have grown then.
-pub fn push_differences_json<'a>(
-    text: &mut String,
-    alloc: Global,
-    old: &LogFile<'a>,
-    new: &LogFile<'a>,
-) -> Result<bool, AllocError>
-    ensures { IfOk result (AppendsDifferencesJson old.now new.now text.old text.new) }
-{
-    let olds = numbered_entries(alloc, &old.log)?;
-    let news = numbered_entries(alloc, &new.log)?;
-    push_each(
-        text,
-        alloc,
-        old.name,
-        olds.as_slice(),
-        new.name,
-        news.as_slice(),
-    )
-}
-
-/// Appends the line of each PCR, and returns whether the events of all are the same.
-fn push_each<'a>(
+pub fn push_differences_json(
     text: &mut String,
     alloc: Global,
     old_name: &str,
-    olds: &[NumberedEntry<'a>],
     new_name: &str,
-    news: &[NumberedEntry<'a>],
-) -> Result<bool, AllocError>
-    ensures { IfOk result (AppendsBelow (ShowsPcrJson old_name.now new_name.now)
-        (map numbered_of olds.now) (map numbered_of news.now) 25 text.old text.new) }
+    differences: &[PcrDifference<'_>],
+) -> Result<(), AllocError>
+    ensures { OnOk result (AppendsText text.old text.new
+        (difference_json_lines old_name.now new_name.now (map difference_of differences.now))) }
 {
-    let mut same = true;
-    for pcr in 0..COMPARED {
-        same &= push_pcr(text, alloc, old_name, olds, new_name, news, pcr)?;
+    for difference in differences {
+        push_line(text, alloc, old_name, new_name, difference)?;
     }
-    Ok(same)
+    Ok(())
 }
 
-/// Appends the line of a PCR, and returns whether its events are the same.
-fn push_pcr<'a>(
+/// Appends the line of a PCR.
+fn push_line(
     text: &mut String,
     alloc: Global,
     old_name: &str,
-    olds: &[NumberedEntry<'a>],
     new_name: &str,
-    news: &[NumberedEntry<'a>],
-    pcr: u32,
-) -> Result<bool, AllocError>
-    ensures { IfOk result (AppendsShown (ShowsPcrJson old_name.now new_name.now pcr
-        (of_pcr pcr (map numbered_of olds.now)) (of_pcr pcr (map numbered_of news.now)))
-        text.old text.new) }
+    difference: &PcrDifference<'_>,
+) -> Result<(), AllocError>
+    ensures { OnOk result (AppendsText text.old text.new
+        (pcr_json_line old_name.now new_name.now (difference_of difference.now))) }
 {
-    let olds = entries_of(alloc, olds, pcr)?;
-    let news = entries_of(alloc, news, pcr)?;
-    push_compared(
-        text,
-        alloc,
-        old_name,
-        olds.as_slice(),
-        new_name,
-        news.as_slice(),
-        pcr,
-    )
-}
-
-/// Appends the line of a PCR with these events, and returns whether they are the same.
-fn push_compared<'a>(
-    text: &mut String,
-    alloc: Global,
-    old_name: &str,
-    olds: &[NumberedEntry<'a>],
-    new_name: &str,
-    news: &[NumberedEntry<'a>],
-    pcr: u32,
-) -> Result<bool, AllocError>
-    ensures { IfOk result (AppendsShown (ShowsPcrJson old_name.now new_name.now pcr
-        (map numbered_of olds.now) (map numbered_of news.now)) text.old text.new) }
-{
-    let Some(at) = first_difference(olds, news) else {
-        return Ok(true);
-    };
-    let only_new = those_only(alloc, news, olds)?;
-    let only_old = those_only(alloc, olds, news)?;
-    let new_side = side_json(alloc, news.get(at), new_name, only_new.as_slice())?;
-    let old_side = side_json(alloc, olds.get(at), old_name, only_old.as_slice())?;
-    let value = pcr_json(alloc, new_side, old_side, pcr)?;
+    let value = pcr_json(alloc, old_name, new_name, difference)?;
     let line = line_of(alloc, &value)?;
-    writeln!(text, "{line}")?;
-    Ok(false)
+    writeln!(text, "{line}")
 }
 
-/// Returns the object of a PCR, by what each log has.
+/// Returns the object of a PCR.
 #[tactic(auto, unfolding(crate::specs::json::Diff::pcr_json))]
-fn pcr_json(alloc: Global, new: Value, old: Value, pcr: u32) -> Result<Value, AllocError>
-    ensures { IfOk result (λ value. view value ≡ pcr_json (view new) (view old) pcr) }
+fn pcr_json(
+    alloc: Global,
+    old_name: &str,
+    new_name: &str,
+    difference: &PcrDifference<'_>,
+) -> Result<Value, AllocError>
+    ensures { IfOk result (λ value.
+        view value ≡ pcr_json old_name.now new_name.now (difference_of difference.now)) }
 {
     let mut members = Map::new(alloc);
+    let new = side_json(alloc, new_name, &difference.new)?;
     put(&mut members, alloc, "new", new)?;
+    let old = side_json(alloc, old_name, &difference.old)?;
     put(&mut members, alloc, "old", old)?;
-    put(&mut members, alloc, "register", register_json(pcr))?;
+    put(
+        &mut members,
+        alloc,
+        "register",
+        register_json(difference.pcr),
+    )?;
     Ok(Value::Object(members))
 }
 
@@ -162,34 +108,27 @@ fn register_json(pcr: u32) -> Value
 
 /// Returns what a log has of a PCR that the other hasn't.
 #[tactic(auto, unfolding(crate::specs::json::Diff::side_json))]
-fn side_json(
-    alloc: Global,
-    first: Option<&NumberedEntry<'_>>,
-    name: &str,
-    only: &[NumberedEntry<'_>],
-) -> Result<Value, AllocError>
-    ensures { IfOk result (λ value. view value
-        ≡ side_json (option_map (λ found. numbered_of found.now) first.entry) name.now
-        (map numbered_of only.now)) }
+fn side_json(alloc: Global, name: &str, side: &LogSide<'_>) -> Result<Value, AllocError>
+    ensures { IfOk result (λ value. view value ≡ side_json name.now (side_of side.now)) }
 {
     let mut members = Map::new(alloc);
-    let first = first_json(alloc, first)?;
+    let first = first_json(alloc, side.first)?;
     put(&mut members, alloc, "first", first)?;
     let log = Value::try_from_str(alloc, name)?;
     put(&mut members, alloc, "log", log)?;
-    let only = Value::Array(each_found(alloc, only)?);
+    let only = Value::Array(each_found(alloc, side.only.as_slice())?);
     put(&mut members, alloc, "only", only)?;
     Ok(Value::Object(members))
 }
 
 /// Returns the event where the logs differ first; `null` if there is none.
 #[tactic(auto, unfolding(crate::specs::json::Diff::first_json))]
-fn first_json(alloc: Global, first: Option<&NumberedEntry<'_>>) -> Result<Value, AllocError>
+fn first_json(alloc: Global, first: Option<NumberedEntry<'_>>) -> Result<Value, AllocError>
     ensures { IfOk result (λ value. view value
-        ≡ first_json (option_map (λ found. numbered_of found.now) first.entry)) }
+        ≡ first_json (option_map numbered_of first.entry)) }
 {
     match first {
-        Some(found) => found_json(alloc, found),
+        Some(found) => found_json(alloc, &found),
         None => Ok(Value::Null),
     }
 }

@@ -1,60 +1,40 @@
-ghost use Rattle.std.specs.Prelude.{OnOk, option_map};
+ghost use Rattle.std.specs.Prelude.{OnOk};
 ghost use Rattle.uefi_base.specs.Appending.{AppendsText};
 ghost use Rattle.audit_text.specs.words.Said.{said};
 ghost use Rattle.uefi_audits.specs.content.Views.{content_of};
-ghost use Rattle.audit_text.specs.text.Differences.{event_text, first_line, last_line, only_line, other_line, place_text, type_text, words_text};
+ghost use Rattle.audit_text.specs.text.Differences.{event_text, first_line, last_line, only_line, place_text, type_text, words_text};
 ghost use Rattle.uefi_tcg.specs.EventTypes.{event_type_name};
-ghost use Rattle.uefi_audits.specs.diff.Views.{numbered_of};
+ghost use Rattle.uefi_audits.specs.diff.Views.{difference_of, numbered_of};
 
 use crate::words::push_said;
 use std::alloc::{AllocError, Global};
 use uefi_audits::content::Content;
-use uefi_audits::diff::NumberedEntry;
+use uefi_audits::diff::{NumberedEntry, PcrDifference};
 use uefi_tcg::EventType;
 
 /// Appends the line of the first event in which two logs differ; nothing if neither has one there.
-#[tactic(auto, unfolding(crate::specs::text::Differences::first_line))]
+#[tactic(auto, unfolding(crate::specs::text::Differences::first_line, crate::specs::text::Differences::other_line))]
 pub(crate) fn push_first(
     text: &mut String,
     alloc: Global,
     old_name: &str,
-    old: Option<&NumberedEntry<'_>>,
     new_name: &str,
-    new: Option<&NumberedEntry<'_>>,
-) -> Result<(), AllocError>
-    ensures { OnOk result (AppendsText text.old text.new (first_line
-        old_name.now (option_map (λ found. numbered_of found.now) old.entry)
-        new_name.now (option_map (λ found. numbered_of found.now) new.entry))) }
-{
-    match old {
-        Some(old) => match new {
-            Some(new) => push_other(text, alloc, old_name, old, new_name, new),
-            None => push_last(text, alloc, old_name, old, new_name),
-        },
-        None => match new {
-            Some(new) => push_last(text, alloc, new_name, new, old_name),
-            None => Ok(()),
-        },
-    }
-}
-
-/// Appends the line of an event of the old log that differs from the one of the new.
-#[tactic(auto, unfolding(crate::specs::text::Differences::other_line))]
-fn push_other(
-    text: &mut String,
-    alloc: Global,
-    old_name: &str,
-    old: &NumberedEntry<'_>,
-    new_name: &str,
-    new: &NumberedEntry<'_>,
+    difference: &PcrDifference<'_>,
 ) -> Result<(), AllocError>
     ensures { OnOk result (AppendsText text.old text.new
-        (other_line old_name.now (numbered_of old.now) new_name.now (numbered_of new.now))) }
+        (first_line old_name.now new_name.now (difference_of difference.now))) }
 {
-    push_place(text, alloc, old_name, old)?;
-    text.push_str(" differs from ")?;
-    push_event(text, alloc, new_name, new)?;
-    text.push_str("\n")
+    match (&difference.old.first, &difference.new.first) {
+        (Some(old), Some(new)) => {
+            push_place(text, alloc, old_name, old)?;
+            text.push_str(" differs from ")?;
+            push_event(text, alloc, new_name, new)?;
+            text.push_str("\n")
+        }
+        (Some(old), None) => push_last(text, alloc, old_name, old, new_name),
+        (None, Some(new)) => push_last(text, alloc, new_name, new, old_name),
+        (None, None) => Ok(()),
+    }
 }
 
 /// Appends the line of an event that comes after the last one of the other log.

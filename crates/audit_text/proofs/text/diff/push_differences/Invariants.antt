@@ -1,0 +1,10 @@
+use Rattle.std.proofs.Common.{◌≡◌, ◌++◌, map, string_bytes, take}
+use Rattle.audit_text.specs.text.Differences.{difference_lines}
+use Rattle.uefi_audits.specs.diff.Views.{difference_of}
+use Rattle.audit_text.proofs.text.diff.push_differences.Given as goal
+
+-- The lines of the PCRs so far were appended.
+abbrev pub invariant-loop-difference : goal.invariant-loop-difference
+invariant-loop-difference l =
+    string_bytes l.text
+    ≡ string_bytes l.initial.text ++ difference_lines l.old_name l.new_name (map difference_of (take l.difference-index l.differences))
