@@ -1,6 +1,6 @@
 //! What the data of an event say, where they are read.
 //!
-//! Begin with [`read_content`], which returns a [`Content`]. What it holds are views of
+//! Begin with [`read_content`], which returns an [`EventContent`]. What it holds are views of
 //! [`uefi_tcg::content`], of [`uefi_tcg::v2`] and of [`uefi_path`], which allocate nothing.
 
 ghost use Rattle.std.specs.Prelude.{◌≡◌, option_map};
@@ -10,35 +10,30 @@ ghost use Rattle.uefi_tcg.specs.LogViews.{event_of};
 ghost use Rattle.uefi_tcg.specs.declared.uintn_size.UintnSize.{UintnSize};
 ghost use Rattle.uefi_tcg.specs.v2.Views.{header_of};
 ghost use Rattle.uefi_audits.specs.content.Content.{BlobContent, ImageContent, NoActionContent, PostCodeContent, Says, are_printed, form_of, is_printed, separator_content, text_content};
+ghost use Rattle.uefi_audits.specs.content.Content.{OfCrtmVersion, OfDescribedBlob, OfGpt, OfImage, OfLoaderText};
 ghost use Rattle.uefi_audits.specs.content.Header.{ReadsHeader};
 ghost use Rattle.uefi_audits.specs.content.Views.{content_of};
-ghost use Rattle.uefi_audits.specs.declared.content.form.Form.TheVariants.{OfAuthority, OfCrtmVersion, OfDescribedBlob, OfGpt, OfImage, OfLoaderText, OfTagged, OfVariable};
 
-pub use self::form::{Form, form_of};
 pub use self::tagged::TaggedData;
-pub use self::value::VariableValue;
 use crate::content::path::whole_path;
-use crate::content::value::read_value;
-use crate::content::value_form::{authority_form, value_form};
+use crate::content::variable::{authority_content, variable_content};
 use pcr_replay::locality_in;
 use uefi_base::little_endian::u32_at;
-use uefi_path::DevicePath;
+use uefi_path::{DevicePath, LoadOption};
 use uefi_tcg::content::{
-    CrtmVersion, EventText, GptData, ImageLoadEvent, PlatformFirmwareBlob, PlatformFirmwareBlob2,
-    VariableData,
+    BootOrder, CrtmVersion, EventText, GptData, ImageLoadEvent, PlatformFirmwareBlob,
+    PlatformFirmwareBlob2, SignatureData, SignatureLists, VariableData,
 };
 use uefi_tcg::v2::EventLogHeader;
-use uefi_tcg::{LogEvent, UintnSize};
+use uefi_tcg::{EventType, LogEvent, UintnSize};
 
-mod form;
 mod path;
 mod tagged;
-mod value;
-mod value_form;
+mod variable;
 
 /// What the data of an event say, where they are read.
 #[derive(Clone, Copy)]
-pub enum Content<'a> {
+pub enum EventContent<'a> {
     /// Nothing that is read.
     Unread,
     /// A text: what was done, for instance.
@@ -61,49 +56,67 @@ pub enum Content<'a> {
     Tagged(TaggedData<'a>),
     /// The partition table of a disk.
     Gpt(GptData<'a>),
-    /// A variable that was measured, and what its value says.
-    Variable(VariableData<'a>, VariableValue<'a>),
+    /// A variable that was measured, and whose value isn't read.
+    Variable(VariableData<'a>),
+    /// `Boot0000` and the like: a variable whose value is a boot option.
+    BootOption(VariableData<'a>, LoadOption<'a>),
+    /// `BootOrder`: a variable whose value is the order of the boot options.
+    BootOrder(VariableData<'a>, BootOrder<'a>),
+    /// `PK`, `KEK`, `db` and `dbx`: a variable whose value is the lists of a signature database.
+    SignatureLists(VariableData<'a>, SignatureLists<'a>),
+    /// A variable whose value is the signature by which an image was allowed.
+    Signature(VariableData<'a>, SignatureData<'a>),
     /// An image that was loaded, and its device path, if its bytes are one.
     Image(ImageLoadEvent<'a>, Option<DevicePath<'a>>),
 }
 
-/// Returns what the data of an event say, by the event's type. [`Log::uintn_size`](uefi_tcg::Log::uintn_size) returns the size of
-/// a `UINTN` in the event's log.
-#[tactic(auto, unfolding(crate::specs::content::Content::Says))]
-pub fn read_content<'a>(event: &LogEvent<'a>, uintn_size: UintnSize) -> Content<'a>
+/// Returns what the data of an event say, by the event's type (TCG PC Client Platform Firmware
+/// Profile 1.06, 10.4.1). [`Log::uintn_size`](uefi_tcg::Log::uintn_size) returns the size of a
+/// `UINTN` in the event's log.
+#[tactic(auto, unfolding(crate::specs::content::Content::Says, crate::specs::content::Content::form_of))]
+pub fn read_content<'a>(event: &LogEvent<'a>, uintn_size: UintnSize) -> EventContent<'a>
     ensures { Says uintn_size (form_of (event_of event.now).event_type)
         (event_of event.now).event_data (content_of result) }
 {
     let bytes = event.event_data();
-    match form_of(event.event_type()) {
-        Form::OfNoAction => no_action_content(bytes),
-        Form::OfSeparator => separator_content(bytes),
-        Form::OfText => text_content(bytes),
-        Form::OfPostCode => post_code_content(bytes),
-        Form::OfBlob => blob_content(bytes),
-        Form::OfDescribedBlob => described_blob_content(bytes),
-        Form::OfLoaderText => loader_text_content(bytes),
-        Form::OfCrtmVersion => crtm_version_content(bytes),
-        Form::OfTagged => Content::Tagged(TaggedData::new(bytes)),
-        Form::OfGpt => gpt_content(bytes, uintn_size),
-        Form::OfVariable => variable_content(bytes),
-        Form::OfAuthority => authority_content(bytes),
-        Form::OfImage => image_content(bytes, uintn_size),
-        Form::Other => Content::Unread,
+    match event.event_type() {
+        EventType::POST_CODE => post_code_content(bytes),
+        EventType::NO_ACTION => no_action_content(bytes),
+        EventType::SEPARATOR => separator_content(bytes),
+        EventType::ACTION
+        | EventType::OMIT_BOOT_DEVICE_EVENTS
+        | EventType::EFI_ACTION
+        | EventType::EFI_HCRTM_EVENT => text_content(bytes),
+        EventType::EVENT_TAG => EventContent::Tagged(TaggedData::new(bytes)),
+        EventType::CRTM_VERSION => crtm_version_content(bytes),
+        EventType::IPL => loader_text_content(bytes),
+        EventType::POST_CODE2 | EventType::EFI_PLATFORM_FIRMWARE_BLOB2 => {
+            described_blob_content(bytes)
+        }
+        EventType::EFI_VARIABLE_DRIVER_CONFIG
+        | EventType::EFI_VARIABLE_BOOT
+        | EventType::EFI_VARIABLE_BOOT2 => variable_content(bytes),
+        EventType::EFI_BOOT_SERVICES_APPLICATION
+        | EventType::EFI_BOOT_SERVICES_DRIVER
+        | EventType::EFI_RUNTIME_SERVICES_DRIVER => image_content(bytes, uintn_size),
+        EventType::EFI_GPT_EVENT | EventType::EFI_GPT_EVENT2 => gpt_content(bytes, uintn_size),
+        EventType::EFI_PLATFORM_FIRMWARE_BLOB => blob_content(bytes),
+        EventType::EFI_VARIABLE_AUTHORITY => authority_content(bytes),
+        _ => EventContent::Unread,
     }
 }
 
 /// Returns the locality that data state, or the header that they have.
 #[tactic(auto, unfolding(crate::specs::content::Content::NoActionContent))]
-fn no_action_content(bytes: &[u8]) -> Content<'_>
+fn no_action_content(bytes: &[u8]) -> EventContent<'_>
     ensures { NoActionContent (locality_in bytes.now) bytes.now (content_of result) }
 {
     if let Some(locality) = locality_in(bytes) {
-        return Content::Locality(locality);
+        return EventContent::Locality(locality);
     }
     match header_in(bytes) {
-        Some(header) => Content::Header(header),
-        None => Content::Unread,
+        Some(header) => EventContent::Header(header),
+        None => EventContent::Unread,
     }
 }
 
@@ -119,32 +132,32 @@ fn header_in(bytes: &[u8]) -> Option<EventLogHeader<'_>>
 }
 
 /// Returns the number of a separator.
-fn separator_content(bytes: &[u8]) -> Content<'_>
+fn separator_content(bytes: &[u8]) -> EventContent<'_>
     ensures { content_of result ≡ separator_content bytes.now }
 {
     if bytes.len() != 4 {
-        return Content::Unread;
+        return EventContent::Unread;
     }
-    Content::Separator(u32_at(bytes, 0))
+    EventContent::Separator(u32_at(bytes, 0))
 }
 
 /// Returns the text that data are, if each byte of them is a printed character or a space.
-fn text_content(bytes: &[u8]) -> Content<'_>
+fn text_content(bytes: &[u8]) -> EventContent<'_>
     ensures { content_of result ≡ text_content bytes.now }
 {
     let Ok(text) = str::from_utf8(bytes) else {
-        return Content::Unread;
+        return EventContent::Unread;
     };
     if are_printed(bytes) {
-        Content::Text(text)
+        EventContent::Text(text)
     } else {
-        Content::Unread
+        EventContent::Unread
     }
 }
 
 /// Returns the text that data are, or the blob.
 #[tactic(auto, unfolding(crate::specs::content::Content::PostCodeContent))]
-fn post_code_content(bytes: &[u8]) -> Content<'_>
+fn post_code_content(bytes: &[u8]) -> EventContent<'_>
     ensures { PostCodeContent (are_printed bytes.now) bytes.now (content_of result) }
 {
     if are_printed(bytes) {
@@ -162,91 +175,66 @@ fn are_printed(bytes: &[u8]) -> bool
 
 /// Returns the blob that data are.
 #[tactic(auto, unfolding(crate::specs::content::Content::BlobContent))]
-fn blob_content(bytes: &[u8]) -> Content<'_>
+fn blob_content(bytes: &[u8]) -> EventContent<'_>
     ensures { BlobContent bytes.now (content_of result) }
 {
     match PlatformFirmwareBlob::read(bytes) {
-        Some(blob) => Content::Blob(blob),
-        None => Content::Unread,
+        Some(blob) => EventContent::Blob(blob),
+        None => EventContent::Unread,
     }
 }
 
 /// Returns the blob with a description that data are.
 #[tactic(auto, unfolding(crate::specs::content::Content::Says))]
-fn described_blob_content(bytes: &[u8]) -> Content<'_>
+fn described_blob_content(bytes: &[u8]) -> EventContent<'_>
     ensures { (size : UintnSize) → Says size OfDescribedBlob bytes.now (content_of result) }
 {
     match PlatformFirmwareBlob2::read(bytes) {
-        Some(blob) => Content::DescribedBlob(blob),
-        None => Content::Unread,
+        Some(blob) => EventContent::DescribedBlob(blob),
+        None => EventContent::Unread,
     }
 }
 
 /// Returns the boot loader's text that data are.
 #[tactic(auto, unfolding(crate::specs::content::Content::Says))]
-fn loader_text_content(bytes: &[u8]) -> Content<'_>
+fn loader_text_content(bytes: &[u8]) -> EventContent<'_>
     ensures { (size : UintnSize) → Says size OfLoaderText bytes.now (content_of result) }
 {
     match EventText::read(bytes) {
-        Some(text) => Content::LoaderText(text),
-        None => Content::Unread,
+        Some(text) => EventContent::LoaderText(text),
+        None => EventContent::Unread,
     }
 }
 
 /// Returns the version that data are.
 #[tactic(auto, unfolding(crate::specs::content::Content::Says))]
-fn crtm_version_content(bytes: &[u8]) -> Content<'_>
+fn crtm_version_content(bytes: &[u8]) -> EventContent<'_>
     ensures { (size : UintnSize) → Says size OfCrtmVersion bytes.now (content_of result) }
 {
     match CrtmVersion::read(bytes) {
-        Some(version) => Content::CrtmVersion(version),
-        None => Content::Unread,
+        Some(version) => EventContent::CrtmVersion(version),
+        None => EventContent::Unread,
     }
 }
 
 /// Returns the partition table that data are.
 #[tactic(auto, unfolding(crate::specs::content::Content::Says))]
-fn gpt_content(bytes: &[u8], uintn_size: UintnSize) -> Content<'_>
+fn gpt_content(bytes: &[u8], uintn_size: UintnSize) -> EventContent<'_>
     ensures { Says uintn_size OfGpt bytes.now (content_of result) }
 {
     match GptData::read(bytes, uintn_size) {
-        Some(gpt) => Content::Gpt(gpt),
-        None => Content::Unread,
+        Some(gpt) => EventContent::Gpt(gpt),
+        None => EventContent::Unread,
     }
-}
-
-/// Returns the variable that data are, with what its value says.
-#[tactic(auto, unfolding(crate::specs::content::Content::Says, crate::specs::content::Content::VariableContent))]
-fn variable_content(bytes: &[u8]) -> Content<'_>
-    ensures { (size : UintnSize) → Says size OfVariable bytes.now (content_of result) }
-{
-    let Some(variable) = VariableData::read(bytes) else {
-        return Content::Unread;
-    };
-    let value = read_value(value_form(variable.guid, &variable.name), variable.data);
-    Content::Variable(variable, value)
-}
-
-/// Returns the variable that data are, with the signature that its value is.
-#[tactic(auto, unfolding(crate::specs::content::Content::Says, crate::specs::content::Content::VariableContent))]
-fn authority_content(bytes: &[u8]) -> Content<'_>
-    ensures { (size : UintnSize) → Says size OfAuthority bytes.now (content_of result) }
-{
-    let Some(variable) = VariableData::read(bytes) else {
-        return Content::Unread;
-    };
-    let form = authority_form(variable.guid, &variable.name);
-    let value = read_value(form, variable.data);
-    Content::Variable(variable, value)
 }
 
 /// Returns the image that data are, with its device path.
 #[tactic(auto, unfolding(crate::specs::content::Content::Says, crate::specs::content::Content::ImageContent))]
-fn image_content(bytes: &[u8], uintn_size: UintnSize) -> Content<'_>
+fn image_content(bytes: &[u8], uintn_size: UintnSize) -> EventContent<'_>
     ensures { Says uintn_size OfImage bytes.now (content_of result) }
 {
     match ImageLoadEvent::read(bytes, uintn_size) {
-        Some(image) => Content::Image(image, whole_path(image.device_path)),
-        None => Content::Unread,
+        Some(image) => EventContent::Image(image, whole_path(image.device_path)),
+        None => EventContent::Unread,
     }
 }

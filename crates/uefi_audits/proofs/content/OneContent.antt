@@ -19,11 +19,9 @@ use Rattle.uefi_audits.specs.content.Content.{BlobContent, Content, ImageContent
 use Rattle.uefi_audits.specs.content.Content.{are_printed, blob, crtm_version, described_blob, gpt, header, image, loader_text, or_unread, tagged, variable}
 use Rattle.uefi_audits.specs.content.Header.{ReadsHeader}
 use Rattle.uefi_audits.specs.content.Path.{ReadsNodes}
-use Rattle.uefi_audits.specs.content.Value.{SaysValue, authority_form, value_form}
+use Rattle.uefi_audits.specs.content.Content.{OfNoAction, OfSeparator, OfText, OfPostCode, OfBlob, OfDescribedBlob, OfLoaderText, OfCrtmVersion, OfTagged, OfGpt, OfVariable, OfAuthority, OfImage, Other}
+use Rattle.uefi_audits.specs.content.Value.{SaysValue, ValueForm, authority_form, value_form}
 use Rattle.uefi_audits.specs.Laws.{OneContent}
-use Rattle.uefi_audits.specs.declared.content.form.Form.TheVariants.{OfNoAction, OfSeparator, OfText, OfPostCode, OfBlob, OfDescribedBlob}
-use Rattle.uefi_audits.specs.declared.content.form.Form.TheVariants.{OfLoaderText, OfCrtmVersion, OfTagged, OfGpt, OfVariable, OfAuthority, OfImage, Other}
-use Rattle.uefi_audits.specs.declared.content.value_form.ValueForm.{ValueForm}
 use Rattle.uefi_audits.proofs.content.OneValue.{OneOfEach, one_value}
 
 -- The laws that this rests on.

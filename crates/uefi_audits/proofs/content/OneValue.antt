@@ -8,8 +8,7 @@ use Rattle.uefi_tcg.specs.content.Reading.{Reads}
 use Rattle.uefi_tcg.specs.content.Signature.{AreSignatureLists, IsSignature, OneSignature, lists_bytes, signature_bytes}
 use Rattle.uefi_tcg.proofs.content.OneValue.{one_read}
 use Rattle.uefi_audits.specs.content.Value.{SaysValue, Value, boot_option, boot_order, signature, signature_lists, value_or_unread}
-use Rattle.uefi_audits.specs.declared.content.value_form.ValueForm.{ValueForm}
-use Rattle.uefi_audits.specs.declared.content.value_form.ValueForm.TheVariants.{OfBootOption, OfBootOrder, OfSignatureLists, OfSignature, OfNothing}
+use Rattle.uefi_audits.specs.content.Value.{ValueForm, OfBootOption, OfBootOrder, OfSignatureLists, OfSignature, OfNothing}
 
 -- The laws that this rests on.
 pub record OneOfEach : Type 0 where

@@ -19,11 +19,7 @@ use Rattle.uefi_tcg.specs.v2.Header.{Header}
 use Rattle.uefi_audits.specs.Check.{is_one_of}
 use Rattle.uefi_audits.specs.content.Header.{ReadsHeader}
 use Rattle.uefi_audits.specs.content.Path.{ReadsNodes}
-use Rattle.uefi_audits.specs.content.Value.{Value, SaysValue, authority_form, value_form}
-use Rattle.uefi_audits.specs.declared.content.form.Form.{Form}
-use Rattle.uefi_audits.specs.declared.content.form.Form.TheVariants.{OfNoAction, OfSeparator, OfText, OfPostCode, OfBlob, OfDescribedBlob}
-use Rattle.uefi_audits.specs.declared.content.form.Form.TheVariants.{OfLoaderText, OfCrtmVersion, OfTagged, OfGpt, OfVariable, OfAuthority, OfImage, Other}
-use Rattle.uefi_audits.specs.declared.content.value_form.ValueForm.{ValueForm}
+use Rattle.uefi_audits.specs.content.Value.{Value, ValueForm, SaysValue, authority_form, value_form}
 
 -- What data say: a text, the number of a separator, the locality at which the TPM was started, the header of a log, a boot loader's text, the version of the root of trust, a blob of firmware without a description and with one, tagged events and the bytes after them, a partition table, a variable with what its value says, an image with the nodes of its device path; or nothing that is read here.
 pub data Content : Type 0 where
@@ -40,6 +36,23 @@ pub data Content : Type 0 where
   gpt : GptData → Content
   variable : Variable → Value → Content
   image : Image → Option (List Node) → Content
+
+-- The forms of data that are read: that of an event which extends nothing, a separator, a text, what firmware measured as it started the platform, a blob without a description and with one, a boot loader's text, a version, tagged events, a partition table, a variable, one with the signature by which an image was allowed, an image; and any other form.
+pub data Form : Type 0 where
+  OfNoAction : Form
+  OfSeparator : Form
+  OfText : Form
+  OfPostCode : Form
+  OfBlob : Form
+  OfDescribedBlob : Form
+  OfLoaderText : Form
+  OfCrtmVersion : Form
+  OfTagged : Form
+  OfGpt : Form
+  OfVariable : Form
+  OfAuthority : Form
+  OfImage : Form
+  Other : Form
 
 -- The form that data have in events of a type.
 unfoldable pub form_of : ℕ → Form
@@ -92,10 +105,13 @@ unfoldable pub PostCodeContent : Bool → List ℕ → Content → Type 0
 PostCodeContent true bytes content = content ≡ text bytes
 PostCodeContent false bytes content = BlobContent bytes content
 
+-- A variable with a value of a form, and with what that says.
+abbrev pub HasValue : ValueForm → Variable → Content → Type 0
+HasValue form read content = (value : Value) × SaysValue form read.payload value × (content ≡ variable read value)
+
 -- A variable, with what its value says by its GUID and its name.
 unfoldable pub VariableContent : (List ℕ → List ℕ → ValueForm) → Option Variable → Content → Type 0
-VariableContent form (Some read) content =
-    (value : Value) × SaysValue (form read.guid read.name) read.payload value × (content ≡ variable read value)
+VariableContent form (Some read) content = HasValue (form read.guid read.name) read content
 VariableContent form None content = content ≡ unread
 
 -- An image, with the nodes of its path.

@@ -6,8 +6,6 @@ use Rattle.uefi_path.specs.LoadOption.{LoadOption, IsLoadOption, load_option_byt
 use Rattle.uefi_tcg.specs.content.BootOrder.{ReadsBootOrder}
 use Rattle.uefi_tcg.specs.content.Reading.{Reads}
 use Rattle.uefi_tcg.specs.content.Signature.{Signature, SignatureList, ReadsSignature, ReadsSignatureLists}
-use Rattle.uefi_audits.specs.declared.content.value_form.ValueForm.{ValueForm}
-use Rattle.uefi_audits.specs.declared.content.value_form.ValueForm.TheVariants.{OfBootOption, OfBootOrder, OfSignatureLists, OfSignature, OfNothing}
 
 -- What a value says: a boot option, the order of these, the lists of a signature database, a signature of one; or nothing that is read here.
 pub data Value : Type 0 where
@@ -42,14 +40,26 @@ is_boot_option_name name =
     (length name == 8) && (has_unit name 0 0x42 && (has_unit name 1 0x6f && (has_unit name 2 0x6f && (has_unit name 3 0x74
     && (has_digit name 4 && (has_digit name 5 && (has_digit name 6 && has_digit name 7)))))))
 
--- The form that the value of a variable has.
-unfoldable pub value_form : List ℕ → List ℕ → ValueForm
-value_form guid name =
-    if bytes_eq guid global_variable then
-    (if is_boot_option_name name then OfBootOption
+-- The forms of values that are read: those that `Value` has; and any other form.
+pub data ValueForm : Type 0 where
+  OfBootOption : ValueForm
+  OfBootOrder : ValueForm
+  OfSignatureLists : ValueForm
+  OfSignature : ValueForm
+  OfNothing : ValueForm
+
+-- The form that the value of one of UEFI's own variables has, by its name.
+abbrev pub global_form : List ℕ → ValueForm
+global_form name =
+    if is_boot_option_name name then OfBootOption
     else if bytes_eq name (codes "BootOrder") then OfBootOrder
     else if bytes_eq name (codes "PK") || bytes_eq name (codes "KEK") then OfSignatureLists
-    else OfNothing)
+    else OfNothing
+
+-- That which the value of a variable has.
+unfoldable pub value_form : List ℕ → List ℕ → ValueForm
+value_form guid name =
+    if bytes_eq guid global_variable then global_form name
     else if bytes_eq guid image_security_database && (bytes_eq name (codes "db") || bytes_eq name (codes "dbx")) then OfSignatureLists
     else OfNothing
 

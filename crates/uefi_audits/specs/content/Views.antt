@@ -9,23 +9,13 @@ use Rattle.uefi_tcg.specs.content.Views.{blob_of, described_of, image_of, text_o
 use Rattle.uefi_tcg.specs.v2.Views.{header_of}
 use Rattle.uefi_audits.specs.content.Content as contents
 use Rattle.uefi_audits.specs.content.Value as values
-use Rattle.uefi_audits.specs.declared.content.Content.{Content}
-use Rattle.uefi_audits.specs.declared.content.Content.TheVariants.{Text, Separator, Locality, Header, LoaderText, CrtmVersion, Blob, DescribedBlob, Tagged, Gpt, Variable, Image}
-use Rattle.uefi_audits.specs.declared.content.Content.TheVariants.{Unread as UnreadContent}
-use Rattle.uefi_audits.specs.declared.content.value.VariableValue.{VariableValue}
-use Rattle.uefi_audits.specs.declared.content.value.VariableValue.TheVariants.{Unread, BootOption, BootOrder, SignatureLists, Signature}
-
--- What the value of a variable says.
-abbrev pub value_of : VariableValue → values.Value
-value_of Unread = values.unread
-value_of (BootOption option) = values.boot_option (load_option_of option)
-value_of (BootOrder order) = values.boot_order (order_of order)
-value_of (SignatureLists lists) = values.signature_lists (lists_of lists)
-value_of (Signature signature) = values.signature (signature_of signature)
+use Rattle.uefi_audits.specs.declared.content.EventContent.{EventContent}
+use Rattle.uefi_audits.specs.declared.content.EventContent.TheVariants.{Unread, Text, Separator, Locality, Header, LoaderText, CrtmVersion, Blob, DescribedBlob, Tagged, Gpt}
+use Rattle.uefi_audits.specs.declared.content.EventContent.TheVariants.{Variable, BootOption, BootOrder, SignatureLists, Signature, Image}
 
 -- What data say.
-abbrev pub content_of : Content → contents.Content
-content_of UnreadContent = contents.unread
+abbrev pub content_of : EventContent → contents.Content
+content_of Unread = contents.unread
 content_of (Text text) = contents.text text.now
 content_of (Separator number) = contents.separator number
 content_of (Locality number) = contents.locality number
@@ -36,5 +26,9 @@ content_of (Blob blob) = contents.blob (blob_of blob)
 content_of (DescribedBlob described) = contents.described_blob (described_of described)
 content_of (Tagged tagged) = contents.tagged tagged.split.0.0 tagged.split.0.1
 content_of (Gpt gpt) = contents.gpt (gpt_of gpt)
-content_of (Variable variable value) = contents.variable (variable_of variable) (value_of value)
+content_of (Variable variable) = contents.variable (variable_of variable) values.unread
+content_of (BootOption variable option) = contents.variable (variable_of variable) (values.boot_option (load_option_of option))
+content_of (BootOrder variable order) = contents.variable (variable_of variable) (values.boot_order (order_of order))
+content_of (SignatureLists variable lists) = contents.variable (variable_of variable) (values.signature_lists (lists_of lists))
+content_of (Signature variable signature) = contents.variable (variable_of variable) (values.signature (signature_of signature))
 content_of (Image image path) = contents.image (image_of image) (option_map path_nodes path)

@@ -3,7 +3,7 @@ ghost use Rattle.uefi_tcg.specs.LogViews.{entry_of, event_of};
 ghost use Rattle.uefi_audits.specs.diff.Differences.{AreNumberedIn, DifferAt, events_in, is_of, of_pcr};
 ghost use Rattle.uefi_audits.specs.diff.Views.{numbered_of};
 
-use crate::content::{Content, read_content};
+use crate::content::{EventContent, read_content};
 use crate::diff::order::is_same_event;
 use pcr_replay::ReadLog;
 use std::alloc::{AllocError, Global};
@@ -23,7 +23,7 @@ pub struct NumberedEntry<'a> {
     /// The event with its offset.
     pub entry: LogEntry<'a>,
     /// What the event's data say.
-    pub content: Content<'a>,
+    pub content: EventContent<'a>,
 }
 
 /// Returns the events of a log, each with its index and what its data say.
