@@ -1,6 +1,6 @@
 -- The verdict on PCRs is agreement exactly if the log leads to each of them.
 use Rattle.std.proofs.Common.{◌≡◌, ◌∙◌, ℕ, zero, suc, ◌+◌, List, [], ◌∷◌, length, map, drop, get_or, ap, ap₂, zero-add, sym, refl, arith}
-use Rattle.std.specs.Prelude.{◌↔◌, ◌==◌, ◌&&◌, ◌||◌, ◌<◌, ◌≤◌, count_by, not, Bool, true, false, cond, is_some, nat_lt, slice_get, Option, None, Some, Ok, Err}
+use Rattle.std.specs.Prelude.{◌↔◌, ◌==◌, ◌&&◌, ◌||◌, ◌<◌, ◌≤◌, count_by, not, Bool, true, false, cond, nat_lt, slice_get, Option, None, Some, Ok, Err}
 use Rattle.std.specs.List.{Any, filter, list_all, list_any}
 use Rattle.std.specs.Option.{option_and_then}
 use Rattle.std.proofs.lemmas.Bool.Decides.{nat_tests}
@@ -19,11 +19,13 @@ use Rattle.uefi_tcg.specs.Entries.{Entry}
 use Rattle.pcr_replay.specs.Replay.{Outcome, outcomes}
 use Rattle.pcr_replay.specs.Views.{outcomes_of, value_of}
 use Rattle.uefi_audits.specs.declared.replay.BankPcrs.{BankPcrs}
+use Rattle.uefi_audits.specs.Start.{assumed_start, is_stated, known_start, start_by}
+use Rattle.uefi_audits.specs.declared.start.KnownStart.{KnownStart}
 use Rattle.uefi_audits.specs.declared.verify.held.HeldPcr.{HeldPcr}
 use Rattle.uefi_audits.specs.Replay.{BankOutcomes, all_banks, bank_outcomes_of, replayed}
 use Rattle.uefi_audits.specs.Naming.{bank_of}
 use Rattle.uefi_audits.specs.verify.Banks.{held_banks, is_held, is_same_bank}
-use Rattle.uefi_audits.specs.verify.Verdict.{AgreeAtOne, AgreeByVerdict, Comparison, agrees, by_start, compared_at, differs, disagreeing, is_agreement, is_undetermined, is_value, led_to, nearer, outcomes_in, stated_start, starts, undetermined, verdict_of}
+use Rattle.uefi_audits.specs.verify.Verdict.{AgreeAtOne, AgreeByVerdict, Comparison, agrees, compared_at, differs, disagreeing, is_agreement, is_undetermined, is_value, led_to, nearer, nearest, outcomes_in, starts, undetermined, verdict_of}
 
 -- Banks of one algorithm are one.
 bank_by : (bank : Bank) → bank_of (algorithm_of bank) ≡ Some bank
@@ -209,15 +211,15 @@ one_agrees start entries held pcr is =
     ((λ agree. sym led ∙ so.0 agree), (λ leads. so.1 (led ∙ leads)))
 
 pub agree_by_verdict : AgreeByVerdict
-agree_by_verdict start entries held stated =
-    let replays = map (replayed start entries) (held_banks held) in
+agree_by_verdict start entries held =
+    let replays = map (replayed start.start entries) (held_banks held) in
     let here : (k : ℕ) (default : HeldPcr) → k < length held → is_held held (get_or held k default).bank ≡ true =
     λ k default below. any_at (λ pcr. is_same_bank pcr.bank (get_or held k default).bank) held k default below
     (same_itself (get_or held k default).bank) in (
-      (λ so k default below. (one_agrees start entries held (get_or held k default) (here k default below)).0
+      (λ so k default below. (one_agrees start.start entries held (get_or held k default) (here k default below)).0
           (AllPass-from_list_all (agrees replays) held (sym (all_agree replays held) ∙ so) k default below)),
       (λ agree. all_agree replays held ∙ list_all-from_AllPass (agrees replays) held
-          (λ k default below. (one_agrees start entries held (get_or held k default) (here k default below)).1
+          (λ k default below. (one_agrees start.start entries held (get_or held k default) (here k default below)).1
           (agree k default below))),
     )
 
@@ -240,10 +242,10 @@ none_disagrees replays (pcr ∷ held) = decide (none_disagrees replays held) (ag
 abbrev IsCounted : List HeldPcr → Comparison → Type 0
 IsCounted held comparison = is_agreement comparison ≡ (disagreeing held comparison.replays == 0)
 
-counted : (entries : List Entry) (held : List HeldPcr) (stated : Bool) (start : Start)
-    → IsCounted held (compared_at entries held stated start)
-counted entries held stated start =
-    let replays = map (replayed start entries) (held_banks held) in
+counted : (entries : List Entry) (held : List HeldPcr) (start : KnownStart)
+    → IsCounted held (compared_at entries held start)
+counted entries held start =
+    let replays = map (replayed start.start entries) (held_banks held) in
     all_agree replays held ∙ sym (none_disagrees replays held)
 
 -- The least of two numbers is 0 exactly if one of them is.
@@ -286,32 +288,46 @@ nearest_agrees held one two three first second third =
     grouped false false true = refl
     grouped false false false = refl
 
-one_is_tried : (start : Option Start) (entries : List Entry) (held : List HeldPcr)
-    → is_agreement (by_start start entries held)
-    ≡ list_any (λ tried. is_agreement (compared_at entries held (is_some start) tried)) (starts start)
-one_is_tried (Some start) entries held = or_none (is_agreement (compared_at entries held true start))
+-- The verdict is agreement exactly if the events lead to each PCR by one of the starts that are tried.
+one_of_three : (entries : List Entry) (held : List HeldPcr) → is_agreement (nearest entries held)
+    ≡ list_any (λ locality. is_agreement (compared_at entries held (assumed_start locality))) (0 ∷ 3 ∷ 4 ∷ [])
+one_of_three entries held =
+    nearest_agrees held (compared_at entries held (assumed_start 0)) (compared_at entries held (assumed_start 3))
+    (compared_at entries held (assumed_start 4)) (counted entries held (assumed_start 0))
+    (counted entries held (assumed_start 3)) (counted entries held (assumed_start 4))
+
+-- Whether a start is stated has no part in that.
+abbrev agree_so : List Entry → List HeldPcr → Start → Bool
+agree_so entries held start = is_agreement (compared_at entries held (record { start = start; is_stated = false }))
+
+one_is_tried : (locality : Option ℕ) (entries : List Entry) (held : List HeldPcr)
+    → is_agreement (verdict_of locality entries held) ≡ list_any (agree_so entries held) (starts locality entries)
+unfolding verdict_of
+one_is_tried locality entries held = either (is_stated locality entries)
   where
     or_none : (b : Bool) → b ≡ (b || false)
     or_none true = refl
     or_none false = refl
-one_is_tried None entries held =
-    nearest_agrees held (compared_at entries held false (start_at 0)) (compared_at entries held false (start_at 3))
-    (compared_at entries held false (start_at 4)) (counted entries held false (start_at 0))
-    (counted entries held false (start_at 3)) (counted entries held false (start_at 4))
 
--- The verdict is agreement exactly if the events lead to each PCR by one of the starts that are tried.
+    either : (stated : Bool)
+        → is_agreement (cond stated (compared_at entries held (known_start locality entries)) (nearest entries held))
+        ≡ list_any (agree_so entries held)
+        (cond stated (start_by locality entries ∷ []) (start_at 0 ∷ start_at 3 ∷ start_at 4 ∷ []))
+    either true = or_none (agree_so entries held (start_by locality entries))
+    either false = one_of_three entries held
+
 pub agrees_at_one : (locality : Option ℕ) (entries : List Entry) (held : List HeldPcr) (comparison : Comparison)
     → comparison ≡ verdict_of locality entries held
     → (is_agreement comparison ≡ true) ↔ AgreeAtOne locality entries held
-unfolding verdict_of
 agrees_at_one locality entries held comparison is =
-    let start = stated_start locality entries in
-    let all : List Start = starts start in
-    let test : Start → Bool = λ tried. is_agreement (compared_at entries held (is_some start) tried) in
-    let same : is_agreement comparison ≡ list_any test all = ap is_agreement is ∙ one_is_tried start entries held in (
-      (λ so. by_test (λ tried. (agree_by_verdict tried entries held (is_some start)).0) all (Any-from_list_any test all (sym same ∙ so))),
-      (λ agree. same ∙ list_any-from_Any test all (by_test (λ tried. (agree_by_verdict tried entries held (is_some start)).1) all agree)),
+    let all : List Start = starts locality entries in
+    let same : is_agreement comparison ≡ list_any (agree_so entries held) all =
+    ap is_agreement is ∙ one_is_tried locality entries held in (
+      (λ so. by_test (λ start. (agree_by_verdict (record { start = start; is_stated = false }) entries held).0) all
+          (Any-from_list_any (agree_so entries held) all (sym same ∙ so))),
+      (λ agree. same ∙ list_any-from_Any (agree_so entries held) all
+          (by_test (λ start. (agree_by_verdict (record { start = start; is_stated = false }) entries held).1) all agree)),
     )
   where
-    by_test : {P Q : Start → Type 0} → ((tried : Start) → P tried → Q tried) → (all : List Start) → Any P all → Any Q all
-    by_test so all (k, tried, below, is, holds) = (k, tried, below, is, so tried holds)
+    by_test : {P Q : Start → Type 0} → ((start : Start) → P start → Q start) → (all : List Start) → Any P all → Any Q all
+    by_test so all (k, start, below, is, holds) = (k, start, below, is, so start holds)

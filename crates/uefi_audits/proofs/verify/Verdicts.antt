@@ -1,15 +1,17 @@
 -- The verdict, by what was replayed.
 use Rattle.std.proofs.Common.{◌≡◌, ◌∙◌, ℕ, ◌+◌, ◌<◌, List, [], ◌∷◌, ◌++◌, length, get_or, map, take, ap, subst, sym}
-use Rattle.std.specs.Prelude.{true, false, Option, None, Some}
+use Rattle.std.specs.Prelude.{true, false, cond, Option}
 use Rattle.pcr_replay.specs.Start.{start_at}
 use Rattle.pcr_replay.specs.declared.bank.Bank.{Bank}
 use Rattle.pcr_replay.specs.declared.start.Start.{Start}
 use Rattle.uefi_tcg.specs.Entries.{Entry}
 use Rattle.uefi_audits.specs.Replay.{BankOutcomes, bank_outcomes_of, replayed}
 use Rattle.uefi_audits.specs.declared.replay.BankPcrs.{BankPcrs}
+use Rattle.uefi_audits.specs.Start.{assumed_start, is_stated, known_start}
+use Rattle.uefi_audits.specs.declared.start.KnownStart.{KnownStart}
 use Rattle.uefi_audits.specs.declared.verify.held.HeldPcr.{HeldPcr}
 use Rattle.uefi_audits.specs.verify.Banks.{held_banks}
-use Rattle.uefi_audits.specs.verify.Verdict.{Comparison, by_start, compared, compared_at, nearer, stated_start, verdict_of}
+use Rattle.uefi_audits.specs.verify.Verdict.{Comparison, compared, compared_at, nearer, nearest, verdict_of}
 use Rattle.uefi_audits.proofs.FirstOnes.{as_many, one_mapped, same_at}
 
 -- One more bank was restarted.
@@ -28,42 +30,29 @@ one_restarted start other entries replays found new banks replay item index with
     (subst (λ n. index < n) (as_many bank_outcomes_of (replayed other entries) replays banks same) within) before
     (restarts other (here ∙ ap (replayed other entries) (sym bank)) ∙ ap (replayed start entries) bank) pushed
 
--- A verdict at a locality that nobody states.
-pub restarted_is : (locality : ℕ) (entries : List Entry) (held : List HeldPcr) (start : Start) (banks : List Bank)
-    (replays : List BankOutcomes) (comparison : Comparison) → start ≡ start_at locality
-    → replays ≡ map (replayed start entries) banks → comparison ≡ compared held replays start false
-    → comparison ≡ compared held (map (replayed (start_at locality) entries) banks) (start_at locality) false
-restarted_is locality entries held start banks replays comparison starts are is =
-    let all : replays ≡ map (replayed (start_at locality) entries) banks =
-    are ∙ ap (λ it. map (replayed it entries) banks) starts in
-    is ∙ (λ i. compared held (all i) (starts i) false)
+-- A comparison with what the events lead to in the held banks.
+pub compared_is : (entries : List Entry) (held : List HeldPcr) (start : KnownStart) (replays : List BankOutcomes)
+    (comparison : Comparison) → replays ≡ map (replayed start.start entries) (held_banks held)
+    → comparison ≡ compared held replays start → comparison ≡ compared_at entries held start
+compared_is entries held start replays comparison are is = is ∙ ap (λ all. compared held all start) are
 
--- The verdict at the start that is stated.
-pub stated_is : (locality : Option ℕ) (entries : List Entry) (held : List HeldPcr) (start : Start) (banks : List Bank)
-    (replays : List BankOutcomes) (comparison : Comparison) → stated_start locality entries ≡ Some start
-    → banks ≡ held_banks held → replays ≡ map (replayed start entries) banks
-    → comparison ≡ compared held replays start true → comparison ≡ verdict_of locality entries held
+-- The verdict at the start that is stated, and the nearest of three.
+pub stated_is : (locality : Option ℕ) (entries : List Entry) (held : List HeldPcr) (start : KnownStart)
+    (comparison : Comparison) → start ≡ known_start locality entries → start.is_stated ≡ true
+    → comparison ≡ compared_at entries held start → comparison ≡ verdict_of locality entries held
 unfolding verdict_of
-stated_is locality entries held start banks replays comparison stated held_ones are is =
-    is ∙ ap (λ all. compared held all start true) (are ∙ ap (map (replayed start entries)) held_ones)
-    ∙ sym (ap (λ it. by_start it entries held) stated)
+stated_is locality entries held start comparison known stated is =
+    let so : is_stated locality entries ≡ true = sym (ap (λ it. it.is_stated) known) ∙ stated in
+    is ∙ ap (compared_at entries held) known
+    ∙ sym (ap (λ it. cond it (compared_at entries held (known_start locality entries)) (nearest entries held)) so)
 
--- The nearest of three.
-pub nearest_is : (locality : Option ℕ) (entries : List Entry) (held : List HeldPcr) (banks : List Bank)
-    (first second third nearest comparison : Comparison) → stated_start locality entries ≡ None
-    → banks ≡ held_banks held
-    → first ≡ compared held (map (replayed (start_at 0) entries) banks) (start_at 0) false
-    → second ≡ compared held (map (replayed (start_at 3) entries) banks) (start_at 3) false
-    → third ≡ compared held (map (replayed (start_at 4) entries) banks) (start_at 4) false
-    → nearest ≡ nearer held first second → comparison ≡ nearer held nearest third
-    → comparison ≡ verdict_of locality entries held
+pub nearest_is : (locality : Option ℕ) (entries : List Entry) (held : List HeldPcr) (start : KnownStart)
+    (first second third two comparison : Comparison) → start ≡ known_start locality entries → start.is_stated ≡ false
+    → first ≡ compared_at entries held (assumed_start 0) → second ≡ compared_at entries held (assumed_start 3)
+    → third ≡ compared_at entries held (assumed_start 4) → two ≡ nearer held first second
+    → comparison ≡ nearer held two third → comparison ≡ verdict_of locality entries held
 unfolding verdict_of
-nearest_is locality entries held banks first second third nearest comparison unstated held_ones one two three is_nearest is =
-    let at : (n : ℕ) → compared held (map (replayed (start_at n) entries) banks) (start_at n) false
-    ≡ compared_at entries held false (start_at n) =
-    λ n. ap (λ all. compared held (map (replayed (start_at n) entries) all) (start_at n) false) held_ones in
-    let a = one ∙ at 0 in
-    let b = two ∙ at 3 in
-    let d = three ∙ at 4 in
-    is ∙ (λ i. nearer held ((is_nearest ∙ (λ j. nearer held (a j) (b j))) i) (d i))
-    ∙ sym (ap (λ it. by_start it entries held) unstated)
+nearest_is locality entries held start first second third two comparison known unstated at_0 at_3 at_4 are is =
+    let so : is_stated locality entries ≡ false = sym (ap (λ it. it.is_stated) known) ∙ unstated in
+    is ∙ (λ i. nearer held ((are ∙ (λ j. nearer held (at_0 j) (at_3 j))) i) (at_4 i))
+    ∙ sym (ap (λ it. cond it (compared_at entries held (known_start locality entries)) (nearest entries held)) so)

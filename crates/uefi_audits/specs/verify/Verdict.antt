@@ -1,6 +1,6 @@
 -- Whether the PCRs that a TPM held are those that a log leads to.
 use Rattle.std.specs.Prelude.{ℕ, ◌≡◌, ◌↔◌, ◌==◌, ◌&&◌, not, Bool, true, false, IsTrue, List, [], ◌∷◌, map, slice_get}
-use Rattle.std.specs.Prelude.{count_by, nat_lt, is_some, Option, None, Some, Ok, Err, if◌then◌else◌}
+use Rattle.std.specs.Prelude.{count_by, nat_lt, Option, None, Some, Ok, Err, if◌then◌else◌}
 use Rattle.std.specs.List.{All, Any}
 use Rattle.std.specs.Option.{option_and_then}
 use Rattle.std.specs.Str.{bytes_eq}
@@ -8,9 +8,11 @@ use Rattle.pcr_replay.specs.declared.bank.Bank.{Bank}
 use Rattle.pcr_replay.specs.declared.start.Start.{Start}
 use Rattle.uefi_tcg.specs.Entries.{Entry}
 use Rattle.pcr_replay.specs.Replay.{Outcome, outcomes}
-use Rattle.pcr_replay.specs.Start.{start_at, start_in, startup_locality}
+use Rattle.pcr_replay.specs.Start.{start_at}
 use Rattle.pcr_replay.specs.Views.{value_of}
 use Rattle.uefi_audits.specs.Replay.{BankOutcomes, bank_outcomes_of, replayed}
+use Rattle.uefi_audits.specs.Start.{assumed_start, is_stated, known_start, start_by}
+use Rattle.uefi_audits.specs.declared.start.KnownStart.{KnownStart}
 use Rattle.uefi_audits.specs.declared.verify.held.HeldPcr.{HeldPcr}
 use Rattle.uefi_audits.specs.declared.verify.verdict.Verdict.{Verdict}
 use Rattle.uefi_audits.specs.verify.Banks.{held_banks, is_same_bank}
@@ -49,18 +51,16 @@ differs replays held = not (agrees replays held) && not (undetermined replays he
 abbrev pub disagreeing : List HeldPcr → List BankOutcomes → ℕ
 disagreeing held replays = count_by (λ pcr. not (agrees replays pcr)) held
 
--- What PCRs that a TPM held are compared with: how PCR 0 starts, whether that is stated, and what a log leads to in their banks; and how many of them differ, and how many are undetermined.
+-- What PCRs that a TPM held are compared with: how PCR 0 starts, and what a log leads to in their banks; how many of them differ, and how many are undetermined.
 pub record Comparison : Type 0 where
-  pub start : Start
-  pub is_stated : Bool
+  pub start : KnownStart
   pub replays : List BankOutcomes
   pub differing : ℕ
   pub undetermined : ℕ
 
-abbrev pub compared : List HeldPcr → List BankOutcomes → Start → Bool → Comparison
-compared held replays start stated = record {
+abbrev pub compared : List HeldPcr → List BankOutcomes → KnownStart → Comparison
+compared held replays start = record {
   start = start;
-  is_stated = stated;
   replays = replays;
   differing = count_by (differs replays) held;
   undetermined = count_by (undetermined replays) held;
@@ -70,35 +70,29 @@ compared held replays start stated = record {
 abbrev pub is_agreement : Comparison → Bool
 is_agreement comparison = (comparison.differing == 0) && (comparison.undetermined == 0)
 
--- What the events of a log lead to in the banks of which a PCR is held, in a TPM that started so.
-abbrev pub compared_at : List Entry → List HeldPcr → Bool → Start → Comparison
-compared_at entries held stated start = compared held (map (replayed start entries) (held_banks held)) start stated
+-- With what the events of a log lead to in the banks of which a PCR is held, in a TPM that started so.
+abbrev pub compared_at : List Entry → List HeldPcr → KnownStart → Comparison
+compared_at entries held start = compared held (map (replayed start.start entries) (held_banks held)) start
 
 -- Of two, the one in which fewer PCRs disagree, and the first if as many do.
 abbrev pub nearer : List HeldPcr → Comparison → Comparison → Comparison
 nearer held one other = if nat_lt (disagreeing held other.replays) (disagreeing held one.replays) then other else one
 
--- How PCR 0 starts at the locality that the caller states, or as a log says, if either says it.
-abbrev pub stated_start : Option ℕ → List Entry → Option Start
-stated_start (Some locality) entries = Some (start_at locality)
-stated_start None entries = if is_some (startup_locality entries) then Some (start_in entries) else None
+-- The nearest of those with a start at 0, 3 and 4, which nobody states.
+abbrev pub nearest : List Entry → List HeldPcr → Comparison
+nearest entries held =
+    nearer held (nearer held (compared_at entries held (assumed_start 0)) (compared_at entries held (assumed_start 3)))
+    (compared_at entries held (assumed_start 4))
 
--- It starts so, or else at 0, 3 or 4: as in the nearest of the three.
-abbrev pub by_start : Option Start → List Entry → List HeldPcr → Comparison
-by_start (Some start) entries held = compared_at entries held true start
-by_start None entries held =
-    nearer held (nearer held (compared_at entries held false (start_at 0)) (compared_at entries held false (start_at 3)))
-    (compared_at entries held false (start_at 4))
-
--- The verdict on PCRs that a TPM held, by the locality that the caller states and the events of a log.
+-- The verdict on PCRs that a TPM held, by the locality that the caller states, if any, and the events of a log.
 unfoldable pub verdict_of : Option ℕ → List Entry → List HeldPcr → Comparison
-verdict_of locality entries held = by_start (stated_start locality entries) entries held
+verdict_of locality entries held =
+    if is_stated locality entries then compared_at entries held (known_start locality entries) else nearest entries held
 
 -- What a value of the code stands for.
 abbrev pub comparison_of : {A : Type 0} → Verdict A → Comparison
 comparison_of verdict = record {
   start = verdict.start;
-  is_stated = verdict.is_stated;
   replays = map bank_outcomes_of verdict.replays.items;
   differing = verdict.differing;
   undetermined = verdict.undetermined;
@@ -110,14 +104,15 @@ Agree start entries held =
     All (λ pcr. slice_get (outcomes pcr.bank start entries) pcr.pcr ≡ Some (Ok (value_of pcr.value))) held
 
 -- They do in a TPM that started in one of the ways that are tried: as is stated, or else at 0, 3 or 4.
-abbrev pub starts : Option Start → List Start
-starts (Some start) = start ∷ []
-starts None = start_at 0 ∷ start_at 3 ∷ start_at 4 ∷ []
+abbrev pub starts : Option ℕ → List Entry → List Start
+starts locality entries =
+    if is_stated locality entries then start_by locality entries ∷ []
+    else start_at 0 ∷ start_at 3 ∷ start_at 4 ∷ []
 
 abbrev pub AgreeAtOne : Option ℕ → List Entry → List HeldPcr → Type 0
-AgreeAtOne locality entries held = Any (λ start. Agree start entries held) (starts (stated_start locality entries))
+AgreeAtOne locality entries held = Any (λ start. Agree start entries held) (starts locality entries)
 
 -- In a TPM that started so they do exactly if the comparison is that they agree.
 abbrev pub AgreeByVerdict : Type 0
-AgreeByVerdict = (start : Start) (entries : List Entry) (held : List HeldPcr) (stated : Bool)
-    → IsTrue (is_agreement (compared_at entries held stated start)) ↔ Agree start entries held
+AgreeByVerdict = (start : KnownStart) (entries : List Entry) (held : List HeldPcr)
+    → IsTrue (is_agreement (compared_at entries held start)) ↔ Agree start.start entries held

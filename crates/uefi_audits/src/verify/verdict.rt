@@ -1,17 +1,18 @@
-ghost use Rattle.std.specs.Prelude.{◌≡◌, ◌↔◌, false, IsTrue, List, map, IfOk};
-ghost use Rattle.pcr_replay.specs.Start.{start_at};
+ghost use Rattle.std.specs.Prelude.{◌≡◌, ◌↔◌, IsTrue, List, map, IfOk};
 ghost use Rattle.pcr_replay.specs.declared.bank.Bank.{Bank};
 ghost use Rattle.pcr_replay.specs.declared.start.Start.{Start};
 ghost use Rattle.uefi_tcg.specs.LogViews.{entry_of};
 ghost use Rattle.uefi_audits.specs.Replay.{bank_outcomes_of, replayed};
-ghost use Rattle.uefi_audits.specs.verify.Verdict.{compared, comparison_of, is_agreement, nearer, stated_start, verdict_of, AgreeAtOne};
+ghost use Rattle.uefi_audits.specs.Start.{assumed_start};
+ghost use Rattle.uefi_audits.specs.declared.start.KnownStart.{KnownStart};
+ghost use Rattle.uefi_audits.specs.verify.Verdict.{compared, compared_at, comparison_of, is_agreement, nearer, verdict_of, AgreeAtOne};
 
 use crate::replay::{BankPcrs, replay_banks};
+use crate::start::KnownStart;
 use crate::verify::banks::held_banks;
 use crate::verify::comparison::{differs, disagreeing, is_undetermined};
 use crate::verify::held::HeldPcr;
 use pcr_replay::Start;
-use pcr_replay::entries::{start_of, startup_locality};
 use std::alloc::{AllocError, Allocator, Global};
 use uefi_tcg::LogEntry;
 
@@ -19,9 +20,7 @@ use uefi_tcg::LogEntry;
 #[derive(Drop)]
 pub struct Verdict<A: Allocator = Global> {
     /// How PCR 0 starts.
-    pub start: Start,
-    /// Whether the log states that, or the caller did.
-    pub is_stated: bool,
+    pub start: KnownStart,
     /// What the log leads to in the banks of which a PCR is held.
     pub replays: Vec<BankPcrs, A>,
     /// How many PCRs held another value, or aren't among those that a TPM has.
@@ -33,8 +32,8 @@ pub struct Verdict<A: Allocator = Global> {
 impl<A: Allocator + Copy> Verdict<A> {
     /// Returns the verdict on PCRs that a TPM held, after these events.
     ///
-    /// PCR 0 starts at `locality`, or without one as the log says. If it says nothing, PCR 0 starts
-    /// at 0, 3 or 4: where the fewest PCRs disagree, and of several the first one.
+    /// PCR 0 starts at `locality`, or without one as the events say. If they say nothing, it starts at
+    /// 0, 3 or 4: where the fewest PCRs disagree, and of several the first one.
     ///
     /// # Errors
     ///
@@ -50,52 +49,61 @@ impl<A: Allocator + Copy> Verdict<A> {
         ensures agreement { IfOk result (λ verdict. IsTrue (is_agreement (comparison_of verdict))
             ↔ AgreeAtOne locality (map entry_of entries.now) held.now) }
     {
-        let banks = held_banks(alloc, held)?;
-        if let Some(start) = stated_start(entries, locality) {
-            let replays = replay_banks(alloc, entries, banks.as_slice(), &start)?;
-            return Ok(Verdict::of(held, replays, start, true));
+        let start = KnownStart::of(entries, locality);
+        if start.is_stated {
+            return Verdict::at(alloc, entries, held, start);
         }
-        let start = Start::at(0);
-        let replays = replay_banks(alloc, entries, banks.as_slice(), &start)?;
-        let at_0 = Verdict::of(held, replays, start, false);
-        let at_3 = at_0.restarted(alloc, entries, held, 3)?;
-        let at_4 = at_0.restarted(alloc, entries, held, 4)?;
+        let at_0 = Verdict::at(alloc, entries, held, KnownStart::assumed(0))?;
+        let at_3 = at_0.restarted(alloc, entries, held, KnownStart::assumed(3))?;
+        let at_4 = at_0.restarted(alloc, entries, held, KnownStart::assumed(4))?;
         Ok(at_0.nearer(at_3, held).nearer(at_4, held))
     }
 
-    /// Returns the verdict in a TPM that was started at another locality, which nobody states: PCR 0
-    /// alone is replayed.
+    /// Returns the verdict in a TPM that was started so.
+    fn at(
+        alloc: A,
+        entries: &[LogEntry<'_>],
+        held: &[HeldPcr],
+        start: KnownStart,
+    ) -> Result<Verdict<A>, AllocError>
+        ensures { IfOk result (λ verdict. comparison_of verdict
+            ≡ compared_at (map entry_of entries.now) held.now start) }
+    {
+        let banks = held_banks(alloc, held)?;
+        let replays = replay_banks(alloc, entries, banks.as_slice(), &start.start)?;
+        Ok(Verdict::of(held, replays, start))
+    }
+
+    /// Returns the verdict in a TPM that was started so, by that in one that was started otherwise:
+    /// PCR 0 alone is replayed.
     fn restarted(
         &self,
         alloc: A,
         entries: &[LogEntry<'_>],
         held: &[HeldPcr],
-        locality: u8,
+        start: KnownStart,
     ) -> Result<Verdict<A>, AllocError>
-        ensures { (other : Start) (banks : List Bank) → map bank_outcomes_of self.now.replays.items
-            ≡ map (replayed other (map entry_of entries.now)) banks
-            → IfOk result (λ verdict. comparison_of verdict ≡ compared held.now
-            (map (replayed (start_at locality) (map entry_of entries.now)) banks)
-            (start_at locality) false) }
+        ensures { (other : KnownStart)
+            → comparison_of self.now ≡ compared_at (map entry_of entries.now) held.now other
+            → IfOk result (λ verdict. comparison_of verdict
+            ≡ compared_at (map entry_of entries.now) held.now start) }
     {
-        let start = Start::at(locality);
-        let replays = restart_banks(alloc, entries, self.replays.as_slice(), &start)?;
-        Ok(Verdict::of(held, replays, start, false))
+        let replays = restart_banks(alloc, entries, self.replays.as_slice(), &start.start)?;
+        Ok(Verdict::of(held, replays, start))
     }
 }
 
 impl<A: Allocator> Verdict<A> {
     /// Returns the verdict on PCRs that a TPM held, beside those that a log leads to.
-    fn of(held: &[HeldPcr], replays: Vec<BankPcrs, A>, start: Start, is_stated: bool) -> Verdict<A>
+    fn of(held: &[HeldPcr], replays: Vec<BankPcrs, A>, start: KnownStart) -> Verdict<A>
         ensures { comparison_of result
-            ≡ compared held.now (map bank_outcomes_of replays.items) start is_stated }
+            ≡ compared held.now (map bank_outcomes_of replays.items) start }
     {
         let pcrs = replays.as_slice();
         let differing = held.iter().filter(|pcr| differs(pcr, pcrs)).count();
         let undetermined = held.iter().filter(|pcr| is_undetermined(pcr, pcrs)).count();
         Verdict {
             start,
-            is_stated,
             replays,
             differing,
             undetermined,
@@ -120,18 +128,6 @@ impl<A: Allocator> Verdict<A> {
         ensures { result ≡ is_agreement (comparison_of self.now) }
     {
         self.differing == 0 && self.undetermined == 0
-    }
-}
-
-/// Returns how PCR 0 starts at the locality that the caller states, or as these events say; `None` if
-/// neither says it.
-fn stated_start(entries: &[LogEntry<'_>], locality: Option<u8>) -> Option<Start>
-    ensures { result ≡ stated_start locality (map entry_of entries.now) }
-{
-    match locality {
-        Some(locality) => Some(Start::at(locality)),
-        None if startup_locality(entries).is_some() => Some(start_of(entries)),
-        None => None,
     }
 }
 
