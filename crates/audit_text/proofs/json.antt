@@ -6,4 +6,3 @@ pub mod NoFloatsInVerdict
 pub mod NoFloatsInDiff
 pub mod Controls
 pub mod EventLines
-pub mod ReplayLines

@@ -6,10 +6,11 @@
 //! held. [`push_differences`] compares the events of two logs, [`push_event_blocks`] appends those of
 //! one, and [`push_check`] and [`push_check_summary`] append what was checked of them.
 //!
-//! The other calls append lines for standard error: [`push_undetermined`] names the events by which
-//! PCRs are undetermined, [`push_left_over`] and [`push_padding`] the bytes that follow the last
-//! event, [`push_start`] the locality that is assumed, and [`push_ignored`] the events that have no
-//! effect and should have. Each line begins with the file's name, as
+//! The other calls append lines for standard error: [`push_judgement`] why a log can't be judged and
+//! the bytes that follow its last event, [`push_start`] the locality that is assumed,
+//! [`push_inactive`] and [`push_unsupported`] the banks that weren't replayed, [`push_undetermined`]
+//! the events by which PCRs are undetermined, and [`push_ignored`] those that have no effect and
+//! should have. Each line begins with the file's name, as
 //! [`ShownName`](crate::words::ShownName) displays it.
 
 pub use self::banks::{push_bank, push_banks};
@@ -17,10 +18,11 @@ pub use self::check::{push_check, push_check_summary};
 pub use self::diff::push_differences;
 pub use self::events::push_event_blocks;
 pub use self::ignored::push_ignored;
+pub use self::judgement::push_judgement;
 pub use self::start::push_start;
-pub(crate) use self::trailing::offset_of_last;
-pub use self::trailing::{push_left_over, push_padding};
+pub use self::trailing::push_trailing;
 pub use self::undetermined::push_undetermined;
+pub use self::unreplayed::{push_inactive, push_unsupported};
 pub use self::verdict::push_verdict;
 use uefi_tcg::Log;
 
@@ -29,9 +31,11 @@ mod check;
 mod diff;
 mod events;
 mod ignored;
+mod judgement;
 mod start;
 mod trailing;
 mod undetermined;
+mod unreplayed;
 mod verdict;
 
 /// An event log that was read from a file: the name to print, and the log.

@@ -1,14 +1,14 @@
 -- No number of a log's JSON is a float.
-use Rattle.std.proofs.Common.{◌≡◌, ℕ, ◌+◌, List, [], ◌∷◌, map, refl, Bool, false, true, ◌==◌, cond, length}
-use Rattle.std.specs.Prelude.{Ok, Err, codes, not}
+use Rattle.std.proofs.Common.{◌≡◌, ℕ, ◌+◌, List, [], ◌∷◌, map, refl, Bool, false, true, ◌==◌, cond}
+use Rattle.std.specs.Prelude.{Ok, Err, Option, None, Some, codes, not}
 use Rattle.std.specs.List.{filter}
 use Rattle.serde_json.specs.Data.{null, number, unsigned, object, member, no_members}
 use Rattle.serde_json.specs.View.{items_of}
 use Rattle.serde_json.specs.Written.{has_float, items_have_float}
-use Rattle.pcr_replay.specs.declared.start.Start.{Start}
+use Rattle.uefi_audits.specs.declared.facts.LogFacts.{LogFacts}
 use Rattle.pcr_replay.specs.Replay.{Outcome}
 use Rattle.uefi_audits.specs.Replay.{BankOutcomes}
-use Rattle.audit_text.specs.json.Replay.{algorithm_json, bank_json, banks_json, if_undetermined, is_replayed, locality_json, log_json}
+use Rattle.audit_text.specs.json.Replay.{algorithm_json, bank_json, banks_json, if_undetermined, is_replayed, locality_json, replay_json, shown_banks}
 use Rattle.audit_text.specs.json.Replay.{not_replayed_json, part_json, register_json, undetermined_json}
 use Rattle.uefi_audits.specs.Numbered.{numbered}
 
@@ -34,10 +34,10 @@ each : (found : List BankOutcomes) → items_have_float (items_of (map bank_json
 each [] = refl
 each (one ∷ others) = rw (bank one) (each others)
 
-banks : (accepted : Bool) (found : List BankOutcomes) → has_float (banks_json accepted found) ≡ false
+banks : (found : Option (List BankOutcomes)) → has_float (banks_json found) ≡ false
 unfolding banks_json
-banks true found = each found
-banks false found = refl
+banks (Some found) = each found
+banks None = refl
 
 -- The algorithms that aren't replayed.
 algorithms_have : (algorithms : List ℕ) → items_have_float (items_of (map algorithm_json algorithms)) ≡ false
@@ -49,20 +49,18 @@ not_replayed : (algorithms : List ℕ) (found : List BankOutcomes) → has_float
 unfolding not_replayed_json
 not_replayed algorithms found = algorithms_have (filter (λ algorithm. not (is_replayed found algorithm)) algorithms)
 
-part : (offset : ℕ) (bytes : List ℕ) → has_float (part_json offset bytes) ≡ false
+part : (offset count : ℕ) → has_float (part_json offset count) ≡ false
 unfolding part_json
-part offset bytes = either (length bytes == 0)
+part offset count = either (count == 0)
   where
     either : (none : Bool)
-        → has_float (cond none null (object (member (codes "count") (number (unsigned (length bytes)))
+        → has_float (cond none null (object (member (codes "count") (number (unsigned count))
         (member (codes "offset") (number (unsigned offset)) no_members)))) ≡ false
     either true = refl
     either false = refl
 
-pub no_float : (accepted : Bool) (found shown : List BankOutcomes) (offset end : ℕ) (left padding : List ℕ) (start : Start)
-    (stated : Bool) (name algorithms : List ℕ)
-    → has_float (log_json (banks_json accepted found) (part_json offset left) (locality_json start stated) name
-    (not_replayed_json algorithms shown) (part_json end padding)) ≡ false
-unfolding log_json locality_json
-no_float accepted found shown offset end left padding start stated name algorithms =
-    rw (banks accepted found) (rw (part offset left) (rw (not_replayed algorithms shown) (rw (part end padding) refl)))
+pub no_float : (name : List ℕ) (facts : LogFacts) (found : Option (List BankOutcomes)) → has_float (replay_json name facts found) ≡ false
+unfolding replay_json locality_json
+no_float name facts found =
+    rw (banks found) (rw (part facts.trailing.offset facts.trailing.left_over) (rw (not_replayed facts.algorithms.items (shown_banks found))
+    (rw (part facts.trailing.offset facts.trailing.padding) refl)))

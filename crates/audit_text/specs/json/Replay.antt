@@ -7,7 +7,8 @@ use Rattle.serde_json.specs.View.{items_of}
 use Rattle.pcr_replay.specs.Banks.{algorithm_of}
 use Rattle.pcr_replay.specs.declared.bank.Bank.{Bank}
 use Rattle.pcr_replay.specs.declared.fault.Undetermined.{Undetermined}
-use Rattle.pcr_replay.specs.declared.start.Start.{Start}
+use Rattle.uefi_audits.specs.declared.start.KnownStart.{KnownStart}
+use Rattle.uefi_audits.specs.declared.facts.LogFacts.{LogFacts}
 use Rattle.uefi_tcg.specs.Entries.{Contents}
 use Rattle.uefi_tcg.specs.Logs.{left_over, padding}
 use Rattle.uefi_tcg.specs.v2.Event.{Table}
@@ -47,13 +48,15 @@ bank_json bank =
     (member (codes "registers") (array (items_of (map register_json bank.outcomes)))
     (member (codes "undetermined") (array (items_of (numbered if_undetermined 0 bank.outcomes))) no_members)))
 
--- The banks of a log that is accepted; `null` if it is refused.
-unfoldable pub banks_json : Bool → List BankOutcomes → Data
-banks_json accepted banks = if accepted then array (items_of (map bank_json banks)) else null
+-- The banks of a log; `null` if it is refused.
+unfoldable pub banks_json : Option (List BankOutcomes) → Data
+banks_json None = null
+banks_json (Some banks) = array (items_of (map bank_json banks))
 
 -- The banks that are among them.
-abbrev pub shown_banks : Bool → List BankOutcomes → List BankOutcomes
-shown_banks accepted banks = if accepted then banks else []
+abbrev pub shown_banks : Option (List BankOutcomes) → List BankOutcomes
+shown_banks None = []
+shown_banks (Some banks) = banks
 
 -- One of these banks is an algorithm's.
 abbrev pub is_replayed : List BankOutcomes → ℕ → Bool
@@ -73,38 +76,27 @@ not_replayed_json algorithms banks =
     array (items_of (map algorithm_json (filter (λ algorithm. not (is_replayed banks algorithm)) algorithms)))
 
 -- Bytes that begin at an offset: how many they are, and the offset; `null` if there are none.
-unfoldable pub part_json : ℕ → List ℕ → Data
-part_json offset bytes =
-    if length bytes == 0 then null
-    else object (member (codes "count") (number (unsigned (length bytes)))
-    (member (codes "offset") (number (unsigned offset)) no_members))
+unfoldable pub part_json : ℕ → ℕ → Data
+part_json offset count =
+    if count == 0 then null
+    else object (member (codes "count") (number (unsigned count)) (member (codes "offset") (number (unsigned offset)) no_members))
 
 -- The locality at which PCR 0 starts, and whether it is stated.
-unfoldable pub locality_json : Start → Bool → Data
-locality_json start stated =
-    object (member (codes "number") (number (unsigned start.locality))
-    (member (codes "stated") (boolean stated) no_members))
+unfoldable pub locality_json : KnownStart → Data
+locality_json known =
+    object (member (codes "number") (number (unsigned known.start.locality))
+    (member (codes "stated") (boolean known.is_stated) no_members))
 
--- The object of a log.
-unfoldable pub log_json : Data → Data → Data → List ℕ → Data → Data → Data
-log_json banks left_over locality name not_replayed padding =
-    object (member (codes "banks") banks
-    (member (codes "left_over") left_over
-    (member (codes "locality") locality
+-- The object of a log, by its name, what is known of it, and its banks.
+unfoldable pub replay_json : List ℕ → LogFacts → Option (List BankOutcomes) → Data
+replay_json name facts banks =
+    object (member (codes "banks") (banks_json banks)
+    (member (codes "left_over") (part_json facts.trailing.offset facts.trailing.left_over)
+    (member (codes "locality") (locality_json facts.start)
     (member (codes "log") (string name)
-    (member (codes "not_replayed") not_replayed
-    (member (codes "padding") padding no_members))))))
-
--- That of a log with these contents, and these algorithms in the table of its header.
-abbrev pub replay_json : LogFile → List ℕ → Contents → Start → Bool → List BankOutcomes → Bool → Data
-replay_json file algorithms contents start stated banks allowed =
-    let accepted = is_accepted file.log contents allowed in
-    log_json (banks_json accepted banks) (part_json contents.end (left_over file.log contents))
-    (locality_json start stated) file.name.now (not_replayed_json algorithms (shown_banks accepted banks))
-    (part_json contents.end (padding file.log contents))
+    (member (codes "not_replayed") (not_replayed_json facts.algorithms.items (shown_banks banks))
+    (member (codes "padding") (part_json facts.trailing.offset facts.trailing.padding) no_members))))))
 
 -- Its line.
-abbrev pub IsReplayLine : LogFile → Table → Contents → Start → Bool → List BankOutcomes → Bool → List ℕ → Type 0
-IsReplayLine file table contents start stated banks allowed line =
-    (algorithms : List ℕ) × AreAlgorithmsIn table algorithms
-    × (line ≡ line_of (replay_json file algorithms contents start stated banks allowed) ++ codes "\n")
+abbrev pub replay_line : List ℕ → LogFacts → Option (List BankOutcomes) → List ℕ
+replay_line name facts banks = line_of (replay_json name facts banks) ++ codes "\n"

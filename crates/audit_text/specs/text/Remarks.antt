@@ -1,34 +1,39 @@
--- The lines that remark on a log: the locality that is assumed, and the events that have no effect and should have.
-use Rattle.std.specs.Prelude.{ℕ, Bool, List, [], ◌++◌, codes, Option, None, Some, if◌then◌else◌}
+-- The lines that remark on a log: the locality that is assumed, banks without a digest or that can't be replayed, and the events that have no effect and should have.
+use Rattle.std.specs.Prelude.{ℕ, List, [], ◌∷◌, ◌++◌, codes, flat_map, if◌then◌else◌}
 use Rattle.std.specs.Fmt.{decimal}
+use Rattle.pcr_replay.specs.declared.bank.Bank.{Bank}
 use Rattle.pcr_replay.specs.declared.ignored.Ignored.{Ignored}
 use Rattle.pcr_replay.specs.declared.ignored.Ignored.TheVariants.{NoPcr, OtherPcr}
-use Rattle.pcr_replay.specs.declared.start.Start.{Start}
-use Rattle.uefi_tcg.specs.Entries.{Entry}
-use Rattle.pcr_replay.specs.Replay.{why_ignored}
-use Rattle.uefi_audits.specs.Numbered.{numbered}
+use Rattle.uefi_audits.specs.Naming.{bank_name}
+use Rattle.uefi_audits.specs.declared.ignored.IgnoredEvent.{IgnoredEvent}
+use Rattle.uefi_audits.specs.declared.start.KnownStart.{KnownStart}
+use Rattle.audit_text.specs.words.Numbers.{hex_text}
 use Rattle.audit_text.specs.words.Shown.{shown_name}
 
 -- The locality at which PCR 0 starts, if none is stated.
-unfoldable pub start_lines : List ℕ → Start → Bool → List ℕ
-start_lines name start stated =
-    if stated then [] else shown_name name ++ codes ": states no locality; PCR 0 starts at locality " ++ decimal start.locality ++ codes "\n"
+unfoldable pub start_lines : List ℕ → KnownStart → List ℕ
+start_lines name known =
+    if known.is_stated then []
+    else shown_name name ++ codes ": states no locality; PCR 0 starts at locality " ++ decimal known.start.locality ++ codes "\n"
+
+-- The line of a bank of which no event has a digest.
+unfoldable pub inactive_line : List ℕ → Bank → List ℕ
+inactive_line name bank = shown_name name ++ codes ": no event has a digest of the bank " ++ bank_name bank ++ codes "\n"
+
+-- The one line of all algorithms whose banks can't be replayed, if there are any.
+unfoldable pub unsupported_line : List ℕ → List ℕ → List ℕ
+unsupported_line name [] = []
+unsupported_line name (first ∷ others) =
+    shown_name name ++ codes ": not supported: the bank of algorithm " ++ hex_text first
+    ++ flat_map (λ other. codes ", " ++ hex_text other) others ++ codes "\n"
 
 -- Why an event has no effect.
 unfoldable pub ignored_text : Ignored → ℕ → List ℕ
 ignored_text NoPcr pcr = codes "is of PCR " ++ decimal pcr ++ codes ", which no TPM has"
 ignored_text OtherPcr pcr = codes "states the locality, and isn't of PCR 0"
 
--- The line of an event of this index that has none: the file's name, the index, the offset, and why.
-unfoldable pub ignored_line : List ℕ → ℕ → Entry → Option Ignored → List ℕ
-ignored_line name index entry None = []
-ignored_line name index entry (Some why) =
-    shown_name name ++ codes ": event " ++ decimal index ++ codes " at offset " ++ decimal entry.offset ++ codes " "
-    ++ ignored_text why entry.event.pcr_index ++ codes "\n"
-
--- The line of an entry, if its event has no effect and should have; and those of all.
-abbrev pub entry_lines : List ℕ → ℕ → Entry → List ℕ
-entry_lines name index entry = ignored_line name index entry (why_ignored entry.event)
-
-abbrev pub ignored_lines : List ℕ → List Entry → List ℕ
-ignored_lines name entries = numbered (entry_lines name) 0 entries
+-- The line of an event that has none: the file's name, the index, the offset, and why.
+unfoldable pub ignored_line : List ℕ → IgnoredEvent → List ℕ
+ignored_line name event =
+    shown_name name ++ codes ": event " ++ decimal event.index ++ codes " at offset " ++ decimal event.offset ++ codes " "
+    ++ ignored_text event.why event.pcr ++ codes "\n"

@@ -1,4 +1,4 @@
-ghost use Rattle.std.specs.Prelude.{◌≡◌, ◌++◌, IfOk, OnOk, map};
+ghost use Rattle.std.specs.Prelude.{◌≡◌, ◌++◌, IfOk, OnOk, map, option_map};
 ghost use Rattle.hex.specs.Hex.{encode_lower};
 ghost use Rattle.serde_json.specs.Data.{string};
 ghost use Rattle.serde_json.specs.View.{view};
@@ -15,20 +15,16 @@ use std::alloc::{AllocError, Global};
 use uefi_audits::naming::bank_name;
 use uefi_audits::replay::BankPcrs;
 
-/// Returns the banks of a log that is accepted; `null` if it is refused.
+/// Returns the banks of a log; `null` if it is refused.
 #[tactic(auto, unfolding(crate::specs::json::Replay::banks_json))]
-pub(crate) fn banks_json(
-    alloc: Global,
-    accepted: bool,
-    banks: &[BankPcrs],
-) -> Result<Value, AllocError>
-    ensures { IfOk result
-        (λ value. view value ≡ banks_json accepted (map bank_outcomes_of banks.now)) }
+pub(crate) fn banks_json(alloc: Global, banks: Option<&[BankPcrs]>) -> Result<Value, AllocError>
+    ensures { IfOk result (λ value. view value
+        ≡ banks_json (option_map (λ them. map bank_outcomes_of them.now) banks.entry)) }
 {
-    if !accepted {
-        return Ok(Value::Null);
+    match banks {
+        Some(banks) => Ok(Value::Array(each_bank(alloc, banks)?)),
+        None => Ok(Value::Null),
     }
-    Ok(Value::Array(each_bank(alloc, banks)?))
 }
 
 /// Returns each bank.

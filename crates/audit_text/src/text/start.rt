@@ -3,31 +3,30 @@ ghost use Rattle.uefi_base.specs.Appending.{AppendsText};
 ghost use Rattle.audit_text.specs.text.Remarks.{start_lines};
 
 use crate::words::ShownName;
-use pcr_replay::Start;
 use std::alloc::{AllocError, Allocator};
+use uefi_audits::start::KnownStart;
 
-/// Appends the line that says at which locality PCR 0 starts, where a log states none: `stated` is
-/// whether it does, or the caller did.
+/// Appends the line that says at which locality PCR 0 starts, if neither the log nor the caller states
+/// one.
 ///
 /// # Errors
 ///
 /// [`AllocError`] if an allocation fails. The text may have grown then.
 #[tactic(auto, unfolding(crate::specs::text::Remarks::start_lines))]
 pub fn push_start<A: Allocator>(
-    told: &mut String<A>,
+    messages: &mut String<A>,
     name: &str,
-    start: &Start,
-    stated: bool,
+    known: &KnownStart,
 ) -> Result<(), AllocError>
     ensures { OnOk result
-        (AppendsText told.old told.new (start_lines name.now start.now stated)) }
+        (AppendsText messages.old messages.new (start_lines name.now known.now)) }
 {
-    if stated {
+    if known.is_stated {
         return Ok(());
     }
-    let (name, locality) = (ShownName(name), start.locality);
+    let (name, locality) = (ShownName(name), known.start.locality);
     writeln!(
-        told,
+        messages,
         "{name}: states no locality; PCR 0 starts at locality {locality}"
     )
 }
