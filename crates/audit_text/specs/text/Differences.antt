@@ -40,14 +40,11 @@ unfoldable pub only_line : List ℕ → Numbered → List ℕ → List ℕ
 only_line name found other_name = place_text name found ++ (codes " isn't in " ++ (other_name ++ codes "\n"))
 
 -- The line of the first event in which two logs differ, by what each has there.
-unfoldable pub line_by_events : List ℕ → Option Numbered → List ℕ → Option Numbered → List ℕ
-line_by_events old_name (Some old) new_name (Some new) = other_line old_name old new_name new
-line_by_events old_name (Some old) new_name None = last_line old_name old new_name
-line_by_events old_name None new_name (Some new) = last_line new_name new old_name
-line_by_events old_name None new_name None = []
-
-unfoldable pub first_line : List ℕ → List ℕ → Difference → List ℕ
-first_line old_name new_name difference = line_by_events old_name difference.old.first new_name difference.new.first
+unfoldable pub first_line : List ℕ → Option Numbered → List ℕ → Option Numbered → List ℕ
+first_line old_name (Some old) new_name (Some new) = other_line old_name old new_name new
+first_line old_name (Some old) new_name None = last_line old_name old new_name
+first_line old_name None new_name (Some new) = last_line new_name new old_name
+first_line old_name None new_name None = []
 
 -- The lines of events that only one log has.
 abbrev pub only_lines : List ℕ → List Numbered → List ℕ → List ℕ
@@ -56,7 +53,7 @@ only_lines name only other_name = flat_map (λ found. only_line name found other
 -- Those of a PCR, and of all.
 unfoldable pub pcr_lines : List ℕ → List ℕ → Difference → List ℕ
 pcr_lines old_name new_name difference =
-    first_line old_name new_name difference
+    first_line old_name difference.old.first new_name difference.new.first
     ++ (only_lines old_name difference.old.only new_name ++ only_lines new_name difference.new.only old_name)
 
 abbrev pub difference_lines : List ℕ → List ℕ → List Difference → List ℕ

@@ -55,6 +55,7 @@ pub fn push_differences_json(
 }
 
 /// Appends the line of a PCR.
+#[tactic(auto, using(crate::proofs::json::NoFloatsInDiff::no_float))]
 fn push_line(
     text: &mut String,
     alloc: Global,

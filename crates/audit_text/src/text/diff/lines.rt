@@ -1,10 +1,10 @@
-ghost use Rattle.std.specs.Prelude.{OnOk};
+ghost use Rattle.std.specs.Prelude.{OnOk, option_map};
 ghost use Rattle.uefi_base.specs.Appending.{AppendsText};
 ghost use Rattle.audit_text.specs.words.Said.{said};
 ghost use Rattle.uefi_audits.specs.content.Views.{content_of};
 ghost use Rattle.audit_text.specs.text.Differences.{event_text, first_line, last_line, only_line, place_text, type_text, words_text};
 ghost use Rattle.uefi_tcg.specs.EventTypes.{event_type_name};
-ghost use Rattle.uefi_audits.specs.diff.Views.{difference_of, numbered_of};
+ghost use Rattle.uefi_audits.specs.diff.Views.{numbered_of};
 
 use crate::words::push_said;
 use std::alloc::{AllocError, Global};
@@ -21,8 +21,9 @@ pub(crate) fn push_first(
     new_name: &str,
     difference: &PcrDifference<'_>,
 ) -> Result<(), AllocError>
-    ensures { OnOk result (AppendsText text.old text.new
-        (first_line old_name.now new_name.now (difference_of difference.now))) }
+    ensures { OnOk result (AppendsText text.old text.new (first_line
+        old_name.now (option_map numbered_of difference.now.old.first)
+        new_name.now (option_map numbered_of difference.now.new.first))) }
 {
     match (&difference.old.first, &difference.new.first) {
         (Some(old), Some(new)) => {
