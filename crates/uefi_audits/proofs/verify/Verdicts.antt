@@ -1,7 +1,6 @@
 -- The verdict, by what was replayed.
 use Rattle.std.proofs.Common.{◌≡◌, ◌∙◌, ℕ, ◌+◌, ◌<◌, List, [], ◌∷◌, ◌++◌, length, get_or, map, take, ap, subst, sym}
 use Rattle.std.specs.Prelude.{true, false, cond, Option}
-use Rattle.pcr_replay.specs.Start.{start_at}
 use Rattle.pcr_replay.specs.declared.bank.Bank.{Bank}
 use Rattle.pcr_replay.specs.declared.start.Start.{Start}
 use Rattle.uefi_tcg.specs.Entries.{Entry}
