@@ -18,7 +18,7 @@ pub use self::check::{push_check, push_check_summary};
 pub use self::diff::push_differences;
 pub use self::events::push_event_blocks;
 pub use self::ignored::push_ignored;
-pub use self::judgement::push_judgement;
+pub use self::judgement::{push_judgement, push_many_algorithms};
 pub use self::start::push_start;
 pub use self::trailing::push_trailing;
 pub use self::undetermined::push_undetermined;

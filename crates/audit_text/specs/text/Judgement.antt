@@ -2,7 +2,7 @@
 use Rattle.std.specs.Prelude.{ℕ, List, ◌++◌, codes}
 use Rattle.std.specs.Fmt.{decimal}
 use Rattle.uefi_audits.specs.declared.judgement.Judgement.{Judgement}
-use Rattle.uefi_audits.specs.declared.judgement.Judgement.TheVariants.{Accepted, NothingMeasured, LeftOver, ManyAlgorithms}
+use Rattle.uefi_audits.specs.declared.judgement.Judgement.TheVariants.{Accepted, NothingMeasured, LeftOver}
 use Rattle.uefi_audits.specs.declared.trailing.Trailing.{Trailing}
 use Rattle.audit_text.specs.text.Trailing.{trailing_lines}
 use Rattle.audit_text.specs.words.Shown.{shown_name}
@@ -19,7 +19,6 @@ nothing_line name = shown_name name ++ codes ": nothing was measured\n"
 
 -- What is said by the judgement.
 unfoldable pub judgement_lines : List ℕ → Judgement → Trailing → List ℕ
-judgement_lines name (ManyAlgorithms rows most) trailing = many_line name rows most
 judgement_lines name LeftOver trailing = trailing_lines name trailing
 judgement_lines name Accepted trailing = trailing_lines name trailing
 judgement_lines name NothingMeasured trailing = trailing_lines name trailing ++ nothing_line name

@@ -25,7 +25,6 @@ pub fn push_judgement<A: Allocator>(
         (judgement_lines name.now judgement trailing.now)) }
 {
     match judgement {
-        Judgement::ManyAlgorithms { rows, most } => push_many(messages, name, rows, most),
         Judgement::LeftOver | Judgement::Accepted => push_trailing(messages, name, trailing),
         Judgement::NothingMeasured => {
             push_trailing(messages, name, trailing)?;
@@ -34,9 +33,14 @@ pub fn push_judgement<A: Allocator>(
     }
 }
 
-/// Appends the line of a log whose header has more rows than are read.
+/// Appends the line of a log whose header has more algorithms than are allowed: how many it has, and how
+/// many are.
+///
+/// # Errors
+///
+/// [`AllocError`] if an allocation fails. The text may have grown then.
 #[tactic(auto, unfolding(crate::specs::text::Judgement::many_line))]
-fn push_many<A: Allocator>(
+pub fn push_many_algorithms<A: Allocator>(
     messages: &mut String<A>,
     name: &str,
     rows: usize,
