@@ -6,3 +6,4 @@ pub mod NoFloatsInVerdict
 pub mod NoFloatsInDiff
 pub mod Controls
 pub mod EventLines
+pub mod NoFloatsInCheck

@@ -9,3 +9,4 @@ pub mod Events
 pub mod Replay
 pub mod Verdict
 pub mod Diff
+pub mod Check

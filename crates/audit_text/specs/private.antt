@@ -1,2 +1,3 @@
 -- Words of private contracts and ghost fields alone.
 pub mod Entries
+pub mod Forms

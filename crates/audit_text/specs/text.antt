@@ -5,3 +5,4 @@ pub mod Judgement
 pub mod Remarks
 pub mod Verdict
 pub mod Differences
+pub mod Check

@@ -5,3 +5,5 @@ pub mod Numbers
 pub mod Faults
 pub mod Path
 pub mod Said
+pub mod Types
+pub mod Forms

@@ -4,12 +4,12 @@
 //! one event. [`push_replay_json`] appends one line for a log: the PCRs that it leads to, by
 //! banks, and why some are undetermined. [`push_verdict_json`] appends one line that says whether a
 //! log leads to the PCRs that a TPM held, and [`push_differences_json`] a line for each PCR in whose
-//! events two logs differ. [`mismatch_line`] and [`check_summary_line`] return what was checked.
+//! events two logs differ. [`push_check_json`] appends what was checked of them.
 //!
 //! A line is the text without spaces of a value, with each object's keys in order (`specs/json`).
 //! No control character is in it: in a string each is `\u` and four hex digits.
 
-pub use self::check::{check_summary_line, mismatch_line};
+pub use self::check::push_check_json;
 pub use self::diff::push_differences_json;
 pub use self::event::event_line;
 pub(crate) use self::event::type_json;

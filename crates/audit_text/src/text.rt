@@ -4,7 +4,7 @@
 //! [`replay_banks`](uefi_audits::replay::replay_banks) returns. [`push_banks`] appends them as
 //! `tpm2_pcrread` of tpm2-tools prints PCRs, and [`push_verdict`] whether they are those that a TPM
 //! held. [`push_differences`] compares the events of two logs, [`push_event_blocks`] appends those of
-//! one, and [`push_check`] and [`push_check_summary`] append what was checked of them.
+//! one, and [`push_check`] what was checked of them.
 //!
 //! The other calls append lines for standard error: [`push_judgement`] why a log can't be judged and
 //! the bytes that follow its last event, [`push_start`] the locality that is assumed,
@@ -14,7 +14,7 @@
 //! [`ShownName`](crate::words::ShownName) displays it.
 
 pub use self::banks::{push_bank, push_banks};
-pub use self::check::{push_check, push_check_summary};
+pub use self::check::push_check;
 pub use self::diff::push_differences;
 pub use self::events::push_event_blocks;
 pub use self::ignored::push_ignored;

@@ -5,16 +5,20 @@
 //! PCR is undetermined, and [`push_number`] appends the number of an algorithm.
 
 pub use self::faults::fault_text;
+pub(crate) use self::forms::form_name;
 pub use self::numbers::push_number;
 pub(crate) use self::path::path_text;
 pub use self::said::push_said;
 pub use self::shown::ShownName;
 pub(crate) use self::shown::is_control;
+pub(crate) use self::types::push_type;
 
 mod faults;
+mod forms;
 pub(crate) mod names;
 mod numbers;
 mod path;
 mod said;
 mod shown;
 pub(crate) mod texts;
+mod types;

@@ -1,51 +1,34 @@
 //! What was checked, as JSON.
-//!
-//! These calls have no contract on the value that they return.
+
+ghost use Rattle.std.specs.Prelude.{◌≡◌, flat_map, map, IfOk, OnOk};
+ghost use Rattle.serde_json.specs.Data.{object};
+ghost use Rattle.serde_json.specs.View.{members_view, view};
+ghost use Rattle.uefi_base.specs.Appending.{AppendsText};
+ghost use Rattle.uefi_audits.specs.CheckResult.{all_forms, mismatch_of};
+ghost use Rattle.audit_text.specs.json.Check.{check_lines, counts_json, forms_members, mismatch_json, mismatch_line, types_json, types_line, with_form};
 
 use crate::json::{line_of, type_json};
+use crate::words::form_name;
 use serde_json::{Map, Value, put};
 use std::alloc::{AllocError, Global};
-use uefi_audits::check::{CheckSummary, Form, TypeCounts};
-use uefi_tcg::LogEvent;
+use uefi_audits::check::{CheckResult, Form, Mismatch, TypeCounts};
 
-/// Returns an event that matches in none of its type's forms as one line of JSON, without a line's
-/// end.
+/// Appends what was found of the events of a log as JSON: a line with an object for each event that
+/// matches in none of its type's forms, and then a line with one for the types of the events.
 ///
-/// | key | value |
+/// | key of an event | value |
 /// |---|---|
-/// | `index`, `log`, `offset` | what was given |
+/// | `index` | its index in the log |
+/// | `log` | what was given: the log's name |
 /// | `matches` | `false` |
-/// | `register` | the index of the PCR |
+/// | `offset` | where it starts in the log's bytes |
+/// | `register` | the index of its PCR |
 /// | `type` | an object with `name`, if the type has one, and `number` |
 ///
-/// # Errors
+/// The last line's object has the log's name as `log`, and as `checked` an array with an object for
+/// each type of the events, in the order of the types' numbers.
 ///
-/// [`AllocError`] if an allocation fails.
-pub fn mismatch_line(
-    alloc: Global,
-    log: &str,
-    index: usize,
-    offset: usize,
-    event: &LogEvent<'_>,
-) -> Result<String, AllocError> {
-    let mut members = Map::new(alloc);
-    put(&mut members, alloc, "index", Value::from(index))?;
-    let log = Value::try_from_str(alloc, log)?;
-    put(&mut members, alloc, "log", log)?;
-    put(&mut members, alloc, "matches", Value::Bool(false))?;
-    put(&mut members, alloc, "offset", Value::from(offset))?;
-    let register = event.pcr_index().0;
-    put(&mut members, alloc, "register", Value::from(register))?;
-    let event_type = type_json(alloc, event.event_type())?;
-    put(&mut members, alloc, "type", event_type)?;
-    line_of(alloc, &Value::Object(members))
-}
-
-/// Returns the counts of each type as one line of JSON, without a line's end: an object with the
-/// name of the log as `log`, and as `checked` an array with an object for each type, in the order
-/// of the types' numbers.
-///
-/// | key | value |
+/// | key of a type | value |
 /// |---|---|
 /// | `forms` | an object with how many match in each form in which any matches |
 /// | `matches` | how many match |
@@ -55,52 +38,154 @@ pub fn mismatch_line(
 ///
 /// # Errors
 ///
-/// [`AllocError`] if an allocation fails.
-pub fn check_summary_line(
+/// [`AllocError`] if an allocation fails. The text may have grown then.
+#[tactic(auto, unfolding(crate::specs::json::Check::check_lines))]
+pub fn push_check_json(
+    text: &mut String,
     alloc: Global,
     log: &str,
-    summary: &CheckSummary,
-) -> Result<String, AllocError> {
-    let mut types = Vec::new(alloc);
-    for counts in summary.types() {
-        types.push(counts_json(alloc, counts)?)?;
+    found: &CheckResult<'_>,
+) -> Result<(), AllocError>
+    ensures { OnOk result (AppendsText text.old text.new (check_lines log.now
+        (map mismatch_of found.now.mismatches.items) found.now.types.items)) }
+{
+    push_mismatches(text, alloc, log, found.mismatches.as_slice())?;
+    push_types(text, alloc, log, found.types.as_slice())
+}
+
+/// Appends a line for each event that matches in none of its type's forms.
+fn push_mismatches(
+    text: &mut String,
+    alloc: Global,
+    log: &str,
+    mismatches: &[Mismatch<'_>],
+) -> Result<(), AllocError>
+    ensures { OnOk result (AppendsText text.old text.new
+        (flat_map (mismatch_line log.now) (map mismatch_of mismatches.now))) }
+{
+    for mismatch in mismatches {
+        push_mismatch(text, alloc, log, mismatch)?;
     }
+    Ok(())
+}
+
+/// Appends the line of an event that matches in none of its type's forms.
+fn push_mismatch(
+    text: &mut String,
+    alloc: Global,
+    log: &str,
+    mismatch: &Mismatch<'_>,
+) -> Result<(), AllocError>
+    ensures { OnOk result
+        (AppendsText text.old text.new (mismatch_line log.now (mismatch_of mismatch.now))) }
+{
+    let value = mismatch_json(alloc, log, mismatch)?;
+    let line = line_of(alloc, &value)?;
+    writeln!(text, "{line}")
+}
+
+/// Returns an event that matches in none of its type's forms.
+#[tactic(auto, unfolding(crate::specs::json::Check::mismatch_json))]
+fn mismatch_json(alloc: Global, log: &str, mismatch: &Mismatch<'_>) -> Result<Value, AllocError>
+    ensures { IfOk result
+        (λ value. view value ≡ mismatch_json log.now (mismatch_of mismatch.now)) }
+{
+    let entry = &mismatch.entry;
     let mut members = Map::new(alloc);
-    put(&mut members, alloc, "checked", Value::Array(types))?;
+    put(&mut members, alloc, "index", Value::from(mismatch.index))?;
     let log = Value::try_from_str(alloc, log)?;
     put(&mut members, alloc, "log", log)?;
-    line_of(alloc, &Value::Object(members))
+    put(&mut members, alloc, "matches", Value::Bool(false))?;
+    put(&mut members, alloc, "offset", Value::from(entry.offset))?;
+    let register = entry.event.pcr_index().0;
+    put(&mut members, alloc, "register", Value::from(register))?;
+    let event_type = type_json(alloc, entry.event.event_type())?;
+    put(&mut members, alloc, "type", event_type)?;
+    Ok(Value::Object(members))
+}
+
+/// Appends the line of the types.
+fn push_types(
+    text: &mut String,
+    alloc: Global,
+    log: &str,
+    types: &[TypeCounts],
+) -> Result<(), AllocError>
+    ensures { OnOk result (AppendsText text.old text.new (types_line log.now types.now)) }
+{
+    let value = types_json(alloc, log, types)?;
+    let line = line_of(alloc, &value)?;
+    writeln!(text, "{line}")
+}
+
+/// Returns the counts of the types.
+#[tactic(auto, unfolding(crate::specs::json::Check::types_json))]
+fn types_json(alloc: Global, log: &str, types: &[TypeCounts]) -> Result<Value, AllocError>
+    ensures { IfOk result (λ value. view value ≡ types_json log.now types.now) }
+{
+    let mut members = Map::new(alloc);
+    let checked = Value::Array(each_type(alloc, types)?);
+    put(&mut members, alloc, "checked", checked)?;
+    let log = Value::try_from_str(alloc, log)?;
+    put(&mut members, alloc, "log", log)?;
+    Ok(Value::Object(members))
+}
+
+/// Returns the counts of each type.
+fn each_type(alloc: Global, types: &[TypeCounts]) -> Result<Vec<Value>, AllocError>
+    ensures { IfOk result (λ values. map view values.items ≡ map counts_json types.now) }
+{
+    let mut values = Vec::new(alloc);
+    for counts in types {
+        let value = counts_json(alloc, counts)?;
+        values.push(value)?;
+    }
+    Ok(values)
 }
 
 /// Returns the counts of a type.
-fn counts_json(alloc: Global, counts: &TypeCounts) -> Result<Value, AllocError> {
+#[tactic(auto, unfolding(crate::specs::json::Check::counts_json))]
+fn counts_json(alloc: Global, counts: &TypeCounts) -> Result<Value, AllocError>
+    ensures { IfOk result (λ value. view value ≡ counts_json counts.now) }
+{
     let mut members = Map::new(alloc);
     let forms = forms_json(alloc, counts)?;
     put(&mut members, alloc, "forms", forms)?;
-    let matching = counts.matching();
-    put(&mut members, alloc, "matches", Value::from(matching))?;
-    let matches_none = counts.matches_none;
-    put(
-        &mut members,
-        alloc,
-        "matches_none",
-        Value::from(matches_none),
-    )?;
-    let not_in_log = counts.not_in_log;
-    put(&mut members, alloc, "not_in_log", Value::from(not_in_log))?;
+    let (matches, none) = (counts.matches, counts.matches_none);
+    put(&mut members, alloc, "matches", Value::from(matches))?;
+    put(&mut members, alloc, "matches_none", Value::from(none))?;
+    let outside = counts.not_in_log;
+    put(&mut members, alloc, "not_in_log", Value::from(outside))?;
     let event_type = type_json(alloc, counts.event_type)?;
     put(&mut members, alloc, "type", event_type)?;
     Ok(Value::Object(members))
 }
 
 /// Returns how many match in each form in which any matches.
-fn forms_json(alloc: Global, counts: &TypeCounts) -> Result<Value, AllocError> {
+fn forms_json(alloc: Global, counts: &TypeCounts) -> Result<Value, AllocError>
+    ensures { IfOk result (λ value. view value
+        ≡ object (forms_members counts.now.by_form all_forms)) }
+{
     let mut members = Map::new(alloc);
     for form in Form::ALL {
-        let count = counts.matching_in(form);
-        if count > 0 {
-            put(&mut members, alloc, form.name(), Value::from(count))?;
-        }
+        put_form(&mut members, alloc, counts.matching_in(form), form)?;
     }
     Ok(Value::Object(members))
+}
+
+/// Puts in how many match in a form, if any does.
+#[tactic(auto, unfolding(crate::specs::json::Check::with_form))]
+fn put_form(
+    members: &mut Map<String, Value>,
+    alloc: Global,
+    count: u64,
+    form: Form,
+) -> Result<(), AllocError>
+    ensures { OnOk result (members_view members.new.entries
+        ≡ with_form count form (members_view members.old.entries)) }
+{
+    if count == 0 {
+        return Ok(());
+    }
+    put(members, alloc, form_name(form), Value::from(count))
 }

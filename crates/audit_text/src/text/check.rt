@@ -1,17 +1,23 @@
 //! The lines of what was checked.
-//!
-//! These calls have no contract on the text that they append.
 
-use std::alloc::AllocError;
-use uefi_audits::check::{CheckSummary, Checked, Form, TypeCounts};
-use uefi_tcg::{EventType, LogEvent};
+ghost use Rattle.std.specs.Prelude.{◌≡◌, ◌++◌, flat_map, map, IfOk, OnOk};
+ghost use Rattle.uefi_base.specs.Appending.{AppendsText};
+ghost use Rattle.uefi_audits.specs.CheckResult.{all_forms, mismatch_of};
+ghost use Rattle.audit_text.specs.text.Check.{check_text, counts_line, form_texts, if_any, in_parentheses, mismatch_line};
+ghost use Rattle.audit_text.specs.private.Forms.{AppendsNext};
 
-/// Appends a line for an event that matches in none of its type's forms; nothing for another. The
-/// name is that of its log's file, the index is the event's, and the offset is where it starts in
-/// the log's bytes.
+use crate::words::{ShownName, form_name, push_type};
+use std::alloc::{AllocError, Allocator};
+use uefi_audits::check::{CheckResult, Form, Mismatch, TypeCounts};
+
+/// Appends what was found of the events of a log: a line for each that matches in none of its type's
+/// forms, and then one for each type of the events, in the order of the types' numbers. The name is
+/// that of the log's file.
 ///
 /// ```text
 /// NAME: event 5 at offset 266 (EV_SEPARATOR, PCR 0) matches in none of the forms of its type
+/// EV_SEPARATOR: 7 match (7 data), 1 don't match, 0 not in the log
+/// EV_IPL: 3 match (2 command, 1 narrowed), 0 don't match, 4 not in the log
 /// ```
 ///
 /// A type without a name is its number, as `0x80000011`.
@@ -19,78 +25,109 @@ use uefi_tcg::{EventType, LogEvent};
 /// # Errors
 ///
 /// [`AllocError`] if an allocation fails. The text may have grown then.
-pub fn push_check(
-    text: &mut String,
+#[tactic(auto, unfolding(crate::specs::text::Check::check_text))]
+pub fn push_check<A: Allocator>(
+    text: &mut String<A>,
     name: &str,
-    index: usize,
-    offset: usize,
-    event: &LogEvent<'_>,
-    checked: Checked,
-) -> Result<(), AllocError> {
-    if checked != Checked::MatchesNone {
-        return Ok(());
+    found: &CheckResult<'_, A>,
+) -> Result<(), AllocError>
+    ensures { OnOk result (AppendsText text.old text.new (check_text name.now
+        (map mismatch_of found.now.mismatches.items) found.now.types.items)) }
+{
+    push_mismatches(text, name, found.mismatches.as_slice())?;
+    push_types(text, found.types.as_slice())
+}
+
+/// Appends a line for each event that matches in none of its type's forms.
+fn push_mismatches<A: Allocator>(
+    text: &mut String<A>,
+    name: &str,
+    mismatches: &[Mismatch<'_>],
+) -> Result<(), AllocError>
+    ensures { OnOk result (AppendsText text.old text.new
+        (flat_map (mismatch_line name.now) (map mismatch_of mismatches.now))) }
+{
+    for mismatch in mismatches {
+        push_mismatch(text, name, mismatch)?;
     }
+    Ok(())
+}
+
+/// Appends the line of an event that matches in none of its type's forms.
+#[tactic(auto, unfolding(crate::specs::text::Check::mismatch_line))]
+fn push_mismatch<A: Allocator>(
+    text: &mut String<A>,
+    name: &str,
+    mismatch: &Mismatch<'_>,
+) -> Result<(), AllocError>
+    ensures { OnOk result
+        (AppendsText text.old text.new (mismatch_line name.now (mismatch_of mismatch.now))) }
+{
+    let (name, index, entry) = (ShownName(name), mismatch.index, &mismatch.entry);
+    let offset = entry.offset;
     write!(text, "{name}: event {index} at offset {offset} (")?;
-    push_type(text, event.event_type())?;
-    let pcr = event.pcr_index().0;
+    push_type(text, entry.event.event_type())?;
+    let pcr = entry.event.pcr_index().0;
     writeln!(
         text,
         ", PCR {pcr}) matches in none of the forms of its type"
     )
 }
 
-/// Appends a line for each type of the events that were counted, in the order of the types'
-/// numbers.
-///
-/// ```text
-/// EV_SEPARATOR: 8 match (8 data), 0 don't match, 0 not in the log
-/// EV_IPL: 3 match (2 command, 1 narrowed), 1 don't match, 4 not in the log
-/// ```
-///
-/// # Errors
-///
-/// [`AllocError`] if an allocation fails. The text may have grown then.
-pub fn push_check_summary(text: &mut String, summary: &CheckSummary) -> Result<(), AllocError> {
-    for counts in summary.types() {
+/// Appends a line for each type.
+fn push_types<A: Allocator>(text: &mut String<A>, types: &[TypeCounts]) -> Result<(), AllocError>
+    ensures { OnOk result (AppendsText text.old text.new (flat_map counts_line types.now)) }
+{
+    for counts in types {
         push_counts(text, counts)?;
     }
     Ok(())
 }
 
 /// Appends the line of a type.
-fn push_counts(text: &mut String, counts: &TypeCounts) -> Result<(), AllocError> {
+#[tactic(auto, unfolding(crate::specs::text::Check::counts_line))]
+fn push_counts<A: Allocator>(text: &mut String<A>, counts: &TypeCounts) -> Result<(), AllocError>
+    ensures { OnOk result (AppendsText text.old text.new (counts_line counts.now)) }
+{
     push_type(text, counts.event_type)?;
-    let matching = counts.matching();
-    write!(text, ": {matching} match")?;
+    let matches = counts.matches;
+    write!(text, ": {matches} match")?;
     push_forms(text, counts)?;
     let (none, outside) = (counts.matches_none, counts.not_in_log);
     writeln!(text, ", {none} don't match, {outside} not in the log")
 }
 
 /// Appends in parentheses how many events match in each form, if any matches.
-fn push_forms(text: &mut String, counts: &TypeCounts) -> Result<(), AllocError> {
-    let mut before = " (";
+fn push_forms<A: Allocator>(text: &mut String<A>, counts: &TypeCounts) -> Result<(), AllocError>
+    ensures { OnOk result (AppendsText text.old text.new
+        (in_parentheses (form_texts counts.now.by_form all_forms))) }
+{
+    let mut any = false;
     for form in Form::ALL {
-        let count = counts.matching_in(form);
-        if count > 0 {
-            let name = form.name();
-            write!(text, "{before}{count} {name}")?;
-            before = ", ";
-        }
+        any = push_form(text, any, counts.matching_in(form), form)?;
     }
-    if before == ", " {
+    if any {
         text.push(')')?;
     }
     Ok(())
 }
 
-/// Appends the name of a type, or its number.
-fn push_type(text: &mut String, event_type: EventType) -> Result<(), AllocError> {
-    match event_type.name() {
-        Some(name) => text.push_str(name),
-        None => {
-            let number = event_type.0;
-            write!(text, "0x{number:x}")
-        }
+/// Appends how many events match in a form, if any does. Returns whether any does in this form or
+/// in one before it.
+#[tactic(auto, unfolding(crate::specs::text::Check::if_any, crate::specs::private::Forms::next_text))]
+fn push_form<A: Allocator>(
+    text: &mut String<A>,
+    any: bool,
+    count: u64,
+    form: Form,
+) -> Result<bool, AllocError>
+    ensures { IfOk result (AppendsNext any (if_any count form) text.old text.new) }
+{
+    if count == 0 {
+        return Ok(any);
     }
+    let before = if any { ", " } else { " (" };
+    let name = form_name(form);
+    write!(text, "{before}{count} {name}")?;
+    Ok(true)
 }

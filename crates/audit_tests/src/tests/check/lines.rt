@@ -1,10 +1,11 @@
-use audit_text::json::{check_summary_line, mismatch_line};
-use audit_text::text::{push_check, push_check_summary};
-use std::alloc::Global;
+use audit_text::json::push_check_json;
+use audit_text::text::push_check;
+use pcr_replay::ReadLog;
+use std::alloc::{AllocError, Allocator, Global};
 use std::test::Fail;
-use test_support::{bytes, same_text};
-use uefi_audits::check::{CheckSummary, Checked, check};
-use uefi_tcg::{LastEntry, Log};
+use test_support::{bytes, same_text, takes_memory};
+use uefi_audits::check::{CheckResult, Form, TypeCounts, check_entries};
+use uefi_tcg::{LastEntry, Log, LogEntry};
 
 /// A separator that matches and one that doesn't, a command of GRUB, a file of GRUB by its name, a
 /// section of systemd-stub, and an event of a type without a name.
@@ -35,37 +36,21 @@ const JSON_LINES: &str = "{\"index\":1,\"log\":\"LOG\",\"matches\":false,\"offse
      matches\":0,\"matches_none\":0,\"not_in_log\":1,\"type\":{\"number\":2\
      147483665}}],\"log\":\"LOG\"}\n";
 
-/// Returns the lines of a log's events and of their summary.
+/// Returns the lines of what is found of a log's events.
 fn lines(alloc: Global, input: &[u8]) -> Result<String, Fail> {
+    let read = ReadLog::new(alloc, Log::new(input, LastEntry::Unknown))?;
+    let found = check_entries(alloc, read.entries())?;
     let mut text = String::new(alloc);
-    let mut summary = CheckSummary::new(alloc);
-    let mut index: usize = 0;
-    for entry in Log::new(input, LastEntry::Unknown).entries() {
-        let checked = check(alloc, &entry.event)?;
-        push_check(&mut text, "LOG", index, entry.offset, &entry.event, checked)?;
-        summary.add(entry.event.event_type(), checked)?;
-        index = index.saturating_add(1);
-    }
-    push_check_summary(&mut text, &summary)?;
+    push_check(&mut text, "LOG", &found)?;
     Ok(text)
 }
 
 /// Returns the same in JSON.
 fn json_lines(alloc: Global, input: &[u8]) -> Result<String, Fail> {
+    let read = ReadLog::new(alloc, Log::new(input, LastEntry::Unknown))?;
+    let found = check_entries(alloc, read.entries())?;
     let mut text = String::new(alloc);
-    let mut summary = CheckSummary::new(alloc);
-    let mut index: usize = 0;
-    for entry in Log::new(input, LastEntry::Unknown).entries() {
-        let checked = check(alloc, &entry.event)?;
-        if checked == Checked::MatchesNone {
-            let line = mismatch_line(alloc, "LOG", index, entry.offset, &entry.event)?;
-            writeln!(text, "{line}")?;
-        }
-        summary.add(entry.event.event_type(), checked)?;
-        index = index.saturating_add(1);
-    }
-    let line = check_summary_line(alloc, "LOG", &summary)?;
-    writeln!(text, "{line}")?;
+    push_check_json(&mut text, alloc, "LOG", &found)?;
     Ok(text)
 }
 
@@ -81,4 +66,61 @@ fn an_event_that_matches_in_no_form_has_an_object(rt: HostRuntime) -> Result<(),
     let input = bytes(rt.alloc(), LOG)?;
     let found = json_lines(rt.alloc(), input.as_slice())?;
     same_text("the lines of JSON", found.as_str(), JSON_LINES)
+}
+
+/// Returns the index and the offset of each mismatch, and the counts of each type, in words.
+fn found_words(alloc: Global, found: &CheckResult<'_>) -> Result<String, Fail> {
+    let mut words = String::new(alloc);
+    for mismatch in found.mismatches.as_slice() {
+        let (index, offset) = (mismatch.index, mismatch.entry.offset);
+        write!(words, "{index} at {offset};")?;
+    }
+    for counts in found.types.as_slice() {
+        push_counts(&mut words, counts)?;
+    }
+    Ok(words)
+}
+
+/// Appends the counts of a type.
+fn push_counts(words: &mut String, counts: &TypeCounts) -> Result<(), AllocError> {
+    let (number, matches) = (counts.event_type.0, counts.matches);
+    let (data, narrowed) = (
+        counts.matching_in(Form::Data),
+        counts.matching_in(Form::Narrowed),
+    );
+    let (none, outside) = (counts.matches_none, counts.not_in_log);
+    write!(
+        words,
+        " {number:x}: {matches} {data} {narrowed} {none} {outside};"
+    )
+}
+
+#[test]
+fn events_are_counted_by_type(rt: HostRuntime) -> Result<(), Fail> {
+    let input = bytes(rt.alloc(), LOG)?;
+    let log = Log::new(input.as_slice(), LastEntry::Unknown);
+    let read = ReadLog::new(rt.alloc(), log)?;
+    let found = check_entries(rt.alloc(), read.entries())?;
+    let words = found_words(rt.alloc(), &found)?;
+    same_text(
+        "the log",
+        words.as_str(),
+        "1 at 107; 4: 1 1 0 1 0; d: 2 0 1 0 1; 80000011: 0 0 0 0 1;",
+    )
+}
+
+/// Returns how many mismatches and how many types are found, if memory suffices.
+fn found_counts<A: Allocator + Copy>(heap: A, entries: &[LogEntry<'_>]) -> Option<(usize, usize)> {
+    let found = check_entries(heap, entries).ok()?;
+    Some((found.mismatches.len(), found.types.len()))
+}
+
+#[test]
+fn memory_runs_out_where_it_is_refused(rt: HostRuntime) -> Result<(), Fail> {
+    let input = bytes(rt.alloc(), LOG)?;
+    let log = Log::new(input.as_slice(), LastEntry::Unknown);
+    let read = ReadLog::new(rt.alloc(), log)?;
+    takes_memory(rt.alloc(), &(1, 3), |heap| {
+        found_counts(heap, read.entries())
+    })
 }

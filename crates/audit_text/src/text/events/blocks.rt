@@ -1,8 +1,8 @@
 use crate::text::LogFile;
 use crate::text::events::hex_lines::push_hex;
-use crate::text::events::names::{push_algorithm, push_type};
+use crate::text::events::names::push_algorithm;
 use crate::text::events::said::push_content;
-use crate::words::ShownName;
+use crate::words::{ShownName, push_type};
 use std::alloc::{AllocError, Global};
 use uefi_audits::content::{Content, read_content};
 use uefi_tcg::v2::PcrEventDigests;

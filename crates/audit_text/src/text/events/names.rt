@@ -3,18 +3,7 @@ use crate::words::names::algorithm_name;
 use crate::words::texts::{byte_text, name_text, text_before_nul};
 use std::alloc::{AllocError, Global};
 use uefi_base::UnalignedSlice;
-use uefi_tcg::{AlgorithmId, EventType};
-
-/// Appends the name of a type of events, or its number.
-pub(crate) fn push_type(text: &mut String, event_type: EventType) -> Result<(), AllocError> {
-    match event_type.name() {
-        Some(name) => text.push_str(name),
-        None => {
-            let number = event_type.0;
-            write!(text, "0x{number:x}")
-        }
-    }
-}
+use uefi_tcg::AlgorithmId;
 
 /// Appends the name of an algorithm, or its number.
 pub(crate) fn push_algorithm(text: &mut String, algorithm: AlgorithmId) -> Result<(), AllocError> {
