@@ -1,6 +1,7 @@
 //! Whether the digests of an event are the hash of what its type measures.
 //!
-//! Begin with [`check`].
+//! Begin with [`check_entries`], which returns what is found of all events of a log. [`check`] returns
+//! what is found of one.
 
 ghost use Rattle.std.specs.Prelude.{◌≡◌, ◌↔◌, ◌++◌, IfOk, IsTrue, MatchOption};
 ghost use Rattle.std.specs.List.{list_all};
