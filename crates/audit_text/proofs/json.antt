@@ -1,9 +1,7 @@
-pub mod SizeRows
 pub mod NoFloatsInContent
 pub mod NoFloats
 pub mod NoFloatsInReplay
 pub mod NoFloatsInVerdict
 pub mod NoFloatsInDiff
 pub mod Controls
-pub mod EventLines
 pub mod NoFloatsInCheck

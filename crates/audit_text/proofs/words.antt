@@ -1,2 +1,4 @@
 pub mod FirstItems
 pub mod BeforeNul
+pub mod Events
+pub mod SizeRows

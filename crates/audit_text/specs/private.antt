@@ -1,3 +1,2 @@
 -- Words of private contracts and ghost fields alone.
-pub mod Entries
 pub mod Forms

@@ -6,3 +6,6 @@ pub mod Remarks
 pub mod Verdict
 pub mod Differences
 pub mod Check
+pub mod EventParts
+pub mod EventContents
+pub mod Events

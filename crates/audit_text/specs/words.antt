@@ -7,3 +7,5 @@ pub mod Path
 pub mod Said
 pub mod Types
 pub mod Forms
+pub mod Signatures
+pub mod Events

@@ -16,7 +16,7 @@
 pub use self::banks::{push_bank, push_banks};
 pub use self::check::push_check;
 pub use self::diff::push_differences;
-pub use self::events::push_event_blocks;
+pub use self::events::{push_event_blocks, push_header_block};
 pub use self::ignored::push_ignored;
 pub use self::judgement::{push_judgement, push_many_algorithms};
 pub use self::start::push_start;

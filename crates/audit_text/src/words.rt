@@ -20,5 +20,6 @@ mod numbers;
 mod path;
 mod said;
 mod shown;
+pub(crate) mod signatures;
 pub(crate) mod texts;
 mod types;

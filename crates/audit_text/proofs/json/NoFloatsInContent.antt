@@ -20,7 +20,8 @@ use Rattle.audit_text.specs.json.Firmware.{blob_json, described_json, gpt_json, 
 use Rattle.audit_text.specs.json.Algorithm.{algorithm_json, name_or_number}
 use Rattle.audit_text.specs.words.Names.{algorithm_name}
 use Rattle.audit_text.specs.json.Parts.{node_json, nodes_json, path_json, with_rest, with_text}
-use Rattle.audit_text.specs.json.Values.{boot_option_json, certificate_json, hash_json, list_json, longest_hash, number_json, signature_json, value_json, variable_json, with_value}
+use Rattle.audit_text.specs.words.Signatures.{longest_hash}
+use Rattle.audit_text.specs.json.Values.{boot_option_json, certificate_json, hash_json, list_json, number_json, signature_json, value_json, variable_json, with_value}
 
 named : (name : Option (List ℕ)) (n : ℕ) → has_float (name_or_number name n) ≡ false
 named (Some name) n = refl
@@ -111,14 +112,13 @@ variable_members payload guid name =
 
 with_its_value : (value : values.Value) (payload guid name : List ℕ)
     → has_float (object (with_value (value_json value) (variable_members payload guid name))) ≡ false
-unfolding value_json
 with_its_value values.unread payload guid name = refl
 with_its_value (values.boot_option option) payload guid name = rw (boot_option_has option) refl
 with_its_value (values.boot_order ns) payload guid name = rw (numbers ns) refl
 with_its_value (values.signature_lists them) payload guid name = rw (lists them) refl
 with_its_value (values.signature read) payload guid name = rw (signature_has read) refl
 
-variable_has : (read : Variable) (value : values.Value) → has_float (variable_json read value) ≡ false
+variable_has : (read : Variable) (value : values.Value) → has_float (variable_json read (value_json value)) ≡ false
 unfolding variable_json
 variable_has read value = with_its_value value _ _ _
 

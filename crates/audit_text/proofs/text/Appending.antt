@@ -12,6 +12,11 @@ pub appended : (old now new one other : List ℕ) → now ≡ old ++ one → new
 appended old now new one other first then =
     then ∙ ap (λ t. t ++ other) first ∙ append_assoc old one other
 
+pub three_appended : (old a b c one two new : List ℕ) → one ≡ old ++ a → two ≡ one ++ b → new ≡ two ++ c
+    → new ≡ old ++ (a ++ (b ++ c))
+three_appended old a b c one two new first second third =
+    third ∙ ap (λ t. t ++ c) (second ∙ ap (λ t. t ++ b) first) ∙ append_assoc (old ++ a) b c ∙ append_assoc old a (b ++ c)
+
 -- The line of one more PCR.
 pub lines_upto : (f : HeldPcr → List ℕ) (all : List HeldPcr) (index : ℕ) (item : HeldPcr)
     (old now next : List ℕ) → index < length all → now ≡ old ++ flat_map f (take index all)

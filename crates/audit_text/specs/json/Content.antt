@@ -7,7 +7,7 @@ use Rattle.uefi_audits.specs.content.Content.{Content, unread, text, separator, 
 use Rattle.audit_text.specs.json.Firmware.{blob_json, described_json, gpt_json, header_json, tagged_events_json}
 use Rattle.audit_text.specs.json.Parts.{only, path_json, with_rest, with_text}
 use Rattle.audit_text.specs.words.Texts.{event_text, version_text}
-use Rattle.audit_text.specs.json.Values.{variable_json}
+use Rattle.audit_text.specs.json.Values.{value_json, variable_json}
 
 -- An image: its numbers, its device path, the bytes after that, and the path as text, if there is one.
 unfoldable pub image_json : Image → Option (List Node) → Data
@@ -29,5 +29,5 @@ content_json (blob read) = only (codes "blob") (blob_json read)
 content_json (described_blob read) = only (codes "blob") (described_json read)
 content_json (tagged events rest) = only (codes "tagged_events") (tagged_events_json events rest)
 content_json (gpt read) = only (codes "gpt") (gpt_json read)
-content_json (variable read value) = only (codes "variable") (variable_json read value)
+content_json (variable read value) = only (codes "variable") (variable_json read (value_json value))
 content_json (image read nodes) = only (codes "image") (image_json read nodes)

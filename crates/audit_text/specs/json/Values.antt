@@ -12,6 +12,7 @@ use Rattle.uefi_tcg.specs.content.Variable.{Variable}
 use Rattle.audit_text.specs.words.Path.{path_text}
 use Rattle.uefi_audits.specs.content.Value.{Value, unread, boot_option, boot_order, signature_lists, signature}
 use Rattle.audit_text.specs.json.Parts.{nodes_json, only}
+use Rattle.audit_text.specs.words.Signatures.{longest_hash}
 use Rattle.audit_text.specs.words.Texts.{before_nul, unit_text}
 
 -- A boot option: its attributes, its description, of which no unit is NUL, the data that the image is given in hex, the nodes of its path, and the path as text.
@@ -26,10 +27,6 @@ boot_option_json option =
 -- The number of an option.
 abbrev pub number_json : ℕ → Data
 number_json n = number (unsigned n)
-
--- The longest data of a signature that are shown whole: a hash of 64 bytes, with the time of a revocation.
-abbrev pub longest_hash : ℕ
-longest_hash = 80
 
 -- Data of a signature: in hex, or, as those of a certificate, by their length and their SHA-256.
 unfoldable pub hash_json : Signature → Data
@@ -54,7 +51,7 @@ list_json list =
     (member (codes "type") (string (guid_text list.kind)) no_members)))
 
 -- What a value says, if it is read: an object with one key.
-unfoldable pub value_json : Value → Option Data
+abbrev pub value_json : Value → Option Data
 value_json unread = None
 value_json (boot_option read) = Some (only (codes "boot_option") (boot_option_json read))
 value_json (boot_order numbers) = Some (only (codes "boot_order") (array (items_of (map number_json numbers))))
@@ -66,9 +63,9 @@ abbrev pub with_value : Option Data → Members → Members
 with_value (Some value) members = put (codes "value") value members
 with_value None members = members
 
--- A variable: its data in hex, its GUID, the text of its name, and what its value says.
-unfoldable pub variable_json : Variable → Value → Data
+-- A variable: its data in hex, its GUID, the text of its name, and this of its value.
+unfoldable pub variable_json : Variable → Option Data → Data
 variable_json read value =
-    object (with_value (value_json value) (member (codes "data") (string (encode_lower read.payload))
+    object (with_value value (member (codes "data") (string (encode_lower read.payload))
     (member (codes "guid") (string (guid_text read.guid))
     (member (codes "name") (string (flat_map unit_text read.name)) no_members))))

@@ -8,11 +8,12 @@ ghost use Rattle.uefi_audits.specs.content.Views.{content_of};
 use crate::json::content::firmware::{blob_json, described_json, header_json, tagged_events_json};
 use crate::json::content::gpt::gpt_json;
 use crate::json::content::path::{only, path_json, put_rest, put_text};
-use crate::json::content::values::variable_json;
+use crate::json::content::signatures::{lists_json, signature_json};
+use crate::json::content::variable::{boot_option_json, numbers_json, variable_json};
 use crate::words::texts::{event_text, version_text};
 use serde_json::{Map, Value, put};
 use std::alloc::{AllocError, Global};
-use uefi_audits::content::Content;
+use uefi_audits::content::EventContent;
 use uefi_path::DevicePath;
 use uefi_tcg::content::ImageLoadEvent;
 
@@ -21,35 +22,59 @@ mod gpt;
 mod guid;
 mod path;
 mod signatures;
-mod values;
+mod variable;
 
 /// Returns what data say as JSON: an object with one key for the form, or `null`.
 #[tactic(auto, unfolding(crate::specs::json::Content::content_json))]
-pub(crate) fn content_json(alloc: Global, content: &Content<'_>) -> Result<Value, AllocError>
+pub(crate) fn content_json(alloc: Global, content: &EventContent<'_>) -> Result<Value, AllocError>
     ensures { IfOk result (λ value. view value ≡ content_json (content_of content.now)) }
 {
     match content {
-        Content::Unread => Ok(Value::Null),
-        Content::Text(text) => only(alloc, "text", Value::try_from_str(alloc, text)?),
-        Content::Separator(number) => only(alloc, "separator", Value::from(*number)),
-        Content::Locality(locality) => only(alloc, "locality", Value::from(*locality)),
-        Content::Header(header) => only(alloc, "header", header_json(alloc, header)?),
-        Content::LoaderText(text) => only(alloc, "text", Value::String(event_text(alloc, text)?)),
-        Content::CrtmVersion(version) => {
+        EventContent::Unread => Ok(Value::Null),
+        EventContent::Text(text) => only(alloc, "text", Value::try_from_str(alloc, text)?),
+        EventContent::Separator(number) => only(alloc, "separator", Value::from(*number)),
+        EventContent::Locality(locality) => only(alloc, "locality", Value::from(*locality)),
+        EventContent::Header(header) => only(alloc, "header", header_json(alloc, header)?),
+        EventContent::LoaderText(text) => only(
+            alloc,
+            "text",
+            Value::String(event_text(alloc, text)?),
+        ),
+        EventContent::CrtmVersion(version) => {
             only(
                 alloc,
                 "crtm_version",
                 Value::String(version_text(alloc, version)?),
             )
         }
-        Content::Blob(blob) => only(alloc, "blob", blob_json(alloc, blob)?),
-        Content::DescribedBlob(blob) => only(alloc, "blob", described_json(alloc, blob)?),
-        Content::Tagged(tagged) => only(alloc, "tagged_events", tagged_events_json(alloc, tagged)?),
-        Content::Gpt(gpt) => only(alloc, "gpt", gpt_json(alloc, gpt)?),
-        Content::Variable(variable, value) => {
-            only(alloc, "variable", variable_json(alloc, variable, value)?)
+        EventContent::Blob(blob) => only(alloc, "blob", blob_json(alloc, blob)?),
+        EventContent::DescribedBlob(blob) => only(alloc, "blob", described_json(alloc, blob)?),
+        EventContent::Tagged(tagged) => only(
+            alloc,
+            "tagged_events",
+            tagged_events_json(alloc, tagged)?,
+        ),
+        EventContent::Gpt(gpt) => only(alloc, "gpt", gpt_json(alloc, gpt)?),
+        EventContent::Variable(variable) => variable_json(alloc, variable, None),
+        EventContent::BootOption(variable, option) => {
+            let value = only(alloc, "boot_option", boot_option_json(alloc, option)?)?;
+            variable_json(alloc, variable, Some(value))
         }
-        Content::Image(image, path) => only(alloc, "image", image_json(alloc, image, path)?),
+        EventContent::BootOrder(variable, order) => {
+            let numbers = Value::Array(numbers_json(alloc, order)?);
+            let value = only(alloc, "boot_order", numbers)?;
+            variable_json(alloc, variable, Some(value))
+        }
+        EventContent::SignatureLists(variable, lists) => {
+            let lists = Value::Array(lists_json(alloc, lists)?);
+            let value = only(alloc, "signature_lists", lists)?;
+            variable_json(alloc, variable, Some(value))
+        }
+        EventContent::Signature(variable, signature) => {
+            let value = only(alloc, "signature", signature_json(alloc, signature)?)?;
+            variable_json(alloc, variable, Some(value))
+        }
+        EventContent::Image(image, path) => only(alloc, "image", image_json(alloc, image, path)?),
     }
 }
 

@@ -10,7 +10,7 @@ use crate::json::{line_of, type_json};
 use crate::words::push_said;
 use serde_json::{Map, Value, put};
 use std::alloc::{AllocError, Global};
-use uefi_audits::content::Content;
+use uefi_audits::content::EventContent;
 use uefi_audits::diff::{ABOVE, LogSide, NumberedEntry, PcrDifference};
 
 /// Appends how the events of two logs differ, as JSON: for each PCR whose events differ one line
@@ -172,7 +172,7 @@ fn found_json(alloc: Global, found: &NumberedEntry<'_>) -> Result<Value, AllocEr
 
 /// Returns what data say; `null` if they say nothing.
 #[tactic(auto, unfolding(crate::specs::json::Diff::says_json))]
-fn says_json(alloc: Global, content: &Content<'_>) -> Result<Value, AllocError>
+fn says_json(alloc: Global, content: &EventContent<'_>) -> Result<Value, AllocError>
     ensures { IfOk result (λ value. view value ≡ says_json (said (content_of content.now))) }
 {
     let mut words = String::new(alloc);

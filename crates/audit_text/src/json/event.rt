@@ -11,7 +11,7 @@ use crate::json::digests::{digests_json, hashed_banks};
 use crate::json::line::line_of;
 use serde_json::{Map, Value, json, put};
 use std::alloc::{AllocError, Global};
-use uefi_audits::content::{Content, read_content};
+use uefi_audits::content::{EventContent, read_content};
 use uefi_tcg::{EventType, LogEntry, UintnSize};
 
 /// Returns an event as one line of JSON, without a line's end: an object with the name of its log,
@@ -97,7 +97,7 @@ pub(crate) fn event_json(
     log: &str,
     index: usize,
     entry: &LogEntry<'_>,
-    content: &Content<'_>,
+    content: &EventContent<'_>,
 ) -> Result<Value, AllocError>
     ensures { IfOk result (λ value. view value
         ≡ event_json log.now index (entry_of entry.now) (content_of content.now)) }

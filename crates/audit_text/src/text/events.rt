@@ -1,17 +1,18 @@
 //! The events of a log for a person to read.
 //!
-//! [`push_event_blocks`] appends a block of lines for each event. No call here has a contract on
-//! the text that it appends; [`crate::json::push_events`] has one.
+//! [`push_event_blocks`] appends a block of lines for each event, and [`push_header_block`] one for
+//! the log's header.
 //!
 //! A name or a text of the log is written as [`ShownName`](crate::words::ShownName) displays it, and
 //! a device path as [`uefi_node::to_text`] returns it, so that a log can't forge a line.
 
-pub use self::blocks::push_event_blocks;
+pub use self::blocks::{push_event_blocks, push_header_block};
 
 mod blocks;
+mod content;
+mod firmware;
 mod gpt;
 mod hex_lines;
 mod names;
-mod said;
 mod signatures;
-mod value;
+mod variable;

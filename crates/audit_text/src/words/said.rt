@@ -12,7 +12,7 @@ ghost use Rattle.audit_text.specs.words.Shown.{shown_name};
 use crate::words::texts::character;
 use crate::words::{ShownName, path_text};
 use std::alloc::AllocError;
-use uefi_audits::content::Content;
+use uefi_audits::content::EventContent;
 use uefi_base::UnalignedSlice;
 use uefi_path::DevicePath;
 use uefi_tcg::content::{
@@ -50,29 +50,33 @@ const SHOWN_LENGTH: usize = 80;
 ///
 /// [`AllocError`] if an allocation fails. The text may have grown then.
 #[tactic(auto, unfolding(crate::specs::words::Said::said))]
-pub fn push_said(text: &mut String, content: &Content<'_>) -> Result<(), AllocError>
+pub fn push_said(text: &mut String, content: &EventContent<'_>) -> Result<(), AllocError>
     ensures { OnOk result (AppendsText text.old text.new (said (content_of content.now))) }
 {
     match content {
-        Content::Unread => Ok(()),
-        Content::Text(said) => push_bytes(text, said.as_bytes()),
-        Content::Separator(number) => write!(text, "separator {number}"),
-        Content::Locality(number) => write!(text, "locality {number}"),
-        Content::Header(_) => text.push_str("header"),
-        Content::LoaderText(said) => push_event_text(text, said),
-        Content::CrtmVersion(version) => push_version(text, version),
-        Content::Blob(blob) => push_blob(text, blob),
-        Content::DescribedBlob(described) => {
+        EventContent::Unread => Ok(()),
+        EventContent::Text(said) => push_bytes(text, said.as_bytes()),
+        EventContent::Separator(number) => write!(text, "separator {number}"),
+        EventContent::Locality(number) => write!(text, "locality {number}"),
+        EventContent::Header(_) => text.push_str("header"),
+        EventContent::LoaderText(said) => push_event_text(text, said),
+        EventContent::CrtmVersion(version) => push_version(text, version),
+        EventContent::Blob(blob) => push_blob(text, blob),
+        EventContent::DescribedBlob(described) => {
             text.push_str("blob ")?;
             push_bytes(text, described.description)
         }
-        Content::Tagged(_) => text.push_str("tagged events"),
-        Content::Gpt(gpt) => {
+        EventContent::Tagged(_) => text.push_str("tagged events"),
+        EventContent::Gpt(gpt) => {
             let guid = gpt.header().disk_guid;
             write!(text, "disk {guid}")
         }
-        Content::Variable(variable, _) => push_variable(text, variable),
-        Content::Image(image, path) => push_image(text, image, path),
+        EventContent::Variable(variable)
+        | EventContent::BootOption(variable, _)
+        | EventContent::BootOrder(variable, _)
+        | EventContent::SignatureLists(variable, _)
+        | EventContent::Signature(variable, _) => push_variable(text, variable),
+        EventContent::Image(image, path) => push_image(text, image, path),
     }
 }
 

@@ -1,11 +1,13 @@
 ghost use Rattle.std.specs.Prelude.{◌≡◌, IfOk, encode_utf8, string_bytes};
 ghost use Rattle.std.specs.List.{flat_map};
 ghost use Rattle.uefi_base.specs.Views.{slice_units};
+ghost use Rattle.uefi_path.specs.LoadOptionViews.{load_option_of};
 ghost use Rattle.uefi_tcg.specs.content.Views.{text_of, version_of};
 ghost use Rattle.audit_text.specs.words.Texts.{before_nul, event_text, unit_text, version_text};
 
 use std::alloc::{AllocError, Global};
 use uefi_base::UnalignedSlice;
+use uefi_path::LoadOption;
 use uefi_tcg::content::{CrtmVersion, EventText};
 
 /// Returns units as text, with U+FFFD for each surrogate.
@@ -81,4 +83,13 @@ pub(crate) fn version_text(alloc: Global, version: &CrtmVersion<'_>) -> Result<S
         CrtmVersion::Guid(guid) => guid.to_string(alloc),
         CrtmVersion::Other(text) => event_text(alloc, text),
     }
+}
+
+/// Returns the description of a boot option, without its NUL.
+#[tactic(auto, using(crate::proofs::words::BeforeNul::without_nul))]
+pub(crate) fn description_text(alloc: Global, option: &LoadOption<'_>) -> Result<String, AllocError>
+    ensures { IfOk result (λ text. string_bytes text
+        ≡ flat_map unit_text (before_nul (load_option_of option.now).description)) }
+{
+    text_before_nul(alloc, &option.description())
 }

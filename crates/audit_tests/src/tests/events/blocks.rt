@@ -1,4 +1,5 @@
-use audit_text::text::{LogFile, push_event_blocks};
+use audit_text::text::{push_event_blocks, push_header_block};
+use pcr_replay::ReadLog;
 use std::alloc::Global;
 use std::test::Fail;
 use test_support::each_shows;
@@ -350,12 +351,14 @@ const LOGS: [[&str; 2]; 34] = [
     ["", ""],
 ];
 
-/// Returns the blocks of a log's events.
+/// Returns the block of a log's header, and those of its events.
 pub(super) fn blocks(alloc: Global, bytes: &[u8]) -> Result<String, Fail> {
-    let log = Log::new(bytes, LastEntry::At(bytes.len()));
-    let name = "a log";
+    let log = ReadLog::new(alloc, Log::new(bytes, LastEntry::At(bytes.len())))?;
     let mut text = String::new(alloc);
-    push_event_blocks(&mut text, alloc, &LogFile { name, log })?;
+    if let Some(header) = log.header() {
+        push_header_block(&mut text, alloc, "a log", &header)?;
+    }
+    push_event_blocks(&mut text, alloc, "a log", log.entries(), log.uintn_size())?;
     Ok(text)
 }
 

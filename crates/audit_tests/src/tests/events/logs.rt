@@ -1,4 +1,5 @@
-use audit_text::json::event_line;
+use audit_text::json::{event_line, push_events};
+use pcr_replay::ReadLog;
 use std::alloc::Global;
 use std::test::Fail;
 use test_support::each_shows;
@@ -221,7 +222,20 @@ pub(super) fn lines(alloc: Global, bytes: &[u8]) -> Result<String, Fail> {
     Ok(text)
 }
 
+/// Returns the lines of a log that is read once.
+fn all_lines(alloc: Global, bytes: &[u8]) -> Result<String, Fail> {
+    let log = ReadLog::new(alloc, Log::new(bytes, LastEntry::At(bytes.len())))?;
+    let mut text = String::new(alloc);
+    push_events(&mut text, alloc, "a log", log.entries(), log.uintn_size())?;
+    Ok(text)
+}
+
 #[test]
 fn each_event_has_its_line(rt: HostRuntime) -> Result<(), Fail> {
     each_shows(rt.alloc(), &LOGS, lines)
+}
+
+#[test]
+fn events_have_their_lines_in_order(rt: HostRuntime) -> Result<(), Fail> {
+    each_shows(rt.alloc(), &LOGS, all_lines)
 }

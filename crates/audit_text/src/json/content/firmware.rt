@@ -127,7 +127,7 @@ pub(crate) fn header_json(alloc: Global, header: &EventLogHeader<'_>) -> Result<
 }
 
 /// Returns the sizes of digests by algorithm, in order.
-#[tactic(auto, using(crate::proofs::json::SizeRows::rows_grown, crate::proofs::json::SizeRows::is_there))]
+#[tactic(auto, using(crate::proofs::words::SizeRows::rows_grown, crate::proofs::words::SizeRows::is_there))]
 fn sizes_json(alloc: Global, sizes: &AlgorithmDigestSizes<'_>) -> Result<Vec<Value>, AllocError>
     ensures { IfOk result (λ values. map view values.items ≡ map size_json (table_of sizes.now)) }
 {

@@ -5,14 +5,11 @@ ghost use Rattle.audit_text.specs.json.Values.{certificate_json, hash_json, list
 
 use crate::json::content::guid::guid_json;
 use crate::json::event::hex_json;
+use crate::words::signatures::is_shown_whole;
 use serde_json::{Map, Value, put};
 use sha2::{Digest, Sha256};
 use std::alloc::{AllocError, Global};
 use uefi_tcg::content::{SignatureData, SignatureList, SignatureLists};
-
-/// The longest data of a signature that are shown whole: a hash of 64 bytes, with the time of a
-/// revocation.
-pub(crate) const LONGEST_HASH: usize = 80;
 
 /// Returns the lists of a signature database, in order.
 pub(crate) fn lists_json(
@@ -65,7 +62,7 @@ pub(crate) fn signature_json(
 ) -> Result<Value, AllocError>
     ensures { IfOk result (λ value. view value ≡ signature_json (signature_of signature.now)) }
 {
-    if signature.data.len() <= LONGEST_HASH {
+    if is_shown_whole(signature.data) {
         hash_json(alloc, signature)
     } else {
         certificate_json(alloc, signature)

@@ -8,7 +8,7 @@ ghost use Rattle.uefi_audits.specs.diff.Views.{numbered_of};
 
 use crate::words::push_said;
 use std::alloc::{AllocError, Global};
-use uefi_audits::content::Content;
+use uefi_audits::content::EventContent;
 use uefi_audits::diff::{NumberedEntry, PcrDifference};
 use uefi_tcg::EventType;
 
@@ -105,7 +105,11 @@ fn push_event(
 
 /// Appends what data say, after a comma; nothing if they say nothing.
 #[tactic(auto, unfolding(crate::specs::text::Differences::words_text))]
-fn push_words(text: &mut String, alloc: Global, content: &Content<'_>) -> Result<(), AllocError>
+fn push_words(
+    text: &mut String,
+    alloc: Global,
+    content: &EventContent<'_>,
+) -> Result<(), AllocError>
     ensures { OnOk result
         (AppendsText text.old text.new (words_text (said (content_of content.now)))) }
 {

@@ -1,20 +1,50 @@
-use crate::text::LogFile;
-use crate::text::events::hex_lines::push_hex;
+ghost use Rattle.std.specs.Prelude.{flat_map, map, OnOk};
+ghost use Rattle.uefi_base.specs.Appending.{AppendsText};
+ghost use Rattle.uefi_tcg.specs.Entries.{with_sha1};
+ghost use Rattle.uefi_tcg.specs.LogViews.{entry_of, event_of};
+ghost use Rattle.uefi_tcg.specs.v2.Views.{digests_of, header_of};
+ghost use Rattle.audit_text.specs.text.Events.{AreEventBlocks, IsEventBody, digest_line, event_start, first_line, header_block};
+ghost use Rattle.audit_text.specs.words.Events.{AppendsSome};
+
+use crate::text::events::content::push_content;
+use crate::text::events::firmware::push_header;
 use crate::text::events::names::push_algorithm;
-use crate::text::events::said::push_content;
 use crate::words::{ShownName, push_type};
 use std::alloc::{AllocError, Global};
-use uefi_audits::content::{Content, read_content};
-use uefi_tcg::v2::PcrEventDigests;
-use uefi_tcg::{AlgorithmId, LogEntry, LogEvent};
+use uefi_audits::content::read_content;
+use uefi_tcg::v2::{EventLogHeader, PcrEventDigests};
+use uefi_tcg::{AlgorithmId, LogEntry, LogEvent, UintnSize};
 
-/// Appends a block of lines for the header of a log of version 2, and for each event of the log, in
-/// order.
+/// Appends a block of lines for the header of a log of version 2.
 ///
 /// ```text
 /// NAME: header at offset 0
 ///   version 2.0, errata 0, platform class 0
 ///   algorithm sha256, 32 bytes
+/// ```
+///
+/// # Errors
+///
+/// [`AllocError`] if an allocation fails. The text may have grown then.
+#[tactic(auto, unfolding(crate::specs::text::Events::header_block))]
+pub fn push_header_block(
+    text: &mut String,
+    alloc: Global,
+    name: &str,
+    header: &EventLogHeader<'_>,
+) -> Result<(), AllocError>
+    ensures { OnOk result (AppendsText text.old text.new
+        (header_block name.now (header_of header.now))) }
+{
+    let name = ShownName(name);
+    writeln!(text, "{name}: header at offset 0")?;
+    push_header(text, alloc, header)
+}
+
+/// Appends a block of lines for each event of a log, in order. The log has a `UINTN` of this size
+/// ([`ReadLog::uintn_size`](pcr_replay::ReadLog::uintn_size)).
+///
+/// ```text
 /// NAME: event 1 at offset 266: PCR 7, EV_EFI_VARIABLE_DRIVER_CONFIG
 ///   sha256 ccfc4bb32888a345bc8aeadaba552b627d99348c767681ab3141f5b01e40a40e
 ///   variable SecureBoot, 8be4df61-93ca-11d2-aa0d-00e098032b8c
@@ -22,8 +52,8 @@ use uefi_tcg::{AlgorithmId, LogEntry, LogEvent};
 ///     01
 /// ```
 ///
-/// The first line of an event has the name of the log's file, the event's index and the offset at
-/// which it starts, its PCR and its type. A line for each digest follows, and what the data say, as
+/// The first line of an event has the name of the log, the event's index and the offset at which it
+/// starts, its PCR and its type. A line for each digest follows, and what the data say, as
 /// [`read_content`] reads them. Data that aren't read are in hex, 32 bytes a line. A type or an
 /// algorithm without a name is its number, as `0x77`.
 ///
@@ -37,47 +67,89 @@ use uefi_tcg::{AlgorithmId, LogEntry, LogEvent};
 pub fn push_event_blocks(
     text: &mut String,
     alloc: Global,
-    file: &LogFile<'_>,
-) -> Result<(), AllocError> {
-    if let Some(header) = file.log.header() {
-        let name = ShownName(file.name);
-        writeln!(text, "{name}: header at offset 0")?;
-        push_content(text, alloc, &Content::Header(header), &[])?;
-    }
-    let uintn_size = file.log.uintn_size();
-    for (index, entry) in file.log.entries().enumerate() {
-        let event = &entry.event;
-        push_first_line(text, file.name, index, &entry)?;
-        push_digests(text, alloc, event)?;
-        let content = read_content(event, uintn_size);
-        push_content(text, alloc, &content, event.event_data())?;
+    name: &str,
+    entries: &[LogEntry<'_>],
+    uintn_size: UintnSize,
+) -> Result<(), AllocError>
+    ensures { OnOk result (AppendsSome
+        (AreEventBlocks uintn_size name.now (map entry_of entries.now)) text.old text.new) }
+{
+    for index in 0..entries.len() {
+        let entry = &entries[index];
+        push_first_line(text, name, index, entry)?;
+        push_body(text, alloc, &entry.event, uintn_size)?;
     }
     Ok(())
 }
 
 /// Appends the first line of an event's block.
+#[tactic(auto, unfolding(crate::specs::text::Events::first_line))]
 fn push_first_line(
     text: &mut String,
     name: &str,
     index: usize,
     entry: &LogEntry<'_>,
-) -> Result<(), AllocError> {
-    let event = &entry.event;
-    let (name, offset, pcr) = (ShownName(name), entry.offset, event.pcr_index().0);
+) -> Result<(), AllocError>
+    ensures { OnOk result (AppendsText text.old text.new
+        (first_line name.now index (entry_of entry.now))) }
+{
+    push_start(text, name, index, entry)?;
+    push_type(text, entry.event.event_type())?;
+    text.push_str("\n")
+}
+
+/// Appends the log's name, the event's index and its offset, and its PCR.
+#[tactic(auto, unfolding(crate::specs::text::Events::event_start))]
+fn push_start(
+    text: &mut String,
+    name: &str,
+    index: usize,
+    entry: &LogEntry<'_>,
+) -> Result<(), AllocError>
+    ensures { OnOk result (AppendsText text.old text.new
+        (event_start name.now index (entry_of entry.now))) }
+{
+    let (name, offset) = (ShownName(name), entry.offset);
+    let pcr = entry.event.pcr_index().0;
     write!(
         text,
         "{name}: event {index} at offset {offset}: PCR {pcr}, "
-    )?;
-    push_type(text, event.event_type())?;
-    text.push('\n')
+    )
+}
+
+/// Appends the lines of an event's block after the first one.
+#[tactic(auto, unfolding(crate::specs::text::Events::event_body))]
+fn push_body(
+    text: &mut String,
+    alloc: Global,
+    event: &LogEvent<'_>,
+    uintn_size: UintnSize,
+) -> Result<(), AllocError>
+    ensures { OnOk result (AppendsSome (IsEventBody uintn_size (event_of event.now))
+        text.old text.new) }
+{
+    let content = read_content(event, uintn_size);
+    push_digests(text, alloc, event)?;
+    push_content(text, alloc, &content, event.event_data())
 }
 
 /// Appends a line for each digest of an event.
-fn push_digests(text: &mut String, alloc: Global, event: &LogEvent<'_>) -> Result<(), AllocError> {
+fn push_digests(text: &mut String, alloc: Global, event: &LogEvent<'_>) -> Result<(), AllocError>
+    ensures { OnOk result (AppendsText text.old text.new
+        (flat_map digest_line (event_of event.now).digests)) }
+{
     match event {
-        LogEvent::V1(event) => push_digest(text, alloc, AlgorithmId::SHA1, &event.digest()),
+        LogEvent::V1(event) => push_sha1(text, alloc, event.digest().as_slice()),
         LogEvent::V2(event) => push_many_digests(text, alloc, event.digests()),
     }
+}
+
+/// Appends a line for the digest of a version 1 event, which is SHA-1's.
+fn push_sha1(text: &mut String, alloc: Global, digest: &[u8]) -> Result<(), AllocError>
+    ensures { OnOk result (AppendsText text.old text.new
+        (flat_map digest_line (with_sha1 digest.now))) }
+{
+    push_digest(text, alloc, AlgorithmId::SHA1, digest)
 }
 
 /// Appends a line for each digest of a version 2 event.
@@ -85,7 +157,10 @@ fn push_many_digests(
     text: &mut String,
     alloc: Global,
     digests: PcrEventDigests<'_>,
-) -> Result<(), AllocError> {
+) -> Result<(), AllocError>
+    ensures { OnOk result (AppendsText text.old text.new
+        (flat_map digest_line (digests_of digests.entry))) }
+{
     for (algorithm, digest) in digests {
         push_digest(text, alloc, algorithm, digest)?;
     }
@@ -93,15 +168,18 @@ fn push_many_digests(
 }
 
 /// Appends the line of a digest.
+#[tactic(auto, unfolding(crate::specs::text::Events::digest_line))]
 fn push_digest(
     text: &mut String,
     alloc: Global,
     algorithm: AlgorithmId,
     digest: &[u8],
-) -> Result<(), AllocError> {
+) -> Result<(), AllocError>
+    ensures { OnOk result (AppendsText text.old text.new
+        (digest_line (record { algorithm = algorithm.0; bytes = digest.now }))) }
+{
+    let digits = hex::encode(alloc, digest)?;
     text.push_str("  ")?;
     push_algorithm(text, algorithm)?;
-    text.push(' ')?;
-    push_hex(text, alloc, digest)?;
-    text.push('\n')
+    writeln!(text, " {digits}")
 }

@@ -1,25 +1,33 @@
+ghost use Rattle.std.specs.Prelude.{OnOk};
+ghost use Rattle.uefi_base.specs.Appending.{AppendsText};
+ghost use Rattle.audit_text.specs.text.EventParts.{bytes_lines, hex_line, hex_lines};
+
 use std::alloc::{AllocError, Global};
 
 /// How many bytes a line has.
 const LINE_LENGTH: usize = 32;
 
-/// Appends two hex digits for each byte.
-pub(crate) fn push_hex(text: &mut String, alloc: Global, bytes: &[u8]) -> Result<(), AllocError> {
-    let digits = hex::encode(alloc, bytes)?;
-    text.push_str(digits.as_str())
-}
-
 /// Appends what bytes are and the bytes in hex, 32 a line; nothing if there are no bytes.
-pub(crate) fn push_hex_lines(
+#[tactic(auto, unfolding(crate::specs::text::EventParts::bytes_lines))]
+pub(crate) fn push_bytes_lines(
     text: &mut String,
     alloc: Global,
     what: &str,
     bytes: &[u8],
-) -> Result<(), AllocError> {
+) -> Result<(), AllocError>
+    ensures { OnOk result (AppendsText text.old text.new (bytes_lines what.now bytes.now)) }
+{
     if bytes.is_empty() {
         return Ok(());
     }
     writeln!(text, "  {what}")?;
+    push_hex_lines(text, alloc, bytes)
+}
+
+/// Appends bytes in hex, 32 a line.
+fn push_hex_lines(text: &mut String, alloc: Global, bytes: &[u8]) -> Result<(), AllocError>
+    ensures { OnOk result (AppendsText text.old text.new (hex_lines bytes.now)) }
+{
     let mut rest = bytes;
     while rest.len() > LINE_LENGTH {
         let (line, after) = rest.split_at(LINE_LENGTH);
@@ -30,8 +38,10 @@ pub(crate) fn push_hex_lines(
 }
 
 /// Appends a line of bytes in hex.
-fn push_hex_line(text: &mut String, alloc: Global, bytes: &[u8]) -> Result<(), AllocError> {
-    text.push_str("    ")?;
-    push_hex(text, alloc, bytes)?;
-    text.push('\n')
+#[tactic(auto, unfolding(crate::specs::text::EventParts::hex_line))]
+fn push_hex_line(text: &mut String, alloc: Global, bytes: &[u8]) -> Result<(), AllocError>
+    ensures { OnOk result (AppendsText text.old text.new (hex_line bytes.now)) }
+{
+    let digits = hex::encode(alloc, bytes)?;
+    writeln!(text, "    {digits}")
 }

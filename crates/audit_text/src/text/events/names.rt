@@ -1,12 +1,16 @@
-use crate::words::ShownName;
+ghost use Rattle.std.specs.Prelude.{OnOk};
+ghost use Rattle.uefi_base.specs.Appending.{AppendsText};
+ghost use Rattle.audit_text.specs.text.EventParts.{algorithm_text};
+
 use crate::words::names::algorithm_name;
-use crate::words::texts::{byte_text, name_text, text_before_nul};
-use std::alloc::{AllocError, Global};
-use uefi_base::UnalignedSlice;
+use std::alloc::AllocError;
 use uefi_tcg::AlgorithmId;
 
 /// Appends the name of an algorithm, or its number.
-pub(crate) fn push_algorithm(text: &mut String, algorithm: AlgorithmId) -> Result<(), AllocError> {
+#[tactic(auto, unfolding(crate::specs::text::EventParts::algorithm_text, crate::specs::words::Types::name_or_number))]
+pub(crate) fn push_algorithm(text: &mut String, algorithm: AlgorithmId) -> Result<(), AllocError>
+    ensures { OnOk result (AppendsText text.old text.new (algorithm_text algorithm.0)) }
+{
     match algorithm_name(algorithm) {
         Some(name) => text.push_str(name),
         None => {
@@ -14,33 +18,4 @@ pub(crate) fn push_algorithm(text: &mut String, algorithm: AlgorithmId) -> Resul
             write!(text, "0x{number:x}")
         }
     }
-}
-
-/// Appends a name of the log as it is shown.
-pub(crate) fn push_units(
-    text: &mut String,
-    alloc: Global,
-    units: &UnalignedSlice<'_>,
-) -> Result<(), AllocError> {
-    let name = name_text(alloc, units)?;
-    let name = ShownName(name.as_str());
-    write!(text, "{name}")
-}
-
-/// Appends the units before the first NUL as they are shown.
-pub(crate) fn push_before_nul(
-    text: &mut String,
-    alloc: Global,
-    units: &UnalignedSlice<'_>,
-) -> Result<(), AllocError> {
-    let name = text_before_nul(alloc, units)?;
-    let name = ShownName(name.as_str());
-    write!(text, "{name}")
-}
-
-/// Appends bytes as characters of ASCII or Latin-1, as they are shown.
-pub(crate) fn push_bytes(text: &mut String, alloc: Global, bytes: &[u8]) -> Result<(), AllocError> {
-    let name = byte_text(alloc, bytes)?;
-    let name = ShownName(name.as_str());
-    write!(text, "{name}")
 }

@@ -1,16 +1,22 @@
-use Rattle.std.proofs.Common.{subst}
-use Rattle.std.proofs.lemmas.Result.{on_ok_weaker}
-use Rattle.std.specs.Prelude.{OnOk}
-use Rattle.uefi_tcg.specs.Entries.{Contents}
-use Rattle.uefi_tcg.specs.LogViews.{contents_left}
-use Rattle.audit_text.specs.private.Entries.{AppendsEntries}
+use Rattle.std.proofs.Common.{◌++◌, refl, string_bytes}
+use Rattle.std.specs.Prelude.{codes}
+use Rattle.audit_text.specs.json.Events.{IsWholeLine}
+use Rattle.audit_text.proofs.words.Events.{all_shown, none_yet, one_more}
 use Rattle.audit_text.proofs.json.events.push_events.Goals as goal
 
+pub loop-index-init : goal.loop-index-init
+loop-index-init c = none_yet _ _ _
+
+pub loop-index-preserved : goal.loop-index-preserved
+loop-index-preserved c =
+    one_more (IsWholeLine c.args.uintn_size c.args.name.now) c.args.entries.now _ (string_bytes c.loop-index.text) _
+    c.loop-index.index c.index-entries-index.result c.loop-index-test.true c.index-entries-index.is (
+      string_bytes c.in_ok-line.line ++ codes "\n",
+      (string_bytes c.in_ok-line.line, c.in_ok-line.ensures, refl),
+      c.in_ok-writeln.ensures.bytes,
+    ) c.loop-index.invariant
+
 pub returns : goal.returns
-returns c = λ contents is.
-    on_ok_weaker c.push_entries.result
-    (λ lines. (lines.0, (c.uintn_size-uintn_size.result, c.uintn_size-uintn_size.ensures, lines.1), lines.2))
-    (subst (λ (it : Contents). OnOk c.push_entries.result (AppendsEntries c.uintn_size-uintn_size.result
-    c.args.file.now.name.now it.entries c.args.text.now c.push_entries.new.text))
-    (c.one_contents.ensures c.args.file.now.log (contents_left c.entries.result) contents c.entries.ensures.contents is)
-    c.push_entries.ensures)
+returns c =
+    all_shown (IsWholeLine c.args.uintn_size c.args.name.now) c.args.entries.now _ _ c.loop-index.index c.loop-index-test.false
+    c.loop-index.invariant

@@ -2,7 +2,7 @@ use Rattle.std.proofs.Common.{◌≡◌, ◌++◌, map}
 use Rattle.serde_json.specs.View.{view}
 use Rattle.uefi_base.specs.Views.{units_left}
 use Rattle.audit_text.specs.json.Values.{number_json}
-use Rattle.audit_text.proofs.json.content.values.numbers_json.Given as goal
+use Rattle.audit_text.proofs.json.content.variable.numbers_json.Given as goal
 
 -- The values so far and those of the numbers to come are those of all.
 abbrev pub invariant-loop-number : goal.invariant-loop-number

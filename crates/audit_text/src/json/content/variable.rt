@@ -1,0 +1,90 @@
+ghost use Rattle.std.specs.Prelude.{◌≡◌, codes, map, IfOk, OnOk, option_map};
+ghost use Rattle.serde_json.specs.View.{view, members_view};
+ghost use Rattle.uefi_path.specs.LoadOptionViews.{load_option_of};
+ghost use Rattle.uefi_tcg.specs.content.BootOrderViews.{order_of};
+ghost use Rattle.uefi_tcg.specs.content.Views.{variable_of};
+ghost use Rattle.audit_text.specs.json.Parts.{only};
+ghost use Rattle.audit_text.specs.json.Values.{boot_option_json, number_json, variable_json, with_value};
+
+use crate::json::content::guid::guid_json;
+use crate::json::content::path::{nodes_json, only, text_json};
+use crate::json::event::hex_json;
+use crate::words::texts::{description_text, name_text};
+use serde_json::{Map, Value, put};
+use std::alloc::{AllocError, Global};
+use uefi_path::LoadOption;
+use uefi_tcg::content::{BootOrder, VariableData};
+
+/// Returns what data say that are a variable: its data, its GUID, its name, and what its value says,
+/// if it is read.
+#[tactic(auto, unfolding(crate::specs::json::Values::variable_json))]
+pub(crate) fn variable_json(
+    alloc: Global,
+    variable: &VariableData<'_>,
+    value: Option<Value>,
+) -> Result<Value, AllocError>
+    ensures { IfOk result (λ whole. view whole ≡ only (codes "variable")
+        (variable_json (variable_of variable.now) (option_map view value))) }
+{
+    let mut members = Map::new(alloc);
+    let data = hex_json(alloc, variable.data)?;
+    put(&mut members, alloc, "data", data)?;
+    let guid = guid_json(alloc, variable.guid)?;
+    put(&mut members, alloc, "guid", guid)?;
+    let name = name_text(alloc, &variable.name)?;
+    put(&mut members, alloc, "name", Value::String(name))?;
+    put_value(&mut members, alloc, value)?;
+    only(alloc, "variable", Value::Object(members))
+}
+
+/// Adds what a value says, if it is read.
+fn put_value(
+    members: &mut Map<String, Value>,
+    alloc: Global,
+    value: Option<Value>,
+) -> Result<(), AllocError>
+    ensures { OnOk result (members_view members.new.entries
+        ≡ with_value (option_map view value) (members_view members.old.entries)) }
+{
+    match value {
+        Some(value) => put(members, alloc, "value", value),
+        None => Ok(()),
+    }
+}
+
+/// Returns a boot option: its attributes, its description, the data for its image, and its path,
+/// also as text.
+#[tactic(auto, unfolding(crate::specs::json::Values::boot_option_json))]
+pub(crate) fn boot_option_json(alloc: Global, option: &LoadOption<'_>) -> Result<Value, AllocError>
+    ensures { IfOk result (λ value. view value ≡ boot_option_json (load_option_of option.now)) }
+{
+    let mut members = Map::new(alloc);
+    let attributes = option.attributes().bits();
+    put(&mut members, alloc, "attributes", Value::from(attributes))?;
+    let description = description_text(alloc, option)?;
+    put(
+        &mut members,
+        alloc,
+        "description",
+        Value::String(description),
+    )?;
+    let optional_data = hex_json(alloc, option.optional_data())?;
+    put(&mut members, alloc, "optional_data", optional_data)?;
+    let path = nodes_json(alloc, &option.file_path())?;
+    put(&mut members, alloc, "path", path)?;
+    let text = text_json(alloc, option.file_path())?;
+    put(&mut members, alloc, "text", text)?;
+    Ok(Value::Object(members))
+}
+
+/// Returns the numbers of boot options, in order.
+pub(crate) fn numbers_json(alloc: Global, order: &BootOrder<'_>) -> Result<Vec<Value>, AllocError>
+    ensures { IfOk result
+        (λ values. map view values.items ≡ map number_json (order_of order.now)) }
+{
+    let mut values = Vec::new(alloc);
+    for number in order.iter() {
+        values.push(Value::from(number))?;
+    }
+    Ok(values)
+}
