@@ -4,6 +4,7 @@ pub mod Trailing
 pub mod Judgement
 pub mod Remarks
 pub mod Verdict
+pub mod Missing
 pub mod Differences
 pub mod Check
 pub mod EventParts

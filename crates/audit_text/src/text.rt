@@ -9,9 +9,9 @@
 //! The other calls append lines for standard error: [`push_judgement`] why a log can't be judged and
 //! the bytes that follow its last event, [`push_start`] the locality that is assumed,
 //! [`push_inactive`] and [`push_unsupported`] the banks that weren't replayed, [`push_undetermined`]
-//! the events by which PCRs are undetermined, and [`push_ignored`] those that have no effect and
-//! should have. Each line begins with the file's name, as
-//! [`ShownName`](crate::words::ShownName) displays it.
+//! the events by which PCRs are undetermined, [`push_ignored`] those that have no effect and should
+//! have, and [`push_missing`] the PCRs that are asked for and not held. Each line begins with the
+//! file's name, as [`ShownName`](crate::words::ShownName) displays it.
 
 pub use self::banks::{push_bank, push_banks};
 pub use self::check::push_check;
@@ -19,6 +19,7 @@ pub use self::diff::push_differences;
 pub use self::events::{push_event_blocks, push_header_block};
 pub use self::ignored::push_ignored;
 pub use self::judgement::{push_judgement, push_many_algorithms};
+pub use self::missing::push_missing;
 pub use self::start::push_start;
 pub use self::trailing::push_trailing;
 pub use self::undetermined::push_undetermined;
@@ -32,6 +33,7 @@ mod diff;
 mod events;
 mod ignored;
 mod judgement;
+mod missing;
 mod start;
 mod trailing;
 mod undetermined;

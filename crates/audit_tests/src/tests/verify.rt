@@ -3,6 +3,7 @@ use std::test::Fail;
 use test_support::same_text;
 
 mod json;
+mod missing;
 mod nearest;
 mod reading;
 mod selection;

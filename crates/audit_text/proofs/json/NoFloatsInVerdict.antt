@@ -1,5 +1,5 @@
--- No number of a verdict's JSON is a float; and the object of a log, from its parts.
-use Rattle.std.proofs.Common.{◌≡◌, ◌∙◌, ℕ, List, [], ◌∷◌, length, refl}
+-- No number of a verdict's JSON is a float.
+use Rattle.std.proofs.Common.{◌≡◌, ℕ, List, [], ◌∷◌, refl}
 use Rattle.std.specs.Prelude.{Bool, true, false, cond, flat_map, Option, None, Some, Ok, Err}
 use Rattle.serde_json.specs.Data.{Data}
 use Rattle.serde_json.specs.View.{items_of}
@@ -8,7 +8,7 @@ use Rattle.pcr_replay.specs.Replay.{Outcome}
 use Rattle.uefi_audits.specs.Replay.{BankOutcomes}
 use Rattle.uefi_audits.specs.declared.verify.held.HeldPcr.{HeldPcr}
 use Rattle.audit_text.specs.json.Verdict.{disagreeing_json, event_json, if_disagreeing, led_json, pcr_json, undetermined_by, verdict_json, verdict_object}
-use Rattle.uefi_audits.specs.verify.Verdict.{agrees, is_agreement, led_to, verdict_of}
+use Rattle.uefi_audits.specs.verify.Verdict.{Comparison, agrees, led_to}
 use Rattle.audit_text.proofs.json.NoFloats.{joined}
 
 led : (outcome : Option Outcome) → has_float (led_json outcome) ≡ false
@@ -47,15 +47,7 @@ all : (replays : List BankOutcomes) (held : List HeldPcr) → has_float (disagre
 unfolding disagreeing_json
 all replays held = each replays held
 
-pub no_float : (name : List ℕ) (replays : List BankOutcomes) (locality : ℕ) (held : List HeldPcr)
-    → has_float (verdict_json name replays locality held) ≡ false
+pub no_float : (name : List ℕ) (comparison : Comparison) (held : List HeldPcr)
+    → has_float (verdict_json name comparison held) ≡ false
 unfolding verdict_object
-no_float name replays locality held = rw (all replays held) refl
-
--- The object of a log.
-pub object_is : (name : List ℕ) (replays : List BankOutcomes) (locality : ℕ) (held : List HeldPcr) (agree : Bool) (count : ℕ)
-    (disagreeing value : Data) → agree ≡ is_agreement (verdict_of replays held) → count ≡ length held
-    → disagreeing ≡ disagreeing_json replays held → value ≡ verdict_object agree count disagreeing locality name
-    → value ≡ verdict_json name replays locality held
-object_is name replays locality held agree count disagreeing value is_agree is_count are is =
-    is ∙ (λ i. verdict_object (is_agree i) (is_count i) (are i) locality name)
+no_float name comparison held = rw (all comparison.replays held) refl

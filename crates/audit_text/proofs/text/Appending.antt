@@ -5,7 +5,6 @@ use Rattle.std.specs.Fmt.{decimal}
 use Rattle.hex.specs.Hex.{encode_upper}
 use Rattle.audit_text.specs.text.Verdict.{start_text, value_text}
 use Rattle.std.proofs.lemmas.List.{flat_map_more, take_more}
-use Rattle.uefi_audits.specs.declared.verify.held.HeldPcr.{HeldPcr}
 
 -- One text after another.
 pub appended : (old now new one other : List ℕ) → now ≡ old ++ one → new ≡ now ++ other → new ≡ old ++ (one ++ other)
@@ -17,8 +16,8 @@ pub three_appended : (old a b c one two new : List ℕ) → one ≡ old ++ a →
 three_appended old a b c one two new first second third =
     third ∙ ap (λ t. t ++ c) (second ∙ ap (λ t. t ++ b) first) ∙ append_assoc (old ++ a) b c ∙ append_assoc old a (b ++ c)
 
--- The line of one more PCR.
-pub lines_upto : (f : HeldPcr → List ℕ) (all : List HeldPcr) (index : ℕ) (item : HeldPcr)
+-- The lines of one more item.
+pub lines_upto : {A : Type 0} (f : A → List ℕ) (all : List A) (index : ℕ) (item : A)
     (old now next : List ℕ) → index < length all → now ≡ old ++ flat_map f (take index all)
     → next ≡ now ++ f (get_or all index item) → next ≡ old ++ flat_map f (take (index + 1) all)
 lines_upto f all index item old now next within before step =

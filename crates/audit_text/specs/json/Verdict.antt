@@ -1,5 +1,5 @@
 -- What `uefi_audit verify --json` prints of a log: an object that says whether the PCRs that a TPM held are those that the log leads to. The keys of an object come in order.
-use Rattle.std.specs.Prelude.{ℕ, Bool, List, [], ◌∷◌, ◌++◌, length, flat_map, codes, Option, None, Some, Ok, Err, if◌then◌else◌}
+use Rattle.std.specs.Prelude.{ℕ, List, [], ◌∷◌, ◌++◌, length, flat_map, codes, Option, None, Some, Ok, Err, if◌then◌else◌}
 use Rattle.hex.specs.Hex.{encode_lower}
 use Rattle.serde_json.specs.Data.{Data, null, boolean, number, unsigned, string, array, object, member, no_members}
 use Rattle.serde_json.specs.View.{items_of}
@@ -11,7 +11,7 @@ use Rattle.audit_text.specs.json.Line.{line_of}
 use Rattle.uefi_audits.specs.Naming.{bank_name}
 use Rattle.audit_text.specs.words.Faults.{fault_text}
 use Rattle.uefi_audits.specs.declared.verify.held.HeldPcr.{HeldPcr}
-use Rattle.uefi_audits.specs.verify.Verdict.{agrees, is_agreement, led_to, verdict_of}
+use Rattle.uefi_audits.specs.verify.Verdict.{Comparison, agrees, is_agreement, led_to}
 
 -- What the log leads to in a PCR, in hex; `null` if it leads to no value.
 unfoldable pub led_json : Option Outcome → Data
@@ -51,18 +51,17 @@ unfoldable pub disagreeing_json : List BankOutcomes → List HeldPcr → Data
 disagreeing_json replays held = array (items_of (flat_map (if_disagreeing replays) held))
 
 -- The object: whether all PCRs agree, how many they are, those that don't, the locality at which PCR 0 starts, and the name of the log.
-unfoldable pub verdict_object : Bool → ℕ → Data → ℕ → List ℕ → Data
-verdict_object agree count disagreeing locality name =
-    object (member (codes "agree") (boolean agree)
-    (member (codes "count") (number (unsigned count))
+unfoldable pub verdict_object : List ℕ → Comparison → List HeldPcr → Data → Data
+verdict_object name comparison held disagreeing =
+    object (member (codes "agree") (boolean (is_agreement comparison))
+    (member (codes "count") (number (unsigned (length held)))
     (member (codes "disagreeing") disagreeing
-    (member (codes "locality") (number (unsigned locality))
+    (member (codes "locality") (number (unsigned comparison.start.start.locality))
     (member (codes "log") (string name) no_members)))))
 
-abbrev pub verdict_json : List ℕ → List BankOutcomes → ℕ → List HeldPcr → Data
-verdict_json name replays locality held =
-    verdict_object (is_agreement (verdict_of replays held)) (length held) (disagreeing_json replays held) locality name
+abbrev pub verdict_json : List ℕ → Comparison → List HeldPcr → Data
+verdict_json name comparison held = verdict_object name comparison held (disagreeing_json comparison.replays held)
 
 -- Its line.
-abbrev pub verdict_line : List ℕ → List BankOutcomes → ℕ → List HeldPcr → List ℕ
-verdict_line name replays locality held = line_of (verdict_json name replays locality held) ++ codes "\n"
+abbrev pub verdict_line : List ℕ → Comparison → List HeldPcr → List ℕ
+verdict_line name comparison held = line_of (verdict_json name comparison held) ++ codes "\n"

@@ -6,16 +6,16 @@ use Rattle.hex.specs.Hex.{encode_upper}
 use Rattle.pcr_replay.specs.declared.fault.Undetermined.{Undetermined}
 use Rattle.pcr_replay.specs.Replay.{Outcome}
 use Rattle.pcr_replay.specs.Views.{value_of}
-use Rattle.uefi_audits.specs.Replay.{BankOutcomes}
 use Rattle.uefi_audits.specs.Naming.{bank_name}
 use Rattle.audit_text.specs.words.Faults.{fault_text}
+use Rattle.audit_text.specs.words.Shown.{shown_name}
 use Rattle.uefi_audits.specs.declared.verify.held.HeldPcr.{HeldPcr}
-use Rattle.uefi_audits.specs.verify.Verdict.{led_to, agrees, verdict_of, is_agreement}
+use Rattle.uefi_audits.specs.verify.Verdict.{Comparison, agrees, is_agreement, led_to}
 
 -- The line of PCRs that all agree: how many they are, and the locality of the start.
 unfoldable pub agree_line : List ℕ → ℕ → ℕ → List ℕ
 agree_line name count locality =
-    name ++ (codes ": " ++ (decimal count ++ (codes " PCRs agree, PCR 0 starts at locality " ++ (decimal locality ++ codes "\n"))))
+    shown_name name ++ (codes ": " ++ (decimal count ++ (codes " PCRs agree, PCR 0 starts at locality " ++ (decimal locality ++ codes "\n"))))
 
 -- Where PCR 0 starts.
 unfoldable pub start_text : ℕ → ℕ → List ℕ
@@ -39,14 +39,15 @@ outcome_text pcr locality (Some (Err at)) = undetermined_text at
 -- The line of a PCR that doesn't agree: the log, the bank, the PCR and what it held, and what the log leads to.
 unfoldable pub held_text : List ℕ → HeldPcr → List ℕ
 held_text name held =
-    name ++ (codes ": " ++ (bank_name held.bank ++ (codes " PCR " ++ (decimal held.pcr ++ (codes " held 0x" ++ encode_upper (value_of held.value))))))
+    shown_name name ++ (codes ": " ++ (bank_name held.bank ++ (codes " PCR " ++ (decimal held.pcr ++ (codes " held 0x" ++ encode_upper (value_of held.value))))))
 
-unfoldable pub line_of : List ℕ → List BankOutcomes → ℕ → HeldPcr → List ℕ
-line_of name replays locality held =
-    if agrees replays held then [] else held_text name held ++ outcome_text held.pcr locality (led_to replays held)
+unfoldable pub line_of : List ℕ → Comparison → HeldPcr → List ℕ
+line_of name comparison held =
+    if agrees comparison.replays held then []
+    else held_text name held ++ outcome_text held.pcr comparison.start.start.locality (led_to comparison.replays held)
 
 -- What is printed: one line if all PCRs agree, else one for each that doesn't, in order.
-abbrev pub verdict_lines : List ℕ → List BankOutcomes → ℕ → List HeldPcr → List ℕ
-verdict_lines name replays locality held =
-    if is_agreement (verdict_of replays held) then agree_line name (length held) locality
-    else flat_map (line_of name replays locality) held
+abbrev pub verdict_lines : List ℕ → Comparison → List HeldPcr → List ℕ
+verdict_lines name comparison held =
+    if is_agreement comparison then agree_line name (length held) comparison.start.start.locality
+    else flat_map (line_of name comparison) held

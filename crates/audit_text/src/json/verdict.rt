@@ -1,11 +1,11 @@
-ghost use Rattle.std.specs.Prelude.{◌≡◌, ◌++◌, flat_map, length, map, IfOk, OnOk};
+ghost use Rattle.std.specs.Prelude.{◌≡◌, ◌++◌, flat_map, map, IfOk, OnOk};
 ghost use Rattle.std.specs.Option.{option_map};
 ghost use Rattle.serde_json.specs.View.{view};
 ghost use Rattle.uefi_base.specs.Appending.{AppendsText};
 ghost use Rattle.pcr_replay.specs.Views.{outcome_of};
 ghost use Rattle.uefi_audits.specs.Replay.{bank_outcomes_of};
 ghost use Rattle.audit_text.specs.json.Verdict.{disagreeing_json, event_json, if_disagreeing, led_json, pcr_json, undetermined_by, verdict_line, verdict_object};
-ghost use Rattle.uefi_audits.specs.verify.Verdict.{verdict_of};
+ghost use Rattle.uefi_audits.specs.verify.Verdict.{comparison_of};
 
 use crate::json::event::hex_json;
 use crate::json::line::line_of;
@@ -18,14 +18,13 @@ use uefi_audits::replay::BankPcrs;
 use uefi_audits::verify::{HeldPcr, Verdict, agrees, led_to};
 
 /// Appends whether a log leads to these PCRs as one line of JSON: an object, and a line break.
-/// Returns how many differ, and how many are undetermined.
 ///
 /// | key | value |
 /// |---|---|
 /// | `agree` | whether all PCRs hold what the log leads to |
 /// | `count` | how many PCRs these are |
 /// | `disagreeing` | an object for each PCR that doesn't, in order |
-/// | `locality` | what was given: the locality at which PCR 0 starts |
+/// | `locality` | the locality at which PCR 0 starts |
 /// | `log` | what was given: the log's name |
 ///
 /// | key of a PCR | value |
@@ -36,8 +35,7 @@ use uefi_audits::verify::{HeldPcr, Verdict, agrees, led_to};
 /// | `register` | its index |
 /// | `undetermined` | the event by which it is undetermined: `index`, `offset`, `reason`; else `null` |
 ///
-/// Each PCR is sought in the first of `replays` that is of its bank. If the log has no such PCR,
-/// both `leads_to` and `undetermined` are `null`.
+/// If the log has no such PCR, both `leads_to` and `undetermined` are `null`.
 ///
 /// # Errors
 ///
@@ -47,41 +45,40 @@ pub fn push_verdict_json(
     alloc: Global,
     name: &str,
     held: &[HeldPcr],
-    replays: &[BankPcrs],
-    locality: u8,
-) -> Result<Verdict, AllocError>
-    ensures verdict { IfOk result (λ verdict.
-        verdict ≡ verdict_of (map bank_outcomes_of replays.now) held.now) }
-    ensures line { OnOk result (AppendsText text.old text.new
-        (verdict_line name.now (map bank_outcomes_of replays.now) locality held.now)) }
+    verdict: &Verdict,
+) -> Result<(), AllocError>
+    ensures { OnOk result (AppendsText text.old text.new
+        (verdict_line name.now (comparison_of verdict.now) held.now)) }
 {
-    let verdict = Verdict::of(held, replays);
-    let agree = verdict.is_agreement();
-    let disagreeing = disagreeing_json(alloc, held, replays)?;
-    let value = verdict_json(alloc, agree, held.len(), disagreeing, locality, name)?;
+    let disagreeing = disagreeing_json(alloc, held, verdict.replays.as_slice())?;
+    let value = verdict_json(alloc, name, held, verdict, disagreeing)?;
     let line = line_of(alloc, &value)?;
-    writeln!(text, "{line}")?;
-    Ok(verdict)
+    writeln!(text, "{line}")
 }
 
 /// Returns the object of a log.
 #[tactic(auto, unfolding(crate::specs::json::Verdict::verdict_object))]
 fn verdict_json(
     alloc: Global,
-    agree: bool,
-    count: usize,
-    disagreeing: Value,
-    locality: u8,
     name: &str,
+    held: &[HeldPcr],
+    verdict: &Verdict,
+    disagreeing: Value,
 ) -> Result<Value, AllocError>
     ensures { IfOk result (λ value. view value
-        ≡ verdict_object agree count (view disagreeing) locality name.now) }
+        ≡ verdict_object name.now (comparison_of verdict.now) held.now (view disagreeing)) }
 {
     let mut members = Map::new(alloc);
-    put(&mut members, alloc, "agree", Value::Bool(agree))?;
-    put(&mut members, alloc, "count", Value::from(count))?;
+    put(
+        &mut members,
+        alloc,
+        "agree",
+        Value::Bool(verdict.is_agreement()),
+    )?;
+    put(&mut members, alloc, "count", Value::from(held.len()))?;
     put(&mut members, alloc, "disagreeing", disagreeing)?;
-    put(&mut members, alloc, "locality", Value::from(locality))?;
+    let locality = Value::from(verdict.start.start.locality);
+    put(&mut members, alloc, "locality", locality)?;
     let log = Value::try_from_str(alloc, name)?;
     put(&mut members, alloc, "log", log)?;
     Ok(Value::Object(members))

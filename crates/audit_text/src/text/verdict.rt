@@ -1,23 +1,18 @@
-ghost use Rattle.std.specs.Prelude.{◌≡◌, map, flat_map, IfOk, OnOk};
+ghost use Rattle.std.specs.Prelude.{◌≡◌, flat_map, OnOk};
 ghost use Rattle.std.specs.Option.{option_map};
 ghost use Rattle.uefi_base.specs.Appending.{AppendsText};
 ghost use Rattle.pcr_replay.specs.Views.{outcome_of, value_of};
-ghost use Rattle.uefi_audits.specs.Replay.{bank_outcomes_of};
 ghost use Rattle.audit_text.specs.text.Verdict.{agree_line, held_text, line_of, outcome_text, undetermined_text, value_text, verdict_lines};
-ghost use Rattle.uefi_audits.specs.verify.Verdict.{verdict_of};
+ghost use Rattle.uefi_audits.specs.verify.Verdict.{comparison_of};
 
-use crate::words::fault_text;
+use crate::words::{ShownName, fault_text};
 use pcr_replay::{PcrValue, Undetermined};
 use std::alloc::{AllocError, Allocator};
 use uefi_audits::naming::bank_name;
-use uefi_audits::replay::BankPcrs;
 use uefi_audits::verify::{HeldPcr, Verdict, agrees, led_to};
 
 /// Appends whether a log leads to these PCRs: one line if it does, or else a line for each PCR that
-/// doesn't agree. Returns how many differ, and how many are undetermined.
-///
-/// The lines name the log by `name`, and the `locality` at which PCR 0 starts. Each PCR is sought
-/// in the first of `replays` that is of its bank.
+/// doesn't agree. The lines name the log by `name`, and the locality at which PCR 0 starts.
 ///
 /// # Errors
 ///
@@ -27,21 +22,15 @@ pub fn push_verdict<A: Allocator + Copy>(
     alloc: A,
     name: &str,
     held: &[HeldPcr],
-    replays: &[BankPcrs],
-    locality: u8,
-) -> Result<Verdict, AllocError>
-    ensures verdict { IfOk result (λ verdict.
-        verdict ≡ verdict_of (map bank_outcomes_of replays.now) held.now) }
-    ensures lines { OnOk result (AppendsText text.old text.new
-        (verdict_lines name.now (map bank_outcomes_of replays.now) locality held.now)) }
+    verdict: &Verdict<A>,
+) -> Result<(), AllocError>
+    ensures { OnOk result (AppendsText text.old text.new
+        (verdict_lines name.now (comparison_of verdict.now) held.now)) }
 {
-    let verdict = Verdict::of(held, replays);
     if verdict.is_agreement() {
-        push_agreement(text, name, held.len(), locality)?;
-    } else {
-        push_disagreements(text, alloc, name, held, replays, locality)?;
+        return push_agreement(text, name, held.len(), verdict.start.start.locality);
     }
-    Ok(verdict)
+    push_disagreements(text, alloc, name, held, verdict)
 }
 
 /// Appends the line that says how many PCRs agree, and where PCR 0 starts.
@@ -55,6 +44,7 @@ fn push_agreement<A: Allocator>(
     ensures { OnOk result
         (AppendsText text.old text.new (agree_line name.now count locality)) }
 {
+    let name = ShownName(name);
     writeln!(
         text,
         "{name}: {count} PCRs agree, PCR 0 starts at locality {locality}"
@@ -67,14 +57,13 @@ fn push_disagreements<A: Allocator + Copy>(
     alloc: A,
     name: &str,
     held: &[HeldPcr],
-    replays: &[BankPcrs],
-    locality: u8,
+    verdict: &Verdict<A>,
 ) -> Result<(), AllocError>
     ensures { OnOk result (AppendsText text.old text.new
-        (flat_map (line_of name.now (map bank_outcomes_of replays.now) locality) held.now)) }
+        (flat_map (line_of name.now (comparison_of verdict.now)) held.now)) }
 {
     for pcr in held {
-        push_if_disagreeing(text, alloc, name, pcr, replays, locality)?;
+        push_if_disagreeing(text, alloc, name, pcr, verdict)?;
     }
     Ok(())
 }
@@ -86,16 +75,17 @@ fn push_if_disagreeing<A: Allocator + Copy>(
     alloc: A,
     name: &str,
     held: &HeldPcr,
-    replays: &[BankPcrs],
-    locality: u8,
+    verdict: &Verdict<A>,
 ) -> Result<(), AllocError>
     ensures { OnOk result (AppendsText text.old text.new
-        (line_of name.now (map bank_outcomes_of replays.now) locality held.now)) }
+        (line_of name.now (comparison_of verdict.now) held.now)) }
 {
+    let replays = verdict.replays.as_slice();
     if agrees(held, replays) {
         return Ok(());
     }
     push_held(text, alloc, name, held)?;
+    let locality = verdict.start.start.locality;
     push_outcome(text, alloc, held.pcr, locality, led_to(held, replays))
 }
 
@@ -109,7 +99,7 @@ fn push_held<A: Allocator + Copy>(
 ) -> Result<(), AllocError>
     ensures { OnOk result (AppendsText text.old text.new (held_text name.now held.now)) }
 {
-    let (bank, pcr) = (bank_name(held.bank), held.pcr);
+    let (name, bank, pcr) = (ShownName(name), bank_name(held.bank), held.pcr);
     let digits = hex::encode_upper(alloc, held.value.as_bytes())?;
     write!(text, "{name}: {bank} PCR {pcr} held 0x{digits}")
 }

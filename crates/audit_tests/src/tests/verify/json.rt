@@ -1,10 +1,9 @@
 use audit_text::json::push_verdict_json;
-use pcr_replay::Start;
+use pcr_replay::ReadLog;
 use std::alloc::Global;
 use std::test::Fail;
 use test_support::{bytes, same_text};
-use uefi_audits::replay::replay_banks;
-use uefi_audits::verify::{Verdict, held_banks, held_in_text};
+use uefi_audits::verify::{Verdict, held_in_text};
 use uefi_tcg::{LastEntry, Log};
 
 /// A log, the locality at which PCR 0 starts, the PCRs that a TPM held, and the line of the log,
@@ -107,10 +106,9 @@ fn verdict(
         return Err(Fail::new("the held PCRs can't be read"));
     };
     let pcrs = held.pcrs.as_slice();
-    let banks = held_banks(alloc, pcrs)?;
-    let log = Log::new(log, LastEntry::Unknown);
-    let replays = replay_banks(alloc, &log, banks.as_slice(), &Start::at(locality))?;
-    let verdict = push_verdict_json(text, alloc, name, pcrs, replays.as_slice(), locality)?;
+    let read = ReadLog::new(alloc, Log::new(log, LastEntry::Unknown))?;
+    let verdict = Verdict::new(alloc, read.entries(), pcrs, Some(locality))?;
+    push_verdict_json(text, alloc, name, pcrs, &verdict)?;
     Ok(verdict)
 }
 

@@ -1,0 +1,45 @@
+ghost use Rattle.std.specs.Prelude.{OnOk};
+ghost use Rattle.uefi_base.specs.Appending.{AppendsText};
+ghost use Rattle.audit_text.specs.text.Missing.{missing_line, missing_lines};
+
+use crate::words::ShownName;
+use std::alloc::{AllocError, Allocator};
+use uefi_audits::naming::bank_name;
+use uefi_audits::verify::MissingPcr;
+
+/// Appends a line for each PCR that is asked for and not held, by the name of the file that states the
+/// PCRs.
+///
+/// # Errors
+///
+/// [`AllocError`] if an allocation fails. The text may have grown then.
+pub fn push_missing<A: Allocator>(
+    messages: &mut String<A>,
+    name: &str,
+    missing: &[MissingPcr],
+) -> Result<(), AllocError>
+    ensures { OnOk result
+        (AppendsText messages.old messages.new (missing_lines name.now missing.now)) }
+{
+    for pcr in missing {
+        push_line(messages, name, pcr)?;
+    }
+    Ok(())
+}
+
+/// Appends the line of a PCR.
+#[tactic(auto, unfolding(crate::specs::text::Missing::missing_line))]
+fn push_line<A: Allocator>(
+    messages: &mut String<A>,
+    name: &str,
+    missing: &MissingPcr,
+) -> Result<(), AllocError>
+    ensures { OnOk result
+        (AppendsText messages.old messages.new (missing_line name.now missing.now)) }
+{
+    let (name, bank, pcr) = (ShownName(name), bank_name(missing.bank), missing.pcr);
+    writeln!(
+        messages,
+        "{name}: states no {bank} PCR {pcr}, which is asked for"
+    )
+}
