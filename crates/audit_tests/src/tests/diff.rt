@@ -1,7 +1,9 @@
-use audit_text::text::{LogFile, push_differences};
+use audit_text::text::push_differences;
+use pcr_replay::ReadLog;
 use std::alloc::Global;
 use std::test::Fail;
 use test_support::{bytes, same_text};
+use uefi_audits::diff::differences;
 use uefi_tcg::{LastEntry, Log};
 
 mod json_lines;
@@ -236,22 +238,24 @@ const ROWS: [Row; 19] = [
     },
 ];
 
-/// Checks a row: its lines, and that the logs are the same if there are none.
+/// Checks a row: its lines, and that there is no difference if there are none.
 fn check(alloc: Global, row: &Row) -> Result<(), Fail> {
     let (old, new) = (bytes(alloc, row.old)?, bytes(alloc, row.new)?);
-    let old = LogFile {
-        name: "old.log",
-        log: Log::new(old.as_slice(), LastEntry::Unknown),
-    };
-    let new = LogFile {
-        name: "new.log",
-        log: Log::new(new.as_slice(), LastEntry::Unknown),
-    };
+    let old = ReadLog::new(alloc, Log::new(old.as_slice(), LastEntry::Unknown))?;
+    let new = ReadLog::new(alloc, Log::new(new.as_slice(), LastEntry::Unknown))?;
+    let differences = differences(alloc, &old, &new)?;
     let mut text = String::new(alloc);
-    let same = push_differences(&mut text, alloc, &old, &new)?;
+    push_differences(
+        &mut text,
+        alloc,
+        "old.log",
+        "new.log",
+        differences.as_slice(),
+    )?;
     same_text(row.new, text.as_str(), row.lines)?;
-    if same != row.lines.is_empty() {
-        return Err(Fail::new(format_args!("the same: {same}; {}", row.lines)));
+    if differences.is_empty() != row.lines.is_empty() {
+        let count = differences.len();
+        return Err(Fail::new(format_args!("differences: {count}; {}", row.lines)));
     }
     Ok(())
 }
