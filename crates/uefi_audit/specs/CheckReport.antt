@@ -1,41 +1,44 @@
--- What follows from what `check` finds of a log: what standard error is told, and the status. Of the text nothing is said.
-use Rattle.std.specs.Prelude.{◌≡◌, Bool, true, false, List, string_bytes}
-use Rattle.std.specs.List.{All, Any}
-use Rattle.uefi_tcg.specs.v2.Event.{Table}
-use Rattle.uefi_tcg.specs.Entries.{Contents, Entry}
-use Rattle.uefi_audits.specs.Check.{IsChecked}
-use Rattle.uefi_audits.specs.declared.check.Checked.TheVariants.{MatchesNone}
-use Rattle.audit_text.specs.declared.text.LogFile.{LogFile}
+-- What `check` prints of a log.
+use Rattle.std.specs.Prelude.{ℕ, ◌≡◌, Bool, true, false, List, [], ◌∷◌, map}
+use Rattle.std.specs.declared.alloc.Global.{Global}
+use Rattle.uefi_tcg.specs.Entries.{Entry}
+use Rattle.pcr_replay.specs.ReadLogs.{entries_in}
+use Rattle.uefi_audits.specs.CheckResult.{IsCheckResult, Mismatched, mismatch_of}
+use Rattle.uefi_audits.specs.Judgement.{is_read, judgement_of}
+use Rattle.uefi_audits.specs.declared.check.counts.TypeCounts.{TypeCounts}
+use Rattle.uefi_audits.specs.declared.check.result.CheckResult.{CheckResult}
+use Rattle.audit_text.specs.json.Check.{check_lines}
+use Rattle.audit_text.specs.text.Check.{check_text}
 use Rattle.uefi_audit.specs.Ends.{worse}
-use Rattle.uefi_audit.specs.Judging.{is_read, judged_status, judgement_lines, judgement_of}
+use Rattle.uefi_audit.specs.Judged.{judged_status, judgement_messages}
+use Rattle.uefi_audit.specs.Printed.{Printed}
 use Rattle.uefi_audit.specs.declared.failure.Status.{Status}
 use Rattle.uefi_audit.specs.declared.failure.Status.TheVariants.{Well, Differs}
-use Rattle.uefi_audit.specs.declared.judging.Judgement.{Judgement}
-use Rattle.uefi_audit.specs.declared.report.Report.{Report}
-use Rattle.uefi_audit.specs.declared.request.Reading.{Reading}
+use Rattle.uefi_audit.specs.declared.log_file.LogFile.{LogFile}
+use Rattle.uefi_audit.specs.declared.request.Format.{Format}
+use Rattle.uefi_audit.specs.declared.request.Format.TheVariants.{Text, Json}
 
--- An event whose digests are the hash of its data in none of the forms of its type, though the log has what was measured.
-abbrev pub Mismatches : Entry → Type 0
-Mismatches entry = IsChecked entry.event MatchesNone
+-- What was found of the events of a log of this name, in a format.
+unfoldable pub found_text : Format → List ℕ → List Mismatched → List TypeCounts → List ℕ
+found_text Text name mismatches types = check_text name mismatches types
+found_text Json name mismatches types = check_lines name mismatches types
 
--- Whether no event of a list is a mismatch: with `true` none is, with `false` some event is.
-unfoldable pub TellsWhetherAllMatch : List Entry → Bool → Type 0
-TellsWhetherAllMatch entries true = All (λ entry. Mismatches entry → ⊥) entries
-TellsWhetherAllMatch entries false = Any Mismatches entries
+-- The status: whether no event is a mismatch.
+abbrev pub found_status : List Mismatched → Status
+found_status [] = Well
+found_status (mismatch ∷ more) = Differs
 
--- The status that follows, if the events are read.
-unfoldable pub IsCheckStatus : Bool → List Entry → Status → Type 0
-IsCheckStatus false entries status = status ≡ Well
-IsCheckStatus true entries Well = TellsWhetherAllMatch entries true
-IsCheckStatus true entries Differs = TellsWhetherAllMatch entries false
-IsCheckStatus true entries _ = ⊥
+-- What is found of events is printed, and gives the status, if they are read; and else nothing is, and this status stays.
+unfoldable pub IsCheckedIf : Bool → Status → Format → List ℕ → List Entry → List ℕ → Status → Type 0
+IsCheckedIf true judged format name entries text status =
+    (found : CheckResult Global) × IsCheckResult entries found
+    × (text ≡ found_text format name (map mismatch_of found.mismatches.items) found.types.items)
+    × (status ≡ worse judged (found_status (map mismatch_of found.mismatches.items)))
+IsCheckedIf false judged format name entries text status = (text ≡ []) × (status ≡ judged)
 
--- What is printed of a log, and the worse status.
-pub record IsCheckReport (file : LogFile) (reading : Reading) (table : Table) (contents : Contents) (report : Report)
-    : Type 0 where
-  pub judgement : Judgement
-  pub judged : judgement ≡ judgement_of reading file.log table contents
-  pub told : string_bytes report.told ≡ judgement_lines reading file table contents judgement
-  pub of_events : Status
-  pub checked : IsCheckStatus (is_read judgement) contents.entries of_events
-  pub status : report.status ≡ worse (judged_status judgement) of_events
+-- What is printed of a log.
+pub record IsCheckReport (allow_left_over : Bool) (file : LogFile) (format : Format) (printed : Printed) : Type 0 where
+  pub messages : printed.messages ≡ judgement_messages file (judgement_of allow_left_over file.read.now)
+  pub checked : IsCheckedIf (is_read (judgement_of allow_left_over file.read.now))
+      (judged_status (judgement_of allow_left_over file.read.now)) format file.name.now (entries_in file.read.now)
+      printed.text printed.status

@@ -1,31 +1,35 @@
 -- What `events` prints of a log.
-use Rattle.std.specs.Prelude.{◌≡◌, ℕ, Bool, true, false, List, [], string_bytes, ⊤}
-use Rattle.uefi_tcg.specs.v2.Event.{Table}
-use Rattle.uefi_tcg.specs.Entries.{Contents, Entry}
-use Rattle.audit_text.specs.declared.text.LogFile.{LogFile}
-use Rattle.audit_text.specs.json.Events.{AreLogLines}
-use Rattle.uefi_audit.specs.Judging.{is_read, judged_status, judgement_lines, judgement_of}
-use Rattle.uefi_audit.specs.declared.judging.Judgement.{Judgement}
-use Rattle.uefi_audit.specs.declared.report.Report.{Report}
+use Rattle.std.specs.Prelude.{ℕ, ◌≡◌, ◌++◌, Bool, true, false, List, [], Option, None, Some}
+use Rattle.uefi_tcg.specs.v2.Header.{Header}
+use Rattle.pcr_replay.specs.ReadLogs.{entries_in, header_in, uintn_size_in}
+use Rattle.uefi_audits.specs.Judgement.{is_read, judgement_of}
+use Rattle.audit_text.specs.json.Events.{AreEventLines}
+use Rattle.audit_text.specs.text.Events.{AreEventBlocks, header_block}
+use Rattle.uefi_audit.specs.Judged.{judged_status, judgement_messages}
+use Rattle.uefi_audit.specs.Printed.{Printed}
+use Rattle.uefi_audit.specs.declared.log_file.LogFile.{LogFile}
 use Rattle.uefi_audit.specs.declared.request.Format.{Format}
 use Rattle.uefi_audit.specs.declared.request.Format.TheVariants.{Text, Json}
-use Rattle.uefi_audit.specs.declared.request.Reading.{Reading}
 
--- The events in a format: as JSON their lines. Nothing is known of the text.
-abbrev pub AreEvents : Format → LogFile → List Entry → List ℕ → Type 0
-AreEvents Json file entries text = AreLogLines file entries text
-AreEvents Text file entries text = ⊤
+-- The block of a header, if there is one.
+unfoldable pub header_text : List ℕ → Option Header → List ℕ
+header_text name None = []
+header_text name (Some header) = header_block name header
+
+-- The events in a format: as text the header's block and theirs, and as JSON their lines.
+unfoldable pub AreEvents : Format → LogFile → List ℕ → Type 0
+AreEvents Text file text =
+    (blocks : List ℕ) × AreEventBlocks (uintn_size_in file.read.now) file.name.now (entries_in file.read.now) blocks
+    × (text ≡ header_text file.name.now (header_in file.read.now) ++ blocks)
+AreEvents Json file text = AreEventLines (uintn_size_in file.read.now) file.name.now (entries_in file.read.now) text
 
 -- They are printed if they are read, and else nothing is.
-unfoldable pub AreEventsIf : Bool → Format → LogFile → List Entry → List ℕ → Type 0
-AreEventsIf true format file entries text = AreEvents format file entries text
-AreEventsIf false format file entries text = text ≡ []
+unfoldable pub AreEventsIf : Bool → Format → LogFile → List ℕ → Type 0
+AreEventsIf true format file text = AreEvents format file text
+AreEventsIf false format file text = text ≡ []
 
 -- What is printed of a log.
-pub record IsEventsReport (file : LogFile) (reading : Reading) (format : Format) (table : Table) (contents : Contents)
-    (report : Report) : Type 0 where
-  pub judgement : Judgement
-  pub judged : judgement ≡ judgement_of reading file.log table contents
-  pub told : string_bytes report.told ≡ judgement_lines reading file table contents judgement
-  pub events : AreEventsIf (is_read judgement) format file contents.entries (string_bytes report.text)
-  pub status : report.status ≡ judged_status judgement
+pub record IsEventsReport (allow_left_over : Bool) (file : LogFile) (format : Format) (printed : Printed) : Type 0 where
+  pub messages : printed.messages ≡ judgement_messages file (judgement_of allow_left_over file.read.now)
+  pub events : AreEventsIf (is_read (judgement_of allow_left_over file.read.now)) format file printed.text
+  pub status : printed.status ≡ judged_status (judgement_of allow_left_over file.read.now)

@@ -1,13 +1,10 @@
 pub mod Ends
-pub mod Judging
-pub mod Notes
-pub mod Replaying
-pub mod private
-pub mod ReplayReport
+pub mod Printed
+pub mod Judged
 pub mod EventsReport
+pub mod ReplayReport
 pub mod CheckReport
 pub mod Comparison
-pub mod Missing
 pub mod Verification
 pub mod Held
 pub mod CommandLine

@@ -1,47 +1,96 @@
 -- What `replay` prints of a log.
-use Rattle.std.specs.Prelude.{◌≡◌, ℕ, List, [], ◌++◌, string_bytes}
-use Rattle.uefi_tcg.specs.v2.Event.{Table}
-use Rattle.uefi_tcg.specs.Entries.{Contents}
-use Rattle.audit_text.specs.declared.text.LogFile.{LogFile}
+use Rattle.std.specs.Prelude.{◌≡◌, ℕ, Bool, true, false, List, [], ◌++◌, codes, flat_map, map, None, Some, if◌then◌else◌}
+use Rattle.uefi_tcg.specs.Entries.{Entry}
+use Rattle.pcr_replay.specs.ReadLogs.{entries_in}
+use Rattle.uefi_audits.specs.Facts.{AreFactsOf}
+use Rattle.uefi_audits.specs.Ignored.{has_no_pcr}
+use Rattle.uefi_audits.specs.Judgement.{is_read, judgement_of}
+use Rattle.uefi_audits.specs.LogReplay.{IsReplayOf, is_undetermined}
+use Rattle.uefi_audits.specs.Replay.{bank_outcomes_of}
+use Rattle.uefi_audits.specs.declared.facts.LogFacts.{LogFacts}
+use Rattle.uefi_audits.specs.declared.log_replay.LogReplay.{LogReplay}
+use Rattle.audit_text.specs.json.Replay.{replay_line}
+use Rattle.audit_text.specs.text.Pcrs.{bank_lines}
+use Rattle.audit_text.specs.text.Remarks.{ignored_line, inactive_line, start_lines, unsupported_line}
+use Rattle.audit_text.specs.text.Undetermined.{undetermined_lines}
+use Rattle.audit_text.specs.words.Shown.{shown_name}
 use Rattle.uefi_audit.specs.Ends.{worse}
-use Rattle.uefi_audit.specs.Judging.{judged_status, judgement_lines, judgement_of}
-use Rattle.uefi_audit.specs.Notes.{has_no_pcr}
-use Rattle.uefi_audit.specs.Replaying.{AreReplayNotes, IsLeftOverText, IsPcrsText, asked_pcrs, replay_status}
+use Rattle.uefi_audit.specs.Judged.{judged_status, judgement_messages}
+use Rattle.uefi_audit.specs.Printed.{Printed}
 use Rattle.uefi_audit.specs.declared.failure.Status.{Status}
-use Rattle.uefi_audit.specs.declared.failure.Status.TheVariants.{Well}
-use Rattle.uefi_audit.specs.declared.judging.Judgement.{Judgement}
-use Rattle.uefi_audit.specs.declared.judging.Judgement.TheVariants.{Accepted, NothingMeasured, LeftOver, ManyAlgorithms}
+use Rattle.uefi_audit.specs.declared.failure.Status.TheVariants.{Well, Differs, Unjudged}
+use Rattle.uefi_audit.specs.declared.log_file.LogFile.{LogFile}
 use Rattle.uefi_audit.specs.declared.replay.Asked.{Asked}
-use Rattle.uefi_audit.specs.declared.report.Report.{Report}
-use Rattle.uefi_audit.specs.declared.request.Reading.{Reading}
+use Rattle.uefi_audit.specs.declared.request.Format.{Format}
+use Rattle.uefi_audit.specs.declared.request.Format.TheVariants.{Text, Json}
 
--- Of a log whose events are read: the notes, the PCRs and their status.
-pub record IsPcrReport (file : LogFile) (asked : Asked) (table : Table) (contents : Contents)
-    (told text : List ℕ) (status : Status) : Type 0 where
-  pub notes : AreReplayNotes file.name.now asked table contents.entries told
-  pub pcrs : IsPcrsText file asked table contents text
-  pub of_pcrs : status ≡ replay_status (asked_pcrs asked contents.entries) (has_no_pcr contents.entries)
+-- The messages on a replay: the locality that is assumed, the banks that weren't replayed, the PCRs that are undetermined, and the events without effect.
+abbrev pub replay_messages : List ℕ → LogFacts → LogReplay → List ℕ
+replay_messages name facts replay =
+    start_lines name facts.start ++ (flat_map (inactive_line name) replay.inactive.items
+    ++ (unsupported_line name replay.unsupported.items
+    ++ (flat_map (undetermined_lines name) (map bank_outcomes_of replay.banks.items)
+    ++ flat_map (ignored_line name) replay.ignored.items)))
 
--- Of another log: no more is told, and there is at most an object without PCRs.
-pub record IsUnreadReport (IsWithoutPcrs : List ℕ → Type 0) (told text : List ℕ) (status : Status) : Type 0 where
-  pub no_notes : told ≡ []
-  pub no_pcrs : IsWithoutPcrs text
-  pub no_more : status ≡ Well
+-- The line with a log's name, if it is one of many; and its PCRs as text.
+unfoldable pub name_line : Bool → List ℕ → List ℕ
+name_line is_one_of_many name = if is_one_of_many then shown_name name ++ codes ":\n" else []
 
--- What follows from the judgement.
-unfoldable pub IsReportBy : Judgement → LogFile → Asked → Table → Contents → List ℕ → List ℕ → Status → Type 0
-IsReportBy Accepted file asked table contents = IsPcrReport file asked table contents
-IsReportBy NothingMeasured file asked table contents = IsPcrReport file asked table contents
-IsReportBy LeftOver file asked table contents = IsUnreadReport (IsLeftOverText asked.format file asked.locality table contents)
-IsReportBy ManyAlgorithms file asked table contents = IsUnreadReport (λ text. text ≡ [])
+abbrev pub pcrs_text : Bool → List ℕ → LogReplay → List ℕ
+pcrs_text is_one_of_many name replay =
+    name_line is_one_of_many name ++ flat_map bank_lines (map bank_outcomes_of replay.banks.items)
 
--- What is printed of a log: what is told of its judgement comes first, and the worse status counts.
-pub record IsReplayReport (file : LogFile) (reading : Reading) (asked : Asked) (table : Table) (contents : Contents)
-    (report : Report) : Type 0 where
-  pub judgement : Judgement
-  pub judged : judgement ≡ judgement_of reading file.log table contents
-  pub notes : List ℕ
-  pub of_pcrs : Status
-  pub by_judgement : IsReportBy judgement file asked table contents notes (string_bytes report.text) of_pcrs
-  pub told : string_bytes report.told ≡ judgement_lines reading file table contents judgement ++ notes
-  pub status : report.status ≡ worse (judged_status judgement) of_pcrs
+-- The PCRs in a format.
+unfoldable pub replay_text : Format → Bool → List ℕ → LogFacts → LogReplay → List ℕ
+replay_text Text is_one_of_many name facts replay = pcrs_text is_one_of_many name replay
+replay_text Json is_one_of_many name facts replay = replay_line name facts (Some (map bank_outcomes_of replay.banks.items))
+
+-- The status: no bank was replayed, or a PCR is undetermined; or an event is of a PCR that no TPM has.
+abbrev pub replay_status : LogReplay → Status
+replay_status replay =
+    if is_undetermined replay then Unjudged
+    else if has_no_pcr replay.ignored.items then Differs
+    else Well
+
+-- What is printed of a replay, after these messages.
+abbrev pub replayed : List ℕ → List ℕ → Asked → LogFacts → LogReplay → Printed
+replayed before name asked facts replay = record {
+  messages = before ++ replay_messages name facts replay;
+  text = replay_text asked.format asked.is_one_of_many name facts replay;
+  status = replay_status replay;
+}
+
+-- It is that of what these events lead to.
+abbrev pub IsReplayed : List ℕ → List ℕ → Asked → LogFacts → List Entry → Printed → Type 0
+IsReplayed before name asked facts entries printed =
+    (replay : LogReplay) × IsReplayOf facts asked.bank entries replay × (printed ≡ replayed before name asked facts replay)
+
+-- Of a log with trailing bytes that aren't allowed: nothing as text, or an object without PCRs.
+unfoldable pub refused_text : Format → List ℕ → LogFacts → List ℕ
+refused_text Text name facts = []
+refused_text Json name facts = replay_line name facts None
+
+abbrev pub refused : List ℕ → List ℕ → Asked → LogFacts → Printed
+refused before name asked facts = record {
+  messages = before;
+  text = refused_text asked.format name facts;
+  status = Unjudged;
+}
+
+-- With this status, if nothing is worse.
+abbrev pub at_best : Status → Printed → Printed
+at_best status printed = record printed { status = worse status printed.status }
+
+-- What is printed, by whether the events are read.
+unfoldable pub IsReplayBy : Bool → Status → List ℕ → List ℕ → Asked → LogFacts → List Entry → Printed → Type 0
+IsReplayBy true status before name asked facts entries printed =
+    (found : Printed) × IsReplayed before name asked facts entries found × (printed ≡ at_best status found)
+IsReplayBy false status before name asked facts entries printed = printed ≡ refused before name asked facts
+
+-- What is printed of a log: the messages on it come first.
+abbrev pub IsReplayReport : Bool → LogFile → Asked → Printed → Type 0
+IsReplayReport allow_left_over file asked printed =
+    let judgement = judgement_of allow_left_over file.read.now in
+    (facts : LogFacts) × AreFactsOf asked.locality file.read.now facts
+    × IsReplayBy (is_read judgement) (judged_status judgement) (judgement_messages file judgement) file.name.now asked facts
+    (entries_in file.read.now) printed

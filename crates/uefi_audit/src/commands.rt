@@ -7,16 +7,15 @@ use crate::comparison::comparison_report;
 use crate::events::events_report;
 use crate::failure::{Failure, Status};
 use crate::input::{file_bytes, held_pcrs};
+use crate::log_file::{LogFile, read_log, refused_report, side_report};
 use crate::replay::{Asked, replay_report};
 use crate::report::Report;
 use crate::request::{Format, Reading, Request, Verification};
-use crate::verification::verification_report;
-use audit_text::text::LogFile;
+use crate::verification::{StatedPcrs, verification_report};
 use std::alloc::{AllocError, Global};
 use std::io::Write;
 use std::rt::Files;
 use uefi_audits::verify::PcrSelection;
-use uefi_tcg::Log;
 
 /// What is done with each of many logs.
 #[derive(Clone, Copy)]
@@ -77,8 +76,13 @@ fn do_task<R: Files + Input + Print + Eprint + AllocGlobal>(
     let Some(bytes) = file_bytes(rt, name) else {
         return Ok(Status::Unread);
     };
-    let file = log_file(name, bytes.as_slice(), reading);
-    report_of(rt.alloc(), &file, reading, task)?.print(rt)
+    match read_log(rt.alloc(), bytes.as_slice(), reading) {
+        Ok(read) => {
+            let file = LogFile { name, read: &read };
+            report_of(rt.alloc(), &file, reading, task)?.print(rt)
+        }
+        Err(error) => refused_report(rt.alloc(), name, error, reading)?.print(rt),
+    }
 }
 
 /// Returns what a task prints of a log.
@@ -108,9 +112,22 @@ fn compare_logs<R: Files + Input + Print + Eprint + AllocGlobal>(
     let (Some(old_bytes), Some(new_bytes)) = (old_bytes, new_bytes) else {
         return Ok(Status::Unread);
     };
-    let old = log_file(old, old_bytes.as_slice(), reading);
-    let new = log_file(new, new_bytes.as_slice(), reading);
-    comparison_report(rt.alloc(), &old, &new, format, reading)?.print(rt)
+    let old_read = read_log(rt.alloc(), old_bytes.as_slice(), reading);
+    let new_read = read_log(rt.alloc(), new_bytes.as_slice(), reading);
+    if let (Ok(old_read), Ok(new_read)) = (&old_read, &new_read) {
+        let old = LogFile {
+            name: old,
+            read: old_read,
+        };
+        let new = LogFile {
+            name: new,
+            read: new_read,
+        };
+        return comparison_report(rt.alloc(), &old, &new, reading, format)?.print(rt);
+    }
+    let of_old = side_report(rt.alloc(), old, &old_read, reading)?.print(rt)?;
+    let of_new = side_report(rt.alloc(), new, &new_read, reading)?.print(rt)?;
+    Ok(of_old.and(of_new))
 }
 
 /// Does `verify` with the log in a file, and the PCRs in another or in a folder.
@@ -125,16 +142,19 @@ fn verify_log<R: Files + Input + Print + Eprint + AllocGlobal>(
     let (Some(bytes), Some(held)) = (bytes, held) else {
         return Ok(Status::Unread);
     };
-    let file = log_file(asked.log, bytes.as_slice(), reading);
-    verification_report(
-        rt.alloc(),
-        &file,
-        reading,
-        asked,
-        held.as_slice(),
-        &selection,
-    )?
-    .print(rt)
+    let read = match read_log(rt.alloc(), bytes.as_slice(), reading) {
+        Ok(read) => read,
+        Err(error) => return refused_report(rt.alloc(), asked.log, error, reading)?.print(rt),
+    };
+    let file = LogFile {
+        name: asked.log,
+        read: &read,
+    };
+    let stated = StatedPcrs {
+        pcrs: held.as_slice(),
+        selection,
+    };
+    verification_report(rt.alloc(), &file, reading, asked, &stated)?.print(rt)
 }
 
 /// Returns the PCRs that `--pcrs` selects, or `None` without it.
@@ -149,16 +169,6 @@ fn selection_of<R: Eprint>(rt: &R, pcrs: Option<&str>) -> Result<Option<PcrSelec
         return Err(Failure::Arguments);
     };
     Ok(Some(selection))
-}
-
-/// Returns the log in a file of this name.
-pub(crate) fn log_file<'a>(name: &'a str, bytes: &'a [u8], reading: Reading) -> LogFile<'a>
-    ensures name { result.name ≡ name.entry }
-    ensures bytes { result.log.bytes ≡ bytes.entry }
-    ensures last_entry { result.log.last_entry ≡ reading.last_entry }
-{
-    let log = Log::new(bytes, reading.last_entry);
-    LogFile { name, log }
 }
 
 /// Writes a text to its end.

@@ -1,107 +1,95 @@
-ghost use Rattle.std.specs.Prelude.{IfOk};
-ghost use Rattle.uefi_tcg.specs.v2.Event.{Table};
-ghost use Rattle.uefi_tcg.specs.Entries.{Contents};
-ghost use Rattle.uefi_tcg.specs.Logs.{HasContents};
-ghost use Rattle.uefi_audit.specs.Comparison.{AppendsCompared, AppendsIfRead, IsComparison};
-ghost use Rattle.uefi_audits.specs.Algorithms.{HasTable};
-ghost use Rattle.uefi_audit.specs.declared.request.Format.TheVariants.{Text};
+ghost use Rattle.std.specs.Prelude.{◌≡◌, map, string_bytes, IfOk};
+ghost use Rattle.audit_text.specs.words.Shown.{shown_name};
+ghost use Rattle.uefi_audit.specs.Comparison.{IsCompared, IsComparison, compared_status, difference_text};
+ghost use Rattle.uefi_audit.specs.Printed.{printed_of};
+ghost use Rattle.uefi_audits.specs.diff.Views.{difference_of};
 
-use crate::checking::shown;
 use crate::failure::Status;
-use crate::judging::push_judgement;
+use crate::log_file::{LogFile, judge, judged_status};
 use crate::report::Report;
 use crate::request::{Format, Reading};
 use audit_text::json::push_differences_json;
-use audit_text::text::{LogFile, push_differences};
+use audit_text::text::push_differences;
+use audit_text::words::ShownName;
 use std::alloc::{AllocError, Global};
+use uefi_audits::diff::{PcrDifference, differences};
 
 /// Returns what is printed of how the events of two logs differ.
 ///
 /// # Errors
 ///
 /// [`AllocError`] if an allocation fails.
+#[tactic(auto, unfolding(crate::specs::Comparison::IsCompared))]
 pub(crate) fn comparison_report(
     alloc: Global,
     old: &LogFile<'_>,
     new: &LogFile<'_>,
-    format: Format,
     reading: Reading,
-) -> Result<Report, AllocError>
-    ensures { (old_table new_table : Table) (olds news : Contents) → HasTable old.now.log old_table
-        → HasTable new.now.log new_table → HasContents old.now.log olds
-        → HasContents new.now.log news → IfOk result
-        (IsComparison old.now new.now reading format old_table new_table olds news) }
-{
-    let mut told = String::new(alloc);
-    let mut text = String::new(alloc);
-    let of_old = push_judgement(&mut told, old, reading)?;
-    let of_new = push_judgement(&mut told, new, reading)?;
-    let are_read = of_old.is_read() && of_new.is_read();
-    let compared = push_if_read(&mut text, alloc, old, new, format, are_read)?;
-    let status = of_old.status().and(of_new.status()).and(compared);
-    Ok(Report { told, text, status })
-}
-
-/// Appends how the events of two logs differ, if they are read. Returns the status: whether they
-/// differ.
-#[tactic(auto, unfolding(crate::specs::Comparison::AppendsIfRead))]
-fn push_if_read(
-    text: &mut String,
-    alloc: Global,
-    old: &LogFile<'_>,
-    new: &LogFile<'_>,
     format: Format,
-    are_read: bool,
-) -> Result<Status, AllocError>
-    ensures { IfOk result
-        (AppendsIfRead are_read format old.now new.now text.old text.new) }
+) -> Result<Report, AllocError>
+    ensures { IfOk result (λ report. IsComparison reading.allow_left_over old.now new.now format
+        (printed_of report)) }
 {
-    if !are_read {
-        return Ok(Status::Well);
+    let (of_old, mut messages) = judge(alloc, old, reading.allow_left_over)?;
+    let (of_new, others) = judge(alloc, new, reading.allow_left_over)?;
+    messages.push_str(others.as_str())?;
+    let status = judged_status(of_old).and(judged_status(of_new));
+    if !(of_old.is_read() && of_new.is_read()) {
+        let text = String::new(alloc);
+        return Ok(Report {
+            text,
+            messages,
+            status,
+        });
     }
-    let are_same = push_differing(text, alloc, old, new, format)?;
-    Ok(if are_same {
-        Status::Well
-    } else {
-        Status::Differs
+    let found = differences(alloc, old.read, new.read)?;
+    let text = difference_text(alloc, format, old.name, new.name, found.as_slice())?;
+    let status = status.and(compared_status(found.as_slice()));
+    Ok(Report {
+        text,
+        messages,
+        status,
     })
 }
 
-/// Appends how the events of two logs differ. Returns whether they don't.
-#[tactic(auto, unfolding(crate::specs::Comparison::AppendsCompared))]
-fn push_differing(
-    text: &mut String,
-    alloc: Global,
-    old: &LogFile<'_>,
-    new: &LogFile<'_>,
-    format: Format,
-) -> Result<bool, AllocError>
-    ensures { IfOk result
-        (AppendsCompared format old.now new.now text.old text.new) }
+/// Returns the status: whether there are differences.
+fn compared_status(differences: &[PcrDifference<'_>]) -> Status
+    ensures { result ≡ compared_status (map difference_of differences.now) }
 {
-    match format {
-        Format::Text => push_lines(text, alloc, old, new),
-        Format::Json => push_differences_json(text, alloc, old, new),
+    match differences {
+        [] => Status::Well,
+        _ => Status::Differs,
     }
 }
 
-/// Appends the lines of how two logs differ, which name the files as they are printed.
-fn push_lines(
-    text: &mut String,
+/// Returns what is printed of how the events of two logs with these names differ.
+#[tactic(auto, unfolding(crate::specs::Comparison::difference_text))]
+fn difference_text(
     alloc: Global,
-    old: &LogFile<'_>,
-    new: &LogFile<'_>,
-) -> Result<bool, AllocError>
-    ensures { IfOk result (AppendsCompared Text old.now new.now text.old text.new) }
+    format: Format,
+    old_name: &str,
+    new_name: &str,
+    differences: &[PcrDifference<'_>],
+) -> Result<String, AllocError>
+    ensures { IfOk result (λ text. string_bytes text
+        ≡ difference_text format old_name.now new_name.now (map difference_of differences.now)) }
 {
-    let (old_name, new_name) = (shown(alloc, old.name)?, shown(alloc, new.name)?);
-    let old = LogFile {
-        name: old_name.as_str(),
-        log: old.log,
-    };
-    let new = LogFile {
-        name: new_name.as_str(),
-        log: new.log,
-    };
-    push_differences(text, alloc, &old, &new)
+    let mut text = String::new(alloc);
+    match format {
+        Format::Text => {
+            let (old_name, new_name) = (shown(alloc, old_name)?, shown(alloc, new_name)?);
+            let (old_name, new_name) = (old_name.as_str(), new_name.as_str());
+            push_differences(&mut text, alloc, old_name, new_name, differences)?;
+        }
+        Format::Json => push_differences_json(&mut text, alloc, old_name, new_name, differences)?,
+    }
+    Ok(text)
+}
+
+/// Returns a file's name as it is printed.
+fn shown(alloc: Global, name: &str) -> Result<String, AllocError>
+    ensures { IfOk result (λ text. string_bytes text ≡ shown_name name.now) }
+{
+    let name = ShownName(name);
+    format!(in alloc; "{name}")
 }

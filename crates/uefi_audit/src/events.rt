@@ -1,15 +1,13 @@
-ghost use Rattle.std.specs.Prelude.{◌≡◌, [], string_bytes, IfOk, OnOk};
-ghost use Rattle.uefi_tcg.specs.v2.Event.{Table};
-ghost use Rattle.uefi_tcg.specs.Entries.{Contents};
-ghost use Rattle.uefi_tcg.specs.Logs.{HasContents};
-ghost use Rattle.uefi_audit.specs.EventsReport.{AreEvents, AreEventsIf, IsEventsReport};
-ghost use Rattle.uefi_audits.specs.Algorithms.{HasTable};
+ghost use Rattle.std.specs.Prelude.{◌≡◌, string_bytes, IfOk, OnOk};
+ghost use Rattle.uefi_audit.specs.EventsReport.{AreEvents, IsEventsReport};
+ghost use Rattle.uefi_audit.specs.Printed.{printed_of};
+ghost use Rattle.audit_text.specs.words.Events.{AppendsSome};
 
-use crate::judging::push_judgement;
+use crate::log_file::{LogFile, judge, judged_status};
 use crate::report::Report;
 use crate::request::{Format, Reading};
 use audit_text::json::push_events;
-use audit_text::text::{LogFile, push_event_blocks};
+use audit_text::text::{push_event_blocks, push_header_block};
 use std::alloc::{AllocError, Global};
 
 /// Returns what is printed of the events of a log.
@@ -23,34 +21,19 @@ pub(crate) fn events_report(
     reading: Reading,
     format: Format,
 ) -> Result<Report, AllocError>
-    ensures { (table : Table) (contents : Contents) → HasTable file.now.log table
-        → HasContents file.now.log contents
-        → IfOk result (IsEventsReport file.now reading format table contents) }
+    ensures { IfOk result (λ report. IsEventsReport reading.allow_left_over file.now format
+        (printed_of report)) }
 {
-    let mut told = String::new(alloc);
+    let (judgement, messages) = judge(alloc, file, reading.allow_left_over)?;
     let mut text = String::new(alloc);
-    let judgement = push_judgement(&mut told, file, reading)?;
-    push_if_read(&mut text, alloc, file, format, judgement.is_read())?;
-    let status = judgement.status();
-    Ok(Report { told, text, status })
-}
-
-/// Appends the events of a log, if they are read.
-fn push_if_read(
-    text: &mut String,
-    alloc: Global,
-    file: &LogFile<'_>,
-    format: Format,
-    is_read: bool,
-) -> Result<(), AllocError>
-    ensures { (contents : Contents) → HasContents file.now.log contents
-        → string_bytes text.old ≡ [] → OnOk result (AreEventsIf is_read format file.now
-        contents.entries (string_bytes text.new)) }
-{
-    if is_read {
-        return push_formatted(text, alloc, file, format);
+    if judgement.is_read() {
+        push_formatted(&mut text, alloc, file, format)?;
     }
-    Ok(())
+    Ok(Report {
+        text,
+        messages,
+        status: judged_status(judgement),
+    })
 }
 
 /// Appends the events of a log in a format.
@@ -60,15 +43,16 @@ fn push_formatted(
     file: &LogFile<'_>,
     format: Format,
 ) -> Result<(), AllocError>
-    ensures { (contents : Contents) → HasContents file.now.log contents
-        → string_bytes text.old ≡ [] → OnOk result (AreEvents format file.now
-        contents.entries (string_bytes text.new)) }
+    ensures { OnOk result (AppendsSome (AreEvents format file.now) text.old text.new) }
 {
+    let (entries, uintn_size) = (file.read.entries(), file.read.uintn_size());
     match format {
-        Format::Json => push_events(text, alloc, file),
+        Format::Json => push_events(text, alloc, file.name, entries, uintn_size),
         Format::Text => {
-            push_event_blocks(text, alloc, file)?;
-            Ok(())
+            if let Some(header) = &file.read.header() {
+                push_header_block(text, alloc, file.name, header)?;
+            }
+            push_event_blocks(text, alloc, file.name, entries, uintn_size)
         }
     }
 }

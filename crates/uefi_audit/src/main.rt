@@ -2,10 +2,9 @@
 //!
 //! A byte goes through it in this order. [`program`] takes the arguments, which [`command_line`]
 //! matches by `clap`. [`request`] says what they ask for, and [`commands`] does it. [`input`] reads
-//! the files, a log at a time, and [`judging`] says whether a log can be judged. [`events`],
-//! [`replay`], [`verification`], [`comparison`] and [`checking`] make the text in memory, by the
-//! libraries `uefi_audits` and `audit_text`. It is then written. [`notes`] has what standard error
-//! is told.
+//! the files, and [`log_file`] a log in one of them, once. [`events`], [`replay`], [`verification`],
+//! [`comparison`] and [`checking`] compute what is asked for and render it as a [`report`] in memory,
+//! by the libraries `uefi_audits` and `audit_text`. It is then written.
 //!
 //! The contracts say what the values that `clap` found ask for, and which exit status and which line
 //! on standard error follow from how a run ended ([`failure`]). No contract can speak of what files
@@ -21,9 +20,7 @@ mod comparison;
 mod events;
 mod failure;
 mod input;
-mod judging;
-mod missing;
-mod notes;
+mod log_file;
 mod program;
 mod replay;
 mod report;

@@ -1,25 +1,38 @@
-ghost use Rattle.std.specs.Prelude.{◌≡◌};
-
 use crate::commands::print_text;
 use crate::failure::{Failure, Status};
+use std::alloc::Global;
 use std::io;
 
-/// What a command prints of a log, or of two, and what follows from it.
+/// What a command says of a log, or of two, and what follows from it.
 #[derive(Drop)]
 pub(crate) struct Report {
-    /// What standard error is told.
-    pub told: String,
     /// What is printed.
     pub text: String,
+    /// What standard error is told.
+    pub messages: String,
     /// The status of the run, if nothing else is wrong.
     pub status: Status,
 }
 
 impl Report {
+    ghost use Rattle.std.specs.Prelude.{◌≡◌, string_bytes};
+    ghost use Rattle.uefi_audit.specs.Printed.{printed_of, unjudged};
+
+    /// Returns the report of what can't be judged: these messages, and nothing that is printed.
+    pub(crate) fn unjudged(alloc: Global, messages: String) -> Report
+        ensures { printed_of result ≡ unjudged (string_bytes messages) }
+    {
+        Report {
+            text: String::new(alloc),
+            messages,
+            status: Status::Unjudged,
+        }
+    }
+
     /// Tells standard error, prints the text, and returns the status. If standard error is closed,
     /// the status still tells.
     pub(crate) fn print<R: Print + Eprint>(&self, rt: &R) -> Result<Status, Failure> {
-        tell(rt, self.told.as_str());
+        tell(rt, self.messages.as_str());
         print_text(&mut io::writer(rt), self.text.as_str())?;
         Ok(self.status)
     }

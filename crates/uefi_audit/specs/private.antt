@@ -1,3 +1,0 @@
--- Words of private contracts alone.
-pub mod Matches
-pub mod Reports
