@@ -1,3 +1,4 @@
 pub mod Appending
 pub mod Parentheses
 pub mod HexLines
+pub mod Unsupported

@@ -1,6 +1,6 @@
 //! What an event log leads to, as the lines that the program `uefi_audit` prints.
 //!
-//! Begin with a [`LogFile`], a log with the name of its file, and with the PCRs that
+//! Begin with a value of `uefi_audits`, such as the PCRs that
 //! [`replay_banks`](uefi_audits::replay::replay_banks) returns. [`push_banks`] appends them as
 //! `tpm2_pcrread` of tpm2-tools prints PCRs, and [`push_verdict`] whether they are those that a TPM
 //! held. [`push_differences`] compares the events of two logs, [`push_event_blocks`] appends those of
@@ -25,7 +25,6 @@ pub use self::trailing::push_trailing;
 pub use self::undetermined::push_undetermined;
 pub use self::unreplayed::{push_inactive, push_unsupported};
 pub use self::verdict::push_verdict;
-use uefi_tcg::Log;
 
 mod banks;
 mod check;
@@ -39,12 +38,3 @@ mod trailing;
 mod undetermined;
 mod unreplayed;
 mod verdict;
-
-/// An event log that was read from a file: the name to print, and the log.
-#[derive(Clone, Copy)]
-pub struct LogFile<'a> {
-    /// The file's name, as the caller gave it.
-    pub name: &'a str,
-    /// The log.
-    pub log: Log<'a>,
-}

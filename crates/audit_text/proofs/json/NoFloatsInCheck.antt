@@ -1,6 +1,6 @@
 -- No number of the JSON of what was checked is a float.
 use Rattle.std.proofs.Common.{◌≡◌, ℕ, List, [], ◌∷◌, map, refl, Bool, true, false, ◌==◌, ◌||◌}
-use Rattle.std.specs.Prelude.{cond, if◌then◌else◌, slice_index}
+use Rattle.std.specs.Prelude.{if◌then◌else◌, slice_index}
 use Rattle.std.specs.List.{fold}
 use Rattle.std.specs.Ordering.{match_ordering}
 use Rattle.std.specs.declared.cmp.Ordering.{Ordering}
@@ -11,7 +11,7 @@ use Rattle.serde_json.specs.Written.{has_float, items_have_float, members_have_f
 use Rattle.uefi_audits.specs.CheckResult.{Mismatched, all_forms, form_index}
 use Rattle.uefi_audits.specs.declared.check.counts.TypeCounts.{TypeCounts}
 use Rattle.uefi_audits.specs.declared.check.form.Form.{Form}
-use Rattle.audit_text.specs.json.Check.{counts_json, forms_members, mismatch_json, types_json, with_form}
+use Rattle.audit_text.specs.json.Check.{counts_json, mismatch_json, types_json, with_form}
 use Rattle.audit_text.specs.words.Forms.{form_name}
 use Rattle.audit_text.proofs.json.NoFloats.{event_type}
 

@@ -1,5 +1,5 @@
 -- Bytes in hex, 32 a line.
-use Rattle.std.proofs.Common.{◌≡◌, ◌∙◌, ℕ, zero, suc, ◌+◌, ◌-◌, ◌/◌, ◌<◌, ◌≤◌, List, ◌++◌, length, take, drop, ap, sym, arith, append_assoc, length-drop}
+use Rattle.std.proofs.Common.{◌≡◌, ◌∙◌, ℕ, suc, ◌-◌, ◌/◌, ◌<◌, ◌≤◌, List, ◌++◌, length, take, drop, ap, sym, arith, append_assoc, length-drop}
 use Rattle.audit_text.specs.text.EventParts.{hex_line, hex_lines, hex_lines_after}
 
 -- Of more than 32 bytes, the line of the first ones, and those of the others.

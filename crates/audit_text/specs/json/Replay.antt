@@ -1,5 +1,5 @@
 -- What `uefi_audit replay --json` prints of a log: an object with the PCRs that it leads to, by banks. The keys of an object come in order.
-use Rattle.std.specs.Prelude.{◌≡◌, ℕ, ◌==◌, not, Bool, List, [], ◌∷◌, ◌++◌, length, map, codes, Ok, Err, Option, None, Some, if◌then◌else◌}
+use Rattle.std.specs.Prelude.{ℕ, ◌==◌, not, Bool, List, [], ◌∷◌, ◌++◌, map, codes, Ok, Err, Option, None, Some, if◌then◌else◌}
 use Rattle.std.specs.List.{filter, list_any}
 use Rattle.hex.specs.Hex.{encode_lower}
 use Rattle.serde_json.specs.Data.{Data, null, boolean, number, unsigned, string, array, object, member, no_members}
@@ -9,19 +9,13 @@ use Rattle.pcr_replay.specs.declared.bank.Bank.{Bank}
 use Rattle.pcr_replay.specs.declared.fault.Undetermined.{Undetermined}
 use Rattle.uefi_audits.specs.declared.start.KnownStart.{KnownStart}
 use Rattle.uefi_audits.specs.declared.facts.LogFacts.{LogFacts}
-use Rattle.uefi_tcg.specs.Entries.{Contents}
-use Rattle.uefi_tcg.specs.Logs.{left_over, padding}
-use Rattle.uefi_tcg.specs.v2.Event.{Table}
 use Rattle.pcr_replay.specs.Replay.{Outcome}
-use Rattle.uefi_audits.specs.Algorithms.{AreAlgorithmsIn}
 use Rattle.audit_text.specs.words.Numbers.{hex_text}
 use Rattle.uefi_audits.specs.Replay.{BankOutcomes}
 use Rattle.audit_text.specs.json.Line.{line_of}
-use Rattle.audit_text.specs.declared.text.LogFile.{LogFile}
 use Rattle.uefi_audits.specs.Naming.{bank_name, bank_of}
 use Rattle.uefi_audits.specs.Numbered.{numbered}
 use Rattle.audit_text.specs.words.Faults.{fault_text}
-use Rattle.uefi_audits.specs.Whole.{is_accepted}
 
 -- A PCR: its value in hex, or `null` if it's undetermined.
 unfoldable pub register_json : Outcome → Data

@@ -1,5 +1,5 @@
 -- How signatures of a database are shown.
-use Rattle.std.specs.Prelude.{ℕ, List, Option, Some, None, codes, false, if◌then◌else◌}
+use Rattle.std.specs.Prelude.{ℕ, List, Option, Some, None, codes, if◌then◌else◌}
 use Rattle.std.specs.Str.{bytes_eq}
 use Rattle.uefi_tcg.specs.declared.content.signature.signature_type.TheConstants.SignatureType.{SHA1, SHA256, SHA384, SHA512, RSA2048, X509, X509_SHA256}
 

@@ -9,7 +9,7 @@ use crate::json::content::firmware::{blob_json, described_json, header_json, tag
 use crate::json::content::gpt::gpt_json;
 use crate::json::content::path::{only, path_json, put_rest, put_text};
 use crate::json::content::signatures::{lists_json, signature_json};
-use crate::json::content::variable::{boot_option_json, numbers_json, variable_json};
+use crate::json::content::variable::{boot_option_json, boot_order_json, variable_json};
 use crate::words::texts::{event_text, version_text};
 use serde_json::{Map, Value, put};
 use std::alloc::{AllocError, Global};
@@ -61,8 +61,7 @@ pub(crate) fn content_json(alloc: Global, content: &EventContent<'_>) -> Result<
             variable_json(alloc, variable, Some(value))
         }
         EventContent::BootOrder(variable, order) => {
-            let numbers = Value::Array(numbers_json(alloc, order)?);
-            let value = only(alloc, "boot_order", numbers)?;
+            let value = only(alloc, "boot_order", boot_order_json(alloc, order)?)?;
             variable_json(alloc, variable, Some(value))
         }
         EventContent::SignatureLists(variable, lists) => {

@@ -38,10 +38,7 @@ fn push_line<A: Allocator>(
         (AppendsText messages.old messages.new (inactive_line name.now bank)) }
 {
     let (name, bank) = (ShownName(name), bank_name(bank));
-    writeln!(
-        messages,
-        "{name}: no event has a digest of the bank {bank}"
-    )
+    writeln!(messages, "{name}: no event has a digest of the bank {bank}")
 }
 
 /// Appends which banks can't be replayed, those of these algorithms, if there are any.

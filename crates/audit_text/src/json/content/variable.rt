@@ -1,5 +1,6 @@
 ghost use Rattle.std.specs.Prelude.{◌≡◌, codes, map, IfOk, OnOk, option_map};
-ghost use Rattle.serde_json.specs.View.{view, members_view};
+ghost use Rattle.serde_json.specs.Data.{array};
+ghost use Rattle.serde_json.specs.View.{items_of, view, members_view};
 ghost use Rattle.uefi_path.specs.LoadOptionViews.{load_option_of};
 ghost use Rattle.uefi_tcg.specs.content.BootOrderViews.{order_of};
 ghost use Rattle.uefi_tcg.specs.content.Views.{variable_of};
@@ -77,8 +78,16 @@ pub(crate) fn boot_option_json(alloc: Global, option: &LoadOption<'_>) -> Result
     Ok(Value::Object(members))
 }
 
+/// Returns the order of boot options: their numbers.
+pub(crate) fn boot_order_json(alloc: Global, order: &BootOrder<'_>) -> Result<Value, AllocError>
+    ensures { IfOk result (λ value. view value
+        ≡ array (items_of (map number_json (order_of order.now)))) }
+{
+    Ok(Value::Array(numbers_json(alloc, order)?))
+}
+
 /// Returns the numbers of boot options, in order.
-pub(crate) fn numbers_json(alloc: Global, order: &BootOrder<'_>) -> Result<Vec<Value>, AllocError>
+fn numbers_json(alloc: Global, order: &BootOrder<'_>) -> Result<Vec<Value>, AllocError>
     ensures { IfOk result
         (λ values. map view values.items ≡ map number_json (order_of order.now)) }
 {

@@ -4,4 +4,4 @@ use Rattle.audit_text.proofs.text.start.push_start.Goals as goal
 
 pub returns : goal.returns
 unfolding start_lines
-returns g c = rw c.if-stated.false (simp append_assoc c.writeln.ensures.bytes)
+returns g c = rw c.if-known.false (simp append_assoc c.writeln.ensures.bytes)
