@@ -3,13 +3,14 @@
 //! [`held_in_text`] reads PCRs from a text, [`held_in_file`] one PCR from its file in Linux's
 //! sysfs. [`PcrSelection`] says which of them are asked for: [`selected_pcrs`] are those that are
 //! held, and [`missing_pcrs`] those that aren't. [`Verdict::new`] compares PCRs with those that the
-//! events of a log lead to.
+//! events of a log lead to in their banks, the [`held_banks`].
 //!
 //! The contracts say what text is read as which PCRs, and where another text is wrong
 //! (`specs/verify/Reading.antt`); which text selects which PCRs (`specs/verify/Selection.antt`), and
 //! which of them are missing (`specs/verify/Missing.antt`); and which PCRs agree
 //! (`specs/verify/Verdict.antt`).
 
+pub use self::banks::held_banks;
 pub use self::comparison::{agrees, led_to};
 pub use self::held::{Held, HeldError, HeldPcr};
 pub use self::missing::{MissingPcr, missing_pcrs};

@@ -7,10 +7,11 @@ use std::alloc::{AllocError, Allocator};
 
 /// Returns the banks of which a PCR is held, in the order of [`Bank::ALL`]: those that have to be
 /// replayed.
-pub(crate) fn held_banks<A: Allocator>(
-    alloc: A,
-    held: &[HeldPcr],
-) -> Result<Vec<Bank, A>, AllocError>
+///
+/// # Errors
+///
+/// [`AllocError`] if an allocation fails.
+pub fn held_banks<A: Allocator>(alloc: A, held: &[HeldPcr]) -> Result<Vec<Bank, A>, AllocError>
     ensures { IfOk result (λ banks. banks.items ≡ held_banks held.now) }
 {
     Bank::ALL
