@@ -1,4 +1,2 @@
 pub mod Differences
 pub mod Views
-pub mod Order
-pub mod Index

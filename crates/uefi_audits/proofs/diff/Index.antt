@@ -9,8 +9,9 @@ use Rattle.uefi_tcg.specs.LogViews.{event_of}
 use Rattle.uefi_audits.specs.declared.diff.order.EventKey.{EventKey}
 use Rattle.uefi_audits.specs.declared.diff.pcr.NumberedEntry.{NumberedEntry}
 use Rattle.uefi_audits.specs.diff.Differences.{IsAmong, Numbered, event_in}
-use Rattle.uefi_audits.specs.diff.Index.{AreKeysOf, key_cmp}
-use Rattle.uefi_audits.specs.diff.Views.{keyed_event, numbered_of}
+use Rattle.uefi_audits.specs.private.diff.Index.{AreKeysOf, key_cmp}
+use Rattle.uefi_audits.specs.private.diff.Views.{keyed_event}
+use Rattle.uefi_audits.specs.diff.Views.{numbered_of}
 use Rattle.uefi_audits.proofs.diff.Orders.{equal_if_same}
 
 -- An event is among entries and one more if it is among them, or that one's.

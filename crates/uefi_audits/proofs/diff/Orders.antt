@@ -8,7 +8,7 @@ use Rattle.std.specs.Cmp.{tied_itself}
 use Rattle.std.specs.Cmp.Lexicographic.{lists_total, slice_cmp}
 use Rattle.std.proofs.lemmas.Cmp.{ranked}
 use Rattle.uefi_tcg.specs.v2.Event.{Digest, Event}
-use Rattle.uefi_audits.specs.diff.Order.{content_cmp, digest_cmp, digest_cmp_total, event_cmp, event_cmp_total, kind_cmp}
+use Rattle.uefi_audits.specs.private.diff.Order.{content_cmp, digest_cmp, digest_cmp_total, event_cmp, event_cmp_total, kind_cmp}
 
 both_equal : (one other : Ordering) → ordering_then one other ≡ Equal → (one ≡ Equal) × (other ≡ Equal)
 both_equal Less other is = cc

@@ -8,8 +8,9 @@ use Rattle.uefi_tcg.specs.v2.Event.{Event}
 use Rattle.uefi_audits.specs.declared.diff.order.EventKey.{EventKey}
 use Rattle.uefi_audits.specs.declared.diff.pcr.NumberedEntry.{NumberedEntry}
 use Rattle.uefi_audits.specs.diff.Differences.{AreThoseOnly, IsAmong, Numbered, event_in}
-use Rattle.uefi_audits.specs.diff.Index.{AreKeysOf, key_cmp}
-use Rattle.uefi_audits.specs.diff.Views.{keyed_event, numbered_of}
+use Rattle.uefi_audits.specs.private.diff.Index.{AreKeysOf, key_cmp}
+use Rattle.uefi_audits.specs.private.diff.Views.{keyed_event}
+use Rattle.uefi_audits.specs.diff.Views.{numbered_of}
 
 -- One that is among the others, and one that isn't.
 pub known : (others : List Numbered) (found : Numbered) (keys : BTreeSet EventKey) (key : EventKey) (has : Bool)

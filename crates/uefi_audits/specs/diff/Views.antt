@@ -1,21 +1,15 @@
 -- What values stand for: words that contracts name them by.
 use Rattle.std.specs.Prelude.{map, option_map}
-use Rattle.uefi_tcg.specs.LogViews.{entry_of, event_of}
-use Rattle.uefi_tcg.specs.v2.Event.{Event}
+use Rattle.uefi_tcg.specs.LogViews.{entry_of}
 use Rattle.uefi_audits.specs.content.Views.{content_of}
 use Rattle.uefi_audits.specs.diff.Differences.{Difference, Numbered, Side}
 use Rattle.uefi_audits.specs.declared.diff.difference.LogSide.{LogSide}
 use Rattle.uefi_audits.specs.declared.diff.difference.PcrDifference.{PcrDifference}
-use Rattle.uefi_audits.specs.declared.diff.order.EventKey.{EventKey}
 use Rattle.uefi_audits.specs.declared.diff.pcr.NumberedEntry.{NumberedEntry}
 
 -- An entry with its index and what its data say.
 abbrev pub numbered_of : NumberedEntry → Numbered
 numbered_of found = record { index = found.index; entry = entry_of found.entry; content = content_of found.content }
-
--- The event of a key.
-abbrev pub keyed_event : EventKey → Event
-keyed_event key = event_of key.event
 
 -- What one log has of a PCR, and how its events differ.
 abbrev pub side_of : LogSide → Side

@@ -1,6 +1,6 @@
 ghost use Rattle.std.specs.Prelude.{map, IfOk};
 ghost use Rattle.uefi_audits.specs.diff.Differences.{AreThoseOnly};
-ghost use Rattle.uefi_audits.specs.diff.Index.{AreKeysOf};
+ghost use Rattle.uefi_audits.specs.private.diff.Index.{AreKeysOf};
 ghost use Rattle.uefi_audits.specs.diff.Views.{numbered_of};
 
 use crate::diff::order::EventKey;

@@ -5,7 +5,7 @@ ghost use Rattle.std.specs.Cmp.Lexicographic.{slice_cmp};
 ghost use Rattle.uefi_tcg.specs.v2.Views.{digests_of};
 ghost use Rattle.uefi_tcg.specs.Entries.{with_sha1};
 ghost use Rattle.uefi_tcg.specs.LogViews.{event_of};
-ghost use Rattle.uefi_audits.specs.diff.Order.{content_cmp, digest_cmp, event_cmp, event_cmp_total, kind_cmp};
+ghost use Rattle.uefi_audits.specs.private.diff.Order.{content_cmp, digest_cmp, event_cmp, event_cmp_total, kind_cmp};
 
 use std::cmp::Ordering;
 use uefi_tcg::v2::PcrEventDigests;
@@ -30,7 +30,7 @@ impl<'a> EventKey<'a> {
 }
 
 impl<'a> PartialEq for EventKey<'a> {
-    ghost use Rattle.uefi_audits.specs.diff.Views.{keyed_event};
+    ghost use Rattle.uefi_audits.specs.private.diff.Views.{keyed_event};
 
     ghost eq = { λ x y. eq_by_cmp event_cmp (keyed_event x) (keyed_event y) };
 
@@ -42,13 +42,13 @@ impl<'a> PartialEq for EventKey<'a> {
 }
 
 impl<'a> Eq for EventKey<'a> {
-    ghost use Rattle.uefi_audits.specs.diff.Views.{keyed_event};
+    ghost use Rattle.uefi_audits.specs.private.diff.Views.{keyed_event};
 
     ghost laws = { on_equiv keyed_event (eq_by_cmp_equiv event_cmp_total) };
 }
 
 impl<'a> PartialOrd for EventKey<'a> {
-    ghost use Rattle.uefi_audits.specs.diff.Views.{keyed_event};
+    ghost use Rattle.uefi_audits.specs.private.diff.Views.{keyed_event};
 
     ghost partial_cmp = { λ x y. Some (event_cmp (keyed_event x) (keyed_event y)) };
 
@@ -60,7 +60,7 @@ impl<'a> PartialOrd for EventKey<'a> {
 }
 
 impl<'a> Ord for EventKey<'a> {
-    ghost use Rattle.uefi_audits.specs.diff.Views.{keyed_event};
+    ghost use Rattle.uefi_audits.specs.private.diff.Views.{keyed_event};
 
     ghost cmp = { λ x y. event_cmp (keyed_event x) (keyed_event y) };
 
@@ -84,7 +84,7 @@ pub fn is_same_event(one: &LogEvent<'_>, other: &LogEvent<'_>) -> bool
 }
 
 /// Compares two events: by PCR, type, data and digests.
-#[tactic(auto, unfolding(crate::specs::diff::Order::event_cmp))]
+#[tactic(auto, unfolding(crate::specs::private::diff::Order::event_cmp))]
 fn compare(one: &LogEvent<'_>, other: &LogEvent<'_>) -> Ordering
     ensures { result ≡ event_cmp (event_of one.now) (event_of other.now) }
 {

@@ -1,7 +1,7 @@
 use Rattle.std.proofs.Common.{◌∙◌, List, ap, arith, map, subst}
 use Rattle.uefi_tcg.specs.LogViews.{event_of}
 use Rattle.uefi_audits.specs.declared.diff.pcr.NumberedEntry.{NumberedEntry}
-use Rattle.uefi_audits.specs.diff.Index.{AreKeysOf}
+use Rattle.uefi_audits.specs.private.diff.Index.{AreKeysOf}
 use Rattle.uefi_audits.specs.diff.Views.{numbered_of}
 use Rattle.uefi_audits.proofs.FirstOnes.{all_taken}
 use Rattle.uefi_audits.proofs.diff.Index.{keys_upto}

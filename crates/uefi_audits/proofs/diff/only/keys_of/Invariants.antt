@@ -1,5 +1,5 @@
 use Rattle.std.proofs.Common.{map, take}
-use Rattle.uefi_audits.specs.diff.Index.{AreKeysOf}
+use Rattle.uefi_audits.specs.private.diff.Index.{AreKeysOf}
 use Rattle.uefi_audits.specs.diff.Views.{numbered_of}
 use Rattle.uefi_audits.proofs.diff.only.keys_of.Given as goal
 

@@ -1,5 +1,5 @@
 use Rattle.uefi_tcg.specs.LogViews.{event_of}
-use Rattle.uefi_audits.specs.diff.Order.{content_cmp, event_cmp, kind_cmp}
+use Rattle.uefi_audits.specs.private.diff.Order.{content_cmp, event_cmp, kind_cmp}
 use Rattle.uefi_audits.proofs.diff.Orders.{first_is, second_is}
 use Rattle.uefi_audits.proofs.diff.order.compare.Goals as goal
 

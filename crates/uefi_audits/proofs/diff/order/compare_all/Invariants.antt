@@ -1,6 +1,6 @@
 use Rattle.std.proofs.Common.{◌≡◌}
 use Rattle.std.specs.Cmp.Lexicographic.{slice_cmp}
-use Rattle.uefi_audits.specs.diff.Order.{digest_cmp}
+use Rattle.uefi_audits.specs.private.diff.Order.{digest_cmp}
 use Rattle.uefi_audits.proofs.diff.order.compare_all.Given as goal
 
 -- Those to come decide.

@@ -2,7 +2,7 @@ use Rattle.std.proofs.Common.{◌∙◌, ap₂}
 use Rattle.std.specs.Ordering.{nat_cmp}
 use Rattle.std.specs.Cmp.Lexicographic.{slice_cmp}
 use Rattle.uefi_tcg.specs.LogViews.{event_of}
-use Rattle.uefi_audits.specs.diff.Order.{digest_cmp}
+use Rattle.uefi_audits.specs.private.diff.Order.{digest_cmp}
 use Rattle.uefi_audits.proofs.diff.Orders.{first_is, second_is}
 use Rattle.uefi_audits.proofs.diff.order.compare_contents.Goals as goal
 

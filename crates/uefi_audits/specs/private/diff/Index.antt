@@ -4,8 +4,8 @@ use Rattle.std.specs.BTreeSet.{BTreeSet, contains}
 use Rattle.std.specs.declared.cmp.Ordering.{Ordering}
 use Rattle.uefi_audits.specs.declared.diff.order.EventKey.{EventKey}
 use Rattle.uefi_audits.specs.diff.Differences.{IsAmong, Numbered}
-use Rattle.uefi_audits.specs.diff.Order.{event_cmp}
-use Rattle.uefi_audits.specs.diff.Views.{keyed_event}
+use Rattle.uefi_audits.specs.private.diff.Order.{event_cmp}
+use Rattle.uefi_audits.specs.private.diff.Views.{keyed_event}
 
 abbrev pub key_cmp : EventKey → EventKey → Ordering
 key_cmp key other = event_cmp (keyed_event key) (keyed_event other)
