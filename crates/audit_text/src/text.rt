@@ -3,7 +3,7 @@
 //! Begin with a value of `uefi_audits`, such as the PCRs that
 //! [`replay_banks`](uefi_audits::replay::replay_banks) returns. [`push_banks`] appends them as
 //! `tpm2_pcrread` of tpm2-tools prints PCRs, and [`push_verdict`] whether they are those that a TPM
-//! held. [`push_differences`] compares the events of two logs, [`push_event_blocks`] appends those of
+//! held. [`push_differences`] appends how the events of two logs differ, [`push_event_blocks`] those of
 //! one, and [`push_check`] what was checked of them.
 //!
 //! The other calls append lines for standard error: [`push_judgement`] why a log can't be judged and

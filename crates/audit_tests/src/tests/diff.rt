@@ -7,6 +7,7 @@ use uefi_audits::diff::differences;
 use uefi_tcg::{LastEntry, Log};
 
 mod json_lines;
+mod values;
 
 /// Two logs, and the lines of how they differ.
 struct Row {
