@@ -1,1 +1,5 @@
 pub mod Requests
+pub mod EventsPrinted
+pub mod CheckPrinted
+pub mod Replayed
+pub mod Verifying

@@ -38,7 +38,7 @@ IsCheckedIf false judged format name entries text status = (text ≡ []) × (sta
 
 -- What is printed of a log.
 pub record IsCheckReport (allow_left_over : Bool) (file : LogFile) (format : Format) (printed : Printed) : Type 0 where
-  pub messages : printed.messages ≡ judgement_messages file (judgement_of allow_left_over file.read.now)
-  pub checked : IsCheckedIf (is_read (judgement_of allow_left_over file.read.now))
-      (judged_status (judgement_of allow_left_over file.read.now)) format file.name.now (entries_in file.read.now)
+  pub messages : printed.messages ≡ judgement_messages file (judgement_of allow_left_over file.read)
+  pub checked : IsCheckedIf (is_read (judgement_of allow_left_over file.read))
+      (judged_status (judgement_of allow_left_over file.read)) format file.name.now (entries_in file.read)
       printed.text printed.status

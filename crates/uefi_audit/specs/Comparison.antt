@@ -26,15 +26,15 @@ compared_status (difference ∷ more) = Differs
 -- What is printed of how the events of two logs differ, and the status, if both logs are read; and else nothing, and this status.
 unfoldable pub IsCompared : Bool → Status → Format → LogFile → LogFile → List ℕ → Status → Type 0
 IsCompared true judged format old new text status =
-    (differences : List Difference) × AreDifferences old.read.now new.read.now differences
+    (differences : List Difference) × AreDifferences old.read new.read differences
     × (text ≡ difference_text format old.name.now new.name.now differences)
     × (status ≡ worse judged (compared_status differences))
 IsCompared false judged format old new text status = (text ≡ []) × (status ≡ judged)
 
 -- What is printed of two logs: the messages on the old one come first, and the worst status counts.
 pub record IsComparison (allow_left_over : Bool) (old new : LogFile) (format : Format) (printed : Printed) : Type 0 where
-  pub messages : printed.messages ≡ judgement_messages old (judgement_of allow_left_over old.read.now)
-      ++ judgement_messages new (judgement_of allow_left_over new.read.now)
-  pub compared : IsCompared (is_read (judgement_of allow_left_over old.read.now) && is_read (judgement_of allow_left_over new.read.now))
-      (worse (judged_status (judgement_of allow_left_over old.read.now)) (judged_status (judgement_of allow_left_over new.read.now)))
+  pub messages : printed.messages ≡ judgement_messages old (judgement_of allow_left_over old.read)
+      ++ judgement_messages new (judgement_of allow_left_over new.read)
+  pub compared : IsCompared (is_read (judgement_of allow_left_over old.read) && is_read (judgement_of allow_left_over new.read))
+      (worse (judged_status (judgement_of allow_left_over old.read)) (judged_status (judgement_of allow_left_over new.read)))
       format old new printed.text printed.status

@@ -19,9 +19,9 @@ header_text name (Some header) = header_block name header
 -- The events in a format: as text the header's block and theirs, and as JSON their lines.
 unfoldable pub AreEvents : Format → LogFile → List ℕ → Type 0
 AreEvents Text file text =
-    (blocks : List ℕ) × AreEventBlocks (uintn_size_in file.read.now) file.name.now (entries_in file.read.now) blocks
-    × (text ≡ header_text file.name.now (header_in file.read.now) ++ blocks)
-AreEvents Json file text = AreEventLines (uintn_size_in file.read.now) file.name.now (entries_in file.read.now) text
+    (blocks : List ℕ) × AreEventBlocks (uintn_size_in file.read) file.name.now (entries_in file.read) blocks
+    × (text ≡ header_text file.name.now (header_in file.read) ++ blocks)
+AreEvents Json file text = AreEventLines (uintn_size_in file.read) file.name.now (entries_in file.read) text
 
 -- They are printed if they are read, and else nothing is.
 unfoldable pub AreEventsIf : Bool → Format → LogFile → List ℕ → Type 0
@@ -30,6 +30,6 @@ AreEventsIf false format file text = text ≡ []
 
 -- What is printed of a log.
 pub record IsEventsReport (allow_left_over : Bool) (file : LogFile) (format : Format) (printed : Printed) : Type 0 where
-  pub messages : printed.messages ≡ judgement_messages file (judgement_of allow_left_over file.read.now)
-  pub events : AreEventsIf (is_read (judgement_of allow_left_over file.read.now)) format file printed.text
-  pub status : printed.status ≡ judged_status (judgement_of allow_left_over file.read.now)
+  pub messages : printed.messages ≡ judgement_messages file (judgement_of allow_left_over file.read)
+  pub events : AreEventsIf (is_read (judgement_of allow_left_over file.read)) format file printed.text
+  pub status : printed.status ≡ judged_status (judgement_of allow_left_over file.read)

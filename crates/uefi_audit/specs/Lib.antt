@@ -1,6 +1,7 @@
 pub mod Ends
 pub mod Printed
 pub mod Judged
+pub mod Opened
 pub mod EventsReport
 pub mod ReplayReport
 pub mod CheckReport

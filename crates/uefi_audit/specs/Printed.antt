@@ -1,5 +1,6 @@
 -- What a command prints.
-use Rattle.std.specs.Prelude.{ℕ, List, [], string_bytes}
+use Rattle.std.specs.Prelude.{ℕ, List, [], ◌++◌, string_bytes}
+use Rattle.uefi_audit.specs.Ends.{worse}
 use Rattle.uefi_audit.specs.declared.failure.Status.{Status}
 use Rattle.uefi_audit.specs.declared.failure.Status.TheVariants.{Unjudged}
 use Rattle.uefi_audit.specs.declared.report.Report.{Report}
@@ -16,3 +17,11 @@ printed_of report = record { messages = string_bytes report.messages; text = str
 -- Of what can't be judged, nothing but these messages.
 abbrev pub unjudged : List ℕ → Printed
 unjudged messages = record { messages = messages; text = []; status = Unjudged }
+
+-- What is printed of two things, one after the other. The worse status counts.
+abbrev pub one_after_other : Printed → Printed → Printed
+one_after_other one other = record {
+  messages = one.messages ++ other.messages;
+  text = one.text ++ other.text;
+  status = worse one.status other.status;
+}

@@ -90,7 +90,7 @@ IsReplayBy false status before name asked facts entries printed = printed ≡ re
 -- What is printed of a log: the messages on it come first.
 abbrev pub IsReplayReport : Bool → LogFile → Asked → Printed → Type 0
 IsReplayReport allow_left_over file asked printed =
-    let judgement = judgement_of allow_left_over file.read.now in
-    (facts : LogFacts) × AreFactsOf asked.locality file.read.now facts
+    let judgement = judgement_of allow_left_over file.read in
+    (facts : LogFacts) × AreFactsOf asked.locality file.read facts
     × IsReplayBy (is_read judgement) (judged_status judgement) (judgement_messages file judgement) file.name.now asked facts
-    (entries_in file.read.now) printed
+    (entries_in file.read) printed

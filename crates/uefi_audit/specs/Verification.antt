@@ -44,20 +44,20 @@ verdict_status comparison ignored =
 abbrev pub verdict_messages : LogFile → List HeldPcr → Comparison → List ℕ
 verdict_messages file held comparison =
     start_lines file.name.now comparison.start
-    ++ flat_map (inactive_line file.name.now) (inactive_banks (entries_in file.read.now) (held_banks held))
-    ++ flat_map (ignored_line file.name.now) (ignored_events (entries_in file.read.now))
+    ++ flat_map (inactive_line file.name.now) (inactive_banks (entries_in file.read) (held_banks held))
+    ++ flat_map (ignored_line file.name.now) (ignored_events (entries_in file.read))
 
 -- After these messages, what is printed of the verdict on PCRs.
 abbrev pub with_verdict : List ℕ → LogFile → Verification → List HeldPcr → Comparison → Printed
 with_verdict before file asked held comparison = record {
   messages = before ++ verdict_messages file held comparison;
   text = verdict_text asked.format file.name.now comparison held;
-  status = verdict_status comparison (ignored_events (entries_in file.read.now));
+  status = verdict_status comparison (ignored_events (entries_in file.read));
 }
 
 abbrev pub compared : List ℕ → LogFile → Verification → List HeldPcr → Printed
 compared before file asked held =
-    with_verdict before file asked held (verdict_of asked.locality (entries_in file.read.now) held)
+    with_verdict before file asked held (verdict_of asked.locality (entries_in file.read) held)
 
 -- The verdict on those that are selected, unless PCRs that are asked for are missing.
 unfoldable pub unless_missing : List MissingPcr → List ℕ → LogFile → Verification → StatedPcrs → Printed
@@ -75,5 +75,5 @@ by_judgement LeftOver before file asked stated = unjudged before
 -- What is printed of a log: the messages on it come first.
 abbrev pub verification : Bool → LogFile → Verification → StatedPcrs → Printed
 verification allow_left_over file asked stated =
-    let judgement = judgement_of allow_left_over file.read.now in
+    let judgement = judgement_of allow_left_over file.read in
     by_judgement judgement (judgement_messages file judgement) file asked stated

@@ -7,7 +7,7 @@ use crate::comparison::comparison_report;
 use crate::events::events_report;
 use crate::failure::{Failure, Status};
 use crate::input::{file_bytes, held_pcrs};
-use crate::log_file::{LogFile, read_log, refused_report, side_report};
+use crate::log_file::{Opened, judge, judged_status, open_log};
 use crate::replay::{Asked, replay_report};
 use crate::report::Report;
 use crate::request::{Format, Reading, Request, Verification};
@@ -76,26 +76,24 @@ fn do_task<R: Files + Input + Print + Eprint + AllocGlobal>(
     let Some(bytes) = file_bytes(rt, name) else {
         return Ok(Status::Unread);
     };
-    match read_log(rt.alloc(), bytes.as_slice(), reading) {
-        Ok(read) => {
-            let file = LogFile { name, read: &read };
-            report_of(rt.alloc(), &file, reading, task)?.print(rt)
-        }
-        Err(error) => refused_report(rt.alloc(), name, error, reading)?.print(rt),
-    }
+    report_of(rt.alloc(), name, bytes.as_slice(), reading, task)?.print(rt)
 }
 
-/// Returns what a task prints of a log.
+/// Returns what a task prints of the log of these bytes.
 fn report_of(
     alloc: Global,
-    file: &LogFile<'_>,
+    name: &str,
+    bytes: &[u8],
     reading: Reading,
     task: Task,
 ) -> Result<Report, AllocError> {
-    match task {
-        Task::Events(format) => events_report(alloc, file, reading, format),
-        Task::Replay(asked) => replay_report(alloc, file, reading, asked),
-        Task::Check(format) => check_report(alloc, file, reading, format),
+    match open_log(alloc, name, bytes, reading)? {
+        Opened::Refused(report) => Ok(report),
+        Opened::Read(file) => match task {
+            Task::Events(format) => events_report(alloc, &file, reading, format),
+            Task::Replay(asked) => replay_report(alloc, &file, reading, asked),
+            Task::Check(format) => check_report(alloc, &file, reading, format),
+        },
     }
 }
 
@@ -112,22 +110,43 @@ fn compare_logs<R: Files + Input + Print + Eprint + AllocGlobal>(
     let (Some(old_bytes), Some(new_bytes)) = (old_bytes, new_bytes) else {
         return Ok(Status::Unread);
     };
-    let old_read = read_log(rt.alloc(), old_bytes.as_slice(), reading);
-    let new_read = read_log(rt.alloc(), new_bytes.as_slice(), reading);
-    if let (Ok(old_read), Ok(new_read)) = (&old_read, &new_read) {
-        let old = LogFile {
-            name: old,
-            read: old_read,
-        };
-        let new = LogFile {
-            name: new,
-            read: new_read,
-        };
-        return comparison_report(rt.alloc(), &old, &new, reading, format)?.print(rt);
+    let old_log = open_log(rt.alloc(), old, old_bytes.as_slice(), reading)?;
+    let new_log = open_log(rt.alloc(), new, new_bytes.as_slice(), reading)?;
+    difference_report(rt.alloc(), old_log, new_log, reading, format)?.print(rt)
+}
+
+/// Returns what `diff` prints of two logs. If one of them wasn't read, it is what is said of each.
+fn difference_report(
+    alloc: Global,
+    old: Opened<'_>,
+    new: Opened<'_>,
+    reading: Reading,
+    format: Format,
+) -> Result<Report, AllocError> {
+    match (old, new) {
+        (Opened::Read(old), Opened::Read(new)) => {
+            comparison_report(alloc, &old, &new, reading, format)
+        }
+        (old, new) => {
+            let of_old = side_report(alloc, old, reading)?;
+            of_old.and(&side_report(alloc, new, reading)?)
+        }
     }
-    let of_old = side_report(rt.alloc(), old, &old_read, reading)?.print(rt)?;
-    let of_new = side_report(rt.alloc(), new, &new_read, reading)?.print(rt)?;
-    Ok(of_old.and(of_new))
+}
+
+/// Returns what is said of a log that isn't compared.
+fn side_report(alloc: Global, log: Opened<'_>, reading: Reading) -> Result<Report, AllocError> {
+    match log {
+        Opened::Refused(report) => Ok(report),
+        Opened::Read(file) => {
+            let (judgement, messages) = judge(alloc, &file, reading.allow_left_over)?;
+            Ok(Report {
+                text: String::new(alloc),
+                messages,
+                status: judged_status(judgement),
+            })
+        }
+    }
 }
 
 /// Does `verify` with the log in a file, and the PCRs in another or in a folder.
@@ -142,19 +161,25 @@ fn verify_log<R: Files + Input + Print + Eprint + AllocGlobal>(
     let (Some(bytes), Some(held)) = (bytes, held) else {
         return Ok(Status::Unread);
     };
-    let read = match read_log(rt.alloc(), bytes.as_slice(), reading) {
-        Ok(read) => read,
-        Err(error) => return refused_report(rt.alloc(), asked.log, error, reading)?.print(rt),
-    };
-    let file = LogFile {
-        name: asked.log,
-        read: &read,
-    };
     let stated = StatedPcrs {
         pcrs: held.as_slice(),
         selection,
     };
-    verification_report(rt.alloc(), &file, reading, asked, &stated)?.print(rt)
+    verify_report(rt.alloc(), bytes.as_slice(), asked, &stated, reading)?.print(rt)
+}
+
+/// Returns what `verify` prints of the log of these bytes.
+fn verify_report(
+    alloc: Global,
+    bytes: &[u8],
+    asked: &Verification<'_>,
+    stated: &StatedPcrs<'_>,
+    reading: Reading,
+) -> Result<Report, AllocError> {
+    match open_log(alloc, asked.log, bytes, reading)? {
+        Opened::Refused(report) => Ok(report),
+        Opened::Read(file) => verification_report(alloc, &file, reading, asked, stated),
+    }
 }
 
 /// Returns the PCRs that `--pcrs` selects, or `None` without it.

@@ -42,7 +42,7 @@ pub(crate) fn comparison_report(
             status,
         });
     }
-    let found = differences(alloc, old.read, new.read)?;
+    let found = differences(alloc, &old.read, &new.read)?;
     let text = difference_text(alloc, format, old.name, new.name, found.as_slice())?;
     let status = status.and(compared_status(found.as_slice()));
     Ok(Report {

@@ -1,12 +1,11 @@
-ghost use Rattle.std.specs.Prelude.{◌≡◌, ◌≤◌, length, string_bytes, IfErr, IfOk};
-ghost use Rattle.pcr_replay.specs.ReadLogs.{table_in};
-ghost use Rattle.pcr_replay.specs.WasRead.{IsReadError};
+ghost use Rattle.std.specs.Prelude.{◌≡◌, ◌++◌, string_bytes, IfOk};
 ghost use Rattle.uefi_audits.specs.Judgement.{judgement_of};
 ghost use Rattle.audit_text.specs.text.Judgement.{many_line};
-ghost use Rattle.uefi_audit.specs.Judged.{AreRead, judged_status, judgement_messages};
+ghost use Rattle.uefi_audit.specs.Judged.{judged_status, judgement_messages};
+ghost use Rattle.uefi_audit.specs.Opened.{IsOpened};
 ghost use Rattle.uefi_audit.specs.Printed.{printed_of, unjudged};
 
-use crate::failure::{Failure, Status};
+use crate::failure::Status;
 use crate::report::Report;
 use crate::request::Reading;
 use audit_text::text::{push_judgement, push_many_algorithms};
@@ -17,47 +16,45 @@ use uefi_audits::trailing::Trailing;
 use uefi_tcg::Log;
 
 /// An event log that was read from a file: the name to print, and what was read.
-#[derive(Clone, Copy)]
+#[derive(Drop)]
 pub(crate) struct LogFile<'a> {
     /// The file's name, as the caller gave it.
     pub name: &'a str,
     /// The log.
-    pub read: &'a ReadLog<'a>,
+    pub read: ReadLog<'a>,
+}
+
+/// A log that was read, or what is printed of one that wasn't.
+#[derive(Drop)]
+pub(crate) enum Opened<'a> {
+    /// It was read.
+    Read(LogFile<'a>),
+    /// It wasn't: its header has more algorithms than are allowed.
+    Refused(Report),
 }
 
 /// Reads the log of these bytes as it is asked for.
 ///
 /// # Errors
 ///
-/// Those of [`ReadLog::with_most_rows`].
-pub(crate) fn read_log<'a>(
+/// [`AllocError`] if an allocation fails.
+#[tactic(auto, unfolding(crate::specs::Opened::IsOpened))]
+pub(crate) fn open_log<'a>(
     alloc: Global,
+    name: &'a str,
     bytes: &'a [u8],
     reading: Reading,
-) -> Result<ReadLog<'a>, ReadLogError>
-    ensures log { IfOk result (λ read. AreRead bytes.entry reading read.log) }
-    ensures rows { IfOk result (λ read. length (table_in read) ≤ reading.max_rows) }
+) -> Result<Opened<'a>, AllocError>
+    ensures { IfOk result (IsOpened name.entry bytes.entry reading) }
 {
     let log = Log::new(bytes, reading.last_entry);
-    ReadLog::with_most_rows(alloc, log, reading.max_rows as usize)
-}
-
-/// Returns the report of a log that wasn't read.
-///
-/// # Errors
-///
-/// [`Failure::Memory`] if that is why it wasn't, or an allocation fails.
-pub(crate) fn refused_report(
-    alloc: Global,
-    name: &str,
-    error: ReadLogError,
-    reading: Reading,
-) -> Result<Report, Failure> {
-    match error {
-        ReadLogError::Memory => Err(Failure::Memory),
-        ReadLogError::TooManyAlgorithms(rows) => {
-            let report = many_report(alloc, name, rows, reading.max_rows)?;
-            Ok(report)
+    let most = reading.max_rows;
+    match ReadLog::with_most_rows(alloc, log, most as usize) {
+        Ok(read) => Ok(Opened::Read(LogFile { name, read })),
+        Err(ReadLogError::Memory) => Err(AllocError),
+        Err(ReadLogError::TooManyAlgorithms(rows)) => {
+            let report = many_report(alloc, name, rows, most)?;
+            Ok(Opened::Refused(report))
         }
     }
 }
@@ -72,41 +69,6 @@ fn many_report(alloc: Global, name: &str, rows: usize, most: u32) -> Result<Repo
     Ok(Report::unjudged(alloc, messages))
 }
 
-/// Returns the report of a log that isn't compared, since another one wasn't read.
-///
-/// # Errors
-///
-/// [`Failure::Memory`] if an allocation fails.
-pub(crate) fn side_report(
-    alloc: Global,
-    name: &str,
-    read: &Result<ReadLog<'_>, ReadLogError>,
-    reading: Reading,
-) -> Result<Report, Failure> {
-    match read {
-        Ok(read) => {
-            let file = LogFile { name, read };
-            let report = judged_report(alloc, &file, reading.allow_left_over)?;
-            Ok(report)
-        }
-        Err(error) => refused_report(alloc, name, *error, reading),
-    }
-}
-
-/// Returns the report of a log of which nothing is printed: whether it can be judged.
-fn judged_report(
-    alloc: Global,
-    file: &LogFile<'_>,
-    allow_left_over: bool,
-) -> Result<Report, AllocError> {
-    let (judgement, messages) = judge(alloc, file, allow_left_over)?;
-    Ok(Report {
-        text: String::new(alloc),
-        messages,
-        status: judged_status(judgement),
-    })
-}
-
 /// Returns whether a log can be judged, and the messages on that.
 ///
 /// # Errors
@@ -118,17 +80,17 @@ pub(crate) fn judge(
     allow_left_over: bool,
 ) -> Result<(Judgement, String), AllocError>
     ensures judgement { IfOk result
-        (λ judged. judged.0 ≡ judgement_of allow_left_over file.now.read.now) }
+        (λ judged. judged.0 ≡ judgement_of allow_left_over file.now.read) }
     ensures messages { IfOk result
         (λ judged. string_bytes judged.1 ≡ judgement_messages file.now judged.0) }
 {
-    let judgement = Judgement::of(file.read, allow_left_over);
+    let judgement = Judgement::of(&file.read, allow_left_over);
     let mut messages = String::new(alloc);
     push_judgement(
         &mut messages,
         file.name,
         judgement,
-        &Trailing::of(file.read),
+        &Trailing::of(&file.read),
     )?;
     Ok((judgement, messages))
 }

@@ -1,6 +1,7 @@
 ghost use Rattle.std.specs.Prelude.{◌≡◌, string_bytes, IfOk, OnOk};
 ghost use Rattle.uefi_base.specs.Appending.{AppendsText};
 ghost use Rattle.pcr_replay.specs.ReadLogs.{entries_in};
+ghost use Rattle.uefi_audits.specs.Ignored.{has_no_pcr};
 ghost use Rattle.uefi_audit.specs.Printed.{printed_of};
 ghost use Rattle.uefi_audit.specs.ReplayReport.{IsReplayBy, IsReplayReport, IsReplayed, name_line, pcrs_text, refused, refused_text, replay_messages, replay_status, replay_text};
 
@@ -16,6 +17,7 @@ use audit_text::words::ShownName;
 use pcr_replay::Bank;
 use std::alloc::{AllocError, Global};
 use uefi_audits::facts::LogFacts;
+use uefi_audits::ignored::IgnoredEvent;
 use uefi_audits::log_replay::LogReplay;
 
 /// What `replay` asks for.
@@ -47,7 +49,7 @@ pub(crate) fn replay_report(
         (printed_of report)) }
 {
     let (judgement, messages) = judge(alloc, file, reading.allow_left_over)?;
-    let facts = LogFacts::of(alloc, file.read, asked.locality)?;
+    let facts = LogFacts::of(alloc, &file.read, asked.locality)?;
     if !judgement.is_read() {
         return refused(alloc, messages, file.name, &facts, asked);
     }
@@ -107,25 +109,41 @@ fn replayed(
     asked: Asked,
 ) -> Result<Report, AllocError>
     ensures { IfOk result (λ report. IsReplayed (string_bytes messages) file.now.name.now asked
-        facts.now (entries_in file.now.read.now) (printed_of report)) }
+        facts.now (entries_in file.now.read) (printed_of report)) }
 {
     let replay = LogReplay::of(alloc, file.read.entries(), facts, asked.bank)?;
     let mut messages = messages;
     push_messages(&mut messages, file.name, facts, &replay)?;
-    let mut text = String::new(alloc);
-    match asked.format {
-        Format::Text => push_text(&mut text, alloc, file.name, asked.is_one_of_many, &replay)?,
-        Format::Json => {
-            let banks = Some(replay.banks.as_slice());
-            push_replay_json(&mut text, alloc, file.name, facts, banks)?;
-        }
-    }
+    let text = replay_text(alloc, file.name, facts, &replay, asked)?;
     let status = status_of(&replay);
     Ok(Report {
         text,
         messages,
         status,
     })
+}
+
+/// Returns PCRs in the format that is asked for.
+#[tactic(auto, unfolding(crate::specs::ReplayReport::replay_text))]
+fn replay_text(
+    alloc: Global,
+    name: &str,
+    facts: &LogFacts,
+    replay: &LogReplay,
+    asked: Asked,
+) -> Result<String, AllocError>
+    ensures { IfOk result (λ text. string_bytes text
+        ≡ replay_text asked.format asked.is_one_of_many name.now facts.now replay.now) }
+{
+    let mut text = String::new(alloc);
+    match asked.format {
+        Format::Text => push_text(&mut text, alloc, name, asked.is_one_of_many, replay)?,
+        Format::Json => {
+            let banks = Some(replay.banks.as_slice());
+            push_replay_json(&mut text, alloc, name, facts, banks)?;
+        }
+    }
+    Ok(text)
 }
 
 /// Appends the messages on a replay: the locality that is assumed, the banks that weren't replayed, the
@@ -182,8 +200,15 @@ fn status_of(replay: &LogReplay) -> Status
     if replay.is_undetermined() {
         return Status::Unjudged;
     }
-    if replay.ignored.iter().any(|event| event.is_of_no_pcr()) {
+    if has_no_pcr(replay.ignored.as_slice()) {
         return Status::Differs;
     }
     Status::Well
+}
+
+/// Returns whether one of these events should have extended a PCR that no TPM has.
+pub(crate) fn has_no_pcr(events: &[IgnoredEvent]) -> bool
+    ensures { result ≡ has_no_pcr events.now }
+{
+    events.iter().any(|event| event.is_of_no_pcr())
 }

@@ -1,6 +1,6 @@
 use crate::commands::print_text;
 use crate::failure::{Failure, Status};
-use std::alloc::Global;
+use std::alloc::{AllocError, Global};
 use std::io;
 
 /// What a command says of a log, or of two, and what follows from it.
@@ -15,8 +15,8 @@ pub(crate) struct Report {
 }
 
 impl Report {
-    ghost use Rattle.std.specs.Prelude.{◌≡◌, string_bytes};
-    ghost use Rattle.uefi_audit.specs.Printed.{printed_of, unjudged};
+    ghost use Rattle.std.specs.Prelude.{◌≡◌, IfOk, string_bytes};
+    ghost use Rattle.uefi_audit.specs.Printed.{one_after_other, printed_of, unjudged};
 
     /// Returns the report of what can't be judged: these messages, and nothing that is printed.
     pub(crate) fn unjudged(alloc: Global, messages: String) -> Report
@@ -27,6 +27,25 @@ impl Report {
             messages,
             status: Status::Unjudged,
         }
+    }
+
+    /// Returns this report with what another one says after it. The worse status counts.
+    ///
+    /// # Errors
+    ///
+    /// [`AllocError`] if an allocation fails.
+    pub(crate) fn and(self, other: &Report) -> Result<Report, AllocError>
+        ensures { IfOk result
+            (λ both. printed_of both ≡ one_after_other (printed_of self) (printed_of other.now)) }
+    {
+        let (mut text, mut messages) = (self.text, self.messages);
+        text.push_str(other.text.as_str())?;
+        messages.push_str(other.messages.as_str())?;
+        Ok(Report {
+            text,
+            messages,
+            status: self.status.and(other.status),
+        })
     }
 
     /// Tells standard error, prints the text, and returns the status. If standard error is closed,

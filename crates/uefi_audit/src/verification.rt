@@ -6,6 +6,7 @@ ghost use Rattle.uefi_audit.specs.Verification.{by_judgement, compared, unless_m
 
 use crate::failure::Status;
 use crate::log_file::{LogFile, judge};
+use crate::replay::has_no_pcr;
 use crate::report::Report;
 use crate::request::{Format, Reading, Verification};
 use audit_text::json::push_verdict_json;
@@ -129,7 +130,7 @@ fn status_of(verdict: &Verdict, ignored: &[IgnoredEvent]) -> Status
     if verdict.undetermined > 0 {
         return Status::Unjudged;
     }
-    if ignored.iter().any(|event| event.is_of_no_pcr()) || !verdict.is_agreement() {
+    if has_no_pcr(ignored) || !verdict.is_agreement() {
         return Status::Differs;
     }
     Status::Well

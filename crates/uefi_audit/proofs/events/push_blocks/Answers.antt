@@ -1,0 +1,13 @@
+use Rattle.std.proofs.Common.{map}
+use Rattle.std.proofs.lemmas.Result.{on_ok_weaker}
+use Rattle.uefi_tcg.specs.LogViews.{entry_of}
+use Rattle.uefi_audit.proofs.EventsPrinted.{are_blocks}
+use Rattle.uefi_audit.proofs.events.push_blocks.Goals as goal
+
+pub returns : goal.returns
+returns c =
+    on_ok_weaker c.push_event_blocks.result
+    (are_blocks c.args.file.now c.uintn_size-uintn_size.result (map entry_of c.entries-entries.result.now) c.args.text.now
+    c.push_header.new.text c.push_event_blocks.new.text c.in_ok-push_header.ensures
+    c.uintn_size-uintn_size.ensures c.entries-entries.ensures)
+    c.push_event_blocks.ensures
