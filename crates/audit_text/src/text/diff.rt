@@ -12,9 +12,9 @@ use uefi_audits::diff::{NumberedEntry, PcrDifference};
 mod lines;
 
 /// Appends how the events of two logs differ, PCR by PCR: a line for the first event in which they
-/// differ, one for each event that only the old log has, and one for each that only the new log has.
-/// An event is named by its type, what its data say ([`push_said`](crate::words::push_said)), its index
-/// and its offset.
+/// differ, one for each event that only the old log has, and one for each that only the new log
+/// has. An event is named by its type, what its data say
+/// ([`push_said`](crate::words::push_said)), its index and its offset.
 ///
 /// # Errors
 ///

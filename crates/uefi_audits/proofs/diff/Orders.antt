@@ -62,55 +62,11 @@ equal_if_same one other = (
     told Equal so = refl
     told Greater so = cc
 
--- One digest of SHA-1 beside another; and the other way round.
-pub then_equal : (order : Ordering) → order ≡ ordering_then order Equal
-then_equal Less = refl
-then_equal Equal = refl
-then_equal Greater = refl
-
+-- Two lists the other way round.
 pub reversed : (ones others : List Digest) (order : Ordering) → order ≡ slice_cmp digest_cmp ones others
     → ordering_reverse order ≡ slice_cmp digest_cmp others ones
 reversed ones others order is =
     ap ordering_reverse is ∙ sym ((lists_total digest_cmp_total).antisymm others ones)
-
--- Lists that begin with digests which the order doesn't tell apart; and which it does.
-pub rest_decides : (ones others rest others_rest : List Digest) (one other : Digest) (order : Ordering) (whole : Ordering)
-    → ones ≡ one ∷ rest → others ≡ other ∷ others_rest → order ≡ digest_cmp one other → is_ne order ≡ false
-    → slice_cmp digest_cmp ones others ≡ whole → slice_cmp digest_cmp rest others_rest ≡ whole
-rest_decides ones others rest others_rest one other order whole is also cmp tied before =
-    sym (ap₂ (slice_cmp digest_cmp) is also
-    ∙ ap (λ o. ordering_then o (slice_cmp digest_cmp rest others_rest)) (sym cmp ∙ tied_is order tied)) ∙ before
-  where
-    tied_is : (order : Ordering) → is_ne order ≡ false → order ≡ Equal
-    tied_is Less tied = cc
-    tied_is Equal tied = refl
-    tied_is Greater tied = cc
-
-pub first_decides : (ones others rest others_rest : List Digest) (one other : Digest) (order : Ordering) (whole : Ordering)
-    → ones ≡ one ∷ rest → others ≡ other ∷ others_rest → order ≡ digest_cmp one other → is_ne order ≡ true
-    → slice_cmp digest_cmp ones others ≡ whole → order ≡ whole
-first_decides ones others rest others_rest one other order whole is also cmp decides before =
-    decided order decides ∙ sym (ap₂ (slice_cmp digest_cmp) is also
-    ∙ ap (λ o. ordering_then o (slice_cmp digest_cmp rest others_rest)) (sym cmp)) ∙ before
-  where
-    decided : (order : Ordering) → is_ne order ≡ true
-        → order ≡ ordering_then order (slice_cmp digest_cmp rest others_rest)
-    decided Less decides = refl
-    decided Equal decides = cc
-    decided Greater decides = refl
-
--- One of them ends before the other, or both end.
-pub more_of_one : (ones others rest : List Digest) (one : Digest) (whole : Ordering) → ones ≡ one ∷ rest → others ≡ []
-    → slice_cmp digest_cmp ones others ≡ whole → Greater ≡ whole
-more_of_one ones others rest one whole is none before = sym (ap₂ (slice_cmp digest_cmp) is none) ∙ before
-
-pub more_of_other : (ones others rest : List Digest) (other : Digest) (whole : Ordering) → ones ≡ [] → others ≡ other ∷ rest
-    → slice_cmp digest_cmp ones others ≡ whole → Less ≡ whole
-more_of_other ones others rest other whole none is before = sym (ap₂ (slice_cmp digest_cmp) none is) ∙ before
-
-pub both_end : (ones others : List Digest) (whole : Ordering) → ones ≡ [] → others ≡ []
-    → slice_cmp digest_cmp ones others ≡ whole → Equal ≡ whole
-both_end ones others whole none also before = sym (ap₂ (slice_cmp digest_cmp) none also) ∙ before
 
 -- Two events are the same exactly if the order says so.
 pub told_by_order : (one other : Event) (order : Ordering) (same : Bool) → order ≡ event_cmp one other → same ≡ is_eq order

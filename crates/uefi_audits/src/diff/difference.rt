@@ -27,12 +27,12 @@ pub struct LogSide<'a> {
     pub only: Vec<NumberedEntry<'a>>,
 }
 
-/// Returns how the events of two logs differ, PCR by PCR, those above 23 together. A PCR whose events
-/// are the same has no difference.
+/// Returns how the events of two logs differ, PCR by PCR, those above 23 together. A PCR whose
+/// events are the same has no difference.
 ///
 /// Events are the same if they have the same PCR, type, digests and data, wherever they are in the
-/// log. An event is sought among those of its PCR in the other log by their order, so that the time is
-/// in proportion to n log n.
+/// log. An event is sought among those of its PCR in the other log by their order, so that the time
+/// is in proportion to n log n.
 ///
 /// # Errors
 ///

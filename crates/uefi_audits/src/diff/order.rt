@@ -13,8 +13,8 @@ use uefi_tcg::{AlgorithmId, LogEvent};
 
 /// An event as a key, by which it is sought among others.
 ///
-/// Two are equal if their events are the same: of one PCR and one type, with the same data, and with
-/// the same digests in the same order.
+/// Two are equal if their events are the same: of one PCR and one type, with the same data, and
+/// with the same digests in the same order.
 #[derive(Clone, Copy)]
 pub(crate) struct EventKey<'a> {
     event: LogEvent<'a>,
