@@ -10,9 +10,7 @@ use crate::replay::has_no_pcr;
 use crate::report::Report;
 use crate::request::{Format, Reading, Verification};
 use audit_text::json::push_verdict_json;
-use audit_text::text::{
-    push_ignored, push_inactive, push_missing, push_start, push_verdict,
-};
+use audit_text::text::{push_ignored, push_inactive, push_missing, push_start, push_verdict};
 use std::alloc::{AllocError, Global};
 use uefi_audits::ignored::{IgnoredEvent, ignored_events};
 use uefi_audits::judgement::Judgement;

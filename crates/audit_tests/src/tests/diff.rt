@@ -241,9 +241,10 @@ const ROWS: [Row; 19] = [
 
 /// Checks a row: its lines, and that there is no difference if there are none.
 fn check(alloc: Global, row: &Row) -> Result<(), Fail> {
-    let (old, new) = (bytes(alloc, row.old)?, bytes(alloc, row.new)?);
-    let old = ReadLog::new(alloc, Log::new(old.as_slice(), LastEntry::Unknown))?;
-    let new = ReadLog::new(alloc, Log::new(new.as_slice(), LastEntry::Unknown))?;
+    let old_bytes = bytes(alloc, row.old)?;
+    let new_bytes = bytes(alloc, row.new)?;
+    let old = ReadLog::new(alloc, Log::new(old_bytes.as_slice(), LastEntry::Unknown))?;
+    let new = ReadLog::new(alloc, Log::new(new_bytes.as_slice(), LastEntry::Unknown))?;
     let differences = differences(alloc, &old, &new)?;
     let mut text = String::new(alloc);
     push_differences(

@@ -3,4 +3,5 @@
 mod banks;
 mod logs;
 mod machine_log;
+mod read_once;
 mod starts;

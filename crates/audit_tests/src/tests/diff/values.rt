@@ -46,9 +46,10 @@ fn push_side(text: &mut String, side: &LogSide<'_>) -> Result<(), AllocError> {
 
 /// Checks the differences of two logs.
 fn check(alloc: Global, old: &str, new: &str, indices: &str) -> Result<(), Fail> {
-    let (old, new) = (bytes(alloc, old)?, bytes(alloc, new)?);
-    let old = ReadLog::new(alloc, Log::new(old.as_slice(), LastEntry::Unknown))?;
-    let new = ReadLog::new(alloc, Log::new(new.as_slice(), LastEntry::Unknown))?;
+    let old_bytes = bytes(alloc, old)?;
+    let new_bytes = bytes(alloc, new)?;
+    let old = ReadLog::new(alloc, Log::new(old_bytes.as_slice(), LastEntry::Unknown))?;
+    let new = ReadLog::new(alloc, Log::new(new_bytes.as_slice(), LastEntry::Unknown))?;
     let found = differences(alloc, &old, &new)?;
     let mut text = String::new(alloc);
     for difference in &found {

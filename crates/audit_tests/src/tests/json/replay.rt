@@ -1,10 +1,11 @@
 use audit_text::json::push_replay_json;
-use audit_text::text::LogFile;
-use pcr_replay::{Start, startup_locality};
+use pcr_replay::ReadLog;
 use std::alloc::Global;
 use std::test::Fail;
 use test_support::{each_shows, same_text};
-use uefi_audits::replay::{asked_banks, replay_banks};
+use uefi_audits::facts::LogFacts;
+use uefi_audits::judgement::Judgement;
+use uefi_audits::log_replay::LogReplay;
 use uefi_tcg::{LastEntry, Log};
 
 /// Logs with an unknown last entry, and their lines. Those with bytes left over are refused.
@@ -246,21 +247,16 @@ const NAMED: &str = "{\"banks\":[],\"left_over\":null,\"locality\":{\"number\":0
 
 /// Returns the line of a log in a file of this name.
 fn line(alloc: Global, name: &str, bytes: &[u8], allow_left_over: bool) -> Result<String, Fail> {
-    let log = Log::new(bytes, LastEntry::Unknown);
-    let (start, stated) = (Start::of(&log), startup_locality(&log).is_some());
-    let banks = asked_banks(alloc, &log, None)?;
-    let banks = replay_banks(alloc, &log, banks.as_slice(), &start)?;
-    let (mut text, file) = (String::new(alloc), LogFile { name, log });
-    let banks = banks.as_slice();
-    push_replay_json(
-        &mut text,
-        alloc,
-        &file,
-        &start,
-        stated,
-        banks,
-        allow_left_over,
-    )?;
+    let read = ReadLog::new(alloc, Log::new(bytes, LastEntry::Unknown))?;
+    let facts = LogFacts::of(alloc, &read, None)?;
+    let replay = LogReplay::of(alloc, read.entries(), &facts, None)?;
+    let mut text = String::new(alloc);
+    if Judgement::of(&read, allow_left_over).is_read() {
+        let banks = Some(replay.banks.as_slice());
+        push_replay_json(&mut text, alloc, name, &facts, banks)?;
+    } else {
+        push_replay_json(&mut text, alloc, name, &facts, None)?;
+    }
     Ok(text)
 }
 

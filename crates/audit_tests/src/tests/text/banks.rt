@@ -1,5 +1,6 @@
 use audit_text::text::push_banks;
-use pcr_replay::Start;
+use pcr_replay::ReadLog;
+use pcr_replay::entries::start_of;
 use std::alloc::Global;
 use std::test::Fail;
 use test_support::each_shows;
@@ -81,9 +82,10 @@ const BANKS: [[&str; 2]; 2] = [
 
 /// Returns the lines of a log's PCRs.
 fn banks_text(alloc: Global, bytes: &[u8]) -> Result<String, Fail> {
-    let log = Log::new(bytes, LastEntry::Unknown);
-    let banks = asked_banks(alloc, &log, None)?;
-    let banks = replay_banks(alloc, &log, banks.as_slice(), &Start::of(&log))?;
+    let read = ReadLog::new(alloc, Log::new(bytes, LastEntry::Unknown))?;
+    let entries = read.entries();
+    let banks = asked_banks(alloc, entries, None)?;
+    let banks = replay_banks(alloc, entries, banks.as_slice(), &start_of(entries))?;
     let mut text = String::new(alloc);
     push_banks(&mut text, alloc, banks.as_slice())?;
     Ok(text)

@@ -1,11 +1,10 @@
-use audit_text::text::{
-    LogFile, push_ignored, push_left_over, push_padding, push_start, push_undetermined,
-};
-use pcr_replay::{Start, startup_locality};
+use audit_text::text::{push_ignored, push_start, push_trailing, push_undetermined};
+use pcr_replay::ReadLog;
 use std::alloc::Global;
 use std::test::Fail;
 use test_support::each_shows;
-use uefi_audits::replay::{asked_banks, replay_banks};
+use uefi_audits::facts::LogFacts;
+use uefi_audits::log_replay::LogReplay;
 use uefi_tcg::{LastEntry, Log};
 
 /// Logs with an unknown last entry, and the lines about them.
@@ -122,18 +121,15 @@ const TOLD: [[&str; 2]; 11] = [
 
 /// Returns the lines about a log that go to standard error.
 fn told_text(alloc: Global, bytes: &[u8]) -> Result<String, Fail> {
-    let log = Log::new(bytes, LastEntry::Unknown);
-    let file = LogFile { name: "a log", log };
-    let (start, stated) = (Start::of(&log), startup_locality(&log).is_some());
-    let banks = asked_banks(alloc, &log, None)?;
-    let banks = replay_banks(alloc, &log, banks.as_slice(), &start)?;
-    let mut told = String::new(alloc);
-    push_left_over(&mut told, &file)?;
-    push_padding(&mut told, &file)?;
-    push_start(&mut told, file.name, &start, stated)?;
-    push_undetermined(&mut told, file.name, banks.as_slice())?;
-    push_ignored(&mut told, file.name, &log)?;
-    Ok(told)
+    let read = ReadLog::new(alloc, Log::new(bytes, LastEntry::Unknown))?;
+    let facts = LogFacts::of(alloc, &read, None)?;
+    let replay = LogReplay::of(alloc, read.entries(), &facts, None)?;
+    let mut messages = String::new(alloc);
+    push_trailing(&mut messages, "a log", &facts.trailing)?;
+    push_start(&mut messages, "a log", &facts.start)?;
+    push_undetermined(&mut messages, "a log", replay.banks.as_slice())?;
+    push_ignored(&mut messages, "a log", replay.ignored.as_slice())?;
+    Ok(messages)
 }
 
 #[test]

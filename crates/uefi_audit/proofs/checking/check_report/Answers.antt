@@ -1,6 +1,6 @@
-use Rattle.std.proofs.Common.{◌≡◌, ◌∙◌, ap, rules, string_bytes, subst, sym, tests, true}
+use Rattle.std.proofs.Common.{◌≡◌, ◌∙◌, ap, rules, string_bytes, subst, tests, true}
 use Rattle.pcr_replay.specs.ReadLogs.{entries_in}
-use Rattle.uefi_audits.specs.CheckResult.{IsCheckResult, mismatch_of}
+use Rattle.uefi_audits.specs.CheckResult.{IsCheckResult}
 use Rattle.uefi_audits.specs.Judgement.{is_read}
 use Rattle.uefi_audits.specs.declared.judgement.Judgement.{Judgement}
 use Rattle.uefi_audit.specs.CheckReport.{IsCheckedIf}

@@ -1,4 +1,4 @@
-use Rattle.std.proofs.Common.{◌≡◌, ◌∙◌, false, rules, string_bytes, sym, tests, true}
+use Rattle.std.proofs.Common.{◌≡◌, ◌∙◌, false, rules, string_bytes, tests, true}
 use Rattle.std.proofs.lemmas.Result.{IfOk-weaker}
 use Rattle.uefi_audits.specs.Judgement.{is_read}
 use Rattle.uefi_audit.specs.Ends.{worse}
