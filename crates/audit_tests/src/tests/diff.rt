@@ -1,8 +1,8 @@
 use audit_text::text::push_differences;
 use pcr_replay::ReadLog;
-use std::alloc::Global;
+use std::alloc::{AllocError, Global};
 use std::test::Fail;
-use test_support::{bytes, same_text};
+use test_support::{bytes, same, same_text};
 use uefi_audits::diff::differences;
 use uefi_tcg::{LastEntry, Log};
 
@@ -239,27 +239,28 @@ const ROWS: [Row; 19] = [
     },
 ];
 
+/// Returns the lines of how two logs differ, and whether they don't.
+fn lines_of(
+    alloc: Global,
+    old: &ReadLog<'_>,
+    new: &ReadLog<'_>,
+) -> Result<(String, bool), AllocError> {
+    let found = differences(alloc, old, new)?;
+    let found = found.as_slice();
+    let mut text = String::new(alloc);
+    push_differences(&mut text, alloc, "old.log", "new.log", found)?;
+    Ok((text, found.is_empty()))
+}
+
 /// Checks a row: its lines, and that there is no difference if there are none.
 fn check(alloc: Global, row: &Row) -> Result<(), Fail> {
     let old_bytes = bytes(alloc, row.old)?;
     let new_bytes = bytes(alloc, row.new)?;
     let old = ReadLog::new(alloc, Log::new(old_bytes.as_slice(), LastEntry::Unknown))?;
     let new = ReadLog::new(alloc, Log::new(new_bytes.as_slice(), LastEntry::Unknown))?;
-    let differences = differences(alloc, &old, &new)?;
-    let mut text = String::new(alloc);
-    push_differences(
-        &mut text,
-        alloc,
-        "old.log",
-        "new.log",
-        differences.as_slice(),
-    )?;
-    same_text(row.new, text.as_str(), row.lines)?;
-    if differences.is_empty() != row.lines.is_empty() {
-        let count = differences.len();
-        return Err(Fail::new(format_args!("differences: {count}; {}", row.lines)));
-    }
-    Ok(())
+    let (lines, are_same) = lines_of(alloc, &old, &new)?;
+    same_text(row.new, lines.as_str(), row.lines)?;
+    same(row.new, &are_same, &row.lines.is_empty())
 }
 
 #[test]

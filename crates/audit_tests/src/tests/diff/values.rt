@@ -44,18 +44,24 @@ fn push_side(text: &mut String, side: &LogSide<'_>) -> Result<(), AllocError> {
     text.push_str(";")
 }
 
+/// Returns the indices of all differences of two logs.
+fn indices_of(alloc: Global, old: &ReadLog<'_>, new: &ReadLog<'_>) -> Result<String, AllocError> {
+    let found = differences(alloc, old, new)?;
+    let mut text = String::new(alloc);
+    for difference in &found {
+        push_indices(&mut text, difference)?;
+    }
+    Ok(text)
+}
+
 /// Checks the differences of two logs.
 fn check(alloc: Global, old: &str, new: &str, indices: &str) -> Result<(), Fail> {
     let old_bytes = bytes(alloc, old)?;
     let new_bytes = bytes(alloc, new)?;
     let old = ReadLog::new(alloc, Log::new(old_bytes.as_slice(), LastEntry::Unknown))?;
     let new = ReadLog::new(alloc, Log::new(new_bytes.as_slice(), LastEntry::Unknown))?;
-    let found = differences(alloc, &old, &new)?;
-    let mut text = String::new(alloc);
-    for difference in &found {
-        push_indices(&mut text, difference)?;
-    }
-    same_text("differences", text.as_str(), indices)
+    let found = indices_of(alloc, &old, &new)?;
+    same_text("differences", found.as_str(), indices)
 }
 
 #[test]
