@@ -1,17 +1,8 @@
 -- The hash algorithms in the table of a log's header, by their numbers.
-use Rattle.std.specs.Prelude.{◌≡◌, ◌↔◌, ◌⊎◌, ℕ, List, [], map}
+use Rattle.std.specs.Prelude.{◌↔◌, ℕ, List, map}
 use Rattle.std.specs.List.{Contains}
 use Rattle.std.specs.List.Sorted.{IsStrictlyIncreasing}
 use Rattle.uefi_tcg.specs.v2.Event.{Table}
-use Rattle.uefi_tcg.specs.v2.Header.{Header}
-use Rattle.uefi_tcg.specs.Logs.{HasHeader}
-use Rattle.uefi_tcg.specs.declared.log.Log.{Log}
-
--- The table in a log's header: hash algorithms, each with the size of its digests. A log of version 1 has no header, and no rows.
-abbrev pub HasTable : Log → Table → Type 0
-HasTable log table =
-    ((header : Header) × HasHeader log header × (table ≡ header.table))
-    ⊎ (((header : Header) → HasHeader log header → ⊥) × (table ≡ []))
 
 -- The numbers of the algorithms in a table, each once, in ascending order.
 pub record AreAlgorithmsIn (table : Table) (algorithms : List ℕ) : Type 0 where

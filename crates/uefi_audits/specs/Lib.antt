@@ -1,7 +1,6 @@
 pub mod Replay
 pub mod Algorithms
 pub mod Naming
-pub mod Whole
 pub mod content
 pub mod Laws
 pub mod private
