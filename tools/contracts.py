@@ -178,7 +178,8 @@ def function_at(text, start):
     i = after(text, text.index("(", i), "()")
     signature, clauses = None, []
     while True:
-        stop = re.compile(r"\b(?:requires|ensures)\b|[{;]").search(text, i)
+        # A semicolon in brackets is that of an array.
+        stop = re.compile(r"\b(?:requires|ensures)\b|\{|;(?![^\[\]]*\])").search(text, i)
         signature = signature or text[start : stop.start()]
         if stop[0] == ";":
             return signature, clauses, stop.end()
