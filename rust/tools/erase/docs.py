@@ -1,4 +1,5 @@
-"""Docs: Rust's examples for Rattle's, paths of this package, and no sentence that only a prover needs."""
+"""Docs: Rust's examples for Rattle's, paths of this package, and no sentence that only a prover needs, or that
+links to what isn't written."""
 import os
 import re
 import textwrap
@@ -14,14 +15,15 @@ class Docs:
     """The folder of the examples, and which of them have been used."""
 
     def __init__(self, folder, libraries):
-        self.folder, self.used = folder, set()
+        self.folder, self.used, self.unsaid = folder, set(), PROOF
         self.path = re.compile(rf'(?<=[`(\[])(crate|{"|".join(libraries)})::')
 
     def files(self):
         return {os.path.join(folder, name) for folder, _, names in os.walk(self.folder) for name in names}
 
-    def rewrite(self, source, crate, shown):
-        """Writes the docs of a file anew."""
+    def rewrite(self, source, crate, shown, left_out=()):
+        """Writes the docs of a file anew, without the sentences that link to names that are left out."""
+        self.unsaid = re.compile('|'.join([PROOF.pattern, *(rf'\[`{name}\b' for name in sorted(left_out))]))
         words, folder = {}, f'{self.folder}/{crate}/{os.path.dirname(shown.partition("/src/")[2])}'
         for start, keyword, end in source.items():
             name, kind = source.item_name(keyword), source.at(keyword)
@@ -40,7 +42,7 @@ class Docs:
         indent, mark = found[1], found[2]
         text = '\n'.join(line.strip()[3:].removeprefix(' ') for line in found[0].split('\n'))
         text = self.with_example(source, i, text, example) if '```' in text else text
-        parts = [paragraph(part, 96 - len(indent)) for part in ASIDE.sub('', text).split('\n\n')]
+        parts = [paragraph(part, 96 - len(indent), self.unsaid) for part in ASIDE.sub('', text).split('\n\n')]
         text = '\n\n'.join(part for part in parts if part) + link * (mark == '/')
         text = self.path.sub(lambda it: f'crate::formats::{crate if it[1] == "crate" else it[1]}::', text)
         return '\n'.join(f'{indent}//{mark} {line}'.rstrip() for line in text.split('\n')) if text else ''
@@ -65,11 +67,11 @@ def without_examples(source):
             token.space = re.sub(r'(?ms)^[ ]*//[/!] ?```.*?^[ ]*//[/!] ?```\n', '', token.space)
 
 
-def paragraph(text, width):
-    """A paragraph without the sentences that speak of proofs."""
-    if '```' in text or text.startswith(('|', '#')) or not PROOF.search(text):
+def paragraph(text, width, unsaid):
+    """A paragraph without the sentences that speak of what is unsaid."""
+    if '```' in text or text.startswith(('|', '#')) or not unsaid.search(text):
         return text
     if text.startswith('- '):
-        return '\n'.join(item for item in re.split(r'\n(?=- )', text) if not PROOF.search(item))
-    sentences = [sentence for sentence in SENTENCE.split(' '.join(text.split('\n'))) if not PROOF.search(sentence)]
+        return '\n'.join(item for item in re.split(r'\n(?=- )', text) if not unsaid.search(item))
+    sentences = [sentence for sentence in SENTENCE.split(' '.join(text.split('\n'))) if not unsaid.search(sentence)]
     return textwrap.fill(' '.join(sentences), width, break_on_hyphens=False)
