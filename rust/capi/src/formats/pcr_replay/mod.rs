@@ -2,11 +2,9 @@
 
 //! The PCRs of a TPM that an event log of measured boot leads to.
 //!
-//! Begin with [`crate::formats::uefi_tcg::Log::read`], which takes a log's bytes and what is known of its last entry,
-//! and with [`replay`], which returns what the 24 PCRs of a [`Bank`] hold: each a value, or the first
-//! event by which it is undetermined.
-//!
-//! Nothing here allocates memory.
+//! Begin with [`crate::formats::uefi_tcg::Log::read`], which takes a log's bytes and what is known of its last
+//! entry, and with [`replay`], which returns what the 24 PCRs of a [`Bank`] hold: each a value, or
+//! the first event by which it is undetermined.
 
 pub use self::bank::Bank;
 pub use self::digest::{has_digest, is_hash_of, is_hash_of_data};
