@@ -2,31 +2,17 @@ ghost use Rattle.std.specs.Prelude.{◌≡◌, OnOk, IfErr};
 ghost use Rattle.std.specs.Io.KnownBytes.{Appends};
 ghost use Rattle.uefi_audit.specs.declared.failure.Failure.TheVariants.{Output};
 
-use crate::checking::check_report;
-use crate::comparison::comparison_report;
-use crate::events::events_report;
+use crate::comparison::difference_report;
 use crate::failure::{Failure, Status};
 use crate::input::{file_bytes, held_pcrs};
-use crate::log_file::{Opened, judge, judged_status, open_log};
-use crate::replay::{Asked, replay_report};
-use crate::report::Report;
+use crate::log_file::open_log;
+use crate::replay::Asked;
 use crate::request::{Format, Reading, Request, Verification};
-use crate::verification::{StatedPcrs, verification_report};
-use std::alloc::{AllocError, Global};
+use crate::task::{Task, report_of};
+use crate::verification::{StatedPcrs, verify_report};
 use std::io::Write;
 use std::rt::Files;
 use uefi_audits::verify::PcrSelection;
-
-/// What is done with each of many logs.
-#[derive(Clone, Copy)]
-pub(crate) enum Task {
-    /// Its events are printed.
-    Events(Format),
-    /// The PCRs that it leads to are.
-    Replay(Asked),
-    /// The events whose digests match nothing are.
-    Check(Format),
-}
 
 /// Does what the arguments ask for.
 pub(crate) fn perform<R: Files + Input + Print + Eprint + AllocGlobal>(
@@ -79,24 +65,6 @@ fn do_task<R: Files + Input + Print + Eprint + AllocGlobal>(
     report_of(rt.alloc(), name, bytes.as_slice(), reading, task)?.print(rt)
 }
 
-/// Returns what a task prints of the log of these bytes.
-fn report_of(
-    alloc: Global,
-    name: &str,
-    bytes: &[u8],
-    reading: Reading,
-    task: Task,
-) -> Result<Report, AllocError> {
-    match open_log(alloc, name, bytes, reading)? {
-        Opened::Refused(report) => Ok(report),
-        Opened::Read(file) => match task {
-            Task::Events(format) => events_report(alloc, &file, reading, format),
-            Task::Replay(asked) => replay_report(alloc, &file, reading, asked),
-            Task::Check(format) => check_report(alloc, &file, reading, format),
-        },
-    }
-}
-
 /// Does `diff` with the logs in two files.
 fn compare_logs<R: Files + Input + Print + Eprint + AllocGlobal>(
     rt: &R,
@@ -113,40 +81,6 @@ fn compare_logs<R: Files + Input + Print + Eprint + AllocGlobal>(
     let old_log = open_log(rt.alloc(), old, old_bytes.as_slice(), reading)?;
     let new_log = open_log(rt.alloc(), new, new_bytes.as_slice(), reading)?;
     difference_report(rt.alloc(), old_log, new_log, reading, format)?.print(rt)
-}
-
-/// Returns what `diff` prints of two logs. If one of them wasn't read, it is what is said of each.
-fn difference_report(
-    alloc: Global,
-    old: Opened<'_>,
-    new: Opened<'_>,
-    reading: Reading,
-    format: Format,
-) -> Result<Report, AllocError> {
-    match (old, new) {
-        (Opened::Read(old), Opened::Read(new)) => {
-            comparison_report(alloc, &old, &new, reading, format)
-        }
-        (old, new) => {
-            let of_old = side_report(alloc, old, reading)?;
-            of_old.and(&side_report(alloc, new, reading)?)
-        }
-    }
-}
-
-/// Returns what is said of a log that isn't compared.
-fn side_report(alloc: Global, log: Opened<'_>, reading: Reading) -> Result<Report, AllocError> {
-    match log {
-        Opened::Refused(report) => Ok(report),
-        Opened::Read(file) => {
-            let (judgement, messages) = judge(alloc, &file, reading.allow_left_over)?;
-            Ok(Report {
-                text: String::new(alloc),
-                messages,
-                status: judged_status(judgement),
-            })
-        }
-    }
 }
 
 /// Does `verify` with the log in a file, and the PCRs in another or in a folder.
@@ -166,20 +100,6 @@ fn verify_log<R: Files + Input + Print + Eprint + AllocGlobal>(
         selection,
     };
     verify_report(rt.alloc(), bytes.as_slice(), asked, &stated, reading)?.print(rt)
-}
-
-/// Returns what `verify` prints of the log of these bytes.
-fn verify_report(
-    alloc: Global,
-    bytes: &[u8],
-    asked: &Verification<'_>,
-    stated: &StatedPcrs<'_>,
-    reading: Reading,
-) -> Result<Report, AllocError> {
-    match open_log(alloc, asked.log, bytes, reading)? {
-        Opened::Refused(report) => Ok(report),
-        Opened::Read(file) => verification_report(alloc, &file, reading, asked, stated),
-    }
 }
 
 /// Returns the PCRs that `--pcrs` selects, or `None` without it.

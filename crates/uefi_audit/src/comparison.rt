@@ -5,7 +5,7 @@ ghost use Rattle.uefi_audit.specs.Printed.{printed_of};
 ghost use Rattle.uefi_audits.specs.diff.Views.{difference_of};
 
 use crate::failure::Status;
-use crate::log_file::{LogFile, judge, judged_status};
+use crate::log_file::{LogFile, Opened, judge, judged_status};
 use crate::report::Report;
 use crate::request::{Format, Reading};
 use audit_text::json::push_differences_json;
@@ -14,13 +14,47 @@ use audit_text::words::ShownName;
 use std::alloc::{AllocError, Global};
 use uefi_audits::diff::{PcrDifference, differences};
 
+/// Returns what `diff` prints of two logs. If one of them wasn't read, it is what is said of each.
+pub(crate) fn difference_report(
+    alloc: Global,
+    old: Opened<'_>,
+    new: Opened<'_>,
+    reading: Reading,
+    format: Format,
+) -> Result<Report, AllocError> {
+    match (old, new) {
+        (Opened::Read(old), Opened::Read(new)) => {
+            comparison_report(alloc, &old, &new, reading, format)
+        }
+        (old, new) => {
+            let of_old = side_report(alloc, old, reading)?;
+            of_old.and(&side_report(alloc, new, reading)?)
+        }
+    }
+}
+
+/// Returns what is said of a log that isn't compared.
+fn side_report(alloc: Global, log: Opened<'_>, reading: Reading) -> Result<Report, AllocError> {
+    match log {
+        Opened::Refused(report) => Ok(report),
+        Opened::Read(file) => {
+            let (judgement, messages) = judge(alloc, &file, reading.allow_left_over)?;
+            Ok(Report {
+                text: String::new(alloc),
+                messages,
+                status: judged_status(judgement),
+            })
+        }
+    }
+}
+
 /// Returns what is printed of how the events of two logs differ.
 ///
 /// # Errors
 ///
 /// [`AllocError`] if an allocation fails.
 #[tactic(auto, unfolding(crate::specs::Comparison::IsCompared))]
-pub(crate) fn comparison_report(
+fn comparison_report(
     alloc: Global,
     old: &LogFile<'_>,
     new: &LogFile<'_>,

@@ -5,7 +5,7 @@ ghost use Rattle.uefi_audit.specs.Printed.{printed_of};
 ghost use Rattle.uefi_audit.specs.Verification.{by_judgement, compared, unless_missing, verdict_status, verdict_text, verification};
 
 use crate::failure::Status;
-use crate::log_file::{LogFile, judge};
+use crate::log_file::{LogFile, Opened, judge, open_log};
 use crate::replay::has_no_pcr;
 use crate::report::Report;
 use crate::request::{Format, Reading, Verification};
@@ -26,6 +26,20 @@ pub(crate) struct StatedPcrs<'a> {
     pub pcrs: &'a [HeldPcr],
     /// Those that are asked for; all without a selection.
     pub selection: Option<PcrSelection>,
+}
+
+/// Returns what `verify` prints of the log of these bytes.
+pub(crate) fn verify_report(
+    alloc: Global,
+    bytes: &[u8],
+    asked: &Verification<'_>,
+    stated: &StatedPcrs<'_>,
+    reading: Reading,
+) -> Result<Report, AllocError> {
+    match open_log(alloc, asked.log, bytes, reading)? {
+        Opened::Refused(report) => Ok(report),
+        Opened::Read(file) => verification_report(alloc, &file, reading, asked, stated),
+    }
 }
 
 /// Returns what is printed of whether a log leads to the PCRs that a TPM held.
