@@ -7,10 +7,12 @@ use Rattle.audit_text.specs.json.Diff.{difference_json_lines}
 use Rattle.audit_text.specs.words.Shown.{shown_name}
 use Rattle.uefi_audit.specs.Ends.{worse}
 use Rattle.uefi_audit.specs.Judged.{judged_status, judgement_messages}
-use Rattle.uefi_audit.specs.Printed.{Printed}
+use Rattle.uefi_audit.specs.Printed.{Printed, one_after_other, printed_of}
 use Rattle.uefi_audit.specs.declared.failure.Status.{Status}
 use Rattle.uefi_audit.specs.declared.failure.Status.TheVariants.{Well, Differs}
 use Rattle.uefi_audit.specs.declared.log_file.LogFile.{LogFile}
+use Rattle.uefi_audit.specs.declared.log_file.Opened.{Opened}
+use Rattle.uefi_audit.specs.declared.log_file.Opened.TheVariants.{Read, Refused}
 use Rattle.uefi_audit.specs.declared.request.Format.{Format}
 use Rattle.uefi_audit.specs.declared.request.Format.TheVariants.{Text, Json}
 
@@ -38,3 +40,20 @@ pub record IsComparison (allow_left_over : Bool) (old new : LogFile) (format : F
   pub compared : IsCompared (is_read (judgement_of allow_left_over old.read) && is_read (judgement_of allow_left_over new.read))
       (worse (judged_status (judgement_of allow_left_over old.read)) (judged_status (judgement_of allow_left_over new.read)))
       format old new printed.text printed.status
+
+-- What is said of a log that isn't compared, since the other one wasn't read.
+unfoldable pub side_printed : Bool → Opened → Printed
+side_printed allow_left_over (Refused report) = printed_of report
+side_printed allow_left_over (Read file) = record {
+  messages = judgement_messages file (judgement_of allow_left_over file.read);
+  text = [];
+  status = judged_status (judgement_of allow_left_over file.read);
+}
+
+-- What `diff` prints of two logs; if one of them wasn't read, what is said of each.
+unfoldable pub IsDifferenceReport : Bool → Format → Opened → Opened → Printed → Type 0
+IsDifferenceReport allow_left_over format (Read old) (Read new) printed = IsComparison allow_left_over old new format printed
+IsDifferenceReport allow_left_over format (Read old) (Refused new) printed =
+    printed ≡ one_after_other (side_printed allow_left_over (Read old)) (side_printed allow_left_over (Refused new))
+IsDifferenceReport allow_left_over format (Refused old) new printed =
+    printed ≡ one_after_other (side_printed allow_left_over (Refused old)) (side_printed allow_left_over new)

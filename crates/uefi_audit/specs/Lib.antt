@@ -5,6 +5,7 @@ pub mod Opened
 pub mod EventsReport
 pub mod ReplayReport
 pub mod CheckReport
+pub mod TaskReport
 pub mod Comparison
 pub mod Verification
 pub mod Held

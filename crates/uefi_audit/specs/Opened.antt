@@ -6,7 +6,7 @@ use Rattle.uefi_tcg.specs.declared.log.Log.{Log}
 use Rattle.uefi_tcg.specs.v2.Header.{Header}
 use Rattle.pcr_replay.specs.ReadLogs.{table_in}
 use Rattle.audit_text.specs.text.Judgement.{many_line}
-use Rattle.uefi_audit.specs.Printed.{printed_of, unjudged}
+use Rattle.uefi_audit.specs.Printed.{Printed, printed_of, unjudged}
 use Rattle.uefi_audit.specs.declared.log_file.LogFile.{LogFile}
 use Rattle.uefi_audit.specs.declared.log_file.Opened.{Opened}
 use Rattle.uefi_audit.specs.declared.log_file.Opened.TheVariants.{Read, Refused}
@@ -33,3 +33,8 @@ pub record WasRefused (name bytes : Bor (List ℕ)) (reading : Reading) (report 
 unfoldable pub IsOpened : Bor (List ℕ) → Bor (List ℕ) → Reading → Opened → Type 0
 IsOpened name bytes reading (Read file) = WasOpened name bytes reading file
 IsOpened name bytes reading (Refused report) = WasRefused name bytes reading report
+
+-- What is printed of a log: of one that was read, what it has to be; of one that wasn't, what its refusal says.
+unfoldable pub IsReportOf : (LogFile → Printed → Type 0) → Opened → Printed → Type 0
+IsReportOf IsReport (Read file) printed = IsReport file printed
+IsReportOf IsReport (Refused report) printed = printed ≡ printed_of report

@@ -8,7 +8,7 @@ use crate::input::{file_bytes, held_pcrs};
 use crate::log_file::open_log;
 use crate::replay::Asked;
 use crate::request::{Format, Reading, Request, Verification};
-use crate::task::{Task, report_of};
+use crate::task::{Task, task_report};
 use crate::verification::{StatedPcrs, verify_report};
 use std::io::Write;
 use std::rt::Files;
@@ -62,7 +62,8 @@ fn do_task<R: Files + Input + Print + Eprint + AllocGlobal>(
     let Some(bytes) = file_bytes(rt, name) else {
         return Ok(Status::Unread);
     };
-    report_of(rt.alloc(), name, bytes.as_slice(), reading, task)?.print(rt)
+    let log = open_log(rt.alloc(), name, bytes.as_slice(), reading)?;
+    task_report(rt.alloc(), log, reading, task)?.print(rt)
 }
 
 /// Does `diff` with the logs in two files.
@@ -99,7 +100,8 @@ fn verify_log<R: Files + Input + Print + Eprint + AllocGlobal>(
         pcrs: held.as_slice(),
         selection,
     };
-    verify_report(rt.alloc(), bytes.as_slice(), asked, &stated, reading)?.print(rt)
+    let log = open_log(rt.alloc(), asked.log, bytes.as_slice(), reading)?;
+    verify_report(rt.alloc(), log, reading, asked, &stated)?.print(rt)
 }
 
 /// Returns the PCRs that `--pcrs` selects, or `None` without it.

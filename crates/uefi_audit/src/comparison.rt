@@ -1,6 +1,6 @@
 ghost use Rattle.std.specs.Prelude.{◌≡◌, map, string_bytes, IfOk};
 ghost use Rattle.audit_text.specs.words.Shown.{shown_name};
-ghost use Rattle.uefi_audit.specs.Comparison.{IsCompared, IsComparison, compared_status, difference_text};
+ghost use Rattle.uefi_audit.specs.Comparison.{IsCompared, IsComparison, IsDifferenceReport, compared_status, difference_text, side_printed};
 ghost use Rattle.uefi_audit.specs.Printed.{printed_of};
 ghost use Rattle.uefi_audits.specs.diff.Views.{difference_of};
 
@@ -15,13 +15,21 @@ use std::alloc::{AllocError, Global};
 use uefi_audits::diff::{PcrDifference, differences};
 
 /// Returns what `diff` prints of two logs. If one of them wasn't read, it is what is said of each.
+///
+/// # Errors
+///
+/// [`AllocError`] if an allocation fails.
+#[tactic(auto, unfolding(crate::specs::Comparison::IsDifferenceReport))]
 pub(crate) fn difference_report(
     alloc: Global,
     old: Opened<'_>,
     new: Opened<'_>,
     reading: Reading,
     format: Format,
-) -> Result<Report, AllocError> {
+) -> Result<Report, AllocError>
+    ensures { IfOk result (λ report. IsDifferenceReport reading.allow_left_over format old.entry
+        new.entry (printed_of report)) }
+{
     match (old, new) {
         (Opened::Read(old), Opened::Read(new)) => {
             comparison_report(alloc, &old, &new, reading, format)
@@ -34,7 +42,11 @@ pub(crate) fn difference_report(
 }
 
 /// Returns what is said of a log that isn't compared.
-fn side_report(alloc: Global, log: Opened<'_>, reading: Reading) -> Result<Report, AllocError> {
+#[tactic(auto, unfolding(crate::specs::Comparison::side_printed))]
+fn side_report(alloc: Global, log: Opened<'_>, reading: Reading) -> Result<Report, AllocError>
+    ensures { IfOk result (λ report. printed_of report
+        ≡ side_printed reading.allow_left_over log.entry) }
+{
     match log {
         Opened::Refused(report) => Ok(report),
         Opened::Read(file) => {
@@ -49,10 +61,6 @@ fn side_report(alloc: Global, log: Opened<'_>, reading: Reading) -> Result<Repor
 }
 
 /// Returns what is printed of how the events of two logs differ.
-///
-/// # Errors
-///
-/// [`AllocError`] if an allocation fails.
 #[tactic(auto, unfolding(crate::specs::Comparison::IsCompared))]
 fn comparison_report(
     alloc: Global,

@@ -1,6 +1,11 @@
+ghost use Rattle.std.specs.Prelude.{IfOk};
+ghost use Rattle.uefi_audit.specs.Opened.{IsReportOf};
+ghost use Rattle.uefi_audit.specs.Printed.{printed_of};
+ghost use Rattle.uefi_audit.specs.TaskReport.{IsTaskReport};
+
 use crate::checking::check_report;
 use crate::events::events_report;
-use crate::log_file::{Opened, open_log};
+use crate::log_file::{LogFile, Opened};
 use crate::replay::{Asked, replay_report};
 use crate::report::Report;
 use crate::request::{Format, Reading};
@@ -17,20 +22,41 @@ pub(crate) enum Task {
     Check(Format),
 }
 
-/// Returns what a task prints of the log of these bytes.
-pub(crate) fn report_of(
+/// Returns what a task prints of a log.
+///
+/// # Errors
+///
+/// [`AllocError`] if an allocation fails.
+#[tactic(auto, unfolding(crate::specs::Opened::IsReportOf))]
+pub(crate) fn task_report(
     alloc: Global,
-    name: &str,
-    bytes: &[u8],
+    log: Opened<'_>,
     reading: Reading,
     task: Task,
-) -> Result<Report, AllocError> {
-    match open_log(alloc, name, bytes, reading)? {
+) -> Result<Report, AllocError>
+    ensures { IfOk result (λ report. IsReportOf (IsTaskReport task reading.allow_left_over)
+        log.entry (printed_of report)) }
+{
+    match log {
         Opened::Refused(report) => Ok(report),
-        Opened::Read(file) => match task {
-            Task::Events(format) => events_report(alloc, &file, reading, format),
-            Task::Replay(asked) => replay_report(alloc, &file, reading, asked),
-            Task::Check(format) => check_report(alloc, &file, reading, format),
-        },
+        Opened::Read(file) => read_report(alloc, &file, reading, task),
+    }
+}
+
+/// Returns what a task prints of a log that was read.
+#[tactic(auto, unfolding(crate::specs::TaskReport::IsTaskReport))]
+fn read_report(
+    alloc: Global,
+    file: &LogFile<'_>,
+    reading: Reading,
+    task: Task,
+) -> Result<Report, AllocError>
+    ensures { IfOk result (λ report. IsTaskReport task reading.allow_left_over file.now
+        (printed_of report)) }
+{
+    match task {
+        Task::Events(format) => events_report(alloc, file, reading, format),
+        Task::Replay(asked) => replay_report(alloc, file, reading, asked),
+        Task::Check(format) => check_report(alloc, file, reading, format),
     }
 }

@@ -1,11 +1,12 @@
 ghost use Rattle.std.specs.Prelude.{◌≡◌, string_bytes, IfOk};
 ghost use Rattle.uefi_audits.specs.verify.Missing.{missing_pcrs};
 ghost use Rattle.uefi_audits.specs.verify.Verdict.{comparison_of};
+ghost use Rattle.uefi_audit.specs.Opened.{IsReportOf};
 ghost use Rattle.uefi_audit.specs.Printed.{printed_of};
 ghost use Rattle.uefi_audit.specs.Verification.{by_judgement, compared, unless_missing, verdict_status, verdict_text, verification};
 
 use crate::failure::Status;
-use crate::log_file::{LogFile, Opened, judge, open_log};
+use crate::log_file::{LogFile, Opened, judge};
 use crate::replay::has_no_pcr;
 use crate::report::Report;
 use crate::request::{Format, Reading, Verification};
@@ -28,15 +29,24 @@ pub(crate) struct StatedPcrs<'a> {
     pub selection: Option<PcrSelection>,
 }
 
-/// Returns what `verify` prints of the log of these bytes.
+/// Returns what `verify` prints of a log.
+///
+/// # Errors
+///
+/// [`AllocError`] if an allocation fails.
+#[tactic(auto, unfolding(crate::specs::Opened::IsReportOf))]
 pub(crate) fn verify_report(
     alloc: Global,
-    bytes: &[u8],
+    log: Opened<'_>,
+    reading: Reading,
     asked: &Verification<'_>,
     stated: &StatedPcrs<'_>,
-    reading: Reading,
-) -> Result<Report, AllocError> {
-    match open_log(alloc, asked.log, bytes, reading)? {
+) -> Result<Report, AllocError>
+    ensures { IfOk result (λ report. IsReportOf
+        (λ file printed. printed ≡ verification reading.allow_left_over file asked.now stated.now)
+        log.entry (printed_of report)) }
+{
+    match log {
         Opened::Refused(report) => Ok(report),
         Opened::Read(file) => verification_report(alloc, &file, reading, asked, stated),
     }
