@@ -4,12 +4,15 @@
 `rt run`, `rt lib` and `rt check` do the same as these functions, more slowly. Where the toolchain lacks one of them,
 `inside` says so in one line and returns None, and each caller goes on by these commands.
 
+  tools/toolchain.py at_once           prints how many proofs `rt ci` is to run at a time, by the variable RT_JOBS
   tools/toolchain.py keep              marks the libraries that `rt ci` proved, so that `rt` doesn't prove them again
   tools/toolchain.py TOOL ARGUMENT..   runs a tool of LLVM, as `clang`, `ld.lld` or `llvm-objdump`
 """
 import contextlib
 import importlib
 import os
+import pathlib
+import re
 import shutil
 import subprocess
 import sys
@@ -18,6 +21,7 @@ import tempfile
 sys.dont_write_bytecode = True
 sys.path.insert(0, os.path.dirname(os.path.realpath(__file__)))
 import crates
+from proving import at_once
 
 # What is used of the module beside `rt`, and of its class for a crate.
 NEEDED = ("Crate", "KEPT", "KIT", "RATTLE", "guarded", "lock")
@@ -123,6 +127,24 @@ class Inside:
         return marked
 
 
+def work_of(number):
+    """Returns the crate that a process of `rt ci` works on, and whether on its proof, its tests or its edits; None for another process."""
+    try:
+        words = pathlib.Path(f"/proc/{number}/cmdline").read_text(errors="replace").split("\0")[:-1]
+        folder = os.path.basename(os.readlink(f"/proc/{number}/cwd"))
+    except OSError:
+        return None
+    # The program of a crate's tests, and what runs it.
+    if run := next(filter(None, (re.fullmatch(r".*/bin/(\w+)_tests", word) for word in words)), None):
+        return run[1], "tests"
+    if "--crate-name" not in words:
+        return None
+    name = words[words.index("--crate-name") + 1]
+    if folder.startswith("rt-edit"):
+        return name, "edits"
+    return name, "tests" if f"out/{name}_tests.o" in words else "proof"
+
+
 def mark(library):
     """Where `rt` keeps the mark by which it knows what a library was built from."""
     return f"{os.path.dirname(library.rlib)}/stamp"
@@ -167,6 +189,9 @@ def run_tool(name, *arguments, **how):
 def main(words):
     if not words:
         sys.exit(__doc__)
+    if words == ["at_once"]:
+        print(at_once())
+        return 0
     if words != ["keep"]:
         return run_tool(*words).returncode
     if made := inside("what was proved is proved again"):
