@@ -3,6 +3,7 @@ pub mod Undetermined
 pub mod Trailing
 pub mod Judgement
 pub mod Remarks
+pub mod Agreement
 pub mod Verdict
 pub mod Missing
 pub mod Differences

@@ -10,8 +10,9 @@
 //! the bytes that follow its last event, [`push_start`] the locality that is assumed,
 //! [`push_inactive`] and [`push_unsupported`] the banks that weren't replayed, [`push_undetermined`]
 //! the events by which PCRs are undetermined, [`push_ignored`] those that have no effect and should
-//! have, and [`push_missing`] the PCRs that are asked for and not held. Each line begins with the
-//! file's name, as [`ShownName`](crate::words::ShownName) displays it.
+//! have, [`push_uncompared`] the PCRs that events extend and that weren't compared, and
+//! [`push_missing`] those that are asked for and not held. Each line begins with the file's name, as
+//! [`ShownName`](crate::words::ShownName) displays it.
 
 pub use self::banks::{push_bank, push_banks};
 pub use self::check::push_check;
@@ -22,10 +23,12 @@ pub use self::judgement::{push_judgement, push_many_algorithms};
 pub use self::missing::push_missing;
 pub use self::start::push_start;
 pub use self::trailing::push_trailing;
+pub use self::uncompared::push_uncompared;
 pub use self::undetermined::push_undetermined;
 pub use self::unreplayed::{push_inactive, push_unsupported};
 pub use self::verdict::push_verdict;
 
+mod agreement;
 mod banks;
 mod check;
 mod diff;
@@ -35,6 +38,7 @@ mod judgement;
 mod missing;
 mod start;
 mod trailing;
+mod uncompared;
 mod undetermined;
 mod unreplayed;
 mod verdict;

@@ -1,5 +1,5 @@
 -- How the program ends: its exit status, and its line on standard error.
-use Rattle.std.specs.Prelude.{ℕ, List, codes, Option, None, Some, Result, Ok, Err}
+use Rattle.std.specs.Prelude.{ℕ, Bool, true, false, List, [], codes, Option, None, Some, Result, Ok, Err}
 use Rattle.clap.specs.declared.error.kind.ErrorKind.{ErrorKind}
 use Rattle.clap.specs.declared.error.kind.ErrorKind.TheVariants as kind
 use Rattle.uefi_audit.specs.declared.failure.Failure.{Failure}
@@ -27,18 +27,32 @@ code_of Differs = 1
 code_of Unread = 3
 code_of Unjudged = 4
 
--- That of a failure, and its line on standard error; none where all was said before.
+-- That of a failure.
 abbrev pub failure_code : Failure → ℕ
 failure_code Arguments = 2
 failure_code Shown = 0
-failure_code Output = 3
+failure_code (Output cause) = 3
 failure_code Memory = 3
 
-abbrev pub failure_message : Failure → Option (List ℕ)
-failure_message Arguments = None
-failure_message Shown = None
-failure_message Output = Some (codes "uefi_audit: output")
-failure_message Memory = Some (codes "uefi_audit: memory")
+-- Whether all was said before; and what is said. Of a cause no contract says it.
+abbrev pub is_told : Failure → Bool
+is_told Arguments = true
+is_told Shown = true
+is_told (Output cause) = false
+is_told Memory = false
+
+abbrev pub failure_text : Failure → Option (List ℕ)
+failure_text Arguments = Some []
+failure_text Shown = Some []
+failure_text (Output cause) = None
+failure_text Memory = Some (codes "memory")
+
+-- Whether a write failed.
+abbrev pub is_output : Failure → Bool
+is_output Arguments = false
+is_output Shown = false
+is_output (Output cause) = true
+is_output Memory = false
 
 abbrev pub exit_code : Result Status Failure → ℕ
 exit_code (Ok status) = code_of status

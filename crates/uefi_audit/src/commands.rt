@@ -1,6 +1,6 @@
-ghost use Rattle.std.specs.Prelude.{◌≡◌, OnOk, IfErr};
+ghost use Rattle.std.specs.Prelude.{IsTrue, OnOk, IfErr};
 ghost use Rattle.std.specs.Io.KnownBytes.{Appends};
-ghost use Rattle.uefi_audit.specs.declared.failure.Failure.TheVariants.{Output};
+ghost use Rattle.uefi_audit.specs.Ends.{is_output};
 
 use crate::comparison::difference_report;
 use crate::failure::{Failure, Status};
@@ -121,10 +121,10 @@ fn selection_of<R: Eprint>(rt: &R, pcrs: Option<&str>) -> Result<Option<PcrSelec
 /// Writes a text to its end.
 pub(crate) fn print_text<W: Write>(out: &mut W, text: &str) -> Result<(), Failure>
     ensures whole { OnOk result (Appends (W.contents out.old) (W.contents out.new) text.now) }
-    ensures output { IfErr result (λ failure. failure ≡ Output) }
+    ensures output { IfErr result (λ failure. IsTrue (is_output failure)) }
 {
     match out.write_all(text.as_bytes()) {
         Ok(()) => Ok(()),
-        Err(_) => Err(Failure::Output),
+        Err(cause) => Err(Failure::Output(cause)),
     }
 }

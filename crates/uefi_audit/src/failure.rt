@@ -1,10 +1,11 @@
-ghost use Rattle.std.specs.Prelude.{◌≡◌, option_map};
+ghost use Rattle.std.specs.Prelude.{◌≡◌};
 ghost use Rattle.clap.specs.Words.{kind_of};
 ghost use Rattle.uefi_audit.specs.declared.failure.Failure.TheVariants.{Memory};
-ghost use Rattle.uefi_audit.specs.Ends.{code_of, exit_code, failure_code, failure_message, failure_of, worse};
+ghost use Rattle.uefi_audit.specs.Ends.{code_of, exit_code, failure_code, failure_of, failure_text, is_told, worse};
 
 use clap::error::ErrorKind;
 use std::alloc::AllocError;
+use std::{fmt, io};
 
 /// Why the program stops before its end.
 #[derive(Clone, Copy, Drop)]
@@ -13,8 +14,8 @@ pub(crate) enum Failure {
     Arguments,
     /// They ask for help or the version, which was printed.
     Shown,
-    /// A write failed or accepted no bytes.
-    Output,
+    /// A write failed or accepted no bytes, for this cause.
+    Output(io::Error),
     /// An allocation failed.
     Memory,
 }
@@ -39,15 +40,11 @@ impl Failure {
         }
     }
 
-    /// Returns the line for standard error; `None` if all was said where it came.
-    pub(crate) fn message(self) -> Option<&'static str>
-        ensures { option_map (λ message. message.now) result ≡ failure_message self }
+    /// Returns whether all was said where it came.
+    pub(crate) fn is_told(self) -> bool
+        ensures { result ≡ is_told self }
     {
-        match self {
-            Failure::Arguments | Failure::Shown => None,
-            Failure::Output => Some("uefi_audit: output"),
-            Failure::Memory => Some("uefi_audit: memory"),
-        }
+        matches!(self, Failure::Arguments | Failure::Shown)
     }
 
     /// Returns the exit status.
@@ -57,7 +54,20 @@ impl Failure {
         match self {
             Failure::Shown => 0,
             Failure::Arguments => 2,
-            Failure::Output | Failure::Memory => 3,
+            Failure::Output(_) | Failure::Memory => 3,
+        }
+    }
+}
+
+/// Writes what failed and, for output, the cause; nothing where all was said before.
+impl fmt::Display for Failure {
+    ghost output = { failure_text };
+
+    fn fmt<W: fmt::Write>(&self, f: &mut fmt::Formatter<W>) -> fmt::Result {
+        match self {
+            Failure::Arguments | Failure::Shown => Ok(()),
+            Failure::Output(cause) => write!(f, "standard output: {cause}"),
+            Failure::Memory => f.write_str("memory"),
         }
     }
 }

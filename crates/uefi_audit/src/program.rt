@@ -1,7 +1,6 @@
-ghost use Rattle.std.specs.Prelude.{◌≡◌, ◌⊎◌};
+ghost use Rattle.std.specs.Prelude.{◌≡◌, ◌⊎◌, IsTrue};
 ghost use Rattle.clap.specs.Words.{kind_of};
-ghost use Rattle.uefi_audit.specs.Ends.{failure_of};
-ghost use Rattle.uefi_audit.specs.declared.failure.Failure.TheVariants.{Output};
+ghost use Rattle.uefi_audit.specs.Ends.{failure_of, is_output};
 
 use crate::command_line::matches_of;
 use crate::commands::perform;
@@ -45,7 +44,7 @@ fn audit<R: Files + Env + Input + Print + Eprint + AllocGlobal>(rt: &R) -> Resul
 
 /// Prints what `clap` says of the arguments, and returns why the program ends.
 fn told<R: Print + Eprint>(rt: &R, error: &clap::Error) -> Failure
-    ensures { (result ≡ failure_of (kind_of error.now)) ⊎ (result ≡ Output) }
+    ensures { (result ≡ failure_of (kind_of error.now)) ⊎ IsTrue (is_output result) }
 {
     let failure = Failure::of(error);
     if matches!(failure, Failure::Memory) {
@@ -53,7 +52,7 @@ fn told<R: Print + Eprint>(rt: &R, error: &clap::Error) -> Failure
     }
     match error.print(rt) {
         Ok(()) => failure,
-        Err(_) => Failure::Output,
+        Err(cause) => Failure::Output(cause),
     }
 }
 
@@ -61,9 +60,9 @@ fn told<R: Print + Eprint>(rt: &R, error: &clap::Error) -> Failure
 pub(crate) fn start<R: Files + Env + Input + Print + Eprint + AllocGlobal>(rt: &R) -> ExitCode {
     let end = audit(rt);
     if let Err(failure) = &end {
-        if let Some(message) = failure.message() {
+        if !failure.is_told() {
             // If standard error is closed too, the exit status still tells.
-            let _ = eprintln!(rt; "{message}");
+            let _ = eprintln!(rt; "uefi_audit: {failure}");
         }
     }
     ExitCode::from(exit_code(end))

@@ -1,5 +1,5 @@
 -- What follows the last event of a log.
-use Rattle.std.specs.Prelude.{length}
+use Rattle.std.specs.Prelude.{Bool, ◌==◌, ◌&&◌, length}
 use Rattle.uefi_tcg.specs.Logs.{left_over, padding}
 use Rattle.pcr_replay.specs.ReadLogs.{contents_in}
 use Rattle.pcr_replay.specs.declared.read_log.ReadLog.{ReadLog}
@@ -12,3 +12,7 @@ trailing_of read = record {
   padding = length (padding read.log (contents_in read));
   left_over = length (left_over read.log (contents_in read));
 }
+
+-- A log is empty: it ends where it begins, and no byte follows.
+abbrev pub is_of_empty : Trailing → Bool
+is_of_empty trailing = (trailing.offset == 0) && (trailing.padding == 0) && (trailing.left_over == 0)

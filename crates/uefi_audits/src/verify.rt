@@ -3,12 +3,13 @@
 //! [`held_in_text`] reads PCRs from a text, [`held_in_file`] one PCR from its file in Linux's
 //! sysfs. [`PcrSelection`] says which of them are asked for: [`selected_pcrs`] are those that are
 //! held, and [`missing_pcrs`] those that aren't. [`Verdict::new`] compares PCRs with those that the
-//! events of a log lead to in their banks, the [`held_banks`].
+//! events of a log lead to in their banks, the [`held_banks`]. [`uncompared_pcrs`] are those that events
+//! extend and that weren't compared.
 //!
 //! The contracts say what text is read as which PCRs, and where another text is wrong
 //! (`specs/verify/Reading.antt`); which text selects which PCRs (`specs/verify/Selection.antt`), and
-//! which of them are missing (`specs/verify/Missing.antt`); and which PCRs agree
-//! (`specs/verify/Verdict.antt`).
+//! which of them are missing (`specs/verify/Missing.antt`); which PCRs agree
+//! (`specs/verify/Verdict.antt`); and which aren't compared (`specs/verify/Uncompared.antt`).
 
 pub use self::banks::held_banks;
 pub use self::comparison::{agrees, led_to};
@@ -16,6 +17,7 @@ pub use self::held::{Held, HeldError, HeldPcr};
 pub use self::missing::{MissingPcr, missing_pcrs};
 pub use self::reading::{held_in_file, held_in_text};
 pub use self::selection::{PcrSelection, selected_pcrs};
+pub use self::uncompared::uncompared_pcrs;
 pub use self::verdict::Verdict;
 
 mod banks;
@@ -27,4 +29,5 @@ mod missing;
 mod reading;
 mod selection;
 mod splitting;
+mod uncompared;
 mod verdict;

@@ -17,7 +17,7 @@ mismatch_json log it =
     (member (codes "log") (string log)
     (member (codes "matches") (boolean false)
     (member (codes "offset") (number (unsigned it.entry.offset))
-    (member (codes "register") (number (unsigned it.entry.event.pcr_index))
+    (member (codes "pcr") (number (unsigned it.entry.event.pcr_index))
     (member (codes "type") (type_json it.entry.event.event_type) no_members))))))
 
 -- With how many events match in a form, if any does.
@@ -33,7 +33,7 @@ forms_members by_form forms =
 unfoldable pub counts_json : TypeCounts → Data
 counts_json counts =
     object (member (codes "forms") (object (forms_members counts.by_form all_forms))
-    (member (codes "matches") (number (unsigned counts.matches))
+    (member (codes "matched") (number (unsigned counts.matches))
     (member (codes "matches_none") (number (unsigned counts.matches_none))
     (member (codes "not_in_log") (number (unsigned counts.not_in_log))
     (member (codes "type") (type_json counts.event_type.0) no_members)))))

@@ -16,7 +16,7 @@ unfoldable pub found_json : Numbered → Data
 found_json found =
     object (member (codes "index") (number (unsigned found.index))
     (member (codes "offset") (number (unsigned found.entry.offset))
-    (member (codes "register") (number (unsigned (pcr_of found)))
+    (member (codes "pcr") (number (unsigned (pcr_of found)))
     (member (codes "says") (says_json (said found.content))
     (member (codes "type") (type_json (type_of found)) no_members)))))
 
@@ -41,7 +41,7 @@ unfoldable pub pcr_json : List ℕ → List ℕ → Difference → Data
 pcr_json old_name new_name difference =
     object (member (codes "new") (side_json new_name difference.new)
     (member (codes "old") (side_json old_name difference.old)
-    (member (codes "register") (register_json difference.pcr) no_members)))
+    (member (codes "pcr") (register_json difference.pcr) no_members)))
 
 abbrev pub pcr_json_line : List ℕ → List ℕ → Difference → List ℕ
 pcr_json_line old_name new_name difference = line_of (pcr_json old_name new_name difference) ++ codes "\n"

@@ -46,7 +46,7 @@ event_json log index entry content =
     (member (codes "index") (number (unsigned index))
     (member (codes "log") (string log)
     (member (codes "offset") (number (unsigned entry.offset))
-    (member (codes "register") (number (unsigned entry.event.pcr_index))
+    (member (codes "pcr") (number (unsigned entry.event.pcr_index))
     (member (codes "type") (type_json entry.event.event_type) no_members)))))))))
 
 -- The line of an event, with what its data say by its type, with a UINTN of this size.

@@ -27,8 +27,8 @@ unfoldable pub undetermined_json : ℕ → Undetermined → Data
 undetermined_json register at =
     object (member (codes "index") (number (unsigned at.index))
     (member (codes "offset") (number (unsigned at.offset))
-    (member (codes "reason") (string (fault_text at.fault))
-    (member (codes "register") (number (unsigned register)) no_members))))
+    (member (codes "pcr") (number (unsigned register))
+    (member (codes "reason") (string (fault_text at.fault)) no_members))))
 
 -- Nothing for a PCR with a value.
 unfoldable pub if_undetermined : ℕ → Outcome → List Data
@@ -39,7 +39,7 @@ if_undetermined register (Err at) = undetermined_json register at ∷ []
 unfoldable pub bank_json : BankOutcomes → Data
 bank_json bank =
     object (member (codes "algorithm") (string (bank_name bank.bank))
-    (member (codes "registers") (array (items_of (map register_json bank.outcomes)))
+    (member (codes "pcrs") (array (items_of (map register_json bank.outcomes)))
     (member (codes "undetermined") (array (items_of (numbered if_undetermined 0 bank.outcomes))) no_members)))
 
 -- The banks of a log; `null` if it is refused.

@@ -38,7 +38,7 @@ pcr_json led by held =
     object (member (codes "bank") (string (bank_name held.bank))
     (member (codes "held") (string (encode_lower (value_of held.value)))
     (member (codes "leads_to") led
-    (member (codes "register") (number (unsigned held.pcr))
+    (member (codes "pcr") (number (unsigned held.pcr))
     (member (codes "undetermined") by no_members)))))
 
 -- Nothing for a PCR that agrees.

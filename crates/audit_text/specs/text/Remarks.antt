@@ -1,4 +1,4 @@
--- The lines that remark on a log: the locality that is assumed, banks without a digest or that can't be replayed, and the events that have no effect and should have.
+-- The lines that remark on a log: the locality that is assumed, banks without a digest or that can't be replayed, PCRs that aren't compared, and the events that have no effect and should have.
 use Rattle.std.specs.Prelude.{ℕ, List, [], ◌∷◌, ◌++◌, codes, flat_map, if◌then◌else◌}
 use Rattle.std.specs.Fmt.{decimal}
 use Rattle.pcr_replay.specs.declared.bank.Bank.{Bank}
@@ -26,6 +26,18 @@ unsupported_line name [] = []
 unsupported_line name (first ∷ others) =
     shown_name name ++ codes ": not supported: the bank of algorithm " ++ hex_text first
     ++ flat_map (λ other. codes ", " ++ hex_text other) others ++ codes "\n"
+
+-- The one line of all PCRs that events extend and that aren't compared, if there are any: the first of them, and the others.
+unfoldable pub other_pcrs : List ℕ → List ℕ
+other_pcrs pcrs = flat_map (λ pcr. codes ", " ++ decimal pcr) pcrs
+
+unfoldable pub uncompared_from : List ℕ → ℕ → List ℕ → List ℕ
+uncompared_from name first others =
+    shown_name name ++ (codes ": not compared: PCR " ++ (decimal first ++ (other_pcrs others ++ codes ", which events extend\n")))
+
+unfoldable pub uncompared_line : List ℕ → List ℕ → List ℕ
+uncompared_line name [] = []
+uncompared_line name (first ∷ others) = uncompared_from name first others
 
 -- Why an event has no effect.
 unfoldable pub ignored_text : Ignored → ℕ → List ℕ

@@ -1,5 +1,5 @@
 -- What `uefi_audit verify` prints of whether the PCRs that a TPM held are those that a log leads to.
-use Rattle.std.specs.Prelude.{ℕ, zero, suc, List, [], ◌++◌, length, codes}
+use Rattle.std.specs.Prelude.{ℕ, zero, suc, List, [], ◌++◌, codes}
 use Rattle.std.specs.Prelude.{flat_map, Option, None, Some, Ok, Err, if◌then◌else◌}
 use Rattle.std.specs.Fmt.{decimal}
 use Rattle.hex.specs.Hex.{encode_upper}
@@ -7,15 +7,11 @@ use Rattle.pcr_replay.specs.declared.fault.Undetermined.{Undetermined}
 use Rattle.pcr_replay.specs.Replay.{Outcome}
 use Rattle.pcr_replay.specs.Views.{value_of}
 use Rattle.uefi_audits.specs.Naming.{bank_name}
+use Rattle.audit_text.specs.text.Agreement.{agree_line}
 use Rattle.audit_text.specs.words.Faults.{fault_text}
 use Rattle.audit_text.specs.words.Shown.{shown_name}
 use Rattle.uefi_audits.specs.declared.verify.held.HeldPcr.{HeldPcr}
 use Rattle.uefi_audits.specs.verify.Verdict.{Comparison, agrees, is_agreement, led_to}
-
--- The line of PCRs that all agree: how many they are, and the locality of the start.
-unfoldable pub agree_line : List ℕ → ℕ → ℕ → List ℕ
-agree_line name count locality =
-    shown_name name ++ (codes ": " ++ (decimal count ++ (codes " PCRs agree, PCR 0 starts at locality " ++ (decimal locality ++ codes "\n"))))
 
 -- Where PCR 0 starts.
 unfoldable pub start_text : ℕ → ℕ → List ℕ
@@ -49,5 +45,5 @@ line_of name comparison held =
 -- What is printed: one line if all PCRs agree, else one for each that doesn't, in order.
 abbrev pub verdict_lines : List ℕ → Comparison → List HeldPcr → List ℕ
 verdict_lines name comparison held =
-    if is_agreement comparison then agree_line name (length held) comparison.start.start.locality
+    if is_agreement comparison then agree_line name held comparison.start.start.locality
     else flat_map (line_of name comparison) held

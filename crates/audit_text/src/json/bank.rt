@@ -49,7 +49,7 @@ fn bank_json(alloc: Global, bank: &BankPcrs) -> Result<Value, AllocError>
     let name = Value::try_from_str(alloc, bank_name(bank.bank))?;
     put(&mut members, alloc, "algorithm", name)?;
     let registers = Value::Array(registers_json(alloc, &bank.pcrs)?);
-    put(&mut members, alloc, "registers", registers)?;
+    put(&mut members, alloc, "pcrs", registers)?;
     let undetermined = Value::Array(all_undetermined(alloc, &bank.pcrs)?);
     put(&mut members, alloc, "undetermined", undetermined)?;
     Ok(Value::Object(members))
@@ -126,7 +126,7 @@ fn undetermined_json(alloc: Global, register: usize, at: &Undetermined) -> Resul
     json!(in alloc; {
         "index": index,
         "offset": offset,
-        "reason": reason,
-        "register": register
+        "pcr": register,
+        "reason": reason
     })
 }

@@ -22,7 +22,7 @@ use uefi_audits::check::{CheckResult, Form, Mismatch, TypeCounts};
 /// | `log` | what was given: the log's name |
 /// | `matches` | `false` |
 /// | `offset` | where it starts in the log's bytes |
-/// | `register` | the index of its PCR |
+/// | `pcr` | the index of its PCR |
 /// | `type` | an object with `name`, if the type has one, and `number` |
 ///
 /// The last line's object has the log's name as `log`, and as `checked` an array with an object for
@@ -31,7 +31,7 @@ use uefi_audits::check::{CheckResult, Form, Mismatch, TypeCounts};
 /// | key of a type | value |
 /// |---|---|
 /// | `forms` | an object with how many match in each form in which any matches |
-/// | `matches` | how many match |
+/// | `matched` | how many match |
 /// | `matches_none` | how many match in none of the type's forms |
 /// | `not_in_log` | of how many the log doesn't have what was measured |
 /// | `type` | an object with `name`, if the type has one, and `number` |
@@ -98,7 +98,7 @@ fn mismatch_json(alloc: Global, log: &str, mismatch: &Mismatch<'_>) -> Result<Va
     put(&mut members, alloc, "matches", Value::Bool(false))?;
     put(&mut members, alloc, "offset", Value::from(entry.offset))?;
     let register = entry.event.pcr_index().0;
-    put(&mut members, alloc, "register", Value::from(register))?;
+    put(&mut members, alloc, "pcr", Value::from(register))?;
     let event_type = type_json(alloc, entry.event.event_type())?;
     put(&mut members, alloc, "type", event_type)?;
     Ok(Value::Object(members))
@@ -152,7 +152,7 @@ fn counts_json(alloc: Global, counts: &TypeCounts) -> Result<Value, AllocError>
     let forms = forms_json(alloc, counts)?;
     put(&mut members, alloc, "forms", forms)?;
     let (matches, none) = (counts.matches, counts.matches_none);
-    put(&mut members, alloc, "matches", Value::from(matches))?;
+    put(&mut members, alloc, "matched", Value::from(matches))?;
     put(&mut members, alloc, "matches_none", Value::from(none))?;
     let outside = counts.not_in_log;
     put(&mut members, alloc, "not_in_log", Value::from(outside))?;

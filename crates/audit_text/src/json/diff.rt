@@ -19,7 +19,7 @@ use uefi_audits::diff::{ABOVE, LogSide, NumberedEntry, PcrDifference};
 /// | key | value |
 /// |---|---|
 /// | `new`, `old` | an object for each log |
-/// | `register` | the index of the PCR; `null` for those above 23 |
+/// | `pcr` | the index of the PCR; `null` for those above 23 |
 ///
 /// | key of a log | value |
 /// |---|---|
@@ -31,7 +31,7 @@ use uefi_audits::diff::{ABOVE, LogSide, NumberedEntry, PcrDifference};
 /// |---|---|
 /// | `index` | its index in the log |
 /// | `offset` | where it starts in the log's bytes |
-/// | `register` | the index of its PCR |
+/// | `pcr` | the index of its PCR |
 /// | `says` | what its data say, as [`push_said`] has it; `null` if that is nothing |
 /// | `type` | an object with `name`, if the type has one, and `number` |
 ///
@@ -87,12 +87,7 @@ fn pcr_json(
     put(&mut members, alloc, "new", new)?;
     let old = side_json(alloc, old_name, &difference.old)?;
     put(&mut members, alloc, "old", old)?;
-    put(
-        &mut members,
-        alloc,
-        "register",
-        register_json(difference.pcr),
-    )?;
+    put(&mut members, alloc, "pcr", register_json(difference.pcr))?;
     Ok(Value::Object(members))
 }
 
@@ -162,7 +157,7 @@ fn found_json(alloc: Global, found: &NumberedEntry<'_>) -> Result<Value, AllocEr
         Value::from(found.entry.offset),
     )?;
     let register = event.pcr_index().0;
-    put(&mut members, alloc, "register", Value::from(register))?;
+    put(&mut members, alloc, "pcr", Value::from(register))?;
     let says = says_json(alloc, &found.content)?;
     put(&mut members, alloc, "says", says)?;
     let event_type = type_json(alloc, event.event_type())?;

@@ -26,7 +26,7 @@ use uefi_tcg::{EventType, LogEntry, UintnSize};
 /// | `hashes_to` | the names of the banks whose digest is the hash of the data |
 /// | `index`, `log` | what was given |
 /// | `offset` | where the event starts in the log's bytes |
-/// | `register` | the index of the PCR |
+/// | `pcr` | the index of the PCR |
 /// | `type` | an object with `name`, if the type has one, and `number` |
 ///
 /// An algorithm is its name, or the number of one without a name; a digest is in hex. A bank is in
@@ -117,7 +117,7 @@ pub(crate) fn event_json(
     put(&mut members, alloc, "log", log)?;
     put(&mut members, alloc, "offset", Value::from(entry.offset))?;
     let register = event.pcr_index().0;
-    put(&mut members, alloc, "register", Value::from(register))?;
+    put(&mut members, alloc, "pcr", Value::from(register))?;
     let event_type = type_json(alloc, event.event_type())?;
     put(&mut members, alloc, "type", event_type)?;
     Ok(Value::Object(members))

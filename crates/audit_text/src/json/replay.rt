@@ -27,8 +27,8 @@ use uefi_audits::start::KnownStart;
 /// | key of a bank | value |
 /// |---|---|
 /// | `algorithm` | its name |
-/// | `registers` | the 24 PCRs: each its value in hex, or `null` if it is undetermined |
-/// | `undetermined` | for each PCR that is, `register` and the event: `index`, `offset`, `reason` |
+/// | `pcrs` | the 24 PCRs: each its value in hex, or `null` if it is undetermined |
+/// | `undetermined` | for each PCR that is, `pcr` and the event: `index`, `offset`, `reason` |
 ///
 /// An algorithm in `not_replayed` is the name of its bank, or its number in hex if that bank can't
 /// be replayed.

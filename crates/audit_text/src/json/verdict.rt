@@ -32,7 +32,7 @@ use uefi_audits::verify::{HeldPcr, Verdict, agrees, led_to};
 /// | `bank` | its bank's name |
 /// | `held` | what it held, in hex |
 /// | `leads_to` | what the log leads to, in hex; `null` if that is no value |
-/// | `register` | its index |
+/// | `pcr` | its index |
 /// | `undetermined` | the event by which it is undetermined: `index`, `offset`, `reason`; else `null` |
 ///
 /// If the log has no such PCR, both `leads_to` and `undetermined` are `null`.
@@ -153,7 +153,7 @@ fn pcr_json(
     let held_value = hex_json(alloc, held.value.as_bytes())?;
     put(&mut members, alloc, "held", held_value)?;
     put(&mut members, alloc, "leads_to", led)?;
-    put(&mut members, alloc, "register", Value::from(held.pcr))?;
+    put(&mut members, alloc, "pcr", Value::from(held.pcr))?;
     put(&mut members, alloc, "undetermined", undetermined)?;
     Ok(Value::Object(members))
 }

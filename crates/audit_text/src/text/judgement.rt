@@ -28,7 +28,7 @@ pub fn push_judgement<A: Allocator>(
         Judgement::LeftOver | Judgement::Accepted => push_trailing(messages, name, trailing),
         Judgement::NothingMeasured => {
             push_trailing(messages, name, trailing)?;
-            push_nothing(messages, name)
+            push_nothing(messages, name, trailing)
         }
     }
 }
@@ -58,9 +58,17 @@ pub fn push_many_algorithms<A: Allocator>(
 
 /// Appends the line of a log in which nothing was measured.
 #[tactic(auto, unfolding(crate::specs::text::Judgement::nothing_line))]
-fn push_nothing<A: Allocator>(messages: &mut String<A>, name: &str) -> Result<(), AllocError>
-    ensures { OnOk result (AppendsText messages.old messages.new (nothing_line name.now)) }
+fn push_nothing<A: Allocator>(
+    messages: &mut String<A>,
+    name: &str,
+    trailing: &Trailing,
+) -> Result<(), AllocError>
+    ensures { OnOk result
+        (AppendsText messages.old messages.new (nothing_line name.now trailing.now)) }
 {
     let name = ShownName(name);
+    if trailing.is_of_empty() {
+        return writeln!(messages, "{name}: the log is empty");
+    }
     writeln!(messages, "{name}: nothing was measured")
 }

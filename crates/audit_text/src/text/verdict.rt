@@ -2,9 +2,10 @@ ghost use Rattle.std.specs.Prelude.{◌≡◌, flat_map, OnOk};
 ghost use Rattle.std.specs.Option.{option_map};
 ghost use Rattle.uefi_base.specs.Appending.{AppendsText};
 ghost use Rattle.pcr_replay.specs.Views.{outcome_of, value_of};
-ghost use Rattle.audit_text.specs.text.Verdict.{agree_line, held_text, line_of, outcome_text, undetermined_text, value_text, verdict_lines};
+ghost use Rattle.audit_text.specs.text.Verdict.{held_text, line_of, outcome_text, undetermined_text, value_text, verdict_lines};
 ghost use Rattle.uefi_audits.specs.verify.Verdict.{comparison_of};
 
+use crate::text::agreement::push_agreement;
 use crate::words::{ShownName, fault_text};
 use pcr_replay::{PcrValue, Undetermined};
 use std::alloc::{AllocError, Allocator};
@@ -28,27 +29,9 @@ pub fn push_verdict<A: Allocator + Copy>(
         (verdict_lines name.now (comparison_of verdict.now) held.now)) }
 {
     if verdict.is_agreement() {
-        return push_agreement(text, name, held.len(), verdict.start.start.locality);
+        return push_agreement(text, name, held, verdict.start.start.locality);
     }
     push_disagreements(text, alloc, name, held, verdict)
-}
-
-/// Appends the line that says how many PCRs agree, and where PCR 0 starts.
-#[tactic(auto, unfolding(crate::specs::text::Verdict::agree_line))]
-fn push_agreement<A: Allocator>(
-    text: &mut String<A>,
-    name: &str,
-    count: usize,
-    locality: u8,
-) -> Result<(), AllocError>
-    ensures { OnOk result
-        (AppendsText text.old text.new (agree_line name.now count locality)) }
-{
-    let name = ShownName(name);
-    writeln!(
-        text,
-        "{name}: {count} PCRs agree, PCR 0 starts at locality {locality}"
-    )
 }
 
 /// Appends a line for each PCR that doesn't agree.

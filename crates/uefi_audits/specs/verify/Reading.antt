@@ -1,7 +1,7 @@
--- PCRs as `tpm2_pcrread` of tpm2-tools 5.4 prints them, and as Linux has them in files (Documentation/ABI/stable/sysfs-class-tpm); and where a text stops being that.
-use Rattle.std.specs.Prelude.{ℕ, ◌≡◌, ◌≢◌, ◌+◌, ◌-◌, ◌*◌, ◌==◌, ◌&&◌, nat_le, ◌⊎◌, ⊤, Bool, if◌then◌else◌}
+-- PCRs as `tpm2_pcrread`, `tpm2_quote` and `tpm2_checkquote` of tpm2-tools 5.4 print them, and as Linux has them in files (Documentation/ABI/stable/sysfs-class-tpm); and where a text stops being that.
+use Rattle.std.specs.Prelude.{ℕ, ◌≡◌, ◌≢◌, ◌+◌, ◌-◌, ◌*◌, ◌==◌, ◌&&◌, ◌||◌, nat_eq, nat_le, ◌⊎◌, ⊤, Bool, IsTrue, if◌then◌else◌}
 use Rattle.std.specs.Prelude.{List, [], ◌∷◌, ◌++◌, length, codes, flat_map, Option, None, Some, Ok}
-use Rattle.std.specs.List.{All}
+use Rattle.std.specs.List.{All, starts_with}
 use Rattle.std.specs.Option.{option_map}
 use Rattle.std.specs.Str.{IsUtf8}
 use Rattle.hex.specs.Hex.{decode_of}
@@ -92,12 +92,24 @@ StatesNew before line after =
     (held : HeldPcr) × StatesPcr before.section line held × IsNew held before.pcrs
     × (after ≡ record before { pcrs = before.pcrs ++ held ∷ [] })
 
--- It is of a PCR in another bank, and is passed over.
+-- It is of a PCR in another bank.
 abbrev pub IsOfOther : Section → List ℕ → Type 0
 IsOfOther section line = (section ≡ Unsupported) × ((number : ℕ) × (digits : List ℕ) × IsPcrLine line number digits)
 
+-- It is a line that a quote has beside those of banks and PCRs: it begins with one of these.
+unfoldable pub is_labelled : List ℕ → Bool
+is_labelled line =
+    starts_with nat_eq line (codes "quoted: ") || starts_with nat_eq line (codes "signature:")
+    || starts_with nat_eq line (codes "  alg: ") || starts_with nat_eq line (codes "  sig: ")
+    || starts_with nat_eq line (codes "pcrs:") || starts_with nat_eq line (codes "calcDigest: ")
+    || starts_with nat_eq line (codes "sig: ")
+
+abbrev pub IsOfQuote : List ℕ → Type 0
+IsOfQuote line = IsTrue (is_labelled line) × ((name : List ℕ) → IsBankLine line name → ⊥)
+
+-- Both are passed over.
 abbrev pub IsPassedOver : Stated → List ℕ → Stated → Type 0
-IsPassedOver before line after = IsOfOther before.section line × (after ≡ before)
+IsPassedOver before line after = (IsOfOther before.section line ⊎ IsOfQuote line) × (after ≡ before)
 
 -- What a line adds to what those before it state.
 abbrev pub Adds : Stated → List ℕ → Stated → Type 0

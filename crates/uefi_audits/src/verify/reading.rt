@@ -1,8 +1,8 @@
-ghost use Rattle.std.specs.Prelude.{◌≡◌, ◌++◌, ◌∷◌, ◌≢◌, List, ℕ, map, IfErr, IfOk, IsTrue, MatchOption, ◌↔◌};
+ghost use Rattle.std.specs.Prelude.{◌≡◌, ◌⊎◌, ◌++◌, ◌∷◌, ◌≢◌, List, ℕ, map, IfErr, IfOk, IsTrue, MatchOption, ◌↔◌};
 ghost use Rattle.pcr_replay.specs.Views.{value_of};
 ghost use Rattle.uefi_audits.specs.declared.verify.held.HeldPcr.{HeldPcr};
 ghost use Rattle.uefi_audits.specs.declared.verify.held.Section.{Section};
-ghost use Rattle.uefi_audits.specs.verify.Reading.{Adds, IsFileError, IsFileOf, IsNew, IsOfOther, IsTextError, IsTextOf, IsValueIn, NamesBank};
+ghost use Rattle.uefi_audits.specs.verify.Reading.{Adds, IsFileError, IsFileOf, IsNew, IsOfOther, IsTextError, IsTextOf, IsValueIn, NamesBank, is_labelled};
 ghost use Rattle.uefi_audits.specs.verify.Reading.{IsWithoutReturn, StatesPcr, Stated};
 ghost use Rattle.uefi_audits.specs.private.verify.Views.{stated_of};
 
@@ -13,14 +13,16 @@ use crate::verify::splitting::split_once;
 use pcr_replay::{Bank, PcrValue};
 use std::alloc::{AllocError, Allocator};
 
-/// Returns the PCRs that a text states, as `tpm2_pcrread` of tpm2-tools prints them or as Linux has
-/// those of TPM 1.2 in its file `pcrs`, whose bank is SHA-1.
+/// Returns the PCRs that a text states, as `tpm2_pcrread`, `tpm2_quote` and `tpm2_checkquote` of
+/// tpm2-tools print them or as Linux has those of TPM 1.2 in its file `pcrs`, whose bank is SHA-1.
 ///
 /// | line | what it says |
 /// |---|---|
 /// | `  sha256:` | the PCRs of this bank follow |
 /// | `    7 : 0x1234..` | PCR 7 of that bank held this |
 /// | `PCR-07: 12 34 ..` | PCR 7 of TPM 1.2 held this |
+/// | `quoted: ..`, `signature:`, `  alg: ..`, `  sig: ..` | it is of a quote, and passed over |
+/// | `pcrs:`, `calcDigest: ..`, `sig: ..` | the same |
 ///
 /// A line ends with `\n` or `\r\n`, the last one too. Hex digits may be of either case. The PCRs of
 /// a bank that can't be replayed are passed over, and its name is returned.
@@ -57,8 +59,9 @@ pub fn held_in_text<'a, A: Allocator + Copy>(
     Ok(held)
 }
 
-/// Reads a line: of a bank that begins, or of a PCR, which is appended unless it is of a bank that
-/// can't be replayed. Returns the bank of the lines that follow; `None` if the line is neither.
+/// Reads a line: of a bank that begins, of a PCR, which is appended unless it is of a bank that can't
+/// be replayed, or of a quote. Returns the bank of the lines that follow; `None` if the line is none of
+/// these.
 fn read_line<'a, A: Allocator + Copy>(
     alloc: A,
     held: &mut Held<'a, A>,
@@ -102,14 +105,36 @@ fn begin_bank<'a, A: Allocator>(
     }
 }
 
-/// Returns whether a line is of a PCR in a bank that can't be replayed.
+/// Returns whether a line is of a PCR in a bank that can't be replayed, or one that a quote has beside
+/// those of banks and PCRs.
 fn is_passed_over(section: Section, line: &[u8]) -> bool
+    ensures { IsTrue result ↔ (IsOfOther section line.now ⊎ IsTrue (is_labelled line.now)) }
+{
+    is_of_other(section, line) || is_labelled(line)
+}
+
+/// Returns whether a line is of a PCR in a bank that can't be replayed.
+fn is_of_other(section: Section, line: &[u8]) -> bool
     ensures { IsTrue result ↔ IsOfOther section line.now }
 {
     match section {
         Section::Unsupported => pcr_in_line(line).is_some(),
         _ => false,
     }
+}
+
+/// Returns whether a line begins as one that a quote has beside those of banks and PCRs.
+#[tactic(auto, unfolding(crate::specs::verify::Reading::is_labelled))]
+fn is_labelled(line: &[u8]) -> bool
+    ensures { result ≡ is_labelled line.now }
+{
+    line.starts_with(b"quoted: ")
+        || line.starts_with(b"signature:")
+        || line.starts_with(b"  alg: ")
+        || line.starts_with(b"  sig: ")
+        || line.starts_with(b"pcrs:")
+        || line.starts_with(b"calcDigest: ")
+        || line.starts_with(b"sig: ")
 }
 
 /// Returns whether a PCR is none of the others.

@@ -27,13 +27,13 @@ EV_IPL: 2 match (1 command, 1 narrowed), 0 don't match, 1 not in the log
 0x80000011: 0 match, 0 don't match, 1 not in the log
 ";
 
-const JSON_LINES: &str = "{\"index\":1,\"log\":\"LOG\",\"matches\":false,\"offset\":107,\"regist\
-     er\":0,\"type\":{\"name\":\"EV_SEPARATOR\",\"number\":4}}\n{\"checked\"\
-     :[{\"forms\":{\"data\":1},\"matches\":1,\"matches_none\":1,\"not_in_lo\
+const JSON_LINES: &str = "{\"index\":1,\"log\":\"LOG\",\"matches\":false,\"offset\":107,\"pcr\":\
+     0,\"type\":{\"name\":\"EV_SEPARATOR\",\"number\":4}}\n{\"checked\"\
+     :[{\"forms\":{\"data\":1},\"matched\":1,\"matches_none\":1,\"not_in_lo\
      g\":0,\"type\":{\"name\":\"EV_SEPARATOR\",\"number\":4}},{\"forms\":{\"\
-     command\":1,\"narrowed\":1},\"matches\":2,\"matches_none\":0,\"not_in_\
+     command\":1,\"narrowed\":1},\"matched\":2,\"matches_none\":0,\"not_in_\
      log\":1,\"type\":{\"name\":\"EV_IPL\",\"number\":13}},{\"forms\":{},\"\
-     matches\":0,\"matches_none\":0,\"not_in_log\":1,\"type\":{\"number\":2\
+     matched\":0,\"matches_none\":0,\"not_in_log\":1,\"type\":{\"number\":2\
      147483665}}],\"log\":\"LOG\"}\n";
 
 /// Returns the lines of what is found of a log's events.

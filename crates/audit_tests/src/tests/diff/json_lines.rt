@@ -35,22 +35,22 @@ const ROWS: [Row; 10] = [
         old: "0100000008000000aaaaaaaaaaaaaaaaaaaaaaaaaaaaaaaaaaaaaaaa00000000",
         new: "0100000008000000aaaaaaaaaaaaaaaaaaaaaaaaaaaaaaaaaaaaaaaa00000000010000\
               0004000000bbbbbbbbbbbbbbbbbbbbbbbbbbbbbbbbbbbbbbbb0400000000000000",
-        lines: "{\"new\":{\"first\":{\"index\":1,\"offset\":32,\"register\":1,\"says\"\
+        lines: "{\"new\":{\"first\":{\"index\":1,\"offset\":32,\"pcr\":1,\"says\"\
                 :\"separator 0\",\"type\":{\"name\":\"EV_SEPARATOR\",\"number\":4}},\"\
-                log\":\"new.log\",\"only\":[{\"index\":1,\"offset\":32,\"register\":1,\
+                log\":\"new.log\",\"only\":[{\"index\":1,\"offset\":32,\"pcr\":1,\
                 \"says\":\"separator 0\",\"type\":{\"name\":\"EV_SEPARATOR\",\"number\
-                \":4}}]},\"old\":{\"first\":null,\"log\":\"old.log\",\"only\":[]},\"re\
-                gister\":1}\n",
+                \":4}}]},\"old\":{\"first\":null,\"log\":\"old.log\",\"only\":[]},\"pcr\":\
+                1}\n",
     },
     // An event that the log has before stands twice in it.
     Row {
         old: "0100000008000000aaaaaaaaaaaaaaaaaaaaaaaaaaaaaaaaaaaaaaaa00000000",
         new: "0100000008000000aaaaaaaaaaaaaaaaaaaaaaaaaaaaaaaaaaaaaaaa00000000010000\
               0008000000aaaaaaaaaaaaaaaaaaaaaaaaaaaaaaaaaaaaaaaa00000000",
-        lines: "{\"new\":{\"first\":{\"index\":1,\"offset\":32,\"register\":1,\"says\"\
+        lines: "{\"new\":{\"first\":{\"index\":1,\"offset\":32,\"pcr\":1,\"says\"\
                 :null,\"type\":{\"name\":\"EV_S_CRTM_VERSION\",\"number\":8}},\"log\":\
                 \"new.log\",\"only\":[]},\"old\":{\"first\":null,\"log\":\"old.log\",\
-                \"only\":[]},\"register\":1}\n",
+                \"only\":[]},\"pcr\":1}\n",
     },
     // The order is another.
     Row {
@@ -58,11 +58,11 @@ const ROWS: [Row; 10] = [
               0004000000bbbbbbbbbbbbbbbbbbbbbbbbbbbbbbbbbbbbbbbb0400000000000000",
         new: "0100000004000000bbbbbbbbbbbbbbbbbbbbbbbbbbbbbbbbbbbbbbbb04000000000000\
               000100000008000000aaaaaaaaaaaaaaaaaaaaaaaaaaaaaaaaaaaaaaaa00000000",
-        lines: "{\"new\":{\"first\":{\"index\":0,\"offset\":0,\"register\":1,\"says\":\
+        lines: "{\"new\":{\"first\":{\"index\":0,\"offset\":0,\"pcr\":1,\"says\":\
                 \"separator 0\",\"type\":{\"name\":\"EV_SEPARATOR\",\"number\":4}},\"l\
                 og\":\"new.log\",\"only\":[]},\"old\":{\"first\":{\"index\":0,\"offset\
-                \":0,\"register\":1,\"says\":null,\"type\":{\"name\":\"EV_S_CRTM_VERSI\
-                ON\",\"number\":8}},\"log\":\"old.log\",\"only\":[]},\"register\":1}\n",
+                \":0,\"pcr\":1,\"says\":null,\"type\":{\"name\":\"EV_S_CRTM_VERSI\
+                ON\",\"number\":8}},\"log\":\"old.log\",\"only\":[]},\"pcr\":1}\n",
     },
     // A digest differs, and an event of another PCR is missing.
     Row {
@@ -71,20 +71,20 @@ const ROWS: [Row; 10] = [
               000007000080aaaaaaaaaaaaaaaaaaaaaaaaaaaaaaaaaaaaaaaa00000000",
         new: "0100000008000000aaaaaaaaaaaaaaaaaaaaaaaaaaaaaaaaaaaaaaaa00000000010000\
               0004000000aaaaaaaaaaaaaaaaaaaaaaaaaaaaaaaaaaaaaaaa0400000000000000",
-        lines: "{\"new\":{\"first\":{\"index\":1,\"offset\":32,\"register\":1,\"says\"\
+        lines: "{\"new\":{\"first\":{\"index\":1,\"offset\":32,\"pcr\":1,\"says\"\
                 :\"separator 0\",\"type\":{\"name\":\"EV_SEPARATOR\",\"number\":4}},\"\
-                log\":\"new.log\",\"only\":[{\"index\":1,\"offset\":32,\"register\":1,\
+                log\":\"new.log\",\"only\":[{\"index\":1,\"offset\":32,\"pcr\":1,\
                 \"says\":\"separator 0\",\"type\":{\"name\":\"EV_SEPARATOR\",\"number\
-                \":4}}]},\"old\":{\"first\":{\"index\":1,\"offset\":32,\"register\":1,\
+                \":4}}]},\"old\":{\"first\":{\"index\":1,\"offset\":32,\"pcr\":1,\
                 \"says\":\"separator 0\",\"type\":{\"name\":\"EV_SEPARATOR\",\"number\
-                \":4}},\"log\":\"old.log\",\"only\":[{\"index\":1,\"offset\":32,\"regi\
-                ster\":1,\"says\":\"separator 0\",\"type\":{\"name\":\"EV_SEPARATOR\",\
-                \"number\":4}}]},\"register\":1}\n{\"new\":{\"first\":null,\"log\":\"n\
-                ew.log\",\"only\":[]},\"old\":{\"first\":{\"index\":2,\"offset\":68,\"\
-                register\":4,\"says\":null,\"type\":{\"name\":\"EV_EFI_ACTION\",\"numb\
+                \":4}},\"log\":\"old.log\",\"only\":[{\"index\":1,\"offset\":32,\"pcr\":\
+                1,\"says\":\"separator 0\",\"type\":{\"name\":\"EV_SEPARATOR\",\
+                \"number\":4}}]},\"pcr\":1}\n{\"new\":{\"first\":null,\"log\":\"n\
+                ew.log\",\"only\":[]},\"old\":{\"first\":{\"index\":2,\"offset\":68,\"pcr\":\
+                4,\"says\":null,\"type\":{\"name\":\"EV_EFI_ACTION\",\"numb\
                 er\":2147483655}},\"log\":\"old.log\",\"only\":[{\"index\":2,\"offset\
-                \":68,\"register\":4,\"says\":null,\"type\":{\"name\":\"EV_EFI_ACTION\
-                \",\"number\":2147483655}}]},\"register\":4}\n",
+                \":68,\"pcr\":4,\"says\":null,\"type\":{\"name\":\"EV_EFI_ACTION\
+                \",\"number\":2147483655}}]},\"pcr\":4}\n",
     },
     // PCRs above 23, and a type without a name.
     Row {
@@ -92,13 +92,13 @@ const ROWS: [Row; 10] = [
               0077000000aaaaaaaaaaaaaaaaaaaaaaaaaaaaaaaaaaaaaaaa00000000",
         new: "1e00000008000000aaaaaaaaaaaaaaaaaaaaaaaaaaaaaaaaaaaaaaaa00000000280000\
               0077000000aaaaaaaaaaaaaaaaaaaaaaaaaaaaaaaaaaaaaaaa00000000",
-        lines: "{\"new\":{\"first\":{\"index\":1,\"offset\":32,\"register\":40,\"says\
+        lines: "{\"new\":{\"first\":{\"index\":1,\"offset\":32,\"pcr\":40,\"says\
                 \":null,\"type\":{\"number\":119}},\"log\":\"new.log\",\"only\":[{\"in\
-                dex\":1,\"offset\":32,\"register\":40,\"says\":null,\"type\":{\"number\
-                \":119}}]},\"old\":{\"first\":{\"index\":1,\"offset\":32,\"register\":\
+                dex\":1,\"offset\":32,\"pcr\":40,\"says\":null,\"type\":{\"number\
+                \":119}}]},\"old\":{\"first\":{\"index\":1,\"offset\":32,\"pcr\":\
                 31,\"says\":null,\"type\":{\"number\":119}},\"log\":\"old.log\",\"only\
-                \":[{\"index\":1,\"offset\":32,\"register\":31,\"says\":null,\"type\":\
-                {\"number\":119}}]},\"register\":null}\n",
+                \":[{\"index\":1,\"offset\":32,\"pcr\":31,\"says\":null,\"type\":\
+                {\"number\":119}}]},\"pcr\":null}\n",
     },
     // An event of version 1 and the same of version 2, which has another digest more.
     Row {
@@ -110,15 +110,15 @@ const ROWS: [Row; 10] = [
               00000200000008000000020000000400aaaaaaaaaaaaaaaaaaaaaaaaaaaaaaaaaaaaaa\
               aa0b00cccccccccccccccccccccccccccccccccccccccccccccccccccccccccccccccc\
               00000000",
-        lines: "{\"new\":{\"first\":{\"index\":1,\"offset\":107,\"register\":2,\"says\
+        lines: "{\"new\":{\"first\":{\"index\":1,\"offset\":107,\"pcr\":2,\"says\
                 \":null,\"type\":{\"name\":\"EV_S_CRTM_VERSION\",\"number\":8}},\"log\
-                \":\"new.log\",\"only\":[{\"index\":1,\"offset\":107,\"register\":2,\"\
+                \":\"new.log\",\"only\":[{\"index\":1,\"offset\":107,\"pcr\":2,\"\
                 says\":null,\"type\":{\"name\":\"EV_S_CRTM_VERSION\",\"number\":8}}]},\
-                \"old\":{\"first\":{\"index\":1,\"offset\":32,\"register\":2,\"says\":\
+                \"old\":{\"first\":{\"index\":1,\"offset\":32,\"pcr\":2,\"says\":\
                 null,\"type\":{\"name\":\"EV_S_CRTM_VERSION\",\"number\":8}},\"log\":\
-                \"old.log\",\"only\":[{\"index\":1,\"offset\":32,\"register\":2,\"says\
-                \":null,\"type\":{\"name\":\"EV_S_CRTM_VERSION\",\"number\":8}}]},\"re\
-                gister\":2}\n",
+                \"old.log\",\"only\":[{\"index\":1,\"offset\":32,\"pcr\":2,\"says\
+                \":null,\"type\":{\"name\":\"EV_S_CRTM_VERSION\",\"number\":8}}]},\"pcr\":\
+                2}\n",
     },
     // The value of a variable differs.
     Row {
@@ -128,17 +128,17 @@ const ROWS: [Row; 10] = [
         new: "0700000001000080aaaaaaaaaaaaaaaaaaaaaaaaaaaaaaaaaaaaaaaa3500000061dfe4\
               8bca93d211aa0d00e098032b8c0a000000000000000100000000000000530065006300\
               75007200650042006f006f00740000",
-        lines: "{\"new\":{\"first\":{\"index\":0,\"offset\":0,\"register\":7,\"says\":\
+        lines: "{\"new\":{\"first\":{\"index\":0,\"offset\":0,\"pcr\":7,\"says\":\
               \"variable SecureBoot\",\"type\":{\"name\":\"EV_EFI_VARIABLE_DRIVER_CO\
               NFIG\",\"number\":2147483649}},\"log\":\"new.log\",\"only\":[{\"index\
-              \":0,\"offset\":0,\"register\":7,\"says\":\"variable SecureBoot\",\"ty\
+              \":0,\"offset\":0,\"pcr\":7,\"says\":\"variable SecureBoot\",\"ty\
               pe\":{\"name\":\"EV_EFI_VARIABLE_DRIVER_CONFIG\",\"number\":2147483649\
-              }}]},\"old\":{\"first\":{\"index\":0,\"offset\":0,\"register\":7,\"say\
+              }}]},\"old\":{\"first\":{\"index\":0,\"offset\":0,\"pcr\":7,\"say\
               s\":\"variable SecureBoot\",\"type\":{\"name\":\"EV_EFI_VARIABLE_DRIVE\
               R_CONFIG\",\"number\":2147483649}},\"log\":\"old.log\",\"only\":[{\"in\
-              dex\":0,\"offset\":0,\"register\":7,\"says\":\"variable SecureBoot\",\
+              dex\":0,\"offset\":0,\"pcr\":7,\"says\":\"variable SecureBoot\",\
               \"type\":{\"name\":\"EV_EFI_VARIABLE_DRIVER_CONFIG\",\"number\":214748\
-              3649}}]},\"register\":7}\n",
+              3649}}]},\"pcr\":7}\n",
     },
     // Texts with controls of the terminal, of lines and of the writing direction.
     Row {
@@ -146,16 +146,16 @@ const ROWS: [Row; 10] = [
               33316d0a6200",
         new: "080000000d000000aaaaaaaaaaaaaaaaaaaaaaaaaaaaaaaaaaaaaaaa0c00000061009b\
               002e20282062005c00",
-        lines: "{\"new\":{\"first\":{\"index\":0,\"offset\":0,\"register\":8,\"says\":\
+        lines: "{\"new\":{\"first\":{\"index\":0,\"offset\":0,\"pcr\":8,\"says\":\
               \"a\\\\xc2\\\\x9b\\\\xe2\\\\x80\\\\xae\\\\xe2\\\\x80\\\\xa8b\\\\x5c\",\
               \"type\":{\"name\":\"EV_IPL\",\"number\":13}},\"log\":\"new.log\",\"on\
-              ly\":[{\"index\":0,\"offset\":0,\"register\":8,\"says\":\"a\\\\xc2\\\\\
+              ly\":[{\"index\":0,\"offset\":0,\"pcr\":8,\"says\":\"a\\\\xc2\\\\\
               x9b\\\\xe2\\\\x80\\\\xae\\\\xe2\\\\x80\\\\xa8b\\\\x5c\",\"type\":{\"na\
               me\":\"EV_IPL\",\"number\":13}}]},\"old\":{\"first\":{\"index\":0,\"of\
-              fset\":0,\"register\":8,\"says\":\"a\\\\x1b[31m\\\\x0ab\",\"type\":{\"\
+              fset\":0,\"pcr\":8,\"says\":\"a\\\\x1b[31m\\\\x0ab\",\"type\":{\"\
               name\":\"EV_IPL\",\"number\":13}},\"log\":\"old.log\",\"only\":[{\"ind\
-              ex\":0,\"offset\":0,\"register\":8,\"says\":\"a\\\\x1b[31m\\\\x0ab\",\
-              \"type\":{\"name\":\"EV_IPL\",\"number\":13}}]},\"register\":8}\n",
+              ex\":0,\"offset\":0,\"pcr\":8,\"says\":\"a\\\\x1b[31m\\\\x0ab\",\
+              \"type\":{\"name\":\"EV_IPL\",\"number\":13}}]},\"pcr\":8}\n",
     },
 ];
 

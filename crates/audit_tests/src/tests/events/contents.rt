@@ -10,8 +10,8 @@ const TEXTS: [[&str; 2]; 7] = [
          3a20610a6200",
         "{\"content\":{\"text\":\"grub_cmd: a\\nb\"},\"data\":\"677275625f636d643a20610a6200\
          \",\"digests\":[{\"algorithm\":\"sha1\",\"digest\":\"aaaaaaaaaaaaaaaaaaaaaaaaaaaaaaa\
-         aaaaaaaaa\"}],\"hashes_to\":[],\"index\":0,\"log\":\"a log\",\"offset\":0,\"register\
-         \":8,\"type\":{\"name\":\"EV_IPL\",\"number\":13}}\n",
+         aaaaaaaaa\"}],\"hashes_to\":[],\"index\":0,\"log\":\"a log\",\"offset\":0,\"pcr\":\
+         8,\"type\":{\"name\":\"EV_IPL\",\"number\":13}}\n",
     ],
     // One in UTF-16, with a control of the writing direction, and with a surrogate.
     [
@@ -19,14 +19,14 @@ const TEXTS: [[&str; 2]; 7] = [
          0000",
         "{\"content\":{\"text\":\"ab\\u202ec\"},\"data\":\"610062002e2063000000\",\"digests\"\
          :[{\"algorithm\":\"sha1\",\"digest\":\"aaaaaaaaaaaaaaaaaaaaaaaaaaaaaaaaaaaaaaaa\"}],\
-         \"hashes_to\":[],\"index\":0,\"log\":\"a log\",\"offset\":0,\"register\":12,\"type\"\
+         \"hashes_to\":[],\"index\":0,\"log\":\"a log\",\"offset\":0,\"pcr\":12,\"type\"\
          :{\"name\":\"EV_IPL\",\"number\":13}}\n",
     ],
     [
         "0c0000000d000000aaaaaaaaaaaaaaaaaaaaaaaaaaaaaaaaaaaaaaaa0800000061003dd800de6300",
         "{\"content\":{\"text\":\"a��c\"},\"data\":\"61003dd800de6300\",\"digests\":[{\"algor\
          ithm\":\"sha1\",\"digest\":\"aaaaaaaaaaaaaaaaaaaaaaaaaaaaaaaaaaaaaaaa\"}],\"hashes_t\
-         o\":[],\"index\":0,\"log\":\"a log\",\"offset\":0,\"register\":12,\"type\":{\"name\"\
+         o\":[],\"index\":0,\"log\":\"a log\",\"offset\":0,\"pcr\":12,\"type\":{\"name\"\
          :\"EV_IPL\",\"number\":13}}\n",
     ],
     // Bytes that are no text: an odd number that aren't ASCII.
@@ -34,7 +34,7 @@ const TEXTS: [[&str; 2]; 7] = [
         "0c0000000d000000aaaaaaaaaaaaaaaaaaaaaaaaaaaaaaaaaaaaaaaa03000000fffefd",
         "{\"content\":null,\"data\":\"fffefd\",\"digests\":[{\"algorithm\":\"sha1\",\"digest\
          \":\"aaaaaaaaaaaaaaaaaaaaaaaaaaaaaaaaaaaaaaaa\"}],\"hashes_to\":[],\"index\":0,\"log\
-         \":\"a log\",\"offset\":0,\"register\":12,\"type\":{\"name\":\"EV_IPL\",\"number\":1\
+         \":\"a log\",\"offset\":0,\"pcr\":12,\"type\":{\"name\":\"EV_IPL\",\"number\":1\
          3}}\n",
     ],
     // A version that is a string, a GUID, and other text.
@@ -42,7 +42,7 @@ const TEXTS: [[&str; 2]; 7] = [
         "0000000008000000aaaaaaaaaaaaaaaaaaaaaaaaaaaaaaaaaaaaaaaa0800000031002e0032000000",
         "{\"content\":{\"crtm_version\":\"1.2\"},\"data\":\"31002e0032000000\",\"digests\":[{\
          \"algorithm\":\"sha1\",\"digest\":\"aaaaaaaaaaaaaaaaaaaaaaaaaaaaaaaaaaaaaaaa\"}],\"h\
-         ashes_to\":[],\"index\":0,\"log\":\"a log\",\"offset\":0,\"register\":0,\"type\":{\"\
+         ashes_to\":[],\"index\":0,\"log\":\"a log\",\"offset\":0,\"pcr\":0,\"type\":{\"\
          name\":\"EV_S_CRTM_VERSION\",\"number\":8}}\n",
     ],
     [
@@ -51,14 +51,14 @@ const TEXTS: [[&str; 2]; 7] = [
         "{\"content\":{\"crtm_version\":\"01020304-0506-0708-090a-0b0c0d0e0f10\"},\"data\":\"\
          0403020106050807090a0b0c0d0e0f10\",\"digests\":[{\"algorithm\":\"sha1\",\"digest\":\
          \"aaaaaaaaaaaaaaaaaaaaaaaaaaaaaaaaaaaaaaaa\"}],\"hashes_to\":[],\"index\":0,\"log\":\
-         \"a log\",\"offset\":0,\"register\":0,\"type\":{\"name\":\"EV_S_CRTM_VERSION\",\"num\
+         \"a log\",\"offset\":0,\"pcr\":0,\"type\":{\"name\":\"EV_S_CRTM_VERSION\",\"num\
          ber\":8}}\n",
     ],
     [
         "0000000008000000aaaaaaaaaaaaaaaaaaaaaaaaaaaaaaaaaaaaaaaa0400000076312e32",
         "{\"content\":{\"crtm_version\":\"v1.2\"},\"data\":\"76312e32\",\"digests\":[{\"algor\
          ithm\":\"sha1\",\"digest\":\"aaaaaaaaaaaaaaaaaaaaaaaaaaaaaaaaaaaaaaaa\"}],\"hashes_t\
-         o\":[],\"index\":0,\"log\":\"a log\",\"offset\":0,\"register\":0,\"type\":{\"name\":\
+         o\":[],\"index\":0,\"log\":\"a log\",\"offset\":0,\"pcr\":0,\"type\":{\"name\":\
          \"EV_S_CRTM_VERSION\",\"number\":8}}\n",
     ],
 ];
@@ -72,7 +72,7 @@ const BLOBS: [[&str; 2]; 6] = [
         "{\"content\":{\"blob\":{\"address\":4286840832,\"length\":3653632}},\"data\":\"00008\
          4ff0000000000c0370000000000\",\"digests\":[{\"algorithm\":\"sha1\",\"digest\":\"aaaa\
          aaaaaaaaaaaaaaaaaaaaaaaaaaaaaaaaaaaa\"}],\"hashes_to\":[],\"index\":0,\"log\":\"a lo\
-         g\",\"offset\":0,\"register\":0,\"type\":{\"name\":\"EV_EFI_PLATFORM_FIRMWARE_BLOB\"\
+         g\",\"offset\":0,\"pcr\":0,\"type\":{\"name\":\"EV_EFI_PLATFORM_FIRMWARE_BLOB\"\
          ,\"number\":2147483656}}\n",
     ],
     [
@@ -81,7 +81,7 @@ const BLOBS: [[&str; 2]; 6] = [
         "{\"content\":{\"blob\":{\"address\":1,\"description\":\"a\\nbé\",\"length\":2}},\"da\
          ta\":\"04610a62e901000000000000000200000000000000\",\"digests\":[{\"algorithm\":\"sh\
          a1\",\"digest\":\"aaaaaaaaaaaaaaaaaaaaaaaaaaaaaaaaaaaaaaaa\"}],\"hashes_to\":[],\"in\
-         dex\":0,\"log\":\"a log\",\"offset\":0,\"register\":0,\"type\":{\"name\":\"EV_EFI_PL\
+         dex\":0,\"log\":\"a log\",\"offset\":0,\"pcr\":0,\"type\":{\"name\":\"EV_EFI_PL\
          ATFORM_FIRMWARE_BLOB2\",\"number\":2147483658}}\n",
     ],
     [
@@ -89,7 +89,7 @@ const BLOBS: [[&str; 2]; 6] = [
          000000000002000000000000",
         "{\"content\":null,\"data\":\"04610a62e9010000000000000002000000000000\",\"digests\":\
          [{\"algorithm\":\"sha1\",\"digest\":\"aaaaaaaaaaaaaaaaaaaaaaaaaaaaaaaaaaaaaaaa\"}],\
-         \"hashes_to\":[],\"index\":0,\"log\":\"a log\",\"offset\":0,\"register\":0,\"type\":\
+         \"hashes_to\":[],\"index\":0,\"log\":\"a log\",\"offset\":0,\"pcr\":0,\"type\":\
          {\"name\":\"EV_EFI_PLATFORM_FIRMWARE_BLOB2\",\"number\":2147483658}}\n",
     ],
     // A text of firmware, and blobs.
@@ -98,7 +98,7 @@ const BLOBS: [[&str; 2]; 6] = [
          41",
         "{\"content\":{\"text\":\"ACPI DATA\"},\"data\":\"414350492044415441\",\"digests\":[{\
          \"algorithm\":\"sha1\",\"digest\":\"aaaaaaaaaaaaaaaaaaaaaaaaaaaaaaaaaaaaaaaa\"}],\"h\
-         ashes_to\":[],\"index\":0,\"log\":\"a log\",\"offset\":0,\"register\":0,\"type\":{\"\
+         ashes_to\":[],\"index\":0,\"log\":\"a log\",\"offset\":0,\"pcr\":0,\"type\":{\"\
          name\":\"EV_POST_CODE\",\"number\":1}}\n",
     ],
     [
@@ -107,7 +107,7 @@ const BLOBS: [[&str; 2]; 6] = [
         "{\"content\":{\"blob\":{\"address\":8519680,\"length\":917504}},\"data\":\"000082000\
          000000000000e0000000000\",\"digests\":[{\"algorithm\":\"sha1\",\"digest\":\"aaaaaaaa\
          aaaaaaaaaaaaaaaaaaaaaaaaaaaaaaaa\"}],\"hashes_to\":[],\"index\":0,\"log\":\"a log\",\
-         \"offset\":0,\"register\":0,\"type\":{\"name\":\"EV_POST_CODE\",\"number\":1}}\n",
+         \"offset\":0,\"pcr\":0,\"type\":{\"name\":\"EV_POST_CODE\",\"number\":1}}\n",
     ],
     [
         "0000000013000000aaaaaaaaaaaaaaaaaaaaaaaaaaaaaaaaaaaaaaaa130000000266761000000000 \
@@ -115,7 +115,7 @@ const BLOBS: [[&str; 2]; 6] = [
         "{\"content\":{\"blob\":{\"address\":16,\"description\":\"fv\",\"length\":32}},\"data\
          \":\"02667610000000000000002000000000000000\",\"digests\":[{\"algorithm\":\"sha1\",\
          \"digest\":\"aaaaaaaaaaaaaaaaaaaaaaaaaaaaaaaaaaaaaaaa\"}],\"hashes_to\":[],\"index\"\
-         :0,\"log\":\"a log\",\"offset\":0,\"register\":0,\"type\":{\"name\":\"EV_POST_CODE2\
+         :0,\"log\":\"a log\",\"offset\":0,\"pcr\":0,\"type\":{\"name\":\"EV_POST_CODE2\
          \",\"number\":19}}\n",
     ],
 ];
@@ -130,13 +130,13 @@ const TAGGED: [[&str; 2]; 2] = [
          \"data\":\"\",\"id\":7}],\"rest\":\"010203\"}},\"data\":\"ec223b8f020000000102070000\
          0000000000010203\",\"digests\":[{\"algorithm\":\"sha1\",\"digest\":\"aaaaaaaaaaaaaaa\
          aaaaaaaaaaaaaaaaaaaaaaaaa\"}],\"hashes_to\":[],\"index\":0,\"log\":\"a log\",\"offse\
-         t\":0,\"register\":9,\"type\":{\"name\":\"EV_EVENT_TAG\",\"number\":6}}\n",
+         t\":0,\"pcr\":9,\"type\":{\"name\":\"EV_EVENT_TAG\",\"number\":6}}\n",
     ],
     [
         "0900000006000000aaaaaaaaaaaaaaaaaaaaaaaaaaaaaaaaaaaaaaaa00000000",
         "{\"content\":{\"tagged_events\":{\"events\":[]}},\"data\":\"\",\"digests\":[{\"algor\
          ithm\":\"sha1\",\"digest\":\"aaaaaaaaaaaaaaaaaaaaaaaaaaaaaaaaaaaaaaaa\"}],\"hashes_t\
-         o\":[],\"index\":0,\"log\":\"a log\",\"offset\":0,\"register\":9,\"type\":{\"name\":\
+         o\":[],\"index\":0,\"log\":\"a log\",\"offset\":0,\"pcr\":9,\"type\":{\"name\":\
          \"EV_EVENT_TAG\",\"number\":6}}\n",
     ],
 ];
@@ -172,7 +172,7 @@ const PARTITION_TABLES: [[&str; 2]; 3] = [
          780078007800780078007800780078007800780078007800780078007800780078007800780078007800\
          78007800780078007800780078007800\",\"digests\":[{\"algorithm\":\"sha1\",\"digest\":\
          \"aaaaaaaaaaaaaaaaaaaaaaaaaaaaaaaaaaaaaaaa\"}],\"hashes_to\":[],\"index\":0,\"log\":\
-         \"a log\",\"offset\":0,\"register\":5,\"type\":{\"name\":\"EV_EFI_GPT_EVENT\",\"numb\
+         \"a log\",\"offset\":0,\"pcr\":5,\"type\":{\"name\":\"EV_EFI_GPT_EVENT\",\"numb\
          er\":2147483654}}\n",
     ],
     [
@@ -186,7 +186,7 @@ const PARTITION_TABLES: [[&str; 2]; 3] = [
          000000000000001111111122223333444455555555555502000000000000008000000080000000887766\
          550000000000000000\",\"digests\":[{\"algorithm\":\"sha1\",\"digest\":\"aaaaaaaaaaaaa\
          aaaaaaaaaaaaaaaaaaaaaaaaaaa\"}],\"hashes_to\":[],\"index\":0,\"log\":\"a log\",\"off\
-         set\":0,\"register\":5,\"type\":{\"name\":\"EV_EFI_GPT_EVENT2\",\"number\":214748366\
+         set\":0,\"pcr\":5,\"type\":{\"name\":\"EV_EFI_GPT_EVENT2\",\"number\":214748366\
          1}}\n",
     ],
     [
@@ -210,7 +210,7 @@ const PARTITION_TABLES: [[&str; 2]; 3] = [
          000000080780078007800780078007800780078007800780078007800780078007800780078007800780\
          078007800780078007800780078007800780078007800780078007800780078007800\",\"digests\":\
          [{\"algorithm\":\"sha1\",\"digest\":\"aaaaaaaaaaaaaaaaaaaaaaaaaaaaaaaaaaaaaaaa\"}],\
-         \"hashes_to\":[],\"index\":0,\"log\":\"a log\",\"offset\":0,\"register\":5,\"type\":\
+         \"hashes_to\":[],\"index\":0,\"log\":\"a log\",\"offset\":0,\"pcr\":5,\"type\":\
          {\"name\":\"EV_EFI_GPT_EVENT\",\"number\":2147483654}}\n",
     ],
 ];
@@ -226,7 +226,7 @@ const HEADERS: [[&str; 2]; 2] = [
          ss\":1,\"uintn_size\":2,\"vendor_info\":\"ab\"}},\"data\":\"53706563204944204576656e\
          743033000100000000026902020000000b0020009999020001ab00\",\"digests\":[{\"algorithm\"\
          :\"sha1\",\"digest\":\"aaaaaaaaaaaaaaaaaaaaaaaaaaaaaaaaaaaaaaaa\"}],\"hashes_to\":[]\
-         ,\"index\":0,\"log\":\"a log\",\"offset\":0,\"register\":0,\"type\":{\"name\":\"EV_N\
+         ,\"index\":0,\"log\":\"a log\",\"offset\":0,\"pcr\":0,\"type\":{\"name\":\"EV_N\
          O_ACTION\",\"number\":3}}\n",
     ],
     [
@@ -235,7 +235,7 @@ const HEADERS: [[&str; 2]; 2] = [
         "{\"content\":null,\"data\":\"53706563204944204576656e7430330001000000000269020200000\
          00b0020009999020001\",\"digests\":[{\"algorithm\":\"sha1\",\"digest\":\"aaaaaaaaaaaa\
          aaaaaaaaaaaaaaaaaaaaaaaaaaaa\"}],\"hashes_to\":[],\"index\":0,\"log\":\"a log\",\"of\
-         fset\":0,\"register\":1,\"type\":{\"name\":\"EV_NO_ACTION\",\"number\":3}}\n",
+         fset\":0,\"pcr\":1,\"type\":{\"name\":\"EV_NO_ACTION\",\"number\":3}}\n",
     ],
 ];
 
@@ -251,7 +251,7 @@ const IMAGES: [[&str; 2]; 2] = [
          },\"data\":\"001000000000000000020000000000000000000000000000000000000000000002010c0\
          0d041030a0000000001010600021f04040a005c00610000007fff0400\",\"digests\":[{\"algorith\
          m\":\"sha1\",\"digest\":\"aaaaaaaaaaaaaaaaaaaaaaaaaaaaaaaaaaaaaaaa\"}],\"hashes_to\"\
-         :[],\"index\":0,\"log\":\"a log\",\"offset\":0,\"register\":4,\"type\":{\"name\":\"E\
+         :[],\"index\":0,\"log\":\"a log\",\"offset\":0,\"pcr\":4,\"type\":{\"name\":\"E\
          V_EFI_BOOT_SERVICES_APPLICATION\",\"number\":2147483651}}\n",
     ],
     [
@@ -265,7 +265,7 @@ const IMAGES: [[&str; 2]; 2] = [
          0000020000000000000000000000000000200000000000000002010c00d041030a00000000010106000\
          21f04040a005c00610000007fff0400ee\",\"digests\":[{\"algorithm\":\"sha1\",\"digest\"\
          :\"aaaaaaaaaaaaaaaaaaaaaaaaaaaaaaaaaaaaaaaa\"}],\"hashes_to\":[],\"index\":0,\"log\
-         \":\"a log\",\"offset\":0,\"register\":4,\"type\":{\"name\":\"EV_EFI_BOOT_SERVICES_\
+         \":\"a log\",\"offset\":0,\"pcr\":4,\"type\":{\"name\":\"EV_EFI_BOOT_SERVICES_\
          APPLICATION\",\"number\":2147483651}}\n",
     ],
 ];

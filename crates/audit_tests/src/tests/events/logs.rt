@@ -12,7 +12,7 @@ const LOGS: [[&str; 2]; 12] = [
         "04000000 07000080 da23614e02469a0d7c7bd1bdab5c9c474b1904dc 02000000 6162",
         "{\"content\":{\"text\":\"ab\"},\"data\":\"6162\",\
          \"digests\":[{\"algorithm\":\"sha1\",\"digest\":\"da23614e02469a0d7c7bd1bdab5c9c474b1904dc\
-         \"}],\"hashes_to\":[\"sha1\"],\"index\":0,\"log\":\"a log\",\"offset\":0,\"register\":4,\
+         \"}],\"hashes_to\":[\"sha1\"],\"index\":0,\"log\":\"a log\",\"offset\":0,\"pcr\":4,\
          \"type\":{\"name\":\"EV_EFI_ACTION\",\"number\":2147483655}}\n",
     ],
     // No events.
@@ -27,7 +27,7 @@ const LOGS: [[&str; 2]; 12] = [
          \"algorithm\":\"sha1\",\"digest\":\"bbbbbbbbbbbbbbbbbbbbbbbbbbbbbbbbbbbbbbbb\"},{\
          \"algorithm\":\"sha256\",\"digest\":\"e3b0c44298fc1c149afbf4c8996fb92427ae41e4649b934ca495\
          991b7852b855\"}],\"hashes_to\":[\"sha256\"],\"index\":0,\"log\":\"a log\",\"offset\":73,\
-         \"register\":7,\"type\":{\"number\":119}}\n",
+         \"pcr\":7,\"type\":{\"number\":119}}\n",
     ],
     // Two digests of SHA-1, of which one is the hash.
     [
@@ -39,7 +39,7 @@ const LOGS: [[&str; 2]; 12] = [
          \"digests\":[{\"algorithm\":\"sha1\",\"digest\":\"da39a3ee5e6b4b0d3255bfef95601890afd80709\
          \"},{\
          \"algorithm\":\"sha1\",\"digest\":\"bbbbbbbbbbbbbbbbbbbbbbbbbbbbbbbbbbbbbbbb\"}],\"hashes_\
-         to\":[],\"index\":0,\"log\":\"a log\",\"offset\":73,\"register\":1,\
+         to\":[],\"index\":0,\"log\":\"a log\",\"offset\":73,\"pcr\":1,\
          \"type\":{\"name\":\"EV_POST_CODE\",\"number\":1}}\n",
     ],
     // A locality, and another length.
@@ -50,10 +50,10 @@ const LOGS: [[&str; 2]; 12] = [
          00000000 03000000 00000000 12000000 537461727475704c6f63616c697479000300",
         "{\"content\":{\"locality\":3},\"data\":\"537461727475704c6f63616c6974790003\",\
          \"digests\":[],\"hashes_to\":[],\"index\":0,\"log\":\"a log\",\"offset\":73,\
-         \"register\":0,\"type\":{\"name\":\"EV_NO_ACTION\",\"number\":3}}\n\
+         \"pcr\":0,\"type\":{\"name\":\"EV_NO_ACTION\",\"number\":3}}\n\
          {\"content\":null,\"data\":\"537461727475704c6f63616c697479000300\",\
          \"digests\":[],\"hashes_to\":[],\"index\":1,\"log\":\"a log\",\"offset\":106,\
-         \"register\":0,\"type\":{\"name\":\"EV_NO_ACTION\",\"number\":3}}\n",
+         \"pcr\":0,\"type\":{\"name\":\"EV_NO_ACTION\",\"number\":3}}\n",
     ],
     // Separators of four bytes and of three.
     [
@@ -63,13 +63,13 @@ const LOGS: [[&str; 2]; 12] = [
          \"digests\":[{\"algorithm\":\"sha1\",\
          \"digest\":\"aaaaaaaaaaaaaaaaaaaaaaaaaaaaaaaaaaaaaaaa\"}],\"hashes_to\":[],\
          \"index\":0,\
-         \"log\":\"a log\",\"offset\":0,\"register\":0,\
+         \"log\":\"a log\",\"offset\":0,\"pcr\":0,\
          \"type\":{\"name\":\"EV_SEPARATOR\",\"number\":4}}\n\
          {\"content\":null,\"data\":\"010000\",\
          \"digests\":[{\"algorithm\":\"sha1\",\
          \"digest\":\"aaaaaaaaaaaaaaaaaaaaaaaaaaaaaaaaaaaaaaaa\"}],\"hashes_to\":[],\
          \"index\":1,\"log\":\"a log\",\"offset\":36,\
-         \"register\":0,\"type\":{\"name\":\"EV_SEPARATOR\",\"number\":4}}\n",
+         \"pcr\":0,\"type\":{\"name\":\"EV_SEPARATOR\",\"number\":4}}\n",
     ],
     // Texts; the last one has a character that doesn't print.
     [
@@ -81,24 +81,24 @@ const LOGS: [[&str; 2]; 12] = [
          \"digests\":[{\"algorithm\":\"sha1\",\
          \"digest\":\"aaaaaaaaaaaaaaaaaaaaaaaaaaaaaaaaaaaaaaaa\"}],\"hashes_to\":[],\
          \"index\":0,\
-         \"log\":\"a log\",\"offset\":0,\"register\":4,\
+         \"log\":\"a log\",\"offset\":0,\"pcr\":4,\
          \"type\":{\"name\":\"EV_ACTION\",\"number\":5}}\n\
          {\"content\":{\"text\":\"\"},\"data\":\"\",\
          \"digests\":[{\"algorithm\":\"sha1\",\
          \"digest\":\"aaaaaaaaaaaaaaaaaaaaaaaaaaaaaaaaaaaaaaaa\"}],\"hashes_to\":[],\
          \"index\":1,\"log\":\"a log\",\"offset\":36,\
-         \"register\":4,\"type\":{\"name\":\"EV_OMIT_BOOT_DEVICE_EVENTS\",\"number\":18}}\n\
+         \"pcr\":4,\"type\":{\"name\":\"EV_OMIT_BOOT_DEVICE_EVENTS\",\"number\":18}}\n\
          {\"content\":{\"text\":\"HCRTM\"},\"data\":\"484352544d\",\
          \"digests\":[{\"algorithm\":\"sha1\",\
          \"digest\":\"aaaaaaaaaaaaaaaaaaaaaaaaaaaaaaaaaaaaaaaa\"}],\"hashes_to\":[],\
          \"index\":2,\"log\":\"a log\",\
-         \"offset\":68,\"register\":0,\
+         \"offset\":68,\"pcr\":0,\
          \"type\":{\"name\":\"EV_EFI_HCRTM_EVENT\",\"number\":2147483664}}\n\
          {\"content\":null,\"data\":\"617f\",\
          \"digests\":[{\"algorithm\":\"sha1\",\
          \"digest\":\"aaaaaaaaaaaaaaaaaaaaaaaaaaaaaaaaaaaaaaaa\"}],\"hashes_to\":[],\
          \"index\":3,\"log\":\"a log\",\"offset\":105,\
-         \"register\":4,\"type\":{\"name\":\"EV_EFI_ACTION\",\"number\":2147483655}}\n",
+         \"pcr\":4,\"type\":{\"name\":\"EV_EFI_ACTION\",\"number\":2147483655}}\n",
     ],
     // Variables: two characters and a surrogate; no name and no data.
     [
@@ -112,14 +112,14 @@ const LOGS: [[&str; 2]; 12] = [
          2\",\
          \"digests\":[{\"algorithm\":\"sha1\",\
          \"digest\":\"aaaaaaaaaaaaaaaaaaaaaaaaaaaaaaaaaaaaaaaa\"}],\"hashes_to\":[],\
-         \"index\":0,\"log\":\"a log\",\"offset\":0,\"register\":7,\
+         \"index\":0,\"log\":\"a log\",\"offset\":0,\"pcr\":7,\
          \"type\":{\"name\":\"EV_EFI_VARIABLE_DRIVER_CONFIG\",\"number\":2147483649}}\n\
          {\"content\":{\"variable\":{\"data\":\"\",\"guid\":\"03020100-0504-0706-0809-0a0b0c0d0e0f\
          \",\"name\":\"\"}},\
          \"data\":\"000102030405060708090a0b0c0d0e0f00000000000000000000000000000000\",\
          \"digests\":[{\"algorithm\":\"sha1\",\
          \"digest\":\"aaaaaaaaaaaaaaaaaaaaaaaaaaaaaaaaaaaaaaaa\"}],\"hashes_to\":[],\
-         \"index\":1,\"log\":\"a log\",\"offset\":72,\"register\":7,\
+         \"index\":1,\"log\":\"a log\",\"offset\":72,\"pcr\":7,\
          \"type\":{\"name\":\"EV_EFI_VARIABLE_AUTHORITY\",\"number\":2147483872}}\n",
     ],
     // A variable whose name has controls of the writing direction.
@@ -131,7 +131,7 @@ const LOGS: [[&str; 2]; 12] = [
          \"data\":\"000102030405060708090a0b0c0d0e0f0300000000000000000000000000000041002e206\
          920\",\"digests\":[{\"algorithm\":\"sha1\",\
          \"digest\":\"aaaaaaaaaaaaaaaaaaaaaaaaaaaaaaaaaaaaaaaa\"}],\"hashes_to\":[],\
-         \"index\":0,\"log\":\"a log\",\"offset\":0,\"register\":7,\
+         \"index\":0,\"log\":\"a log\",\"offset\":0,\"pcr\":7,\
          \"type\":{\"name\":\"EV_EFI_VARIABLE_DRIVER_CONFIG\",\"number\":2147483649}}\n",
     ],
     // A variable with a byte too many, one that states too long a name, and too few bytes for one.
@@ -146,20 +146,20 @@ const LOGS: [[&str; 2]; 12] = [
          \"data\":\"000102030405060708090a0b0c0d0e0f0100000000000000010000000000000041000100\",\
          \"digests\":[{\"algorithm\":\"sha1\",\
          \"digest\":\"aaaaaaaaaaaaaaaaaaaaaaaaaaaaaaaaaaaaaaaa\"}],\"hashes_to\":[],\
-         \"index\":0,\"log\":\"a log\",\"offset\":0,\"register\":1,\
+         \"index\":0,\"log\":\"a log\",\"offset\":0,\"pcr\":1,\
          \"type\":{\"name\":\"EV_EFI_VARIABLE_BOOT\",\"number\":2147483650}}\n\
          {\"content\":null,\
          \"data\":\"000102030405060708090a0b0c0d0e0f00000000000000800100000000000000410001\",\
          \"digests\":[{\"algorithm\":\"sha1\",\
          \"digest\":\"aaaaaaaaaaaaaaaaaaaaaaaaaaaaaaaaaaaaaaaa\"}],\"hashes_to\":[],\
-         \"index\":1,\"log\":\"a log\",\"offset\":68,\"register\":1,\
+         \"index\":1,\"log\":\"a log\",\"offset\":68,\"pcr\":1,\
          \"type\":{\"name\":\"EV_EFI_VARIABLE_BOOT2\",\"number\":2147483660}}\n\
          {\"content\":null,\
          \"data\":\"000102030405060708090a0b0c0d0e0f000000000000000000000000000000\",\
          \"digests\":[{\"algorithm\":\"sha1\",\
          \"digest\":\"aaaaaaaaaaaaaaaaaaaaaaaaaaaaaaaaaaaaaaaa\"}],\"hashes_to\":[],\
          \"index\":2,\
-         \"log\":\"a log\",\"offset\":135,\"register\":1,\
+         \"log\":\"a log\",\"offset\":135,\"pcr\":1,\
          \"type\":{\"name\":\"EV_EFI_VARIABLE_BOOT\",\"number\":2147483650}}\n",
     ],
     // An image with a path, one without, and one whose path isn't whole.
@@ -179,20 +179,20 @@ const LOGS: [[&str; 2]; 12] = [
          504007fff0500ee\",\
          \"digests\":[{\"algorithm\":\"sha1\",\
          \"digest\":\"aaaaaaaaaaaaaaaaaaaaaaaaaaaaaaaaaaaaaaaa\"}],\"hashes_to\":[],\
-         \"index\":0,\"log\":\"a log\",\"offset\":0,\"register\":4,\
+         \"index\":0,\"log\":\"a log\",\"offset\":0,\"pcr\":4,\
          \"type\":{\"name\":\"EV_EFI_BOOT_SERVICES_APPLICATION\",\"number\":2147483651}}\n\
          {\"content\":{\"image\":{\"address\":1,\"length\":2,\"link_address\":3,\"path\":\"\"}},\
          \"data\":\"0100000000000000020000000000000003000000000000000000000000000000\",\
          \"digests\":[{\"algorithm\":\"sha1\",\
          \"digest\":\"aaaaaaaaaaaaaaaaaaaaaaaaaaaaaaaaaaaaaaaa\"}],\"hashes_to\":[],\
-         \"index\":1,\"log\":\"a log\",\"offset\":79,\"register\":2,\
+         \"index\":1,\"log\":\"a log\",\"offset\":79,\"pcr\":2,\
          \"type\":{\"name\":\"EV_EFI_BOOT_SERVICES_DRIVER\",\"number\":2147483652}}\n\
          {\"content\":{\"image\":{\"address\":1,\"length\":2,\"link_address\":3,\"path\":\"010206000a0b040504007fff0500ee00\"}},\
          \"data\":\"0100000000000000020000000000000003000000000000001000000000000000010206000a0b040\
          504007fff0500ee00\",\
          \"digests\":[{\"algorithm\":\"sha1\",\
          \"digest\":\"aaaaaaaaaaaaaaaaaaaaaaaaaaaaaaaaaaaaaaaa\"}],\"hashes_to\":[],\
-         \"index\":2,\"log\":\"a log\",\"offset\":143,\"register\":2,\
+         \"index\":2,\"log\":\"a log\",\"offset\":143,\"pcr\":2,\
          \"type\":{\"name\":\"EV_EFI_RUNTIME_SERVICES_DRIVER\",\"number\":2147483653}}\n",
     ],
     // An image that states another length of its path.
@@ -205,7 +205,7 @@ const LOGS: [[&str; 2]; 12] = [
          504007fff0500ee\",\
          \"digests\":[{\"algorithm\":\"sha1\",\
          \"digest\":\"aaaaaaaaaaaaaaaaaaaaaaaaaaaaaaaaaaaaaaaa\"}],\"hashes_to\":[],\
-         \"index\":0,\"log\":\"a log\",\"offset\":0,\"register\":4,\
+         \"index\":0,\"log\":\"a log\",\"offset\":0,\"pcr\":4,\
          \"type\":{\"name\":\"EV_EFI_BOOT_SERVICES_APPLICATION\",\"number\":2147483651}}\n",
     ],
 ];

@@ -17,7 +17,7 @@ const MACHINE_LINES: [(usize, &str); 5] = [
          feccea3c624b1226113f824f315eb60ae0a7c\"},{\"algorithm\":\"sha512\",\"digest\":\"5ea7\
          1dc6d0b4f57bf39aadd07c208c35f06cd2bac5fde210397f70de11d439c62ec1cdf3183758865fd387fc\
          ea0bada2f6c37a4a17851dd1d78fefe6f204ee54\"}],\"hashes_to\":[\"sha1\",\"sha256\",\"sh\
-         a384\",\"sha512\"],\"index\":0,\"log\":\"ovmf\",\"offset\":77,\"register\":0,\"type\
+         a384\",\"sha512\"],\"index\":0,\"log\":\"ovmf\",\"offset\":77,\"pcr\":0,\"type\
          \":{\"name\":\"EV_S_CRTM_VERSION\",\"number\":8}}",
     ),
     (
@@ -32,7 +32,7 @@ const MACHINE_LINES: [(usize, &str); 5] = [
          rithm\":\"sha512\",\"digest\":\"d64901b6e1018f31046cbe3a09c36b1e5f2226fc1ddee9b89317\
          6d439a62fca8acd1c2b91ae25e99086087d72481ea9e05caa76e1777c0af75ad7e6ab82ce225\"}],\"h\
          ashes_to\":[\"sha1\",\"sha256\",\"sha384\",\"sha512\"],\"index\":3,\"log\":\"ovmf\",\
-         \"offset\":675,\"register\":7,\"type\":{\"name\":\"EV_EFI_VARIABLE_DRIVER_CONFIG\",\
+         \"offset\":675,\"pcr\":7,\"type\":{\"name\":\"EV_EFI_VARIABLE_DRIVER_CONFIG\",\
          \"number\":2147483649}}",
     ),
     (
@@ -44,8 +44,8 @@ const MACHINE_LINES: [(usize, &str); 5] = [
          b8e576573ad7ed9ae41019f5818b4b971c9effc60e1ad9f1289f0\"},{\"algorithm\":\"sha512\",\
          \"digest\":\"ec2d57691d9b2d40182ac565032054b7d784ba96b18bcb5be0bb4e70e3fb041eff582c8\
          af66ee50256539f2181d7f9e53627c0189da7e75a4d5ef10ea93b20b3\"}],\"hashes_to\":[\"sha1\
-         \",\"sha256\",\"sha384\",\"sha512\"],\"index\":8,\"log\":\"ovmf\",\"offset\":1816,\"\
-         register\":7,\"type\":{\"name\":\"EV_SEPARATOR\",\"number\":4}}",
+         \",\"sha256\",\"sha384\",\"sha512\"],\"index\":8,\"log\":\"ovmf\",\"offset\":1816,\"pcr\":\
+         7,\"type\":{\"name\":\"EV_SEPARATOR\",\"number\":4}}",
     ),
     (
         9,
@@ -62,7 +62,7 @@ const MACHINE_LINES: [(usize, &str); 5] = [
          5c9c5f3c8d9ab27adf42\"},{\"algorithm\":\"sha512\",\"digest\":\"9a7241aceb2ce044f3c7\
          f0c053fa7b42ba7b182cbf04f0a44d227f6245fdae1dc4e60fef653a311303465a32f0c0146e176beb6\
          2283b2f44742e34e9127ca305\"}],\"hashes_to\":[],\"index\":9,\"log\":\"ovmf\",\"offse\
-         t\":2008,\"register\":2,\"type\":{\"name\":\"EV_EFI_BOOT_SERVICES_DRIVER\",\"number\
+         t\":2008,\"pcr\":2,\"type\":{\"name\":\"EV_EFI_BOOT_SERVICES_DRIVER\",\"number\
          \":2147483652}}",
     ),
     (
@@ -76,7 +76,7 @@ const MACHINE_LINES: [(usize, &str); 5] = [
          \"algorithm\":\"sha512\",\"digest\":\"03020279c5ea3676d6630c82a9931343225e8eab81529b\
          65c786aeb6a445d3852a34dd193178f938b6b47345a72d4b647df309c971f7c02f0ede296a136a1086\"\
          }],\"hashes_to\":[\"sha1\",\"sha256\",\"sha384\",\"sha512\"],\"index\":13,\"log\":\"\
-         ovmf\",\"offset\":3074,\"register\":4,\"type\":{\"name\":\"EV_EFI_ACTION\",\"number\
+         ovmf\",\"offset\":3074,\"pcr\":4,\"type\":{\"name\":\"EV_EFI_ACTION\",\"number\
          \":2147483655}}",
     ),
 ];

@@ -33,138 +33,138 @@ const NAMES: [[&str; 2]; 2] = [
          00000000 df000080 00000000 00000000 00000000 e5000080 00000000 00000000 \
          00000000 ffffffff 00000000 00000000",
         "{\"content\":null,\"data\":\"\",\"digests\":[],\"hashes_to\":[],\"index\":0,\
-         \"log\":\"a log\",\"offset\":65,\"register\":0,\
+         \"log\":\"a log\",\"offset\":65,\"pcr\":0,\
          \"type\":{\"name\":\"EV_PREBOOT_CERT\",\"number\":0}}\n\
          {\"content\":{\"text\":\"\"},\"data\":\"\",\"digests\":[],\"hashes_to\":[],\"index\":1,\
-         \"log\":\"a log\",\"offset\":81,\"register\":0,\
+         \"log\":\"a log\",\"offset\":81,\"pcr\":0,\
          \"type\":{\"name\":\"EV_POST_CODE\",\"number\":1}}\n\
          {\"content\":null,\"data\":\"\",\"digests\":[],\"hashes_to\":[],\"index\":2,\
-         \"log\":\"a log\",\"offset\":97,\"register\":0,\
+         \"log\":\"a log\",\"offset\":97,\"pcr\":0,\
          \"type\":{\"name\":\"EV_UNUSED\",\"number\":2}}\n\
          {\"content\":null,\"data\":\"\",\"digests\":[],\"hashes_to\":[],\"index\":3,\
-         \"log\":\"a log\",\"offset\":113,\"register\":0,\
+         \"log\":\"a log\",\"offset\":113,\"pcr\":0,\
          \"type\":{\"name\":\"EV_NO_ACTION\",\"number\":3}}\n\
          {\"content\":null,\"data\":\"\",\"digests\":[],\"hashes_to\":[],\"index\":4,\
-         \"log\":\"a log\",\"offset\":129,\"register\":0,\
+         \"log\":\"a log\",\"offset\":129,\"pcr\":0,\
          \"type\":{\"name\":\"EV_SEPARATOR\",\"number\":4}}\n\
          {\"content\":{\"text\":\"\"},\"data\":\"\",\"digests\":[],\"hashes_to\":[],\"index\":5,\
-         \"log\":\"a log\",\"offset\":145,\"register\":0,\
+         \"log\":\"a log\",\"offset\":145,\"pcr\":0,\
          \"type\":{\"name\":\"EV_ACTION\",\"number\":5}}\n\
          {\"content\":{\"tagged_events\":{\"events\":[]}},\"data\":\"\",\"digests\":[],\"hashes_to\":[],\"index\":6,\
-         \"log\":\"a log\",\"offset\":161,\"register\":0,\
+         \"log\":\"a log\",\"offset\":161,\"pcr\":0,\
          \"type\":{\"name\":\"EV_EVENT_TAG\",\"number\":6}}\n\
          {\"content\":null,\"data\":\"\",\"digests\":[],\"hashes_to\":[],\"index\":7,\
-         \"log\":\"a log\",\"offset\":177,\"register\":0,\
+         \"log\":\"a log\",\"offset\":177,\"pcr\":0,\
          \"type\":{\"name\":\"EV_S_CRTM_CONTENTS\",\"number\":7}}\n\
          {\"content\":{\"crtm_version\":\"\"},\"data\":\"\",\"digests\":[],\"hashes_to\":[],\"index\":8,\
-         \"log\":\"a log\",\"offset\":193,\"register\":0,\
+         \"log\":\"a log\",\"offset\":193,\"pcr\":0,\
          \"type\":{\"name\":\"EV_S_CRTM_VERSION\",\"number\":8}}\n\
          {\"content\":null,\"data\":\"\",\"digests\":[],\"hashes_to\":[],\"index\":9,\
-         \"log\":\"a log\",\"offset\":209,\"register\":0,\
+         \"log\":\"a log\",\"offset\":209,\"pcr\":0,\
          \"type\":{\"name\":\"EV_CPU_MICROCODE\",\"number\":9}}\n\
          {\"content\":null,\"data\":\"\",\"digests\":[],\"hashes_to\":[],\"index\":10,\
-         \"log\":\"a log\",\"offset\":225,\"register\":0,\
+         \"log\":\"a log\",\"offset\":225,\"pcr\":0,\
          \"type\":{\"name\":\"EV_PLATFORM_CONFIG_FLAGS\",\"number\":10}}\n\
          {\"content\":null,\"data\":\"\",\"digests\":[],\"hashes_to\":[],\"index\":11,\
-         \"log\":\"a log\",\"offset\":241,\"register\":0,\
+         \"log\":\"a log\",\"offset\":241,\"pcr\":0,\
          \"type\":{\"name\":\"EV_TABLE_OF_DEVICES\",\"number\":11}}\n\
          {\"content\":null,\"data\":\"\",\"digests\":[],\"hashes_to\":[],\"index\":12,\
-         \"log\":\"a log\",\"offset\":257,\"register\":0,\
+         \"log\":\"a log\",\"offset\":257,\"pcr\":0,\
          \"type\":{\"name\":\"EV_COMPACT_HASH\",\"number\":12}}\n\
          {\"content\":{\"text\":\"\"},\"data\":\"\",\"digests\":[],\"hashes_to\":[],\"index\":13,\
-         \"log\":\"a log\",\"offset\":273,\"register\":0,\
+         \"log\":\"a log\",\"offset\":273,\"pcr\":0,\
          \"type\":{\"name\":\"EV_IPL\",\"number\":13}}\n\
          {\"content\":null,\"data\":\"\",\"digests\":[],\"hashes_to\":[],\"index\":14,\
-         \"log\":\"a log\",\"offset\":289,\"register\":0,\
+         \"log\":\"a log\",\"offset\":289,\"pcr\":0,\
          \"type\":{\"name\":\"EV_IPL_PARTITION_DATA\",\"number\":14}}\n\
          {\"content\":null,\"data\":\"\",\"digests\":[],\"hashes_to\":[],\"index\":15,\
-         \"log\":\"a log\",\"offset\":305,\"register\":0,\
+         \"log\":\"a log\",\"offset\":305,\"pcr\":0,\
          \"type\":{\"name\":\"EV_NONHOST_CODE\",\"number\":15}}\n\
          {\"content\":null,\"data\":\"\",\"digests\":[],\"hashes_to\":[],\"index\":16,\
-         \"log\":\"a log\",\"offset\":321,\"register\":0,\
+         \"log\":\"a log\",\"offset\":321,\"pcr\":0,\
          \"type\":{\"name\":\"EV_NONHOST_CONFIG\",\"number\":16}}\n\
          {\"content\":null,\"data\":\"\",\"digests\":[],\"hashes_to\":[],\"index\":17,\
-         \"log\":\"a log\",\"offset\":337,\"register\":0,\
+         \"log\":\"a log\",\"offset\":337,\"pcr\":0,\
          \"type\":{\"name\":\"EV_NONHOST_INFO\",\"number\":17}}\n\
          {\"content\":{\"text\":\"\"},\"data\":\"\",\"digests\":[],\"hashes_to\":[],\"index\":18,\
-         \"log\":\"a log\",\"offset\":353,\"register\":0,\
+         \"log\":\"a log\",\"offset\":353,\"pcr\":0,\
          \"type\":{\"name\":\"EV_OMIT_BOOT_DEVICE_EVENTS\",\"number\":18}}\n\
          {\"content\":null,\"data\":\"\",\"digests\":[],\"hashes_to\":[],\"index\":19,\
-         \"log\":\"a log\",\"offset\":369,\"register\":0,\
+         \"log\":\"a log\",\"offset\":369,\"pcr\":0,\
          \"type\":{\"name\":\"EV_POST_CODE2\",\"number\":19}}\n\
          {\"content\":null,\"data\":\"\",\"digests\":[],\"hashes_to\":[],\"index\":20,\
-         \"log\":\"a log\",\"offset\":385,\"register\":0,\
+         \"log\":\"a log\",\"offset\":385,\"pcr\":0,\
          \"type\":{\"name\":\"EV_EFI_VARIABLE_DRIVER_CONFIG\",\"number\":2147483649}}\n\
          {\"content\":null,\"data\":\"\",\"digests\":[],\"hashes_to\":[],\"index\":21,\
-         \"log\":\"a log\",\"offset\":401,\"register\":0,\
+         \"log\":\"a log\",\"offset\":401,\"pcr\":0,\
          \"type\":{\"name\":\"EV_EFI_VARIABLE_BOOT\",\"number\":2147483650}}\n\
          {\"content\":null,\"data\":\"\",\"digests\":[],\"hashes_to\":[],\"index\":22,\
-         \"log\":\"a log\",\"offset\":417,\"register\":0,\
+         \"log\":\"a log\",\"offset\":417,\"pcr\":0,\
          \"type\":{\"name\":\"EV_EFI_BOOT_SERVICES_APPLICATION\",\"number\":2147483651}}\n\
          {\"content\":null,\"data\":\"\",\"digests\":[],\"hashes_to\":[],\"index\":23,\
-         \"log\":\"a log\",\"offset\":433,\"register\":0,\
+         \"log\":\"a log\",\"offset\":433,\"pcr\":0,\
          \"type\":{\"name\":\"EV_EFI_BOOT_SERVICES_DRIVER\",\"number\":2147483652}}\n\
          {\"content\":null,\"data\":\"\",\"digests\":[],\"hashes_to\":[],\"index\":24,\
-         \"log\":\"a log\",\"offset\":449,\"register\":0,\
+         \"log\":\"a log\",\"offset\":449,\"pcr\":0,\
          \"type\":{\"name\":\"EV_EFI_RUNTIME_SERVICES_DRIVER\",\"number\":2147483653}}\n\
          {\"content\":null,\"data\":\"\",\"digests\":[],\"hashes_to\":[],\"index\":25,\
-         \"log\":\"a log\",\"offset\":465,\"register\":0,\
+         \"log\":\"a log\",\"offset\":465,\"pcr\":0,\
          \"type\":{\"name\":\"EV_EFI_GPT_EVENT\",\"number\":2147483654}}\n\
          {\"content\":{\"text\":\"\"},\"data\":\"\",\"digests\":[],\"hashes_to\":[],\"index\":26,\
-         \"log\":\"a log\",\"offset\":481,\"register\":0,\
+         \"log\":\"a log\",\"offset\":481,\"pcr\":0,\
          \"type\":{\"name\":\"EV_EFI_ACTION\",\"number\":2147483655}}\n\
          {\"content\":null,\"data\":\"\",\"digests\":[],\"hashes_to\":[],\"index\":27,\
-         \"log\":\"a log\",\"offset\":497,\"register\":0,\
+         \"log\":\"a log\",\"offset\":497,\"pcr\":0,\
          \"type\":{\"name\":\"EV_EFI_PLATFORM_FIRMWARE_BLOB\",\"number\":2147483656}}\n\
          {\"content\":null,\"data\":\"\",\"digests\":[],\"hashes_to\":[],\"index\":28,\
-         \"log\":\"a log\",\"offset\":513,\"register\":0,\
+         \"log\":\"a log\",\"offset\":513,\"pcr\":0,\
          \"type\":{\"name\":\"EV_EFI_HANDOFF_TABLES\",\"number\":2147483657}}\n\
          {\"content\":null,\"data\":\"\",\"digests\":[],\"hashes_to\":[],\"index\":29,\
-         \"log\":\"a log\",\"offset\":529,\"register\":0,\
+         \"log\":\"a log\",\"offset\":529,\"pcr\":0,\
          \"type\":{\"name\":\"EV_EFI_PLATFORM_FIRMWARE_BLOB2\",\"number\":2147483658}}\n\
          {\"content\":null,\"data\":\"\",\"digests\":[],\"hashes_to\":[],\"index\":30,\
-         \"log\":\"a log\",\"offset\":545,\"register\":0,\
+         \"log\":\"a log\",\"offset\":545,\"pcr\":0,\
          \"type\":{\"name\":\"EV_EFI_HANDOFF_TABLES2\",\"number\":2147483659}}\n\
          {\"content\":null,\"data\":\"\",\"digests\":[],\"hashes_to\":[],\"index\":31,\
-         \"log\":\"a log\",\"offset\":561,\"register\":0,\
+         \"log\":\"a log\",\"offset\":561,\"pcr\":0,\
          \"type\":{\"name\":\"EV_EFI_VARIABLE_BOOT2\",\"number\":2147483660}}\n\
          {\"content\":null,\"data\":\"\",\"digests\":[],\"hashes_to\":[],\"index\":32,\
-         \"log\":\"a log\",\"offset\":577,\"register\":0,\
+         \"log\":\"a log\",\"offset\":577,\"pcr\":0,\
          \"type\":{\"name\":\"EV_EFI_GPT_EVENT2\",\"number\":2147483661}}\n\
          {\"content\":{\"text\":\"\"},\"data\":\"\",\"digests\":[],\"hashes_to\":[],\"index\":33,\
-         \"log\":\"a log\",\"offset\":593,\"register\":0,\
+         \"log\":\"a log\",\"offset\":593,\"pcr\":0,\
          \"type\":{\"name\":\"EV_EFI_HCRTM_EVENT\",\"number\":2147483664}}\n\
          {\"content\":null,\"data\":\"\",\"digests\":[],\"hashes_to\":[],\"index\":34,\
-         \"log\":\"a log\",\"offset\":609,\"register\":0,\
+         \"log\":\"a log\",\"offset\":609,\"pcr\":0,\
          \"type\":{\"name\":\"EV_EFI_VARIABLE_AUTHORITY\",\"number\":2147483872}}\n\
          {\"content\":null,\"data\":\"\",\"digests\":[],\"hashes_to\":[],\"index\":35,\
-         \"log\":\"a log\",\"offset\":625,\"register\":0,\
+         \"log\":\"a log\",\"offset\":625,\"pcr\":0,\
          \"type\":{\"name\":\"EV_EFI_SPDM_FIRMWARE_BLOB\",\"number\":2147483873}}\n\
          {\"content\":null,\"data\":\"\",\"digests\":[],\"hashes_to\":[],\"index\":36,\
-         \"log\":\"a log\",\"offset\":641,\"register\":0,\
+         \"log\":\"a log\",\"offset\":641,\"pcr\":0,\
          \"type\":{\"name\":\"EV_EFI_SPDM_FIRMWARE_CONFIG\",\"number\":2147483874}}\n\
          {\"content\":null,\"data\":\"\",\"digests\":[],\"hashes_to\":[],\"index\":37,\
-         \"log\":\"a log\",\"offset\":657,\"register\":0,\
+         \"log\":\"a log\",\"offset\":657,\"pcr\":0,\
          \"type\":{\"name\":\"EV_EFI_SPDM_DEVICE_POLICY\",\"number\":2147483875}}\n\
          {\"content\":null,\"data\":\"\",\"digests\":[],\"hashes_to\":[],\"index\":38,\
-         \"log\":\"a log\",\"offset\":673,\"register\":0,\
+         \"log\":\"a log\",\"offset\":673,\"pcr\":0,\
          \"type\":{\"name\":\"EV_EFI_SPDM_DEVICE_AUTHORITY\",\"number\":2147483876}}\n\
          {\"content\":null,\"data\":\"\",\"digests\":[],\"hashes_to\":[],\"index\":39,\
-         \"log\":\"a log\",\"offset\":689,\"register\":0,\"type\":{\"number\":20}}\n\
+         \"log\":\"a log\",\"offset\":689,\"pcr\":0,\"type\":{\"number\":20}}\n\
          {\"content\":null,\"data\":\"\",\"digests\":[],\"hashes_to\":[],\"index\":40,\
-         \"log\":\"a log\",\"offset\":705,\"register\":0,\"type\":{\"number\":2147483648}}\n\
+         \"log\":\"a log\",\"offset\":705,\"pcr\":0,\"type\":{\"number\":2147483648}}\n\
          {\"content\":null,\"data\":\"\",\"digests\":[],\"hashes_to\":[],\"index\":41,\
-         \"log\":\"a log\",\"offset\":721,\"register\":0,\"type\":{\"number\":2147483662}}\n\
+         \"log\":\"a log\",\"offset\":721,\"pcr\":0,\"type\":{\"number\":2147483662}}\n\
          {\"content\":null,\"data\":\"\",\"digests\":[],\"hashes_to\":[],\"index\":42,\
-         \"log\":\"a log\",\"offset\":737,\"register\":0,\"type\":{\"number\":2147483663}}\n\
+         \"log\":\"a log\",\"offset\":737,\"pcr\":0,\"type\":{\"number\":2147483663}}\n\
          {\"content\":null,\"data\":\"\",\"digests\":[],\"hashes_to\":[],\"index\":43,\
-         \"log\":\"a log\",\"offset\":753,\"register\":0,\"type\":{\"number\":2147483665}}\n\
+         \"log\":\"a log\",\"offset\":753,\"pcr\":0,\"type\":{\"number\":2147483665}}\n\
          {\"content\":null,\"data\":\"\",\"digests\":[],\"hashes_to\":[],\"index\":44,\
-         \"log\":\"a log\",\"offset\":769,\"register\":0,\"type\":{\"number\":2147483871}}\n\
+         \"log\":\"a log\",\"offset\":769,\"pcr\":0,\"type\":{\"number\":2147483871}}\n\
          {\"content\":null,\"data\":\"\",\"digests\":[],\"hashes_to\":[],\"index\":45,\
-         \"log\":\"a log\",\"offset\":785,\"register\":0,\"type\":{\"number\":2147483877}}\n\
+         \"log\":\"a log\",\"offset\":785,\"pcr\":0,\"type\":{\"number\":2147483877}}\n\
          {\"content\":null,\"data\":\"\",\"digests\":[],\"hashes_to\":[],\"index\":46,\
-         \"log\":\"a log\",\"offset\":801,\"register\":0,\"type\":{\"number\":4294967295}}\n",
+         \"log\":\"a log\",\"offset\":801,\"pcr\":0,\"type\":{\"number\":4294967295}}\n",
     ],
     // A digest of each algorithm that has a name, and of the numbers around them.
     [
@@ -184,7 +184,7 @@ const NAMES: [[&str; 2]; 2] = [
          {\"algorithm\":0,\"digest\":\"cc\"},{\"algorithm\":19,\"digest\":\"cc\"},\
          {\"algorithm\":38,\"digest\":\"cc\"},{\"algorithm\":42,\"digest\":\"cc\"}],\
          \"hashes_to\":[],\"index\":0,\"log\":\"a log\",\
-         \"offset\":109,\"register\":0,\
+         \"offset\":109,\"pcr\":0,\
          \"type\":{\"name\":\"EV_PREBOOT_CERT\",\"number\":0}}\n",
     ],
 ];

@@ -21,7 +21,7 @@ const BOOT_OPTIONS: [[&str; 2]; 6] = [
          55004500460049000a004f005300000002010c00d041030a0000000001010600021f04040a005c00610\
          000007fff0400abcd\",\"digests\":[{\"algorithm\":\"sha1\",\"digest\":\"aaaaaaaaaaaaa\
          aaaaaaaaaaaaaaaaaaaaaaaaaaa\"}],\"hashes_to\":[],\"index\":0,\"log\":\"a log\",\"of\
-         fset\":0,\"register\":1,\"type\":{\"name\":\"EV_EFI_VARIABLE_BOOT\",\"number\":2147\
+         fset\":0,\"pcr\":1,\"type\":{\"name\":\"EV_EFI_VARIABLE_BOOT\",\"number\":2147\
          483650}}\n",
     ],
     [
@@ -34,7 +34,7 @@ const BOOT_OPTIONS: [[&str; 2]; 6] = [
          :\"\"}}}},\"data\":\"61dfe48bca93d211aa0d00e098032b8c08000000000000000d000000000000\
          0042006f006f007400460046004600460001000000050000007fff0400ee\",\"digests\":[{\"algo\
          rithm\":\"sha1\",\"digest\":\"aaaaaaaaaaaaaaaaaaaaaaaaaaaaaaaaaaaaaaaa\"}],\"hashes\
-         _to\":[],\"index\":0,\"log\":\"a log\",\"offset\":0,\"register\":1,\"type\":{\"name\
+         _to\":[],\"index\":0,\"log\":\"a log\",\"offset\":0,\"pcr\":1,\"type\":{\"name\
          \":\"EV_EFI_VARIABLE_BOOT2\",\"number\":2147483660}}\n",
     ],
     [
@@ -45,8 +45,8 @@ const BOOT_OPTIONS: [[&str; 2]; 6] = [
          1d2-aa0d-00e098032b8c\",\"name\":\"Boot0000\"}},\"data\":\"61dfe48bca93d211aa0d00e09\
          8032b8c0800000000000000080000000000000042006f006f00740030003000300030000100000000006\
          100\",\"digests\":[{\"algorithm\":\"sha1\",\"digest\":\"aaaaaaaaaaaaaaaaaaaaaaaaaaaa\
-         aaaaaaaaaaaa\"}],\"hashes_to\":[],\"index\":0,\"log\":\"a log\",\"offset\":0,\"regis\
-         ter\":1,\"type\":{\"name\":\"EV_EFI_VARIABLE_BOOT\",\"number\":2147483650}}\n",
+         aaaaaaaaaaaa\"}],\"hashes_to\":[],\"index\":0,\"log\":\"a log\",\"offset\":0,\"pcr\":\
+         1,\"type\":{\"name\":\"EV_EFI_VARIABLE_BOOT\",\"number\":2147483650}}\n",
     ],
     // Names that are no boot option's.
     [
@@ -61,7 +61,7 @@ const BOOT_OPTIONS: [[&str; 2]; 6] = [
          9000000200055004500460049000a004f005300000002010c00d041030a0000000001010600021f04040\
          a005c00610000007fff0400abcd\",\"digests\":[{\"algorithm\":\"sha1\",\"digest\":\"aaaa\
          aaaaaaaaaaaaaaaaaaaaaaaaaaaaaaaaaaaa\"}],\"hashes_to\":[],\"index\":0,\"log\":\"a lo\
-         g\",\"offset\":0,\"register\":1,\"type\":{\"name\":\"EV_EFI_VARIABLE_BOOT\",\"number\
+         g\",\"offset\":0,\"pcr\":1,\"type\":{\"name\":\"EV_EFI_VARIABLE_BOOT\",\"number\
          \":2147483650}}\n",
     ],
     [
@@ -76,7 +76,7 @@ const BOOT_OPTIONS: [[&str; 2]; 6] = [
          300009000000200055004500460049000a004f005300000002010c00d041030a0000000001010600021f\
          04040a005c00610000007fff0400abcd\",\"digests\":[{\"algorithm\":\"sha1\",\"digest\":\
          \"aaaaaaaaaaaaaaaaaaaaaaaaaaaaaaaaaaaaaaaa\"}],\"hashes_to\":[],\"index\":0,\"log\":\
-         \"a log\",\"offset\":0,\"register\":1,\"type\":{\"name\":\"EV_EFI_VARIABLE_BOOT\",\"\
+         \"a log\",\"offset\":0,\"pcr\":1,\"type\":{\"name\":\"EV_EFI_VARIABLE_BOOT\",\"\
          number\":2147483650}}\n",
     ],
     [
@@ -91,7 +91,7 @@ const BOOT_OPTIONS: [[&str; 2]; 6] = [
          9000000200055004500460049000a004f005300000002010c00d041030a0000000001010600021f04040\
          a005c00610000007fff0400abcd\",\"digests\":[{\"algorithm\":\"sha1\",\"digest\":\"aaaa\
          aaaaaaaaaaaaaaaaaaaaaaaaaaaaaaaaaaaa\"}],\"hashes_to\":[],\"index\":0,\"log\":\"a lo\
-         g\",\"offset\":0,\"register\":1,\"type\":{\"name\":\"EV_EFI_VARIABLE_BOOT\",\"number\
+         g\",\"offset\":0,\"pcr\":1,\"type\":{\"name\":\"EV_EFI_VARIABLE_BOOT\",\"number\
          \":2147483650}}\n",
     ],
 ];
@@ -108,7 +108,7 @@ const BOOT_ORDERS: [[&str; 2]; 2] = [
          \":\"61dfe48bca93d211aa0d00e098032b8c0900000000000000040000000000000042006f006f00740\
          04f0072006400650072000100af10\",\"digests\":[{\"algorithm\":\"sha1\",\"digest\":\"aa\
          aaaaaaaaaaaaaaaaaaaaaaaaaaaaaaaaaaaaaa\"}],\"hashes_to\":[],\"index\":0,\"log\":\"a \
-         log\",\"offset\":0,\"register\":1,\"type\":{\"name\":\"EV_EFI_VARIABLE_BOOT\",\"numb\
+         log\",\"offset\":0,\"pcr\":1,\"type\":{\"name\":\"EV_EFI_VARIABLE_BOOT\",\"numb\
          er\":2147483650}}\n",
     ],
     [
@@ -119,7 +119,7 @@ const BOOT_ORDERS: [[&str; 2]; 2] = [
          0e098032b8c\",\"name\":\"BootOrder\"}},\"data\":\"61dfe48bca93d211aa0d00e098032b8c09\
          00000000000000030000000000000042006f006f0074004f0072006400650072000100af\",\"digests\
          \":[{\"algorithm\":\"sha1\",\"digest\":\"aaaaaaaaaaaaaaaaaaaaaaaaaaaaaaaaaaaaaaaa\"}\
-         ],\"hashes_to\":[],\"index\":0,\"log\":\"a log\",\"offset\":0,\"register\":1,\"type\
+         ],\"hashes_to\":[],\"index\":0,\"log\":\"a log\",\"offset\":0,\"pcr\":1,\"type\
          \":{\"name\":\"EV_EFI_VARIABLE_BOOT\",\"number\":2147483650}}\n",
     ],
 ];
@@ -161,7 +161,7 @@ const SIGNATURE_DATABASES: [[&str; 2]; 5] = [
          ccccccccccccccccccccbd9afa775903324dbd6028f4e78f784bdddddddddddddddddddddddddddddddd\
          dddddddddddddddddddddddddddddddd\",\"digests\":[{\"algorithm\":\"sha1\",\"digest\":\
          \"aaaaaaaaaaaaaaaaaaaaaaaaaaaaaaaaaaaaaaaa\"}],\"hashes_to\":[],\"index\":0,\"log\":\
-         \"a log\",\"offset\":0,\"register\":7,\"type\":{\"name\":\"EV_EFI_VARIABLE_DRIVER_CO\
+         \"a log\",\"offset\":0,\"pcr\":7,\"type\":{\"name\":\"EV_EFI_VARIABLE_DRIVER_CO\
          NFIG\",\"number\":2147483649}}\n",
     ],
     [
@@ -175,7 +175,7 @@ const SIGNATURE_DATABASES: [[&str; 2]; 5] = [
          c02000000000000001e0000000000000050004b000403020106050807090a0b0c0d0e0f101e000000020\
          00000100000000102\",\"digests\":[{\"algorithm\":\"sha1\",\"digest\":\"aaaaaaaaaaaaaa\
          aaaaaaaaaaaaaaaaaaaaaaaaaa\"}],\"hashes_to\":[],\"index\":0,\"log\":\"a log\",\"offs\
-         et\":0,\"register\":7,\"type\":{\"name\":\"EV_EFI_VARIABLE_DRIVER_CONFIG\",\"number\
+         et\":0,\"pcr\":7,\"type\":{\"name\":\"EV_EFI_VARIABLE_DRIVER_CONFIG\",\"number\
          \":2147483649}}\n",
     ],
     [
@@ -185,7 +185,7 @@ const SIGNATURE_DATABASES: [[&str; 2]; 5] = [
          7656f\",\"name\":\"dbx\",\"value\":{\"signature_lists\":[]}}},\"data\":\"cbb219d73a3\
          d9645a3bcdad00e67656f03000000000000000000000000000000640062007800\",\"digests\":[{\"\
          algorithm\":\"sha1\",\"digest\":\"aaaaaaaaaaaaaaaaaaaaaaaaaaaaaaaaaaaaaaaa\"}],\"has\
-         hes_to\":[],\"index\":0,\"log\":\"a log\",\"offset\":0,\"register\":7,\"type\":{\"na\
+         hes_to\":[],\"index\":0,\"log\":\"a log\",\"offset\":0,\"pcr\":7,\"type\":{\"na\
          me\":\"EV_EFI_VARIABLE_DRIVER_CONFIG\",\"number\":2147483649}}\n",
     ],
     [
@@ -197,7 +197,7 @@ const SIGNATURE_DATABASES: [[&str; 2]; 5] = [
          ,\"data\":\"61dfe48bca93d211aa0d00e098032b8c03000000000000001d000000000000004b004500\
          4b000403020106050807090a0b0c0d0e0f101e000000020000001000000001\",\"digests\":[{\"alg\
          orithm\":\"sha1\",\"digest\":\"aaaaaaaaaaaaaaaaaaaaaaaaaaaaaaaaaaaaaaaa\"}],\"hashes\
-         _to\":[],\"index\":0,\"log\":\"a log\",\"offset\":0,\"register\":7,\"type\":{\"name\
+         _to\":[],\"index\":0,\"log\":\"a log\",\"offset\":0,\"pcr\":7,\"type\":{\"name\
          \":\"EV_EFI_VARIABLE_DRIVER_CONFIG\",\"number\":2147483649}}\n",
     ],
     // `db` of another GUID isn't read.
@@ -210,7 +210,7 @@ const SIGNATURE_DATABASES: [[&str; 2]; 5] = [
          },\"data\":\"61dfe48bca93d211aa0d00e098032b8c02000000000000001e000000000000006400620\
          00403020106050807090a0b0c0d0e0f101e00000002000000100000000102\",\"digests\":[{\"algo\
          rithm\":\"sha1\",\"digest\":\"aaaaaaaaaaaaaaaaaaaaaaaaaaaaaaaaaaaaaaaa\"}],\"hashes_\
-         to\":[],\"index\":0,\"log\":\"a log\",\"offset\":0,\"register\":7,\"type\":{\"name\"\
+         to\":[],\"index\":0,\"log\":\"a log\",\"offset\":0,\"pcr\":7,\"type\":{\"name\"\
          :\"EV_EFI_VARIABLE_DRIVER_CONFIG\",\"number\":2147483649}}\n",
     ],
 ];
@@ -234,8 +234,8 @@ const AUTHORITIES: [[&str; 2]; 5] = [
          784b00000000000000000000000000000000000000000000000000000000000000000000000000000000\
          0000000000000000000000000000000000000000000000000000000000000000000000000000000000\"\
          ,\"digests\":[{\"algorithm\":\"sha1\",\"digest\":\"aaaaaaaaaaaaaaaaaaaaaaaaaaaaaaaaa\
-         aaaaaaa\"}],\"hashes_to\":[],\"index\":0,\"log\":\"a log\",\"offset\":0,\"register\"\
-         :7,\"type\":{\"name\":\"EV_EFI_VARIABLE_AUTHORITY\",\"number\":2147483872}}\n",
+         aaaaaaa\"}],\"hashes_to\":[],\"index\":0,\"log\":\"a log\",\"offset\":0,\"pcr\":\
+         7,\"type\":{\"name\":\"EV_EFI_VARIABLE_AUTHORITY\",\"number\":2147483872}}\n",
     ],
     [
         "07000000e0000080aaaaaaaaaaaaaaaaaaaaaaaaaaaaaaaaaaaaaaaa84000000cbb219d73a3d9645 \
@@ -254,7 +254,7 @@ const AUTHORITIES: [[&str; 2]; 5] = [
          000000000000000000000000000000000000000000000000000000000000000000000000000000000000\
          000000000000000000000000000000000000000000000000000000000000000000000000000\",\"dige\
          sts\":[{\"algorithm\":\"sha1\",\"digest\":\"aaaaaaaaaaaaaaaaaaaaaaaaaaaaaaaaaaaaaaaa\
-         \"}],\"hashes_to\":[],\"index\":0,\"log\":\"a log\",\"offset\":0,\"register\":7,\"ty\
+         \"}],\"hashes_to\":[],\"index\":0,\"log\":\"a log\",\"offset\":0,\"pcr\":7,\"ty\
          pe\":{\"name\":\"EV_EFI_VARIABLE_AUTHORITY\",\"number\":2147483872}}\n",
     ],
     [
@@ -267,7 +267,7 @@ const AUTHORITIES: [[&str; 2]; 5] = [
          50ab5d6046e00043abb63dd810dd8b23070000000000000010000000000000004d006f006b004c006900\
          73007400bd9afa775903324dbd6028f4e78f784b\",\"digests\":[{\"algorithm\":\"sha1\",\"di\
          gest\":\"aaaaaaaaaaaaaaaaaaaaaaaaaaaaaaaaaaaaaaaa\"}],\"hashes_to\":[],\"index\":0,\
-         \"log\":\"a log\",\"offset\":0,\"register\":7,\"type\":{\"name\":\"EV_EFI_VARIABLE_A\
+         \"log\":\"a log\",\"offset\":0,\"pcr\":7,\"type\":{\"name\":\"EV_EFI_VARIABLE_A\
          UTHORITY\",\"number\":2147483872}}\n",
     ],
     // Shim's other variables, and fewer bytes than an owner has, aren't read.
@@ -280,7 +280,7 @@ const AUTHORITIES: [[&str; 2]; 5] = [
          5d6046e00043abb63dd810dd8b230900000000000000120000000000000053006200610074004c006500\
          760065006c00736261742c312c323032313033303231380a\",\"digests\":[{\"algorithm\":\"sha\
          1\",\"digest\":\"aaaaaaaaaaaaaaaaaaaaaaaaaaaaaaaaaaaaaaaa\"}],\"hashes_to\":[],\"ind\
-         ex\":0,\"log\":\"a log\",\"offset\":0,\"register\":14,\"type\":{\"name\":\"EV_EFI_VA\
+         ex\":0,\"log\":\"a log\",\"offset\":0,\"pcr\":14,\"type\":{\"name\":\"EV_EFI_VA\
          RIABLE_AUTHORITY\",\"number\":2147483872}}\n",
     ],
     [
@@ -291,8 +291,8 @@ const AUTHORITIES: [[&str; 2]; 5] = [
          719b2cb-3d3a-4596-a3bc-dad00e67656f\",\"name\":\"db\"}},\"data\":\"cbb219d73a3d9645a\
          3bcdad00e67656f02000000000000000f000000000000006400620000000000000000000000000000000\
          0\",\"digests\":[{\"algorithm\":\"sha1\",\"digest\":\"aaaaaaaaaaaaaaaaaaaaaaaaaaaaaa\
-         aaaaaaaaaa\"}],\"hashes_to\":[],\"index\":0,\"log\":\"a log\",\"offset\":0,\"registe\
-         r\":7,\"type\":{\"name\":\"EV_EFI_VARIABLE_AUTHORITY\",\"number\":2147483872}}\n",
+         aaaaaaaaaa\"}],\"hashes_to\":[],\"index\":0,\"log\":\"a log\",\"offset\":0,\"pcr\":\
+         7,\"type\":{\"name\":\"EV_EFI_VARIABLE_AUTHORITY\",\"number\":2147483872}}\n",
     ],
 ];
 

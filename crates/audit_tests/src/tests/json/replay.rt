@@ -17,7 +17,7 @@ const REFUSED: [[&str; 2]; 7] = [
         0000000000000000000000000000000000000011000000537461727475704c6f63616c6974790003 \
         0000000008000000010000000400aaaaaaaaaaaaaaaaaaaaaaaaaaaaaaaaaaaaaaaa00000000",
         "{\"banks\":[{\"algorithm\":\"sha1\",\
-         \"registers\":[\"209023205dc83ff844673ef0e73adf49400ec0df\",\
+         \"pcrs\":[\"209023205dc83ff844673ef0e73adf49400ec0df\",\
          \"0000000000000000000000000000000000000000\",\
          \"0000000000000000000000000000000000000000\",\
          \"0000000000000000000000000000000000000000\",\
@@ -56,7 +56,7 @@ const REFUSED: [[&str; 2]; 7] = [
         aaaaaaaaaa0b00aaaaaaaaaaaaaaaaaaaaaaaaaaaaaaaaaaaaaaaaaaaaaaaaaaaaaaaaaaaaaaaa00 \
         000000",
         "{\"banks\":[{\"algorithm\":\"sha1\",\
-         \"registers\":[\"0000000000000000000000000000000000000000\",\
+         \"pcrs\":[\"0000000000000000000000000000000000000000\",\
          \"e87208941fde536e6fa62a63d9e61903ade54dbb\",\
          \"0000000000000000000000000000000000000000\",\
          \"0000000000000000000000000000000000000000\",\
@@ -81,7 +81,7 @@ const REFUSED: [[&str; 2]; 7] = [
          \"ffffffffffffffffffffffffffffffffffffffff\",\
          \"0000000000000000000000000000000000000000\"],\"undetermined\":[]},\
          {\"algorithm\":\"sha256\",\
-         \"registers\":[\"0000000000000000000000000000000000000000000000000000000000000000\",\
+         \"pcrs\":[\"0000000000000000000000000000000000000000000000000000000000000000\",\
          null,\"0000000000000000000000000000000000000000000000000000000000000000\",\
          \"0000000000000000000000000000000000000000000000000000000000000000\",\
          \"0000000000000000000000000000000000000000000000000000000000000000\",\
@@ -104,8 +104,8 @@ const REFUSED: [[&str; 2]; 7] = [
          \"ffffffffffffffffffffffffffffffffffffffffffffffffffffffffffffffff\",\
          \"ffffffffffffffffffffffffffffffffffffffffffffffffffffffffffffffff\",\
          \"0000000000000000000000000000000000000000000000000000000000000000\"],\
-         \"undetermined\":[{\"index\":2,\"offset\":213,\"reason\":\"has no digest of the \
-         bank\",\"register\":1}]}],\"left_over\":null,\"locality\":{\"number\":0,\
+         \"undetermined\":[{\"index\":2,\"offset\":213,\"pcr\":1,\
+         \"reason\":\"has no digest of the bank\"}]}],\"left_over\":null,\"locality\":{\"number\":0,\
          \"stated\":false},\"log\":\"a log\",\"not_replayed\":[],\"padding\":null}\n",
     ],
     // PCRs 0 and 1 are undetermined, and padding.
@@ -115,7 +115,7 @@ const REFUSED: [[&str; 2]; 7] = [
         000400000000000000000000000000000000000000000011000000537461727475704c6f63616c69 \
         747900010100000008000000020000000400aaaaaaaaaaaaaaaaaaaaaaaaaaaaaaaaaaaaaaaa0400 \
         aaaaaaaaaaaaaaaaaaaaaaaaaaaaaaaaaaaaaaaa00000000ffffffffffffffffff",
-        "{\"banks\":[{\"algorithm\":\"sha1\",\"registers\":[null,null,\
+        "{\"banks\":[{\"algorithm\":\"sha1\",\"pcrs\":[null,null,\
          \"0000000000000000000000000000000000000000\",\
          \"0000000000000000000000000000000000000000\",\
          \"0000000000000000000000000000000000000000\",\
@@ -138,9 +138,9 @@ const REFUSED: [[&str; 2]; 7] = [
          \"ffffffffffffffffffffffffffffffffffffffff\",\
          \"ffffffffffffffffffffffffffffffffffffffff\",\
          \"0000000000000000000000000000000000000000\"],\"undetermined\":[{\"index\":0,\
-         \"offset\":69,\"reason\":\"states a locality other than 0, 3 and 4\",\
-         \"register\":0},{\"index\":1,\"offset\":124,\"reason\":\"has two digests of the \
-         bank or more\",\"register\":1}]}],\"left_over\":null,\"locality\":{\"number\":1,\
+         \"offset\":69,\"pcr\":0,\"reason\":\"states a locality other than 0, 3 and 4\"},\
+         {\"index\":1,\"offset\":124,\"pcr\":1,\"reason\":\"has two digests of the \
+         bank or more\"}]}],\"left_over\":null,\"locality\":{\"number\":1,\
          \"stated\":true},\"log\":\"a log\",\"not_replayed\":[],\
          \"padding\":{\"count\":9,\"offset\":184}}\n",
     ],
@@ -171,7 +171,7 @@ const REFUSED: [[&str; 2]; 7] = [
         27002000000000000008000000010000000400aaaaaaaaaaaaaaaaaaaaaaaaaaaaaaaaaaaaaaaa00 \
         000000",
         "{\"banks\":[{\"algorithm\":\"sha1\",\
-         \"registers\":[\"d6ebc4e04e1612a1ae465c51c090608bc5e6e174\",\
+         \"pcrs\":[\"d6ebc4e04e1612a1ae465c51c090608bc5e6e174\",\
          \"0000000000000000000000000000000000000000\",\
          \"0000000000000000000000000000000000000000\",\
          \"0000000000000000000000000000000000000000\",\
@@ -212,7 +212,7 @@ const ALLOWED: [[&str; 2]; 1] = [[
         4576656e7430330000000000000200020100000004001400000000000008000000010000000400aa \
         aaaaaaaaaaaaaaaaaaaaaaaaaaaaaaaaaaaaaa000000000102",
     "{\"banks\":[{\"algorithm\":\"sha1\",\
-         \"registers\":[\"d6ebc4e04e1612a1ae465c51c090608bc5e6e174\",\
+         \"pcrs\":[\"d6ebc4e04e1612a1ae465c51c090608bc5e6e174\",\
          \"0000000000000000000000000000000000000000\",\
          \"0000000000000000000000000000000000000000\",\
          \"0000000000000000000000000000000000000000\",\

@@ -46,10 +46,10 @@ const ROWS: [Row; 5] = [
                bbbbbbbbbbbbbbbbbbbbbbb\n",
         line: "{\"agree\":false,\"count\":3,\"disagreeing\":[{\"bank\":\"sha1\",\"hel\
                d\":\"d6ebc4e04e1612a1ae465c51c090608bc5e6e174\",\"leads_to\":\"209023\
-               205dc83ff844673ef0e73adf49400ec0df\",\"register\":0,\"undetermined\":n\
+               205dc83ff844673ef0e73adf49400ec0df\",\"pcr\":0,\"undetermined\":n\
                ull},{\"bank\":\"sha1\",\"held\":\"bbbbbbbbbbbbbbbbbbbbbbbbbbbbbbbbbbb\
-               bbbbb\",\"leads_to\":\"0000000000000000000000000000000000000000\",\"re\
-               gister\":2,\"undetermined\":null}],\"locality\":3,\"log\":\"a.log\"}\n",
+               bbbbb\",\"leads_to\":\"0000000000000000000000000000000000000000\",\"pcr\":\
+               2,\"undetermined\":null}],\"locality\":3,\"log\":\"a.log\"}\n",
     },
     // A PCR that a TPM doesn't have.
     Row {
@@ -58,8 +58,8 @@ const ROWS: [Row; 5] = [
         locality: 0,
         held: "  sha1:\n    24: 0x0000000000000000000000000000000000000000\n",
         line: "{\"agree\":false,\"count\":1,\"disagreeing\":[{\"bank\":\"sha1\",\"hel\
-               d\":\"0000000000000000000000000000000000000000\",\"leads_to\":null,\"r\
-               egister\":24,\"undetermined\":null}],\"locality\":0,\"log\":\"a.log\"}\
+               d\":\"0000000000000000000000000000000000000000\",\"leads_to\":null,\"pcr\":\
+               24,\"undetermined\":null}],\"locality\":0,\"log\":\"a.log\"}\
                \n",
     },
     // PCRs are undetermined in one bank or in the other, and one differs.
@@ -77,13 +77,13 @@ const ROWS: [Row; 5] = [
                27c53d56978fd548b20de80d54153bbefd2356a1225748b14ee3962ac3\n    7 : 0x\
                cccccccccccccccccccccccccccccccccccccccccccccccccccccccccccccccc\n",
         line: "{\"agree\":false,\"count\":4,\"disagreeing\":[{\"bank\":\"sha1\",\"hel\
-               d\":\"bbbbbbbbbbbbbbbbbbbbbbbbbbbbbbbbbbbbbbbb\",\"leads_to\":null,\"r\
-               egister\":2,\"undetermined\":{\"index\":2,\"offset\":183,\"reason\":\"\
+               d\":\"bbbbbbbbbbbbbbbbbbbbbbbbbbbbbbbbbbbbbbbb\",\"leads_to\":null,\"pcr\":\
+               2,\"undetermined\":{\"index\":2,\"offset\":183,\"reason\":\"\
                has two digests of the bank or more\"}},{\"bank\":\"sha1\",\"held\":\"\
                bbbbbbbbbbbbbbbbbbbbbbbbbbbbbbbbbbbbbbbb\",\"leads_to\":\"af40ddc4aca1\
-               54a71fc215f17e4fe5a82f12e315\",\"register\":7,\"undetermined\":null},{\
+               54a71fc215f17e4fe5a82f12e315\",\"pcr\":7,\"undetermined\":null},{\
                \"bank\":\"sha256\",\"held\":\"ccccccccccccccccccccccccccccccccccccccc\
-               ccccccccccccccccccccccccc\",\"leads_to\":null,\"register\":7,\"undeter\
+               ccccccccccccccccccccccccc\",\"leads_to\":null,\"pcr\":7,\"undeter\
                mined\":{\"index\":1,\"offset\":141,\"reason\":\"has no digest of the \
                bank\"}}],\"locality\":0,\"log\":\"a.log\"}\n",
     },

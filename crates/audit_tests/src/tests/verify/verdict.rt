@@ -28,7 +28,7 @@ const ROWS: [Row; 8] = [
          xaf40ddc4aca154a71fc215f17e4fe5a82f12e315\n    2 : 0x00000000000000000\
          00000000000000000000000\n    17: 0xfffffffffffffffffffffffffffffffffff\
          fffff\n",
-        lines: "a.log: 4 PCRs agree, PCR 0 starts at locality 0\n",
+        lines: "a.log: agrees: sha1: 0-2, 17 (PCR 0 starts at locality 0)\n",
         differing: 0,
         undetermined: 0,
     },
@@ -38,7 +38,7 @@ const ROWS: [Row; 8] = [
          0008000000bbbbbbbbbbbbbbbbbbbbbbbbbbbbbbbbbbbbbbbb00000000",
         locality: 3,
         held: "  sha1:\n    0 : 0x209023205dc83ff844673ef0e73adf49400ec0df\n",
-        lines: "a.log: 1 PCRs agree, PCR 0 starts at locality 3\n",
+        lines: "a.log: agrees: sha1: 0 (PCR 0 starts at locality 3)\n",
         differing: 0,
         undetermined: 0,
     },
@@ -48,7 +48,7 @@ const ROWS: [Row; 8] = [
          0008000000bbbbbbbbbbbbbbbbbbbbbbbbbbbbbbbbbbbbbbbb00000000",
         locality: 0,
         held: "",
-        lines: "a.log: 0 PCRs agree, PCR 0 starts at locality 0\n",
+        lines: "a.log: agrees:  (PCR 0 starts at locality 0)\n",
         differing: 0,
         undetermined: 0,
     },
@@ -128,7 +128,7 @@ const ROWS: [Row; 8] = [
          x0000000000000000000000000000000000000000\n  sha512:\n    23: 0x000000\
          0000000000000000000000000000000000000000000000000000000000000000000000\
          0000000000000000000000000000000000000000000000000000\n",
-        lines: "a.log: 3 PCRs agree, PCR 0 starts at locality 4\n",
+        lines: "a.log: agrees: sha1: 0-1; sha512: 23 (PCR 0 starts at locality 4)\n",
         differing: 0,
         undetermined: 0,
     },

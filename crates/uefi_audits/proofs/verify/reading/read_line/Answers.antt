@@ -14,7 +14,10 @@ returns-in_default-2 g c = λ after adds.
       | inl begins ↦ c.in_default.ensures begins.0 begins.1
       | inr more ↦ elim more [
         | inl states ↦ let none = rw c.in_default-2.is at c.in_ok-pcr.ensures in none states.0 states.1
-        | inr passed ↦ let h : false ≡ true = c.if-is_passed_over.ensures.1 passed.0 in cc
+        | inr passed ↦ elim passed.0 [
+          | inl other ↦ let h : false ≡ true = c.if-is_passed_over.ensures.1 (inl other) in cc
+          | inr quote ↦ let h : false ≡ true = c.if-is_passed_over.ensures.1 (inr quote.0) in cc
+        ]
       ]
     ]
 

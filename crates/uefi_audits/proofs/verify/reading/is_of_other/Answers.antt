@@ -1,5 +1,5 @@
 use Rattle.uefi_audits.proofs.verify.PcrLines.{is_pcr_line}
-use Rattle.uefi_audits.proofs.verify.reading.is_passed_over.Goals as goal
+use Rattle.uefi_audits.proofs.verify.reading.is_of_other.Goals as goal
 
 pub returns-in-Unsupported : goal.returns-in-Unsupported
 returns-in-Unsupported c =
