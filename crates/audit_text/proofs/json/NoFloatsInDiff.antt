@@ -6,7 +6,7 @@ use Rattle.serde_json.specs.View.{items_of}
 use Rattle.serde_json.specs.Written.{has_float, items_have_float}
 use Rattle.audit_text.specs.words.Said.{said}
 use Rattle.uefi_audits.specs.diff.Differences.{Difference, Numbered, Side, type_of}
-use Rattle.audit_text.specs.json.Diff.{first_json, found_json, pcr_json, register_json, says_json, side_json}
+use Rattle.audit_text.specs.json.Diff.{first_json, found_json, pcr_json, pcr_number, says_json, side_json}
 use Rattle.audit_text.proofs.json.NoFloats.{event_type}
 
 says_has : (words : List ℕ) → has_float (says_json words) ≡ false
@@ -34,9 +34,9 @@ side_has : (name : List ℕ) (side : Side) → has_float (side_json name side) �
 unfolding side_json
 side_has name side = rw (first_has side.first) (rw (all_have side.only) refl)
 
-register_has : (pcr : ℕ) → has_float (register_json pcr) ≡ false
-unfolding register_json
-register_has pcr = either (pcr == 24)
+number_has : (pcr : ℕ) → has_float (pcr_number pcr) ≡ false
+unfolding pcr_number
+number_has pcr = either (pcr == 24)
   where
     either : (above : Bool) → has_float (cond above null (number (unsigned pcr))) ≡ false
     either true = refl
@@ -45,4 +45,4 @@ register_has pcr = either (pcr == 24)
 pub no_float : (old_name new_name : List ℕ) (difference : Difference) → has_float (pcr_json old_name new_name difference) ≡ false
 unfolding pcr_json
 no_float old_name new_name difference =
-    rw (side_has new_name difference.new) (rw (side_has old_name difference.old) (rw (register_has difference.pcr) refl))
+    rw (side_has new_name difference.new) (rw (side_has old_name difference.old) (rw (number_has difference.pcr) refl))

@@ -9,26 +9,26 @@ use Rattle.uefi_audits.specs.declared.facts.LogFacts.{LogFacts}
 use Rattle.pcr_replay.specs.Replay.{Outcome}
 use Rattle.uefi_audits.specs.Replay.{BankOutcomes}
 use Rattle.audit_text.specs.json.Replay.{algorithm_json, bank_json, banks_json, if_undetermined, is_replayed, locality_json, replay_json, shown_banks}
-use Rattle.audit_text.specs.json.Replay.{not_replayed_json, part_json, register_json, undetermined_json}
+use Rattle.audit_text.specs.json.Replay.{not_replayed_json, part_json, outcome_json, undetermined_json}
 use Rattle.uefi_audits.specs.Numbered.{numbered}
 
-registers : (outcomes : List Outcome) → items_have_float (items_of (map register_json outcomes)) ≡ false
-unfolding register_json
-registers [] = refl
-registers (Ok value ∷ outcomes) = registers outcomes
-registers (Err at ∷ outcomes) = registers outcomes
+of_outcomes : (outcomes : List Outcome) → items_have_float (items_of (map outcome_json outcomes)) ≡ false
+unfolding outcome_json
+of_outcomes [] = refl
+of_outcomes (Ok value ∷ outcomes) = of_outcomes outcomes
+of_outcomes (Err at ∷ outcomes) = of_outcomes outcomes
 
-undetermined : (register : ℕ) (outcomes : List Outcome)
-    → items_have_float (items_of (numbered if_undetermined register outcomes)) ≡ false
+undetermined : (pcr : ℕ) (outcomes : List Outcome)
+    → items_have_float (items_of (numbered if_undetermined pcr outcomes)) ≡ false
 unfolding numbered if_undetermined undetermined_json
-undetermined register [] = refl
-undetermined register (Ok value ∷ outcomes) = undetermined (register + 1) outcomes
-undetermined register (Err at ∷ outcomes) = undetermined (register + 1) outcomes
+undetermined pcr [] = refl
+undetermined pcr (Ok value ∷ outcomes) = undetermined (pcr + 1) outcomes
+undetermined pcr (Err at ∷ outcomes) = undetermined (pcr + 1) outcomes
 
 -- A bank, and all of them.
 bank : (found : BankOutcomes) → has_float (bank_json found) ≡ false
 unfolding bank_json
-bank found = rw (registers found.outcomes) (rw (undetermined 0 found.outcomes) refl)
+bank found = rw (of_outcomes found.outcomes) (rw (undetermined 0 found.outcomes) refl)
 
 each : (found : List BankOutcomes) → items_have_float (items_of (map bank_json found)) ≡ false
 each [] = refl

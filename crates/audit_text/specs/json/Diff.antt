@@ -33,15 +33,15 @@ side_json name side =
     (member (codes "only") (array (items_of (map found_json side.only))) no_members)))
 
 -- The PCR; `null` for those above 23.
-unfoldable pub register_json : ℕ → Data
-register_json pcr = if pcr == 24 then null else number (unsigned pcr)
+unfoldable pub pcr_number : ℕ → Data
+pcr_number pcr = if pcr == 24 then null else number (unsigned pcr)
 
 -- The object of a PCR, and the lines of all.
 unfoldable pub pcr_json : List ℕ → List ℕ → Difference → Data
 pcr_json old_name new_name difference =
     object (member (codes "new") (side_json new_name difference.new)
     (member (codes "old") (side_json old_name difference.old)
-    (member (codes "pcr") (register_json difference.pcr) no_members)))
+    (member (codes "pcr") (pcr_number difference.pcr) no_members)))
 
 abbrev pub pcr_json_line : List ℕ → List ℕ → Difference → List ℕ
 pcr_json_line old_name new_name difference = line_of (pcr_json old_name new_name difference) ++ codes "\n"

@@ -18,28 +18,28 @@ use Rattle.uefi_audits.specs.Numbered.{numbered}
 use Rattle.audit_text.specs.words.Faults.{fault_text}
 
 -- A PCR: its value in hex, or `null` if it's undetermined.
-unfoldable pub register_json : Outcome → Data
-register_json (Ok value) = string (encode_lower value)
-register_json (Err at) = null
+unfoldable pub outcome_json : Outcome → Data
+outcome_json (Ok value) = string (encode_lower value)
+outcome_json (Err at) = null
 
 -- The event by which a PCR is undetermined.
 unfoldable pub undetermined_json : ℕ → Undetermined → Data
-undetermined_json register at =
+undetermined_json pcr at =
     object (member (codes "index") (number (unsigned at.index))
     (member (codes "offset") (number (unsigned at.offset))
-    (member (codes "pcr") (number (unsigned register))
+    (member (codes "pcr") (number (unsigned pcr))
     (member (codes "reason") (string (fault_text at.fault)) no_members))))
 
 -- Nothing for a PCR with a value.
 unfoldable pub if_undetermined : ℕ → Outcome → List Data
-if_undetermined register (Ok value) = []
-if_undetermined register (Err at) = undetermined_json register at ∷ []
+if_undetermined pcr (Ok value) = []
+if_undetermined pcr (Err at) = undetermined_json pcr at ∷ []
 
 -- A bank: the name of its algorithm, its PCRs, and the events by which some are undetermined.
 unfoldable pub bank_json : BankOutcomes → Data
 bank_json bank =
     object (member (codes "algorithm") (string (bank_name bank.bank))
-    (member (codes "pcrs") (array (items_of (map register_json bank.outcomes)))
+    (member (codes "pcrs") (array (items_of (map outcome_json bank.outcomes)))
     (member (codes "undetermined") (array (items_of (numbered if_undetermined 0 bank.outcomes))) no_members)))
 
 -- The banks of a log; `null` if it is refused.

@@ -4,7 +4,7 @@ ghost use Rattle.serde_json.specs.Data.{string};
 ghost use Rattle.serde_json.specs.View.{view};
 ghost use Rattle.pcr_replay.specs.Views.{outcome_of, outcomes_of};
 ghost use Rattle.uefi_audits.specs.Replay.{bank_outcomes_of};
-ghost use Rattle.audit_text.specs.json.Replay.{bank_json, banks_json, if_undetermined, register_json, undetermined_json};
+ghost use Rattle.audit_text.specs.json.Replay.{bank_json, banks_json, if_undetermined, outcome_json, undetermined_json};
 ghost use Rattle.uefi_audits.specs.Numbered.{numbered};
 
 use crate::json::event::hex_json;
@@ -48,33 +48,33 @@ fn bank_json(alloc: Global, bank: &BankPcrs) -> Result<Value, AllocError>
     let mut members = Map::new(alloc);
     let name = Value::try_from_str(alloc, bank_name(bank.bank))?;
     put(&mut members, alloc, "algorithm", name)?;
-    let registers = Value::Array(registers_json(alloc, &bank.pcrs)?);
-    put(&mut members, alloc, "pcrs", registers)?;
+    let outcomes = Value::Array(outcomes_json(alloc, &bank.pcrs)?);
+    put(&mut members, alloc, "pcrs", outcomes)?;
     let undetermined = Value::Array(all_undetermined(alloc, &bank.pcrs)?);
     put(&mut members, alloc, "undetermined", undetermined)?;
     Ok(Value::Object(members))
 }
 
 /// Returns what each PCR holds.
-fn registers_json(alloc: Global, pcrs: &Pcrs) -> Result<Vec<Value>, AllocError>
+fn outcomes_json(alloc: Global, pcrs: &Pcrs) -> Result<Vec<Value>, AllocError>
     ensures { IfOk result
-        (λ values. map view values.items ≡ map register_json (outcomes_of pcrs.now)) }
+        (λ values. map view values.items ≡ map outcome_json (outcomes_of pcrs.now)) }
 {
     let mut values = Vec::new(alloc);
     for outcome in pcrs.outcomes() {
-        let value = register_json(alloc, outcome)?;
+        let value = outcome_json(alloc, outcome)?;
         values.push(value)?;
     }
     Ok(values)
 }
 
 /// Returns a PCR's value in hex; `null` if it is undetermined.
-#[tactic(auto, unfolding(crate::specs::json::Replay::register_json))]
-fn register_json(
+#[tactic(auto, unfolding(crate::specs::json::Replay::outcome_json))]
+fn outcome_json(
     alloc: Global,
     outcome: &Result<PcrValue, Undetermined>,
 ) -> Result<Value, AllocError>
-    ensures { IfOk result (λ value. view value ≡ register_json (outcome_of outcome.now)) }
+    ensures { IfOk result (λ value. view value ≡ outcome_json (outcome_of outcome.now)) }
 {
     match outcome {
         Ok(value) => hex_json(alloc, value.as_bytes()),
@@ -89,8 +89,8 @@ fn all_undetermined(alloc: Global, pcrs: &Pcrs) -> Result<Vec<Value>, AllocError
 {
     let outcomes = pcrs.outcomes();
     let mut values = Vec::new(alloc);
-    for register in 0..outcomes.len() {
-        push_if_undetermined(&mut values, alloc, register, &outcomes[register])?;
+    for pcr in 0..outcomes.len() {
+        push_if_undetermined(&mut values, alloc, pcr, &outcomes[pcr])?;
     }
     Ok(values)
 }
@@ -100,16 +100,16 @@ fn all_undetermined(alloc: Global, pcrs: &Pcrs) -> Result<Vec<Value>, AllocError
 fn push_if_undetermined(
     values: &mut Vec<Value>,
     alloc: Global,
-    register: usize,
+    pcr: usize,
     outcome: &Result<PcrValue, Undetermined>,
 ) -> Result<(), AllocError>
     ensures { OnOk result (map view values.new.items
-        ≡ map view values.old.items ++ if_undetermined register (outcome_of outcome.now)) }
+        ≡ map view values.old.items ++ if_undetermined pcr (outcome_of outcome.now)) }
 {
     match outcome {
         Ok(_) => Ok(()),
         Err(at) => {
-            let value = undetermined_json(alloc, register, at)?;
+            let value = undetermined_json(alloc, pcr, at)?;
             values.push(value)?;
             Ok(())
         }
@@ -118,15 +118,15 @@ fn push_if_undetermined(
 
 /// Returns the event by which a PCR is undetermined: its index, its offset, and why.
 #[tactic(auto, unfolding(crate::specs::json::Replay::undetermined_json))]
-fn undetermined_json(alloc: Global, register: usize, at: &Undetermined) -> Result<Value, AllocError>
-    ensures { IfOk result (λ value. view value ≡ undetermined_json register at.now) }
+fn undetermined_json(alloc: Global, pcr: usize, at: &Undetermined) -> Result<Value, AllocError>
+    ensures { IfOk result (λ value. view value ≡ undetermined_json pcr at.now) }
 {
     let (index, offset) = (at.index, at.offset);
     let reason = fault_text(at.fault);
     json!(in alloc; {
         "index": index,
         "offset": offset,
-        "pcr": register,
+        "pcr": pcr,
         "reason": reason
     })
 }

@@ -97,8 +97,8 @@ fn mismatch_json(alloc: Global, log: &str, mismatch: &Mismatch<'_>) -> Result<Va
     put(&mut members, alloc, "log", log)?;
     put(&mut members, alloc, "matches", Value::Bool(false))?;
     put(&mut members, alloc, "offset", Value::from(entry.offset))?;
-    let register = entry.event.pcr_index().0;
-    put(&mut members, alloc, "pcr", Value::from(register))?;
+    let pcr = entry.event.pcr_index().0;
+    put(&mut members, alloc, "pcr", Value::from(pcr))?;
     let event_type = type_json(alloc, entry.event.event_type())?;
     put(&mut members, alloc, "type", event_type)?;
     Ok(Value::Object(members))

@@ -3,7 +3,7 @@ ghost use Rattle.serde_json.specs.View.{view};
 ghost use Rattle.uefi_base.specs.Appending.{AppendsText};
 ghost use Rattle.audit_text.specs.words.Said.{said};
 ghost use Rattle.uefi_audits.specs.content.Views.{content_of};
-ghost use Rattle.audit_text.specs.json.Diff.{difference_json_lines, first_json, found_json, pcr_json, pcr_json_line, register_json, says_json, side_json};
+ghost use Rattle.audit_text.specs.json.Diff.{difference_json_lines, first_json, found_json, pcr_json, pcr_json_line, pcr_number, says_json, side_json};
 ghost use Rattle.uefi_audits.specs.diff.Views.{difference_of, numbered_of, side_of};
 
 use crate::json::{line_of, type_json};
@@ -87,14 +87,14 @@ fn pcr_json(
     put(&mut members, alloc, "new", new)?;
     let old = side_json(alloc, old_name, &difference.old)?;
     put(&mut members, alloc, "old", old)?;
-    put(&mut members, alloc, "pcr", register_json(difference.pcr))?;
+    put(&mut members, alloc, "pcr", pcr_number(difference.pcr))?;
     Ok(Value::Object(members))
 }
 
 /// Returns the index of a PCR; `null` for those above 23.
-#[tactic(auto, unfolding(crate::specs::json::Diff::register_json))]
-fn register_json(pcr: u32) -> Value
-    ensures { view result ≡ register_json pcr }
+#[tactic(auto, unfolding(crate::specs::json::Diff::pcr_number))]
+fn pcr_number(pcr: u32) -> Value
+    ensures { view result ≡ pcr_number pcr }
 {
     if pcr == ABOVE {
         return Value::Null;
@@ -156,8 +156,8 @@ fn found_json(alloc: Global, found: &NumberedEntry<'_>) -> Result<Value, AllocEr
         "offset",
         Value::from(found.entry.offset),
     )?;
-    let register = event.pcr_index().0;
-    put(&mut members, alloc, "pcr", Value::from(register))?;
+    let pcr = event.pcr_index().0;
+    put(&mut members, alloc, "pcr", Value::from(pcr))?;
     let says = says_json(alloc, &found.content)?;
     put(&mut members, alloc, "says", says)?;
     let event_type = type_json(alloc, event.event_type())?;

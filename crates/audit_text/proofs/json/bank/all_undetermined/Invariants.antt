@@ -6,7 +6,7 @@ use Rattle.uefi_audits.specs.Numbered.{numbered}
 use Rattle.audit_text.proofs.json.bank.all_undetermined.Given as goal
 
 -- The values so far and those of the PCRs to come are the values of all.
-abbrev pub invariant-loop-register : goal.invariant-loop-register
-invariant-loop-register l =
-    map view l.values.items ++ numbered if_undetermined l.register (drop l.register (outcomes_of l.pcrs))
+abbrev pub invariant-loop-pcr : goal.invariant-loop-pcr
+invariant-loop-pcr l =
+    map view l.values.items ++ numbered if_undetermined l.pcr (drop l.pcr (outcomes_of l.pcrs))
     ≡ numbered if_undetermined 0 (outcomes_of l.pcrs)
