@@ -5,3 +5,4 @@ pub mod NoFloatsInVerdict
 pub mod NoFloatsInDiff
 pub mod Controls
 pub mod NoFloatsInCheck
+pub mod Plain

@@ -1,6 +1,7 @@
 pub mod Pcrs
 pub mod Undetermined
 pub mod Trailing
+pub mod HeaderFault
 pub mod Judgement
 pub mod Remarks
 pub mod Agreement

@@ -7,5 +7,7 @@ pub mod Path
 pub mod Said
 pub mod Types
 pub mod Forms
+pub mod Printed
 pub mod Signatures
+pub mod Tags
 pub mod Events

@@ -6,8 +6,8 @@
 //! held. [`push_differences`] appends how the events of two logs differ, [`push_event_blocks`] those of
 //! one, and [`push_check`] what was checked of them.
 //!
-//! The other calls append lines for standard error: [`push_judgement`] why a log can't be judged and
-//! the bytes that follow its last event, [`push_start`] the locality that is assumed,
+//! The other calls append lines for standard error: [`push_header_fault`] why a log has no header,
+//! [`push_judgement`] why it can't be judged and the bytes that follow its last event, [`push_start`] the locality that is assumed,
 //! [`push_inactive`] and [`push_unsupported`] the banks that weren't replayed, [`push_undetermined`]
 //! the events by which PCRs are undetermined, [`push_ignored`] those that have no effect and should
 //! have, [`push_uncompared`] the PCRs that events extend and that weren't compared, and
@@ -18,6 +18,7 @@ pub use self::banks::{push_bank, push_banks};
 pub use self::check::push_check;
 pub use self::diff::push_differences;
 pub use self::events::{push_event_blocks, push_header_block};
+pub use self::header_fault::push_header_fault;
 pub use self::ignored::push_ignored;
 pub use self::judgement::{push_judgement, push_many_algorithms};
 pub use self::missing::push_missing;
@@ -33,6 +34,7 @@ mod banks;
 mod check;
 mod diff;
 mod events;
+mod header_fault;
 mod ignored;
 mod judgement;
 mod missing;

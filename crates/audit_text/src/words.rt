@@ -1,7 +1,7 @@
 //! Words that text and JSON share.
 //!
 //! [`push_said`] appends in a few words what the data of an event say. A [`ShownName`] displays a
-//! name so that nothing in it is hidden. [`fault_text`] is what is wrong with an event by which a
+//! name so that nothing in it is hidden, and [`ShownBytes`] one that isn't UTF-8. [`fault_text`] is what is wrong with an event by which a
 //! PCR is undetermined, and [`push_number`] appends the number of an algorithm.
 
 pub use self::faults::fault_text;
@@ -9,8 +9,8 @@ pub(crate) use self::forms::form_name;
 pub use self::numbers::push_number;
 pub(crate) use self::path::path_text;
 pub use self::said::push_said;
-pub use self::shown::ShownName;
 pub(crate) use self::shown::is_control;
+pub use self::shown::{ShownBytes, ShownName};
 pub(crate) use self::types::push_type;
 
 mod faults;
@@ -18,8 +18,10 @@ mod forms;
 pub(crate) mod names;
 mod numbers;
 mod path;
+pub(crate) mod printed;
 mod said;
 mod shown;
 pub(crate) mod signatures;
+pub(crate) mod tags;
 pub(crate) mod texts;
 mod types;

@@ -9,6 +9,7 @@ use Rattle.uefi_audits.specs.LogReplay.{IsReplayOf, is_undetermined}
 use Rattle.uefi_audits.specs.Replay.{bank_outcomes_of}
 use Rattle.uefi_audits.specs.declared.facts.LogFacts.{LogFacts}
 use Rattle.uefi_audits.specs.declared.log_replay.LogReplay.{LogReplay}
+use Rattle.uefi_audits.specs.declared.start.KnownStart.{KnownStart}
 use Rattle.audit_text.specs.json.Replay.{replay_line}
 use Rattle.audit_text.specs.text.Pcrs.{bank_lines}
 use Rattle.audit_text.specs.text.Remarks.{ignored_line, inactive_line, start_lines, unsupported_line}
@@ -24,10 +25,14 @@ use Rattle.uefi_audit.specs.declared.replay.Asked.{Asked}
 use Rattle.uefi_audit.specs.declared.request.Format.{Format}
 use Rattle.uefi_audit.specs.declared.request.Format.TheVariants.{Text, Json}
 
+-- The locality that is assumed; of many logs it is said once.
+unfoldable pub assumed_lines : Bool → List ℕ → KnownStart → List ℕ
+assumed_lines is_one_of_many name start = if is_one_of_many then [] else start_lines name start
+
 -- The messages on a replay: the locality that is assumed, the banks that weren't replayed, the PCRs that are undetermined, and the events without effect.
-abbrev pub replay_messages : List ℕ → LogFacts → LogReplay → List ℕ
-replay_messages name facts replay =
-    start_lines name facts.start ++ (flat_map (inactive_line name) replay.inactive.items
+abbrev pub replay_messages : List ℕ → LogFacts → LogReplay → Bool → List ℕ
+replay_messages name facts replay is_one_of_many =
+    assumed_lines is_one_of_many name facts.start ++ (flat_map (inactive_line name) replay.inactive.items
     ++ (unsupported_line name replay.unsupported.items
     ++ (flat_map (undetermined_lines name) (map bank_outcomes_of replay.banks.items)
     ++ flat_map (ignored_line name) replay.ignored.items)))
@@ -55,7 +60,7 @@ replay_status replay =
 -- What is printed of a replay, after these messages.
 abbrev pub replayed : List ℕ → List ℕ → Asked → LogFacts → LogReplay → Printed
 replayed before name asked facts replay = record {
-  messages = before ++ replay_messages name facts replay;
+  messages = before ++ replay_messages name facts replay asked.is_one_of_many;
   text = replay_text asked.format asked.is_one_of_many name facts replay;
   status = replay_status replay;
 }

@@ -8,6 +8,7 @@ use Rattle.uefi_audits.specs.LogReplay.{inactive_banks}
 use Rattle.uefi_audits.specs.verify.Banks.{held_banks}
 use Rattle.uefi_audits.specs.verify.Missing.{missing_pcrs}
 use Rattle.uefi_audits.specs.verify.Selection.{is_selected}
+use Rattle.uefi_audits.specs.verify.Uncompared.{uncompared_pcrs}
 use Rattle.uefi_audits.specs.verify.Verdict.{Comparison, is_agreement, verdict_of}
 use Rattle.uefi_audits.specs.declared.ignored.IgnoredEvent.{IgnoredEvent}
 use Rattle.uefi_audits.specs.declared.judgement.Judgement.{Judgement}
@@ -16,7 +17,7 @@ use Rattle.uefi_audits.specs.declared.verify.held.HeldPcr.{HeldPcr}
 use Rattle.uefi_audits.specs.declared.verify.missing.MissingPcr.{MissingPcr}
 use Rattle.audit_text.specs.json.Verdict.{verdict_line}
 use Rattle.audit_text.specs.text.Missing.{missing_lines}
-use Rattle.audit_text.specs.text.Remarks.{ignored_line, inactive_line, start_lines}
+use Rattle.audit_text.specs.text.Remarks.{ignored_line, inactive_line, start_lines, uncompared_line}
 use Rattle.audit_text.specs.text.Verdict.{verdict_lines}
 use Rattle.uefi_audit.specs.Judged.{judgement_messages}
 use Rattle.uefi_audit.specs.Printed.{Printed, unjudged}
@@ -40,12 +41,13 @@ verdict_status comparison ignored =
     else if has_no_pcr ignored || not (is_agreement comparison) then Differs
     else Well
 
--- What standard error has of a verdict: the locality that is assumed, the held banks that no event has a digest of, and the events without effect.
+-- What standard error has of a verdict: the locality that is assumed, the held banks that no event has a digest of, the events without effect, and the PCRs that events extend and that aren't compared.
 abbrev pub verdict_messages : LogFile → List HeldPcr → Comparison → List ℕ
 verdict_messages file held comparison =
     start_lines file.name.now comparison.start
     ++ flat_map (inactive_line file.name.now) (inactive_banks (entries_in file.read) (held_banks held))
     ++ flat_map (ignored_line file.name.now) (ignored_events (entries_in file.read))
+    ++ uncompared_line file.name.now (uncompared_pcrs (entries_in file.read) held)
 
 -- After these messages, what is printed of the verdict on PCRs.
 abbrev pub with_verdict : List ℕ → LogFile → Verification → List HeldPcr → Comparison → Printed

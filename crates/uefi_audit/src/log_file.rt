@@ -1,5 +1,7 @@
 ghost use Rattle.std.specs.Prelude.{◌≡◌, ◌++◌, string_bytes, IfOk};
+ghost use Rattle.pcr_replay.specs.ReadLogs.{entries_in};
 ghost use Rattle.uefi_audits.specs.Judgement.{judgement_of};
+ghost use Rattle.uefi_audits.specs.Start.{known_start};
 ghost use Rattle.audit_text.specs.text.Judgement.{many_line};
 ghost use Rattle.uefi_audit.specs.Judged.{judged_status, judgement_messages};
 ghost use Rattle.uefi_audit.specs.Opened.{IsOpened};
@@ -8,10 +10,12 @@ ghost use Rattle.uefi_audit.specs.Printed.{printed_of, unjudged};
 use crate::failure::Status;
 use crate::report::Report;
 use crate::request::Reading;
-use audit_text::text::{push_judgement, push_many_algorithms};
+use audit_text::text::{push_header_fault, push_judgement, push_many_algorithms};
 use pcr_replay::{ReadLog, ReadLogError};
 use std::alloc::{AllocError, Global};
+use uefi_audits::header_fault::header_fault;
 use uefi_audits::judgement::Judgement;
+use uefi_audits::start::KnownStart;
 use uefi_audits::trailing::Trailing;
 use uefi_tcg::Log;
 
@@ -22,6 +26,15 @@ pub(crate) struct LogFile<'a> {
     pub name: &'a str,
     /// The log.
     pub read: ReadLog<'a>,
+}
+
+impl LogFile<'_> {
+    /// Returns whether the log or the caller states the locality at which the TPM was started.
+    pub(crate) fn is_locality_stated(&self, locality: Option<u8>) -> bool
+        ensures { result ≡ (known_start locality (entries_in self.now.read)).is_stated }
+    {
+        KnownStart::of(self.read.entries(), locality).is_stated
+    }
 }
 
 /// A log that was read, or what is printed of one that wasn't.
@@ -86,6 +99,7 @@ pub(crate) fn judge(
 {
     let judgement = Judgement::of(&file.read, allow_left_over);
     let mut messages = String::new(alloc);
+    push_header_fault(&mut messages, file.name, header_fault(&file.read))?;
     push_judgement(
         &mut messages,
         file.name,

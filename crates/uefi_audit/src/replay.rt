@@ -3,7 +3,7 @@ ghost use Rattle.uefi_base.specs.Appending.{AppendsText};
 ghost use Rattle.pcr_replay.specs.ReadLogs.{entries_in};
 ghost use Rattle.uefi_audits.specs.Ignored.{has_no_pcr};
 ghost use Rattle.uefi_audit.specs.Printed.{printed_of};
-ghost use Rattle.uefi_audit.specs.ReplayReport.{IsReplayBy, IsReplayReport, IsReplayed, name_line, pcrs_text, refused, refused_text, replay_messages, replay_status, replay_text};
+ghost use Rattle.uefi_audit.specs.ReplayReport.{IsReplayBy, IsReplayReport, IsReplayed, assumed_lines, name_line, pcrs_text, refused, refused_text, replay_messages, replay_status, replay_text};
 
 use crate::failure::Status;
 use crate::log_file::{LogFile, judge, judged_status};
@@ -19,6 +19,7 @@ use std::alloc::{AllocError, Global};
 use uefi_audits::facts::LogFacts;
 use uefi_audits::ignored::IgnoredEvent;
 use uefi_audits::log_replay::LogReplay;
+use uefi_audits::start::KnownStart;
 
 /// What `replay` asks for.
 #[derive(Clone, Copy)]
@@ -113,7 +114,13 @@ fn replayed(
 {
     let replay = LogReplay::of(alloc, file.read.entries(), facts, asked.bank)?;
     let mut messages = messages;
-    push_messages(&mut messages, file.name, facts, &replay)?;
+    push_messages(
+        &mut messages,
+        file.name,
+        facts,
+        &replay,
+        asked.is_one_of_many,
+    )?;
     let text = replay_text(alloc, file.name, facts, &replay, asked)?;
     let status = status_of(&replay);
     Ok(Report {
@@ -146,22 +153,40 @@ fn replay_text(
     Ok(text)
 }
 
-/// Appends the messages on a replay: the locality that is assumed, the banks that weren't replayed, the
-/// PCRs that are undetermined, and the events without effect.
+/// Appends the messages on a replay: the locality that is assumed, unless the log is one of many, the
+/// banks that weren't replayed, the PCRs that are undetermined, and the events without effect.
 fn push_messages(
     messages: &mut String,
     name: &str,
     facts: &LogFacts,
     replay: &LogReplay,
+    is_one_of_many: bool,
 ) -> Result<(), AllocError>
     ensures { OnOk result (AppendsText messages.old messages.new
-        (replay_messages name.now facts.now replay.now)) }
+        (replay_messages name.now facts.now replay.now is_one_of_many)) }
 {
-    push_start(messages, name, &facts.start)?;
+    push_assumed(messages, name, &facts.start, is_one_of_many)?;
     push_inactive(messages, name, replay.inactive.as_slice())?;
     push_unsupported(messages, name, replay.unsupported.as_slice())?;
     push_undetermined(messages, name, replay.banks.as_slice())?;
     push_ignored(messages, name, replay.ignored.as_slice())
+}
+
+/// Appends the locality that is assumed, unless the log is one of many: then it is said once of all.
+#[tactic(auto, unfolding(crate::specs::ReplayReport::assumed_lines))]
+fn push_assumed(
+    messages: &mut String,
+    name: &str,
+    start: &KnownStart,
+    is_one_of_many: bool,
+) -> Result<(), AllocError>
+    ensures { OnOk result (AppendsText messages.old messages.new
+        (assumed_lines is_one_of_many name.now start.now)) }
+{
+    if is_one_of_many {
+        return Ok(());
+    }
+    push_start(messages, name, start)
 }
 
 /// Appends PCRs as text, after the log's name if it is one of many.

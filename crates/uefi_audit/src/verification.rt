@@ -1,6 +1,12 @@
-ghost use Rattle.std.specs.Prelude.{◌≡◌, string_bytes, IfOk};
+ghost use Rattle.std.specs.Prelude.{◌≡◌, flat_map, string_bytes, IfOk, OnOk};
+ghost use Rattle.uefi_base.specs.Appending.{AppendsText};
+ghost use Rattle.pcr_replay.specs.ReadLogs.{entries_in};
+ghost use Rattle.uefi_audits.specs.LogReplay.{inactive_banks};
+ghost use Rattle.uefi_audits.specs.verify.Banks.{held_banks};
 ghost use Rattle.uefi_audits.specs.verify.Missing.{missing_pcrs};
+ghost use Rattle.uefi_audits.specs.verify.Uncompared.{uncompared_pcrs};
 ghost use Rattle.uefi_audits.specs.verify.Verdict.{comparison_of};
+ghost use Rattle.audit_text.specs.text.Remarks.{inactive_line, uncompared_line};
 ghost use Rattle.uefi_audit.specs.Opened.{IsReportOf};
 ghost use Rattle.uefi_audit.specs.Printed.{printed_of};
 ghost use Rattle.uefi_audit.specs.Verification.{by_judgement, compared, unless_missing, verdict_status, verdict_text, verification};
@@ -11,13 +17,15 @@ use crate::replay::has_no_pcr;
 use crate::report::Report;
 use crate::request::{Format, Reading, Verification};
 use audit_text::json::push_verdict_json;
-use audit_text::text::{push_ignored, push_inactive, push_missing, push_start, push_verdict};
+use audit_text::text::{
+    push_ignored, push_inactive, push_missing, push_start, push_uncompared, push_verdict,
+};
 use std::alloc::{AllocError, Global};
 use uefi_audits::ignored::{IgnoredEvent, ignored_events};
 use uefi_audits::judgement::Judgement;
 use uefi_audits::log_replay::inactive_banks;
 use uefi_audits::verify::{
-    HeldPcr, PcrSelection, Verdict, held_banks, missing_pcrs, selected_pcrs,
+    HeldPcr, PcrSelection, Verdict, held_banks, missing_pcrs, selected_pcrs, uncompared_pcrs,
 };
 
 /// The PCRs that a TPM is said to have held, and which of them are asked for.
@@ -111,17 +119,46 @@ fn verdict_report(
     let mut messages = messages;
     let entries = file.read.entries();
     let verdict = Verdict::new(alloc, entries, held, asked.locality)?;
-    let banks = held_banks(alloc, held)?;
-    let inactive = inactive_banks(alloc, entries, banks.as_slice())?;
     let ignored = ignored_events(alloc, entries)?;
     push_start(&mut messages, file.name, &verdict.start)?;
-    push_inactive(&mut messages, file.name, inactive.as_slice())?;
+    push_inactive_banks(&mut messages, alloc, file, held)?;
     push_ignored(&mut messages, file.name, ignored.as_slice())?;
+    push_uncompared_pcrs(&mut messages, alloc, file, held)?;
     Ok(Report {
         text: verdict_text(alloc, file.name, held, &verdict, asked.format)?,
         messages,
         status: status_of(&verdict, ignored.as_slice()),
     })
+}
+
+/// Appends the held banks that no event has a digest of.
+fn push_inactive_banks(
+    messages: &mut String,
+    alloc: Global,
+    file: &LogFile<'_>,
+    held: &[HeldPcr],
+) -> Result<(), AllocError>
+    ensures { OnOk result (AppendsText messages.old messages.new (flat_map
+        (inactive_line file.now.name.now)
+        (inactive_banks (entries_in file.now.read) (held_banks held.now)))) }
+{
+    let banks = held_banks(alloc, held)?;
+    let inactive = inactive_banks(alloc, file.read.entries(), banks.as_slice())?;
+    push_inactive(messages, file.name, inactive.as_slice())
+}
+
+/// Appends the PCRs that events extend and that aren't compared.
+fn push_uncompared_pcrs(
+    messages: &mut String,
+    alloc: Global,
+    file: &LogFile<'_>,
+    held: &[HeldPcr],
+) -> Result<(), AllocError>
+    ensures { OnOk result (AppendsText messages.old messages.new (uncompared_line
+        file.now.name.now (uncompared_pcrs (entries_in file.now.read) held.now))) }
+{
+    let uncompared = uncompared_pcrs(alloc, file.read.entries(), held)?;
+    push_uncompared(messages, file.name, uncompared.as_slice())
 }
 
 /// Returns a verdict in a format.

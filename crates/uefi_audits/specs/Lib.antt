@@ -9,6 +9,7 @@ pub mod diff
 pub mod Check
 pub mod Trailing
 pub mod Judgement
+pub mod HeaderFault
 pub mod Numbered
 pub mod Ignored
 pub mod Start

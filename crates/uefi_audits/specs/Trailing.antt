@@ -14,5 +14,5 @@ trailing_of read = record {
 }
 
 -- A log is empty: it ends where it begins, and no byte follows.
-abbrev pub is_of_empty : Trailing → Bool
-is_of_empty trailing = (trailing.offset == 0) && (trailing.padding == 0) && (trailing.left_over == 0)
+abbrev pub is_of_empty_log : Trailing → Bool
+is_of_empty_log trailing = (trailing.offset == 0) && (trailing.padding == 0) && (trailing.left_over == 0)

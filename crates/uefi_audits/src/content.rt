@@ -9,7 +9,7 @@ ghost use Rattle.pcr_replay.specs.Start.{locality_in};
 ghost use Rattle.uefi_tcg.specs.LogViews.{event_of};
 ghost use Rattle.uefi_tcg.specs.declared.uintn_size.UintnSize.{UintnSize};
 ghost use Rattle.uefi_tcg.specs.v2.Views.{header_of};
-ghost use Rattle.uefi_audits.specs.content.Content.{BlobContent, ImageContent, NoActionContent, PostCodeContent, Says, are_printed, form_of, is_printed, separator_content, text_content};
+ghost use Rattle.uefi_audits.specs.content.Content.{BlobContent, ImageContent, NoActionContent, PostCodeContent, Says, are_printed, form_of, is_printed, label_content, separator_content, text_content};
 ghost use Rattle.uefi_audits.specs.content.Content.{OfCrtmVersion, OfDescribedBlob, OfGpt, OfImage, OfLoaderText};
 ghost use Rattle.uefi_audits.specs.content.Header.{ReadsHeader};
 ghost use Rattle.uefi_audits.specs.content.Views.{content_of};
@@ -102,7 +102,7 @@ pub fn read_content<'a>(event: &LogEvent<'a>, uintn_size: UintnSize) -> EventCon
         EventType::EFI_GPT_EVENT | EventType::EFI_GPT_EVENT2 => gpt_content(bytes, uintn_size),
         EventType::EFI_PLATFORM_FIRMWARE_BLOB => blob_content(bytes),
         EventType::EFI_VARIABLE_AUTHORITY => authority_content(bytes),
-        _ => EventContent::Unread,
+        _ => label_content(bytes),
     }
 }
 
@@ -153,6 +153,16 @@ fn text_content(bytes: &[u8]) -> EventContent<'_>
     } else {
         EventContent::Unread
     }
+}
+
+/// Returns the text that data of another type are, such as `ACPI DATA`, unless there are none.
+fn label_content(bytes: &[u8]) -> EventContent<'_>
+    ensures { content_of result ≡ label_content bytes.now }
+{
+    if bytes.is_empty() {
+        return EventContent::Unread;
+    }
+    text_content(bytes)
 }
 
 /// Returns the text that data are, or the blob.

@@ -14,6 +14,7 @@ pub mod check;
 pub mod content;
 pub mod diff;
 pub mod facts;
+pub mod header_fault;
 pub mod ignored;
 pub mod judgement;
 pub mod laws;

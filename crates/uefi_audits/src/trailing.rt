@@ -1,7 +1,7 @@
 //! What follows the last event of a log.
 
 ghost use Rattle.std.specs.Prelude.{◌≡◌};
-ghost use Rattle.uefi_audits.specs.Trailing.{is_of_empty, trailing_of};
+ghost use Rattle.uefi_audits.specs.Trailing.{is_of_empty_log, trailing_of};
 
 use pcr_replay::ReadLog;
 
@@ -30,8 +30,8 @@ impl Trailing {
     }
 
     /// Returns whether the log is empty: it ends where it begins, and no byte follows.
-    pub fn is_of_empty(&self) -> bool
-        ensures { result ≡ is_of_empty self.now }
+    pub fn is_of_empty_log(&self) -> bool
+        ensures { result ≡ is_of_empty_log self.now }
     {
         self.offset == 0 && self.padding == 0 && self.left_over == 0
     }

@@ -10,7 +10,7 @@ use uefi_tcg::{EventType, LastEntry, Log, UintnSize};
 /// What the data of a type's events are read as.
 #[derive(Clone, Copy, PartialEq, Eq, Debug)]
 enum Data {
-    Unread,
+    Other,
     PostCode,
     NoAction,
     Separator,
@@ -57,7 +57,7 @@ enum Digests {
 const TYPES: [(EventType, Data, Digests); 39] = [
     (
         EventType::PREBOOT_CERT,
-        Data::Unread,
+        Data::Other,
         Digests::NotInLog("a certificate, which nothing measures any more"),
     ),
     (
@@ -65,11 +65,7 @@ const TYPES: [(EventType, Data, Digests); 39] = [
         Data::PostCode,
         Digests::NotInLog("the firmware's code"),
     ),
-    (
-        EventType::UNUSED,
-        Data::Unread,
-        Digests::NotInLog("nothing"),
-    ),
+    (EventType::UNUSED, Data::Other, Digests::NotInLog("nothing")),
     (
         EventType::NO_ACTION,
         Data::NoAction,
@@ -88,7 +84,7 @@ const TYPES: [(EventType, Data, Digests); 39] = [
     ),
     (
         EventType::CRTM_CONTENTS,
-        Data::Unread,
+        Data::Other,
         Digests::NotInLog("the code of the root of trust"),
     ),
     (
@@ -98,22 +94,22 @@ const TYPES: [(EventType, Data, Digests); 39] = [
     ),
     (
         EventType::CPU_MICROCODE,
-        Data::Unread,
+        Data::Other,
         Digests::NotInLog("the microcode"),
     ),
     (
         EventType::PLATFORM_CONFIG_FLAGS,
-        Data::Unread,
+        Data::Other,
         Digests::Of(&[Form::Data]),
     ),
     (
         EventType::TABLE_OF_DEVICES,
-        Data::Unread,
+        Data::Other,
         Digests::Of(&[Form::Data]),
     ),
     (
         EventType::COMPACT_HASH,
-        Data::Unread,
+        Data::Other,
         Digests::NotInLog("what the caller of the firmware gave"),
     ),
     (
@@ -129,22 +125,22 @@ const TYPES: [(EventType, Data, Digests); 39] = [
     ),
     (
         EventType::IPL_PARTITION_DATA,
-        Data::Unread,
+        Data::Other,
         Digests::NotInLog("the loader's data"),
     ),
     (
         EventType::NONHOST_CODE,
-        Data::Unread,
+        Data::Other,
         Digests::NotInLog("the component's code"),
     ),
     (
         EventType::NONHOST_CONFIG,
-        Data::Unread,
+        Data::Other,
         Digests::NotInLog("the component's configuration"),
     ),
     (
         EventType::NONHOST_INFO,
-        Data::Unread,
+        Data::Other,
         Digests::NotInLog("what the component says"),
     ),
     (
@@ -199,7 +195,7 @@ const TYPES: [(EventType, Data, Digests); 39] = [
     ),
     (
         EventType::EFI_HANDOFF_TABLES,
-        Data::Unread,
+        Data::Other,
         Digests::NotInLog("the tables"),
     ),
     (
@@ -209,7 +205,7 @@ const TYPES: [(EventType, Data, Digests); 39] = [
     ),
     (
         EventType::EFI_HANDOFF_TABLES2,
-        Data::Unread,
+        Data::Other,
         Digests::NotInLog("the tables"),
     ),
     (
@@ -234,22 +230,22 @@ const TYPES: [(EventType, Data, Digests); 39] = [
     ),
     (
         EventType::EFI_SPDM_FIRMWARE_BLOB,
-        Data::Unread,
+        Data::Other,
         Digests::Of(&[Form::Data]),
     ),
     (
         EventType::EFI_SPDM_FIRMWARE_CONFIG,
-        Data::Unread,
+        Data::Other,
         Digests::Of(&[Form::Data]),
     ),
     (
         EventType::EFI_SPDM_DEVICE_POLICY,
-        Data::Unread,
+        Data::Other,
         Digests::Of(&[Form::Data]),
     ),
     (
         EventType::EFI_SPDM_DEVICE_AUTHORITY,
-        Data::Unread,
+        Data::Other,
         Digests::Of(&[Form::Data]),
     ),
 ];
@@ -302,8 +298,8 @@ const PARTITION_TABLE: &str =
 /// Returns data in hex that tell the ways apart in which data are read, each with what they say.
 fn samples(data: Data) -> &'static [(&'static str, Kind)] {
     match data {
-        Data::Unread => &[
-            (PRINTED, Kind::Unread),
+        Data::Other => &[
+            (PRINTED, Kind::Text),
             (UNPRINTED, Kind::Unread),
             (FOUR_BYTES, Kind::Unread),
             (LOCALITY, Kind::Unread),
@@ -311,6 +307,7 @@ fn samples(data: Data) -> &'static [(&'static str, Kind)] {
             (VARIABLE, Kind::Unread),
             (IMAGE, Kind::Unread),
             (PARTITION_TABLE, Kind::Unread),
+            ("", Kind::Unread),
         ],
         Data::PostCode => &[(PRINTED, Kind::Text), (UNPRINTED, Kind::Blob)],
         Data::NoAction => &[(LOCALITY, Kind::Locality), (FOUR_BYTES, Kind::Unread)],
@@ -403,7 +400,7 @@ const OTHERS: [u32; 4] = [0x14, 0x8000_0000, 0x8000_000e, 0xffff_ffff];
 fn other_numbers_have_no_forms(rt: HostRuntime) -> Result<(), Fail> {
     for number in &OTHERS {
         let event_type = EventType(*number);
-        for (sample, kind) in samples(Data::Unread) {
+        for (sample, kind) in samples(Data::Other) {
             same("data", &read_as(rt.alloc(), event_type, sample)?, kind)?;
         }
         holds("digests", forms_of(event_type).is_empty())?;

@@ -7,6 +7,7 @@ mod missing;
 mod nearest;
 mod reading;
 mod selection;
+mod uncompared;
 mod verdict;
 
 /// Checks the text that a function gives for the text of each row.

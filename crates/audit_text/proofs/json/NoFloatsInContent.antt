@@ -16,10 +16,12 @@ use Rattle.uefi_audits.specs.content.Content.{Content, unread, text, separator, 
 use Rattle.uefi_audits.specs.content.Content.{crtm_version, blob, described_blob, tagged, gpt, variable, image}
 use Rattle.uefi_audits.specs.content.Value as values
 use Rattle.audit_text.specs.json.Content.{content_json, image_json}
-use Rattle.audit_text.specs.json.Firmware.{blob_json, described_json, gpt_json, header_json, partition_json, size_json, tagged_events_json, tagged_json}
+use Rattle.audit_text.specs.json.Firmware.{blob_json, described_json, gpt_json, header_json, partition_json, size_json, tagged_events_json, tagged_json, with_name}
 use Rattle.audit_text.specs.json.Algorithm.{algorithm_json, name_or_number}
 use Rattle.audit_text.specs.words.Names.{algorithm_name}
-use Rattle.audit_text.specs.json.Parts.{node_json, nodes_json, path_json, with_rest, with_text}
+use Rattle.audit_text.specs.json.Parts.{node_json, nodes_json, path_json, with_printed, with_rest, with_text}
+use Rattle.audit_text.specs.words.Printed.{printed_text}
+use Rattle.audit_text.specs.words.Tags.{tag_name}
 use Rattle.audit_text.specs.words.Signatures.{longest_hash}
 use Rattle.audit_text.specs.json.Values.{boot_option_json, certificate_json, hash_json, list_json, number_json, signature_json, value_json, variable_json, with_value}
 
@@ -68,9 +70,24 @@ image_has read found =
     (path read.device_path found)
 
 -- Values of variables.
+abbrev boot_option_members : ℕ → List ℕ → List ℕ → Data → List ℕ → Members
+boot_option_members n description bytes path shown =
+    member (codes "attributes") (number (unsigned n))
+    (member (codes "description") (string description)
+    (member (codes "optional_data") (string bytes)
+    (member (codes "path") path
+    (member (codes "text") (string shown) no_members))))
+
+with_optional_text : (text : Option (List ℕ)) (n : ℕ) (description bytes shown : List ℕ) (path : Data) → has_float path ≡ false
+    → has_float (object (with_printed (codes "optional_text") text (boot_option_members n description bytes path shown))) ≡ false
+with_optional_text (Some said) n description bytes shown nodes none = rw none refl
+with_optional_text None n description bytes shown nodes none = rw none refl
+
 boot_option_has : (option : LoadOption) → has_float (boot_option_json option) ≡ false
 unfolding boot_option_json
-boot_option_has option = rw (nodes option.file_path) refl
+boot_option_has option =
+    with_optional_text (printed_text option.optional_data) option.attributes _ _ _ (nodes_json option.file_path)
+    (nodes option.file_path)
 
 numbers : (ns : List ℕ) → items_have_float (items_of (map number_json ns)) ≡ false
 numbers [] = refl
@@ -110,23 +127,36 @@ abbrev variable_members : List ℕ → List ℕ → List ℕ → Members
 variable_members payload guid name =
     member (codes "data") (string payload) (member (codes "guid") (string guid) (member (codes "name") (string name) no_members))
 
-with_its_value : (value : values.Value) (payload guid name : List ℕ)
-    → has_float (object (with_value (value_json value) (variable_members payload guid name))) ≡ false
-with_its_value values.unread payload guid name = refl
-with_its_value (values.boot_option option) payload guid name = rw (boot_option_has option) refl
-with_its_value (values.boot_order ns) payload guid name = rw (numbers ns) refl
-with_its_value (values.signature_lists them) payload guid name = rw (lists them) refl
-with_its_value (values.signature read) payload guid name = rw (signature_has read) refl
+with_its_text : (text : Option (List ℕ)) (payload guid name : List ℕ)
+    → has_float (object (with_printed (codes "text") text (variable_members payload guid name))) ≡ false
+with_its_text (Some said) payload guid name = refl
+with_its_text None payload guid name = refl
+
+with_its_value : (value : values.Value) (bytes payload guid name : List ℕ)
+    → has_float (object (with_value (value_json value) bytes (variable_members payload guid name))) ≡ false
+with_its_value values.unread bytes payload guid name = with_its_text (printed_text bytes) payload guid name
+with_its_value (values.boot_option option) bytes payload guid name = rw (boot_option_has option) refl
+with_its_value (values.boot_order ns) bytes payload guid name = rw (numbers ns) refl
+with_its_value (values.signature_lists them) bytes payload guid name = rw (lists them) refl
+with_its_value (values.signature read) bytes payload guid name = rw (signature_has read) refl
 
 variable_has : (read : Variable) (value : values.Value) → has_float (variable_json read (value_json value)) ≡ false
 unfolding variable_json
-variable_has read value = with_its_value value _ _ _
+variable_has read value = with_its_value value read.payload _ _ _
 
 -- What firmware says of itself.
+tagged_members : (name text : Option (List ℕ)) (bytes : List ℕ) (id : ℕ)
+    → has_float (object (with_printed (codes "text") text (with_name name
+    (member (codes "data") (string bytes) (member (codes "id") (number (unsigned id)) no_members))))) ≡ false
+tagged_members (Some name) (Some said) bytes id = refl
+tagged_members (Some name) None bytes id = refl
+tagged_members None (Some said) bytes id = refl
+tagged_members None None bytes id = refl
+
 tagged_each : (events : List Tagged) → items_have_float (items_of (map tagged_json events)) ≡ false
 unfolding tagged_json
 tagged_each [] = refl
-tagged_each (e ∷ es) = tagged_each es
+tagged_each (e ∷ es) = rw (tagged_members (tag_name e.id) (printed_text e.payload) _ e.id) (tagged_each es)
 
 tagged_has : (events : List Tagged) (rest : List ℕ) → has_float (tagged_events_json events rest) ≡ false
 unfolding tagged_events_json

@@ -1,8 +1,8 @@
 -- What data say of firmware as JSON. The keys of an object come in order.
-use Rattle.std.specs.Prelude.{ℕ, List, map, codes, encode_utf8}
+use Rattle.std.specs.Prelude.{ℕ, List, map, codes, encode_utf8, Option, Some, None}
 use Rattle.std.specs.List.{flat_map}
 use Rattle.hex.specs.Hex.{encode_lower}
-use Rattle.serde_json.specs.Data.{Data, number, unsigned, string, array, object, member, no_members}
+use Rattle.serde_json.specs.Data.{Data, Members, number, unsigned, string, array, object, member, no_members, put}
 use Rattle.serde_json.specs.View.{items_of}
 use Rattle.uefi_base.specs.GuidText.{guid_text}
 use Rattle.uefi_tcg.specs.content.Blob.{Blob, DescribedBlob}
@@ -10,7 +10,9 @@ use Rattle.uefi_tcg.specs.content.Gpt.{Entry, GptData}
 use Rattle.uefi_tcg.specs.content.Tagged.{Tagged}
 use Rattle.uefi_tcg.specs.v2.Header.{Header}
 use Rattle.audit_text.specs.json.Algorithm.{algorithm_json}
-use Rattle.audit_text.specs.json.Parts.{with_rest}
+use Rattle.audit_text.specs.json.Parts.{with_printed, with_rest}
+use Rattle.audit_text.specs.words.Printed.{printed_text}
+use Rattle.audit_text.specs.words.Tags.{tag_name}
 use Rattle.audit_text.specs.words.Texts.{before_nul, unit_text}
 
 -- A blob: its address and its length.
@@ -26,11 +28,17 @@ described_json described =
     (member (codes "description") (string (flat_map encode_utf8 described.description))
     (member (codes "length") (number (unsigned described.blob.size)) no_members)))
 
--- A tagged event: its data in hex and its number. All of them, and the bytes after them.
+-- The members, and the name of a tag, if it has one.
+abbrev pub with_name : Option (List ℕ) → Members → Members
+with_name (Some name) members = put (codes "name") (string name) members
+with_name None members = members
+
+-- A tagged event: its data in hex and its number, the name of its tag, if it has one, and the text that its data are, if all of it prints. All of them, and the bytes after them.
 unfoldable pub tagged_json : Tagged → Data
 tagged_json event =
-    object (member (codes "data") (string (encode_lower event.payload))
-    (member (codes "id") (number (unsigned event.id)) no_members))
+    object (with_printed (codes "text") (printed_text event.payload) (with_name (tag_name event.id)
+    (member (codes "data") (string (encode_lower event.payload))
+    (member (codes "id") (number (unsigned event.id)) no_members))))
 
 unfoldable pub tagged_events_json : List Tagged → List ℕ → Data
 tagged_events_json events rest =

@@ -32,6 +32,11 @@ unfoldable pub path_json : List ℕ → Option (List Node) → Data
 path_json bytes (Some nodes) = nodes_json nodes
 path_json bytes None = string (encode_lower bytes)
 
+-- The members, and under this key the text that bytes are, if all of it prints.
+abbrev pub with_printed : List ℕ → Option (List ℕ) → Members → Members
+with_printed key (Some text) members = put key (string text) members
+with_printed key None members = members
+
 -- The members, and the text of a device path, if there is one.
 abbrev pub with_text : Option (List Node) → Members → Members
 with_text (Some nodes) members = put (codes "text") (string (path_text nodes)) members

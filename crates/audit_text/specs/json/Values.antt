@@ -1,5 +1,5 @@
 -- What the value of a variable says as JSON. The keys of an object come in order.
-use Rattle.std.specs.Prelude.{ℕ, nat_le, length, map, codes, Option, Some, None, if◌then◌else◌}
+use Rattle.std.specs.Prelude.{ℕ, List, nat_le, length, map, codes, Option, Some, None, if◌then◌else◌}
 use Rattle.std.specs.List.{flat_map}
 use Rattle.hex.specs.Hex.{encode_lower}
 use Rattle.serde_json.specs.Data.{Data, Members, number, unsigned, string, array, object, member, no_members, put}
@@ -11,18 +11,20 @@ use Rattle.uefi_tcg.specs.content.Signature.{Signature, SignatureList}
 use Rattle.uefi_tcg.specs.content.Variable.{Variable}
 use Rattle.audit_text.specs.words.Path.{path_text}
 use Rattle.uefi_audits.specs.content.Value.{Value, unread, boot_option, boot_order, signature_lists, signature}
-use Rattle.audit_text.specs.json.Parts.{nodes_json, only}
+use Rattle.audit_text.specs.json.Parts.{nodes_json, only, with_printed}
+use Rattle.audit_text.specs.words.Printed.{printed_text}
 use Rattle.audit_text.specs.words.Signatures.{longest_hash}
 use Rattle.audit_text.specs.words.Texts.{before_nul, unit_text}
 
--- A boot option: its attributes, its description, of which no unit is NUL, the data that the image is given in hex, the nodes of its path, and the path as text.
+-- A boot option: its attributes, its description, of which no unit is NUL, the data that the image is given in hex, the nodes of its path, and the path as text; and those data as text, if all of it prints.
 unfoldable pub boot_option_json : LoadOption → Data
 boot_option_json option =
-    object (member (codes "attributes") (number (unsigned option.attributes))
+    object (with_printed (codes "optional_text") (printed_text option.optional_data)
+    (member (codes "attributes") (number (unsigned option.attributes))
     (member (codes "description") (string (flat_map unit_text (before_nul option.description)))
     (member (codes "optional_data") (string (encode_lower option.optional_data))
     (member (codes "path") (nodes_json option.file_path)
-    (member (codes "text") (string (path_text option.file_path)) no_members)))))
+    (member (codes "text") (string (path_text option.file_path)) no_members))))))
 
 -- The number of an option.
 abbrev pub number_json : ℕ → Data
@@ -58,14 +60,14 @@ value_json (boot_order numbers) = Some (only (codes "boot_order") (array (items_
 value_json (signature_lists lists) = Some (only (codes "signature_lists") (array (items_of (map list_json lists))))
 value_json (signature read) = Some (only (codes "signature") (signature_json read))
 
--- The members, and what the value says.
-abbrev pub with_value : Option Data → Members → Members
-with_value (Some value) members = put (codes "value") value members
-with_value None members = members
+-- The members, and what the value says, or the text that it is.
+abbrev pub with_value : Option Data → List ℕ → Members → Members
+with_value (Some value) bytes members = put (codes "value") value members
+with_value None bytes members = with_printed (codes "text") (printed_text bytes) members
 
 -- A variable: its data in hex, its GUID, the text of its name, and this of its value.
 unfoldable pub variable_json : Variable → Option Data → Data
 variable_json read value =
-    object (with_value value (member (codes "data") (string (encode_lower read.payload))
+    object (with_value value read.payload (member (codes "data") (string (encode_lower read.payload))
     (member (codes "guid") (string (guid_text read.guid))
     (member (codes "name") (string (flat_map unit_text read.name)) no_members))))

@@ -3,7 +3,7 @@ use Rattle.std.specs.Prelude.{ℕ, List, ◌++◌, codes, if◌then◌else◌}
 use Rattle.std.specs.Fmt.{decimal}
 use Rattle.uefi_audits.specs.declared.judgement.Judgement.{Judgement}
 use Rattle.uefi_audits.specs.declared.judgement.Judgement.TheVariants.{Accepted, NothingMeasured, LeftOver}
-use Rattle.uefi_audits.specs.Trailing.{is_of_empty}
+use Rattle.uefi_audits.specs.Trailing.{is_of_empty_log}
 use Rattle.uefi_audits.specs.declared.trailing.Trailing.{Trailing}
 use Rattle.audit_text.specs.text.Trailing.{trailing_lines}
 use Rattle.audit_text.specs.words.Shown.{shown_name}
@@ -17,7 +17,7 @@ many_line name rows most =
 -- The line of one in which nothing was measured, by what follows its last event.
 unfoldable pub nothing_line : List ℕ → Trailing → List ℕ
 nothing_line name trailing =
-    shown_name name ++ (if is_of_empty trailing then codes ": the log is empty\n" else codes ": nothing was measured\n")
+    shown_name name ++ (if is_of_empty_log trailing then codes ": the log is empty\n" else codes ": nothing was measured\n")
 
 -- What is said by the judgement.
 unfoldable pub judgement_lines : List ℕ → Judgement → Trailing → List ℕ

@@ -1,5 +1,5 @@
 -- Names of files as they are printed: on one line, and with nothing in them hidden.
-use Rattle.std.specs.Prelude.{ℕ, ◌==◌, ◌&&◌, ◌||◌, Bool, List, ◌++◌, nat_le, flat_map, codes, encode_utf8, if◌then◌else◌}
+use Rattle.std.specs.Prelude.{ℕ, ◌==◌, ◌&&◌, ◌||◌, not, Bool, List, ◌++◌, nat_le, flat_map, codes, encode_utf8, if◌then◌else◌}
 use Rattle.std.specs.Str.{chars}
 use Rattle.uefi_base.specs.GuidText.{hex_byte}
 
@@ -23,6 +23,13 @@ is_escaped character = is_control character || (character == 0x5c)
 -- A character of a name.
 unfoldable pub shown_character : ℕ → List ℕ
 shown_character character = if is_escaped character then flat_map hex_escape (encode_utf8 character) else encode_utf8 character
+
+-- A byte of a name that isn't UTF-8: a character of ASCII that prints, or hex digits; and such a name.
+unfoldable pub shown_byte : ℕ → List ℕ
+shown_byte byte = if is_between 0x20 0x7e byte && not (byte == 0x5c) then encode_utf8 byte else hex_escape byte
+
+abbrev pub shown_name_bytes : List ℕ → List ℕ
+shown_name_bytes bytes = flat_map shown_byte bytes
 
 -- A name.
 unfoldable pub shown_name : List ℕ → List ℕ

@@ -46,16 +46,18 @@ use uefi_tcg::{EventType, LogEntry, UintnSize};
 /// | `EV_EFI_GPT_EVENT`, `EV_EFI_GPT_EVENT2` | `gpt` |
 /// | `EV_EFI_VARIABLE_DRIVER_CONFIG`, `_BOOT`, `_BOOT2`, `_AUTHORITY` | `variable` |
 /// | `EV_EFI_BOOT_SERVICES_APPLICATION`, `_DRIVER`, `EV_EFI_RUNTIME_SERVICES_DRIVER` | `image` |
+/// | others | `text`, if all bytes of the data print |
 ///
-/// The text of an action is in characters of ASCII that print. In other texts and in names U+FFFD
-/// stands for a surrogate. Bytes are in hex, and GUIDs are text.
+/// The text of an action is in characters of ASCII that print. Data are a text if they are such
+/// characters, tabs and ends of lines, of one byte or two each, with a NUL at the end or without one. In
+/// other texts and in names U+FFFD stands for a surrogate. Bytes are in hex, and GUIDs are text.
 ///
 /// | object | keys |
 /// |---|---|
 /// | `header` | `algorithms`, each with `algorithm` and `size`; `errata`, `major`, `minor`, `platform_class`, `uintn_size`, `vendor_info` |
-/// | `tagged_events` | `events`, each with `data` and `id`; `rest`, the bytes after them, if there are any |
+/// | `tagged_events` | `events`, each with `data` and `id`, `name`, if the tag has one, and `text`, if the data are one; `rest`, the bytes after them, if there are any |
 /// | `gpt` | `disk_guid`, `first_usable_lba`, `last_usable_lba`; `partitions`, each with `attributes`, `first_lba`, `last_lba`, `name`, `type_guid` and `unique_guid` |
-/// | `variable` | `data`, `guid`, `name`; `value`, if it is read: an object with one of the keys below |
+/// | `variable` | `data`, `guid`, `name`; `value`, if it is read: an object with one of the keys below; else `text`, if the data are one |
 /// | `image` | `address`, `length`, `link_address`; `path`; `rest`, the bytes after it, if there are any; `text`, the path as text, if it is one |
 ///
 /// A path is an array of the nodes of a device path but the one that ends it, each with `data`,
@@ -64,7 +66,7 @@ use uefi_tcg::{EventType, LogEntry, UintnSize};
 ///
 /// | `value` | of |
 /// |---|---|
-/// | `boot_option`: `attributes`, `description`, `optional_data`, `path`, `text` | `Boot0000` and the like |
+/// | `boot_option`: `attributes`, `description`, `optional_data`, `optional_text`, if these are one, `path`, `text` | `Boot0000` and the like |
 /// | `boot_order`: an array of numbers | `BootOrder` |
 /// | `signature_lists`: each with `header`, `signatures` and `type`, a GUID | `PK`, `KEK`, `db`, `dbx` |
 /// | `signature` | in `EV_EFI_VARIABLE_AUTHORITY`: firmware's databases, shim's `MokList` |
@@ -116,8 +118,8 @@ pub(crate) fn event_json(
     let log = Value::try_from_str(alloc, log)?;
     put(&mut members, alloc, "log", log)?;
     put(&mut members, alloc, "offset", Value::from(entry.offset))?;
-    let register = event.pcr_index().0;
-    put(&mut members, alloc, "pcr", Value::from(register))?;
+    let pcr = event.pcr_index().0;
+    put(&mut members, alloc, "pcr", Value::from(pcr))?;
     let event_type = type_json(alloc, event.event_type())?;
     put(&mut members, alloc, "type", event_type)?;
     Ok(Value::Object(members))

@@ -1,4 +1,6 @@
 ghost use Rattle.std.specs.Prelude.{◌≡◌, ◌<◌, ◌^◌, true, false, string_bytes, IfOk, OnOk};
+ghost use Rattle.std.specs.List.{list_any};
+ghost use Rattle.std.specs.Str.{chars};
 ghost use Rattle.serde_json.specs.View.{view};
 ghost use Rattle.serde_json.specs.Written.{has_float};
 ghost use Rattle.uefi_base.specs.Appending.{AppendsText};
@@ -16,11 +18,28 @@ pub(crate) fn line_of(alloc: Global, value: &Value) -> Result<String, AllocError
         → string_bytes line ≡ line_of (view value.now)) }
 {
     let text = value.to_string(alloc)?;
-    escaped(alloc, text.as_str())
+    escaped(alloc, text)
+}
+
+/// Returns whether a text has a control character.
+fn has_control(text: &str) -> bool
+    ensures { result ≡ list_any is_control (chars text.now) }
+{
+    text.chars().any(is_control)
 }
 
 /// Returns a text of JSON, in which controls are in strings alone, with these escaped.
-fn escaped(alloc: Global, text: &str) -> Result<String, AllocError>
+fn escaped(alloc: Global, text: String) -> Result<String, AllocError>
+    ensures { IfOk result (λ line. string_bytes line ≡ escaped (string_bytes text)) }
+{
+    if has_control(text.as_str()) {
+        return each_escaped(alloc, text.as_str());
+    }
+    Ok(text)
+}
+
+/// Returns a text with each control escaped.
+fn each_escaped(alloc: Global, text: &str) -> Result<String, AllocError>
     ensures { IfOk result (λ line. string_bytes line ≡ escaped text.now) }
 {
     let mut line = String::new(alloc);

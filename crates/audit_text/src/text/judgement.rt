@@ -67,7 +67,7 @@ fn push_nothing<A: Allocator>(
         (AppendsText messages.old messages.new (nothing_line name.now trailing.now)) }
 {
     let name = ShownName(name);
-    if trailing.is_of_empty() {
+    if trailing.is_of_empty_log() {
         return writeln!(messages, "{name}: the log is empty");
     }
     writeln!(messages, "{name}: nothing was measured")

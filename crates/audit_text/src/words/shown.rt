@@ -1,6 +1,6 @@
 ghost use Rattle.std.specs.Prelude.{◌≡◌, Some};
 ghost use Rattle.std.specs.Fmt.{DisplaysOnOk};
-ghost use Rattle.audit_text.specs.words.Shown.{hex_escape, is_control, is_escaped, shown_character, shown_name};
+ghost use Rattle.audit_text.specs.words.Shown.{hex_escape, is_control, is_escaped, shown_byte, shown_character, shown_name, shown_name_bytes};
 
 use std::fmt;
 
@@ -21,6 +21,40 @@ impl fmt::Display for ShownName<'_> {
     fn fmt<W: fmt::Write>(&self, f: &mut fmt::Formatter<W>) -> fmt::Result {
         write_name(f, self.0)
     }
+}
+
+/// The bytes of a name that isn't UTF-8, displayed as [`ShownName`] displays a name: each byte but that
+/// of a printed character of ASCII is `\x` and two hex digits, and so is that of a backslash.
+#[derive(Clone, Copy)]
+pub struct ShownBytes<'a>(pub &'a [u8]);
+
+impl fmt::Display for ShownBytes<'_> {
+    ghost output = { λ name. Some (shown_name_bytes name.0.now) };
+
+    fn fmt<W: fmt::Write>(&self, f: &mut fmt::Formatter<W>) -> fmt::Result {
+        write_bytes(f, self.0)
+    }
+}
+
+/// Writes each byte of a name.
+fn write_bytes<W: fmt::Write>(f: &mut fmt::Formatter<W>, bytes: &[u8]) -> fmt::Result
+    ensures { DisplaysOnOk W.write_str_gives f.old result (Some (shown_name_bytes bytes.now)) f.new }
+{
+    for byte in bytes {
+        write_byte(f, *byte)?;
+    }
+    Ok(())
+}
+
+/// Writes a byte of a name.
+#[tactic(auto, unfolding(crate::specs::words::Shown::shown_byte))]
+fn write_byte<W: fmt::Write>(f: &mut fmt::Formatter<W>, byte: u8) -> fmt::Result
+    ensures { DisplaysOnOk W.write_str_gives f.old result (Some (shown_byte byte)) f.new }
+{
+    if matches!(byte, b' '..=b'~') && byte != b'\\' {
+        return f.write_char(char::from(byte));
+    }
+    write_escape(f, byte)
 }
 
 /// Writes each character of a name.

@@ -91,6 +91,10 @@ are_printed bytes = list_all is_printed bytes
 abbrev pub text_content : List ℕ → Content
 text_content bytes = if are_printed bytes then text bytes else unread
 
+-- Data of another type: a text, unless there are none.
+abbrev pub label_content : List ℕ → Content
+label_content bytes = if length bytes == 0 then unread else text_content bytes
+
 -- An event that extends nothing states a locality, which data are that are `StartupLocality`, a zero byte and it; or it has the header of a log.
 unfoldable pub NoActionContent : Option ℕ → List ℕ → Content → Type 0
 NoActionContent (Some number) bytes content = content ≡ locality number
@@ -140,4 +144,4 @@ Says size OfVariable bytes content =
 Says size OfAuthority bytes content =
     (found : Option Variable) × ReadsVariable bytes found × VariableContent authority_form found content
 Says size OfImage bytes content = (found : Option Image) × ReadsImage size bytes found × ImageContent found content
-Says size Other bytes content = content ≡ unread
+Says size Other bytes content = content ≡ label_content bytes

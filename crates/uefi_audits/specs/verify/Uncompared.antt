@@ -21,5 +21,5 @@ is_compared held pcr = list_any (λ it. it.pcr == pcr) held
 abbrev pub is_uncompared : List Entry → List HeldPcr → ℕ → Bool
 is_uncompared entries held pcr = is_extended entries pcr && not (is_compared held pcr)
 
-abbrev pub uncompared_pcrs : List Entry → List HeldPcr → List ℕ
+unfoldable pub uncompared_pcrs : List Entry → List HeldPcr → List ℕ
 uncompared_pcrs entries held = filter (is_uncompared entries held) (range_with_len 0 pcr_count)

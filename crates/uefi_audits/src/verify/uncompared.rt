@@ -12,6 +12,7 @@ use uefi_tcg::{EventType, LogEntry, LogEvent};
 /// # Errors
 ///
 /// [`AllocError`] if an allocation fails.
+#[tactic(auto, unfolding(crate::specs::verify::Uncompared::uncompared_pcrs))]
 pub fn uncompared_pcrs<A: Allocator>(
     alloc: A,
     entries: &[LogEntry<'_>],

@@ -132,7 +132,7 @@ const LOGS: [[&str; 2]; 34] = [
          01020700000000000000010203",
         "a log: event 0 at offset 0: PCR 9, EV_EVENT_TAG\n\
          \x20 sha1 aaaaaaaaaaaaaaaaaaaaaaaaaaaaaaaaaaaaaaaa\n\
-         \x20 tagged event 0x8f3b22ec 0102\n\
+         \x20 tagged event INITRD 0x8f3b22ec 0102\n\
          \x20 tagged event 0x7 \n\
          \x20 trailing bytes\n\
          \x20   010203\n",
@@ -288,8 +288,7 @@ const LOGS: [[&str; 2]; 34] = [
         "a log: event 0 at offset 0: PCR 14, EV_EFI_VARIABLE_AUTHORITY\n\
          \x20 sha1 aaaaaaaaaaaaaaaaaaaaaaaaaaaaaaaaaaaaaaaa\n\
          \x20 variable SbatLevel, 605dab50-e046-4300-abb6-3dd810dd8b23\n\
-         \x20 value\n\
-         \x20   736261742c312c323032313033303231380a\n",
+         \x20 value: sbat,1,2021030218\\x0a\n",
     ],
     // An image, and one as shim states it: without a path, which follows.
     [

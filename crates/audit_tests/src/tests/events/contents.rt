@@ -126,8 +126,8 @@ const TAGGED: [[&str; 2]; 2] = [
     [
         "0900000006000000aaaaaaaaaaaaaaaaaaaaaaaaaaaaaaaaaaaaaaaa15000000ec223b8f02000000 \
          01020700000000000000010203",
-        "{\"content\":{\"tagged_events\":{\"events\":[{\"data\":\"0102\",\"id\":2403017452},{\
-         \"data\":\"\",\"id\":7}],\"rest\":\"010203\"}},\"data\":\"ec223b8f020000000102070000\
+        "{\"content\":{\"tagged_events\":{\"events\":[{\"data\":\"0102\",\"id\":2403017452,\
+         \"name\":\"INITRD\"},{\"data\":\"\",\"id\":7}],\"rest\":\"010203\"}},\"data\":\"ec223b8f020000000102070000\
          0000000000010203\",\"digests\":[{\"algorithm\":\"sha1\",\"digest\":\"aaaaaaaaaaaaaaa\
          aaaaaaaaaaaaaaaaaaaaaaaaa\"}],\"hashes_to\":[],\"index\":0,\"log\":\"a log\",\"offse\
          t\":0,\"pcr\":9,\"type\":{\"name\":\"EV_EVENT_TAG\",\"number\":6}}\n",

@@ -276,7 +276,8 @@ const AUTHORITIES: [[&str; 2]; 5] = [
          abb63dd810dd8b230900000000000000120000000000000053006200610074004c00650076006500 \
          6c00736261742c312c323032313033303231380a",
         "{\"content\":{\"variable\":{\"data\":\"736261742c312c323032313033303231380a\",\"guid\
-         \":\"605dab50-e046-4300-abb6-3dd810dd8b23\",\"name\":\"SbatLevel\"}},\"data\":\"50ab\
+         \":\"605dab50-e046-4300-abb6-3dd810dd8b23\",\"name\":\"SbatLevel\",\
+         \"text\":\"sbat,1,2021030218\\n\"}},\"data\":\"50ab\
          5d6046e00043abb63dd810dd8b230900000000000000120000000000000053006200610074004c006500\
          760065006c00736261742c312c323032313033303231380a\",\"digests\":[{\"algorithm\":\"sha\
          1\",\"digest\":\"aaaaaaaaaaaaaaaaaaaaaaaaaaaaaaaaaaaaaaaa\"}],\"hashes_to\":[],\"ind\

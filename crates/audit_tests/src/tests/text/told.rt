@@ -1,14 +1,17 @@
-use audit_text::text::{push_ignored, push_start, push_trailing, push_undetermined};
+use audit_text::text::{
+    push_header_fault, push_ignored, push_start, push_trailing, push_undetermined,
+};
 use pcr_replay::ReadLog;
 use std::alloc::Global;
 use std::test::Fail;
 use test_support::each_shows;
 use uefi_audits::facts::LogFacts;
+use uefi_audits::header_fault::header_fault;
 use uefi_audits::log_replay::LogReplay;
 use uefi_tcg::{LastEntry, Log};
 
 /// Logs with an unknown last entry, and the lines about them.
-const TOLD: [[&str; 2]; 11] = [
+const TOLD: [[&str; 2]; 13] = [
     // Nothing to say.
     [
         "00000000030000000000000000000000000000000000000000000000210000005370656320494420 \
@@ -23,6 +26,23 @@ const TOLD: [[&str; 2]; 11] = [
         4576656e7430330000000000000200020100000004001400000000000008000000010000000400aa \
         aaaaaaaaaaaaaaaaaaaaaaaaaaaaaaaaaaaaaa00000000",
         "a log: states no locality; PCR 0 starts at locality 0\n",
+    ],
+    // A header of another PCR, and one with a digest.
+    [
+        "05000000030000000000000000000000000000000000000000000000210000005370656320494420 \
+        4576656e7430330000000000000200020100000004001400000000000008000000010000000400aa \
+        aaaaaaaaaaaaaaaaaaaaaaaaaaaaaaaaaaaaaa00000000",
+        "a log: its header is of PCR 5, not of PCR 0, so that it is read as version 1\n\
+         a log: 38 bytes are left over at offset 65\n\
+         a log: states no locality; PCR 0 starts at locality 0\n",
+    ],
+    [
+        "00000000030000000101010101010101010101010101010101010101210000005370656320494420 \
+        4576656e7430330000000000000200020100000004001400000000000008000000010000000400aa \
+        aaaaaaaaaaaaaaaaaaaaaaaaaaaaaaaaaaaaaa00000000",
+        "a log: the digest of its header isn't zero, so that it is read as version 1\n\
+         a log: 38 bytes are left over at offset 65\n\
+         a log: states no locality; PCR 0 starts at locality 0\n",
     ],
     // Bytes that are left over.
     [
@@ -125,6 +145,7 @@ fn told_text(alloc: Global, bytes: &[u8]) -> Result<String, Fail> {
     let facts = LogFacts::of(alloc, &read, None)?;
     let replay = LogReplay::of(alloc, read.entries(), &facts, None)?;
     let mut messages = String::new(alloc);
+    push_header_fault(&mut messages, "a log", header_fault(&read))?;
     push_trailing(&mut messages, "a log", &facts.trailing)?;
     push_start(&mut messages, "a log", &facts.start)?;
     push_undetermined(&mut messages, "a log", replay.banks.as_slice())?;

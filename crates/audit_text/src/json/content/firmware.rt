@@ -1,12 +1,14 @@
-ghost use Rattle.std.specs.Prelude.{◌≡◌, map, IfOk};
-ghost use Rattle.serde_json.specs.View.{view};
+ghost use Rattle.std.specs.Prelude.{◌≡◌, map, IfOk, OnOk};
+ghost use Rattle.serde_json.specs.View.{view, members_view};
 ghost use Rattle.uefi_tcg.specs.content.Views.{blob_of, described_of, tagged_of};
 ghost use Rattle.uefi_tcg.specs.v2.Views.{header_of, table_of};
-ghost use Rattle.audit_text.specs.json.Firmware.{blob_json, described_json, header_json, size_json, tagged_events_json, tagged_json};
+ghost use Rattle.audit_text.specs.words.Tags.{tag_name};
+ghost use Rattle.audit_text.specs.json.Firmware.{blob_json, described_json, header_json, size_json, tagged_events_json, tagged_json, with_name};
 
-use crate::json::content::path::put_rest;
+use crate::json::content::path::{put_printed, put_rest};
 use crate::json::digests::algorithm_json;
 use crate::json::event::hex_json;
+use crate::words::tags::tag_name;
 use crate::words::texts::byte_text;
 use serde_json::{Map, Value, put};
 use std::alloc::{AllocError, Global};
@@ -85,7 +87,8 @@ fn each_tagged(alloc: Global, tagged: &TaggedData<'_>) -> Result<Vec<Value>, All
     Ok(values)
 }
 
-/// Returns a tagged event: its number, and its data in hex.
+/// Returns a tagged event: its data in hex, its number, the name of its tag, if it has one, and the
+/// text that its data are, if all of it prints.
 #[tactic(auto, unfolding(crate::specs::json::Firmware::tagged_json))]
 fn tagged_json(alloc: Global, event: &TaggedEvent<'_>) -> Result<Value, AllocError>
     ensures { IfOk result (λ value. view value ≡ tagged_json (tagged_of event.now)) }
@@ -94,7 +97,23 @@ fn tagged_json(alloc: Global, event: &TaggedEvent<'_>) -> Result<Value, AllocErr
     let data = hex_json(alloc, event.data)?;
     put(&mut members, alloc, "data", data)?;
     put(&mut members, alloc, "id", Value::from(event.id))?;
+    put_name(&mut members, alloc, event.id)?;
+    put_printed(&mut members, alloc, "text", event.data)?;
     Ok(Value::Object(members))
+}
+
+/// Adds the name of a tag, if it has one.
+fn put_name(members: &mut Map<String, Value>, alloc: Global, id: u32) -> Result<(), AllocError>
+    ensures { OnOk result (members_view members.new.entries
+        ≡ with_name (tag_name id) (members_view members.old.entries)) }
+{
+    match tag_name(id) {
+        Some(name) => {
+            let name = Value::try_from_str(alloc, name)?;
+            put(members, alloc, "name", name)
+        }
+        None => Ok(()),
+    }
 }
 
 /// Returns a header: its fields, with the sizes of digests by algorithm.

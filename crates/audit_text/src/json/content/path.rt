@@ -4,10 +4,12 @@ ghost use Rattle.serde_json.specs.View.{view, members_view};
 ghost use Rattle.uefi_path.specs.Path.{all_but_last};
 ghost use Rattle.uefi_path.specs.Views.{node_of, path_nodes};
 ghost use Rattle.audit_text.specs.words.Path.{path_text};
-ghost use Rattle.audit_text.specs.json.Parts.{node_json, nodes_json, only, path_json, with_rest, with_text};
+ghost use Rattle.audit_text.specs.words.Printed.{printed_text};
+ghost use Rattle.audit_text.specs.json.Parts.{node_json, nodes_json, only, path_json, with_printed, with_rest, with_text};
 
 use crate::json::event::hex_json;
 use crate::words::path_text;
+use crate::words::printed::printed_text;
 use serde_json::{Map, Value, json, put};
 use std::alloc::{AllocError, Global};
 use uefi_path::{DevicePath, DevicePathNode};
@@ -35,6 +37,22 @@ pub(crate) fn put_rest(
     }
     let rest = hex_json(alloc, rest)?;
     put(members, alloc, "rest", rest)
+}
+
+/// Adds under a key the text that bytes are, if all of it prints.
+pub(crate) fn put_printed(
+    members: &mut Map<String, Value>,
+    alloc: Global,
+    key: &str,
+    bytes: &[u8],
+) -> Result<(), AllocError>
+    ensures { OnOk result (members_view members.new.entries
+        ≡ with_printed key.now (printed_text bytes.now) (members_view members.old.entries)) }
+{
+    match printed_text(alloc, bytes)? {
+        Some(text) => put(members, alloc, key, Value::String(text)),
+        None => Ok(()),
+    }
 }
 
 /// Adds the text of a device path, if there is one.

@@ -8,7 +8,7 @@ ghost use Rattle.audit_text.specs.json.Parts.{only};
 ghost use Rattle.audit_text.specs.json.Values.{boot_option_json, number_json, variable_json, with_value};
 
 use crate::json::content::guid::guid_json;
-use crate::json::content::path::{nodes_json, only, text_json};
+use crate::json::content::path::{nodes_json, only, put_printed, text_json};
 use crate::json::event::hex_json;
 use crate::words::texts::{description_text, name_text};
 use serde_json::{Map, Value, put};
@@ -17,7 +17,7 @@ use uefi_path::LoadOption;
 use uefi_tcg::content::{BootOrder, VariableData};
 
 /// Returns what data say that are a variable: its data, its GUID, its name, and what its value says,
-/// if it is read.
+/// or the text that it is.
 #[tactic(auto, unfolding(crate::specs::json::Values::variable_json))]
 pub(crate) fn variable_json(
     alloc: Global,
@@ -34,27 +34,28 @@ pub(crate) fn variable_json(
     put(&mut members, alloc, "guid", guid)?;
     let name = name_text(alloc, &variable.name)?;
     put(&mut members, alloc, "name", Value::String(name))?;
-    put_value(&mut members, alloc, value)?;
+    put_value(&mut members, alloc, value, variable.data)?;
     only(alloc, "variable", Value::Object(members))
 }
 
-/// Adds what a value says, if it is read.
+/// Adds what a value says, if it is read, or the text that it is, if all of it prints.
 fn put_value(
     members: &mut Map<String, Value>,
     alloc: Global,
     value: Option<Value>,
+    bytes: &[u8],
 ) -> Result<(), AllocError>
     ensures { OnOk result (members_view members.new.entries
-        ≡ with_value (option_map view value) (members_view members.old.entries)) }
+        ≡ with_value (option_map view value) bytes.now (members_view members.old.entries)) }
 {
     match value {
         Some(value) => put(members, alloc, "value", value),
-        None => Ok(()),
+        None => put_printed(members, alloc, "text", bytes),
     }
 }
 
-/// Returns a boot option: its attributes, its description, the data for its image, and its path,
-/// also as text.
+/// Returns a boot option: its attributes, its description, the data for its image, also as text if all
+/// of it prints, and its path, also as text.
 #[tactic(auto, unfolding(crate::specs::json::Values::boot_option_json))]
 pub(crate) fn boot_option_json(alloc: Global, option: &LoadOption<'_>) -> Result<Value, AllocError>
     ensures { IfOk result (λ value. view value ≡ boot_option_json (load_option_of option.now)) }
@@ -75,6 +76,7 @@ pub(crate) fn boot_option_json(alloc: Global, option: &LoadOption<'_>) -> Result
     put(&mut members, alloc, "path", path)?;
     let text = text_json(alloc, option.file_path())?;
     put(&mut members, alloc, "text", text)?;
+    put_printed(&mut members, alloc, "optional_text", option.optional_data())?;
     Ok(Value::Object(members))
 }
 

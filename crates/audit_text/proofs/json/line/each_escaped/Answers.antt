@@ -4,7 +4,7 @@ use Rattle.std.specs.Str.{chars}
 use Rattle.std.proofs.lemmas.Iterator.{YieldsList-from_chars}
 use Rattle.std.proofs.lemmas.Iterator.Consumers.{YieldsList-end}
 use Rattle.audit_text.specs.json.Line.{escaped, line_character}
-use Rattle.audit_text.proofs.json.line.escaped.Goals as goal
+use Rattle.audit_text.proofs.json.line.each_escaped.Goals as goal
 
 pub returns : goal.returns
 unfolding escaped
