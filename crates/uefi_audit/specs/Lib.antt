@@ -10,3 +10,4 @@ pub mod Comparison
 pub mod Verification
 pub mod Held
 pub mod CommandLine
+pub mod Starts

@@ -8,23 +8,23 @@ use crate::input::{file_bytes, held_pcrs};
 use crate::log_file::{Opened, open_log};
 use crate::replay::Asked;
 use crate::request::{Format, Reading, Request, Verification};
+use crate::starts::Starts;
 use crate::task::{Task, task_report};
 use crate::verification::{StatedPcrs, verify_report};
 use std::io::Write;
 use std::rt::Files;
 use uefi_audits::verify::PcrSelection;
 
-/// Does what the arguments ask for; `has_others` says whether there are logs beside those of the request.
+/// Does what the arguments ask for.
 pub(crate) fn perform<R: Files + Input + Print + Eprint + AllocGlobal>(
     rt: &R,
     request: &Request<'_, '_>,
     reading: Reading,
-    has_others: bool,
 ) -> Result<Status, Failure> {
     match *request {
         Request::Events(logs, format) => each_log(rt, logs, reading, Task::Events(format)),
         Request::Replay(logs, bank, locality, format) => {
-            let is_one_of_many = logs.len() > 1 || has_others;
+            let is_one_of_many = logs.len() > 1;
             let asked = Asked {
                 bank,
                 locality,
@@ -47,34 +47,35 @@ fn each_log<R: Files + Input + Print + Eprint + AllocGlobal>(
     task: Task,
 ) -> Result<Status, Failure> {
     let mut status = Status::Well;
-    let mut unstated = 0;
+    let mut starts = Starts::default();
     for name in logs {
-        status = status.and(do_task(rt, *name, reading, task, &mut unstated)?);
+        status = status.and(do_task(rt, *name, reading, task, &mut starts)?);
     }
-    if unstated > 0 {
-        let all = logs.len();
+    if starts.assumed > 0 {
+        let Starts { assumed, replayed } = starts;
         let _ = eprintln!(rt;
-            "uefi_audit: no locality is stated by {unstated} of {all} logs; PCR 0 starts at locality 0"
+            "uefi_audit: no locality is stated by {assumed} of {replayed} logs that were replayed; \
+             PCR 0 starts at locality 0"
         );
     }
     Ok(status)
 }
 
-/// Does a task with the log in a file. Counts it, if it is one of many and states no locality.
+/// Does a task with the log in a file. Counts how PCR 0 starts, if the log is one of many.
 fn do_task<R: Files + Input + Print + Eprint + AllocGlobal>(
     rt: &R,
     name: &str,
     reading: Reading,
     task: Task,
-    unstated: &mut usize,
+    starts: &mut Starts,
 ) -> Result<Status, Failure> {
     let Some(bytes) = file_bytes(rt, name) else {
         return Ok(Status::Unread);
     };
     let log = open_log(rt.alloc(), name, bytes.as_slice(), reading)?;
     if let (Opened::Read(file), Task::Replay(asked)) = (&log, task) {
-        if asked.is_one_of_many && !file.is_locality_stated(asked.locality) {
-            *unstated = unstated.saturating_add(1);
+        if asked.is_one_of_many && file.is_replayed(reading.allow_left_over) {
+            *starts = starts.with(file.is_locality_stated(asked.locality));
         }
     }
     task_report(rt.alloc(), log, reading, task)?.print(rt)

@@ -17,6 +17,10 @@ pub(crate) fn file_bytes<R: Files + Input + Eprint + AllocGlobal>(
     rt: &R,
     path: &str,
 ) -> Option<Vec<u8>> {
+    if let Some(name) = path.strip_suffix('\0') {
+        let _ = eprintln!(rt; "uefi_audit: {name}: the name isn't UTF-8");
+        return None;
+    }
     let file = if path == "-" { STANDARD_INPUT } else { path };
     match read_file(rt, file, MAX_READS) {
         Ok(bytes) => Some(bytes),

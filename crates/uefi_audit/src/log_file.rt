@@ -1,6 +1,6 @@
 ghost use Rattle.std.specs.Prelude.{◌≡◌, ◌++◌, string_bytes, IfOk};
 ghost use Rattle.pcr_replay.specs.ReadLogs.{entries_in};
-ghost use Rattle.uefi_audits.specs.Judgement.{judgement_of};
+ghost use Rattle.uefi_audits.specs.Judgement.{is_read, judgement_of};
 ghost use Rattle.uefi_audits.specs.Start.{known_start};
 ghost use Rattle.audit_text.specs.text.Judgement.{many_line};
 ghost use Rattle.uefi_audit.specs.Judged.{judged_status, judgement_messages};
@@ -29,6 +29,13 @@ pub(crate) struct LogFile<'a> {
 }
 
 impl LogFile<'_> {
+    /// Returns whether the log's events are all that it has, so that they are replayed.
+    pub(crate) fn is_replayed(&self, allow_left_over: bool) -> bool
+        ensures { result ≡ is_read (judgement_of allow_left_over self.now.read) }
+    {
+        Judgement::of(&self.read, allow_left_over).is_read()
+    }
+
     /// Returns whether the log or the caller states the locality at which the TPM was started.
     pub(crate) fn is_locality_stated(&self, locality: Option<u8>) -> bool
         ensures { result ≡ (known_start locality (entries_in self.now.read)).is_stated }

@@ -25,6 +25,7 @@ mod program;
 mod replay;
 mod report;
 mod request;
+mod starts;
 mod task;
 #[cfg(test)]
 mod tests;

@@ -2,7 +2,7 @@ ghost use Rattle.std.specs.Prelude.{◌≡◌, ℕ, codes, IfSome, IfNone, Match
 ghost use Rattle.clap.specs.Words.{found_of, one_text};
 ghost use Rattle.pcr_replay.specs.declared.bank.Bank.{Bank};
 ghost use Rattle.uefi_tcg.specs.declared.log.LastEntry.{LastEntry};
-ghost use Rattle.uefi_audit.specs.CommandLine.{Asks, AsksBank, AsksFormat, AsksLastEntry, AsksLocality, AsksMaxRows, AsksReading, AskForNoRequest, AskForNothing, IsDecimal, NamesMaxRows, takes_many_logs};
+ghost use Rattle.uefi_audit.specs.CommandLine.{Asks, AsksBank, AsksFormat, AsksLastEntry, AsksLocality, AsksMaxRows, AsksReading, AskForNoRequest, AskForNothing, IsDecimal, NamesMaxRows};
 
 use clap::ArgMatches;
 use pcr_replay::Bank;
@@ -93,13 +93,6 @@ fn request_named<'m, 'a>(name: &str, matches: &'m ArgMatches<'a>) -> Option<Requ
         "check" => check_of(matches),
         _ => None,
     }
-}
-
-/// Returns whether the command of this name takes many logs.
-pub(crate) fn takes_many_logs(name: &str) -> bool
-    ensures { result ≡ takes_many_logs name.now }
-{
-    name == "events" || name == "replay" || name == "check"
 }
 
 /// Returns what the matches of `events` ask for.

@@ -8,10 +8,10 @@ use Rattle.audit_text.specs.words.Texts.{before_nul, unit_text}
 abbrev pub prints : ℕ → Bool
 prints byte = (nat_le 0x20 byte && nat_le byte 0x7e) || ((byte == 9) || ((byte == 10) || (byte == 13)))
 
--- The text before the first NUL of so many characters, if there is one, all of it prints, and no more than that NUL follows.
+-- The text before the first NUL of so many characters, if it has more than one, all of it prints, and no more than that NUL follows. One character alone is as likely a number.
 unfoldable pub if_printed : List ℕ → ℕ → Option (List ℕ)
 if_printed text count =
-    if nat_lt 0 (length text) && (nat_le count (length text + 1) && list_all prints text) then Some text else None
+    if nat_lt 1 (length text) && (nat_le count (length text + 1) && list_all prints text) then Some text else None
 
 -- That of characters of two bytes each, as in UTF-16; and that of characters of one byte each, or else of two.
 unfoldable pub wide_text : List ℕ → Option (List ℕ)

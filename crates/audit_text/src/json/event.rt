@@ -48,7 +48,7 @@ use uefi_tcg::{EventType, LogEntry, UintnSize};
 /// | `EV_EFI_BOOT_SERVICES_APPLICATION`, `_DRIVER`, `EV_EFI_RUNTIME_SERVICES_DRIVER` | `image` |
 /// | others | `text`, if all bytes of the data print |
 ///
-/// The text of an action is in characters of ASCII that print. Data are a text if they are such
+/// The text of an action is in characters of ASCII that print. Data are a text if they are two or more such
 /// characters, tabs and ends of lines, of one byte or two each, with a NUL at the end or without one. In
 /// other texts and in names U+FFFD stands for a surrogate. Bytes are in hex, and GUIDs are text.
 ///

@@ -7,8 +7,8 @@ use crate::words::texts::text_before_nul;
 use std::alloc::{AllocError, Global};
 use uefi_base::UnalignedSlice;
 
-/// Returns the text that bytes are, if all of it prints: characters of ASCII, of one byte each or, as
-/// in UTF-16, of two, with a NUL after the last one or without it.
+/// Returns the text that bytes are, if all of it prints: two characters of ASCII or more, of one byte
+/// each or, as in UTF-16, of two, with a NUL after the last one or without it.
 #[tactic(auto, unfolding(crate::specs::words::Printed::or_wide))]
 pub(crate) fn printed_text(alloc: Global, bytes: &[u8]) -> Result<Option<String>, AllocError>
     ensures { IfOk result (λ text. option_map string_bytes text ≡ printed_text bytes.now) }
@@ -33,13 +33,13 @@ fn wide_text(alloc: Global, bytes: &[u8]) -> Result<Option<String>, AllocError>
     Ok(if_printed(text, units.len()))
 }
 
-/// Returns the text before the first NUL of so many characters, if there is one, all of it prints, and
-/// no more than that NUL follows.
+/// Returns the text before the first NUL of so many characters, if it has more than one, all of it
+/// prints, and no more than that NUL follows. One character alone is as likely a number.
 #[tactic(auto, unfolding(crate::specs::words::Printed::if_printed))]
 fn if_printed(text: String, count: usize) -> Option<String>
     ensures { option_map string_bytes result ≡ if_printed (string_bytes text) count }
 {
-    if !text.is_empty() && count <= text.len() + 1 && are_printed(text.as_bytes()) {
+    if text.len() > 1 && count <= text.len() + 1 && are_printed(text.as_bytes()) {
         return Some(text);
     }
     None
