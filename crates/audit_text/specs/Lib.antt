@@ -1,4 +1,5 @@
 pub mod words
+pub mod ComparedLogs
 pub mod text
 pub mod json
 pub mod private

@@ -12,3 +12,5 @@ pub mod Check
 pub mod EventParts
 pub mod EventContents
 pub mod Events
+pub mod ChangeParts
+pub mod Change

@@ -3,8 +3,9 @@
 //! Begin with a value of `uefi_audits`, such as the PCRs that
 //! [`replay_banks`](uefi_audits::replay::replay_banks) returns. [`push_banks`] appends them as
 //! `tpm2_pcrread` of tpm2-tools prints PCRs, and [`push_verdict`] whether they are those that a TPM
-//! held. [`push_differences`] appends how the events of two logs differ, [`push_event_blocks`] those of
-//! one, and [`push_check`] what was checked of them.
+//! held. [`push_differences`] appends how the events of two logs differ, [`push_change`] what changed
+//! between an event of one and its counterpart in the other, [`push_event_blocks`] the events of one,
+//! and [`push_check`] what was checked of them.
 //!
 //! The other calls append lines for standard error: [`push_header_fault`] why a log has no header,
 //! [`push_judgement`] why it can't be judged and the bytes that follow its last event, [`push_start`] the locality that is assumed,
@@ -16,7 +17,7 @@
 
 pub use self::banks::{push_bank, push_banks};
 pub use self::check::push_check;
-pub use self::diff::push_differences;
+pub use self::diff::{push_change, push_differences};
 pub use self::events::{push_event_blocks, push_header_block};
 pub use self::header_fault::push_header_fault;
 pub use self::ignored::push_ignored;

@@ -8,6 +8,7 @@ pub use self::faults::fault_text;
 pub(crate) use self::forms::form_name;
 pub use self::numbers::push_number;
 pub(crate) use self::path::path_text;
+pub(crate) use self::said::push_bytes;
 pub use self::said::push_said;
 pub(crate) use self::shown::is_control;
 pub use self::shown::{ShownBytes, ShownName};

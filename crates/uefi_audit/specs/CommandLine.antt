@@ -107,9 +107,9 @@ Asks name found (Replay logs bank locality format) =
     (name ≡ codes "replay") × AsksLogs found logs.now × AsksBank found bank × AsksLocality found locality
     × AsksFormat found format
 Asks name found (Verify asked) = (name ≡ codes "verify") × AsksVerification found asked
-Asks name found (Diff old new format) =
+Asks name found (Diff old new bank format) =
     (name ≡ codes "diff") × (first_value found (codes "old") ≡ Some old.now)
-    × (first_value found (codes "new") ≡ Some new.now) × AsksFormat found format
+    × (first_value found (codes "new") ≡ Some new.now) × AsksBank found bank × AsksFormat found format
 Asks name found (Check logs format) = (name ≡ codes "check") × AsksLogs found logs.now × AsksFormat found format
 
 -- They ask for no request.

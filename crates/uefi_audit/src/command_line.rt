@@ -130,6 +130,13 @@ fn args_of_diff<'a>(alloc: Global) -> Result<Vec<Arg<'a>>, AllocError> {
             "NEW",
             "A file with the log to compare it with"
         ),
+        option(
+            alloc,
+            "bank",
+            "BANK",
+            "Compares the digests of this bank alone, not those of all that both logs have"
+        )
+        .value_parser(BANK_NAMES.as_slice()),
         json(alloc),
         last_entry(alloc),
         allow_left_over(alloc),

@@ -2,12 +2,12 @@ ghost use Rattle.std.specs.Prelude.{IsTrue, OnOk, IfErr};
 ghost use Rattle.std.specs.Io.KnownBytes.{Appends};
 ghost use Rattle.uefi_audit.specs.Ends.{is_output};
 
-use crate::comparison::difference_report;
+use crate::comparison::{Compared, difference_report};
 use crate::failure::{Failure, Status};
 use crate::input::{file_bytes, held_pcrs};
 use crate::log_file::{Opened, open_log};
 use crate::replay::Asked;
-use crate::request::{Format, Reading, Request, Verification};
+use crate::request::{Reading, Request, Verification};
 use crate::starts::Starts;
 use crate::task::{Task, task_report};
 use crate::verification::{StatedPcrs, verify_report};
@@ -34,7 +34,9 @@ pub(crate) fn perform<R: Files + Input + Print + Eprint + AllocGlobal>(
             each_log(rt, logs, reading, Task::Replay(asked))
         }
         Request::Verify(asked) => verify_log(rt, &asked, reading),
-        Request::Diff(old, new, format) => compare_logs(rt, old, new, format, reading),
+        Request::Diff(old, new, bank, format) => {
+            compare_logs(rt, [old, new], Compared { bank, format }, reading)
+        }
         Request::Check(logs, format) => each_log(rt, logs, reading, Task::Check(format)),
     }
 }
@@ -84,9 +86,8 @@ fn do_task<R: Files + Input + Print + Eprint + AllocGlobal>(
 /// Does `diff` with the logs in two files.
 fn compare_logs<R: Files + Input + Print + Eprint + AllocGlobal>(
     rt: &R,
-    old: &str,
-    new: &str,
-    format: Format,
+    [old, new]: [&str; 2],
+    asked: Compared,
     reading: Reading,
 ) -> Result<Status, Failure> {
     let old_bytes = file_bytes(rt, old);
@@ -96,7 +97,7 @@ fn compare_logs<R: Files + Input + Print + Eprint + AllocGlobal>(
     };
     let old_log = open_log(rt.alloc(), old, old_bytes.as_slice(), reading)?;
     let new_log = open_log(rt.alloc(), new, new_bytes.as_slice(), reading)?;
-    difference_report(rt.alloc(), old_log, new_log, reading, format)?.print(rt)
+    difference_report(rt.alloc(), old_log, new_log, reading, asked)?.print(rt)
 }
 
 /// Does `verify` with the log in a file, and the PCRs in another or in a folder.

@@ -1,18 +1,31 @@
 ghost use Rattle.std.specs.Prelude.{◌≡◌, map, string_bytes, IfOk};
+ghost use Rattle.audit_text.specs.ComparedLogs.{logs_of};
 ghost use Rattle.audit_text.specs.words.Shown.{shown_name};
 ghost use Rattle.uefi_audit.specs.Comparison.{IsCompared, IsComparison, IsDifferenceReport, compared_status, difference_text, side_printed};
 ghost use Rattle.uefi_audit.specs.Printed.{printed_of};
-ghost use Rattle.uefi_audits.specs.diff.Views.{difference_of};
+ghost use Rattle.uefi_audits.specs.diff.Views.{difference_of, numbers_of};
 
 use crate::failure::Status;
 use crate::log_file::{LogFile, Opened, judge, judged_status};
 use crate::report::Report;
 use crate::request::{Format, Reading};
+use audit_text::ComparedLogs;
 use audit_text::json::push_differences_json;
 use audit_text::text::push_differences;
 use audit_text::words::ShownName;
+use pcr_replay::Bank;
 use std::alloc::{AllocError, Global};
-use uefi_audits::diff::{PcrDifference, differences};
+use uefi_audits::diff::{PcrDifference, compared_algorithms, differences};
+use uefi_tcg::AlgorithmId;
+
+/// What of two logs is compared, and how the result is printed.
+#[derive(Clone, Copy)]
+pub(crate) struct Compared {
+    /// The bank whose digests are compared; without one, those of all banks that both logs have.
+    pub(crate) bank: Option<Bank>,
+    /// How the result is printed.
+    pub(crate) format: Format,
+}
 
 /// Returns what `diff` prints of two logs. If one of them wasn't read, it is what is said of each.
 ///
@@ -25,14 +38,14 @@ pub(crate) fn difference_report(
     old: Opened<'_>,
     new: Opened<'_>,
     reading: Reading,
-    format: Format,
+    asked: Compared,
 ) -> Result<Report, AllocError>
-    ensures { IfOk result (λ report. IsDifferenceReport reading.allow_left_over format old.entry
+    ensures { IfOk result (λ report. IsDifferenceReport reading.allow_left_over asked old.entry
         new.entry (printed_of report)) }
 {
     match (old, new) {
         (Opened::Read(old), Opened::Read(new)) => {
-            comparison_report(alloc, &old, &new, reading, format)
+            comparison_report(alloc, &old, &new, reading, asked)
         }
         (old, new) => {
             let of_old = side_report(alloc, old, reading)?;
@@ -67,9 +80,9 @@ fn comparison_report(
     old: &LogFile<'_>,
     new: &LogFile<'_>,
     reading: Reading,
-    format: Format,
+    asked: Compared,
 ) -> Result<Report, AllocError>
-    ensures { IfOk result (λ report. IsComparison reading.allow_left_over old.now new.now format
+    ensures { IfOk result (λ report. IsComparison reading.allow_left_over old.now new.now asked
         (printed_of report)) }
 {
     let (of_old, mut messages) = judge(alloc, old, reading.allow_left_over)?;
@@ -84,9 +97,16 @@ fn comparison_report(
             status,
         });
     }
-    let found = differences(alloc, &old.read, &new.read)?;
-    let text = difference_text(alloc, format, old.name, new.name, found.as_slice())?;
-    let status = status.and(compared_status(found.as_slice()));
+    let algorithms = compared_algorithms(alloc, &old.read, &new.read, asked.bank)?;
+    let algorithms = algorithms.as_slice();
+    let found = differences(alloc, algorithms, &old.read, &new.read)?;
+    let logs = ComparedLogs {
+        old_name: old.name,
+        new_name: new.name,
+        algorithms,
+    };
+    let text = difference_text(alloc, asked.format, &logs, found.as_slice())?;
+    let status = status.and(compared_status(algorithms, found.as_slice()));
     Ok(Report {
         text,
         messages,
@@ -94,36 +114,44 @@ fn comparison_report(
     })
 }
 
-/// Returns the status: whether there are differences.
-fn compared_status(differences: &[PcrDifference<'_>]) -> Status
-    ensures { result ≡ compared_status (map difference_of differences.now) }
+/// Returns the status: whether there are differences, or no digests that are compared.
+#[tactic(auto, unfolding(crate::specs::Comparison::compared_status))]
+fn compared_status(algorithms: &[AlgorithmId], differences: &[PcrDifference<'_>]) -> Status
+    ensures { result ≡ compared_status (numbers_of algorithms.now)
+        (map difference_of differences.now) }
 {
-    match differences {
-        [] => Status::Well,
-        _ => Status::Differs,
+    if algorithms.is_empty() {
+        return Status::Unjudged;
     }
+    if differences.is_empty() {
+        return Status::Well;
+    }
+    Status::Differs
 }
 
-/// Returns what is printed of how the events of two logs with these names differ.
+/// Returns what is printed of how the events of two logs differ.
 #[tactic(auto, unfolding(crate::specs::Comparison::difference_text))]
 fn difference_text(
     alloc: Global,
     format: Format,
-    old_name: &str,
-    new_name: &str,
+    logs: &ComparedLogs<'_>,
     differences: &[PcrDifference<'_>],
 ) -> Result<String, AllocError>
     ensures { IfOk result (λ text. string_bytes text
-        ≡ difference_text format old_name.now new_name.now (map difference_of differences.now)) }
+        ≡ difference_text format (logs_of logs.now) (map difference_of differences.now)) }
 {
     let mut text = String::new(alloc);
     match format {
         Format::Text => {
-            let (old_name, new_name) = (shown(alloc, old_name)?, shown(alloc, new_name)?);
-            let (old_name, new_name) = (old_name.as_str(), new_name.as_str());
-            push_differences(&mut text, alloc, old_name, new_name, differences)?;
+            let (old_name, new_name) = (shown(alloc, logs.old_name)?, shown(alloc, logs.new_name)?);
+            let logs = ComparedLogs {
+                old_name: old_name.as_str(),
+                new_name: new_name.as_str(),
+                algorithms: logs.algorithms,
+            };
+            push_differences(&mut text, alloc, &logs, differences)?;
         }
-        Format::Json => push_differences_json(&mut text, alloc, old_name, new_name, differences)?,
+        Format::Json => push_differences_json(&mut text, alloc, logs, differences)?,
     }
     Ok(text)
 }

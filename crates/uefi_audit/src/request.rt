@@ -18,8 +18,8 @@ pub(crate) enum Request<'m, 'a> {
     Replay(&'m [&'a str], Option<Bank>, Option<u8>, Format),
     /// `verify LOG --registers FILE ..`: whether they are those of a TPM.
     Verify(Verification<'a>),
-    /// `diff OLD NEW [--json]`: how the events of the two logs differ.
-    Diff(&'a str, &'a str, Format),
+    /// `diff OLD NEW [--bank B] [--json]`: how the events of the two logs differ.
+    Diff(&'a str, &'a str, Option<Bank>, Format),
     /// `check LOG.. [--json]`: whether each event's digests are the hash of what its type measures.
     Check(&'m [&'a str], Format),
 }
@@ -142,7 +142,8 @@ fn diff_of<'m, 'a>(matches: &'m ArgMatches<'a>) -> Option<Request<'m, 'a>>
 {
     let old = matches.get_str("old")?;
     let new = matches.get_str("new")?;
-    Some(Request::Diff(old, new, format_of(matches)))
+    let bank = bank_of(matches)?;
+    Some(Request::Diff(old, new, bank, format_of(matches)))
 }
 
 /// Returns what the matches of `check` ask for.
@@ -210,8 +211,8 @@ fn last_entry_of(matches: &ArgMatches<'_>) -> Option<LastEntry>
     }
 }
 
-/// Returns the bank that a command's matches ask for, if they ask for one; `None` if it is none
-/// that can be replayed.
+/// Returns the bank that a command's matches ask for, if they ask for one; `None` if they name no
+/// bank.
 fn bank_of(matches: &ArgMatches<'_>) -> Option<Option<Bank>>
     ensures { MatchOption result
         ((bank : Option Bank) → AsksBank (found_of matches.now) bank → ⊥)

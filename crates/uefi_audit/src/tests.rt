@@ -8,7 +8,7 @@ use std::test::Fail;
 use uefi_tcg::LastEntry;
 
 /// Arguments after the program's name, and what they ask for.
-const ASKED: [(&[&str], &str); 21] = [
+const ASKED: [(&[&str], &str); 22] = [
     (&["events", "a.log"], "events a.log, as JSON"),
     (&["events", "a.log", "-"], "events a.log -, as JSON"),
     (&["events", "a.log", "--text"], "events a.log, as text"),
@@ -45,14 +45,21 @@ const ASKED: [(&[&str], &str); 21] = [
         ],
         "verify a.log pcrs, PCRs 0-7,14, locality 255, as JSON",
     ),
-    (&["diff", "a.log", "b.log"], "diff a.log b.log, as text"),
+    (
+        &["diff", "a.log", "b.log"],
+        "diff a.log b.log, active banks, as text",
+    ),
+    (
+        &["diff", "a.log", "b.log", "--bank", "sha256"],
+        "diff a.log b.log, Sha256, as text",
+    ),
     (
         &["diff", "a.log", "b.log", "--json"],
-        "diff a.log b.log, as JSON",
+        "diff a.log b.log, active banks, as JSON",
     ),
     (
         &["diff", "a.log", "b.log", "--allow-left-over"],
-        "diff a.log b.log, as text, with trailing bytes",
+        "diff a.log b.log, active banks, as text, with trailing bytes",
     ),
     (&["check", "a.log"], "check a.log, as text"),
     (
@@ -114,7 +121,7 @@ const WRONG: [&[&str]; 24] = [
     &["verify", "a.log", "--registers", "pcrs", "--bank", "sha1"],
     &["diff", "a.log"],
     &["diff", "a.log", "b.log", "c.log"],
-    &["diff", "a.log", "b.log", "--bank", "sha1"],
+    &["diff", "a.log", "b.log", "--bank", "sha3_256"],
     &["check"],
     &["events", "a.log", "--last-entry", ""],
     &["events", "a.log", "--last-entry", "+1"],
@@ -184,8 +191,9 @@ fn push_request(text: &mut String, request: &Request<'_, '_>) -> Result<(), Allo
             push_format(text, *format)
         }
         Request::Verify(asked) => push_verification(text, asked),
-        Request::Diff(old, new, format) => {
+        Request::Diff(old, new, bank, format) => {
             write!(text, "diff {old} {new}")?;
+            push_bank(text, *bank)?;
             push_format(text, *format)
         }
         Request::Check(logs, format) => {

@@ -1,6 +1,11 @@
-pub mod Orders
-pub mod Index
-pub mod Pcrs
-pub mod ThoseOnly
-pub mod Numbering
 pub mod Below
+pub mod Counts
+pub mod Digests
+pub mod Moves
+pub mod Numbering
+pub mod OneCounterpart
+pub mod Orders
+pub mod Parted
+pub mod Pcrs
+pub mod Ranks
+pub mod Words

@@ -1,2 +1,5 @@
+pub mod Algorithms
+pub mod Counterparts
 pub mod Differences
+pub mod Numbered
 pub mod Views

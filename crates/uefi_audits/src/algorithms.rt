@@ -35,7 +35,10 @@ fn in_order(alloc: Global, table: &AlgorithmDigestSizes<'_>) -> Result<Vec<u16>,
 }
 
 /// Returns the algorithm in each row of a table.
-fn each_algorithm(alloc: Global, table: &AlgorithmDigestSizes<'_>) -> Result<Vec<u16>, AllocError>
+pub(crate) fn each_algorithm(
+    alloc: Global,
+    table: &AlgorithmDigestSizes<'_>,
+) -> Result<Vec<u16>, AllocError>
     ensures { IfOk result
         (λ algorithms. algorithms.items ≡ map (λ row. row.0) (table_of table.now)) }
 {

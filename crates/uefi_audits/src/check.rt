@@ -152,7 +152,7 @@ fn matches_narrowed<A: Allocator>(alloc: A, event: &LogEvent<'_>) -> Result<bool
 
 /// Returns whether an event has digests of banks that can be replayed, and each is the hash of
 /// these two parts, one after the other.
-fn are_hashes(event: &LogEvent<'_>, first: &[u8], second: &[u8]) -> bool
+pub(crate) fn are_hashes(event: &LogEvent<'_>, first: &[u8], second: &[u8]) -> bool
     ensures { result ≡ are_hashes (first.now ++ second.now) (event_of event.now) }
 {
     has_digests(event) && all_agree(event, first, second)

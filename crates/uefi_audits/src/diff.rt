@@ -1,14 +1,22 @@
 //! How two event logs differ, by PCRs.
 //!
-//! [`differences`] returns, for each PCR whose events differ, where they differ first and which
-//! events only one log has. [`numbered_entries`] returns the events of a log with what their data
-//! say, and [`is_same_event`] compares two events.
+//! [`differences`] pairs each event of a log with its counterpart in another, and returns, for each
+//! PCR whose events differ, the pairs that aren't the same, the events that only one log has, and
+//! whether their order is another. [`compared_algorithms`] returns the algorithms whose digests both
+//! logs have, and [`is_same_event`] compares two events.
 
-pub use self::difference::{LogSide, PcrDifference, differences};
-pub use self::order::is_same_event;
+pub use self::algorithms::compared_algorithms;
+pub use self::compared::is_same_event;
+pub use self::difference::{EventChange, PcrDifference, differences};
+pub use self::names::{EventName, command_name, has_uncovered_name};
 pub use self::pcr::{ABOVE, NumberedEntry, numbered_entries};
 
+mod algorithms;
+mod changed;
+mod compared;
+mod counterparts;
 mod difference;
-mod only;
-mod order;
+mod event_key;
+mod moved;
+mod names;
 mod pcr;

@@ -2,6 +2,7 @@
 //! when it runs.
 
 ghost use Rattle.uefi_audits.specs.Laws.{OneChecked, OneContent};
+ghost use Rattle.uefi_audits.specs.diff.Counterparts.{OneCounterpart};
 
 use uefi_path::laws::{one_front, one_load_option};
 use uefi_tcg::laws::{one_boot_order, one_gpt_data, one_signature, one_value};
@@ -24,4 +25,10 @@ pub fn one_content()
 /// one [`CheckResult`](crate::check::CheckResult).
 pub fn one_checked()
     ensures { OneChecked }
+{}
+
+/// States that an event has at most one counterpart in another log, and is the counterpart of that.
+/// So [`differences`](crate::diff::differences) has each event of both logs in one pair, or alone.
+pub fn one_counterpart()
+    ensures { OneCounterpart }
 {}

@@ -28,6 +28,6 @@ mod line;
 mod missing;
 mod reading;
 mod selection;
-mod splitting;
+pub(crate) mod splitting;
 mod uncompared;
 mod verdict;

@@ -1,48 +1,55 @@
 -- No number of the JSON of how two logs differ is a float.
-use Rattle.std.proofs.Common.{◌≡◌, ℕ, List, [], ◌∷◌, length, map, refl}
+use Rattle.std.proofs.Common.{◌≡◌, ℕ, List, [], ◌∷◌, map, refl}
 use Rattle.std.specs.Prelude.{Bool, true, false, cond, ◌==◌, Option, None, Some}
-use Rattle.serde_json.specs.Data.{null, number, string, unsigned}
+use Rattle.serde_json.specs.Data.{null, number, unsigned}
 use Rattle.serde_json.specs.View.{items_of}
 use Rattle.serde_json.specs.Written.{has_float, items_have_float}
-use Rattle.audit_text.specs.words.Said.{said}
-use Rattle.uefi_audits.specs.diff.Differences.{Difference, Numbered, Side, type_of}
-use Rattle.audit_text.specs.json.Diff.{first_json, found_json, pcr_json, pcr_number, says_json, side_json}
-use Rattle.audit_text.proofs.json.NoFloats.{event_type}
+use Rattle.uefi_audits.specs.diff.Differences.{Change, Difference}
+use Rattle.uefi_audits.specs.diff.Numbered.{Numbered}
+use Rattle.audit_text.specs.ComparedLogs.{Logs}
+use Rattle.audit_text.specs.json.Algorithm.{algorithm_json}
+use Rattle.audit_text.specs.json.Diff.{change_json, entry_json, log_json, moved_json, pcr_json, pcr_number}
+use Rattle.audit_text.proofs.json.NoFloats.{no_float as no_float_in_event}
+use Rattle.audit_text.proofs.json.NoFloatsInContent.{algorithm}
 
-says_has : (words : List ℕ) → has_float (says_json words) ≡ false
-unfolding says_json
-says_has words = either (length words == 0)
-  where
-    either : (none : Bool) → has_float (cond none null (string words)) ≡ false
-    either true = refl
-    either false = refl
+algorithms : (all : List ℕ) → items_have_float (items_of (map algorithm_json all)) ≡ false
+algorithms [] = refl
+algorithms (n ∷ ns) = rw (algorithm n) (algorithms ns)
 
-found_has : (found : Numbered) → has_float (found_json found) ≡ false
-unfolding found_json
-found_has found = rw (says_has (said found.content)) (rw (event_type (type_of found)) refl)
+entry : (name : List ℕ) (found : Numbered) → has_float (entry_json name found) ≡ false
+entry name found = no_float_in_event name found.index found.entry found.content
 
-all_have : (all : List Numbered) → items_have_float (items_of (map found_json all)) ≡ false
-all_have [] = refl
-all_have (found ∷ others) = rw (found_has found) (all_have others)
+entries : (name : List ℕ) (all : List Numbered) → items_have_float (items_of (map (entry_json name) all)) ≡ false
+entries name [] = refl
+entries name (found ∷ others) = rw (entry name found) (entries name others)
 
-first_has : (first : Option Numbered) → has_float (first_json first) ≡ false
-unfolding first_json
-first_has None = refl
-first_has (Some found) = found_has found
+change : (logs : Logs) (found : Change) → has_float (change_json logs found) ≡ false
+unfolding change_json
+change logs found = rw (entry logs.new_name found.new) (rw (entry logs.old_name found.old) refl)
 
-side_has : (name : List ℕ) (side : Side) → has_float (side_json name side) ≡ false
-unfolding side_json
-side_has name side = rw (first_has side.first) (rw (all_have side.only) refl)
+changes : (logs : Logs) (all : List Change) → items_have_float (items_of (map (change_json logs) all)) ≡ false
+changes logs [] = refl
+changes logs (found ∷ others) = rw (change logs found) (changes logs others)
 
-number_has : (pcr : ℕ) → has_float (pcr_number pcr) ≡ false
+moved : (logs : Logs) (found : Option Change) → has_float (moved_json logs found) ≡ false
+unfolding moved_json
+moved logs None = refl
+moved logs (Some found) = change logs found
+
+log : (name : List ℕ) (only : List Numbered) → has_float (log_json name only) ≡ false
+unfolding log_json
+log name only = rw (entries name only) refl
+
+index : (pcr : ℕ) → has_float (pcr_number pcr) ≡ false
 unfolding pcr_number
-number_has pcr = either (pcr == 24)
+index pcr = either (pcr == 24)
   where
     either : (above : Bool) → has_float (cond above null (number (unsigned pcr))) ≡ false
     either true = refl
     either false = refl
 
-pub no_float : (old_name new_name : List ℕ) (difference : Difference) → has_float (pcr_json old_name new_name difference) ≡ false
+pub no_float : (logs : Logs) (difference : Difference) → has_float (pcr_json logs difference) ≡ false
 unfolding pcr_json
-no_float old_name new_name difference =
-    rw (side_has new_name difference.new) (rw (side_has old_name difference.old) (rw (number_has difference.pcr) refl))
+no_float logs difference =
+    rw (algorithms logs.algorithms) (rw (changes logs difference.changed) (rw (moved logs difference.moved)
+    (rw (log logs.new_name difference.only_new) (rw (log logs.old_name difference.only_old) (rw (index difference.pcr) refl)))))

@@ -1,60 +1,145 @@
 -- What `uefi_audit diff` prints of how the events of two logs differ.
-use Rattle.std.specs.Prelude.{ℕ, ◌==◌, length, false, codes, if◌then◌else◌}
-use Rattle.std.specs.Prelude.{List, [], ◌++◌, flat_map, Option, None, Some}
+use Rattle.std.specs.Prelude.{ℕ, ◌==◌, length, false, codes, map, if◌then◌else◌}
+use Rattle.std.specs.Prelude.{List, [], ◌∷◌, ◌++◌, flat_map, Option, None, Some}
 use Rattle.std.specs.Fmt.{decimal, digits}
-use Rattle.audit_text.specs.words.Said.{said}
+use Rattle.std.specs.Str.{bytes_eq}
+use Rattle.audit_text.specs.ComparedLogs.{Logs}
+use Rattle.audit_text.specs.text.Change.{change_text, data_of, digest_text, has_no_form}
+use Rattle.audit_text.specs.text.EventParts.{algorithm_text}
+use Rattle.audit_text.specs.words.Said.{said, shown_bytes}
 use Rattle.uefi_tcg.specs.EventTypes.{event_type_name}
-use Rattle.uefi_audits.specs.diff.Differences.{Difference, Numbered, pcr_of, type_of}
+use Rattle.uefi_tcg.specs.v2.Event.{Event}
+use Rattle.uefi_audits.specs.content.Content.{Content, unread, text, separator, locality, header, loader_text, crtm_version, blob, described_blob, tagged, gpt, variable, image}
+use Rattle.uefi_audits.specs.diff.Counterparts.{Name, command_name, has_uncovered_name}
+use Rattle.uefi_audits.specs.diff.Differences.{Change, Difference}
+use Rattle.uefi_audits.specs.diff.Numbered.{Numbered, pcr_of, type_of}
 
 -- The name of an event's type, or its number.
 unfoldable pub type_text : ℕ → Option (List ℕ) → List ℕ
 type_text number (Some name) = name
 type_text number None = codes "type 0x" ++ digits 16 false number
 
+-- The PCR and the type of an event, with which its line begins.
+unfoldable pub start_text : Numbered → List ℕ
+start_text found =
+    codes "PCR " ++ (decimal (pcr_of found) ++ (codes ": " ++ type_text (type_of found) (event_type_name (type_of found))))
+
+-- Where an event stands: its index, its offset and its log.
+unfoldable pub at_text : List ℕ → Numbered → List ℕ
+at_text name found =
+    codes "event " ++ (decimal found.index ++ (codes " at offset " ++ (decimal found.entry.offset ++ (codes " of " ++ name))))
+
 -- What data say, after a comma; nothing if they say nothing.
 unfoldable pub words_text : List ℕ → List ℕ
 words_text words = if length words == 0 then [] else codes ", " ++ words
 
--- An event of a log: its type, what its data say, its index and its offset.
-unfoldable pub event_text : List ℕ → Numbered → List ℕ
-event_text name found =
-    type_text (type_of found) (event_type_name (type_of found)) ++ (words_text (said found.content)
-    ++ (codes " (event " ++ (decimal found.index
-    ++ (codes " at offset " ++ (decimal found.entry.offset ++ (codes " of " ++ (name ++ codes ")")))))))
+-- Whether no digest covers what the data say, or the name in them.
+unfoldable pub cover_text : Numbered → List ℕ
+cover_text found =
+    if has_no_form found.entry.event then codes ", which no digest covers"
+    else if has_uncovered_name found.content found.entry.event then codes ", whose name no digest covers"
+    else []
 
--- What a line begins with: the PCR and the event.
-unfoldable pub place_text : List ℕ → Numbered → List ℕ
-place_text name found = codes "PCR " ++ (decimal (pcr_of found) ++ (codes ": " ++ event_text name found))
+-- What data say, and whether a digest covers it; nothing if they say nothing.
+unfoldable pub covered_words : List ℕ → List ℕ → List ℕ
+covered_words words cover = if length words == 0 then [] else codes ", " ++ (words ++ cover)
 
--- The line of two events that differ, that of an event after the last one of the other log, and that of an event that
--- only one log has.
-unfoldable pub other_line : List ℕ → Numbered → List ℕ → Numbered → List ℕ
-other_line old_name old new_name new =
-    place_text old_name old ++ (codes " differs from " ++ (event_text new_name new ++ codes "\n"))
+-- The digests of an event whose data aren't what was measured.
+unfoldable pub digest_words : Event → ℕ → List ℕ
+digest_words event algorithm = codes ", " ++ (algorithm_text algorithm ++ digest_text algorithm event)
 
-unfoldable pub last_line : List ℕ → Numbered → List ℕ → List ℕ
-last_line name found other_name =
-    place_text name found ++ (codes " comes after the last one of " ++ (other_name ++ codes "\n"))
+unfoldable pub digests_text : List ℕ → Event → List ℕ
+digests_text algorithms event = if has_no_form event then flat_map (digest_words event) algorithms else []
 
-unfoldable pub only_line : List ℕ → Numbered → List ℕ → List ℕ
-only_line name found other_name = place_text name found ++ (codes " isn't in " ++ (other_name ++ codes "\n"))
+-- What a line of one event begins with.
+unfoldable pub place_text : Logs → Numbered → List ℕ
+place_text logs found =
+    start_text found ++ (covered_words (said found.content) (cover_text found)
+    ++ (digests_text logs.algorithms found.entry.event
+    ++ (codes " (" ++ (at_text logs.old_name found ++ codes ")"))))
 
--- The line of the first event in which two logs differ, by what each has there.
-unfoldable pub first_line : List ℕ → Option Numbered → List ℕ → Option Numbered → List ℕ
-first_line old_name (Some old) new_name (Some new) = other_line old_name old new_name new
-first_line old_name (Some old) new_name None = last_line old_name old new_name
-first_line old_name None new_name (Some new) = last_line new_name new old_name
-first_line old_name None new_name None = []
+-- The word that GRUB writes before a command, and the command's first word.
+unfoldable pub command_words : Name → List ℕ
+command_words found =
+    if length found.name == 0 then shown_bytes found.namespace
+    else shown_bytes found.namespace ++ (codes ": " ++ shown_bytes found.name)
 
--- The lines of events that only one log has.
-abbrev pub only_lines : List ℕ → List Numbered → List ℕ → List ℕ
-only_lines name only other_name = flat_map (λ found. only_line name found other_name) only
+-- The name of a variable, the path of an image, or what GRUB writes before a command and the command's first word; other events
+-- that changed are named by their type alone.
+unfoldable pub name_words : Content → List ℕ → List ℕ
+name_words (variable it value) bytes = said (variable it value)
+name_words (image it nodes) bytes = said (image it nodes)
+name_words (loader_text it) bytes = command_words (command_name bytes)
+name_words unread bytes = []
+name_words (text it) bytes = []
+name_words (separator number) bytes = []
+name_words (locality number) bytes = []
+name_words (header it) bytes = []
+name_words (crtm_version it) bytes = []
+name_words (blob it) bytes = []
+name_words (described_blob it) bytes = []
+name_words (tagged events rest) bytes = []
+name_words (gpt it) bytes = []
 
--- Those of a PCR, and of all.
-unfoldable pub pcr_lines : List ℕ → List ℕ → Difference → List ℕ
-pcr_lines old_name new_name difference =
-    first_line old_name difference.old.first new_name difference.new.first
-    ++ (only_lines old_name difference.old.only new_name ++ only_lines new_name difference.new.only old_name)
+-- What an event that changed is named by: what its data say, if they are the same, or the name in them.
+unfoldable pub label_words : Numbered → Numbered → List ℕ
+label_words old new =
+    if bytes_eq (data_of old) (data_of new) then said old.content else name_words old.content (data_of old)
 
-abbrev pub difference_lines : List ℕ → List ℕ → List Difference → List ℕ
-difference_lines old_name new_name differences = flat_map (pcr_lines old_name new_name) differences
+unfoldable pub name_text : Change → List ℕ
+name_text change = words_text (label_words change.old change.new)
+
+-- The line of an event that differs from its counterpart.
+unfoldable pub places_text : Logs → Change → List ℕ
+places_text logs change =
+    codes " (" ++ (at_text logs.old_name change.old ++ (codes ", " ++ (at_text logs.new_name change.new ++ codes ")\n")))
+
+unfoldable pub changed_line : Logs → Change → List ℕ
+changed_line logs change =
+    start_text change.old ++ (name_text change
+    ++ (codes ": " ++ (change_text logs.algorithms change.old change.new ++ places_text logs change)))
+
+-- That of an event that the old log alone has, and that of the first event whose order is another.
+unfoldable pub only_line : Logs → Numbered → List ℕ
+only_line logs found = place_text logs found ++ (codes " isn't in " ++ (logs.new_name ++ codes "\n"))
+
+unfoldable pub earlier_text : List ℕ → Numbered → List ℕ
+earlier_text name found =
+    codes " comes earlier in " ++ (name ++ (codes ", as event " ++ (decimal found.index
+    ++ (codes " at offset " ++ (decimal found.entry.offset ++ codes "\n")))))
+
+unfoldable pub earlier_line : Logs → Change → List ℕ
+earlier_line logs change =
+    place_text logs change.old ++ earlier_text logs.new_name change.new
+
+unfoldable pub moved_line : Logs → Option Change → List ℕ
+moved_line logs None = []
+moved_line logs (Some change) = earlier_line logs change
+
+-- The lines of a PCR.
+abbrev pub changed_lines : Logs → List Change → List ℕ
+changed_lines logs changed = flat_map (changed_line logs) changed
+
+abbrev pub only_lines : Logs → List Numbered → List ℕ
+only_lines logs only = flat_map (only_line logs) only
+
+-- The logs the other way round.
+abbrev pub reversed : Logs → Logs
+reversed logs = record { old_name = logs.new_name; new_name = logs.old_name; algorithms = logs.algorithms }
+
+unfoldable pub pcr_lines : Logs → Difference → List ℕ
+pcr_lines logs difference =
+    changed_lines logs difference.changed ++ (only_lines logs difference.only_old
+    ++ (only_lines (reversed logs) difference.only_new ++ moved_line logs difference.moved))
+
+-- The algorithms whose digests are compared; and all lines.
+unfoldable pub algorithm_words : List ℕ → List ℕ
+algorithm_words algorithms = flat_map (λ algorithm. codes " " ++ algorithm_text algorithm) algorithms
+
+unfoldable pub compared_line : List ℕ → List ℕ
+compared_line algorithms =
+    if length algorithms == 0 then codes "compared: data alone, since no bank to compare is in both logs\n"
+    else codes "compared:" ++ (algorithm_words algorithms ++ codes "\n")
+
+abbrev pub difference_lines : Logs → List Difference → List ℕ
+difference_lines logs differences = compared_line logs.algorithms ++ flat_map (pcr_lines logs) differences

@@ -9,10 +9,10 @@
 pub use self::blocks::{push_event_blocks, push_header_block};
 
 mod blocks;
-mod content;
+pub(crate) mod content;
 mod firmware;
 mod gpt;
 mod hex_lines;
-mod names;
+pub(crate) mod names;
 mod signatures;
 mod variable;

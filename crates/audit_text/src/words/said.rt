@@ -81,7 +81,7 @@ pub fn push_said(text: &mut String, content: &EventContent<'_>) -> Result<(), Al
 }
 
 /// Appends the first bytes, each as the character of its number.
-fn push_bytes(text: &mut String, bytes: &[u8]) -> Result<(), AllocError>
+pub(crate) fn push_bytes(text: &mut String, bytes: &[u8]) -> Result<(), AllocError>
     ensures { OnOk result (AppendsText text.old text.new (shown_bytes bytes.now)) }
 {
     let (shown, _) = bytes.split_at(SHOWN_LENGTH.min(bytes.len()));

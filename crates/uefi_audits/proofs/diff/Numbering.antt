@@ -9,7 +9,7 @@ use Rattle.uefi_tcg.specs.LogViews.{entry_of}
 use Rattle.uefi_tcg.specs.declared.log_entries.LogEntry.{LogEntry}
 use Rattle.uefi_audits.specs.content.Content.{Content, Says, form_of}
 use Rattle.uefi_audits.specs.declared.diff.pcr.NumberedEntry.{NumberedEntry}
-use Rattle.uefi_audits.specs.diff.Differences.{AreNumbered, Numbered}
+use Rattle.uefi_audits.specs.diff.Numbered.{AreNumbered, Numbered}
 use Rattle.uefi_audits.specs.diff.Views.{numbered_of}
 
 -- Whatever those to come are, with those so far they are all.

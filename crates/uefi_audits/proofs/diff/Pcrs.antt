@@ -9,7 +9,8 @@ use Rattle.std.proofs.lemmas.List.{map-append, map_more}
 use Rattle.std.proofs.lemmas.List.Elements.{filter-append}
 use Rattle.std.proofs.lemmas.Option.{slice_get-map, slice_get_past, slice_get_read}
 use Rattle.uefi_tcg.specs.LogViews.{entry_of, event_of}
-use Rattle.uefi_audits.specs.diff.Differences.{Numbered, event_at, event_in, events_in, is_of, of_pcr}
+use Rattle.uefi_audits.specs.diff.Differences.{all_compared, compared, compared_at, compared_event}
+use Rattle.uefi_audits.specs.diff.Numbered.{Numbered, is_of, of_pcr}
 use Rattle.uefi_audits.specs.diff.Views.{numbered_of}
 use Rattle.uefi_audits.specs.declared.diff.pcr.NumberedEntry.{NumberedEntry}
 
@@ -72,29 +73,33 @@ got_is all at (Some found) test is =
     sym (slice_get_read all (length all) at found.now refl (ltb-true at (length all) (sym test)) is)
 
 -- The event at a place of a slice.
-pub event_there : (all : List NumberedEntry) (at : ℕ)
-    → option_map (λ found. event_of found.entry.event) (slice_get all at) ≡ event_at (map numbered_of all) at
-event_there all at =
-    sym (map_twice event_in numbered_of (slice_get all at))
-    ∙ ap (option_map event_in) (sym (slice_get-map numbered_of all at))
+pub event_there : (algorithms : List ℕ) (all : List NumberedEntry) (at : ℕ)
+    → option_map (λ found. compared_event algorithms (event_of found.entry.event)) (slice_get all at)
+    ≡ compared_at algorithms (map numbered_of all) at
+event_there algorithms all at =
+    sym (map_twice (compared algorithms) numbered_of (slice_get all at))
+    ∙ ap (option_map (compared algorithms)) (sym (slice_get-map numbered_of all at))
 
-pub event_got : (all : List NumberedEntry) (at : ℕ) (got : Option (Bor NumberedEntry))
+pub event_got : (algorithms : List ℕ) (all : List NumberedEntry) (at : ℕ) (got : Option (Bor NumberedEntry))
     → option_map (λ found. found.now) got ≡ slice_get all at
-    → option_map (λ found. event_of found.now.entry.event) got ≡ event_at (map numbered_of all) at
-event_got all at got is =
-    sym (map_twice (λ (found : NumberedEntry). event_of found.entry.event) (λ found. found.now) got)
-    ∙ ap (option_map (λ (found : NumberedEntry). event_of found.entry.event)) is ∙ event_there all at
+    → option_map (λ found. compared_event algorithms (event_of found.now.entry.event)) got
+    ≡ compared_at algorithms (map numbered_of all) at
+event_got algorithms all at got is =
+    sym (map_twice (λ (found : NumberedEntry). compared_event algorithms (event_of found.entry.event)) (λ found. found.now) got)
+    ∙ ap (option_map (λ (found : NumberedEntry). compared_event algorithms (event_of found.entry.event))) is
+    ∙ event_there algorithms all at
 
 -- Lists with the same events at all places have the same events.
-pub all_same : (old new : List Numbered)
-    → ((k : ℕ) → k < max (length old) (length new) → event_at old k ≡ event_at new k) → events_in old ≡ events_in new
-all_same [] [] same = refl
-all_same [] (b ∷ more) same = let here = same 0 (omega arith) in cc
-all_same (a ∷ more) [] same = let here = same 0 (omega arith) in cc
-all_same (a ∷ ones) (b ∷ others) same =
+pub all_same : (algorithms : List ℕ) (old new : List Numbered)
+    → ((k : ℕ) → k < max (length old) (length new) → compared_at algorithms old k ≡ compared_at algorithms new k)
+    → all_compared algorithms old ≡ all_compared algorithms new
+all_same algorithms [] [] same = refl
+all_same algorithms [] (b ∷ more) same = let here = same 0 (omega arith) in cc
+all_same algorithms (a ∷ more) [] same = let here = same 0 (omega arith) in cc
+all_same algorithms (a ∷ ones) (b ∷ others) same =
     let here = same 0 (omega arith) in
-    let head : event_in a ≡ event_in b = cc in
-    ap₂ (λ x xs. x ∷ xs) head (all_same ones others (λ k below. same (suc k) (omega arith)))
+    let head : compared algorithms a ≡ compared algorithms b = cc in
+    ap₂ (λ x xs. x ∷ xs) head (all_same algorithms ones others (λ k below. same (suc k) (omega arith)))
 
 -- The entry at a place of a slice.
 pub entry_copied : (all : List NumberedEntry) (at : ℕ) (got : Option (Bor NumberedEntry)) (first : Option NumberedEntry)

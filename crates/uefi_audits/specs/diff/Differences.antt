@@ -1,110 +1,141 @@
--- How the events of two logs differ, by PCRs. Events are the same if they are equal: PCR, type, digests and data. Where they
--- stand in the log is nothing of theirs.
-use Rattle.std.specs.Prelude.{ℕ, zero, suc, ◌≡◌, ◌≢◌, ◌⊎◌, ◌+◌, ◌<◌, ◌==◌, min, Bool}
+-- How the events of two logs differ, by PCRs. An event is compared with its counterpart: by PCR, type, data, and the digests of
+-- some algorithms. Where an event stands in its log is nothing of it.
+use Rattle.std.specs.Prelude.{ℕ, zero, suc, ◌≡◌, ◌≢◌, ◌⊎◌, ◌<◌, ◌==◌}
 use Rattle.std.specs.Prelude.{List, [], ◌∷◌, ◌++◌, map, slice_get, Option, None, Some, option_map, option_to_list}
-use Rattle.std.specs.List.{filter}
-use Rattle.uefi_tcg.specs.v2.Event.{Event}
-use Rattle.uefi_tcg.specs.Entries.{Entry}
-use Rattle.uefi_tcg.specs.declared.uintn_size.UintnSize.{UintnSize}
-use Rattle.pcr_replay.specs.ReadLogs.{entries_in, uintn_size_in}
+use Rattle.std.specs.List.{filter_map, find}
+use Rattle.uefi_tcg.specs.v2.Event.{Digest, Event}
 use Rattle.pcr_replay.specs.declared.read_log.ReadLog.{ReadLog}
-use Rattle.uefi_audits.specs.content.Content.{Content, Says, form_of}
+use Rattle.uefi_audits.specs.diff.Counterparts.{ArePaired, Paired, data_key, name_key}
+use Rattle.uefi_audits.specs.diff.Numbered.{AreNumberedIn, Numbered, of_pcr}
 
--- An entry of a log with its index, and what its data say.
-pub record Numbered : Type 0 where
-  pub index : ℕ
-  pub entry : Entry
-  pub content : Content
+-- The first digest of an algorithm.
+abbrev pub digest_in : List Digest → ℕ → Option (List ℕ)
+digest_in digests algorithm = option_map (λ digest. digest.bytes) (find (λ digest. digest.algorithm == algorithm) digests)
 
--- These are the entries, of which the first has this index, of a log with a UINTN of this size.
-abbrev pub AreNumbered : UintnSize → ℕ → List Entry → List Numbered → Type 0
-AreNumbered size index [] all = all ≡ []
-AreNumbered size index (entry ∷ entries) all =
-    (content : Content) × (rest : List Numbered) × Says size (form_of entry.event.event_type) entry.event.event_data content
-    × AreNumbered size (index + 1) entries rest × (all ≡ record { index = index; entry = entry; content = content } ∷ rest)
+-- An event as it is compared: its PCR, its type, its data, and its digests of these algorithms.
+pub record Compared : Type 0 where
+  pub pcr_index : ℕ
+  pub event_type : ℕ
+  pub event_data : List ℕ
+  pub digests : List (Option (List ℕ))
 
--- These are all entries of a log.
-abbrev pub AreNumberedIn : {A : Type 0} → ReadLog A → List Numbered → Type 0
-AreNumberedIn read all = AreNumbered (uintn_size_in read) 0 (entries_in read) all
+abbrev pub compared_event : List ℕ → Event → Compared
+compared_event algorithms event = record {
+  pcr_index = event.pcr_index;
+  event_type = event.event_type;
+  event_data = event.event_data;
+  digests = map (digest_in event.digests) algorithms;
+}
 
--- Those of a PCR. The PCRs above 23, which a PC's TPM doesn't have, are taken together as one, PCR
--- 24.
-abbrev pub is_of : ℕ → Entry → Bool
-is_of pcr entry = min entry.event.pcr_index 24 == pcr
+abbrev pub compared : List ℕ → Numbered → Compared
+compared algorithms found = compared_event algorithms found.entry.event
 
-abbrev pub of_pcr : ℕ → List Numbered → List Numbered
-of_pcr pcr all = filter (λ found. is_of pcr found.entry) all
+-- All events as they are compared, and the one at a place, if there is one.
+abbrev pub all_compared : List ℕ → List Numbered → List Compared
+all_compared algorithms all = map (compared algorithms) all
 
--- Their PCRs, their types, their events, and the event at a place, if there is one.
-abbrev pub pcr_of : Numbered → ℕ
-pcr_of found = found.entry.event.pcr_index
-
-abbrev pub type_of : Numbered → ℕ
-type_of found = found.entry.event.event_type
-
-abbrev pub event_in : Numbered → Event
-event_in found = found.entry.event
-
-abbrev pub events_in : List Numbered → List Event
-events_in all = map event_in all
-
-abbrev pub event_at : List Numbered → ℕ → Option Event
-event_at all at = option_map event_in (slice_get all at)
+abbrev pub compared_at : List ℕ → List Numbered → ℕ → Option Compared
+compared_at algorithms all at = option_map (compared algorithms) (slice_get all at)
 
 -- Two lists differ here first: in an event, or since one of them has none.
-pub record DifferAt (old new : List Numbered) (at : ℕ) : Type 0 where
-  pub before : (k : ℕ) → k < at → event_at old k ≡ event_at new k
-  pub here : event_at old at ≢ event_at new at
+pub record DifferAt (algorithms : List ℕ) (old new : List Numbered) (at : ℕ) : Type 0 where
+  pub before : (k : ℕ) → k < at → compared_at algorithms old k ≡ compared_at algorithms new k
+  pub here : compared_at algorithms old at ≢ compared_at algorithms new at
 
--- An event is one of these.
-abbrev pub IsAmong : Event → List Numbered → Type 0
-IsAmong event others = (at : ℕ) × (event_at others at ≡ Some event)
+-- An event of the old log and its counterpart in the new one.
+pub record Change : Type 0 where
+  pub old : Numbered
+  pub new : Numbered
 
--- Those entries, in order, whose events aren't among the others.
-abbrev pub WithIfOnly : List Numbered → Numbered → List Numbered → List Numbered → Type 0
-WithIfOnly others found rest only =
-    (IsAmong (event_in found) others × (only ≡ rest)) ⊎ ((IsAmong (event_in found) others → ⊥) × (only ≡ found ∷ rest))
+-- The events that have a counterpart, each with it; and those that have none.
+abbrev pub change_in : Paired → Option Change
+change_in paired = option_map (λ new. record { old = paired.found; new = new }) paired.counterpart
 
-abbrev pub AreThoseOnly : List Numbered → List Numbered → List Numbered → Type 0
-AreThoseOnly others [] only = only ≡ []
-AreThoseOnly others (found ∷ more) only = (rest : List Numbered) × WithIfOnly others found rest only × AreThoseOnly others more rest
+abbrev pub changes_in : List Paired → List Change
+changes_in all = filter_map change_in all
 
--- What one log has of a PCR whose events differ: its event where they differ first, if it has one there, and its events that
--- the other log doesn't have.
-pub record Side : Type 0 where
-  pub first : Option Numbered
-  pub only : List Numbered
+abbrev pub if_alone : Numbered → Option Numbered → Option Numbered
+if_alone found None = Some found
+if_alone found (Some counterpart) = None
+
+abbrev pub alone_in : List Paired → List Numbered
+alone_in all = filter_map (λ paired. if_alone paired.found paired.counterpart) all
+
+-- Those pairs, in order, whose events aren't the same as they are compared.
+abbrev pub AreSame : List ℕ → Change → Type 0
+AreSame algorithms pair = compared algorithms pair.old ≡ compared algorithms pair.new
+
+abbrev pub WithIfChanged : List ℕ → Change → List Change → List Change → Type 0
+WithIfChanged algorithms pair rest changed =
+    (AreSame algorithms pair × (changed ≡ rest)) ⊎ ((AreSame algorithms pair → ⊥) × (changed ≡ pair ∷ rest))
+
+abbrev pub AreChanged : List ℕ → List Change → List Change → Type 0
+AreChanged algorithms [] changed = changed ≡ []
+AreChanged algorithms (pair ∷ pairs) changed =
+    (rest : List Change) × WithIfChanged algorithms pair rest changed × AreChanged algorithms pairs rest
+
+-- The first pair whose new event comes before that of an earlier pair: the order of the events is another.
+pub record IsMovedAt (pairs : List Change) (at : ℕ) (pair : Change) : Type 0 where
+  pub here : slice_get pairs at ≡ Some pair
+  pub earlier : Change
+  pub place : ℕ
+  pub within : place < at
+  pub there : slice_get pairs place ≡ Some earlier
+  pub before : pair.new.index < earlier.new.index
+
+abbrev pub IsFirstMoved : List Change → Option Change → Type 0
+IsFirstMoved pairs None = (at : ℕ) (pair : Change) → IsMovedAt pairs at pair → ⊥
+IsFirstMoved pairs (Some moved) =
+    (at : ℕ) × IsMovedAt pairs at moved × ((earlier : ℕ) (pair : Change) → earlier < at → IsMovedAt pairs earlier pair → ⊥)
 
 -- How the events of a PCR differ.
 pub record Difference : Type 0 where
   pub pcr : ℕ
-  pub old : Side
-  pub new : Side
+  pub changed : List Change
+  pub only_old : List Numbered
+  pub only_new : List Numbered
+  pub moved : Option Change
+
+-- The counterparts of a PCR's events. First those that have the same data are counterparts, in order; and then, of the events
+-- that are left, those of the same name.
+pub record Counterparts : Type 0 where
+  pub of_old : List Paired
+  pub of_new : List Paired
+  pub left_of_old : List Paired
+  pub left_of_new : List Paired
+
+pub record AreCounterpartsOf (old new : List Numbered) (all : Counterparts) : Type 0 where
+  pub of_old : ArePaired data_key old new all.of_old
+  pub of_new : ArePaired data_key new old all.of_new
+  pub left_of_old : ArePaired name_key (alone_in all.of_old) (alone_in all.of_new) all.left_of_old
+  pub left_of_new : ArePaired name_key (alone_in all.of_new) (alone_in all.of_old) all.left_of_new
 
 -- These events of a PCR differ so.
-pub record DifferSo (pcr : ℕ) (old new : List Numbered) (difference : Difference) : Type 0 where
+pub record DifferSo (algorithms : List ℕ) (pcr : ℕ) (old new : List Numbered) (difference : Difference) : Type 0 where
   pub of_pcr : difference.pcr ≡ pcr
   pub at : ℕ
-  pub first : DifferAt old new at
-  pub old_first : difference.old.first ≡ slice_get old at
-  pub new_first : difference.new.first ≡ slice_get new at
-  pub only_old : AreThoseOnly new old difference.old.only
-  pub only_new : AreThoseOnly old new difference.new.only
+  pub first : DifferAt algorithms old new at
+  pub counterparts : Counterparts
+  pub are : AreCounterpartsOf old new counterparts
+  pub changed : AreChanged algorithms (changes_in counterparts.of_old ++ changes_in counterparts.left_of_old) difference.changed
+  pub only_old : difference.only_old ≡ alone_in counterparts.left_of_old
+  pub only_new : difference.only_new ≡ alone_in counterparts.left_of_new
+  pub moved : IsFirstMoved (changes_in counterparts.of_old) difference.moved
 
 -- They are the same, and there is no difference; or they differ.
-abbrev pub IsDifference : ℕ → List Numbered → List Numbered → Option Difference → Type 0
-IsDifference pcr old new None = events_in old ≡ events_in new
-IsDifference pcr old new (Some difference) = DifferSo pcr old new difference
+abbrev pub IsDifference : List ℕ → ℕ → List Numbered → List Numbered → Option Difference → Type 0
+IsDifference algorithms pcr old new None = all_compared algorithms old ≡ all_compared algorithms new
+IsDifference algorithms pcr old new (Some difference) = DifferSo algorithms pcr old new difference
 
 -- The differences of all PCRs below a number, in order.
-unfoldable pub DifferBelow : ℕ → List Numbered → List Numbered → List Difference → Type 0
-DifferBelow zero old new all = all ≡ []
-DifferBelow (suc pcr) old new all =
-    (before : List Difference) × (here : Option Difference) × DifferBelow pcr old new before
-    × IsDifference pcr (of_pcr pcr old) (of_pcr pcr new) here × (all ≡ before ++ option_to_list here)
+unfoldable pub DifferBelow : List ℕ → ℕ → List Numbered → List Numbered → List Difference → Type 0
+DifferBelow algorithms zero old new all = all ≡ []
+DifferBelow algorithms (suc pcr) old new all =
+    (before : List Difference) × (here : Option Difference) × DifferBelow algorithms pcr old new before
+    × IsDifference algorithms pcr (of_pcr pcr old) (of_pcr pcr new) here × (all ≡ before ++ option_to_list here)
 
 -- The differences of two logs: of the PCRs 0 to 23, and of those above.
-abbrev pub AreDifferences : {A : Type 0} → ReadLog A → ReadLog A → List Difference → Type 0
-AreDifferences old new all =
+abbrev pub AreDifferences : {A : Type 0} → List ℕ → ReadLog A → ReadLog A → List Difference → Type 0
+AreDifferences algorithms old new all =
     (olds : List Numbered) × (news : List Numbered) × AreNumberedIn old olds × AreNumberedIn new news
-    × DifferBelow 25 olds news all
+    × DifferBelow algorithms 25 olds news all

@@ -1,3 +1,2 @@
-pub mod Order
-pub mod Views
-pub mod Index
+pub mod Keys
+pub mod Ranks

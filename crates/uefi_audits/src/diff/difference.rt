@@ -1,67 +1,101 @@
-ghost use Rattle.std.specs.Prelude.{map, option_map, IfOk};
-ghost use Rattle.uefi_audits.specs.diff.Differences.{AreDifferences, DifferBelow, IsDifference, of_pcr};
-ghost use Rattle.uefi_audits.specs.diff.Views.{difference_of, numbered_of};
+ghost use Rattle.std.specs.Prelude.{◌≡◌, ◌++◌, map, option_map, IfOk};
+ghost use Rattle.uefi_audits.specs.diff.Counterparts.{ArePaired, data_key, name_key};
+ghost use Rattle.uefi_audits.specs.diff.Differences.{AreChanged, AreCounterpartsOf, AreDifferences, DifferBelow, IsDifference, changes_in};
+ghost use Rattle.uefi_audits.specs.diff.Numbered.{of_pcr};
+ghost use Rattle.uefi_audits.specs.diff.Views.{change_of, difference_of, numbered_of, numbers_of};
+ghost use Rattle.uefi_audits.specs.private.diff.Ranks.{counterparts_of, paired_of};
 
-use crate::diff::only::those_only;
+use crate::diff::changed::{changed, changes_in};
+use crate::diff::counterparts::{PairedEvent, alone, counterparts};
+use crate::diff::event_key::KeyedBy;
+use crate::diff::moved::first_moved;
 use crate::diff::pcr::{COMPARED, NumberedEntry, entries_of, first_difference, numbered_entries};
 use pcr_replay::ReadLog;
 use std::alloc::{AllocError, Global};
+use uefi_tcg::AlgorithmId;
 
 /// How the events of a PCR differ between two logs.
 #[derive(Drop)]
 pub struct PcrDifference<'a> {
     /// The PCR; [`ABOVE`](crate::diff::ABOVE) for those above 23, which are taken together.
     pub pcr: u32,
-    /// What the old log has.
-    pub old: LogSide<'a>,
-    /// What the new log has.
-    pub new: LogSide<'a>,
+    /// The events that have a counterpart which isn't the same: first those whose data are, then
+    /// the others, each in the order of the old log.
+    pub changed: Vec<EventChange<'a>>,
+    /// The events of the old log that have no counterpart, in order.
+    pub only_old: Vec<NumberedEntry<'a>>,
+    /// The events of the new log that have no counterpart, in order.
+    pub only_new: Vec<NumberedEntry<'a>>,
+    /// The first event with the same data in both logs that comes in the new log before one which
+    /// it follows in the old log; `None` if there is none.
+    pub moved: Option<EventChange<'a>>,
 }
 
-/// What one log has of a PCR whose events differ from those of another log.
+/// An event of the old log and its counterpart in the new one.
+#[derive(Clone, Copy)]
+pub struct EventChange<'a> {
+    /// The event of the old log.
+    pub old: NumberedEntry<'a>,
+    /// Its counterpart.
+    pub new: NumberedEntry<'a>,
+}
+
+/// The events of a PCR with their counterparts.
 #[derive(Drop)]
-pub struct LogSide<'a> {
-    /// Its event where the logs differ first; `None` if it has none there.
-    pub first: Option<NumberedEntry<'a>>,
-    /// Its events that the other log doesn't have, in order.
-    pub only: Vec<NumberedEntry<'a>>,
+pub(crate) struct Counterparts<'a> {
+    /// The events of the old log with those of the new one that have the same data.
+    pub(crate) of_old: Vec<PairedEvent<'a>>,
+    /// And the other way round.
+    pub(crate) of_new: Vec<PairedEvent<'a>>,
+    /// Those that are left of the old log, with those left of the new one that have the same name.
+    pub(crate) left_of_old: Vec<PairedEvent<'a>>,
+    /// And the other way round.
+    pub(crate) left_of_new: Vec<PairedEvent<'a>>,
 }
 
 /// Returns how the events of two logs differ, PCR by PCR, those above 23 together. A PCR whose
-/// events are the same has no difference.
+/// events are the same, in the same order, has no difference.
 ///
-/// Events are the same if they have the same PCR, type, digests and data, wherever they are in the
-/// log. An event is sought among those of its PCR in the other log by their order, so that the time
-/// is in proportion to n log n.
+/// An event has at most one counterpart, of its PCR and its type. The first event with some data is
+/// the counterpart of the first one with the same data in the other log, the second of the second,
+/// and so on. Of the events that are left, those are counterparts in the same way whose data have
+/// the same name: that and the GUID of a variable, the device path of an image, the first word of a
+/// command of GRUB, the number of a tag, or none. Two counterparts are the same if they have the
+/// same data, and the same digest of each of `algorithms`, or none
+/// ([`is_same_event`](crate::diff::is_same_event)).
+///
+/// The time is in proportion to n log n.
 ///
 /// # Errors
 ///
 /// [`AllocError`] if an allocation fails.
 pub fn differences<'a>(
     alloc: Global,
+    algorithms: &[AlgorithmId],
     old: &ReadLog<'a>,
     new: &ReadLog<'a>,
 ) -> Result<Vec<PcrDifference<'a>>, AllocError>
-    ensures { IfOk result (λ found.
-        AreDifferences old.now new.now (map difference_of found.items)) }
+    ensures { IfOk result (λ found. AreDifferences (numbers_of algorithms.now) old.now new.now
+        (map difference_of found.items)) }
 {
     let olds = numbered_entries(alloc, old)?;
     let news = numbered_entries(alloc, new)?;
-    differences_of(alloc, olds.as_slice(), news.as_slice())
+    differences_of(alloc, algorithms, olds.as_slice(), news.as_slice())
 }
 
 /// Returns how these events of two logs differ, PCR by PCR.
 fn differences_of<'a>(
     alloc: Global,
+    algorithms: &[AlgorithmId],
     olds: &[NumberedEntry<'a>],
     news: &[NumberedEntry<'a>],
 ) -> Result<Vec<PcrDifference<'a>>, AllocError>
-    ensures { IfOk result (λ found. DifferBelow 25 (map numbered_of olds.now)
-        (map numbered_of news.now) (map difference_of found.items)) }
+    ensures { IfOk result (λ found. DifferBelow (numbers_of algorithms.now) 25
+        (map numbered_of olds.now) (map numbered_of news.now) (map difference_of found.items)) }
 {
     let mut found = Vec::new(alloc);
     for pcr in 0..COMPARED {
-        if let Some(difference) = pcr_difference(alloc, olds, news, pcr)? {
+        if let Some(difference) = pcr_difference(alloc, algorithms, olds, news, pcr)? {
             found.push(difference)?;
         }
     }
@@ -71,38 +105,88 @@ fn differences_of<'a>(
 /// Returns how the events of a PCR differ; `None` if they don't.
 fn pcr_difference<'a>(
     alloc: Global,
+    algorithms: &[AlgorithmId],
     olds: &[NumberedEntry<'a>],
     news: &[NumberedEntry<'a>],
     pcr: u32,
 ) -> Result<Option<PcrDifference<'a>>, AllocError>
-    ensures { IfOk result (λ found. IsDifference pcr (of_pcr pcr (map numbered_of olds.now))
-        (of_pcr pcr (map numbered_of news.now)) (option_map difference_of found)) }
+    ensures { IfOk result (λ found. IsDifference (numbers_of algorithms.now) pcr
+        (of_pcr pcr (map numbered_of olds.now)) (of_pcr pcr (map numbered_of news.now))
+        (option_map difference_of found)) }
 {
     let olds = entries_of(alloc, olds, pcr)?;
     let news = entries_of(alloc, news, pcr)?;
-    difference_in(alloc, olds.as_slice(), news.as_slice(), pcr)
+    difference_in(alloc, algorithms, olds.as_slice(), news.as_slice(), pcr)
 }
 
 /// Returns how these events, which are all of a PCR, differ; `None` if they don't.
 fn difference_in<'a>(
     alloc: Global,
+    algorithms: &[AlgorithmId],
     olds: &[NumberedEntry<'a>],
     news: &[NumberedEntry<'a>],
     pcr: u32,
 ) -> Result<Option<PcrDifference<'a>>, AllocError>
-    ensures { IfOk result (λ found. IsDifference pcr (map numbered_of olds.now)
-        (map numbered_of news.now) (option_map difference_of found)) }
+    ensures { IfOk result (λ found. IsDifference (numbers_of algorithms.now) pcr
+        (map numbered_of olds.now) (map numbered_of news.now) (option_map difference_of found)) }
 {
-    let Some(at) = first_difference(olds, news) else {
+    if first_difference(algorithms, olds, news).is_none() {
         return Ok(None);
-    };
-    let old = LogSide {
-        first: olds.get(at).copied(),
-        only: those_only(alloc, olds, news)?,
-    };
-    let new = LogSide {
-        first: news.get(at).copied(),
-        only: those_only(alloc, news, olds)?,
-    };
-    Ok(Some(PcrDifference { pcr, old, new }))
+    }
+    let all = counterparts_of(alloc, olds, news)?;
+    let pairs = changes_in(alloc, all.of_old.as_slice())?;
+    Ok(Some(PcrDifference {
+        pcr,
+        changed: changed_in(
+            alloc,
+            algorithms,
+            pairs.as_slice(),
+            all.left_of_old.as_slice(),
+        )?,
+        only_old: alone(alloc, all.left_of_old.as_slice())?,
+        only_new: alone(alloc, all.left_of_new.as_slice())?,
+        moved: first_moved(pairs.as_slice()),
+    }))
+}
+
+/// Returns the events of a PCR with their counterparts.
+fn counterparts_of<'a>(
+    alloc: Global,
+    olds: &[NumberedEntry<'a>],
+    news: &[NumberedEntry<'a>],
+) -> Result<Counterparts<'a>, AllocError>
+    ensures { IfOk result (λ all. AreCounterpartsOf (map numbered_of olds.now)
+        (map numbered_of news.now) (counterparts_of all)) }
+{
+    let of_old = counterparts(alloc, olds, news, KeyedBy::Data)?;
+    let of_new = counterparts(alloc, news, olds, KeyedBy::Data)?;
+    let olds = alone(alloc, of_old.as_slice())?;
+    let news = alone(alloc, of_new.as_slice())?;
+    let (olds, news) = (olds.as_slice(), news.as_slice());
+    let left_of_old = counterparts(alloc, olds, news, KeyedBy::Name)?;
+    let left_of_new = counterparts(alloc, news, olds, KeyedBy::Name)?;
+    Ok(Counterparts {
+        of_old,
+        of_new,
+        left_of_old,
+        left_of_new,
+    })
+}
+
+/// Returns the pairs whose events aren't the same: of these, and of events with their counterparts.
+fn changed_in<'a>(
+    alloc: Global,
+    algorithms: &[AlgorithmId],
+    pairs: &[EventChange<'a>],
+    left: &[PairedEvent<'a>],
+) -> Result<Vec<EventChange<'a>>, AllocError>
+    ensures { IfOk result (λ found. AreChanged (numbers_of algorithms.now)
+        (map change_of pairs.now ++ changes_in (map paired_of left.now))
+        (map change_of found.items)) }
+{
+    let mut all = Vec::new(alloc);
+    all.extend_from_slice(pairs)?;
+    let left = changes_in(alloc, left)?;
+    all.extend_from_slice(left.as_slice())?;
+    changed(alloc, algorithms, all.as_slice())
 }

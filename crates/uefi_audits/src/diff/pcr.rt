@@ -1,13 +1,14 @@
 ghost use Rattle.std.specs.Prelude.{◌≡◌, ◌↔◌, map, IfOk, IsTrue, MatchOption, option_map};
 ghost use Rattle.uefi_tcg.specs.LogViews.{entry_of, event_of};
-ghost use Rattle.uefi_audits.specs.diff.Differences.{AreNumberedIn, DifferAt, events_in, is_of, of_pcr};
-ghost use Rattle.uefi_audits.specs.diff.Views.{numbered_of};
+ghost use Rattle.uefi_audits.specs.diff.Differences.{DifferAt, all_compared, compared_event};
+ghost use Rattle.uefi_audits.specs.diff.Numbered.{AreNumberedIn, is_of, of_pcr};
+ghost use Rattle.uefi_audits.specs.diff.Views.{numbered_of, numbers_of};
 
 use crate::content::{EventContent, read_content};
-use crate::diff::order::is_same_event;
+use crate::diff::compared::is_same_event;
 use pcr_replay::ReadLog;
 use std::alloc::{AllocError, Global};
-use uefi_tcg::LogEntry;
+use uefi_tcg::{AlgorithmId, LogEntry};
 
 /// How many PCRs are compared: the 24 that a TPM has, and those above as one.
 pub(crate) const COMPARED: u32 = 25;
@@ -78,15 +79,18 @@ fn is_of(pcr: u32, entry: &LogEntry<'_>) -> bool
 
 /// Returns the first place at which the events differ, or one list has an event and the other none.
 pub(crate) fn first_difference(
+    algorithms: &[AlgorithmId],
     old: &[NumberedEntry<'_>],
     new: &[NumberedEntry<'_>],
 ) -> Option<usize>
     ensures { MatchOption result
-        (events_in (map numbered_of old.now) ≡ events_in (map numbered_of new.now))
-        (DifferAt (map numbered_of old.now) (map numbered_of new.now)) }
+        (all_compared (numbers_of algorithms.now) (map numbered_of old.now)
+        ≡ all_compared (numbers_of algorithms.now) (map numbered_of new.now))
+        (DifferAt (numbers_of algorithms.now) (map numbered_of old.now)
+        (map numbered_of new.now)) }
 {
     for at in 0..old.len().max(new.len()) {
-        if !is_same_or_none(old.get(at), new.get(at)) {
+        if !is_same_or_none(algorithms, old.get(at), new.get(at)) {
             return Some(at);
         }
     }
@@ -94,12 +98,20 @@ pub(crate) fn first_difference(
 }
 
 /// Returns whether there are two events that are the same, or none.
-fn is_same_or_none(one: Option<&NumberedEntry<'_>>, other: Option<&NumberedEntry<'_>>) -> bool
-    ensures { IsTrue result ↔ (option_map (λ found. event_of found.now.entry.event) one.entry
-        ≡ option_map (λ found. event_of found.now.entry.event) other.entry) }
+fn is_same_or_none(
+    algorithms: &[AlgorithmId],
+    one: Option<&NumberedEntry<'_>>,
+    other: Option<&NumberedEntry<'_>>,
+) -> bool
+    ensures { IsTrue result ↔ (option_map (λ found. compared_event (numbers_of algorithms.now)
+        (event_of found.now.entry.event)) one.entry
+        ≡ option_map (λ found. compared_event (numbers_of algorithms.now)
+        (event_of found.now.entry.event)) other.entry) }
 {
     match (one, other) {
-        (Some(one), Some(other)) => is_same_event(&one.entry.event, &other.entry.event),
+        (Some(one), Some(other)) => {
+            is_same_event(algorithms, &one.entry.event, &other.entry.event)
+        }
         (None, None) => true,
         _ => false,
     }

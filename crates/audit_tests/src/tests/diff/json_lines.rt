@@ -1,9 +1,10 @@
+use audit_text::ComparedLogs;
 use audit_text::json::push_differences_json;
 use pcr_replay::ReadLog;
 use std::alloc::{AllocError, Global};
 use std::test::Fail;
 use test_support::{bytes, same, same_text};
-use uefi_audits::diff::differences;
+use uefi_audits::diff::{compared_algorithms, differences};
 use uefi_tcg::{LastEntry, Log};
 
 /// Two logs, and the lines of JSON of how they differ.
@@ -13,15 +14,15 @@ struct Row {
     lines: &'static str,
 }
 
-const ROWS: [Row; 10] = [
+const ROWS: [Row; 17] = [
     // The same events; those of other PCRs stand between them.
     Row {
-        old: "0100000008000000aaaaaaaaaaaaaaaaaaaaaaaaaaaaaaaaaaaaaaaa00000000030000\
-              0008000000aaaaaaaaaaaaaaaaaaaaaaaaaaaaaaaaaaaaaaaa00000000010000000400\
-              0000bbbbbbbbbbbbbbbbbbbbbbbbbbbbbbbbbbbbbbbb0400000000000000",
-        new: "0300000008000000aaaaaaaaaaaaaaaaaaaaaaaaaaaaaaaaaaaaaaaa00000000010000\
-              0008000000aaaaaaaaaaaaaaaaaaaaaaaaaaaaaaaaaaaaaaaa00000000010000000400\
-              0000bbbbbbbbbbbbbbbbbbbbbbbbbbbbbbbbbbbbbbbb0400000000000000",
+        old: "0100000008000000aaaaaaaaaaaaaaaaaaaaaaaaaaaaaaaaaaaaaaaa00000000 \
+              0300000008000000aaaaaaaaaaaaaaaaaaaaaaaaaaaaaaaaaaaaaaaa00000000 \
+              0100000004000000bbbbbbbbbbbbbbbbbbbbbbbbbbbbbbbbbbbbbbbb0400000000000000",
+        new: "0300000008000000aaaaaaaaaaaaaaaaaaaaaaaaaaaaaaaaaaaaaaaa00000000 \
+              0100000008000000aaaaaaaaaaaaaaaaaaaaaaaaaaaaaaaaaaaaaaaa00000000 \
+              0100000004000000bbbbbbbbbbbbbbbbbbbbbbbbbbbbbbbbbbbbbbbb0400000000000000",
         lines: "",
     },
     // No events.
@@ -33,129 +34,297 @@ const ROWS: [Row; 10] = [
     // An event more.
     Row {
         old: "0100000008000000aaaaaaaaaaaaaaaaaaaaaaaaaaaaaaaaaaaaaaaa00000000",
-        new: "0100000008000000aaaaaaaaaaaaaaaaaaaaaaaaaaaaaaaaaaaaaaaa00000000010000\
-              0004000000bbbbbbbbbbbbbbbbbbbbbbbbbbbbbbbbbbbbbbbb0400000000000000",
-        lines: "{\"new\":{\"first\":{\"index\":1,\"offset\":32,\"pcr\":1,\"says\"\
-                :\"separator 0\",\"type\":{\"name\":\"EV_SEPARATOR\",\"number\":4}},\"\
-                log\":\"new.log\",\"only\":[{\"index\":1,\"offset\":32,\"pcr\":1,\
-                \"says\":\"separator 0\",\"type\":{\"name\":\"EV_SEPARATOR\",\"number\
-                \":4}}]},\"old\":{\"first\":null,\"log\":\"old.log\",\"only\":[]},\"pcr\":\
-                1}\n",
+        new: "0100000008000000aaaaaaaaaaaaaaaaaaaaaaaaaaaaaaaaaaaaaaaa00000000 \
+              0100000004000000bbbbbbbbbbbbbbbbbbbbbbbbbbbbbbbbbbbbbbbb0400000000000000",
+        lines: "{\"algorithms\":[\"sha1\"],\"changed\":[],\"moved\":null,\"new\":{\"log\":\
+                \"new.log\",\"only\":[{\"content\":{\"separator\":0},\"data\":\"00000000\",\
+                \"digests\":[{\"algorithm\":\"sha1\",\"digest\":\
+                \"bbbbbbbbbbbbbbbbbbbbbbbbbbbbbbbbbbbbbbbb\"}],\"hashes_to\":[],\"index\":1,\
+                \"log\":\"new.log\",\"offset\":32,\"pcr\":1,\"type\":{\"name\":\"EV_SEPARATOR\",\
+                \"number\":4}}]},\"old\":{\"log\":\"old.log\",\"only\":[]},\"pcr\":1}\n",
     },
     // An event that the log has before stands twice in it.
     Row {
         old: "0100000008000000aaaaaaaaaaaaaaaaaaaaaaaaaaaaaaaaaaaaaaaa00000000",
-        new: "0100000008000000aaaaaaaaaaaaaaaaaaaaaaaaaaaaaaaaaaaaaaaa00000000010000\
-              0008000000aaaaaaaaaaaaaaaaaaaaaaaaaaaaaaaaaaaaaaaa00000000",
-        lines: "{\"new\":{\"first\":{\"index\":1,\"offset\":32,\"pcr\":1,\"says\"\
-                :null,\"type\":{\"name\":\"EV_S_CRTM_VERSION\",\"number\":8}},\"log\":\
-                \"new.log\",\"only\":[]},\"old\":{\"first\":null,\"log\":\"old.log\",\
-                \"only\":[]},\"pcr\":1}\n",
+        new: "0100000008000000aaaaaaaaaaaaaaaaaaaaaaaaaaaaaaaaaaaaaaaa00000000 \
+              0100000008000000aaaaaaaaaaaaaaaaaaaaaaaaaaaaaaaaaaaaaaaa00000000",
+        lines: "{\"algorithms\":[\"sha1\"],\"changed\":[],\"moved\":null,\"new\":{\"log\":\
+                \"new.log\",\"only\":[{\"content\":{\"crtm_version\":\"\"},\"data\":\"\",\
+                \"digests\":[{\"algorithm\":\"sha1\",\"digest\":\
+                \"aaaaaaaaaaaaaaaaaaaaaaaaaaaaaaaaaaaaaaaa\"}],\"hashes_to\":[],\"index\":1,\
+                \"log\":\"new.log\",\"offset\":32,\"pcr\":1,\"type\":{\"name\":\
+                \"EV_S_CRTM_VERSION\",\"number\":8}}]},\"old\":{\"log\":\"old.log\",\"only\":[\
+                ]},\"pcr\":1}\n",
     },
     // The order is another.
     Row {
-        old: "0100000008000000aaaaaaaaaaaaaaaaaaaaaaaaaaaaaaaaaaaaaaaa00000000010000\
-              0004000000bbbbbbbbbbbbbbbbbbbbbbbbbbbbbbbbbbbbbbbb0400000000000000",
-        new: "0100000004000000bbbbbbbbbbbbbbbbbbbbbbbbbbbbbbbbbbbbbbbb04000000000000\
-              000100000008000000aaaaaaaaaaaaaaaaaaaaaaaaaaaaaaaaaaaaaaaa00000000",
-        lines: "{\"new\":{\"first\":{\"index\":0,\"offset\":0,\"pcr\":1,\"says\":\
-                \"separator 0\",\"type\":{\"name\":\"EV_SEPARATOR\",\"number\":4}},\"l\
-                og\":\"new.log\",\"only\":[]},\"old\":{\"first\":{\"index\":0,\"offset\
-                \":0,\"pcr\":1,\"says\":null,\"type\":{\"name\":\"EV_S_CRTM_VERSI\
-                ON\",\"number\":8}},\"log\":\"old.log\",\"only\":[]},\"pcr\":1}\n",
+        old: "0100000008000000aaaaaaaaaaaaaaaaaaaaaaaaaaaaaaaaaaaaaaaa00000000 \
+              0100000004000000bbbbbbbbbbbbbbbbbbbbbbbbbbbbbbbbbbbbbbbb0400000000000000",
+        new: "0100000004000000bbbbbbbbbbbbbbbbbbbbbbbbbbbbbbbbbbbbbbbb0400000000000000 \
+              0100000008000000aaaaaaaaaaaaaaaaaaaaaaaaaaaaaaaaaaaaaaaa00000000",
+        lines: "{\"algorithms\":[\"sha1\"],\"changed\":[],\"moved\":{\"new\":{\"content\":{\
+                \"separator\":0},\"data\":\"00000000\",\"digests\":[{\"algorithm\":\"sha1\",\
+                \"digest\":\"bbbbbbbbbbbbbbbbbbbbbbbbbbbbbbbbbbbbbbbb\"}],\"hashes_to\":[],\
+                \"index\":0,\"log\":\"new.log\",\"offset\":0,\"pcr\":1,\"type\":{\"name\":\
+                \"EV_SEPARATOR\",\"number\":4}},\"old\":{\"content\":{\"separator\":0},\"data\":\
+                \"00000000\",\"digests\":[{\"algorithm\":\"sha1\",\"digest\":\
+                \"bbbbbbbbbbbbbbbbbbbbbbbbbbbbbbbbbbbbbbbb\"}],\"hashes_to\":[],\"index\":1,\
+                \"log\":\"old.log\",\"offset\":32,\"pcr\":1,\"type\":{\"name\":\"EV_SEPARATOR\",\
+                \"number\":4}}},\"new\":{\"log\":\"new.log\",\"only\":[]},\"old\":{\"log\":\
+                \"old.log\",\"only\":[]},\"pcr\":1}\n",
     },
     // A digest differs, and an event of another PCR is missing.
     Row {
-        old: "0100000008000000aaaaaaaaaaaaaaaaaaaaaaaaaaaaaaaaaaaaaaaa00000000010000\
-              0004000000bbbbbbbbbbbbbbbbbbbbbbbbbbbbbbbbbbbbbbbb04000000000000000400\
-              000007000080aaaaaaaaaaaaaaaaaaaaaaaaaaaaaaaaaaaaaaaa00000000",
-        new: "0100000008000000aaaaaaaaaaaaaaaaaaaaaaaaaaaaaaaaaaaaaaaa00000000010000\
-              0004000000aaaaaaaaaaaaaaaaaaaaaaaaaaaaaaaaaaaaaaaa0400000000000000",
-        lines: "{\"new\":{\"first\":{\"index\":1,\"offset\":32,\"pcr\":1,\"says\"\
-                :\"separator 0\",\"type\":{\"name\":\"EV_SEPARATOR\",\"number\":4}},\"\
-                log\":\"new.log\",\"only\":[{\"index\":1,\"offset\":32,\"pcr\":1,\
-                \"says\":\"separator 0\",\"type\":{\"name\":\"EV_SEPARATOR\",\"number\
-                \":4}}]},\"old\":{\"first\":{\"index\":1,\"offset\":32,\"pcr\":1,\
-                \"says\":\"separator 0\",\"type\":{\"name\":\"EV_SEPARATOR\",\"number\
-                \":4}},\"log\":\"old.log\",\"only\":[{\"index\":1,\"offset\":32,\"pcr\":\
-                1,\"says\":\"separator 0\",\"type\":{\"name\":\"EV_SEPARATOR\",\
-                \"number\":4}}]},\"pcr\":1}\n{\"new\":{\"first\":null,\"log\":\"n\
-                ew.log\",\"only\":[]},\"old\":{\"first\":{\"index\":2,\"offset\":68,\"pcr\":\
-                4,\"says\":null,\"type\":{\"name\":\"EV_EFI_ACTION\",\"numb\
-                er\":2147483655}},\"log\":\"old.log\",\"only\":[{\"index\":2,\"offset\
-                \":68,\"pcr\":4,\"says\":null,\"type\":{\"name\":\"EV_EFI_ACTION\
-                \",\"number\":2147483655}}]},\"pcr\":4}\n",
+        old: "0100000008000000aaaaaaaaaaaaaaaaaaaaaaaaaaaaaaaaaaaaaaaa00000000 \
+              0100000004000000bbbbbbbbbbbbbbbbbbbbbbbbbbbbbbbbbbbbbbbb0400000000000000 \
+              0400000007000080aaaaaaaaaaaaaaaaaaaaaaaaaaaaaaaaaaaaaaaa00000000",
+        new: "0100000008000000aaaaaaaaaaaaaaaaaaaaaaaaaaaaaaaaaaaaaaaa00000000 \
+              0100000004000000aaaaaaaaaaaaaaaaaaaaaaaaaaaaaaaaaaaaaaaa0400000000000000",
+        lines: "{\"algorithms\":[\"sha1\"],\"changed\":[{\"new\":{\"content\":{\"separator\":0},\
+                \"data\":\"00000000\",\"digests\":[{\"algorithm\":\"sha1\",\"digest\":\
+                \"aaaaaaaaaaaaaaaaaaaaaaaaaaaaaaaaaaaaaaaa\"}],\"hashes_to\":[],\"index\":1,\
+                \"log\":\"new.log\",\"offset\":32,\"pcr\":1,\"type\":{\"name\":\"EV_SEPARATOR\",\
+                \"number\":4}},\"old\":{\"content\":{\"separator\":0},\"data\":\"00000000\",\
+                \"digests\":[{\"algorithm\":\"sha1\",\"digest\":\
+                \"bbbbbbbbbbbbbbbbbbbbbbbbbbbbbbbbbbbbbbbb\"}],\"hashes_to\":[],\"index\":1,\
+                \"log\":\"old.log\",\"offset\":32,\"pcr\":1,\"type\":{\"name\":\"EV_SEPARATOR\",\
+                \"number\":4}}}],\"moved\":null,\"new\":{\"log\":\"new.log\",\"only\":[]},\
+                \"old\":{\"log\":\"old.log\",\"only\":[]},\"pcr\":1}\n{\"algorithms\":[\
+                \"sha1\"],\"changed\":[],\"moved\":null,\"new\":{\"log\":\"new.log\",\"only\":[\
+                ]},\"old\":{\"log\":\"old.log\",\"only\":[{\"content\":{\"text\":\"\"},\"data\":\
+                \"\",\"digests\":[{\"algorithm\":\"sha1\",\"digest\":\
+                \"aaaaaaaaaaaaaaaaaaaaaaaaaaaaaaaaaaaaaaaa\"}],\"hashes_to\":[],\"index\":2,\
+                \"log\":\"old.log\",\"offset\":68,\"pcr\":4,\"type\":{\"name\":\
+                \"EV_EFI_ACTION\",\"number\":2147483655}}]},\"pcr\":4}\n",
     },
     // PCRs above 23, and a type without a name.
     Row {
-        old: "1e00000008000000aaaaaaaaaaaaaaaaaaaaaaaaaaaaaaaaaaaaaaaa000000001f0000\
-              0077000000aaaaaaaaaaaaaaaaaaaaaaaaaaaaaaaaaaaaaaaa00000000",
-        new: "1e00000008000000aaaaaaaaaaaaaaaaaaaaaaaaaaaaaaaaaaaaaaaa00000000280000\
-              0077000000aaaaaaaaaaaaaaaaaaaaaaaaaaaaaaaaaaaaaaaa00000000",
-        lines: "{\"new\":{\"first\":{\"index\":1,\"offset\":32,\"pcr\":40,\"says\
-                \":null,\"type\":{\"number\":119}},\"log\":\"new.log\",\"only\":[{\"in\
-                dex\":1,\"offset\":32,\"pcr\":40,\"says\":null,\"type\":{\"number\
-                \":119}}]},\"old\":{\"first\":{\"index\":1,\"offset\":32,\"pcr\":\
-                31,\"says\":null,\"type\":{\"number\":119}},\"log\":\"old.log\",\"only\
-                \":[{\"index\":1,\"offset\":32,\"pcr\":31,\"says\":null,\"type\":\
-                {\"number\":119}}]},\"pcr\":null}\n",
+        old: "1e00000008000000aaaaaaaaaaaaaaaaaaaaaaaaaaaaaaaaaaaaaaaa00000000 \
+              1f00000077000000aaaaaaaaaaaaaaaaaaaaaaaaaaaaaaaaaaaaaaaa00000000",
+        new: "1e00000008000000aaaaaaaaaaaaaaaaaaaaaaaaaaaaaaaaaaaaaaaa00000000 \
+              2800000077000000aaaaaaaaaaaaaaaaaaaaaaaaaaaaaaaaaaaaaaaa00000000",
+        lines: "{\"algorithms\":[\"sha1\"],\"changed\":[],\"moved\":null,\"new\":{\"log\":\
+                \"new.log\",\"only\":[{\"content\":null,\"data\":\"\",\"digests\":[{\
+                \"algorithm\":\"sha1\",\"digest\":\
+                \"aaaaaaaaaaaaaaaaaaaaaaaaaaaaaaaaaaaaaaaa\"}],\"hashes_to\":[],\"index\":1,\
+                \"log\":\"new.log\",\"offset\":32,\"pcr\":40,\"type\":{\"number\":119}}]},\
+                \"old\":{\"log\":\"old.log\",\"only\":[{\"content\":null,\"data\":\"\",\
+                \"digests\":[{\"algorithm\":\"sha1\",\"digest\":\
+                \"aaaaaaaaaaaaaaaaaaaaaaaaaaaaaaaaaaaaaaaa\"}],\"hashes_to\":[],\"index\":1,\
+                \"log\":\"old.log\",\"offset\":32,\"pcr\":31,\"type\":{\"number\":119}}]},\
+                \"pcr\":null}\n",
     },
     // An event of version 1 and the same of version 2, which has another digest more.
     Row {
-        old: "0100000008000000aaaaaaaaaaaaaaaaaaaaaaaaaaaaaaaaaaaaaaaa00000000020000\
-              0008000000aaaaaaaaaaaaaaaaaaaaaaaaaaaaaaaaaaaaaaaa00000000",
-        new: "0000000003000000000000000000000000000000000000000000000025000000537065\
-              63204944204576656e74303300000000000002000202000000040014000b0020000001\
-              00000008000000010000000400aaaaaaaaaaaaaaaaaaaaaaaaaaaaaaaaaaaaaaaa0000\
-              00000200000008000000020000000400aaaaaaaaaaaaaaaaaaaaaaaaaaaaaaaaaaaaaa\
-              aa0b00cccccccccccccccccccccccccccccccccccccccccccccccccccccccccccccccc\
-              00000000",
-        lines: "{\"new\":{\"first\":{\"index\":1,\"offset\":107,\"pcr\":2,\"says\
-                \":null,\"type\":{\"name\":\"EV_S_CRTM_VERSION\",\"number\":8}},\"log\
-                \":\"new.log\",\"only\":[{\"index\":1,\"offset\":107,\"pcr\":2,\"\
-                says\":null,\"type\":{\"name\":\"EV_S_CRTM_VERSION\",\"number\":8}}]},\
-                \"old\":{\"first\":{\"index\":1,\"offset\":32,\"pcr\":2,\"says\":\
-                null,\"type\":{\"name\":\"EV_S_CRTM_VERSION\",\"number\":8}},\"log\":\
-                \"old.log\",\"only\":[{\"index\":1,\"offset\":32,\"pcr\":2,\"says\
-                \":null,\"type\":{\"name\":\"EV_S_CRTM_VERSION\",\"number\":8}}]},\"pcr\":\
-                2}\n",
+        old: "0100000008000000aaaaaaaaaaaaaaaaaaaaaaaaaaaaaaaaaaaaaaaa00000000 \
+              0200000008000000aaaaaaaaaaaaaaaaaaaaaaaaaaaaaaaaaaaaaaaa00000000",
+        new: "0000000003000000000000000000000000000000000000000000000025000000537065632049442045 \
+              76656e74303300000000000002000202000000040014000b00200000 \
+              0100000008000000010000000400aaaaaaaaaaaaaaaaaaaaaaaaaaaaaaaaaaaaaaaa00000000 \
+              0200000008000000020000000400aaaaaaaaaaaaaaaaaaaaaaaaaaaaaaaaaaaaaaaa0b00cccccccccc \
+              cccccccccccccccccccccccccccccccccccccccccccccccccccccc00000000",
+        lines: "",
     },
     // The value of a variable differs.
     Row {
-        old: "0700000001000080aaaaaaaaaaaaaaaaaaaaaaaaaaaaaaaaaaaaaaaa3500000061dfe4\
-              8bca93d211aa0d00e098032b8c0a000000000000000100000000000000530065006300\
-              75007200650042006f006f00740001",
-        new: "0700000001000080aaaaaaaaaaaaaaaaaaaaaaaaaaaaaaaaaaaaaaaa3500000061dfe4\
-              8bca93d211aa0d00e098032b8c0a000000000000000100000000000000530065006300\
-              75007200650042006f006f00740000",
-        lines: "{\"new\":{\"first\":{\"index\":0,\"offset\":0,\"pcr\":7,\"says\":\
-              \"variable SecureBoot\",\"type\":{\"name\":\"EV_EFI_VARIABLE_DRIVER_CO\
-              NFIG\",\"number\":2147483649}},\"log\":\"new.log\",\"only\":[{\"index\
-              \":0,\"offset\":0,\"pcr\":7,\"says\":\"variable SecureBoot\",\"ty\
-              pe\":{\"name\":\"EV_EFI_VARIABLE_DRIVER_CONFIG\",\"number\":2147483649\
-              }}]},\"old\":{\"first\":{\"index\":0,\"offset\":0,\"pcr\":7,\"say\
-              s\":\"variable SecureBoot\",\"type\":{\"name\":\"EV_EFI_VARIABLE_DRIVE\
-              R_CONFIG\",\"number\":2147483649}},\"log\":\"old.log\",\"only\":[{\"in\
-              dex\":0,\"offset\":0,\"pcr\":7,\"says\":\"variable SecureBoot\",\
-              \"type\":{\"name\":\"EV_EFI_VARIABLE_DRIVER_CONFIG\",\"number\":214748\
-              3649}}]},\"pcr\":7}\n",
+        old: "0700000001000080aaaaaaaaaaaaaaaaaaaaaaaaaaaaaaaaaaaaaaaa3500000061dfe48bca93d211aa \
+              0d00e098032b8c0a00000000000000010000000000000053006500630075007200650042006f006f00 \
+              740001",
+        new: "0700000001000080aaaaaaaaaaaaaaaaaaaaaaaaaaaaaaaaaaaaaaaa3500000061dfe48bca93d211aa \
+              0d00e098032b8c0a00000000000000010000000000000053006500630075007200650042006f006f00 \
+              740000",
+        lines: "{\"algorithms\":[\"sha1\"],\"changed\":[{\"new\":{\"content\":{\"variable\":{\
+                \"data\":\"00\",\"guid\":\"8be4df61-93ca-11d2-aa0d-00e098032b8c\",\"name\":\
+                \"SecureBoot\"}},\"data\":\"61dfe48bca93d211aa0d00e098032b8c0a000000000000000100\
+                00000000000053006500630075007200650042006f006f00740000\",\"digests\":[{\
+                \"algorithm\":\"sha1\",\"digest\":\
+                \"aaaaaaaaaaaaaaaaaaaaaaaaaaaaaaaaaaaaaaaa\"}],\"hashes_to\":[],\"index\":0,\
+                \"log\":\"new.log\",\"offset\":0,\"pcr\":7,\"type\":{\"name\":\
+                \"EV_EFI_VARIABLE_DRIVER_CONFIG\",\"number\":2147483649}},\"old\":{\"content\":{\
+                \"variable\":{\"data\":\"01\",\"guid\":\"8be4df61-93ca-11d2-aa0d-00e098032b8c\",\
+                \"name\":\"SecureBoot\"}},\"data\":\"61dfe48bca93d211aa0d00e098032b8c0a000000000\
+                00000010000000000000053006500630075007200650042006f006f00740001\",\"digests\":[{\
+                \"algorithm\":\"sha1\",\"digest\":\
+                \"aaaaaaaaaaaaaaaaaaaaaaaaaaaaaaaaaaaaaaaa\"}],\"hashes_to\":[],\"index\":0,\
+                \"log\":\"old.log\",\"offset\":0,\"pcr\":7,\"type\":{\"name\":\
+                \"EV_EFI_VARIABLE_DRIVER_CONFIG\",\"number\":2147483649}}}],\"moved\":null,\
+                \"new\":{\"log\":\"new.log\",\"only\":[]},\"old\":{\"log\":\"old.log\",\"only\":\
+                []},\"pcr\":7}\n",
     },
     // Texts with controls of the terminal, of lines and of the writing direction.
     Row {
-        old: "080000000d000000aaaaaaaaaaaaaaaaaaaaaaaaaaaaaaaaaaaaaaaa09000000611b5b\
-              33316d0a6200",
-        new: "080000000d000000aaaaaaaaaaaaaaaaaaaaaaaaaaaaaaaaaaaaaaaa0c00000061009b\
-              002e20282062005c00",
-        lines: "{\"new\":{\"first\":{\"index\":0,\"offset\":0,\"pcr\":8,\"says\":\
-              \"a\\\\xc2\\\\x9b\\\\xe2\\\\x80\\\\xae\\\\xe2\\\\x80\\\\xa8b\\\\x5c\",\
-              \"type\":{\"name\":\"EV_IPL\",\"number\":13}},\"log\":\"new.log\",\"on\
-              ly\":[{\"index\":0,\"offset\":0,\"pcr\":8,\"says\":\"a\\\\xc2\\\\\
-              x9b\\\\xe2\\\\x80\\\\xae\\\\xe2\\\\x80\\\\xa8b\\\\x5c\",\"type\":{\"na\
-              me\":\"EV_IPL\",\"number\":13}}]},\"old\":{\"first\":{\"index\":0,\"of\
-              fset\":0,\"pcr\":8,\"says\":\"a\\\\x1b[31m\\\\x0ab\",\"type\":{\"\
-              name\":\"EV_IPL\",\"number\":13}},\"log\":\"old.log\",\"only\":[{\"ind\
-              ex\":0,\"offset\":0,\"pcr\":8,\"says\":\"a\\\\x1b[31m\\\\x0ab\",\
-              \"type\":{\"name\":\"EV_IPL\",\"number\":13}}]},\"pcr\":8}\n",
+        old: "080000000d000000aaaaaaaaaaaaaaaaaaaaaaaaaaaaaaaaaaaaaaaa09000000611b5b33316d0a6200",
+        new: "080000000d000000aaaaaaaaaaaaaaaaaaaaaaaaaaaaaaaaaaaaaaaa0c00000061009b002e20282062 \
+              005c00",
+        lines: "{\"algorithms\":[\"sha1\"],\"changed\":[{\"new\":{\"content\":{\"text\":\
+                \"a\\u009b\\u202e\\u2028b\\\\\"},\"data\":\"61009b002e20282062005c00\",\
+                \"digests\":[{\"algorithm\":\"sha1\",\"digest\":\
+                \"aaaaaaaaaaaaaaaaaaaaaaaaaaaaaaaaaaaaaaaa\"}],\"hashes_to\":[],\"index\":0,\
+                \"log\":\"new.log\",\"offset\":0,\"pcr\":8,\"type\":{\"name\":\"EV_IPL\",\
+                \"number\":13}},\"old\":{\"content\":{\"text\":\"a\\u001b[31m\\nb\"},\"data\":\
+                \"611b5b33316d0a6200\",\"digests\":[{\"algorithm\":\"sha1\",\"digest\":\
+                \"aaaaaaaaaaaaaaaaaaaaaaaaaaaaaaaaaaaaaaaa\"}],\"hashes_to\":[],\"index\":0,\
+                \"log\":\"old.log\",\"offset\":0,\"pcr\":8,\"type\":{\"name\":\"EV_IPL\",\
+                \"number\":13}}}],\"moved\":null,\"new\":{\"log\":\"new.log\",\"only\":[]},\
+                \"old\":{\"log\":\"old.log\",\"only\":[]},\"pcr\":8}\n",
+    },
+    // Two variables, which have two names.
+    Row {
+        old: "0700000001000080aaaaaaaaaaaaaaaaaaaaaaaaaaaaaaaaaaaaaaaa3300000061dfe48bca93d211aa \
+              0d00e098032b8c09000000000000000100000000000000530065007400750070004d006f0064006500 \
+              00",
+        new: "0700000001000080aaaaaaaaaaaaaaaaaaaaaaaaaaaaaaaaaaaaaaaa3300000061dfe48bca93d211aa \
+              0d00e098032b8c09000000000000000100000000000000410075006400690074004d006f0064006500 \
+              00",
+        lines: "{\"algorithms\":[\"sha1\"],\"changed\":[],\"moved\":null,\"new\":{\"log\":\
+                \"new.log\",\"only\":[{\"content\":{\"variable\":{\"data\":\"00\",\"guid\":\
+                \"8be4df61-93ca-11d2-aa0d-00e098032b8c\",\"name\":\"AuditMode\"}},\"data\":\
+                \"61dfe48bca93d211aa0d00e098032b8c0900000000000000010000000000000041007500640069\
+                0074004d006f006400650000\",\"digests\":[{\"algorithm\":\"sha1\",\"digest\":\
+                \"aaaaaaaaaaaaaaaaaaaaaaaaaaaaaaaaaaaaaaaa\"}],\"hashes_to\":[],\"index\":0,\
+                \"log\":\"new.log\",\"offset\":0,\"pcr\":7,\"type\":{\"name\":\
+                \"EV_EFI_VARIABLE_DRIVER_CONFIG\",\"number\":2147483649}}]},\"old\":{\"log\":\
+                \"old.log\",\"only\":[{\"content\":{\"variable\":{\"data\":\"00\",\"guid\":\
+                \"8be4df61-93ca-11d2-aa0d-00e098032b8c\",\"name\":\"SetupMode\"}},\"data\":\
+                \"61dfe48bca93d211aa0d00e098032b8c0900000000000000010000000000000053006500740075\
+                0070004d006f006400650000\",\"digests\":[{\"algorithm\":\"sha1\",\"digest\":\
+                \"aaaaaaaaaaaaaaaaaaaaaaaaaaaaaaaaaaaaaaaa\"}],\"hashes_to\":[],\"index\":0,\
+                \"log\":\"old.log\",\"offset\":0,\"pcr\":7,\"type\":{\"name\":\
+                \"EV_EFI_VARIABLE_DRIVER_CONFIG\",\"number\":2147483649}}]},\"pcr\":7}\n",
+    },
+    // The words of a command differ, and another is in the old log alone.
+    Row {
+        old: "080000000d000000aaaaaaaaaaaaaaaaaaaaaaaaaaaaaaaaaaaaaaaa11000000677275625f636d643a \
+              206c696e75782061 \
+              080000000d000000aaaaaaaaaaaaaaaaaaaaaaaaaaaaaaaaaaaaaaaa0e000000677275625f636d643a \
+              20626f6f74",
+        new: "080000000d000000bbbbbbbbbbbbbbbbbbbbbbbbbbbbbbbbbbbbbbbb11000000677275625f636d643a \
+              206c696e75782062",
+        lines: "{\"algorithms\":[\"sha1\"],\"changed\":[{\"new\":{\"content\":{\"text\":\
+                \"grub_cmd: linux b\"},\"data\":\"677275625f636d643a206c696e75782062\",\
+                \"digests\":[{\"algorithm\":\"sha1\",\"digest\":\
+                \"bbbbbbbbbbbbbbbbbbbbbbbbbbbbbbbbbbbbbbbb\"}],\"hashes_to\":[],\"index\":0,\
+                \"log\":\"new.log\",\"offset\":0,\"pcr\":8,\"type\":{\"name\":\"EV_IPL\",\
+                \"number\":13}},\"old\":{\"content\":{\"text\":\"grub_cmd: linux a\"},\"data\":\
+                \"677275625f636d643a206c696e75782061\",\"digests\":[{\"algorithm\":\"sha1\",\
+                \"digest\":\"aaaaaaaaaaaaaaaaaaaaaaaaaaaaaaaaaaaaaaaa\"}],\"hashes_to\":[],\
+                \"index\":0,\"log\":\"old.log\",\"offset\":0,\"pcr\":8,\"type\":{\"name\":\
+                \"EV_IPL\",\"number\":13}}}],\"moved\":null,\"new\":{\"log\":\"new.log\",\
+                \"only\":[]},\"old\":{\"log\":\"old.log\",\"only\":[{\"content\":{\"text\":\
+                \"grub_cmd: boot\"},\"data\":\"677275625f636d643a20626f6f74\",\"digests\":[{\
+                \"algorithm\":\"sha1\",\"digest\":\
+                \"aaaaaaaaaaaaaaaaaaaaaaaaaaaaaaaaaaaaaaaa\"}],\"hashes_to\":[],\"index\":1,\
+                \"log\":\"old.log\",\"offset\":49,\"pcr\":8,\"type\":{\"name\":\"EV_IPL\",\
+                \"number\":13}}]},\"pcr\":8}\n",
+    },
+    // The order is another, and the event that comes first has another digest.
+    Row {
+        old: "0400000007000080aaaaaaaaaaaaaaaaaaaaaaaaaaaaaaaaaaaaaaaa0100000061 \
+              0400000007000080aaaaaaaaaaaaaaaaaaaaaaaaaaaaaaaaaaaaaaaa0100000062",
+        new: "0400000007000080bbbbbbbbbbbbbbbbbbbbbbbbbbbbbbbbbbbbbbbb0100000062 \
+              0400000007000080aaaaaaaaaaaaaaaaaaaaaaaaaaaaaaaaaaaaaaaa0100000061",
+        lines: "{\"algorithms\":[\"sha1\"],\"changed\":[{\"new\":{\"content\":{\"text\":\"b\"},\
+                \"data\":\"62\",\"digests\":[{\"algorithm\":\"sha1\",\"digest\":\
+                \"bbbbbbbbbbbbbbbbbbbbbbbbbbbbbbbbbbbbbbbb\"}],\"hashes_to\":[],\"index\":0,\
+                \"log\":\"new.log\",\"offset\":0,\"pcr\":4,\"type\":{\"name\":\"EV_EFI_ACTION\",\
+                \"number\":2147483655}},\"old\":{\"content\":{\"text\":\"b\"},\"data\":\"62\",\
+                \"digests\":[{\"algorithm\":\"sha1\",\"digest\":\
+                \"aaaaaaaaaaaaaaaaaaaaaaaaaaaaaaaaaaaaaaaa\"}],\"hashes_to\":[],\"index\":1,\
+                \"log\":\"old.log\",\"offset\":33,\"pcr\":4,\"type\":{\"name\":\
+                \"EV_EFI_ACTION\",\"number\":2147483655}}}],\"moved\":{\"new\":{\"content\":{\
+                \"text\":\"b\"},\"data\":\"62\",\"digests\":[{\"algorithm\":\"sha1\",\"digest\":\
+                \"bbbbbbbbbbbbbbbbbbbbbbbbbbbbbbbbbbbbbbbb\"}],\"hashes_to\":[],\"index\":0,\
+                \"log\":\"new.log\",\"offset\":0,\"pcr\":4,\"type\":{\"name\":\"EV_EFI_ACTION\",\
+                \"number\":2147483655}},\"old\":{\"content\":{\"text\":\"b\"},\"data\":\"62\",\
+                \"digests\":[{\"algorithm\":\"sha1\",\"digest\":\
+                \"aaaaaaaaaaaaaaaaaaaaaaaaaaaaaaaaaaaaaaaa\"}],\"hashes_to\":[],\"index\":1,\
+                \"log\":\"old.log\",\"offset\":33,\"pcr\":4,\"type\":{\"name\":\
+                \"EV_EFI_ACTION\",\"number\":2147483655}}},\"new\":{\"log\":\"new.log\",\
+                \"only\":[]},\"old\":{\"log\":\"old.log\",\"only\":[]},\"pcr\":4}\n",
+    },
+    // A digest of SHA-256 differs.
+    Row {
+        old: "0000000003000000000000000000000000000000000000000000000025000000537065632049442045 \
+              76656e74303300000000000002000202000000040014000b00200000 \
+              0100000008000000020000000400aaaaaaaaaaaaaaaaaaaaaaaaaaaaaaaaaaaaaaaa0b00cccccccccc \
+              cccccccccccccccccccccccccccccccccccccccccccccccccccccc00000000",
+        new: "0000000003000000000000000000000000000000000000000000000025000000537065632049442045 \
+              76656e74303300000000000002000202000000040014000b00200000 \
+              0100000008000000020000000400aaaaaaaaaaaaaaaaaaaaaaaaaaaaaaaaaaaaaaaa0b00dddddddddd \
+              dddddddddddddddddddddddddddddddddddddddddddddddddddddd00000000",
+        lines: "{\"algorithms\":[\"sha1\",\"sha256\"],\"changed\":[{\"new\":{\"content\":{\
+                \"crtm_version\":\"\"},\"data\":\"\",\"digests\":[{\"algorithm\":\"sha1\",\
+                \"digest\":\"aaaaaaaaaaaaaaaaaaaaaaaaaaaaaaaaaaaaaaaa\"},{\"algorithm\":\
+                \"sha256\",\"digest\":\
+                \"dddddddddddddddddddddddddddddddddddddddddddddddddddddddddddddddd\"}],\
+                \"hashes_to\":[],\"index\":0,\"log\":\"new.log\",\"offset\":69,\"pcr\":1,\
+                \"type\":{\"name\":\"EV_S_CRTM_VERSION\",\"number\":8}},\"old\":{\"content\":{\
+                \"crtm_version\":\"\"},\"data\":\"\",\"digests\":[{\"algorithm\":\"sha1\",\
+                \"digest\":\"aaaaaaaaaaaaaaaaaaaaaaaaaaaaaaaaaaaaaaaa\"},{\"algorithm\":\
+                \"sha256\",\"digest\":\
+                \"cccccccccccccccccccccccccccccccccccccccccccccccccccccccccccccccc\"}],\
+                \"hashes_to\":[],\"index\":0,\"log\":\"old.log\",\"offset\":69,\"pcr\":1,\
+                \"type\":{\"name\":\"EV_S_CRTM_VERSION\",\"number\":8}}}],\"moved\":null,\
+                \"new\":{\"log\":\"new.log\",\"only\":[]},\"old\":{\"log\":\"old.log\",\"only\":\
+                []},\"pcr\":1}\n",
+    },
+    // The old log has no digests of SHA-256, and one of SHA-1 differs.
+    Row {
+        old: "0100000008000000aaaaaaaaaaaaaaaaaaaaaaaaaaaaaaaaaaaaaaaa00000000",
+        new: "0000000003000000000000000000000000000000000000000000000025000000537065632049442045 \
+              76656e74303300000000000002000202000000040014000b00200000 \
+              0100000008000000020000000400bbbbbbbbbbbbbbbbbbbbbbbbbbbbbbbbbbbbbbbb0b00cccccccccc \
+              cccccccccccccccccccccccccccccccccccccccccccccccccccccc00000000",
+        lines: "{\"algorithms\":[\"sha1\"],\"changed\":[{\"new\":{\"content\":{\"crtm_version\":\
+                \"\"},\"data\":\"\",\"digests\":[{\"algorithm\":\"sha1\",\"digest\":\
+                \"bbbbbbbbbbbbbbbbbbbbbbbbbbbbbbbbbbbbbbbb\"},{\"algorithm\":\"sha256\",\
+                \"digest\":\
+                \"cccccccccccccccccccccccccccccccccccccccccccccccccccccccccccccccc\"}],\
+                \"hashes_to\":[],\"index\":0,\"log\":\"new.log\",\"offset\":69,\"pcr\":1,\
+                \"type\":{\"name\":\"EV_S_CRTM_VERSION\",\"number\":8}},\"old\":{\"content\":{\
+                \"crtm_version\":\"\"},\"data\":\"\",\"digests\":[{\"algorithm\":\"sha1\",\
+                \"digest\":\"aaaaaaaaaaaaaaaaaaaaaaaaaaaaaaaaaaaaaaaa\"}],\"hashes_to\":[],\
+                \"index\":0,\"log\":\"old.log\",\"offset\":0,\"pcr\":1,\"type\":{\"name\":\
+                \"EV_S_CRTM_VERSION\",\"number\":8}}}],\"moved\":null,\"new\":{\"log\":\
+                \"new.log\",\"only\":[]},\"old\":{\"log\":\"old.log\",\"only\":[]},\"pcr\":1}\n",
+    },
+    // The new log has no digests of SHA-1, and no algorithm is in both logs.
+    Row {
+        old: "0100000008000000aaaaaaaaaaaaaaaaaaaaaaaaaaaaaaaaaaaaaaaa00000000 \
+              0100000004000000aaaaaaaaaaaaaaaaaaaaaaaaaaaaaaaaaaaaaaaa0400000000000000",
+        new: "0000000003000000000000000000000000000000000000000000000021000000537065632049442045 \
+              76656e743033000000000000020002010000000b00200000 \
+              0100000008000000010000000b00cccccccccccccccccccccccccccccccccccccccccccccccccccccc \
+              cccccccccc00000000",
+        lines: "{\"algorithms\":[],\"changed\":[],\"moved\":null,\"new\":{\"log\":\"new.log\",\
+                \"only\":[]},\"old\":{\"log\":\"old.log\",\"only\":[{\"content\":{\"separator\":\
+                0},\"data\":\"00000000\",\"digests\":[{\"algorithm\":\"sha1\",\"digest\":\
+                \"aaaaaaaaaaaaaaaaaaaaaaaaaaaaaaaaaaaaaaaa\"}],\"hashes_to\":[],\"index\":1,\
+                \"log\":\"old.log\",\"offset\":32,\"pcr\":1,\"type\":{\"name\":\"EV_SEPARATOR\",\
+                \"number\":4}}]},\"pcr\":1}\n",
+    },
+    // An algorithm without a name.
+    Row {
+        old: "0000000003000000000000000000000000000000000000000000000025000000537065632049442045 \
+              76656e74303300000000000002000202000000017004000400140000 \
+              0100000008000000020000000170000000010400aaaaaaaaaaaaaaaaaaaaaaaaaaaaaaaaaaaaaaaa00 \
+              000000",
+        new: "0000000003000000000000000000000000000000000000000000000025000000537065632049442045 \
+              76656e74303300000000000002000202000000017004000400140000 \
+              0100000008000000020000000170000000020400aaaaaaaaaaaaaaaaaaaaaaaaaaaaaaaaaaaaaaaa00 \
+              000000",
+        lines: "{\"algorithms\":[28673,\"sha1\"],\"changed\":[{\"new\":{\"content\":{\
+                \"crtm_version\":\"\"},\"data\":\"\",\"digests\":[{\"algorithm\":28673,\
+                \"digest\":\"00000002\"},{\"algorithm\":\"sha1\",\"digest\":\
+                \"aaaaaaaaaaaaaaaaaaaaaaaaaaaaaaaaaaaaaaaa\"}],\"hashes_to\":[],\"index\":0,\
+                \"log\":\"new.log\",\"offset\":69,\"pcr\":1,\"type\":{\"name\":\
+                \"EV_S_CRTM_VERSION\",\"number\":8}},\"old\":{\"content\":{\"crtm_version\":\
+                \"\"},\"data\":\"\",\"digests\":[{\"algorithm\":28673,\"digest\":\"00000001\"},{\
+                \"algorithm\":\"sha1\",\"digest\":\
+                \"aaaaaaaaaaaaaaaaaaaaaaaaaaaaaaaaaaaaaaaa\"}],\"hashes_to\":[],\"index\":0,\
+                \"log\":\"old.log\",\"offset\":69,\"pcr\":1,\"type\":{\"name\":\
+                \"EV_S_CRTM_VERSION\",\"number\":8}}}],\"moved\":null,\"new\":{\"log\":\
+                \"new.log\",\"only\":[]},\"old\":{\"log\":\"old.log\",\"only\":[]},\"pcr\":1}\n",
     },
 ];
 
@@ -165,10 +334,15 @@ fn lines_of(
     old: &ReadLog<'_>,
     new: &ReadLog<'_>,
 ) -> Result<(String, bool), AllocError> {
-    let found = differences(alloc, old, new)?;
-    let found = found.as_slice();
+    let algorithms = compared_algorithms(alloc, old, new, None)?;
+    let found = differences(alloc, algorithms.as_slice(), old, new)?;
+    let logs = ComparedLogs {
+        old_name: "old.log",
+        new_name: "new.log",
+        algorithms: algorithms.as_slice(),
+    };
     let mut text = String::new(alloc);
-    push_differences_json(&mut text, alloc, "old.log", "new.log", found)?;
+    push_differences_json(&mut text, alloc, &logs, found.as_slice())?;
     Ok((text, found.is_empty()))
 }
 

@@ -1,4 +1,5 @@
 use Rattle.std.proofs.Common.{◌≡◌, ◌++◌, map, string_bytes, take}
+use Rattle.audit_text.specs.ComparedLogs.{logs_of}
 use Rattle.audit_text.specs.json.Diff.{difference_json_lines}
 use Rattle.uefi_audits.specs.diff.Views.{difference_of}
 use Rattle.audit_text.proofs.json.diff.push_differences_json.Given as goal
@@ -8,4 +9,4 @@ abbrev pub invariant-loop-difference : goal.invariant-loop-difference
 invariant-loop-difference l =
     string_bytes l.text
     ≡ string_bytes l.initial.text
-    ++ difference_json_lines l.old_name l.new_name (map difference_of (take l.difference-index l.differences))
+    ++ difference_json_lines (logs_of l.logs) (map difference_of (take l.difference-index l.differences))

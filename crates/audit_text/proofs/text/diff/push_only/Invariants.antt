@@ -1,4 +1,5 @@
 use Rattle.std.proofs.Common.{◌≡◌, ◌++◌, map, string_bytes, take}
+use Rattle.audit_text.specs.ComparedLogs.{logs_of}
 use Rattle.audit_text.specs.text.Differences.{only_lines}
 use Rattle.uefi_audits.specs.diff.Views.{numbered_of}
 use Rattle.audit_text.proofs.text.diff.push_only.Given as goal
@@ -7,4 +8,4 @@ use Rattle.audit_text.proofs.text.diff.push_only.Given as goal
 abbrev pub invariant-loop-found : goal.invariant-loop-found
 invariant-loop-found l =
     string_bytes l.text
-    ≡ string_bytes l.initial.text ++ only_lines l.name (map numbered_of (take l.found-index l.only)) l.other_name
+    ≡ string_bytes l.initial.text ++ only_lines (logs_of l.logs) (map numbered_of (take l.found-index l.only))

@@ -1,5 +1,5 @@
 use Rattle.std.proofs.Common.{◌≡◌, map, take}
-use Rattle.uefi_audits.specs.diff.Differences.{of_pcr}
+use Rattle.uefi_audits.specs.diff.Numbered.{of_pcr}
 use Rattle.uefi_audits.specs.diff.Views.{numbered_of}
 use Rattle.uefi_audits.proofs.diff.pcr.entries_of.Given as goal
 

@@ -1,7 +1,7 @@
 use Rattle.std.proofs.Common.{◌≡◌, ◌∙◌, arith, map, refl, sym}
 use Rattle.std.proofs.lemmas.List.{length-map}
-use Rattle.uefi_audits.specs.diff.Differences.{event_at}
-use Rattle.uefi_audits.specs.diff.Views.{numbered_of}
+use Rattle.uefi_audits.specs.diff.Differences.{compared_at}
+use Rattle.uefi_audits.specs.diff.Views.{numbered_of, numbers_of}
 use Rattle.uefi_audits.proofs.diff.Pcrs.{all_same, below_more, event_got, got_is}
 use Rattle.uefi_audits.proofs.diff.pcr.first_difference.Goals as goal
 
@@ -10,15 +10,17 @@ loop-at-preserved c =
     let old = c.args.old.now in
     let new = c.args.new.now in
     let at = c.loop-at.at in
-    below_more (λ k. event_at (map numbered_of old) k ≡ event_at (map numbered_of new) k) at c.loop-at.invariant
-    (sym (event_got old at c.get.result
+    let algorithms = numbers_of c.args.algorithms.now in
+    below_more (λ k. compared_at algorithms (map numbered_of old) k ≡ compared_at algorithms (map numbered_of new) k) at
+    c.loop-at.invariant
+    (sym (event_got algorithms old at c.get.result
     (got_is old at c.get.result c.get.ensures.lookup.0 c.get.ensures.lookup.1))
-    ∙ c.if-not-is_same_or_none.ensures.0 refl ∙ event_got new at c.get-in-loop-at.result
+    ∙ c.if-not-is_same_or_none.ensures.0 refl ∙ event_got algorithms new at c.get-in-loop-at.result
     (got_is new at c.get-in-loop-at.result c.get-in-loop-at.ensures.lookup.0 c.get-in-loop-at.ensures.lookup.1))
 
 pub returns : goal.returns
 returns c =
     let old = length-map c.args.old.now numbered_of in
     let new = length-map c.args.new.now numbered_of in
-    all_same _ _ (λ k below. c.loop-at.invariant k
+    all_same (numbers_of c.args.algorithms.now) _ _ (λ k below. c.loop-at.invariant k
     (omega (arith, below, old, new, c.loop-at-test.false, c.max-at-end.ensures)))

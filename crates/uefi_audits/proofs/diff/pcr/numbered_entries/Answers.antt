@@ -4,7 +4,7 @@ use Rattle.uefi_tcg.specs.LogViews.{entry_of}
 use Rattle.uefi_tcg.specs.declared.uintn_size.UintnSize.{UintnSize}
 use Rattle.pcr_replay.specs.ReadLogs.{uintn_size_in}
 use Rattle.uefi_audits.specs.content.Views.{content_of}
-use Rattle.uefi_audits.specs.diff.Differences.{AreNumbered}
+use Rattle.uefi_audits.specs.diff.Numbered.{AreNumbered}
 use Rattle.uefi_audits.specs.diff.Views.{numbered_of}
 use Rattle.uefi_audits.proofs.diff.Numbering.{all_numbered, next_left, none_left, one_more, one_pushed}
 use Rattle.uefi_audits.proofs.diff.pcr.numbered_entries.Goals as goal

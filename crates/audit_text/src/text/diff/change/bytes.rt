@@ -1,0 +1,64 @@
+ghost use Rattle.std.specs.Prelude.{◌≡◌, ◌≤◌, IfOk, length, nat_eq, string_bytes};
+ghost use Rattle.std.specs.List.{common_prefix_len};
+ghost use Rattle.audit_text.specs.text.ChangeParts.{byte_change, bytes_from, first_bytes};
+
+use crate::text::diff::change::sides::change_between;
+use std::alloc::{AllocError, Global};
+
+/// How many bytes of a side are shown.
+const SHOWN_LENGTH: usize = 32;
+
+/// Returns the bytes of both sides in hex from the first that differs; nothing if none does.
+#[tactic(auto, unfolding(crate::specs::text::ChangeParts::byte_change))]
+pub(crate) fn byte_change(alloc: Global, old: &[u8], new: &[u8]) -> Result<String, AllocError>
+    ensures { IfOk result (λ words. string_bytes words ≡ byte_change old.now new.now) }
+{
+    if old == new {
+        return Ok(String::new(alloc));
+    }
+    bytes_from(alloc, common_length(old, new), old, new)
+}
+
+/// Returns the bytes of both sides in hex from an index.
+#[tactic(auto, unfolding(crate::specs::text::ChangeParts::bytes_from))]
+fn bytes_from(alloc: Global, index: usize, old: &[u8], new: &[u8]) -> Result<String, AllocError>
+    requires within_old { index ≤ length old.now }
+    requires within_new { index ≤ length new.now }
+    ensures { IfOk result (λ words. string_bytes words ≡ bytes_from index old.now new.now) }
+{
+    let (_, old) = old.split_at(index);
+    let (_, new) = new.split_at(index);
+    let old = first_bytes(alloc, old)?;
+    let new = first_bytes(alloc, new)?;
+    let change = change_between(alloc, old.as_str(), new.as_str())?;
+    format!(in alloc; "from byte {index}: {change}")
+}
+
+/// Returns the length of the longest prefix that both sides have.
+fn common_length(old: &[u8], new: &[u8]) -> usize
+    ensures length { result ≡ common_prefix_len nat_eq old.now new.now }
+    ensures within_old { result ≤ length old.now }
+    ensures within_new { result ≤ length new.now }
+{
+    let shorter = old.len().min(new.len());
+    for index in 0..shorter {
+        if old[index] != new[index] {
+            return index;
+        }
+    }
+    shorter
+}
+
+/// Returns bytes in hex; of more than 32 the first ones, and `..`.
+#[tactic(auto, unfolding(crate::specs::text::ChangeParts::first_bytes))]
+fn first_bytes(alloc: Global, bytes: &[u8]) -> Result<String, AllocError>
+    ensures { IfOk result (λ words. string_bytes words ≡ first_bytes bytes.now) }
+{
+    if bytes.len() <= SHOWN_LENGTH {
+        return hex::encode(alloc, bytes);
+    }
+    let (shown, _) = bytes.split_at(SHOWN_LENGTH);
+    let mut words = hex::encode(alloc, shown)?;
+    words.push_str("..")?;
+    Ok(words)
+}

@@ -1,0 +1,52 @@
+ghost use Rattle.std.specs.Prelude.{◌≡◌, ◌↔◌, map, IsTrue, option_map};
+ghost use Rattle.uefi_tcg.specs.LogViews.{event_of};
+ghost use Rattle.uefi_audits.specs.diff.Differences.{compared_event, digest_in};
+ghost use Rattle.uefi_audits.specs.diff.Views.{numbers_of};
+
+use uefi_tcg::{AlgorithmId, LogEvent};
+
+/// Returns whether two events are the same, as far as these algorithms tell: they are of one PCR
+/// and one type, have the same data, and have the same digest of each algorithm, or none.
+pub fn is_same_event(algorithms: &[AlgorithmId], one: &LogEvent<'_>, other: &LogEvent<'_>) -> bool
+    ensures { IsTrue result ↔ (compared_event (numbers_of algorithms.now) (event_of one.now)
+        ≡ compared_event (numbers_of algorithms.now) (event_of other.now)) }
+{
+    one.pcr_index() == other.pcr_index()
+        && one.event_type() == other.event_type()
+        && one.event_data() == other.event_data()
+        && have_same_digests(algorithms, one, other)
+}
+
+/// Returns whether two events have the same digest of each algorithm, or none.
+fn have_same_digests(algorithms: &[AlgorithmId], one: &LogEvent<'_>, other: &LogEvent<'_>) -> bool
+    ensures { IsTrue result ↔ (map (digest_in (event_of one.now).digests) (numbers_of algorithms.now)
+        ≡ map (digest_in (event_of other.now).digests) (numbers_of algorithms.now)) }
+{
+    for algorithm in algorithms {
+        if !has_same_digest(*algorithm, one, other) {
+            return false;
+        }
+    }
+    true
+}
+
+/// Returns whether two events have the same digest of an algorithm, or none.
+fn has_same_digest(algorithm: AlgorithmId, one: &LogEvent<'_>, other: &LogEvent<'_>) -> bool
+    ensures { IsTrue result ↔ (digest_in (event_of one.now).digests algorithm.0
+        ≡ digest_in (event_of other.now).digests algorithm.0) }
+{
+    digest_of(one, algorithm) == digest_of(other, algorithm)
+}
+
+/// Returns the first digest that an event has of an algorithm; `None` if it has none.
+fn digest_of<'a>(event: &LogEvent<'a>, algorithm: AlgorithmId) -> Option<&'a [u8]>
+    ensures { option_map (λ digest. digest.now) result
+        ≡ digest_in (event_of event.now).digests algorithm.0 }
+{
+    for (id, digest) in event.digests() {
+        if id == algorithm {
+            return Some(digest);
+        }
+    }
+    None
+}

@@ -1,0 +1,172 @@
+ghost use Rattle.std.specs.Prelude.{◌≡◌, refl, Some};
+ghost use Rattle.std.specs.Ordering.{eq_by_cmp};
+ghost use Rattle.std.specs.Cmp.{eq_by_cmp_equiv, on_equiv, on_per, on_po, on_total, partial_equiv_from_equiv, po};
+ghost use Rattle.uefi_audits.specs.diff.Counterparts.{data_key, key_cmp, name_key};
+ghost use Rattle.uefi_audits.specs.diff.Views.{numbered_of};
+ghost use Rattle.uefi_audits.specs.private.diff.Keys.{key_cmp_total, keyed, ranked_cmp, ranked_cmp_total, ranked_of};
+
+use crate::diff::names::name_in;
+use crate::diff::pcr::NumberedEntry;
+use std::cmp::Ordering;
+
+/// By what an event is sought among those of another log, beside its PCR and its type.
+#[derive(Clone, Copy, PartialEq, Eq, Debug)]
+pub(crate) enum KeyedBy {
+    /// By its data.
+    Data,
+    /// By the name that its data have.
+    Name,
+}
+
+/// What an event is sought by among those of another log.
+#[derive(Clone, Copy)]
+pub(crate) struct EventKey<'a> {
+    pub(crate) pcr_index: u32,
+    pub(crate) event_type: u32,
+    pub(crate) namespace: &'a [u8],
+    pub(crate) name: &'a [u8],
+}
+
+impl<'a> EventKey<'a> {
+    ghost use Rattle.uefi_audits.specs.private.diff.Keys.{key_by};
+
+    /// Returns the key of an event.
+    pub(crate) fn new(found: &NumberedEntry<'a>, by: KeyedBy) -> EventKey<'a>
+        ensures { keyed result ≡ key_by by (numbered_of found.now) }
+    {
+        match by {
+            KeyedBy::Data => EventKey::of_data(found),
+            KeyedBy::Name => EventKey::of_name(found),
+        }
+    }
+
+    /// Returns the key of an event by its data.
+    fn of_data(found: &NumberedEntry<'a>) -> EventKey<'a>
+        ensures { keyed result ≡ data_key (numbered_of found.now) }
+    {
+        let event = &found.entry.event;
+        EventKey {
+            pcr_index: event.pcr_index().0,
+            event_type: event.event_type().0,
+            namespace: &[],
+            name: event.event_data(),
+        }
+    }
+
+    /// Returns the key of an event by its name.
+    fn of_name(found: &NumberedEntry<'a>) -> EventKey<'a>
+        ensures { keyed result ≡ name_key (numbered_of found.now) }
+    {
+        let event = &found.entry.event;
+        let name = name_in(&found.content, event.event_data());
+        EventKey {
+            pcr_index: event.pcr_index().0,
+            event_type: event.event_type().0,
+            namespace: name.namespace,
+            name: name.name,
+        }
+    }
+}
+
+impl<'a> PartialEq for EventKey<'a> {
+    ghost eq = { λ x y. eq_by_cmp key_cmp (keyed x) (keyed y) };
+
+    ghost laws = { on_per keyed (partial_equiv_from_equiv (eq_by_cmp_equiv key_cmp_total)) };
+
+    fn eq(&self, other: &Self) -> bool {
+        compare(self, other).is_eq()
+    }
+}
+
+impl<'a> Eq for EventKey<'a> {
+    ghost laws = { on_equiv keyed (eq_by_cmp_equiv key_cmp_total) };
+}
+
+impl<'a> PartialOrd for EventKey<'a> {
+    ghost partial_cmp = { λ x y. Some (key_cmp (keyed x) (keyed y)) };
+
+    ghost laws = { on_po keyed (po key_cmp_total (λ x y. refl)) };
+
+    fn partial_cmp(&self, other: &Self) -> Option<Ordering> {
+        Some(self.cmp(other))
+    }
+}
+
+impl<'a> Ord for EventKey<'a> {
+    ghost cmp = { λ x y. key_cmp (keyed x) (keyed y) };
+
+    ghost total = { on_total keyed key_cmp_total };
+
+    ghost matches_partial_cmp = { λ x y. refl };
+
+    ghost matches_eq = { λ x y. refl };
+
+    fn cmp(&self, other: &Self) -> Ordering {
+        compare(self, other)
+    }
+}
+
+/// Compares two keys: by PCR, type, namespace and name.
+#[tactic(auto, unfolding(crate::specs::diff::Counterparts::key_cmp))]
+fn compare(one: &EventKey<'_>, other: &EventKey<'_>) -> Ordering
+    ensures { result ≡ key_cmp (keyed one.now) (keyed other.now) }
+{
+    let kinds = one.pcr_index.cmp(&other.pcr_index);
+    let kinds = kinds.then(one.event_type.cmp(&other.event_type));
+    let names = one.namespace.cmp(other.namespace);
+    let names = names.then(one.name.cmp(other.name));
+    kinds.then(names)
+}
+
+/// A key, and how many events before an event have it.
+#[derive(Clone, Copy)]
+pub(crate) struct RankedKey<'a> {
+    pub(crate) key: EventKey<'a>,
+    pub(crate) rank: usize,
+}
+
+impl<'a> PartialEq for RankedKey<'a> {
+    ghost eq = { λ x y. eq_by_cmp ranked_cmp (ranked_of x) (ranked_of y) };
+
+    ghost laws = { on_per ranked_of (partial_equiv_from_equiv (eq_by_cmp_equiv ranked_cmp_total)) };
+
+    fn eq(&self, other: &Self) -> bool {
+        compare_ranked(self, other).is_eq()
+    }
+}
+
+impl<'a> Eq for RankedKey<'a> {
+    ghost laws = { on_equiv ranked_of (eq_by_cmp_equiv ranked_cmp_total) };
+}
+
+impl<'a> PartialOrd for RankedKey<'a> {
+    ghost partial_cmp = { λ x y. Some (ranked_cmp (ranked_of x) (ranked_of y)) };
+
+    ghost laws = { on_po ranked_of (po ranked_cmp_total (λ x y. refl)) };
+
+    fn partial_cmp(&self, other: &Self) -> Option<Ordering> {
+        Some(self.cmp(other))
+    }
+}
+
+impl<'a> Ord for RankedKey<'a> {
+    ghost cmp = { λ x y. ranked_cmp (ranked_of x) (ranked_of y) };
+
+    ghost total = { on_total ranked_of ranked_cmp_total };
+
+    ghost matches_partial_cmp = { λ x y. refl };
+
+    ghost matches_eq = { λ x y. refl };
+
+    fn cmp(&self, other: &Self) -> Ordering {
+        compare_ranked(self, other)
+    }
+}
+
+/// Compares two keys with their ranks.
+#[tactic(auto, unfolding(crate::specs::private::diff::Keys::ranked_cmp))]
+fn compare_ranked(one: &RankedKey<'_>, other: &RankedKey<'_>) -> Ordering
+    ensures { result ≡ ranked_cmp (ranked_of one.now) (ranked_of other.now) }
+{
+    compare(&one.key, &other.key).then(one.rank.cmp(&other.rank))
+}
