@@ -1,7 +1,7 @@
 //! Which digests are the hash of what an event's type measures (docs/AUDIT.md).
 
 use super::events::variable_parts;
-use super::log::{Event, Log, kind_name};
+use super::log::{Event, IPL, Log, kind_name};
 use super::replay::BANKS;
 use crate::program::Ending;
 use std::collections::BTreeMap;
@@ -13,16 +13,22 @@ const FORMS: [&str; 6] =
 const NONE: &str = "don't match";
 const OUTSIDE: &str = "not in the log";
 
-const TAG: u32 = 0x06;
-const IPL: u32 = 0x0d;
+/// The types whose data may only describe what was measured.
+const DESCRIBING: [u32; 8] =
+    [0x06, 0x0a, 0x0b, 0x8000_000d, 0x8000_00e1, 0x8000_00e2, 0x8000_00e3, 0x8000_00e4];
+
+/// Whether events of a type measure what the log has.
+pub fn has_forms(kind: u32) -> bool {
+    let measures_data = matches!(kind, 0x04 | 0x05 | 0x08 | IPL | 0x12 | 0x8000_0001 | 0x8000_0002);
+    let is_other = matches!(kind, 0x8000_0006 | 0x8000_0007 | 0x8000_000c | 0x8000_00e0);
+    measures_data || is_other || DESCRIBING.contains(&kind)
+}
 
 /// What an event measures in a form, if its type has that.
 fn measured(event: &Event<'_>, form: &str) -> Option<Vec<u8>> {
     let data = event.data;
     match (event.kind, form) {
-        (0x04..=0x06 | 0x08 | 0x0a | 0x0b | IPL | 0x12, "data") => Some(data.to_vec()),
-        (0x8000_0001 | 0x8000_0002 | 0x8000_0006 | 0x8000_0007, "data") => Some(data.to_vec()),
-        (0x8000_000c | 0x8000_00e0, "data") => Some(data.to_vec()),
+        (kind, "data") if has_forms(kind) => Some(data.to_vec()),
         (0x8000_0002 | 0x8000_000c, "variable value") => Some(variable_parts(data)?.2.to_vec()),
         (IPL, "without NUL") => data.strip_suffix(&[0]).map(Vec::from),
         (IPL, "with NUL") => Some([data, &[0]].concat()),
@@ -39,11 +45,15 @@ fn measured(event: &Event<'_>, form: &str) -> Option<Vec<u8>> {
     }
 }
 
+/// Whether an event has digests of known banks, and each is the hash of a message.
+pub fn is_hash_of(event: &Event<'_>, message: &[u8]) -> bool {
+    let mut banks = BANKS.iter().filter(|bank| !event.digests_of(bank).is_empty()).peekable();
+    banks.peek().is_some() && banks.all(|bank| event.is_hash(bank, message))
+}
+
 /// Whether an event has digests of known banks, and each is the hash of what it measures in a form.
 fn matches(event: &Event<'_>, form: &str) -> bool {
-    let Some(message) = measured(event, form) else { return false };
-    let mut banks = BANKS.iter().filter(|bank| !event.digests_of(bank).is_empty()).peekable();
-    banks.peek().is_some() && banks.all(|bank| event.is_hash(bank, &message))
+    measured(event, form).is_some_and(|message| is_hash_of(event, &message))
 }
 
 /// A line for each event that matches in no form, and the summary.
@@ -54,7 +64,8 @@ pub fn lines(log: &Log<'_>, end: &mut Ending) -> String {
         let lacks = |form| measured(event, form).is_none();
         let form = match FORMS.into_iter().find(|form| matches(event, form)) {
             Some(form) => form,
-            None if lacks("data") || kind == TAG || kind == IPL && lacks("command") => OUTSIDE,
+            None if !has_forms(kind) || DESCRIBING.contains(&kind) => OUTSIDE,
+            None if kind == IPL && lacks("command") => OUTSIDE,
             None => NONE,
         };
         types.entry(kind).or_default().push(form);

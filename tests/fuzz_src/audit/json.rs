@@ -53,9 +53,14 @@ pub fn hex_text(bytes: &[u8]) -> String {
     text(&hex(bytes))
 }
 
-/// The first characters of a text on a line, with the bytes of a control and of a backslash in hex.
+/// The first characters of a text on a line.
 pub fn shown(text: &str) -> String {
-    let escaped = |c: char| c.to_string().bytes().map(|byte| format!("\\x{byte:02x}")).collect();
-    let shown = |c| if c == '\\' || is_control(c) { escaped(c) } else { String::from(c) };
-    text.chars().take(LONGEST).map(shown).collect()
+    escaped(&text.chars().take(LONGEST).collect::<String>())
+}
+
+/// A text on a line, with the bytes of a control and of a backslash in hex.
+pub fn escaped(text: &str) -> String {
+    let hex = |c: char| c.to_string().bytes().map(|byte| format!("\\x{byte:02x}")).collect();
+    let shown = |c| if c == '\\' || is_control(c) { hex(c) } else { String::from(c) };
+    text.chars().map(shown).collect()
 }

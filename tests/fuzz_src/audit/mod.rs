@@ -4,6 +4,7 @@
 
 #[macro_use]
 mod json;
+mod block;
 mod check;
 mod diff;
 mod events;
@@ -12,7 +13,7 @@ mod replay;
 
 use crate::input::Input;
 use crate::program::{Ending, other_name};
-use log::{Log, REGISTERS};
+use log::Log;
 
 /// How many rows a table may have.
 const MAX_ROWS: usize = 256;
@@ -61,11 +62,9 @@ pub fn ending(command: &str, input: &Input, given: Option<Option<usize>>, file: 
         "blocks" => log.events.iter().map(events::head).collect(),
         "check" => check::lines(&log, &mut end),
         "json" => replay::json_line(&log, &replay::replays(&log, &mut end)),
-        "diff" | "whole_diff" => (0..=REGISTERS).map(|it| diff::lines(&log, &other, it)).collect(),
+        "diff" | "whole_diff" => diff::lines(&log, &other, &mut end),
         _ => replay::listing(&replay::replays(&log, &mut end)),
     };
-    let is_difference = takes_two(command) && !output.is_empty();
-    end.status = end.status.max(is_difference.into());
     Ending { output: output.into_bytes(), ..end }
 }
 
@@ -83,6 +82,9 @@ fn is_read(log: &Log<'_>, allows_left_over: bool, end: &mut Ending) -> bool {
         tell(end, log, UNJUDGED, &format!("its header has {rows} algorithms, {most}"));
         return false;
     }
+    if let Some(fault) = log.header_fault() {
+        tell(end, log, 0, &format!("{fault}, so that it is read as version 1"));
+    }
     let is_read = rest == 0 || log.is_padded || allows_left_over;
     if rest > 0 {
         let what = if log.is_padded { "of padding" } else { "are left over" };
@@ -90,7 +92,9 @@ fn is_read(log: &Log<'_>, allows_left_over: bool, end: &mut Ending) -> bool {
         tell(end, log, status, &format!("{rest} bytes {what} at offset {at}"));
     }
     if is_read && log.measured().count() == 0 {
-        tell(end, log, UNJUDGED, "nothing was measured");
+        let is_empty = at == 0 && rest == 0;
+        let what = if is_empty { "the log is empty" } else { "nothing was measured" };
+        tell(end, log, UNJUDGED, what);
     }
     is_read
 }

@@ -137,12 +137,12 @@ pub fn listing(found: &[Replayed<'_>]) -> String {
 pub fn json_line(log: &Log<'_>, found: &[Replayed<'_>]) -> String {
     let undetermined = |(_, register, outcome): &Replayed<'_>| {
         let (Event { index, offset, .. }, fault) = outcome.as_ref().err()?;
-        Some(object!(index, offset, reason: text(fault), register))
+        Some(object!(index, offset, pcr: register, reason: text(fault)))
     };
     let value = |it: &Replayed<'_>| it.2.as_ref().map_or("null".to_owned(), |it| hex_text(it));
     let bank = |bank: &[Replayed<'_>]| {
-        let (algorithm, registers) = (text(bank[0].0.name), array(bank.iter().map(value)));
-        object!(algorithm, registers, undetermined: array(bank.iter().filter_map(undetermined)))
+        let (algorithm, pcrs) = (text(bank[0].0.name), array(bank.iter().map(value)));
+        object!(algorithm, pcrs, undetermined: array(bank.iter().filter_map(undetermined)))
     };
     let rest = object!(count: log.rest, offset: log.end);
     let part = |is_it: bool| if is_it && log.rest > 0 { &rest } else { "null" };
