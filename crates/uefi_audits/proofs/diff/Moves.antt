@@ -3,9 +3,9 @@ use Rattle.std.proofs.Common.{◌≡◌, ◌∙◌, ℕ, ◌+◌, ◌<◌, ◌�
 use Rattle.std.specs.Prelude.{◌⊎◌, None, Some, option_map, slice_get}
 use Rattle.std.proofs.lemmas.Bool.{cases_lt}
 use Rattle.std.proofs.lemmas.Option.{slice_get-map, slice_get_past, slice_get_read}
-use Rattle.uefi_audits.specs.declared.diff.difference.EventChange.{EventChange}
-use Rattle.uefi_audits.specs.diff.Views.{change_of}
+use Rattle.uefi_audits.specs.declared.diff.changed.EventPair.{EventPair}
 use Rattle.uefi_audits.specs.diff.Differences.{Change, IsFirstMoved, IsMovedAt}
+use Rattle.uefi_audits.specs.private.diff.Ranks.{pair_of}
 
 -- A pair so far has this index in the new log, or it is 0.
 abbrev HasIndex : List Change → ℕ → ℕ → Type 0
@@ -26,10 +26,10 @@ none_yet pairs = record {
 }
 
 -- The pair at a place of a slice.
-pub pair_at : (all : List EventChange) (at : ℕ) (item : EventChange) → at < length all → item ≡ get_or all at item
-    → slice_get (map change_of all) at ≡ Some (change_of item)
+pub pair_at : (all : List EventPair) (at : ℕ) (item : EventPair) → at < length all → item ≡ get_or all at item
+    → slice_get (map pair_of all) at ≡ Some (pair_of item)
 pair_at all at item within is =
-    slice_get-map change_of all at ∙ ap (option_map change_of) (slice_get_read all (length all) at item refl within is)
+    slice_get-map pair_of all at ∙ ap (option_map pair_of) (slice_get_read all (length all) at item refl within is)
 
 one_pair : (pairs : List Change) (at : ℕ) (one other : Change) → slice_get pairs at ≡ Some one → slice_get pairs at ≡ Some other
     → one ≡ other

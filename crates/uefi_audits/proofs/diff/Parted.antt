@@ -1,13 +1,16 @@
 -- What is kept of events with their counterparts, and of pairs, one after another.
 use Rattle.std.proofs.Common.{◌≡◌, ◌∙◌, ℕ, ◌+◌, ◌<◌, List, [], ◌∷◌, ◌++◌, append-nil, get_or, length, map, take, ap, ap₂, inl, inr, refl, subst, sym}
 use Rattle.std.specs.Prelude.{false, true, is_none, Option, None, Some, option_map}
+use Rattle.std.specs.Borrow.{Bor}
 use Rattle.std.specs.List.{filter_map}
 use Rattle.std.proofs.lemmas.List.{map-append, map_more}
 use Rattle.std.proofs.lemmas.List.Elements.{filter_map-append}
+use Rattle.uefi_audits.specs.declared.diff.changed.EventPair.{EventPair}
 use Rattle.uefi_audits.specs.declared.diff.difference.EventChange.{EventChange}
 use Rattle.uefi_audits.specs.diff.Differences.{AreChanged, AreSame, Change, if_alone}
-use Rattle.uefi_audits.specs.diff.Views.{change_of, numbered_of}
+use Rattle.uefi_audits.specs.diff.Views.{change_of}
 use Rattle.uefi_audits.specs.declared.diff.pcr.NumberedEntry.{NumberedEntry}
+use Rattle.uefi_audits.specs.private.diff.Ranks.{numbered_at, pair_of}
 
 -- One more that is kept, and one that isn't.
 pub one_kept : {A B C D : Type 0} (view : A → B) (shown : C → D) (keep : B → Option D) (all : List A) (found new : List C) (index : ℕ)
@@ -46,47 +49,48 @@ both algorithms (pair ∷ pairs) more changed also (rest, inr differ, first) sec
     (rest ++ also, inr (differ.0, ap (λ t. t ++ also) differ.1), both algorithms pairs more rest also first second)
 
 -- One more pair, whose events are the same or aren't.
-more : (algorithms : List ℕ) (all found new : List EventChange) (index : ℕ) (item : EventChange) (also : List Change)
+more : (algorithms : List ℕ) (all : List EventPair) (found new : List EventChange) (index : ℕ) (item : EventPair) (also : List Change)
     → index < length all → item ≡ get_or all index item
-    → AreChanged algorithms (map change_of (take index all)) (map change_of found)
-    → AreChanged algorithms (change_of item ∷ []) also → map change_of new ≡ map change_of found ++ also
-    → AreChanged algorithms (map change_of (take (index + 1) all)) (map change_of new)
+    → AreChanged algorithms (map pair_of (take index all)) (map change_of found)
+    → AreChanged algorithms (pair_of item ∷ []) also → map change_of new ≡ map change_of found ++ also
+    → AreChanged algorithms (map pair_of (take (index + 1) all)) (map change_of new)
 more algorithms all found new index item also within here before one grown =
     subst (λ them. AreChanged algorithms them (map change_of new))
-    (ap (λ (it : EventChange). map change_of (take index all) ++ change_of it ∷ []) here ∙ sym (map_more change_of all index item within))
-    (subst (AreChanged algorithms (map change_of (take index all) ++ change_of item ∷ [])) (sym grown)
-    (both algorithms (map change_of (take index all)) (change_of item ∷ []) (map change_of found) also before one))
+    (ap (λ (it : EventPair). map pair_of (take index all) ++ pair_of it ∷ []) here ∙ sym (map_more pair_of all index item within))
+    (subst (AreChanged algorithms (map pair_of (take index all) ++ pair_of item ∷ [])) (sym grown)
+    (both algorithms (map pair_of (take index all)) (pair_of item ∷ []) (map change_of found) also before one))
 
-pub one_differs : (algorithms : List ℕ) (all found new : List EventChange) (index : ℕ) (item : EventChange)
-    → index < length all → item ≡ get_or all index item
-    → AreChanged algorithms (map change_of (take index all)) (map change_of found)
-    → (AreSame algorithms (change_of item) → ⊥) → new ≡ found ++ item ∷ []
-    → AreChanged algorithms (map change_of (take (index + 1) all)) (map change_of new)
-one_differs algorithms all found new index item within here before differ pushed =
-    more algorithms all found new index item (change_of item ∷ []) within here before ([], inr (differ, refl), refl)
-    (ap (map change_of) pushed ∙ map-append change_of found (item ∷ []))
+pub one_differs : (algorithms : List ℕ) (all : List EventPair) (found new : List EventChange) (index : ℕ) (item : EventPair)
+    (copied : EventChange) → index < length all → item ≡ get_or all index item
+    → AreChanged algorithms (map pair_of (take index all)) (map change_of found)
+    → (AreSame algorithms (pair_of item) → ⊥) → change_of copied ≡ pair_of item → new ≡ found ++ copied ∷ []
+    → AreChanged algorithms (map pair_of (take (index + 1) all)) (map change_of new)
+one_differs algorithms all found new index item copied within here before differ is pushed =
+    more algorithms all found new index item (pair_of item ∷ []) within here before ([], inr (differ, refl), refl)
+    (ap (map change_of) pushed ∙ map-append change_of found (copied ∷ [])
+    ∙ ap (λ (it : Change). map change_of found ++ it ∷ []) is)
 
-pub one_same : (algorithms : List ℕ) (all found : List EventChange) (index : ℕ) (item : EventChange)
+pub one_same : (algorithms : List ℕ) (all : List EventPair) (found : List EventChange) (index : ℕ) (item : EventPair)
     → index < length all → item ≡ get_or all index item
-    → AreChanged algorithms (map change_of (take index all)) (map change_of found) → AreSame algorithms (change_of item)
-    → AreChanged algorithms (map change_of (take (index + 1) all)) (map change_of found)
+    → AreChanged algorithms (map pair_of (take index all)) (map change_of found) → AreSame algorithms (pair_of item)
+    → AreChanged algorithms (map pair_of (take (index + 1) all)) (map change_of found)
 one_same algorithms all found index item within here before same =
     more algorithms all found found index item [] within here before ([], inl (same, refl), refl)
     (sym (append-nil (map change_of found)))
 
 -- Pairs, and the pairs of events with their counterparts.
-pub joined : (pairs left all : List EventChange) {changes : List Change} → all ≡ pairs ++ left → map change_of left ≡ changes
-    → map change_of all ≡ map change_of pairs ++ changes
+pub joined : (pairs left all : List EventPair) {changes : List Change} → all ≡ pairs ++ left → map pair_of left ≡ changes
+    → map pair_of all ≡ map pair_of pairs ++ changes
 joined pairs left all is are =
-    ap (map change_of) is ∙ map-append change_of pairs left ∙ ap (λ them. map change_of pairs ++ them) are
+    ap (map pair_of) is ∙ map-append pair_of pairs left ∙ ap (λ them. map pair_of pairs ++ them) are
 
 -- An event without a counterpart is alone, and one with a counterpart isn't.
-pub without : (found : NumberedEntry) (counterpart : Option NumberedEntry) → is_none counterpart ≡ true
-    → if_alone (numbered_of found) (option_map numbered_of counterpart) ≡ Some (numbered_of found)
+pub without : (found : Bor NumberedEntry) (counterpart : Option (Bor NumberedEntry)) → is_none counterpart ≡ true
+    → if_alone (numbered_at found) (option_map numbered_at counterpart) ≡ Some (numbered_at found)
 without found None none = refl
 without found (Some other) none = cc
 
-pub with_one : (found : NumberedEntry) (counterpart : Option NumberedEntry) → is_none counterpart ≡ false
-    → if_alone (numbered_of found) (option_map numbered_of counterpart) ≡ None
+pub with_one : (found : Bor NumberedEntry) (counterpart : Option (Bor NumberedEntry)) → is_none counterpart ≡ false
+    → if_alone (numbered_at found) (option_map numbered_at counterpart) ≡ None
 with_one found None some = cc
 with_one found (Some other) some = refl

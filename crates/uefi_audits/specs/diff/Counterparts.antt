@@ -8,7 +8,7 @@ use Rattle.std.specs.declared.cmp.Ordering.{Ordering}
 use Rattle.uefi_tcg.specs.content.Variable.{Variable}
 use Rattle.uefi_tcg.specs.v2.Event.{Event}
 use Rattle.uefi_audits.specs.Check.{are_hashes}
-use Rattle.uefi_audits.specs.content.Content.{Content, unread, text, separator, locality, header, loader_text, crtm_version, blob, described_blob, tagged, gpt, variable, image}
+use Rattle.uefi_audits.specs.content.Content.{Content, loader_text, tagged, variable, image}
 use Rattle.uefi_audits.specs.diff.Numbered.{Numbered, pcr_of, type_of}
 
 -- What an event is sought by among those of another log: its PCR, its type, and a name, which the data of some types have in a
@@ -24,7 +24,7 @@ abbrev pub data_key : Numbered → Key
 data_key found =
     record { pcr_index = pcr_of found; event_type = type_of found; namespace = []; name = found.entry.event.event_data }
 
--- What stands before the first byte of a value; and the first word of a text, which a space ends, or the NUL.
+-- The bytes before the first one of a value; and the first word of a text, which a space ends, or the NUL.
 abbrev pub before : ℕ → List ℕ → List ℕ
 before value [] = []
 before value (byte ∷ bytes) = if byte == value then [] else byte ∷ before value bytes
@@ -51,43 +51,25 @@ command_name bytes =
     else if begins_with bytes (codes "module_cmdline: ") then named (codes "module_cmdline") []
     else named [] []
 
--- The name of a variable, which its value follows, in the namespace of its GUID.
+-- The name of a variable, which its value follows, in the namespace of its GUID (`UEFI_VARIABLE_DATA`, TCG PC Client Platform
+-- Firmware Profile 1.06).
 abbrev pub variable_name : Variable → List ℕ → Name
 variable_name found bytes =
     let rest = drop 32 bytes in named (take 16 bytes) (take (length rest - length found.payload) rest)
 
 -- The name that data have by what they say: that of a variable in the namespace of its GUID, the device path of an image, the
--- first word of a command, the number of a tag. Other data have none.
+-- first word of a command, the number of the first tag (`TCG_PCClientTaggedEvent`). Other data have none.
 unfoldable pub name_in : Content → List ℕ → Name
 name_in (variable found value) bytes = variable_name found bytes
 name_in (image found nodes) bytes = named [] found.device_path
 name_in (loader_text found) bytes = command_name bytes
 name_in (tagged events rest) bytes = named [] (take 4 bytes)
-name_in unread bytes = named [] []
-name_in (text found) bytes = named [] []
-name_in (separator number) bytes = named [] []
-name_in (locality number) bytes = named [] []
-name_in (header found) bytes = named [] []
-name_in (crtm_version found) bytes = named [] []
-name_in (blob found) bytes = named [] []
-name_in (described_blob found) bytes = named [] []
-name_in (gpt found) bytes = named [] []
+name_in other bytes = named [] []
 
 -- Whether the digests of an event are the hash of a variable's value alone.
 unfoldable pub has_uncovered_name : Content → Event → Bool
 has_uncovered_name (variable found value) event = are_hashes found.payload event
-has_uncovered_name (image found nodes) event = false
-has_uncovered_name (loader_text found) event = false
-has_uncovered_name (tagged events rest) event = false
-has_uncovered_name unread event = false
-has_uncovered_name (text found) event = false
-has_uncovered_name (separator number) event = false
-has_uncovered_name (locality number) event = false
-has_uncovered_name (header found) event = false
-has_uncovered_name (crtm_version found) event = false
-has_uncovered_name (blob found) event = false
-has_uncovered_name (described_blob found) event = false
-has_uncovered_name (gpt found) event = false
+has_uncovered_name other event = false
 
 -- By its name.
 abbrev pub keyed_by : ℕ → ℕ → Name → Key

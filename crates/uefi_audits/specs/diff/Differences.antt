@@ -1,5 +1,5 @@
 -- How the events of two logs differ, by PCRs. An event is compared with its counterpart: by PCR, type, data, and the digests of
--- some algorithms. Where an event stands in its log is nothing of it.
+-- some algorithms. Its index and its offset aren't compared.
 use Rattle.std.specs.Prelude.{ℕ, zero, suc, ◌≡◌, ◌≢◌, ◌⊎◌, ◌<◌, ◌==◌}
 use Rattle.std.specs.Prelude.{List, [], ◌∷◌, ◌++◌, map, slice_get, Option, None, Some, option_map, option_to_list}
 use Rattle.std.specs.List.{filter_map, find}

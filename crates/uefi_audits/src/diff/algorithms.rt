@@ -1,6 +1,7 @@
 ghost use Rattle.std.specs.Prelude.{◌≡◌, IfOk};
 ghost use Rattle.pcr_replay.specs.ReadLogs.{header_in};
-ghost use Rattle.uefi_audits.specs.diff.Algorithms.{algorithms_of, compared_algorithms, is_asked, is_compared, is_in};
+ghost use Rattle.uefi_audits.specs.diff.Algorithms.{algorithms_of, compared_algorithms, is_asked, is_compared};
+ghost use Rattle.uefi_audits.specs.Check.{is_one_of};
 ghost use Rattle.uefi_audits.specs.diff.Views.{numbers_of};
 
 use crate::algorithms::each_algorithm;
@@ -39,7 +40,7 @@ pub fn compared_algorithms(
 fn is_compared(bank: Option<Bank>, news: &[u16], number: u16) -> bool
     ensures { result ≡ is_compared bank news.now number }
 {
-    is_in(news, number) && is_asked(bank, number)
+    is_one_of(news, number) && is_asked(bank, number)
 }
 
 /// Returns whether an algorithm is asked for: it is that of the bank, or no bank is.
@@ -53,8 +54,8 @@ fn is_asked(bank: Option<Bank>, number: u16) -> bool
 }
 
 /// Returns whether a number is one of these.
-fn is_in(numbers: &[u16], number: u16) -> bool
-    ensures { result ≡ is_in numbers.now number }
+fn is_one_of(numbers: &[u16], number: u16) -> bool
+    ensures { result ≡ is_one_of numbers.now number }
 {
     numbers.iter().any(|it| *it == number)
 }

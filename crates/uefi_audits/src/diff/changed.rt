@@ -1,27 +1,49 @@
 ghost use Rattle.std.specs.Prelude.{◌≡◌, map, IfOk};
 ghost use Rattle.uefi_audits.specs.diff.Differences.{AreChanged, changes_in};
 ghost use Rattle.uefi_audits.specs.diff.Views.{change_of, numbers_of};
-ghost use Rattle.uefi_audits.specs.private.diff.Ranks.{paired_of};
+ghost use Rattle.uefi_audits.specs.private.diff.Ranks.{pair_of, paired_of};
 
 use crate::diff::compared::is_same_event;
 use crate::diff::counterparts::PairedEvent;
 use crate::diff::difference::EventChange;
+use crate::diff::pcr::NumberedEntry;
 use std::alloc::{AllocError, Global};
 use uefi_tcg::AlgorithmId;
 
+/// An event of the old log and its counterpart in the new one.
+#[derive(Clone, Copy)]
+pub(crate) struct EventPair<'e, 'a> {
+    /// The event of the old log.
+    pub(crate) old: &'e NumberedEntry<'a>,
+    /// Its counterpart.
+    pub(crate) new: &'e NumberedEntry<'a>,
+}
+
+impl<'e, 'a> EventPair<'e, 'a> {
+    /// Returns the pair with copies of its events.
+    pub(crate) fn copied(&self) -> EventChange<'a>
+        ensures { change_of result ≡ pair_of self.now }
+    {
+        EventChange {
+            old: *self.old,
+            new: *self.new,
+        }
+    }
+}
+
 /// Returns each event that has a counterpart, with it, in order.
-pub(crate) fn changes_in<'a>(
+pub(crate) fn changes_in<'e, 'a>(
     alloc: Global,
-    all: &[PairedEvent<'a>],
-) -> Result<Vec<EventChange<'a>>, AllocError>
+    all: &[PairedEvent<'e, 'a>],
+) -> Result<Vec<EventPair<'e, 'a>>, AllocError>
     ensures { IfOk result (λ found.
-        map change_of found.items ≡ changes_in (map paired_of all.now)) }
+        map pair_of found.items ≡ changes_in (map paired_of all.now)) }
 {
     let mut found = Vec::new(alloc);
     for paired in all {
         let old = paired.found;
         if let Some(new) = paired.counterpart {
-            found.push(EventChange { old, new })?;
+            found.push(EventPair { old, new })?;
         }
     }
     Ok(found)
@@ -31,15 +53,15 @@ pub(crate) fn changes_in<'a>(
 pub(crate) fn changed<'a>(
     alloc: Global,
     algorithms: &[AlgorithmId],
-    pairs: &[EventChange<'a>],
+    pairs: &[EventPair<'_, 'a>],
 ) -> Result<Vec<EventChange<'a>>, AllocError>
     ensures { IfOk result (λ found. AreChanged (numbers_of algorithms.now)
-        (map change_of pairs.now) (map change_of found.items)) }
+        (map pair_of pairs.now) (map change_of found.items)) }
 {
     let mut found = Vec::new(alloc);
     for pair in pairs {
         if !is_same_event(algorithms, &pair.old.entry.event, &pair.new.entry.event) {
-            found.push(*pair)?;
+            found.push(pair.copied())?;
         }
     }
     Ok(found)

@@ -1,8 +1,7 @@
 ghost use Rattle.std.specs.Prelude.{◌≡◌, map, IfOk};
 ghost use Rattle.uefi_audits.specs.diff.Counterparts.{ArePaired};
 ghost use Rattle.uefi_audits.specs.diff.Differences.{alone_in};
-ghost use Rattle.uefi_audits.specs.diff.Views.{numbered_of};
-ghost use Rattle.uefi_audits.specs.private.diff.Ranks.{ArePlaces, event_of, paired_by, paired_of, ranked_in};
+ghost use Rattle.uefi_audits.specs.private.diff.Ranks.{ArePlaces, event_of, numbered_at, paired_by, paired_of, ranked_in};
 ghost use Rattle.uefi_audits.specs.private.diff.Keys.{key_by};
 
 use crate::diff::event_key::{EventKey, KeyedBy, RankedKey};
@@ -12,30 +11,30 @@ use std::collections::BTreeMap;
 
 /// An event of a log with its counterpart in another.
 #[derive(Clone, Copy)]
-pub(crate) struct PairedEvent<'a> {
+pub(crate) struct PairedEvent<'e, 'a> {
     /// The event.
-    pub(crate) found: NumberedEntry<'a>,
+    pub(crate) found: &'e NumberedEntry<'a>,
     /// Its counterpart; `None` if it has none.
-    pub(crate) counterpart: Option<NumberedEntry<'a>>,
+    pub(crate) counterpart: Option<&'e NumberedEntry<'a>>,
 }
 
 /// An event with its key.
 #[derive(Clone, Copy)]
-pub(crate) struct RankedEvent<'a> {
+pub(crate) struct RankedEvent<'e, 'a> {
     pub(crate) key: RankedKey<'a>,
-    pub(crate) found: NumberedEntry<'a>,
+    pub(crate) found: &'e NumberedEntry<'a>,
 }
 
 /// Returns each of these events with its counterpart among the others: of those that have one key
 /// the first is the counterpart of the first, the second of the second, and so on.
-pub(crate) fn counterparts<'a>(
+pub(crate) fn counterparts<'e, 'a>(
     alloc: Global,
-    events: &[NumberedEntry<'a>],
-    others: &[NumberedEntry<'a>],
+    events: &[&'e NumberedEntry<'a>],
+    others: &[&'e NumberedEntry<'a>],
     by: KeyedBy,
-) -> Result<Vec<PairedEvent<'a>>, AllocError>
-    ensures { IfOk result (λ all. ArePaired (key_by by) (map numbered_of events.now)
-        (map numbered_of others.now) (map paired_of all.items)) }
+) -> Result<Vec<PairedEvent<'e, 'a>>, AllocError>
+    ensures { IfOk result (λ all. ArePaired (key_by by) (map numbered_at events.now)
+        (map numbered_at others.now) (map paired_of all.items)) }
 {
     let events = ranked(alloc, events, by)?;
     let others = ranked(alloc, others, by)?;
@@ -44,13 +43,13 @@ pub(crate) fn counterparts<'a>(
 }
 
 /// Returns each event with its key, and with how many events before it have that key.
-fn ranked<'a>(
+fn ranked<'e, 'a>(
     alloc: Global,
-    events: &[NumberedEntry<'a>],
+    events: &[&'e NumberedEntry<'a>],
     by: KeyedBy,
-) -> Result<Vec<RankedEvent<'a>>, AllocError>
+) -> Result<Vec<RankedEvent<'e, 'a>>, AllocError>
     ensures { IfOk result (λ all. map event_of all.items
-        ≡ ranked_in (key_by by) (map numbered_of events.now)) }
+        ≡ ranked_in (key_by by) (map numbered_at events.now)) }
 {
     let mut counts = BTreeMap::new(alloc);
     let mut all = Vec::new(alloc);
@@ -65,10 +64,10 @@ fn ranked<'a>(
 }
 
 /// Returns the events by their keys.
-fn places_of<'a>(
+fn places_of<'e, 'a>(
     alloc: Global,
-    all: &[RankedEvent<'a>],
-) -> Result<BTreeMap<RankedKey<'a>, NumberedEntry<'a>>, AllocError>
+    all: &[RankedEvent<'e, 'a>],
+) -> Result<BTreeMap<RankedKey<'a>, &'e NumberedEntry<'a>>, AllocError>
     ensures { IfOk result (λ places. ArePlaces places (map event_of all.now)) }
 {
     let mut places = BTreeMap::new(alloc);
@@ -79,11 +78,11 @@ fn places_of<'a>(
 }
 
 /// Returns each event with the other one that has its key.
-fn each_paired<'a>(
+fn each_paired<'e, 'a>(
     alloc: Global,
-    all: &[RankedEvent<'a>],
-    places: &BTreeMap<RankedKey<'a>, NumberedEntry<'a>>,
-) -> Result<Vec<PairedEvent<'a>>, AllocError>
+    all: &[RankedEvent<'e, 'a>],
+    places: &BTreeMap<RankedKey<'a>, &'e NumberedEntry<'a>>,
+) -> Result<Vec<PairedEvent<'e, 'a>>, AllocError>
     ensures { IfOk result (λ found. map paired_of found.items ≡ map (paired_by places.now) all.now) }
 {
     let mut found = Vec::new(alloc);
@@ -97,12 +96,12 @@ fn each_paired<'a>(
 }
 
 /// Returns the events that have no counterpart, in order.
-pub(crate) fn alone<'a>(
+pub(crate) fn alone<'e, 'a>(
     alloc: Global,
-    all: &[PairedEvent<'a>],
-) -> Result<Vec<NumberedEntry<'a>>, AllocError>
+    all: &[PairedEvent<'e, 'a>],
+) -> Result<Vec<&'e NumberedEntry<'a>>, AllocError>
     ensures { IfOk result (λ found.
-        map numbered_of found.items ≡ alone_in (map paired_of all.now)) }
+        map numbered_at found.items ≡ alone_in (map paired_of all.now)) }
 {
     let mut found = Vec::new(alloc);
     for paired in all {

@@ -1,11 +1,11 @@
 ghost use Rattle.std.specs.Prelude.{◌≡◌, ◌++◌, map, option_map, IfOk};
 ghost use Rattle.uefi_audits.specs.diff.Counterparts.{ArePaired, data_key, name_key};
-ghost use Rattle.uefi_audits.specs.diff.Differences.{AreChanged, AreCounterpartsOf, AreDifferences, DifferBelow, IsDifference, changes_in};
+ghost use Rattle.uefi_audits.specs.diff.Differences.{AreChanged, AreCounterpartsOf, AreDifferences, DifferBelow, IsDifference, alone_in, changes_in};
 ghost use Rattle.uefi_audits.specs.diff.Numbered.{of_pcr};
 ghost use Rattle.uefi_audits.specs.diff.Views.{change_of, difference_of, numbered_of, numbers_of};
-ghost use Rattle.uefi_audits.specs.private.diff.Ranks.{counterparts_of, paired_of};
+ghost use Rattle.uefi_audits.specs.private.diff.Ranks.{counterparts_of, numbered_at, pair_of, paired_of};
 
-use crate::diff::changed::{changed, changes_in};
+use crate::diff::changed::{EventPair, changed, changes_in};
 use crate::diff::counterparts::{PairedEvent, alone, counterparts};
 use crate::diff::event_key::KeyedBy;
 use crate::diff::moved::first_moved;
@@ -42,15 +42,15 @@ pub struct EventChange<'a> {
 
 /// The events of a PCR with their counterparts.
 #[derive(Drop)]
-pub(crate) struct Counterparts<'a> {
+pub(crate) struct Counterparts<'e, 'a> {
     /// The events of the old log with those of the new one that have the same data.
-    pub(crate) of_old: Vec<PairedEvent<'a>>,
+    pub(crate) of_old: Vec<PairedEvent<'e, 'a>>,
     /// And the other way round.
-    pub(crate) of_new: Vec<PairedEvent<'a>>,
+    pub(crate) of_new: Vec<PairedEvent<'e, 'a>>,
     /// Those that are left of the old log, with those left of the new one that have the same name.
-    pub(crate) left_of_old: Vec<PairedEvent<'a>>,
+    pub(crate) left_of_old: Vec<PairedEvent<'e, 'a>>,
     /// And the other way round.
-    pub(crate) left_of_new: Vec<PairedEvent<'a>>,
+    pub(crate) left_of_new: Vec<PairedEvent<'e, 'a>>,
 }
 
 /// Returns how the events of two logs differ, PCR by PCR, those above 23 together. A PCR whose
@@ -123,12 +123,12 @@ fn pcr_difference<'a>(
 fn difference_in<'a>(
     alloc: Global,
     algorithms: &[AlgorithmId],
-    olds: &[NumberedEntry<'a>],
-    news: &[NumberedEntry<'a>],
+    olds: &[&NumberedEntry<'a>],
+    news: &[&NumberedEntry<'a>],
     pcr: u32,
 ) -> Result<Option<PcrDifference<'a>>, AllocError>
     ensures { IfOk result (λ found. IsDifference (numbers_of algorithms.now) pcr
-        (map numbered_of olds.now) (map numbered_of news.now) (option_map difference_of found)) }
+        (map numbered_at olds.now) (map numbered_at news.now) (option_map difference_of found)) }
 {
     if first_difference(algorithms, olds, news).is_none() {
         return Ok(None);
@@ -143,20 +143,20 @@ fn difference_in<'a>(
             pairs.as_slice(),
             all.left_of_old.as_slice(),
         )?,
-        only_old: alone(alloc, all.left_of_old.as_slice())?,
-        only_new: alone(alloc, all.left_of_new.as_slice())?,
+        only_old: alone_copied(alloc, all.left_of_old.as_slice())?,
+        only_new: alone_copied(alloc, all.left_of_new.as_slice())?,
         moved: first_moved(pairs.as_slice()),
     }))
 }
 
 /// Returns the events of a PCR with their counterparts.
-fn counterparts_of<'a>(
+fn counterparts_of<'e, 'a>(
     alloc: Global,
-    olds: &[NumberedEntry<'a>],
-    news: &[NumberedEntry<'a>],
-) -> Result<Counterparts<'a>, AllocError>
-    ensures { IfOk result (λ all. AreCounterpartsOf (map numbered_of olds.now)
-        (map numbered_of news.now) (counterparts_of all)) }
+    olds: &[&'e NumberedEntry<'a>],
+    news: &[&'e NumberedEntry<'a>],
+) -> Result<Counterparts<'e, 'a>, AllocError>
+    ensures { IfOk result (λ all. AreCounterpartsOf (map numbered_at olds.now)
+        (map numbered_at news.now) (counterparts_of all)) }
 {
     let of_old = counterparts(alloc, olds, news, KeyedBy::Data)?;
     let of_new = counterparts(alloc, news, olds, KeyedBy::Data)?;
@@ -173,15 +173,41 @@ fn counterparts_of<'a>(
     })
 }
 
+/// Returns copies of the events that have no counterpart, in order.
+fn alone_copied<'a>(
+    alloc: Global,
+    all: &[PairedEvent<'_, 'a>],
+) -> Result<Vec<NumberedEntry<'a>>, AllocError>
+    ensures { IfOk result (λ found.
+        map numbered_of found.items ≡ alone_in (map paired_of all.now)) }
+{
+    let found = alone(alloc, all)?;
+    copies(alloc, found.as_slice())
+}
+
+/// Returns copies of these events.
+fn copies<'a>(
+    alloc: Global,
+    all: &[&NumberedEntry<'a>],
+) -> Result<Vec<NumberedEntry<'a>>, AllocError>
+    ensures { IfOk result (λ found. map numbered_of found.items ≡ map numbered_at all.now) }
+{
+    let mut found = Vec::new(alloc);
+    for entry in all {
+        found.push(**entry)?;
+    }
+    Ok(found)
+}
+
 /// Returns the pairs whose events aren't the same: of these, and of events with their counterparts.
-fn changed_in<'a>(
+fn changed_in<'e, 'a>(
     alloc: Global,
     algorithms: &[AlgorithmId],
-    pairs: &[EventChange<'a>],
-    left: &[PairedEvent<'a>],
+    pairs: &[EventPair<'e, 'a>],
+    left: &[PairedEvent<'e, 'a>],
 ) -> Result<Vec<EventChange<'a>>, AllocError>
     ensures { IfOk result (λ found. AreChanged (numbers_of algorithms.now)
-        (map change_of pairs.now ++ changes_in (map paired_of left.now))
+        (map pair_of pairs.now ++ changes_in (map paired_of left.now))
         (map change_of found.items)) }
 {
     let mut all = Vec::new(alloc);

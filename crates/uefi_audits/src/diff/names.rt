@@ -128,12 +128,12 @@ fn first_word(text: &[u8]) -> &[u8]
     before(before(text, 0), b' ')
 }
 
-/// Returns what stands before the first byte of a value; all if there is none.
+/// Returns the bytes before the first one of a value; all if there is none.
 fn before(bytes: &[u8], value: u8) -> &[u8]
     ensures { result.now ≡ before value bytes.now }
 {
     match split_once(bytes, value) {
-        Some((front, _)) => front,
+        Some((prefix, _)) => prefix,
         None => bytes,
     }
 }

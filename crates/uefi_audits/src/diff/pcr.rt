@@ -3,6 +3,7 @@ ghost use Rattle.uefi_tcg.specs.LogViews.{entry_of, event_of};
 ghost use Rattle.uefi_audits.specs.diff.Differences.{DifferAt, all_compared, compared_event};
 ghost use Rattle.uefi_audits.specs.diff.Numbered.{AreNumberedIn, is_of, of_pcr};
 ghost use Rattle.uefi_audits.specs.diff.Views.{numbered_of, numbers_of};
+ghost use Rattle.uefi_audits.specs.private.diff.Ranks.{numbered_at};
 
 use crate::content::{EventContent, read_content};
 use crate::diff::compared::is_same_event;
@@ -52,18 +53,18 @@ pub fn numbered_entries<'a>(
 }
 
 /// Returns the events of a PCR among these, in order; for PCR 24, those of all above 23.
-pub(crate) fn entries_of<'a>(
+pub(crate) fn entries_of<'e, 'a>(
     alloc: Global,
-    all: &[NumberedEntry<'a>],
+    all: &'e [NumberedEntry<'a>],
     pcr: u32,
-) -> Result<Vec<NumberedEntry<'a>>, AllocError>
+) -> Result<Vec<&'e NumberedEntry<'a>>, AllocError>
     ensures { IfOk result (λ found.
-        map numbered_of found.items ≡ of_pcr pcr (map numbered_of all.now)) }
+        map numbered_at found.items ≡ of_pcr pcr (map numbered_of all.now)) }
 {
     let mut found = Vec::new(alloc);
     for entry in all {
         if is_of(pcr, &entry.entry) {
-            found.push(*entry)?;
+            found.push(entry)?;
         }
     }
     Ok(found)
@@ -80,17 +81,17 @@ fn is_of(pcr: u32, entry: &LogEntry<'_>) -> bool
 /// Returns the first place at which the events differ, or one list has an event and the other none.
 pub(crate) fn first_difference(
     algorithms: &[AlgorithmId],
-    old: &[NumberedEntry<'_>],
-    new: &[NumberedEntry<'_>],
+    old: &[&NumberedEntry<'_>],
+    new: &[&NumberedEntry<'_>],
 ) -> Option<usize>
     ensures { MatchOption result
-        (all_compared (numbers_of algorithms.now) (map numbered_of old.now)
-        ≡ all_compared (numbers_of algorithms.now) (map numbered_of new.now))
-        (DifferAt (numbers_of algorithms.now) (map numbered_of old.now)
-        (map numbered_of new.now)) }
+        (all_compared (numbers_of algorithms.now) (map numbered_at old.now)
+        ≡ all_compared (numbers_of algorithms.now) (map numbered_at new.now))
+        (DifferAt (numbers_of algorithms.now) (map numbered_at old.now)
+        (map numbered_at new.now)) }
 {
     for at in 0..old.len().max(new.len()) {
-        if !is_same_or_none(algorithms, old.get(at), new.get(at)) {
+        if !is_same_or_none(algorithms, old.get(at).copied(), new.get(at).copied()) {
             return Some(at);
         }
     }

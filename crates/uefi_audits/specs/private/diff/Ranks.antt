@@ -1,23 +1,32 @@
 -- Events with their keys, and how many events before each have that key.
 use Rattle.std.specs.Prelude.{◌≡◌, List, [], ◌∷◌, ◌++◌, Bool, cond, map, option_map, Option, None, Some}
+use Rattle.std.specs.Borrow.{Bor}
 use Rattle.std.specs.BTreeMap.{BTreeMap, get}
 use Rattle.std.specs.Ordering.{is_eq}
 use Rattle.std.specs.declared.cmp.Ordering.{Ordering}
 use Rattle.uefi_audits.specs.declared.diff.counterparts.PairedEvent.{PairedEvent}
 use Rattle.uefi_audits.specs.declared.diff.counterparts.RankedEvent.{RankedEvent}
+use Rattle.uefi_audits.specs.declared.diff.changed.EventPair.{EventPair}
 use Rattle.uefi_audits.specs.declared.diff.difference.Counterparts as declared
 use Rattle.uefi_audits.specs.declared.diff.event_key.RankedKey.{RankedKey}
 use Rattle.uefi_audits.specs.declared.diff.pcr.NumberedEntry.{NumberedEntry}
 use Rattle.uefi_audits.specs.diff.Counterparts.{Key, Paired, how_many}
-use Rattle.uefi_audits.specs.diff.Differences.{Counterparts}
+use Rattle.uefi_audits.specs.diff.Differences.{Change, Counterparts}
 use Rattle.uefi_audits.specs.diff.Numbered.{Numbered}
 use Rattle.uefi_audits.specs.diff.Views.{numbered_of}
 use Rattle.uefi_audits.specs.private.diff.Keys.{Ranked, ranked_cmp, ranked_of}
 
--- An event with its counterpart.
+-- An event of a list.
+abbrev pub numbered_at : Bor NumberedEntry → Numbered
+numbered_at found = numbered_of found.now
+
+-- An event with its counterpart, which it may lack or not.
 abbrev pub paired_of : PairedEvent → Paired
 paired_of paired =
-    record { found = numbered_of paired.found; counterpart = option_map numbered_of paired.counterpart }
+    record { found = numbered_at paired.found; counterpart = option_map numbered_at paired.counterpart }
+
+abbrev pub pair_of : EventPair → Change
+pair_of pair = record { old = numbered_at pair.old; new = numbered_at pair.new }
 
 -- An event with its key and its rank.
 pub record RankedNumbered : Type 0 where
@@ -25,7 +34,7 @@ pub record RankedNumbered : Type 0 where
   pub found : Numbered
 
 abbrev pub event_of : RankedEvent → RankedNumbered
-event_of ranked = record { key = ranked_of ranked.key; found = numbered_of ranked.found }
+event_of ranked = record { key = ranked_of ranked.key; found = numbered_at ranked.found }
 
 abbrev pub with_rank : (Numbered → Key) → List Numbered → Numbered → RankedNumbered
 with_rank key_of before found =
@@ -54,14 +63,14 @@ last_with key (ranked ∷ more) = or_with key ranked (last_with key more)
 abbrev pub place_cmp : RankedKey → RankedKey → Ordering
 place_cmp key other = ranked_cmp (ranked_of key) (ranked_of other)
 
-abbrev pub ArePlaces : BTreeMap RankedKey NumberedEntry → List RankedNumbered → Type 0
+abbrev pub ArePlaces : BTreeMap RankedKey (Bor NumberedEntry) → List RankedNumbered → Type 0
 ArePlaces places all =
-    (key : RankedKey) → option_map numbered_of (get place_cmp places key) ≡ last_with (ranked_of key) all
+    (key : RankedKey) → option_map numbered_at (get place_cmp places key) ≡ last_with (ranked_of key) all
 
 -- An event with what the map has at its key.
-abbrev pub paired_by : BTreeMap RankedKey NumberedEntry → RankedEvent → Paired
+abbrev pub paired_by : BTreeMap RankedKey (Bor NumberedEntry) → RankedEvent → Paired
 paired_by places ranked =
-    record { found = numbered_of ranked.found; counterpart = option_map numbered_of (get place_cmp places ranked.key) }
+    record { found = numbered_at ranked.found; counterpart = option_map numbered_at (get place_cmp places ranked.key) }
 
 -- The events of a PCR with their counterparts.
 abbrev pub counterparts_of : declared.Counterparts → Counterparts
