@@ -3,8 +3,9 @@
 //! [`push_events`] appends the events of a log, a line each, and [`event_line`] returns the line of
 //! one event. [`push_replay_json`] appends one line for a log: the PCRs that it leads to, by
 //! banks, and why some are undetermined. [`push_verdict_json`] appends one line that says whether a
-//! log leads to the PCRs that a TPM held, and [`push_differences_json`] a line for each PCR in whose
-//! events two logs differ. [`push_check_json`] appends what was checked of them.
+//! log leads to the PCRs that a TPM held. [`push_differences_json`] appends a line that says what of
+//! two logs is compared, and one for each difference. [`push_check_json`] appends what was checked
+//! of a log's events.
 //!
 //! A line is the text without spaces of a value, with each object's keys in order (`specs/json`).
 //! No control character is in it: in a string each is `\u` and four hex digits.

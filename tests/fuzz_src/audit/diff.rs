@@ -219,7 +219,7 @@ fn changed_line((old, new): &Pair<'_>, algorithms: &[u16]) -> String {
 fn changed_name(entry @ Entry { event, said }: &Entry<'_>, other: &Entry<'_>) -> String {
     match said {
         Some(said) if event.data == other.event.data => said.words.clone(),
-        Some(Said { key: "variable" | "image", words, .. }) => words.clone(),
+        Some(Said { key: "variable" | "image" | "tagged_events", words, .. }) => words.clone(),
         Some(_) if event.kind == IPL => {
             let [word, first] = name(entry)
                 .map(|bytes| shown(&bytes.iter().copied().map(char::from).collect::<String>()));

@@ -190,15 +190,23 @@ fn tagged_events(data: &[u8]) -> Said<'_> {
     let json = object!(events, rest: rest_text(rest));
     let lines = lines + &bytes_lines("trailing bytes", rest);
     let name = [&[], &data[..data.len().min(4)]];
-    Said { name, ..Said::new("tagged_events", json, "tagged events".to_owned(), lines) }
+    let mut after = data;
+    let first = number(&mut after, 4).zip(counted(&mut after, 4));
+    let words = first.map_or("no tagged event".to_owned(), |(id, _)| format!("tag {}", tag(id)));
+    let text = first.filter(|_| after.is_empty()).and_then(|(_, data)| printed_text(data));
+    Said { name, text, ..Said::new("tagged_events", json, words, lines) }
+}
+
+fn tag(id: u64) -> String {
+    let name = TAGS.iter().find(|it| it.0 == id).map(|it| format!("{} ", it.1));
+    format!("{}{id:#x}", name.unwrap_or_default())
 }
 
 fn tagged_event(id: u64, data: &[u8]) -> Part {
     let (name, printed) = (TAGS.iter().find(|it| it.0 == id).map(|it| it.1), printed_text(data));
-    let words = name.map(|it| format!("{it} ")).unwrap_or_default();
     let shown = printed.as_deref().map(|it| format!(": {}", escaped(it)));
     let said = shown.unwrap_or_else(|| format!(" {}", hex(data)));
-    let line = format!("tagged event {words}{id:#x}{said}\n");
+    let line = format!("tagged event {}{said}\n", tag(id));
     let [name, text] = [name, printed.as_deref()].map(|it| it.map(text).unwrap_or_default());
     Part(object!(data: hex_text(data), id, name, text), line)
 }

@@ -1,51 +1,77 @@
--- What `uefi_audit diff --json` prints of two logs: an object for each PCR whose events differ. The keys of an object come in order.
-use Rattle.std.specs.Prelude.{ℕ, ◌==◌, List, ◌++◌, flat_map, map, codes, Option, None, Some, if◌then◌else◌}
+-- What `uefi_audit diff --json` prints of two logs: an object that says what is compared, and one for each difference. The keys of
+-- an object come in order.
+use Rattle.std.specs.Prelude.{ℕ, List, [], ◌++◌, flat_map, map, codes, Option, None, Some}
 use Rattle.serde_json.specs.Data.{Data, null, number, unsigned, string, array, object, member, no_members}
 use Rattle.serde_json.specs.View.{items_of}
 use Rattle.uefi_audits.specs.diff.Differences.{Change, Difference}
-use Rattle.uefi_audits.specs.diff.Numbered.{Numbered}
+use Rattle.uefi_audits.specs.diff.Numbered.{Numbered, pcr_of}
 use Rattle.audit_text.specs.ComparedLogs.{Logs}
 use Rattle.audit_text.specs.json.Algorithm.{algorithm_json}
 use Rattle.audit_text.specs.json.Event.{event_json}
 use Rattle.audit_text.specs.json.Line.{line_of}
 
+-- What is compared: the digests of these algorithms, and the logs of these names.
+unfoldable pub compared_json : Logs → Data
+compared_json logs =
+    object (member (codes "compared") (array (items_of (map algorithm_json logs.algorithms)))
+    (member (codes "new") (string logs.new_name) (member (codes "old") (string logs.old_name) no_members)))
+
 -- An event of a log of this name, as `uefi_audit events --json` prints it.
 abbrev pub entry_json : List ℕ → Numbered → Data
 entry_json name found = event_json name found.index found.entry found.content
 
--- An event of the old log and its counterpart in the new one.
-unfoldable pub change_json : Logs → Change → Data
-change_json logs change =
-    object (member (codes "new") (entry_json logs.new_name change.new)
-    (member (codes "old") (entry_json logs.old_name change.old) no_members))
+-- A difference: its kind, its PCR, and what the old and the new log have.
+unfoldable pub difference_json : List ℕ → ℕ → Data → Data → Data
+difference_json kind pcr old new =
+    object (member (codes "difference") (string kind) (member (codes "new") new
+    (member (codes "old") old (member (codes "pcr") (number (unsigned pcr)) no_members))))
 
--- The first pair whose order is another; `null` if there is none.
-unfoldable pub moved_json : Logs → Option Change → Data
-moved_json logs None = null
-moved_json logs (Some change) = change_json logs change
+-- An event of the old log and its counterpart in the new one; and an event that one log alone has.
+unfoldable pub pair_json : Logs → List ℕ → Change → Data
+pair_json logs kind change =
+    difference_json kind (pcr_of change.old) (entry_json logs.old_name change.old) (entry_json logs.new_name change.new)
 
--- A log: its name, and its events that have no counterpart.
-unfoldable pub log_json : List ℕ → List Numbered → Data
-log_json name only =
-    object (member (codes "log") (string name)
-    (member (codes "only") (array (items_of (map (entry_json name) only))) no_members))
+unfoldable pub old_json : Logs → Numbered → Data
+old_json logs found = difference_json (codes "only_old") (pcr_of found) (entry_json logs.old_name found) null
 
--- The PCR; `null` for those above 23.
-unfoldable pub pcr_number : ℕ → Data
-pcr_number pcr = if pcr == 24 then null else number (unsigned pcr)
+unfoldable pub new_json : Logs → Numbered → Data
+new_json logs found = difference_json (codes "only_new") (pcr_of found) null (entry_json logs.new_name found)
 
--- The object of a PCR, and the lines of all.
-unfoldable pub pcr_json : Logs → Difference → Data
-pcr_json logs difference =
-    object (member (codes "algorithms") (array (items_of (map algorithm_json logs.algorithms)))
-    (member (codes "changed") (array (items_of (map (change_json logs) difference.changed)))
-    (member (codes "moved") (moved_json logs difference.moved)
-    (member (codes "new") (log_json logs.new_name difference.only_new)
-    (member (codes "old") (log_json logs.old_name difference.only_old)
-    (member (codes "pcr") (pcr_number difference.pcr) no_members))))))
+-- Their lines.
+abbrev pub json_line : Data → List ℕ
+json_line value = line_of value ++ codes "\n"
 
-abbrev pub pcr_json_line : Logs → Difference → List ℕ
-pcr_json_line logs difference = line_of (pcr_json logs difference) ++ codes "\n"
+abbrev pub compared_json_line : Logs → List ℕ
+compared_json_line logs = json_line (compared_json logs)
+
+abbrev pub pair_json_line : Logs → List ℕ → Change → List ℕ
+pair_json_line logs kind change = json_line (pair_json logs kind change)
+
+abbrev pub changed_json_lines : Logs → List Change → List ℕ
+changed_json_lines logs changed = flat_map (pair_json_line logs (codes "changed")) changed
+
+abbrev pub old_json_line : Logs → Numbered → List ℕ
+old_json_line logs found = json_line (old_json logs found)
+
+abbrev pub old_json_lines : Logs → List Numbered → List ℕ
+old_json_lines logs only = flat_map (old_json_line logs) only
+
+abbrev pub new_json_line : Logs → Numbered → List ℕ
+new_json_line logs found = json_line (new_json logs found)
+
+abbrev pub new_json_lines : Logs → List Numbered → List ℕ
+new_json_lines logs only = flat_map (new_json_line logs) only
+
+-- That of the first event whose order is another, if there is one.
+unfoldable pub moved_json_lines : Logs → Option Change → List ℕ
+moved_json_lines logs None = []
+moved_json_lines logs (Some change) = pair_json_line logs (codes "moved") change
+
+-- The lines of a PCR, and all lines.
+unfoldable pub pcr_json_lines : Logs → Difference → List ℕ
+pcr_json_lines logs difference =
+    changed_json_lines logs difference.changed ++ (old_json_lines logs difference.only_old
+    ++ (new_json_lines logs difference.only_new ++ moved_json_lines logs difference.moved))
 
 abbrev pub difference_json_lines : Logs → List Difference → List ℕ
-difference_json_lines logs differences = flat_map (pcr_json_line logs) differences
+difference_json_lines logs differences = compared_json_line logs ++ flat_map (pcr_json_lines logs) differences

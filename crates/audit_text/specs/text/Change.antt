@@ -3,9 +3,10 @@ use Rattle.std.specs.Prelude.{ℕ, ◌==◌, ◌&&◌, ◌||◌, not, Bool, true
 use Rattle.std.specs.List.{filter}
 use Rattle.std.specs.Str.{bytes_eq}
 use Rattle.hex.specs.Hex.{encode_lower}
+use Rattle.uefi_tcg.specs.content.Tagged.{Tagged}
 use Rattle.uefi_tcg.specs.v2.Event.{Digest, Event}
 use Rattle.uefi_audits.specs.Check.{forms_of}
-use Rattle.uefi_audits.specs.content.Content.{Content, unread, text, loader_text, crtm_version, variable}
+use Rattle.uefi_audits.specs.content.Content.{Content, unread, text, loader_text, crtm_version, tagged, variable}
 use Rattle.uefi_audits.specs.content.Value as values
 use Rattle.uefi_audits.specs.diff.Numbered.{Numbered}
 use Rattle.audit_text.specs.text.ChangeParts.{byte_change, joined, line_change, word_change}
@@ -21,6 +22,12 @@ event_in found = found.entry.event
 abbrev pub data_of : Numbered → List ℕ
 data_of found = (event_in found).event_data
 
+-- The text of a tagged event that is the only one, with no bytes after it.
+unfoldable pub tagged_text : List Tagged → List ℕ → Option (List ℕ)
+tagged_text [] rest = None
+tagged_text (one ∷ []) rest = if length rest == 0 then printed_text one.payload else None
+tagged_text (one ∷ another ∷ others) rest = None
+
 -- The value of a variable, if it isn't read; and the text or the version that data are.
 abbrev pub plain_value : Content → Option (List ℕ)
 plain_value (variable it values.unread) = Some it.payload
@@ -30,6 +37,7 @@ abbrev pub text_in : Content → Option (List ℕ)
 text_in (text said) = Some said
 text_in (loader_text it) = Some (event_text it)
 text_in (crtm_version it) = Some (version_text it)
+text_in (tagged events rest) = tagged_text events rest
 text_in other = None
 
 abbrev pub is_unread : Content → Bool

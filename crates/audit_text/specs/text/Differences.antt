@@ -9,7 +9,7 @@ use Rattle.audit_text.specs.text.EventParts.{algorithm_text}
 use Rattle.audit_text.specs.words.Said.{said, shown_bytes}
 use Rattle.uefi_tcg.specs.EventTypes.{event_type_name}
 use Rattle.uefi_tcg.specs.v2.Event.{Event}
-use Rattle.uefi_audits.specs.content.Content.{Content, unread, text, separator, locality, header, loader_text, crtm_version, blob, described_blob, tagged, gpt, variable, image}
+use Rattle.uefi_audits.specs.content.Content.{Content, loader_text, tagged, variable, image}
 use Rattle.uefi_audits.specs.diff.Counterparts.{Name, command_name, has_uncovered_name}
 use Rattle.uefi_audits.specs.diff.Differences.{Change, Difference}
 use Rattle.uefi_audits.specs.diff.Numbered.{Numbered, pcr_of, type_of}
@@ -24,7 +24,7 @@ unfoldable pub start_text : Numbered → List ℕ
 start_text found =
     codes "PCR " ++ (decimal (pcr_of found) ++ (codes ": " ++ type_text (type_of found) (event_type_name (type_of found))))
 
--- Where an event stands: its index, its offset and its log.
+-- Where an event is: its index, its offset and its log.
 unfoldable pub at_text : List ℕ → Numbered → List ℕ
 at_text name found =
     codes "event " ++ (decimal found.index ++ (codes " at offset " ++ (decimal found.entry.offset ++ (codes " of " ++ name))))
@@ -64,22 +64,14 @@ command_words found =
     if length found.name == 0 then shown_bytes found.namespace
     else shown_bytes found.namespace ++ (codes ": " ++ shown_bytes found.name)
 
--- The name of a variable, the path of an image, or what GRUB writes before a command and the command's first word; other events
--- that changed are named by their type alone.
+-- The name of a variable, the path of an image, a tag, or what GRUB writes before a command and the command's first word; other
+-- events that changed are named by their type alone.
 unfoldable pub name_words : Content → List ℕ → List ℕ
 name_words (variable it value) bytes = said (variable it value)
 name_words (image it nodes) bytes = said (image it nodes)
+name_words (tagged events rest) bytes = said (tagged events rest)
 name_words (loader_text it) bytes = command_words (command_name bytes)
-name_words unread bytes = []
-name_words (text it) bytes = []
-name_words (separator number) bytes = []
-name_words (locality number) bytes = []
-name_words (header it) bytes = []
-name_words (crtm_version it) bytes = []
-name_words (blob it) bytes = []
-name_words (described_blob it) bytes = []
-name_words (tagged events rest) bytes = []
-name_words (gpt it) bytes = []
+name_words other bytes = []
 
 -- What an event that changed is named by: what its data say, if they are the same, or the name in them.
 unfoldable pub label_words : Numbered → Numbered → List ℕ

@@ -21,7 +21,7 @@ use Rattle.audit_text.specs.words.Path.{path_text}
 use Rattle.audit_text.specs.words.Printed.{printed_text}
 use Rattle.audit_text.specs.words.Shown.{shown_name}
 use Rattle.audit_text.specs.words.Signatures.{longest_hash, signature_type_name}
-use Rattle.audit_text.specs.words.Tags.{tag_name}
+use Rattle.audit_text.specs.words.Tags.{tag_text}
 use Rattle.audit_text.specs.words.Texts.{before_nul, event_text, unit_text, version_text}
 
 -- A text, and a version.
@@ -53,17 +53,13 @@ described_line it =
     ++ (shown_name (flat_map encode_utf8 it.description) ++ codes "\n")))))
 
 -- Tagged events, each with the name of its tag, if it has one, the number, and the text that its data are, or the data; and the bytes after them.
-unfoldable pub tag_text : Option (List ℕ) → ℕ → List ℕ
-tag_text (Some name) id = name ++ (codes " 0x" ++ digits 16 false id)
-tag_text None id = codes "0x" ++ digits 16 false id
-
 unfoldable pub tagged_data : Option (List ℕ) → List ℕ → List ℕ
 tagged_data (Some printed) bytes = codes ": " ++ (shown_name printed ++ codes "\n")
 tagged_data None bytes = codes " " ++ (encode_lower bytes ++ codes "\n")
 
 unfoldable pub tagged_line : Tagged → List ℕ
 tagged_line it =
-    codes "  tagged event " ++ (tag_text (tag_name it.id) it.id ++ tagged_data (printed_text it.payload) it.payload)
+    codes "  tagged event " ++ (tag_text it.id ++ tagged_data (printed_text it.payload) it.payload)
 
 unfoldable pub tagged_lines : List Tagged → List ℕ → List ℕ
 tagged_lines events rest = flat_map tagged_line events ++ bytes_lines (codes "trailing bytes") rest

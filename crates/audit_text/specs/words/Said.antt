@@ -1,5 +1,5 @@
 -- What data say, in a few words on one line.
-use Rattle.std.specs.Prelude.{ℕ, ◌==◌, List, [], ◌++◌, take, length, codes, encode_utf8, Option, Some, None, false, if◌then◌else◌}
+use Rattle.std.specs.Prelude.{ℕ, ◌==◌, List, [], ◌∷◌, ◌++◌, take, length, codes, encode_utf8, Option, Some, None, false, if◌then◌else◌}
 use Rattle.std.specs.List.{flat_map}
 use Rattle.std.specs.Fmt.{decimal, digits}
 use Rattle.uefi_base.specs.GuidText.{guid_text, hex_byte}
@@ -7,11 +7,13 @@ use Rattle.uefi_path.specs.Node.{Node}
 use Rattle.uefi_tcg.specs.content.Blob.{Blob}
 use Rattle.uefi_tcg.specs.content.CrtmVersion.{CrtmVersion, ucs2, guid, other}
 use Rattle.uefi_tcg.specs.content.Image.{Image}
+use Rattle.uefi_tcg.specs.content.Tagged.{Tagged}
 use Rattle.uefi_tcg.specs.content.Text.{EventText, ascii, utf16}
 use Rattle.uefi_audits.specs.content.Content.{Content, unread, text, separator, locality, header, loader_text, crtm_version, blob, described_blob, tagged, gpt, variable, image}
 use Rattle.audit_text.specs.words.Path.{path_text}
 use Rattle.audit_text.specs.words.Texts.{unit_text}
 use Rattle.audit_text.specs.words.Shown.{shown_name}
+use Rattle.audit_text.specs.words.Tags.{tag_text}
 
 -- The most characters of a text or of a name that are shown.
 abbrev pub shown_length : ℕ
@@ -54,6 +56,11 @@ unfoldable pub image_text : Image → Option (List Node) → List ℕ
 image_text it nodes =
     if length it.device_path == 0 then codes "image" else codes "image " ++ path_words it.device_path nodes
 
+-- Tagged events, by the tag of the first one.
+unfoldable pub tagged_words : List Tagged → List ℕ
+tagged_words [] = codes "no tagged event"
+tagged_words (first ∷ others) = codes "tag " ++ tag_text first.id
+
 -- What data say; nothing if they aren't read.
 unfoldable pub said : Content → List ℕ
 said unread = []
@@ -65,7 +72,7 @@ said (loader_text it) = event_text it
 said (crtm_version it) = version_text it
 said (blob it) = blob_text it
 said (described_blob it) = codes "blob " ++ shown_bytes it.description
-said (tagged events rest) = codes "tagged events"
+said (tagged events rest) = tagged_words events
 said (gpt it) = codes "disk " ++ guid_text it.header.disk_guid
 said (variable it value) = codes "variable " ++ shown_units it.name
 said (image it nodes) = image_text it nodes

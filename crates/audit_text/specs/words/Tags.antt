@@ -1,5 +1,6 @@
--- The names of tags.
-use Rattle.std.specs.Prelude.{ℕ, ◌==◌, List, Option, Some, None, codes, if◌then◌else◌}
+-- The tags of tagged events.
+use Rattle.std.specs.Prelude.{ℕ, ◌==◌, List, ◌++◌, Option, Some, None, codes, false, if◌then◌else◌}
+use Rattle.std.specs.Fmt.{digits}
 
 -- What Linux (`INITRD_EVENT_TAG_ID` and `LOAD_OPTIONS_EVENT_TAG_ID`) and systemd (`LOADER_CONF_EVENT_TAG_ID` and so on) call the tags of what they measure.
 unfoldable pub tag_name : ℕ → Option (List ℕ)
@@ -12,3 +13,11 @@ tag_name id =
     else if id == 0xdac08e1a then Some (codes "UCODE_ADDON")
     else if id == 0x13aed6db then Some (codes "UKI_PROFILE")
     else None
+
+-- The name of a tag, if it has one, and its number.
+unfoldable pub named_tag : Option (List ℕ) → ℕ → List ℕ
+named_tag (Some name) id = name ++ (codes " 0x" ++ digits 16 false id)
+named_tag None id = codes "0x" ++ digits 16 false id
+
+abbrev pub tag_text : ℕ → List ℕ
+tag_text id = named_tag (tag_name id) id

@@ -1,9 +1,9 @@
-ghost use Rattle.std.specs.Prelude.{◌≡◌, map, IfOk, OnOk, option_map};
+ghost use Rattle.std.specs.Prelude.{◌≡◌, flat_map, map, IfOk, OnOk, option_map};
 ghost use Rattle.serde_json.specs.View.{view};
 ghost use Rattle.uefi_base.specs.Appending.{AppendsText};
 ghost use Rattle.audit_text.specs.ComparedLogs.{logs_of};
 ghost use Rattle.audit_text.specs.json.Algorithm.{algorithm_json};
-ghost use Rattle.audit_text.specs.json.Diff.{change_json, difference_json_lines, entry_json, log_json, moved_json, pcr_json, pcr_json_line, pcr_number};
+ghost use Rattle.audit_text.specs.json.Diff.{changed_json_lines, compared_json, compared_json_line, difference_json, difference_json_lines, entry_json, moved_json_lines, new_json, new_json_line, new_json_lines, old_json, old_json_line, old_json_lines, pair_json, pair_json_line, pcr_json_lines};
 ghost use Rattle.uefi_audits.specs.diff.Views.{change_of, difference_of, numbered_of, numbers_of};
 
 use crate::compared_logs::ComparedLogs;
@@ -12,28 +12,29 @@ use crate::json::event::event_json;
 use crate::json::line::line_of;
 use serde_json::{Map, Value, put};
 use std::alloc::{AllocError, Global};
-use uefi_audits::diff::{ABOVE, EventChange, NumberedEntry, PcrDifference};
+use uefi_audits::diff::{EventChange, NumberedEntry, PcrDifference};
 use uefi_tcg::AlgorithmId;
 
-/// Appends how the events of two logs differ, as JSON: for each PCR whose events differ one line
-/// with an object.
+/// Appends how the events of two logs differ, as lines of JSON: an object that says what is
+/// compared, and then an object for each difference, in the order of
+/// [`push_differences`](crate::text::push_differences).
 ///
-/// | key | value |
+/// | key of the first object | value |
 /// |---|---|
-/// | `algorithms` | the algorithms whose digests are compared, each its name, or the number of one without a name |
-/// | `changed` | an object for each event whose counterpart isn't the same |
-/// | `moved` | such an object for the first event whose order is another; `null` if there is none |
-/// | `new`, `old` | an object for each log |
-/// | `pcr` | the index of the PCR; `null` for those above 23 |
+/// | `compared` | the algorithms whose digests are compared, each its name, or the number of one without a name |
+/// | `new`, `old` | the names of the logs |
 ///
-/// | key of an event with its counterpart | value |
+/// | key of a difference | value |
 /// |---|---|
-/// | `new`, `old` | the event of each log |
+/// | `difference` | what it is, as below |
+/// | `new`, `old` | the event of each log; `null` if it isn't in that log |
+/// | `pcr` | the index of the PCR |
 ///
-/// | key of a log | value |
+/// | `difference` | of |
 /// |---|---|
-/// | `log` | its name |
-/// | `only` | its events that have no counterpart, in order |
+/// | `changed` | an event whose counterpart isn't the same |
+/// | `only_old`, `only_new` | an event that has no counterpart |
+/// | `moved` | the first event whose order is another |
 ///
 /// Each event is the whole object of [`event_line`](crate::json::event_line).
 ///
@@ -49,50 +50,37 @@ pub fn push_differences_json(
     ensures { OnOk result (AppendsText text.old text.new
         (difference_json_lines (logs_of logs.now) (map difference_of differences.now))) }
 {
-    for difference in differences {
-        push_line(text, alloc, logs, difference)?;
-    }
-    Ok(())
+    push_compared(text, alloc, logs)?;
+    push_pcrs(text, alloc, logs, differences)
 }
 
-/// Appends the line of a PCR.
-#[tactic(auto, using(crate::proofs::json::NoFloatsInDiff::no_float))]
-fn push_line(
+/// Appends the line that says what is compared.
+#[tactic(auto, using(crate::proofs::json::NoFloatsInDiff::no_float_in_compared))]
+fn push_compared(
     text: &mut String,
     alloc: Global,
     logs: &ComparedLogs<'_>,
-    difference: &PcrDifference<'_>,
 ) -> Result<(), AllocError>
-    ensures { OnOk result (AppendsText text.old text.new
-        (pcr_json_line (logs_of logs.now) (difference_of difference.now))) }
+    ensures { OnOk result
+        (AppendsText text.old text.new (compared_json_line (logs_of logs.now))) }
 {
-    let value = pcr_json(alloc, logs, difference)?;
+    let value = compared_json(alloc, logs)?;
     let line = line_of(alloc, &value)?;
     writeln!(text, "{line}")
 }
 
-/// Returns the object of a PCR.
-#[tactic(auto, unfolding(crate::specs::json::Diff::pcr_json))]
-fn pcr_json(
-    alloc: Global,
-    logs: &ComparedLogs<'_>,
-    difference: &PcrDifference<'_>,
-) -> Result<Value, AllocError>
-    ensures { IfOk result (λ value.
-        view value ≡ pcr_json (logs_of logs.now) (difference_of difference.now)) }
+/// Returns what is compared.
+#[tactic(auto, unfolding(crate::specs::json::Diff::compared_json))]
+fn compared_json(alloc: Global, logs: &ComparedLogs<'_>) -> Result<Value, AllocError>
+    ensures { IfOk result (λ value. view value ≡ compared_json (logs_of logs.now)) }
 {
     let mut members = Map::new(alloc);
     let algorithms = Value::Array(each_algorithm(alloc, logs.algorithms)?);
-    put(&mut members, alloc, "algorithms", algorithms)?;
-    let changed = Value::Array(each_change(alloc, logs, difference.changed.as_slice())?);
-    put(&mut members, alloc, "changed", changed)?;
-    let moved = moved_json(alloc, logs, difference.moved)?;
-    put(&mut members, alloc, "moved", moved)?;
-    let new = log_json(alloc, logs.new_name, difference.only_new.as_slice())?;
+    put(&mut members, alloc, "compared", algorithms)?;
+    let new = Value::try_from_str(alloc, logs.new_name)?;
     put(&mut members, alloc, "new", new)?;
-    let old = log_json(alloc, logs.old_name, difference.only_old.as_slice())?;
+    let old = Value::try_from_str(alloc, logs.old_name)?;
     put(&mut members, alloc, "old", old)?;
-    put(&mut members, alloc, "pcr", pcr_number(difference.pcr))?;
     Ok(Value::Object(members))
 }
 
@@ -109,85 +97,219 @@ fn each_algorithm(alloc: Global, algorithms: &[AlgorithmId]) -> Result<Vec<Value
     Ok(values)
 }
 
-/// Returns each pair of events.
-fn each_change(
+/// Appends how the events of PCRs differ.
+fn push_pcrs(
+    text: &mut String,
     alloc: Global,
     logs: &ComparedLogs<'_>,
-    changes: &[EventChange<'_>],
-) -> Result<Vec<Value>, AllocError>
-    ensures { IfOk result (λ values. map view values.items
-        ≡ map (change_json (logs_of logs.now)) (map change_of changes.now)) }
+    differences: &[PcrDifference<'_>],
+) -> Result<(), AllocError>
+    ensures { OnOk result (AppendsText text.old text.new
+        (flat_map (pcr_json_lines (logs_of logs.now)) (map difference_of differences.now))) }
 {
-    let mut values = Vec::new(alloc);
-    for change in changes {
-        let value = change_json(alloc, logs, change)?;
-        values.push(value)?;
+    for difference in differences {
+        push_pcr(text, alloc, logs, difference)?;
     }
-    Ok(values)
+    Ok(())
 }
 
-/// Returns the first pair whose order is another; `null` if there is none.
-#[tactic(auto, unfolding(crate::specs::json::Diff::moved_json))]
-fn moved_json(
+/// Appends how the events of a PCR differ.
+#[tactic(auto, unfolding(crate::specs::json::Diff::pcr_json_lines))]
+fn push_pcr(
+    text: &mut String,
     alloc: Global,
     logs: &ComparedLogs<'_>,
-    moved: Option<EventChange<'_>>,
-) -> Result<Value, AllocError>
-    ensures { IfOk result (λ value. view value
-        ≡ moved_json (logs_of logs.now) (option_map change_of moved.entry)) }
+    difference: &PcrDifference<'_>,
+) -> Result<(), AllocError>
+    ensures { OnOk result (AppendsText text.old text.new
+        (pcr_json_lines (logs_of logs.now) (difference_of difference.now))) }
+{
+    push_changed(text, alloc, logs, difference.changed.as_slice())?;
+    push_only_old(text, alloc, logs, difference.only_old.as_slice())?;
+    push_only_new(text, alloc, logs, difference.only_new.as_slice())?;
+    push_moved(text, alloc, logs, &difference.moved)
+}
+
+/// Appends a line for each of these events that differ from their counterparts.
+fn push_changed(
+    text: &mut String,
+    alloc: Global,
+    logs: &ComparedLogs<'_>,
+    changed: &[EventChange<'_>],
+) -> Result<(), AllocError>
+    ensures { OnOk result (AppendsText text.old text.new
+        (changed_json_lines (logs_of logs.now) (map change_of changed.now))) }
+{
+    for change in changed {
+        push_pair(text, alloc, logs, "changed", change)?;
+    }
+    Ok(())
+}
+
+/// Appends the line of the first event whose order is another; nothing if there is none.
+#[tactic(auto, unfolding(crate::specs::json::Diff::moved_json_lines))]
+fn push_moved(
+    text: &mut String,
+    alloc: Global,
+    logs: &ComparedLogs<'_>,
+    moved: &Option<EventChange<'_>>,
+) -> Result<(), AllocError>
+    ensures { OnOk result (AppendsText text.old text.new
+        (moved_json_lines (logs_of logs.now) (option_map change_of moved.now))) }
 {
     match moved {
-        Some(change) => change_json(alloc, logs, &change),
-        None => Ok(Value::Null),
+        Some(change) => push_pair(text, alloc, logs, "moved", change),
+        None => Ok(()),
     }
 }
 
-/// Returns an event of the old log and its counterpart.
-#[tactic(auto, unfolding(crate::specs::json::Diff::change_json))]
-fn change_json(
+/// Appends the line of an event and its counterpart.
+#[tactic(auto, using(crate::proofs::json::NoFloatsInDiff::no_float_in_pair))]
+fn push_pair(
+    text: &mut String,
     alloc: Global,
     logs: &ComparedLogs<'_>,
+    kind: &str,
+    change: &EventChange<'_>,
+) -> Result<(), AllocError>
+    ensures { OnOk result (AppendsText text.old text.new
+        (pair_json_line (logs_of logs.now) kind.now (change_of change.now))) }
+{
+    let value = pair_json(alloc, logs, kind, change)?;
+    let line = line_of(alloc, &value)?;
+    writeln!(text, "{line}")
+}
+
+/// Returns an event and its counterpart.
+#[tactic(auto, unfolding(crate::specs::json::Diff::pair_json))]
+fn pair_json(
+    alloc: Global,
+    logs: &ComparedLogs<'_>,
+    kind: &str,
     change: &EventChange<'_>,
 ) -> Result<Value, AllocError>
     ensures { IfOk result (λ value. view value
-        ≡ change_json (logs_of logs.now) (change_of change.now)) }
+        ≡ pair_json (logs_of logs.now) kind.now (change_of change.now)) }
 {
-    let mut members = Map::new(alloc);
-    let new = entry_json(alloc, logs.new_name, &change.new)?;
-    put(&mut members, alloc, "new", new)?;
+    let pcr = change.old.entry.event.pcr_index().0;
     let old = entry_json(alloc, logs.old_name, &change.old)?;
-    put(&mut members, alloc, "old", old)?;
-    Ok(Value::Object(members))
+    let new = entry_json(alloc, logs.new_name, &change.new)?;
+    difference_json(alloc, kind, pcr, old, new)
 }
 
-/// Returns a log: its name, and those of its events that have no counterpart.
-#[tactic(auto, unfolding(crate::specs::json::Diff::log_json))]
-fn log_json(alloc: Global, name: &str, only: &[NumberedEntry<'_>]) -> Result<Value, AllocError>
-    ensures { IfOk result (λ value. view value ≡ log_json name.now (map numbered_of only.now)) }
+/// Appends a line for each of these events of the old log, which the new one doesn't have.
+fn push_only_old(
+    text: &mut String,
+    alloc: Global,
+    logs: &ComparedLogs<'_>,
+    only: &[NumberedEntry<'_>],
+) -> Result<(), AllocError>
+    ensures { OnOk result (AppendsText text.old text.new
+        (old_json_lines (logs_of logs.now) (map numbered_of only.now))) }
+{
+    for found in only {
+        push_old(text, alloc, logs, found)?;
+    }
+    Ok(())
+}
+
+/// Appends the line of an event of the old log, which the new one doesn't have.
+#[tactic(auto, using(crate::proofs::json::NoFloatsInDiff::no_float_in_old))]
+fn push_old(
+    text: &mut String,
+    alloc: Global,
+    logs: &ComparedLogs<'_>,
+    found: &NumberedEntry<'_>,
+) -> Result<(), AllocError>
+    ensures { OnOk result (AppendsText text.old text.new
+        (old_json_line (logs_of logs.now) (numbered_of found.now))) }
+{
+    let value = old_json(alloc, logs, found)?;
+    let line = line_of(alloc, &value)?;
+    writeln!(text, "{line}")
+}
+
+/// Returns an event of the old log, which the new one doesn't have.
+#[tactic(auto, unfolding(crate::specs::json::Diff::old_json))]
+fn old_json(
+    alloc: Global,
+    logs: &ComparedLogs<'_>,
+    found: &NumberedEntry<'_>,
+) -> Result<Value, AllocError>
+    ensures { IfOk result
+        (λ value. view value ≡ old_json (logs_of logs.now) (numbered_of found.now)) }
+{
+    let pcr = found.entry.event.pcr_index().0;
+    let old = entry_json(alloc, logs.old_name, found)?;
+    difference_json(alloc, "only_old", pcr, old, Value::Null)
+}
+
+/// Appends a line for each of these events of the new log, which the old one doesn't have.
+fn push_only_new(
+    text: &mut String,
+    alloc: Global,
+    logs: &ComparedLogs<'_>,
+    only: &[NumberedEntry<'_>],
+) -> Result<(), AllocError>
+    ensures { OnOk result (AppendsText text.old text.new
+        (new_json_lines (logs_of logs.now) (map numbered_of only.now))) }
+{
+    for found in only {
+        push_new(text, alloc, logs, found)?;
+    }
+    Ok(())
+}
+
+/// Appends the line of an event of the new log, which the old one doesn't have.
+#[tactic(auto, using(crate::proofs::json::NoFloatsInDiff::no_float_in_new))]
+fn push_new(
+    text: &mut String,
+    alloc: Global,
+    logs: &ComparedLogs<'_>,
+    found: &NumberedEntry<'_>,
+) -> Result<(), AllocError>
+    ensures { OnOk result (AppendsText text.old text.new
+        (new_json_line (logs_of logs.now) (numbered_of found.now))) }
+{
+    let value = new_json(alloc, logs, found)?;
+    let line = line_of(alloc, &value)?;
+    writeln!(text, "{line}")
+}
+
+/// Returns an event of the new log, which the old one doesn't have.
+#[tactic(auto, unfolding(crate::specs::json::Diff::new_json))]
+fn new_json(
+    alloc: Global,
+    logs: &ComparedLogs<'_>,
+    found: &NumberedEntry<'_>,
+) -> Result<Value, AllocError>
+    ensures { IfOk result
+        (λ value. view value ≡ new_json (logs_of logs.now) (numbered_of found.now)) }
+{
+    let pcr = found.entry.event.pcr_index().0;
+    let new = entry_json(alloc, logs.new_name, found)?;
+    difference_json(alloc, "only_new", pcr, Value::Null, new)
+}
+
+/// Returns what differs: what kind of difference it is, its PCR, and what each log has.
+#[tactic(auto, unfolding(crate::specs::json::Diff::difference_json))]
+fn difference_json(
+    alloc: Global,
+    kind: &str,
+    pcr: u32,
+    old: Value,
+    new: Value,
+) -> Result<Value, AllocError>
+    ensures { IfOk result (λ value.
+        view value ≡ difference_json kind.now pcr (view old) (view new)) }
 {
     let mut members = Map::new(alloc);
-    let log = Value::try_from_str(alloc, name)?;
-    put(&mut members, alloc, "log", log)?;
-    let only = Value::Array(each_entry(alloc, name, only)?);
-    put(&mut members, alloc, "only", only)?;
+    let kind = Value::try_from_str(alloc, kind)?;
+    put(&mut members, alloc, "difference", kind)?;
+    put(&mut members, alloc, "new", new)?;
+    put(&mut members, alloc, "old", old)?;
+    put(&mut members, alloc, "pcr", Value::from(pcr))?;
     Ok(Value::Object(members))
-}
-
-/// Returns each event of a log.
-fn each_entry(
-    alloc: Global,
-    name: &str,
-    all: &[NumberedEntry<'_>],
-) -> Result<Vec<Value>, AllocError>
-    ensures { IfOk result (λ values. map view values.items
-        ≡ map (entry_json name.now) (map numbered_of all.now)) }
-{
-    let mut values = Vec::new(alloc);
-    for found in all {
-        let value = entry_json(alloc, name, found)?;
-        values.push(value)?;
-    }
-    Ok(values)
 }
 
 /// Returns an event of a log.
@@ -195,15 +317,4 @@ fn entry_json(alloc: Global, name: &str, found: &NumberedEntry<'_>) -> Result<Va
     ensures { IfOk result (λ value. view value ≡ entry_json name.now (numbered_of found.now)) }
 {
     event_json(alloc, name, found.index, &found.entry, &found.content)
-}
-
-/// Returns the index of a PCR; `null` for those above 23.
-#[tactic(auto, unfolding(crate::specs::json::Diff::pcr_number))]
-fn pcr_number(pcr: u32) -> Value
-    ensures { view result ≡ pcr_number pcr }
-{
-    if pcr == ABOVE {
-        return Value::Null;
-    }
-    Value::from(pcr)
 }

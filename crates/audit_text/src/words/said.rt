@@ -5,14 +5,15 @@ ghost use Rattle.uefi_base.specs.GuidText.{hex_byte};
 ghost use Rattle.uefi_base.specs.Views.{slice_units};
 ghost use Rattle.uefi_path.specs.Views.{path_nodes};
 ghost use Rattle.uefi_tcg.specs.content.Views.{blob_of, image_of, text_of, variable_of, version_of};
-ghost use Rattle.audit_text.specs.words.Said.{blob_text, event_text, image_text, path_words, said, shown_bytes, shown_length, shown_units, version_text};
+ghost use Rattle.audit_text.specs.words.Said.{blob_text, event_text, image_text, path_words, said, shown_bytes, shown_length, shown_units, tagged_words, version_text};
 ghost use Rattle.uefi_audits.specs.content.Views.{content_of};
 ghost use Rattle.audit_text.specs.words.Shown.{shown_name};
 
+use crate::words::tags::push_tag;
 use crate::words::texts::character;
 use crate::words::{ShownName, path_text};
 use std::alloc::AllocError;
-use uefi_audits::content::EventContent;
+use uefi_audits::content::{EventContent, TaggedData};
 use uefi_base::UnalignedSlice;
 use uefi_path::DevicePath;
 use uefi_tcg::content::{
@@ -35,7 +36,7 @@ const SHOWN_LENGTH: usize = 80;
 /// | a separator | `separator` and its number |
 /// | a locality | `locality` and its number |
 /// | the header of a log | `header` |
-/// | tagged events | `tagged events` |
+/// | tagged events | `tag`, the name of the first one's tag, if it has one, and its number |
 /// | a blob | `blob at` and its address |
 /// | a blob with a description | `blob` and the description |
 /// | a partition table | `disk` and the GUID of the disk |
@@ -66,7 +67,7 @@ pub fn push_said(text: &mut String, content: &EventContent<'_>) -> Result<(), Al
             text.push_str("blob ")?;
             push_bytes(text, described.description)
         }
-        EventContent::Tagged(_) => text.push_str("tagged events"),
+        EventContent::Tagged(tagged) => push_tagged(text, tagged),
         EventContent::Gpt(gpt) => {
             let guid = gpt.header().disk_guid;
             write!(text, "disk {guid}")
@@ -144,6 +145,20 @@ fn push_blob(text: &mut String, blob: &PlatformFirmwareBlob) -> Result<(), Alloc
 {
     let address = blob.base;
     write!(text, "blob at 0x{address:x}")
+}
+
+/// Appends the tag of the first tagged event.
+#[tactic(auto, unfolding(crate::specs::words::Said::tagged_words))]
+fn push_tagged(text: &mut String, tagged: &TaggedData<'_>) -> Result<(), AllocError>
+    ensures { OnOk result (AppendsText text.old text.new (tagged_words tagged.now.split.0.0)) }
+{
+    match tagged.iter().next() {
+        Some(first) => {
+            text.push_str("tag ")?;
+            push_tag(text, first.id)
+        }
+        None => text.push_str("no tagged event"),
+    }
 }
 
 /// Appends `variable` and the name of a variable.

@@ -1,5 +1,8 @@
-ghost use Rattle.std.specs.Prelude.{◌≡◌, option_map};
-ghost use Rattle.audit_text.specs.words.Tags.{tag_name};
+ghost use Rattle.std.specs.Prelude.{◌≡◌, OnOk, option_map};
+ghost use Rattle.uefi_base.specs.Appending.{AppendsText};
+ghost use Rattle.audit_text.specs.words.Tags.{tag_name, tag_text};
+
+use std::alloc::AllocError;
 
 /// Returns what Linux or systemd call the tag of a tagged event; `None` for another one.
 #[tactic(auto, unfolding(crate::specs::words::Tags::tag_name))]
@@ -15,5 +18,16 @@ pub(crate) fn tag_name(id: u32) -> Option<&'static str>
         0xdac0_8e1a => Some("UCODE_ADDON"),
         0x13ae_d6db => Some("UKI_PROFILE"),
         _ => None,
+    }
+}
+
+/// Appends the name of a tag, if it has one, and its number.
+#[tactic(auto, unfolding(crate::specs::words::Tags::named_tag))]
+pub(crate) fn push_tag(text: &mut String, id: u32) -> Result<(), AllocError>
+    ensures { OnOk result (AppendsText text.old text.new (tag_text id)) }
+{
+    match tag_name(id) {
+        Some(name) => write!(text, "{name} 0x{id:x}"),
+        None => write!(text, "0x{id:x}"),
     }
 }

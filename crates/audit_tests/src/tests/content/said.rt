@@ -6,7 +6,7 @@ use uefi_audits::content::read_content;
 use uefi_tcg::{LastEntry, Log};
 
 /// Logs of one event with the last entry at their end, and what its data say in a few words.
-const SAID: [[&str; 2]; 22] = [
+const SAID: [[&str; 2]; 24] = [
     // Texts: at most 80 characters, with controls and backslashes as hex digits.
     [
         "0100000005000000aaaaaaaaaaaaaaaaaaaaaaaaaaaaaaaaaaaaaaaa050000006120625c63",
@@ -68,7 +68,16 @@ const SAID: [[&str; 2]; 22] = [
     ],
     [
         "0100000006000000aaaaaaaaaaaaaaaaaaaaaaaaaaaaaaaaaaaaaaaa00000000",
-        "tagged events",
+        "no tagged event",
+    ],
+    [
+        "0100000006000000aaaaaaaaaaaaaaaaaaaaaaaaaaaaaaaaaaaaaaaa13000000ed223b8f02000000 \
+         6100010000000100000000",
+        "tag LOAD_OPTIONS 0x8f3b22ed",
+    ],
+    [
+        "0100000006000000aaaaaaaaaaaaaaaaaaaaaaaaaaaaaaaaaaaaaaaa080000000123456700000000",
+        "tag 0x67452301",
     ],
     [
         "0100000006000080aaaaaaaaaaaaaaaaaaaaaaaaaaaaaaaaaaaaaaaa640000004546492050415254 \

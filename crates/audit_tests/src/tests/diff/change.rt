@@ -13,7 +13,7 @@ struct Row {
     change: &'static str,
 }
 
-const ROWS: [Row; 24] = [
+const ROWS: [Row; 27] = [
     // The same event.
     Row {
         old: "0700000001000080aaaaaaaaaaaaaaaaaaaaaaaaaaaaaaaaaaaaaaaa3500000061dfe4\
@@ -245,6 +245,28 @@ const ROWS: [Row; 24] = [
               bbbbbbbbbbbbbbbbbbb, sha256 cccccccccccccccccccccccccccccccccccccccccc\
               cccccccccccccccccccccc -> dddddddddddddddddddddddddddddddddddddddddddd\
               dddddddddddddddddddd",
+    },
+    // One tagged event, whose data are a text; two of them; and one with a byte after it.
+    Row {
+        old: "0900000006000000aaaaaaaaaaaaaaaaaaaaaaaaaaaaaaaaaaaaaaaa10000000ed223b\
+              8f080000006100200062000000",
+        new: "0900000006000000aaaaaaaaaaaaaaaaaaaaaaaaaaaaaaaaaaaaaaaa10000000ed223b\
+              8f080000006100200063000000",
+        change: ".. b -> .. c",
+    },
+    Row {
+        old: "0900000006000000aaaaaaaaaaaaaaaaaaaaaaaaaaaaaaaaaaaaaaaa12000000010000\
+              000200000061620200000000000000",
+        new: "0900000006000000aaaaaaaaaaaaaaaaaaaaaaaaaaaaaaaaaaaaaaaa12000000010000\
+              000200000061630200000000000000",
+        change: "tagged event 0x1: ab -> tagged event 0x1: ac",
+    },
+    Row {
+        old: "0900000006000000aaaaaaaaaaaaaaaaaaaaaaaaaaaaaaaaaaaaaaaa0b000000010000\
+              0002000000616263",
+        new: "0900000006000000aaaaaaaaaaaaaaaaaaaaaaaaaaaaaaaaaaaaaaaa0b000000010000\
+              0002000000616363",
+        change: "tagged event 0x1: ab -> tagged event 0x1: ac",
     },
 ];
 

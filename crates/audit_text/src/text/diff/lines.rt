@@ -63,7 +63,7 @@ pub(crate) fn push_changed_line(
     push_places(text, logs, change)
 }
 
-/// Appends where an event and its counterpart stand.
+/// Appends where an event and its counterpart are.
 #[tactic(auto, unfolding(crate::specs::text::Differences::places_text))]
 fn push_places(
     text: &mut String,
@@ -142,7 +142,7 @@ fn push_earlier(text: &mut String, name: &str, found: &NumberedEntry<'_>) -> Res
 }
 
 /// Appends what the line of an event of the old log begins with: its PCR and its type, what its data
-/// say, its digests, if the data aren't what was measured, and where it stands.
+/// say, its digests, if the data aren't what was measured, and where it is.
 #[tactic(auto, unfolding(crate::specs::text::Differences::place_text))]
 fn push_place(
     text: &mut String,
@@ -292,8 +292,8 @@ fn push_label(
     push_name_words(text, &old.content, bytes)
 }
 
-/// Appends the name of a variable, the path of an image, or what GRUB writes before a command and
-/// the command's first word.
+/// Appends the name of a variable, the path of an image, a tag, or what GRUB writes before a command
+/// and the command's first word.
 #[tactic(auto, unfolding(crate::specs::text::Differences::name_words))]
 fn push_name_words(
     text: &mut String,
@@ -309,7 +309,8 @@ fn push_name_words(
         | EventContent::BootOrder(..)
         | EventContent::SignatureLists(..)
         | EventContent::Signature(..)
-        | EventContent::Image(..) => push_said(text, content),
+        | EventContent::Image(..)
+        | EventContent::Tagged(_) => push_said(text, content),
         EventContent::LoaderText(_) => push_command(text, command_name(bytes)),
         _ => Ok(()),
     }

@@ -3,14 +3,13 @@ ghost use Rattle.uefi_base.specs.Appending.{AppendsText};
 ghost use Rattle.uefi_tcg.specs.content.Views.{blob_of, described_of, tagged_of};
 ghost use Rattle.uefi_tcg.specs.v2.Views.{header_of, table_of};
 ghost use Rattle.audit_text.specs.words.Printed.{printed_text};
-ghost use Rattle.audit_text.specs.words.Tags.{tag_name};
-ghost use Rattle.audit_text.specs.text.EventContents.{blob_line, described_line, header_line, header_lines, size_line, tag_text, tagged_data, tagged_line, tagged_lines};
+ghost use Rattle.audit_text.specs.text.EventContents.{blob_line, described_line, header_line, header_lines, size_line, tagged_data, tagged_line, tagged_lines};
 
 use crate::text::events::hex_lines::push_bytes_lines;
 use crate::text::events::names::push_algorithm;
 use crate::words::ShownName;
 use crate::words::printed::printed_text;
-use crate::words::tags::tag_name;
+use crate::words::tags::push_tag;
 use crate::words::texts::byte_text;
 use std::alloc::{AllocError, Global};
 use uefi_audits::content::TaggedData;
@@ -134,17 +133,6 @@ fn push_tagged_event(
     text.push_str("  tagged event ")?;
     push_tag(text, event.id)?;
     push_tagged_data(text, alloc, event.data)
-}
-
-/// Appends the name of a tag, if it has one, and its number.
-#[tactic(auto, unfolding(crate::specs::text::EventContents::tag_text))]
-fn push_tag(text: &mut String, id: u32) -> Result<(), AllocError>
-    ensures { OnOk result (AppendsText text.old text.new (tag_text (tag_name id) id)) }
-{
-    match tag_name(id) {
-        Some(name) => write!(text, "{name} 0x{id:x}"),
-        None => write!(text, "0x{id:x}"),
-    }
 }
 
 /// Appends the text that the data of a tagged event are, if all of it prints, or the data in hex.

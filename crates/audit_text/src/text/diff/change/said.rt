@@ -1,5 +1,5 @@
 ghost use Rattle.std.specs.Prelude.{◌≡◌, IfOk, option_map, string_bytes};
-ghost use Rattle.audit_text.specs.text.Change.{block_change, is_unread, lines_in, plain_value, print_change, read_change, said_change, text_in, value_change};
+ghost use Rattle.audit_text.specs.text.Change.{block_change, is_unread, lines_in, plain_value, print_change, read_change, said_change, tagged_text, text_in, value_change};
 ghost use Rattle.uefi_audits.specs.content.Views.{content_of};
 ghost use Rattle.uefi_audits.specs.diff.Views.{numbered_of};
 
@@ -10,7 +10,7 @@ use crate::text::events::content::push_content;
 use crate::words::printed::printed_text;
 use crate::words::texts::{event_text, version_text};
 use std::alloc::{AllocError, Global};
-use uefi_audits::content::EventContent;
+use uefi_audits::content::{EventContent, TaggedData};
 use uefi_audits::diff::NumberedEntry;
 
 /// Returns what changed in what the data of two events say; nothing if both say the same, or the
@@ -128,6 +128,20 @@ fn text_in(alloc: Global, content: &EventContent<'_>) -> Result<Option<String>, 
         EventContent::Text(said) => Ok(Some(String::from_str(alloc, said)?)),
         EventContent::LoaderText(said) => Ok(Some(event_text(alloc, said)?)),
         EventContent::CrtmVersion(version) => Ok(Some(version_text(alloc, version)?)),
+        EventContent::Tagged(tagged) => tagged_text(alloc, tagged),
+        _ => Ok(None),
+    }
+}
+
+/// Returns the text of a tagged event that is the only one, with no bytes after it.
+#[tactic(auto, unfolding(crate::specs::text::Change::tagged_text))]
+fn tagged_text(alloc: Global, tagged: &TaggedData<'_>) -> Result<Option<String>, AllocError>
+    ensures { IfOk result (λ text. option_map string_bytes text
+        ≡ tagged_text tagged.now.split.0.0 tagged.now.split.0.1) }
+{
+    let mut events = tagged.iter();
+    match (events.next(), events.next()) {
+        (Some(one), None) if tagged.rest().is_empty() => printed_text(alloc, one.data),
         _ => Ok(None),
     }
 }
