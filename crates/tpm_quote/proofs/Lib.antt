@@ -1,0 +1,12 @@
+pub mod Selections
+pub mod Reader
+pub mod Fields
+pub mod ClockBytes
+pub mod SelectionBytes
+pub mod QuoteBytes
+pub mod QuoteLayout
+pub mod Header
+pub mod Verdicts
+pub mod Pcrs
+pub mod PcrLaws
+pub mod Rows

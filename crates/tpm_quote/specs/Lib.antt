@@ -1,0 +1,10 @@
+pub mod BigEndian
+pub mod PcrSelection
+pub mod Quote
+pub mod Fault
+pub mod Reading
+pub mod Views
+pub mod Laws
+pub mod Texts
+pub mod rows
+pub mod private

@@ -1,0 +1,76 @@
+ghost use Rattle.std.specs.Prelude.{◌≡◌};
+ghost use Rattle.std.specs.Result.{result_map_both};
+ghost use Rattle.tpm_quote.specs.private.Reading.{split_clock_info, split_yes_no};
+
+use crate::big_endian::{split_u8, split_u32, split_u64};
+use crate::quote_error::QuoteError;
+
+/// The byte of a `TPMI_YES_NO` that is yes. The one that is no is 0, and no other is allowed.
+const YES: u8 = 1;
+
+/// The clock of a TPM when it signed (TPM 2.0 Library, Part 2, `TPMS_CLOCK_INFO`).
+///
+/// | offset | bytes | field |
+/// |---|---|---|
+/// | 0 | 8 | clock in milliseconds, big-endian |
+/// | 8 | 4 | count of resets, big-endian |
+/// | 12 | 4 | count of restarts, big-endian |
+/// | 16 | 1 | safe (`TPMI_YES_NO`): 0 is no, 1 is yes |
+#[derive(Clone, Copy, PartialEq, Eq, Debug)]
+pub struct ClockInfo {
+    /// How many milliseconds the TPM was powered since it was last cleared, or since its clock was
+    /// set.
+    pub clock: u64,
+    /// How often the TPM was reset since it was last cleared.
+    pub reset_count: u32,
+    /// How often the TPM was restarted or resumed since it was last reset.
+    pub restart_count: u32,
+    /// Whether no greater value of the clock was reported before.
+    pub safe: bool,
+}
+
+impl ClockInfo {
+    ghost use Rattle.tpm_quote.specs.Views.{clock_info_of};
+
+    /// Returns the clock that the bytes begin with, and the bytes after it.
+    ///
+    /// # Errors
+    ///
+    /// - [`TooShort`](QuoteError::TooShort) if a field isn't whole.
+    /// - [`Safe`](QuoteError::Safe) if the last byte is neither 0 nor 1.
+    #[tactic(auto, unfolding(crate::specs::private::Reading::split_clock_info))]
+    pub(crate) fn split(bytes: &[u8]) -> Result<(ClockInfo, &[u8]), QuoteError>
+        ensures { result_map_both (λ split. (clock_info_of split.0, split.1.now)) (λ error. error) result
+            ≡ split_clock_info bytes.now }
+    {
+        let (clock, rest) = split_u64(bytes)?;
+        let (reset_count, rest) = split_u32(rest)?;
+        let (restart_count, rest) = split_u32(rest)?;
+        let (safe, rest) = split_yes_no(rest)?;
+        let clock_info = ClockInfo {
+            clock,
+            reset_count,
+            restart_count,
+            safe,
+        };
+        Ok((clock_info, rest))
+    }
+}
+
+/// Splits a `TPMI_YES_NO` off: whether it is yes.
+///
+/// # Errors
+///
+/// - [`TooShort`](QuoteError::TooShort) if there is no byte.
+/// - [`Safe`](QuoteError::Safe) if it is neither 0 nor 1.
+#[tactic(auto, unfolding(crate::specs::private::Reading::split_yes_no))]
+fn split_yes_no(bytes: &[u8]) -> Result<(bool, &[u8]), QuoteError>
+    ensures { result_map_both (λ split. (split.0, split.1.now)) (λ error. error) result
+        ≡ split_yes_no bytes.now }
+{
+    let (byte, rest) = split_u8(bytes)?;
+    if byte > YES {
+        return Err(QuoteError::Safe(byte));
+    }
+    Ok((byte == YES, rest))
+}

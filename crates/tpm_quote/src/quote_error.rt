@@ -1,0 +1,46 @@
+ghost use Rattle.std.specs.Prelude.{Some};
+ghost use Rattle.tpm_quote.specs.Texts.{quote_error_text};
+
+use std::error::Error;
+use std::fmt;
+
+/// Why bytes are no quote.
+///
+/// Bytes are read from the first to the last, field by field, and a field is judged once it is
+/// whole: the first fault is the error.
+#[derive(Clone, Copy, PartialEq, Eq, Debug)]
+pub enum QuoteError {
+    /// The first four bytes aren't `TPM_GENERATED_VALUE`, `ff544347`. Fewer than four bytes are
+    /// [`TooShort`](QuoteError::TooShort). A `TPM2B_ATTEST`, which has its size in front, is this.
+    NotGenerated,
+    /// The type after the magic is this one, and not `TPM_ST_ATTEST_QUOTE`, `8018`: the TPM signed
+    /// another structure.
+    NotQuote(u16),
+    /// The byte `safe` has this value, which is neither 0 (`NO`) nor 1 (`YES`).
+    Safe(u8),
+    /// A bitmap of PCRs is longer than four bytes, by the size before it; or it is whole, and a PCR
+    /// above 23 is selected.
+    Selection,
+    /// The bytes end within a field, or before one.
+    TooShort,
+    /// Bytes follow the quote.
+    LeftOver,
+}
+
+/// Writes what is wrong with the bytes, such as `an attestation of type 0x8017`.
+impl fmt::Display for QuoteError {
+    ghost output = { λ error. Some (quote_error_text error) };
+
+    fn fmt<W: fmt::Write>(&self, f: &mut fmt::Formatter<W>) -> fmt::Result {
+        match self {
+            QuoteError::NotGenerated => f.write_str("no TPM_GENERATED_VALUE"),
+            QuoteError::NotQuote(kind) => write!(f, "an attestation of type 0x{kind:x}"),
+            QuoteError::Safe(value) => write!(f, "the byte `safe` is {value}"),
+            QuoteError::Selection => f.write_str("a selection of PCRs that a PC doesn't have"),
+            QuoteError::TooShort => f.write_str("too few bytes"),
+            QuoteError::LeftOver => f.write_str("bytes after the quote"),
+        }
+    }
+}
+
+impl Error for QuoteError {}
