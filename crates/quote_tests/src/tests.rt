@@ -1,0 +1,5 @@
+mod faults;
+mod quotes;
+mod samples;
+mod selections;
+mod texts;
