@@ -3,3 +3,4 @@ mod quotes;
 mod samples;
 mod selections;
 mod texts;
+mod uses;

@@ -1,10 +1,10 @@
 -- The bytes of a clock.
-use Rattle.std.proofs.Common.{◌≡◌, ◌≢◌, ℕ, zero, suc, ◌<◌, ◌^◌, ◌==◌, Bool, true, false, List, [], ◌∷◌, ◌++◌, length, nat_lt}
+use Rattle.std.proofs.Common.{◌≡◌, ℕ, zero, suc, ◌<◌, ◌^◌, ◌==◌, Bool, true, false, List, ◌∷◌, ◌++◌, nat_lt}
 use Rattle.std.proofs.Common.{◌⊎◌, inl, inr, refl, sym, ◌∙◌, ap, arith}
 use Rattle.std.proofs.lemmas.Bool.{lt-ltb, ltb-true}
 use Rattle.tpm_quote.specs.BigEndian.{u32_bytes, u64_bytes}
 use Rattle.tpm_quote.specs.Quote.{ClockInfo, IsClockInfo, yes_no}
-use Rattle.tpm_quote.specs.private.Reading.{Split, ◌>>=◌, split_clock_info, split_yes_no}
+use Rattle.tpm_quote.specs.private.Reading.{split_clock_info, split_yes_no}
 use Rattle.tpm_quote.specs.declared.quote_error.QuoteError.{QuoteError}
 use Rattle.tpm_quote.specs.declared.quote_error.QuoteError.TheVariants.{Safe}
 use Rattle.tpm_quote.proofs.Fields.{no_byte, one_byte, u8_reader, u32_reader, u64_reader}

@@ -1,5 +1,5 @@
 -- Numbers, and bytes of a length: what is read is what was written, and where it fails the bytes are cut.
-use Rattle.std.proofs.Common.{◌≡◌, ◌≢◌, ℕ, zero, suc, ◌+◌, ◌-◌, ◌<◌, ◌≤◌, ◌^◌, ◌%◌, Bool, false, List, [], ◌∷◌, ◌++◌, length, take, drop, get_or}
+use Rattle.std.proofs.Common.{◌≡◌, ◌≢◌, ℕ, zero, suc, ◌-◌, ◌<◌, ◌≤◌, ◌^◌, Bool, false, List, [], ◌∷◌, ◌++◌, length, take, drop}
 use Rattle.std.proofs.Common.{◌⊎◌, inl, inr, refl, sym, ◌∙◌, ap, subst, take-append-drop, length-append, arith, replicate}
 use Rattle.std.specs.Int.{Width, w8, w16, w32, w64, byte_len, from_be_bytes, to_be_bytes}
 use Rattle.std.proofs.lemmas.Bool.{cases_lt, le-ltb, lt-ltb}
@@ -9,11 +9,11 @@ use Rattle.uefi_base.specs.LittleEndian.{AreBytes}
 use Rattle.uefi_tcg.proofs.ByteLists.{AreBytes-drop, AreBytes-take}
 use Rattle.tpm_quote.specs.BigEndian.{sized_bytes}
 use Rattle.tpm_quote.specs.Fault.{IsCut}
-use Rattle.tpm_quote.specs.private.Reading.{Split, ◌>>=◌, split_number, split_bytes, split_sized}
+use Rattle.tpm_quote.specs.private.Reading.{split_number, split_bytes, split_sized}
 use Rattle.tpm_quote.specs.declared.quote_error.QuoteError.{QuoteError}
 use Rattle.tpm_quote.specs.declared.quote_error.QuoteError.TheVariants.{TooShort}
 use Rattle.tpm_quote.proofs.Selections.{ok, err, ok_is}
-use Rattle.tpm_quote.proofs.Reader.{Takes, Fails, IsReader, Never, Breaking, BreaksAfter, cut_shorter, err_is, not_err, not_ok, then_reader, fits_reader}
+use Rattle.tpm_quote.proofs.Reader.{Takes, Fails, IsReader, Never, BreaksAfter, cut_shorter, err_is, not_err, not_ok, then_reader, fits_reader}
 
 -- Bytes that make cut ones whole.
 pub AreBytes-append : (x y : List ℕ) → AreBytes x → AreBytes y → AreBytes (x ++ y)

@@ -1,12 +1,12 @@
 -- The magic and the type: they are read if they are those of a quote, and else are the fault.
-use Rattle.std.proofs.Common.{◌≡◌, ◌≢◌, ℕ, zero, suc, ◌+◌, ◌<◌, ◌≤◌, ◌^◌, Bool, true, false, cond, List, [], ◌∷◌, ◌++◌, length, nat_eq}
-use Rattle.std.proofs.Common.{◌⊎◌, inl, inr, refl, sym, ◌∙◌, ap, subst, append_assoc, arith}
+use Rattle.std.proofs.Common.{◌≡◌, ◌≢◌, ℕ, ◌<◌, ◌^◌, Bool, true, false, cond, List, ◌++◌, length, nat_eq}
+use Rattle.std.proofs.Common.{inl, inr, refl, sym, ◌∙◌, ap, subst, append_assoc, arith}
 use Rattle.std.specs.Int.{w16, w32}
-use Rattle.std.proofs.lemmas.Bool.{eq-eqb, eqb-false, eqb-true}
+use Rattle.std.proofs.lemmas.Bool.{eqb-false, eqb-true}
 use Rattle.std.proofs.lemmas.Bool.Decides.{eqb_tells}
 use Rattle.uefi_base.specs.LittleEndian.{AreBytes}
 use Rattle.tpm_quote.specs.BigEndian.{u16_bytes, u32_bytes}
-use Rattle.tpm_quote.specs.Fault.{HasFault, IsCut}
+use Rattle.tpm_quote.specs.Fault.{HasFault}
 use Rattle.tpm_quote.specs.Quote.{attest_quote, generated_value}
 use Rattle.tpm_quote.specs.private.Reading.{◌>>=◌, after_header, after_magic, after_type, split_number}
 use Rattle.tpm_quote.specs.declared.quote_error.QuoteError.{QuoteError}

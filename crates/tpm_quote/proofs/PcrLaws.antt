@@ -1,7 +1,7 @@
 -- The PCRs of a selection are those that it selects, ascending, and none of them is above 23.
-use Rattle.std.proofs.Common.{◌≡◌, ◌≢◌, ◌↔◌, ℕ, zero, suc, ◌+◌, ◌-◌, ◌*◌, ◌/◌, ◌%◌, ◌^◌, ◌<◌, ◌≤◌, Bool, true, false, cond, List, [], ◌∷◌, length, get_or, nat_eq}
-use Rattle.std.proofs.Common.{◌⊎◌, inl, inr, refl, sym, ◌∙◌, ap, subst, arith}
-use Rattle.std.specs.Prelude.{Contains, filter, IsTrue}
+use Rattle.std.proofs.Common.{◌≡◌, ℕ, zero, suc, ◌+◌, ◌/◌, ◌%◌, ◌^◌, ◌<◌, ◌≤◌, Bool, true, false, cond, List, [], ◌∷◌, length, get_or}
+use Rattle.std.proofs.Common.{inl, inr, refl, sym, ◌∙◌, ap, subst, arith}
+use Rattle.std.specs.Prelude.{Contains, filter}
 use Rattle.std.specs.Int.{bit_at}
 use Rattle.std.specs.List.Sorted.{IsStrictlyIncreasing}
 use Rattle.std.proofs.Math.Nat.{zero-div}
@@ -9,9 +9,8 @@ use Rattle.std.proofs.lemmas.Bool.{cases_lt, eqb-true}
 use Rattle.std.proofs.lemmas.Bool.Decides.{eqb_tells}
 use Rattle.std.proofs.lemmas.List.{get_or_past}
 use Rattle.std.proofs.lemmas.List.Kept.{IsStrictlyIncreasing-filter}
-use Rattle.uefi_base.specs.LittleEndian.{AreBytes}
 use Rattle.tpm_quote.specs.Laws.{FourthByteZero, HasItsPcrs, PcrsOfSelection}
-use Rattle.tpm_quote.specs.PcrSelection.{PcrSelection, IsPcrSelection, IsSelected, SelectsAbove23, byte_of_pcr_24, is_selected, numbers, selected_pcrs}
+use Rattle.tpm_quote.specs.PcrSelection.{PcrSelection, IsPcrSelection, SelectsAbove23, byte_of_pcr_24, is_selected, numbers}
 
 -- The numbers ascend.
 at_index : (first count k : ℕ) → k < count → get_or (numbers first count) k 0 ≡ first + k

@@ -1,10 +1,10 @@
 -- The bytes of a quote after its magic and its type.
-use Rattle.std.proofs.Common.{◌≡◌, ◌≢◌, ℕ, ◌<◌, ◌^◌, List, [], ◌∷◌, ◌++◌, length}
-use Rattle.std.proofs.Common.{◌⊎◌, inl, inr, refl, sym, ◌∙◌, ap, arith, append_assoc}
+use Rattle.std.proofs.Common.{◌≡◌, ℕ, ◌<◌, ◌^◌, List, ◌++◌, length}
+use Rattle.std.proofs.Common.{◌⊎◌, inl, inr, refl, ◌∙◌, ap, arith}
 use Rattle.tpm_quote.specs.BigEndian.{sized_bytes, u32_bytes, u64_bytes}
 use Rattle.tpm_quote.specs.PcrSelection.{PcrSelection}
 use Rattle.tpm_quote.specs.Quote.{ClockInfo, IsClockInfo, Quote, IsQuote}
-use Rattle.tpm_quote.specs.private.Reading.{Split, ◌>>=◌, split_body, split_counted, quote_given}
+use Rattle.tpm_quote.specs.private.Reading.{split_body, split_counted, quote_given}
 use Rattle.tpm_quote.specs.declared.quote_error.QuoteError.{QuoteError}
 use Rattle.tpm_quote.proofs.ClockBytes.{HasOtherSafeByte, clock_bytes, clock_reader}
 use Rattle.tpm_quote.proofs.Fields.{sized_reader, u32_reader, u64_reader}

@@ -1,5 +1,5 @@
 -- The layout of a quote as its header and its body, which follow one another.
-use Rattle.std.proofs.Common.{◌≡◌, ℕ, List, [], ◌∷◌, ◌++◌, length, refl, sym, ◌∙◌, ap, append_assoc}
+use Rattle.std.proofs.Common.{◌≡◌, ℕ, List, [], ◌∷◌, ◌++◌, length, sym, ◌∙◌, ap, append_assoc}
 use Rattle.tpm_quote.specs.BigEndian.{sized_bytes, u16_bytes, u32_bytes, u64_bytes}
 use Rattle.tpm_quote.specs.Quote.{ClockInfo, Quote, attest_quote, before_safe, before_selections, generated_value, quote_bytes, yes_no}
 use Rattle.tpm_quote.proofs.ClockBytes.{before_safe_byte, clock_bytes}

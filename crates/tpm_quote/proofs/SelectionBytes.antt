@@ -1,17 +1,16 @@
 -- The bytes of selections.
-use Rattle.std.proofs.Common.{◌≡◌, ◌≢◌, ℕ, zero, suc, ◌+◌, ◌-◌, ◌<◌, ◌≤◌, ◌^◌, Bool, true, false, List, [], ◌∷◌, ◌++◌, length, get_or, nat_lt}
+use Rattle.std.proofs.Common.{◌≡◌, ◌≢◌, ℕ, zero, suc, ◌-◌, ◌<◌, ◌≤◌, ◌^◌, Bool, true, false, List, [], ◌∷◌, ◌++◌, length, get_or, nat_lt}
 use Rattle.std.proofs.Common.{◌⊎◌, inl, inr, refl, sym, ◌∙◌, ap, subst, append_assoc, arith}
-use Rattle.std.specs.Int.{w8}
 use Rattle.std.specs.List.{flat_map, AllByRecursion}
 use Rattle.std.proofs.lemmas.Bool.{le-ltb, lt-ltb, ltb-false, ltb-true}
 use Rattle.std.proofs.lemmas.List.{length-replicate}
-use Rattle.tpm_quote.specs.BigEndian.{u16_bytes, u32_bytes}
+use Rattle.tpm_quote.specs.BigEndian.{u16_bytes}
 use Rattle.tpm_quote.specs.Fault.{IsCut, HasLongBitmap, HasPcrAbove23}
 use Rattle.tpm_quote.specs.PcrSelection.{PcrSelection, IsPcrSelection, selection_bytes}
-use Rattle.tpm_quote.specs.private.Reading.{Split, ◌>>=◌, split_number, split_bytes, split_size, split_bits, split_bitmap, split_selection, split_selections, split_counted}
+use Rattle.tpm_quote.specs.private.Reading.{split_size, split_bits, split_bitmap, split_selection, split_selections}
 use Rattle.tpm_quote.specs.declared.quote_error.QuoteError.{QuoteError}
 use Rattle.tpm_quote.specs.declared.quote_error.QuoteError.TheVariants.{Selection}
-use Rattle.tpm_quote.proofs.Fields.{bytes_reader, filled, no_byte, one_byte, u16_reader, u32_reader, u8_reader, zeros, zeros_some}
+use Rattle.tpm_quote.proofs.Fields.{bytes_reader, filled, no_byte, one_byte, u16_reader, u8_reader, zeros, zeros_some}
 use Rattle.tpm_quote.proofs.Selections.{ok, ok_is}
 use Rattle.tpm_quote.proofs.Reader.{IsReader, not_ok, Never, Breaking, BreaksAfter, Takes, cut_shorter, fits_reader, guard_reader, last_reader, then_reader}
 

@@ -1,9 +1,9 @@
 -- Selections, read one by one.
-use Rattle.std.proofs.Common.{◌≡◌, ℕ, zero, suc, ◌+◌, ◌-◌, ◌<◌, List, [], ◌∷◌, length, refl, sym, ◌∙◌, ap, arith}
+use Rattle.std.proofs.Common.{◌≡◌, ℕ, zero, suc, ◌+◌, ◌-◌, ◌<◌, List, [], ◌∷◌, length, refl, ◌∙◌, ap, arith}
 use Rattle.std.specs.Prelude.{Result, Ok, Err, IsOk}
 use Rattle.std.specs.Result.{result_map_both, result_unwrap_or}
 use Rattle.tpm_quote.specs.PcrSelection.{PcrSelection}
-use Rattle.tpm_quote.specs.private.Reading.{Split, ◌>>=◌, split_selection, split_selections, after_selections, selections_in, split_counted}
+use Rattle.tpm_quote.specs.private.Reading.{Split, ◌>>=◌, split_selection, split_selections, after_selections, selections_in}
 use Rattle.tpm_quote.specs.declared.quote_error.QuoteError.{QuoteError}
 
 abbrev Selections : Type 0

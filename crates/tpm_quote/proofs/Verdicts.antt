@@ -1,26 +1,26 @@
 -- What is read is the verdict on the bytes, and each verdict is what is read.
-use Rattle.std.proofs.Common.{◌≡◌, ◌≢◌, ℕ, ◌+◌, ◌<◌, ◌≤◌, ◌^◌, Bool, true, false, cond, List, [], ◌∷◌, ◌++◌, length, nat_eq}
-use Rattle.std.proofs.Common.{◌⊎◌, inl, inr, refl, sym, ◌∙◌, ap, subst, append_assoc, arith}
+use Rattle.std.proofs.Common.{◌≡◌, ◌≢◌, ℕ, Bool, true, false, cond, List, [], ◌∷◌, ◌++◌, length, nat_eq}
+use Rattle.std.proofs.Common.{inl, inr, refl, sym, ◌∙◌, ap, subst, append_assoc, arith}
 use Rattle.std.specs.Prelude.{Result, Ok, Err}
 use Rattle.std.specs.Result.{result_map_both}
 use Rattle.std.proofs.Math.Dec.{eqb-suc-zero}
-use Rattle.std.proofs.lemmas.Bool.{cases_lt, eq-eqb, eqb-false, eqb-true}
+use Rattle.std.proofs.lemmas.Bool.{cases_lt, eqb-false, eqb-true}
 use Rattle.std.proofs.lemmas.List.{append-nil, nil_from_length}
 use Rattle.uefi_base.specs.LittleEndian.{AreBytes}
 use Rattle.tpm_quote.specs.BigEndian.{sized_bytes, u16_bytes, u32_bytes, u64_bytes}
-use Rattle.tpm_quote.specs.Fault.{AreTooShort, HasFault, HasMore, HasOtherMagic, HasOtherSafe, HasOtherSelection, HasOtherType, IsCut}
+use Rattle.tpm_quote.specs.Fault.{AreTooShort, HasFault, HasOtherSafe, HasOtherSelection}
 use Rattle.tpm_quote.specs.Laws.{OneQuote, OneVerdict}
-use Rattle.tpm_quote.specs.Quote.{ClockInfo, IsClockInfo, Quote, IsQuote, attest_quote, before_safe, before_selections, generated_value, quote_bytes, yes_no}
+use Rattle.tpm_quote.specs.Quote.{Quote, IsQuote, attest_quote, before_safe, generated_value, quote_bytes}
 use Rattle.tpm_quote.specs.Reading.{IsVerdict, ReadsQuote}
 use Rattle.tpm_quote.specs.private.Reading.{◌>>=◌, after_header, alone, quote_given, read_quote, split_body}
 use Rattle.tpm_quote.specs.declared.quote_error.QuoteError.{QuoteError}
 use Rattle.tpm_quote.specs.declared.quote_error.QuoteError.TheVariants.{NotGenerated, NotQuote, Safe, Selection, TooShort, LeftOver}
-use Rattle.tpm_quote.proofs.ClockBytes.{HasOtherSafeByte, before_safe_byte, clock_bytes}
+use Rattle.tpm_quote.proofs.ClockBytes.{before_safe_byte, clock_bytes}
 use Rattle.tpm_quote.proofs.Header.{cut_in_magic, cut_in_type, header_fault, header_found, header_read, other_magic, other_type}
 use Rattle.tpm_quote.proofs.QuoteBytes.{BreaksInClock, BreaksInSelections, body_bytes, body_reader}
 use Rattle.tpm_quote.proofs.QuoteLayout.{before_safe_then, before_selections_then, header_append, header_then, quote_is}
-use Rattle.tpm_quote.proofs.Reader.{bind_cases, err_is, not_err, not_ok, split_at_length}
-use Rattle.tpm_quote.proofs.SelectionBytes.{BreaksSelections, selections_bytes}
+use Rattle.tpm_quote.proofs.Reader.{bind_cases, split_at_length}
+use Rattle.tpm_quote.proofs.SelectionBytes.{selections_bytes}
 use Rattle.tpm_quote.proofs.Selections.{ok, err, ok_is}
 
 -- Reading bytes that begin with the header of a quote is reading what follows it.

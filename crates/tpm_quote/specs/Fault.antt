@@ -47,7 +47,7 @@ pub record HasPcrAbove23 (bytes : List ℕ) : Type 0 where
   pub above : 0 < byte_of_pcr_24 selection
   pub first : IsPrefix (selection_bytes selection) bytes
 
--- They begin as a quote does, with a number of selections, fewer selections, and then one of these.
+-- They begin as a quote does, with a number of selections. Fewer selections follow, and then one of these.
 pub record HasOtherSelection (bytes : List ℕ) : Type 0 where
   pub quote : Quote
   pub count : ℕ
@@ -59,7 +59,7 @@ pub record HasOtherSelection (bytes : List ℕ) : Type 0 where
       ++ (u32_bytes count ++ (flat_map selection_bytes quote.pcr_selections ++ rest))
   pub other : HasLongBitmap rest ⊎ HasPcrAbove23 rest
 
--- Bytes after them make them the bytes of such a value.
+-- With more bytes after them, they are those of such a value.
 pub record IsCut {A : Type 0} (Is : A → Type 0) (encoding : A → List ℕ) (bytes : List ℕ) : Type 0 where
   pub value : A
   pub is : Is value
@@ -67,7 +67,7 @@ pub record IsCut {A : Type 0} (Is : A → Type 0) (encoding : A → List ℕ) (b
   pub some : more ≢ []
   pub whole : bytes ++ more ≡ encoding value
 
--- They end within the magic or the type, or are those of a quote without its end.
+-- They end within the magic or the type, whatever these are, or are those of a quote without its end.
 abbrev pub AreTooShort : List ℕ → Type 0
 AreTooShort bytes = (length bytes < 4) ⊎ (IsPrefix (u32_bytes generated_value) bytes × (length bytes < 6))
     ⊎ IsCut IsQuote quote_bytes bytes

@@ -15,7 +15,7 @@ is_selected selection pcr = bit_at (slice_index selection.bitmap (pcr / 8)) (pcr
 abbrev pub IsSelected : PcrSelection → ℕ → Type 0
 IsSelected selection pcr = IsTrue (is_selected selection pcr)
 
--- A PC has the PCRs 0 to 23. This selects one above.
+-- A PC has the PCRs 0 to 23, and this selects one above.
 abbrev pub SelectsAbove23 : PcrSelection → Type 0
 SelectsAbove23 selection = (pcr : ℕ) × (23 < pcr) × IsSelected selection pcr
 

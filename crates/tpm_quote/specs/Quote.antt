@@ -1,5 +1,5 @@
 -- What a TPM signs when it quotes PCRs (TPM 2.0 Library, Part 2, TPMS_ATTEST with TPMS_QUOTE_INFO).
-use Rattle.std.specs.Prelude.{ℕ, ◌<◌, ◌^◌, Bool, true, false, List, [], ◌∷◌, ◌++◌, length}
+use Rattle.std.specs.Prelude.{ℕ, ◌<◌, ◌^◌, Bool, true, false, List, ◌∷◌, ◌++◌, length}
 use Rattle.std.specs.List.{flat_map, AllByRecursion}
 use Rattle.tpm_quote.specs.BigEndian.{u16_bytes, u32_bytes, u64_bytes, sized_bytes}
 use Rattle.tpm_quote.specs.PcrSelection.{PcrSelection, IsPcrSelection, selection_bytes}
@@ -43,23 +43,24 @@ generated_value = 0xff54_4347
 abbrev pub attest_quote : ℕ
 attest_quote = 0x8018
 
--- One byte (TPMI_YES_NO).
+-- The byte of a TPMI_YES_NO.
 abbrev pub yes_no : Bool → ℕ
 yes_no false = 0
 yes_no true = 1
 
--- The layout: the magic, the type, the qualified name, the nonce, and the clock up to its byte `safe`;
+-- The layout, in three parts. The first: the magic, the type, the qualified name, the nonce, and the clock up to its
+-- byte `safe`.
 unfoldable pub before_safe : Quote → List ℕ
 before_safe quote = u32_bytes generated_value ++ (u16_bytes attest_quote ++ (sized_bytes quote.qualified_signer
     ++ (sized_bytes quote.extra_data ++ (u64_bytes quote.clock_info.clock ++ (u32_bytes quote.clock_info.reset_count
     ++ u32_bytes quote.clock_info.restart_count)))))
 
--- this byte, and the version of the firmware;
+-- The first, this byte, and the version of the firmware.
 unfoldable pub before_selections : Quote → List ℕ
 before_selections quote =
     before_safe quote ++ (yes_no quote.clock_info.safe ∷ u64_bytes quote.firmware_version)
 
--- the number of selections, the selections, and the digest.
+-- All: these, the number of selections, the selections, and the digest.
 unfoldable pub quote_bytes : Quote → List ℕ
 quote_bytes quote = before_selections quote ++ (u32_bytes (length quote.pcr_selections)
     ++ (flat_map selection_bytes quote.pcr_selections ++ sized_bytes quote.pcr_digest))

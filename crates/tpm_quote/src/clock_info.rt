@@ -5,7 +5,7 @@ ghost use Rattle.tpm_quote.specs.private.Reading.{split_clock_info, split_yes_no
 use crate::big_endian::{split_u8, split_u32, split_u64};
 use crate::quote_error::QuoteError;
 
-/// The byte of a `TPMI_YES_NO` that is yes. The one that is no is 0, and no other is allowed.
+/// The byte of a `TPMI_YES_NO` that is yes. The byte 0 is no, and no other is allowed.
 const YES: u8 = 1;
 
 /// The clock of a TPM when it signed (TPM 2.0 Library, Part 2, `TPMS_CLOCK_INFO`).
@@ -15,17 +15,16 @@ const YES: u8 = 1;
 /// | 0 | 8 | clock in milliseconds, big-endian |
 /// | 8 | 4 | count of resets, big-endian |
 /// | 12 | 4 | count of restarts, big-endian |
-/// | 16 | 1 | safe (`TPMI_YES_NO`): 0 is no, 1 is yes |
+/// | 16 | 1 | safe (`TPMI_YES_NO`): 0 is no, 1 is yes, and no other value is allowed |
 #[derive(Clone, Copy, PartialEq, Eq, Debug)]
 pub struct ClockInfo {
-    /// How many milliseconds the TPM was powered since it was last cleared, or since its clock was
-    /// set.
+    /// The milliseconds that the clock counted. It counts while the TPM is powered.
     pub clock: u64,
     /// How often the TPM was reset since it was last cleared.
     pub reset_count: u32,
-    /// How often the TPM was restarted or resumed since it was last reset.
+    /// How often the TPM was restarted or resumed since it was last reset or cleared.
     pub restart_count: u32,
-    /// Whether no greater value of the clock was reported before.
+    /// Whether the TPM never reported a greater value of the clock.
     pub safe: bool,
 }
 

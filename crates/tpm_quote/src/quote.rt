@@ -26,7 +26,7 @@ const ATTEST_QUOTE: u16 = 0x8018;
 /// | 17 | clock ([`ClockInfo`]) |
 /// | 8 | firmware version |
 /// | 4 | number of selections |
-/// | 3 and more each | selections ([`PcrSelection`]) |
+/// | 3 and more each | selections ([`PcrSelection`](crate::PcrSelection)) |
 /// | 2, and that many | digest of the selected PCRs (`TPM2B_DIGEST`) |
 ///
 /// A view: it borrows the bytes that it was read from, and what it returns lives as long as they do.

@@ -10,18 +10,20 @@ use std::fmt;
 /// whole: the first fault is the error.
 #[derive(Clone, Copy, PartialEq, Eq, Debug)]
 pub enum QuoteError {
-    /// The first four bytes aren't `TPM_GENERATED_VALUE`, `ff544347`. Fewer than four bytes are
-    /// [`TooShort`](QuoteError::TooShort). A `TPM2B_ATTEST`, which has its size in front, is this.
+    /// The first four bytes aren't `TPM_GENERATED_VALUE`, `ff544347`. A `TPM2B_ATTEST`, which begins
+    /// with its size, has this error. Fewer than four bytes are
+    /// [`TooShort`](QuoteError::TooShort), whatever they are.
     NotGenerated,
     /// The type after the magic is this one, and not `TPM_ST_ATTEST_QUOTE`, `8018`: the TPM signed
-    /// another structure.
+    /// another structure. Only the first byte of a type is [`TooShort`](QuoteError::TooShort).
     NotQuote(u16),
-    /// The byte `safe` has this value, which is neither 0 (`NO`) nor 1 (`YES`).
+    /// The byte `safe` of the clock has this value. A `TPMI_YES_NO` is 0 (`NO`) or 1 (`YES`), and a
+    /// TPM refuses any other when it unmarshals one.
     Safe(u8),
-    /// A bitmap of PCRs is longer than four bytes, by the size before it; or it is whole, and a PCR
-    /// above 23 is selected.
+    /// A bitmap of PCRs has more than four bytes, by the size before it, even if the bytes end
+    /// there; or it is whole, and selects a PCR above 23.
     Selection,
-    /// The bytes end within a field, or before one.
+    /// The bytes end within a field, or before one, and no field before it has another error.
     TooShort,
     /// Bytes follow the quote.
     LeftOver,

@@ -1,6 +1,6 @@
 -- How a quote is read: the fields that bytes begin with, each with the bytes after it, or the error of the first that
 -- they don't have.
-use Rattle.std.specs.Prelude.{ℕ, zero, suc, ◌==◌, ◌||◌, Bool, List, [], ◌∷◌, length, take, drop, Result, Ok, Err, nat_lt, slice_index, if◌then◌else◌}
+use Rattle.std.specs.Prelude.{ℕ, zero, suc, ◌==◌, Bool, List, [], ◌∷◌, length, take, drop, Result, Ok, Err, nat_lt, slice_index, if◌then◌else◌}
 use Rattle.std.specs.Int.{Width, w8, w16, w32, w64, byte_len, from_be_bytes}
 use Rattle.std.specs.Result.{result_map_both, result_unwrap_or}
 use Rattle.tpm_quote.specs.PcrSelection.{PcrSelection}

@@ -1,5 +1,5 @@
 -- Worked rows of the definitions: the bytes of a quote without PCRs, those of a selection, and which PCRs it selects.
-use Rattle.std.specs.Prelude.{◌≡◌, ℕ, List, [], ◌∷◌, ◌++◌, true}
+use Rattle.std.specs.Prelude.{◌≡◌, [], ◌∷◌, true}
 use Rattle.tpm_quote.specs.PcrSelection.{PcrSelection, selection_bytes, selected_pcrs}
 use Rattle.tpm_quote.specs.Quote.{Quote, quote_bytes}
 
