@@ -3,6 +3,7 @@ pub mod Reader
 pub mod Fields
 pub mod ClockBytes
 pub mod SelectionBytes
+pub mod SelectionsLeft
 pub mod QuoteBytes
 pub mod QuoteLayout
 pub mod Header

@@ -1,5 +1,5 @@
 -- Selections, read one by one.
-use Rattle.std.proofs.Common.{◌≡◌, ℕ, zero, suc, ◌+◌, ◌-◌, ◌<◌, List, [], ◌∷◌, length, refl, ◌∙◌, ap, arith}
+use Rattle.std.proofs.Common.{◌≡◌, ℕ, zero, suc, ◌+◌, ◌-◌, ◌<◌, List, [], ◌∷◌, refl, ◌∙◌, ap, arith}
 use Rattle.std.specs.Prelude.{Result, Ok, Err, IsOk}
 use Rattle.std.specs.Result.{result_map_both, result_unwrap_or}
 use Rattle.tpm_quote.specs.PcrSelection.{PcrSelection}
@@ -113,20 +113,3 @@ first_whole (suc n) x e positive first is = let none : IsOk (err {A = List PcrSe
 pub none_left : (n : ℕ) (x : List ℕ) → n ≡ 0 → selections_in n x ≡ []
 unfolding selections_in split_selections
 none_left n x none = rw none refl
-
--- As many as were asked for.
-one_more : (n : ℕ) (x : List ℕ) → IsOk (split_selections (suc n) x)
-    → ((rest : List ℕ) → IsOk (split_selections n rest) → length (selections_in n rest) ≡ n)
-    → (first : Split PcrSelection) → split_selection x ≡ first → length (selections_in (suc n) x) ≡ suc n
-one_more n x is others (Ok s) first =
-    let same : suc n - 1 ≡ n = omega arith in
-    let left : IsOk (split_selections n s.1) = rw same at (others_whole (suc n) x s.1 s.0 (omega arith) first is) in
-    ap length (selections_step n x s.1 s.0 first is) ∙ ap suc (others s.1 left)
-one_more n x is others (Err e) first = absurd (first_whole (suc n) x e (omega arith) first is)
-
-pub length-selections_in : (n : ℕ) (x : List ℕ) → IsOk (split_selections n x) → length (selections_in n x) ≡ n
-length-selections_in zero x is = ap length (none_left zero x refl)
-length-selections_in (suc n) x is = one_more n x is (length-selections_in n) (split_selection x) refl
-
--- The lemma that callers cite.
-pub ruleset counted = (length-selections_in)

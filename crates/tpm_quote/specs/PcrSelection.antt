@@ -1,6 +1,8 @@
 -- Selections of PCRs (TPM 2.0 Library, Part 2, TPMS_PCR_SELECTION).
 use Rattle.std.specs.Prelude.{ℕ, ◌≡◌, zero, suc, ◌/◌, ◌%◌, ◌<◌, ◌≤◌, ◌^◌, ◌==◌, Bool, IsTrue, List, [], ◌∷◌, ◌++◌, length, filter, slice_index}
 use Rattle.std.specs.Int.{bit_at}
+use Rattle.std.specs.List.{flat_map, AllByRecursion}
+use Rattle.uefi_base.specs.Prefix.{IsPrefix}
 use Rattle.tpm_quote.specs.BigEndian.{u16_bytes}
 
 -- A selection: the hash algorithm of a bank, and a bitmap of its PCRs.
@@ -33,6 +35,13 @@ pub record IsPcrSelection (selection : PcrSelection) : Type 0 where
 unfoldable pub selection_bytes : PcrSelection → List ℕ
 selection_bytes selection =
     u16_bytes selection.algorithm ++ (length selection.bitmap ∷ selection.bitmap)
+
+-- The bytes begin with `count` selections, one after another: these.
+pub record HasSelections (count : ℕ) (bytes : List ℕ) : Type 0 where
+  pub selections : List PcrSelection
+  pub each : AllByRecursion IsPcrSelection selections
+  pub counted : length selections ≡ count
+  pub first : IsPrefix (flat_map selection_bytes selections) bytes
 
 -- This many numbers from the first one on.
 unfoldable pub numbers : ℕ → ℕ → List ℕ

@@ -1,9 +1,8 @@
 -- What contracts see of quotes.
 use Rattle.std.specs.Prelude.{ℕ, ◌-◌, List, filter}
-use Rattle.tpm_quote.specs.PcrSelection.{is_selected, numbers}
+use Rattle.tpm_quote.specs.PcrSelection.{HasSelections, is_selected, numbers}
 use Rattle.tpm_quote.specs.PcrSelection as selections
 use Rattle.tpm_quote.specs.Quote as quotes
-use Rattle.tpm_quote.specs.private.Reading.{selections_in}
 use Rattle.tpm_quote.specs.declared.clock_info.ClockInfo.{ClockInfo}
 use Rattle.tpm_quote.specs.declared.pcr_selection.PcrSelection.{PcrSelection}
 use Rattle.tpm_quote.specs.declared.pcr_selection_iter.PcrSelectionIter.{PcrSelectionIter}
@@ -22,9 +21,9 @@ clock_info_of view = record {
 abbrev pub selection_of : PcrSelection → selections.PcrSelection
 selection_of view = record { algorithm = view.algorithm.0; bitmap = view.bitmap.now }
 
--- The selections that an iterator hasn't returned yet.
+-- The selections that an iterator hasn't returned yet: its bytes begin with them, and it counts them.
 abbrev pub selections_left : PcrSelectionIter → List selections.PcrSelection
-selections_left iter = selections_in iter.count iter.rest.now
+selections_left iter = let left : HasSelections iter.count iter.rest.now = iter.left in left.selections
 
 abbrev pub quote_of : Quote → quotes.Quote
 quote_of view = record {

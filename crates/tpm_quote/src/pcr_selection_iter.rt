@@ -2,7 +2,9 @@ ghost use Rattle.std.specs.Prelude.{◌≡◌, ◌^◌, ◌<◌, length, Some, I
 ghost use Rattle.std.specs.Iterator.{YieldsFirstBy, item_count, at_most, UpTo};
 ghost use Rattle.std.specs.Iterator.SizeHint.{IsWithinCount};
 ghost use Rattle.std.specs.Result.{result_map_both};
+ghost use Rattle.tpm_quote.specs.PcrSelection.{HasSelections};
 ghost use Rattle.tpm_quote.specs.private.Reading.{after_selections, selections_in, split_counted, split_selections};
+ghost use Rattle.tpm_quote.specs.private.Selections.{HasSelections-prop};
 
 use crate::big_endian::split_u32;
 use crate::pcr_selection::PcrSelection;
@@ -19,7 +21,7 @@ pub struct PcrSelectionIter<'a> {
     rest: &'a [u8],
     count: u32,
     pub ghost fits: { count < 2 ^ 32 },
-    pub ghost whole: { IsOk (split_selections count rest.now) },
+    pub ghost left: { HasSelections count rest.now } by { HasSelections-prop count rest.now },
 }
 
 impl<'a> PcrSelectionIter<'a> {
@@ -42,6 +44,7 @@ impl<'a> PcrSelectionIter<'a> {
     }
 
     /// Returns an iterator over the selections that `rest` is known to begin with.
+    #[tactic(auto, using(crate::proofs::SelectionsLeft::left_in))]
     pub(crate) fn new(rest: &'a [u8], count: u32) -> PcrSelectionIter<'a>
         requires { IsOk (split_selections count rest.now) }
         ensures { selections_left result ≡ selections_in count rest.now }
@@ -59,7 +62,7 @@ impl<'a> Iterator for PcrSelectionIter<'a> {
 
     ghost remaining = { item_count selections_left };
 
-    #[tactic(auto, using(crate::proofs::Selections::next_selection, crate::proofs::Selections::others_whole, crate::proofs::Selections::first_whole, crate::proofs::Selections::none_left))]
+    #[tactic(auto, using(crate::proofs::SelectionsLeft::next_left, crate::proofs::SelectionsLeft::others_left, crate::proofs::SelectionsLeft::first_left, crate::proofs::SelectionsLeft::nothing_left))]
     fn next(&mut self) -> Option<PcrSelection<'a>> {
         if self.count == 0 {
             return None;
@@ -83,7 +86,6 @@ impl<'a> Iterator for PcrSelectionIter<'a> {
     }
 }
 
-#[tactic(auto, using(crate::proofs::Selections::counted))]
 impl<'a> ExactSizeIterator for PcrSelectionIter<'a> {
     /// Returns the count of selections that are left.
     fn len(&self) -> usize {

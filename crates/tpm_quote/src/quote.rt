@@ -98,7 +98,6 @@ impl<'a> Quote<'a> {
 
     /// Returns an iterator over the selections, in the quote's order. A bank may be in none, or in
     /// several.
-    #[tactic(auto, using(crate::proofs::Selections::counted))]
     pub fn pcr_selections(&self) -> PcrSelectionIter<'a>
         ensures selections { selections_left result ≡ (quote_of self.now).pcr_selections }
         ensures countable { length (selections_left result) < 2 ^ 32 }
