@@ -3,6 +3,7 @@
 // Some fields and imports are those of the proofs, and a form is the one that is proved.
 #![allow(dead_code, unused_imports, clippy::complexity, clippy::style)]
 
+pub(crate) mod tpm_quote;
 pub(crate) mod uefi_base;
 pub(crate) mod uefi_hii;
 pub(crate) mod uefi_map;

@@ -9,6 +9,7 @@
 //! | [`proto::pci`] | lists of PCI resources |
 //! | [`mem::memory_map`] | memory maps |
 //! | [`runtime`] | times |
+//! | [`pcr`] | quotes of PCRs, which a TPM signs |
 //!
 //! Modules and names are those of the crate `uefi` 0.41.0. Nothing calls firmware, nothing trusts
 //! the bytes, and there is no `unsafe` code. Views borrow the bytes that they were read from. What
@@ -190,6 +191,30 @@ pub mod mem {
             MemoryMapKey, MemoryMapMeta, MemoryMapMut, MemoryMapRef, MemoryMapRefMut, MemoryType,
         };
     }
+}
+
+pub mod pcr {
+    //! Quotes of PCRs, which a TPM signs (TPM 2.0 Library, Part 2, `TPMS_ATTEST`). Begin with
+    //! [`Quote::try_from`].
+    //!
+    //! # Examples
+    //!
+    //! Whether a message is a quote with this nonce, which shows that it is fresh. The message is
+    //! what the TPM signed: its signature has to be verified first.
+    //!
+    //! ```
+    //! use uefi_formats::pcr::{Quote, QuoteError};
+    //!
+    //! fn is_fresh(message: &[u8], nonce: &[u8]) -> Result<bool, QuoteError> {
+    //!     Ok(Quote::try_from(message)?.extra_data() == nonce)
+    //! }
+    //!
+    //! assert_eq!(is_fresh(b"\xffTCG", b"nonce"), Err(QuoteError::TooShort));
+    //! ```
+
+    pub use crate::formats::tpm_quote::{
+        ClockInfo, PcrSelection, PcrSelectionIter, Quote, QuoteError, SelectedPcrs,
+    };
 }
 
 pub mod runtime {

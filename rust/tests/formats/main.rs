@@ -23,9 +23,11 @@ mod hii_tests;
 mod listing_tests;
 mod map_tests;
 mod memory;
+mod mutated_quotes;
 mod node_tests;
 mod panics;
 mod path_tests;
+mod quote_tests;
 mod records_tests;
 mod sizes;
 mod support;
@@ -35,6 +37,9 @@ mod test_support;
 mod uefi_listing;
 
 // The libraries, by the names that the repository's tests have for them.
+mod tpm_quote {
+    pub use uefi_formats::pcr::*;
+}
 mod uefi_base {
     pub use uefi_formats::*;
 }
