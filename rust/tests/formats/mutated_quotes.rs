@@ -7,13 +7,9 @@ use std::collections::BTreeMap;
 use std::mem::discriminant;
 use uefi_formats::pcr::{ClockInfo, Quote, QuoteError};
 
-#[allow(dead_code, reason = "the bench has other uses")]
-#[path = "../../../bench/src/random.rs"]
-mod random;
 #[path = "quote_tests/tests/samples.rs"]
 mod samples;
 
-use random::Random;
 use samples::{
     CERTIFY, ECC_NO_NONCE, ECC_THREE_BANKS, GETTIME, RSA_NO_NONCE, RSA_ONE_BANK, RSA_TWO_BANKS,
 };
@@ -25,6 +21,8 @@ const SEEDS: [&str; 7] =
 const MUTANTS: usize = if cfg!(target_arch = "x86_64") { 1_000_000 } else { 100_000 };
 /// The least number of mutants that end in each way: as a quote, or with each fault.
 const LEAST: usize = MUTANTS / 1_000;
+/// Bytes at an edge: of sizes, counts, `safe`, and signs.
+const EDGES: [u8; 9] = [0, 1, 2, 3, 4, 5, 0x7f, 0x80, 0xff];
 
 /// The fields of a quote.
 #[derive(PartialEq, Debug)]
@@ -43,7 +41,9 @@ struct Cursor<'a>(&'a [u8]);
 
 impl<'a> Cursor<'a> {
     fn take(&mut self, count: usize) -> Result<&'a [u8], QuoteError> {
-        self.0.split_off(..count).ok_or(QuoteError::TooShort)
+        let (taken, rest) = self.0.split_at_checked(count).ok_or(QuoteError::TooShort)?;
+        self.0 = rest;
+        Ok(taken)
     }
 
     fn number(&mut self, width: usize) -> Result<u64, QuoteError> {
@@ -117,16 +117,36 @@ fn of_package(bytes: &[u8]) -> Result<Fields, QuoteError> {
     })
 }
 
+/// The numbers that follow from a seed other than 0 (xorshift64*).
+struct Random(u64);
+
+impl Random {
+    fn next(&mut self) -> u64 {
+        self.0 ^= self.0 >> 12;
+        self.0 ^= self.0 << 25;
+        self.0 ^= self.0 >> 27;
+        self.0.wrapping_mul(0x2545_f491_4f6c_dd1d)
+    }
+
+    fn index(&mut self, length: usize) -> usize {
+        (self.next() >> 32) as usize % length
+    }
+
+    fn byte(&mut self) -> u8 {
+        self.next() as u8
+    }
+}
+
 /// Changes bytes in one way: another byte, a bit, a byte more or less, a part twice, or an end.
 fn mutate(message: &mut Vec<u8>, random: &mut Random) {
     if message.is_empty() {
         return message.push(random.byte());
     }
     let at = random.index(message.len());
-    match random.below(7) {
+    match random.index(7) {
         0 => message[at] = random.byte(),
-        1 => message[at] = random.one_of(&[0, 1, 2, 3, 4, 5, 0x7f, 0x80, 0xff]),
-        2 => message[at] ^= 1 << random.below(8),
+        1 => message[at] = EDGES[random.index(EDGES.len())],
+        2 => message[at] ^= 1 << random.index(8),
         3 => message.insert(at, random.byte()),
         4 => drop(message.remove(at)),
         5 => {
@@ -143,7 +163,7 @@ fn mutated_quotes_are_read_as_by_a_plain_reader() -> Result<(), Fail> {
     let (mut random, mut endings) = (Random(7), BTreeMap::new());
     for _ in 0..MUTANTS {
         let mut message = seeds[random.index(seeds.len())].clone();
-        for _ in 0..random.below(4) {
+        for _ in 0..random.index(4) {
             mutate(&mut message, &mut random);
         }
         let (expected, found) = (plain(&message), of_package(&message));
