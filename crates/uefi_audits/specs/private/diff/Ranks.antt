@@ -20,7 +20,7 @@ use Rattle.uefi_audits.specs.private.diff.Keys.{Ranked, ranked_cmp, ranked_of}
 abbrev pub numbered_at : Bor NumberedEntry → Numbered
 numbered_at found = numbered_of found.now
 
--- An event with its counterpart, which it may lack or not.
+-- An event with its counterpart, if it has one; and an event that has one, with it.
 abbrev pub paired_of : PairedEvent → Paired
 paired_of paired =
     record { found = numbered_at paired.found; counterpart = option_map numbered_at paired.counterpart }
