@@ -5,5 +5,6 @@ pub mod Measured
 pub mod Laws
 pub mod Rows
 pub mod Views
+pub mod BankReplays
 pub mod WasRead
 pub mod ReadLogs

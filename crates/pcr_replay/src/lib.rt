@@ -11,6 +11,7 @@
 #![tactic(auto)]
 
 pub use self::bank::Bank;
+pub use self::bank_pcrs::BankPcrs;
 pub use self::digest::{has_digest, is_hash_of, is_hash_of_data};
 pub use self::fault::{Fault, Undetermined};
 pub use self::ignored::{Ignored, why_ignored};
@@ -21,6 +22,7 @@ pub use self::start::{Start, locality_in, startup_locality, stated_locality};
 pub use self::value::PcrValue;
 
 mod bank;
+mod bank_pcrs;
 mod digest;
 pub mod entries;
 mod fault;

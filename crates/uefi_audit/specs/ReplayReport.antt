@@ -6,7 +6,7 @@ use Rattle.uefi_audits.specs.Facts.{AreFactsOf}
 use Rattle.uefi_audits.specs.Ignored.{has_no_pcr}
 use Rattle.uefi_audits.specs.Judgement.{is_read, judgement_of}
 use Rattle.uefi_audits.specs.LogReplay.{IsReplayOf, is_undetermined}
-use Rattle.uefi_audits.specs.Replay.{bank_outcomes_of}
+use Rattle.pcr_replay.specs.BankReplays.{bank_outcomes_of}
 use Rattle.uefi_audits.specs.declared.facts.LogFacts.{LogFacts}
 use Rattle.uefi_audits.specs.declared.log_replay.LogReplay.{LogReplay}
 use Rattle.uefi_audits.specs.declared.start.KnownStart.{KnownStart}

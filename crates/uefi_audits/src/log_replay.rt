@@ -7,9 +7,9 @@ ghost use Rattle.uefi_audits.specs.LogReplay.{IsReplayOf, banks_among, inactive_
 use crate::facts::LogFacts;
 use crate::ignored::{IgnoredEvent, ignored_events};
 use crate::naming::bank_of;
-use crate::replay::{BankPcrs, asked_banks, replay_banks};
-use pcr_replay::Bank;
+use crate::replay::{asked_banks, replay_banks};
 use pcr_replay::entries::is_active;
+use pcr_replay::{Bank, BankPcrs};
 use std::alloc::{AllocError, Global};
 use uefi_tcg::{AlgorithmId, LogEntry};
 

@@ -7,7 +7,7 @@ use Rattle.serde_json.specs.View.{items_of}
 use Rattle.serde_json.specs.Written.{has_float, items_have_float}
 use Rattle.uefi_audits.specs.declared.facts.LogFacts.{LogFacts}
 use Rattle.pcr_replay.specs.Replay.{Outcome}
-use Rattle.uefi_audits.specs.Replay.{BankOutcomes}
+use Rattle.pcr_replay.specs.BankReplays.{BankOutcomes}
 use Rattle.audit_text.specs.json.Replay.{algorithm_json, bank_json, banks_json, if_undetermined, is_replayed, locality_json, replay_json, shown_banks}
 use Rattle.audit_text.specs.json.Replay.{not_replayed_json, part_json, outcome_json, undetermined_json}
 use Rattle.uefi_audits.specs.Numbered.{numbered}

@@ -11,7 +11,7 @@ use Rattle.uefi_audits.specs.declared.start.KnownStart.{KnownStart}
 use Rattle.uefi_audits.specs.declared.facts.LogFacts.{LogFacts}
 use Rattle.pcr_replay.specs.Replay.{Outcome}
 use Rattle.audit_text.specs.words.Numbers.{hex_text}
-use Rattle.uefi_audits.specs.Replay.{BankOutcomes}
+use Rattle.pcr_replay.specs.BankReplays.{BankOutcomes}
 use Rattle.audit_text.specs.json.Line.{line_of}
 use Rattle.uefi_audits.specs.Naming.{bank_name, bank_of}
 use Rattle.uefi_audits.specs.Numbered.{numbered}

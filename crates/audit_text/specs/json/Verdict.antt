@@ -6,7 +6,7 @@ use Rattle.serde_json.specs.View.{items_of}
 use Rattle.pcr_replay.specs.declared.fault.Undetermined.{Undetermined}
 use Rattle.pcr_replay.specs.Replay.{Outcome}
 use Rattle.pcr_replay.specs.Views.{value_of}
-use Rattle.uefi_audits.specs.Replay.{BankOutcomes}
+use Rattle.pcr_replay.specs.BankReplays.{BankOutcomes}
 use Rattle.audit_text.specs.json.Line.{line_of}
 use Rattle.uefi_audits.specs.Naming.{bank_name}
 use Rattle.audit_text.specs.words.Faults.{fault_text}

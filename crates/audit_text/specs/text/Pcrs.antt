@@ -3,7 +3,7 @@ use Rattle.std.specs.Prelude.{ℕ, List, [], ◌++◌, nat_lt, codes, Ok, Err, i
 use Rattle.std.specs.Fmt.{decimal}
 use Rattle.hex.specs.Hex.{encode_upper}
 use Rattle.pcr_replay.specs.Replay.{Outcome}
-use Rattle.uefi_audits.specs.Replay.{BankOutcomes}
+use Rattle.pcr_replay.specs.BankReplays.{BankOutcomes}
 use Rattle.uefi_audits.specs.Naming.{bank_name}
 use Rattle.uefi_audits.specs.Numbered.{numbered}
 

@@ -4,7 +4,7 @@ use Rattle.std.specs.Fmt.{decimal}
 use Rattle.pcr_replay.specs.declared.bank.Bank.{Bank}
 use Rattle.pcr_replay.specs.declared.fault.Undetermined.{Undetermined}
 use Rattle.pcr_replay.specs.Replay.{Outcome}
-use Rattle.uefi_audits.specs.Replay.{BankOutcomes}
+use Rattle.pcr_replay.specs.BankReplays.{BankOutcomes}
 use Rattle.uefi_audits.specs.Naming.{bank_name}
 use Rattle.uefi_audits.specs.Numbered.{numbered}
 use Rattle.audit_text.specs.words.Shown.{shown_name}

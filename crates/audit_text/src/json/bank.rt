@@ -3,17 +3,16 @@ ghost use Rattle.hex.specs.Hex.{encode_lower};
 ghost use Rattle.serde_json.specs.Data.{string};
 ghost use Rattle.serde_json.specs.View.{view};
 ghost use Rattle.pcr_replay.specs.Views.{outcome_of, outcomes_of};
-ghost use Rattle.uefi_audits.specs.Replay.{bank_outcomes_of};
+ghost use Rattle.pcr_replay.specs.BankReplays.{bank_outcomes_of};
 ghost use Rattle.audit_text.specs.json.Replay.{bank_json, banks_json, if_undetermined, outcome_json, undetermined_json};
 ghost use Rattle.uefi_audits.specs.Numbered.{numbered};
 
 use crate::json::event::hex_json;
 use crate::words::fault_text;
-use pcr_replay::{PcrValue, Pcrs, Undetermined};
+use pcr_replay::{BankPcrs, PcrValue, Pcrs, Undetermined};
 use serde_json::{Map, Value, json, put};
 use std::alloc::{AllocError, Global};
 use uefi_audits::naming::bank_name;
-use uefi_audits::replay::BankPcrs;
 
 /// Returns the banks of a log; `null` if it is refused.
 #[tactic(auto, unfolding(crate::specs::json::Replay::banks_json))]

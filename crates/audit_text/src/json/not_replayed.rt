@@ -4,14 +4,14 @@ ghost use Rattle.serde_json.specs.Data.{string};
 ghost use Rattle.serde_json.specs.View.{view};
 ghost use Rattle.pcr_replay.specs.Banks.{algorithm_of};
 ghost use Rattle.audit_text.specs.words.Numbers.{hex_text};
-ghost use Rattle.uefi_audits.specs.Replay.{bank_outcomes_of};
+ghost use Rattle.pcr_replay.specs.BankReplays.{bank_outcomes_of};
 ghost use Rattle.audit_text.specs.json.Replay.{algorithm_json, not_replayed_json};
 
 use crate::words::push_number;
+use pcr_replay::BankPcrs;
 use serde_json::Value;
 use std::alloc::{AllocError, Global};
 use uefi_audits::naming::{bank_name, bank_of};
-use uefi_audits::replay::BankPcrs;
 use uefi_tcg::AlgorithmId;
 
 /// Returns those of these algorithms whose banks aren't among these.

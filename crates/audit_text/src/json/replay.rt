@@ -1,16 +1,16 @@
 ghost use Rattle.std.specs.Prelude.{◌≡◌, map, option_map, IfOk, OnOk};
 ghost use Rattle.serde_json.specs.View.{view};
 ghost use Rattle.uefi_base.specs.Appending.{AppendsText};
-ghost use Rattle.uefi_audits.specs.Replay.{bank_outcomes_of};
+ghost use Rattle.pcr_replay.specs.BankReplays.{bank_outcomes_of};
 ghost use Rattle.audit_text.specs.json.Replay.{locality_json, part_json, replay_json, replay_line, shown_banks};
 
 use crate::json::bank::banks_json;
 use crate::json::line::line_of;
 use crate::json::not_replayed::not_replayed_json;
+use pcr_replay::BankPcrs;
 use serde_json::{Map, Value, json, put};
 use std::alloc::{AllocError, Global};
 use uefi_audits::facts::LogFacts;
-use uefi_audits::replay::BankPcrs;
 use uefi_audits::start::KnownStart;
 
 /// Appends what a log leads to as one line of JSON: an object, and a line break.

@@ -3,18 +3,17 @@ ghost use Rattle.std.specs.Option.{option_map};
 ghost use Rattle.serde_json.specs.View.{view};
 ghost use Rattle.uefi_base.specs.Appending.{AppendsText};
 ghost use Rattle.pcr_replay.specs.Views.{outcome_of};
-ghost use Rattle.uefi_audits.specs.Replay.{bank_outcomes_of};
+ghost use Rattle.pcr_replay.specs.BankReplays.{bank_outcomes_of};
 ghost use Rattle.audit_text.specs.json.Verdict.{disagreeing_json, event_json, if_disagreeing, led_json, pcr_json, undetermined_by, verdict_line, verdict_object};
 ghost use Rattle.uefi_audits.specs.verify.Verdict.{comparison_of};
 
 use crate::json::event::hex_json;
 use crate::json::line::line_of;
 use crate::words::fault_text;
-use pcr_replay::{PcrValue, Undetermined};
+use pcr_replay::{BankPcrs, PcrValue, Undetermined};
 use serde_json::{Map, Value, json, put};
 use std::alloc::{AllocError, Global};
 use uefi_audits::naming::bank_name;
-use uefi_audits::replay::BankPcrs;
 use uefi_audits::verify::{HeldPcr, Verdict, agrees, led_to};
 
 /// Appends whether a log leads to these PCRs as one line of JSON: an object, and a line break.

@@ -1,14 +1,13 @@
 ghost use Rattle.std.specs.Prelude.{◌≡◌, flat_map, map, OnOk};
 ghost use Rattle.uefi_base.specs.Appending.{AppendsText};
 ghost use Rattle.pcr_replay.specs.Views.{outcome_of, outcomes_of};
-ghost use Rattle.uefi_audits.specs.Replay.{bank_outcomes_of};
+ghost use Rattle.pcr_replay.specs.BankReplays.{bank_outcomes_of};
 ghost use Rattle.uefi_audits.specs.Numbered.{numbered};
 ghost use Rattle.audit_text.specs.text.Pcrs.{bank_lines, padding, pcr_line};
 
-use pcr_replay::{PcrValue, Pcrs, Undetermined};
+use pcr_replay::{BankPcrs, PcrValue, Pcrs, Undetermined};
 use std::alloc::{AllocError, Allocator};
 use uefi_audits::naming::bank_name;
-use uefi_audits::replay::BankPcrs;
 
 /// Appends the PCRs of each bank, as [`push_bank`] does.
 ///

@@ -1,16 +1,15 @@
 ghost use Rattle.std.specs.Prelude.{flat_map, map, OnOk};
 ghost use Rattle.uefi_base.specs.Appending.{AppendsText};
 ghost use Rattle.pcr_replay.specs.Views.{outcome_of, outcomes_of};
-ghost use Rattle.uefi_audits.specs.Replay.{bank_outcomes_of};
+ghost use Rattle.pcr_replay.specs.BankReplays.{bank_outcomes_of};
 ghost use Rattle.uefi_audits.specs.Numbered.{numbered};
 ghost use Rattle.audit_text.specs.words.Faults.{fault_text};
 ghost use Rattle.audit_text.specs.text.Undetermined.{undetermined_line, undetermined_lines, undetermined_text};
 
 use crate::words::{ShownName, fault_text};
-use pcr_replay::{Bank, PcrValue, Pcrs, Undetermined};
+use pcr_replay::{Bank, BankPcrs, PcrValue, Pcrs, Undetermined};
 use std::alloc::{AllocError, Allocator};
 use uefi_audits::naming::bank_name;
-use uefi_audits::replay::BankPcrs;
 
 /// Appends a line for each PCR that is undetermined, for standard error: the file's name, the bank,
 /// the PCR, and the index and the offset of the first event by which it is.

@@ -18,11 +18,12 @@ use Rattle.pcr_replay.specs.Start.{start_at}
 use Rattle.uefi_tcg.specs.Entries.{Entry}
 use Rattle.pcr_replay.specs.Replay.{Outcome, outcomes}
 use Rattle.pcr_replay.specs.Views.{outcomes_of, value_of}
-use Rattle.uefi_audits.specs.declared.replay.BankPcrs.{BankPcrs}
+use Rattle.pcr_replay.specs.declared.bank_pcrs.BankPcrs.{BankPcrs}
 use Rattle.uefi_audits.specs.Start.{assumed_start, is_stated, known_start, start_by}
 use Rattle.uefi_audits.specs.declared.start.KnownStart.{KnownStart}
 use Rattle.uefi_audits.specs.declared.verify.held.HeldPcr.{HeldPcr}
-use Rattle.uefi_audits.specs.Replay.{BankOutcomes, all_banks, bank_outcomes_of, replayed}
+use Rattle.pcr_replay.specs.BankReplays.{BankOutcomes, bank_outcomes_of, replayed}
+use Rattle.uefi_audits.specs.Replay.{all_banks}
 use Rattle.uefi_audits.specs.Naming.{bank_of}
 use Rattle.uefi_audits.specs.verify.Banks.{held_banks, is_held, is_same_bank}
 use Rattle.uefi_audits.specs.verify.Verdict.{AgreeAtOne, AgreeByVerdict, Comparison, agrees, compared_at, differs, disagreeing, is_agreement, is_undetermined, is_value, led_to, nearer, nearest, outcomes_in, starts, undetermined, verdict_of}

@@ -4,8 +4,8 @@ use Rattle.std.specs.Prelude.{true, false, cond, Option}
 use Rattle.pcr_replay.specs.declared.bank.Bank.{Bank}
 use Rattle.pcr_replay.specs.declared.start.Start.{Start}
 use Rattle.uefi_tcg.specs.Entries.{Entry}
-use Rattle.uefi_audits.specs.Replay.{BankOutcomes, bank_outcomes_of, replayed}
-use Rattle.uefi_audits.specs.declared.replay.BankPcrs.{BankPcrs}
+use Rattle.pcr_replay.specs.BankReplays.{BankOutcomes, bank_outcomes_of, replayed}
+use Rattle.pcr_replay.specs.declared.bank_pcrs.BankPcrs.{BankPcrs}
 use Rattle.uefi_audits.specs.Start.{assumed_start, is_stated, known_start}
 use Rattle.uefi_audits.specs.declared.start.KnownStart.{KnownStart}
 use Rattle.uefi_audits.specs.declared.verify.held.HeldPcr.{HeldPcr}

@@ -1,12 +1,11 @@
 ghost use Rattle.std.specs.Prelude.{◌≡◌, map};
 ghost use Rattle.std.specs.Option.{option_map};
+ghost use Rattle.pcr_replay.specs.BankReplays.{bank_outcomes_of};
 ghost use Rattle.pcr_replay.specs.Views.{outcome_of, outcomes_of};
-ghost use Rattle.uefi_audits.specs.Replay.{bank_outcomes_of};
 ghost use Rattle.uefi_audits.specs.verify.Verdict.{agrees, differs, disagreeing, led_to, outcomes_in, undetermined};
 
-use crate::replay::BankPcrs;
 use crate::verify::held::HeldPcr;
-use pcr_replay::{Bank, PcrValue, Pcrs, Undetermined};
+use pcr_replay::{Bank, BankPcrs, PcrValue, Pcrs, Undetermined};
 use uefi_tcg::PcrIndex;
 
 /// Returns how many PCRs don't hold what a log leads to.

@@ -1,18 +1,18 @@
 ghost use Rattle.std.specs.Prelude.{◌≡◌, ◌↔◌, IsTrue, List, map, IfOk};
+ghost use Rattle.pcr_replay.specs.BankReplays.{bank_outcomes_of, replayed};
 ghost use Rattle.pcr_replay.specs.declared.bank.Bank.{Bank};
 ghost use Rattle.pcr_replay.specs.declared.start.Start.{Start};
 ghost use Rattle.uefi_tcg.specs.LogViews.{entry_of};
-ghost use Rattle.uefi_audits.specs.Replay.{bank_outcomes_of, replayed};
 ghost use Rattle.uefi_audits.specs.Start.{assumed_start};
 ghost use Rattle.uefi_audits.specs.declared.start.KnownStart.{KnownStart};
 ghost use Rattle.uefi_audits.specs.verify.Verdict.{compared, compared_at, comparison_of, is_agreement, nearer, verdict_of, AgreeAtOne};
 
-use crate::replay::{BankPcrs, replay_banks};
+use crate::replay::replay_banks;
 use crate::start::KnownStart;
 use crate::verify::banks::held_banks;
 use crate::verify::comparison::{differs, disagreeing, is_undetermined};
 use crate::verify::held::HeldPcr;
-use pcr_replay::Start;
+use pcr_replay::{BankPcrs, Start};
 use std::alloc::{AllocError, Allocator, Global};
 use uefi_tcg::LogEntry;
 

@@ -1,6 +1,6 @@
 use Rattle.std.proofs.Common.{◌∙◌, ap, arith, map}
 use Rattle.uefi_tcg.specs.LogViews.{entry_of}
-use Rattle.uefi_audits.specs.Replay.{bank_outcomes_of, replayed}
+use Rattle.pcr_replay.specs.BankReplays.{bank_outcomes_of, replayed}
 use Rattle.uefi_audits.proofs.FirstOnes.{all_taken, one_mapped}
 use Rattle.uefi_audits.proofs.replay.replay_banks.Goals as goal
 

@@ -1,6 +1,6 @@
 use Rattle.std.proofs.Common.{◌≡◌, map, take}
 use Rattle.uefi_tcg.specs.LogViews.{entry_of}
-use Rattle.uefi_audits.specs.Replay.{bank_outcomes_of, replayed}
+use Rattle.pcr_replay.specs.BankReplays.{bank_outcomes_of, replayed}
 use Rattle.uefi_audits.proofs.replay.replay_banks.Given as goal
 
 -- What was found is what the banks so far hold.

@@ -1,6 +1,6 @@
 use Rattle.std.proofs.Common.{◌≡◌, map, take}
 use Rattle.serde_json.specs.View.{view}
-use Rattle.uefi_audits.specs.Replay.{bank_outcomes_of}
+use Rattle.pcr_replay.specs.BankReplays.{bank_outcomes_of}
 use Rattle.audit_text.specs.json.Replay.{bank_json}
 use Rattle.audit_text.proofs.json.bank.each_bank.Given as goal
 

@@ -4,7 +4,7 @@ use Rattle.serde_json.specs.Data.{array}
 use Rattle.serde_json.specs.View.{items_of}
 use Rattle.serde_json.proofs.Views.{view-Array}
 use Rattle.pcr_replay.specs.Banks.{algorithm_of}
-use Rattle.uefi_audits.specs.Replay.{BankOutcomes, bank_outcomes_of}
+use Rattle.pcr_replay.specs.BankReplays.{BankOutcomes, bank_outcomes_of}
 use Rattle.audit_text.specs.json.Replay.{algorithm_json, is_replayed, not_replayed_json}
 use Rattle.audit_text.proofs.Viewed.{any_view}
 use Rattle.audit_text.proofs.json.not_replayed.not_replayed_json.Goals as goal

@@ -1,6 +1,6 @@
 use Rattle.std.proofs.Common.{◌∙◌, ◌++◌, ap, map, arith}
 use Rattle.serde_json.specs.View.{view}
-use Rattle.uefi_audits.specs.Replay.{bank_outcomes_of}
+use Rattle.pcr_replay.specs.BankReplays.{bank_outcomes_of}
 use Rattle.uefi_audits.specs.declared.verify.held.HeldPcr.{HeldPcr}
 use Rattle.audit_text.specs.json.Verdict.{if_disagreeing}
 use Rattle.uefi_audits.proofs.FirstOnes.{one_joined}

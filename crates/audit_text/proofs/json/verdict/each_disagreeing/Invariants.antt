@@ -1,7 +1,7 @@
 use Rattle.std.proofs.Common.{◌≡◌, map, take}
 use Rattle.std.specs.List.{flat_map}
 use Rattle.serde_json.specs.View.{view}
-use Rattle.uefi_audits.specs.Replay.{bank_outcomes_of}
+use Rattle.pcr_replay.specs.BankReplays.{bank_outcomes_of}
 use Rattle.audit_text.specs.json.Verdict.{if_disagreeing}
 use Rattle.audit_text.proofs.json.verdict.each_disagreeing.Given as goal
 

@@ -2,7 +2,7 @@ use Rattle.std.proofs.Common.{◌∙◌, ◌++◌, ap, map, string_bytes}
 use Rattle.std.specs.Prelude.{codes}
 use Rattle.std.proofs.lemmas.Result.{on_ok_weaker}
 use Rattle.serde_json.specs.Written.{has_float}
-use Rattle.uefi_audits.specs.Replay.{bank_outcomes_of}
+use Rattle.pcr_replay.specs.BankReplays.{bank_outcomes_of}
 use Rattle.audit_text.specs.json.Line.{line_of}
 use Rattle.audit_text.specs.json.Verdict.{disagreeing_json, verdict_object}
 use Rattle.uefi_audits.specs.verify.Verdict.{comparison_of}

@@ -1,6 +1,6 @@
 use Rattle.std.proofs.Common.{◌≡◌, ◌++◌, map, take, string_bytes}
 use Rattle.std.specs.List.{flat_map}
-use Rattle.uefi_audits.specs.Replay.{bank_outcomes_of}
+use Rattle.pcr_replay.specs.BankReplays.{bank_outcomes_of}
 use Rattle.audit_text.specs.text.Pcrs.{bank_lines}
 use Rattle.audit_text.proofs.text.banks.push_banks.Given as goal
 

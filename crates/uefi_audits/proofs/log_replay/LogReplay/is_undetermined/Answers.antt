@@ -3,8 +3,8 @@ use Rattle.std.specs.Prelude.{◌==◌, length}
 use Rattle.std.specs.List.{list_any}
 use Rattle.std.proofs.lemmas.Iterator.{YieldsList-from_slice}
 use Rattle.std.proofs.lemmas.Iterator.Search.{any_from_yields_List}
-use Rattle.uefi_audits.specs.Replay.{bank_outcomes_of, has_undetermined}
-use Rattle.uefi_audits.specs.declared.replay.BankPcrs.{BankPcrs}
+use Rattle.pcr_replay.specs.BankReplays.{bank_outcomes_of, has_undetermined}
+use Rattle.pcr_replay.specs.declared.bank_pcrs.BankPcrs.{BankPcrs}
 use Rattle.uefi_audits.proofs.log_replay.LogReplay.is_undetermined.Goals as goal
 
 pub returns-else-is_empty : goal.returns-else-is_empty

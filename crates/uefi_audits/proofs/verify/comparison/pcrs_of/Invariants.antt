@@ -1,5 +1,5 @@
 use Rattle.std.proofs.Common.{◌≡◌, drop, map}
-use Rattle.uefi_audits.specs.Replay.{bank_outcomes_of}
+use Rattle.pcr_replay.specs.BankReplays.{bank_outcomes_of}
 use Rattle.uefi_audits.specs.verify.Verdict.{outcomes_in}
 use Rattle.uefi_audits.proofs.verify.comparison.pcrs_of.Given as goal
 

@@ -2,7 +2,7 @@ use Rattle.std.proofs.Common.{◌≡◌, List, map, take}
 use Rattle.pcr_replay.specs.declared.bank.Bank.{Bank}
 use Rattle.pcr_replay.specs.declared.start.Start.{Start}
 use Rattle.uefi_tcg.specs.LogViews.{entry_of}
-use Rattle.uefi_audits.specs.Replay.{bank_outcomes_of, replayed}
+use Rattle.pcr_replay.specs.BankReplays.{bank_outcomes_of, replayed}
 use Rattle.uefi_audits.proofs.verify.verdict.restart_banks.Given as goal
 
 -- What was found is what the banks so far hold.

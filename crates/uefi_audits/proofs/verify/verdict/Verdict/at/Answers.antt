@@ -1,6 +1,6 @@
 use Rattle.std.proofs.Common.{◌∙◌, ap, map}
 use Rattle.uefi_tcg.specs.LogViews.{entry_of}
-use Rattle.uefi_audits.specs.Replay.{bank_outcomes_of, replayed}
+use Rattle.pcr_replay.specs.BankReplays.{bank_outcomes_of, replayed}
 use Rattle.uefi_audits.specs.verify.Verdict.{comparison_of}
 use Rattle.uefi_audits.proofs.verify.Verdicts.{compared_is}
 use Rattle.uefi_audits.proofs.verify.verdict.Verdict.at.Goals as goal

@@ -7,7 +7,7 @@ use Rattle.pcr_replay.specs.Views.{outcome_of}
 use Rattle.pcr_replay.specs.declared.fault.Undetermined.{Undetermined}
 use Rattle.pcr_replay.specs.declared.value.PcrValue.{PcrValue}
 use Rattle.pcr_replay.proofs.Viewed.{any_view}
-use Rattle.uefi_audits.proofs.replay.BankPcrs.has_undetermined.Goals as goal
+use Rattle.pcr_replay.proofs.bank_pcrs.BankPcrs.has_undetermined.Goals as goal
 
 pub returns : goal.returns
 returns c =
