@@ -9,3 +9,4 @@ pub mod Rows
 pub mod Reading
 pub mod OnlyReading
 pub mod Viewed
+pub mod Quoting

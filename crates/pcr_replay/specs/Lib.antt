@@ -5,6 +5,9 @@ pub mod Measured
 pub mod Laws
 pub mod Rows
 pub mod Views
+pub mod Hashers
 pub mod BankReplays
+pub mod Quotes
 pub mod WasRead
 pub mod ReadLogs
+pub mod private

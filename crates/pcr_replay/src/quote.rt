@@ -1,0 +1,111 @@
+ghost use Rattle.std.specs.Prelude.{◌≡◌, map, option_map, Err, MatchResult};
+ghost use Rattle.std.specs.Result.{result_map_both};
+ghost use Rattle.pcr_replay.specs.BankReplays.{bank_outcomes_of};
+ghost use Rattle.pcr_replay.specs.Quotes.{outcomes_of_algorithm, pcrs_in, quote_digest, quoted_value, quoted_values};
+ghost use Rattle.pcr_replay.specs.Views.{outcomes_of, value_of};
+ghost use Rattle.pcr_replay.specs.private.Quoting.{TakesValues};
+ghost use Rattle.tpm_quote.specs.Views.{quote_of, selection_of};
+
+use crate::bank::Bank;
+use crate::bank_pcrs::BankPcrs;
+use crate::fault::Undetermined;
+use crate::hasher::Hasher;
+use crate::pcrs::Pcrs;
+use crate::value::PcrValue;
+use tpm_quote::{PcrSelection, Quote};
+use uefi_tcg::{AlgorithmId, PcrIndex};
+
+/// Why a log leads to no digest that a quote could have.
+#[derive(Clone, Copy, PartialEq, Eq, Debug)]
+pub enum NoQuoteDigest {
+    /// A PCR is selected of this algorithm's bank, which isn't among the banks.
+    NoBank(AlgorithmId),
+    /// A PCR is selected that is undetermined.
+    Undetermined(AlgorithmId, PcrIndex, Undetermined),
+}
+
+/// Returns the digest that a TPM whose PCRs hold this puts into a quote (TPM 2.0 Library, Part 2,
+/// `TPMS_QUOTE_INFO`): the hash of the values of the selected PCRs, in the quote's order, and those
+/// of a selection ascending.
+///
+/// # Errors
+///
+/// The first selected PCR that has no value decides.
+///
+/// - [`NoBank`](NoQuoteDigest::NoBank) if its bank isn't among these.
+/// - [`Undetermined`](NoQuoteDigest::Undetermined) if it is undetermined.
+pub fn quote_digest(
+    hash: Bank,
+    quote: &Quote<'_>,
+    banks: &[BankPcrs],
+) -> Result<PcrValue, NoQuoteDigest>
+    ensures { result_map_both value_of (λ why. why) result
+        ≡ quote_digest hash (map bank_outcomes_of banks.now) (quote_of quote.now) }
+{
+    let mut hasher = Hasher::new(hash);
+    for selection in quote.pcr_selections() {
+        take_selection(&mut hasher, &selection, banks)?;
+    }
+    Ok(hasher.finalize())
+}
+
+/// Hashes the values of the selected PCRs of a bank, ascending.
+///
+/// # Errors
+///
+/// As [`quote_digest`].
+fn take_selection(
+    hasher: &mut Hasher,
+    selection: &PcrSelection<'_>,
+    banks: &[BankPcrs],
+) -> Result<(), NoQuoteDigest>
+    ensures { MatchResult result
+        (λ done. TakesValues (map bank_outcomes_of banks.now)
+        (pcrs_in (selection_of selection.now)) hasher.old hasher.new)
+        (λ why. quoted_values (map bank_outcomes_of banks.now)
+        (pcrs_in (selection_of selection.now)) ≡ Err why) }
+{
+    let algorithm = selection.algorithm();
+    for pcr in selection.pcrs() {
+        let value = quoted_value(banks, algorithm, pcr)?;
+        hasher.update(value.as_bytes());
+    }
+    Ok(())
+}
+
+/// Returns the value of a PCR of an algorithm's bank.
+///
+/// # Errors
+///
+/// As [`quote_digest`].
+#[tactic(auto, unfolding(crate::specs::Quotes::value_of_outcome))]
+fn quoted_value(
+    banks: &[BankPcrs],
+    algorithm: AlgorithmId,
+    pcr: PcrIndex,
+) -> Result<PcrValue, NoQuoteDigest>
+    ensures { result_map_both value_of (λ why. why) result
+        ≡ quoted_value (map bank_outcomes_of banks.now) (algorithm.0, pcr.0) }
+{
+    let Some(pcrs) = pcrs_of(banks, algorithm) else {
+        return Err(NoQuoteDigest::NoBank(algorithm));
+    };
+    match pcrs.outcome(pcr) {
+        Some(Ok(value)) => Ok(*value),
+        Some(Err(at)) => Err(NoQuoteDigest::Undetermined(algorithm, pcr, *at)),
+        None => Err(NoQuoteDigest::NoBank(algorithm)),
+    }
+}
+
+/// Returns the PCRs of an algorithm's bank; `None` if it isn't among these.
+fn pcrs_of(banks: &[BankPcrs], algorithm: AlgorithmId) -> Option<&Pcrs>
+    ensures { option_map (λ pcrs. outcomes_of pcrs.now) result
+        ≡ outcomes_of_algorithm algorithm.0 (map bank_outcomes_of banks.now) }
+{
+    for found in banks {
+        if found.bank.algorithm() == algorithm {
+            return Some(&found.pcrs);
+        }
+    }
+    None
+}
