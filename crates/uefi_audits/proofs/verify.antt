@@ -6,3 +6,4 @@ pub mod Cuts
 pub mod Selections
 pub mod Agreement
 pub mod Verdicts
+pub mod QuoteVerdicts

@@ -4,3 +4,4 @@ pub mod Selection
 pub mod Missing
 pub mod Uncompared
 pub mod Verdict
+pub mod Quote

@@ -1,0 +1,76 @@
+-- Whether a log leads to the digest in a quote.
+use Rattle.std.specs.Prelude.{ℕ, ◌≡◌, ◌==◌, Bool, false, List, map, Option, Result, Ok, Err, if◌then◌else◌}
+use Rattle.std.specs.List.{Any, filter, list_any}
+use Rattle.std.specs.Result.{result_map_both}
+use Rattle.std.specs.Str.{bytes_eq}
+use Rattle.tpm_quote.specs.PcrSelection.{PcrSelection}
+use Rattle.tpm_quote.specs.Quote.{Quote}
+use Rattle.uefi_tcg.specs.Entries.{Entry}
+use Rattle.pcr_replay.specs.BankReplays.{replayed}
+use Rattle.pcr_replay.specs.Banks.{algorithm_of}
+use Rattle.pcr_replay.specs.Quotes.{quote_digest}
+use Rattle.pcr_replay.specs.Views.{value_of}
+use Rattle.pcr_replay.specs.declared.bank.Bank.{Bank}
+use Rattle.pcr_replay.specs.declared.quote.NoQuoteDigest.{NoQuoteDigest}
+use Rattle.pcr_replay.specs.declared.start.Start.{Start}
+use Rattle.uefi_audits.specs.Replay.{all_banks}
+use Rattle.uefi_audits.specs.Start.{assumed_start, is_stated, known_start}
+use Rattle.uefi_audits.specs.declared.start.KnownStart.{KnownStart}
+use Rattle.uefi_audits.specs.declared.verify.quote.QuoteVerdict.{QuoteVerdict}
+use Rattle.uefi_audits.specs.verify.Verdict.{starts}
+
+-- The banks that have a selection in a quote, in the order of their algorithms' numbers.
+abbrev pub is_quoted : List PcrSelection → Bank → Bool
+is_quoted selections bank = list_any (λ selection. selection.algorithm == algorithm_of bank) selections
+
+abbrev pub quoted_banks : Quote → List Bank
+quoted_banks quote = filter (is_quoted quote.pcr_selections) all_banks
+
+-- The digest of the PCRs that the events of a log lead to, in a TPM that started so; and whether it is that of the quote.
+abbrev pub digest_at : Bank → List Entry → Quote → Start → Result (List ℕ) NoQuoteDigest
+digest_at hash entries quote start = quote_digest hash (map (replayed start entries) (quoted_banks quote)) quote
+
+abbrev pub is_digest : List ℕ → Result (List ℕ) NoQuoteDigest → Bool
+is_digest digest (Ok found) = bytes_eq found digest
+is_digest digest (Err why) = false
+
+-- What a quote is compared with: how PCR 0 starts, the digest, and whether it is that of the quote.
+pub record Judgement : Type 0 where
+  pub start : KnownStart
+  pub digest : Result (List ℕ) NoQuoteDigest
+  pub agrees : Bool
+
+abbrev pub judged_at : Bank → List Entry → Quote → KnownStart → Judgement
+judged_at hash entries quote start = record {
+  start = start;
+  digest = digest_at hash entries quote start.start;
+  agrees = is_digest quote.pcr_digest (digest_at hash entries quote start.start);
+}
+
+-- Of two, the one that agrees, and the first if neither or both do.
+abbrev pub agreeing : Judgement → Judgement → Judgement
+agreeing one other = if one.agrees then one else if other.agrees then other else one
+
+-- The verdict on a quote, by the locality that the caller states, if any, and the events of a log. If none is stated, starts at
+-- 0, 3 and 4 are tried.
+abbrev pub tried : Bank → List Entry → Quote → Judgement
+tried hash entries quote =
+    agreeing (agreeing (judged_at hash entries quote (assumed_start 0)) (judged_at hash entries quote (assumed_start 3)))
+    (judged_at hash entries quote (assumed_start 4))
+
+unfoldable pub quote_verdict : Option ℕ → Bank → List Entry → Quote → Judgement
+quote_verdict locality hash entries quote =
+    if is_stated locality entries then judged_at hash entries quote (known_start locality entries) else tried hash entries quote
+
+-- What a value of the code stands for.
+abbrev pub judgement_of : QuoteVerdict → Judgement
+judgement_of verdict = record {
+  start = verdict.start;
+  digest = result_map_both value_of (λ why. why) verdict.digest;
+  agrees = verdict.agrees;
+}
+
+-- At one of the starts that are tried, the digest in the quote is that of the PCRs that the log leads to.
+abbrev pub QuoteAgrees : Option ℕ → Bank → List Entry → Quote → Type 0
+QuoteAgrees locality hash entries quote =
+    Any (λ start. digest_at hash entries quote start ≡ Ok quote.pcr_digest) (starts locality entries)
