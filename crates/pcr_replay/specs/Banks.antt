@@ -1,5 +1,5 @@
 -- The banks of PCRs: those whose hash functions are proved here (TCG Algorithm Registry, `TPM_ALG_ID`; FIPS 180-4; GB/T 32905-2016).
-use Rattle.std.specs.Prelude.{ℕ, List}
+use Rattle.std.specs.Prelude.{ℕ, ◌==◌, List, Option, None, Some, if◌then◌else◌}
 use Rattle.sha1.specs.Sha1.{sha1}
 use Rattle.sha2.specs.Sha256.{sha256}
 use Rattle.sha2.specs.Sha512.{sha384, sha512}
@@ -22,6 +22,12 @@ size_of Sha256 = 32
 size_of Sha384 = 48
 size_of Sha512 = 64
 size_of Sm3 = 32
+
+-- The first bank, by their algorithms' numbers, whose digests have this many bytes.
+unfoldable pub bank_of_size : ℕ → Option Bank
+bank_of_size size =
+    if size == 20 then Some Sha1 else if size == 32 then Some Sha256 else if size == 48 then Some Sha384
+    else if size == 64 then Some Sha512 else None
 
 -- The hash function.
 abbrev pub hash_of : Bank → List ℕ → List ℕ

@@ -1,5 +1,6 @@
 -- The digest that a TPM puts into a quote of its PCRs (TPM 2.0 Library, Part 2, TPMS_QUOTE_INFO): the hash of their values.
-use Rattle.std.specs.Prelude.{ℕ, ◌==◌, List, [], ◌∷◌, ◌++◌, flat_map, map, slice_get, Option, None, Some, Result, Ok, Err, if◌then◌else◌}
+use Rattle.std.specs.Prelude.{ℕ, ◌==◌, Bool, List, [], ◌∷◌, ◌++◌, flat_map, map, slice_get, Option, None, Some, Result, Ok, Err, if◌then◌else◌}
+use Rattle.std.specs.List.{list_any}
 use Rattle.std.specs.Option.{option_and_then}
 use Rattle.tpm_quote.specs.PcrSelection.{PcrSelection, selected_pcrs}
 use Rattle.tpm_quote.specs.Quote.{Quote}
@@ -17,6 +18,10 @@ pcrs_in selection = map (λ pcr. (selection.algorithm, pcr)) (selected_pcrs sele
 
 abbrev pub quoted_pcrs : List PcrSelection → List (ℕ × ℕ)
 quoted_pcrs selections = flat_map pcrs_in selections
+
+-- A bank has a selection in a quote.
+abbrev pub is_quoted : Quote → Bank → Bool
+is_quoted quote bank = list_any (λ selection. selection.algorithm == algorithm_of bank) quote.pcr_selections
 
 -- What the PCRs of an algorithm's bank hold, if the bank is among these.
 unfoldable pub outcomes_of_algorithm : ℕ → List BankOutcomes → Option (List Outcome)

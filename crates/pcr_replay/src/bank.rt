@@ -1,5 +1,5 @@
 ghost use Rattle.std.specs.Prelude.{◌≡◌, ◌≤◌, ◌<◌, ℕ, IfSome, IfNone};
-ghost use Rattle.pcr_replay.specs.Banks.{algorithm_of, size_of};
+ghost use Rattle.pcr_replay.specs.Banks.{algorithm_of, bank_of_size, size_of};
 
 use uefi_tcg::AlgorithmId;
 
@@ -40,6 +40,21 @@ impl Bank {
             AlgorithmId::SHA384 => Some(Bank::Sha384),
             AlgorithmId::SHA512 => Some(Bank::Sha512),
             AlgorithmId::SM3_256 => Some(Bank::Sm3),
+            _ => None,
+        }
+    }
+
+    /// Returns the bank whose digests have this many bytes: of 32 that of SHA-256, not of SM3. `None`
+    /// if no bank has such digests.
+    #[tactic(auto, unfolding(crate::specs::Banks::bank_of_size))]
+    pub fn of_size(size: usize) -> Option<Bank>
+        ensures { result ≡ bank_of_size size }
+    {
+        match size {
+            20 => Some(Bank::Sha1),
+            32 => Some(Bank::Sha256),
+            48 => Some(Bank::Sha384),
+            64 => Some(Bank::Sha512),
             _ => None,
         }
     }

@@ -16,7 +16,7 @@ pub use self::digest::{has_digest, is_hash_of, is_hash_of_data};
 pub use self::fault::{Fault, Undetermined};
 pub use self::ignored::{Ignored, why_ignored};
 pub use self::pcrs::{PCR_COUNT, Pcrs};
-pub use self::quote::{NoQuoteDigest, quote_digest};
+pub use self::quote::{NoQuoteDigest, is_quoted, quote_digest};
 pub use self::read_log::{ReadLog, ReadLogError};
 pub use self::replaying::{has_measured, is_active, replay, replay_from};
 pub use self::start::{Start, locality_in, startup_locality, stated_locality};

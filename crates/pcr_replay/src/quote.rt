@@ -1,7 +1,7 @@
 ghost use Rattle.std.specs.Prelude.{◌≡◌, map, option_map, Err, MatchResult};
 ghost use Rattle.std.specs.Result.{result_map_both};
 ghost use Rattle.pcr_replay.specs.BankReplays.{bank_outcomes_of};
-ghost use Rattle.pcr_replay.specs.Quotes.{outcomes_of_algorithm, pcrs_in, quote_digest, quoted_value, quoted_values};
+ghost use Rattle.pcr_replay.specs.Quotes.{is_quoted, outcomes_of_algorithm, pcrs_in, quote_digest, quoted_value, quoted_values};
 ghost use Rattle.pcr_replay.specs.Views.{outcomes_of, value_of};
 ghost use Rattle.pcr_replay.specs.private.Quoting.{TakesValues};
 ghost use Rattle.tpm_quote.specs.Views.{quote_of, selection_of};
@@ -26,7 +26,8 @@ pub enum NoQuoteDigest {
 
 /// Returns the digest that a TPM whose PCRs hold this puts into a quote (TPM 2.0 Library, Part 2,
 /// `TPMS_QUOTE_INFO`): the hash of the values of the selected PCRs, in the quote's order, and those
-/// of a selection ascending.
+/// of a selection ascending. Of a quote that selects no PCR it is the hash of nothing, whatever the
+/// PCRs hold.
 ///
 /// # Errors
 ///
@@ -47,6 +48,15 @@ pub fn quote_digest(
         take_selection(&mut hasher, &selection, banks)?;
     }
     Ok(hasher.finalize())
+}
+
+/// Returns whether a bank has a selection in a quote.
+pub fn is_quoted(quote: &Quote<'_>, bank: Bank) -> bool
+    ensures { result ≡ is_quoted (quote_of quote.now) bank }
+{
+    quote
+        .pcr_selections()
+        .any(|selection| selection.algorithm() == bank.algorithm())
 }
 
 /// Hashes the values of the selected PCRs of a bank, ascending.

@@ -1,14 +1,13 @@
 -- Whether a log leads to the digest in a quote.
-use Rattle.std.specs.Prelude.{ℕ, ◌≡◌, ◌==◌, Bool, false, List, map, Option, Result, Ok, Err, if◌then◌else◌}
-use Rattle.std.specs.List.{Any, filter, list_any}
+use Rattle.std.specs.Prelude.{ℕ, ◌≡◌, ◌&&◌, Bool, false, List, map, Option, Result, Ok, Err, if◌then◌else◌}
+use Rattle.std.specs.List.{Any, filter}
 use Rattle.std.specs.Result.{result_map_both}
 use Rattle.std.specs.Str.{bytes_eq}
-use Rattle.tpm_quote.specs.PcrSelection.{PcrSelection}
 use Rattle.tpm_quote.specs.Quote.{Quote}
 use Rattle.uefi_tcg.specs.Entries.{Entry}
 use Rattle.pcr_replay.specs.BankReplays.{replayed}
-use Rattle.pcr_replay.specs.Banks.{algorithm_of}
-use Rattle.pcr_replay.specs.Quotes.{quote_digest}
+use Rattle.pcr_replay.specs.Quotes.{is_quoted, quote_digest}
+use Rattle.pcr_replay.specs.Replay.{is_active}
 use Rattle.pcr_replay.specs.Views.{value_of}
 use Rattle.pcr_replay.specs.declared.bank.Bank.{Bank}
 use Rattle.pcr_replay.specs.declared.quote.NoQuoteDigest.{NoQuoteDigest}
@@ -19,16 +18,13 @@ use Rattle.uefi_audits.specs.declared.start.KnownStart.{KnownStart}
 use Rattle.uefi_audits.specs.declared.verify.quote.QuoteVerdict.{QuoteVerdict}
 use Rattle.uefi_audits.specs.verify.Verdict.{starts}
 
--- The banks that have a selection in a quote, in the order of their algorithms' numbers.
-abbrev pub is_quoted : List PcrSelection → Bank → Bool
-is_quoted selections bank = list_any (λ selection. selection.algorithm == algorithm_of bank) selections
-
-abbrev pub quoted_banks : Quote → List Bank
-quoted_banks quote = filter (is_quoted quote.pcr_selections) all_banks
+-- The banks that have a selection in a quote and are active in a log, in the order of their algorithms' numbers.
+abbrev pub quoted_banks : List Entry → Quote → List Bank
+quoted_banks entries quote = filter (λ bank. is_quoted quote bank && is_active bank entries) all_banks
 
 -- The digest of the PCRs that the events of a log lead to, in a TPM that started so; and whether it is that of the quote.
 abbrev pub digest_at : Bank → List Entry → Quote → Start → Result (List ℕ) NoQuoteDigest
-digest_at hash entries quote start = quote_digest hash (map (replayed start entries) (quoted_banks quote)) quote
+digest_at hash entries quote start = quote_digest hash (map (replayed start entries) (quoted_banks entries quote)) quote
 
 abbrev pub is_digest : List ℕ → Result (List ℕ) NoQuoteDigest → Bool
 is_digest digest (Ok found) = bytes_eq found digest

@@ -3,11 +3,12 @@ ghost use Rattle.std.specs.Result.{result_map_both};
 ghost use Rattle.pcr_replay.specs.Views.{value_of};
 ghost use Rattle.tpm_quote.specs.Views.{quote_of};
 ghost use Rattle.uefi_tcg.specs.LogViews.{entry_of};
-ghost use Rattle.uefi_audits.specs.verify.Quote.{QuoteAgrees, agreeing, is_digest, is_quoted, judged_at, judgement_of, quote_verdict, quoted_banks};
+ghost use Rattle.uefi_audits.specs.verify.Quote.{QuoteAgrees, agreeing, is_digest, judged_at, judgement_of, quote_verdict, quoted_banks};
 
 use crate::replay::replay_banks;
 use crate::start::KnownStart;
-use pcr_replay::{Bank, NoQuoteDigest, PcrValue, quote_digest};
+use pcr_replay::entries::is_active;
+use pcr_replay::{Bank, NoQuoteDigest, PcrValue, is_quoted, quote_digest};
 use std::alloc::{AllocError, Allocator};
 use tpm_quote::Quote;
 use uefi_tcg::LogEntry;
@@ -65,7 +66,7 @@ impl QuoteVerdict {
         ensures { IfOk result (λ verdict. judgement_of verdict
             ≡ judged_at hash (map entry_of entries.now) (quote_of quote.now) start) }
     {
-        let banks = quoted_banks(alloc, quote)?;
+        let banks = quoted_banks(alloc, entries, quote)?;
         let replays = replay_banks(alloc, entries, banks.as_slice(), &start.start)?;
         let digest = quote_digest(hash, quote, replays.as_slice());
         Ok(QuoteVerdict {
@@ -86,24 +87,21 @@ impl QuoteVerdict {
     }
 }
 
-/// Returns the banks that have a selection in a quote, in the order of [`Bank::ALL`].
-fn quoted_banks<A: Allocator>(alloc: A, quote: &Quote<'_>) -> Result<Vec<Bank, A>, AllocError>
-    ensures { IfOk result (λ banks. banks.items ≡ quoted_banks (quote_of quote.now)) }
+/// Returns the banks that have a selection in a quote and are active in these events, in the order of
+/// [`Bank::ALL`].
+fn quoted_banks<A: Allocator>(
+    alloc: A,
+    entries: &[LogEntry<'_>],
+    quote: &Quote<'_>,
+) -> Result<Vec<Bank, A>, AllocError>
+    ensures { IfOk result (λ banks. banks.items
+        ≡ quoted_banks (map entry_of entries.now) (quote_of quote.now)) }
 {
     Bank::ALL
         .iter()
         .copied()
-        .filter(|bank| is_quoted(quote, *bank))
+        .filter(|bank| is_quoted(quote, *bank) && is_active(entries, *bank))
         .collect(alloc)
-}
-
-/// Returns whether a bank has a selection in a quote.
-fn is_quoted(quote: &Quote<'_>, bank: Bank) -> bool
-    ensures { result ≡ is_quoted (quote_of quote.now).pcr_selections bank }
-{
-    quote
-        .pcr_selections()
-        .any(|selection| selection.algorithm() == bank.algorithm())
 }
 
 /// Returns whether a digest is this one.

@@ -5,7 +5,7 @@ use Rattle.std.proofs.lemmas.Iterator.Search.{any_from_yields_List}
 use Rattle.pcr_replay.specs.Banks.{algorithm_of}
 use Rattle.tpm_quote.specs.PcrSelection.{PcrSelection}
 use Rattle.tpm_quote.specs.Views.{quote_of, selection_of, selections_left}
-use Rattle.uefi_audits.proofs.verify.quote.is_quoted.Goals as goal
+use Rattle.pcr_replay.proofs.quote.is_quoted.Goals as goal
 
 pub returns : goal.returns
 returns c =
