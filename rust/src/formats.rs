@@ -3,6 +3,12 @@
 // Some fields and imports are those of the proofs, and a form is the one that is proved.
 #![allow(dead_code, unused_imports, clippy::complexity, clippy::style)]
 
+pub(crate) mod pcr_replay;
+pub(crate) mod sha1;
+// The loop that copies is the toolchain's.
+#[allow(clippy::manual_memcpy)]
+pub(crate) mod sha2;
+pub(crate) mod sm3;
 pub(crate) mod tpm_quote;
 pub(crate) mod uefi_base;
 pub(crate) mod uefi_hii;

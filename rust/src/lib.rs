@@ -9,7 +9,7 @@
 //! | [`proto::pci`] | lists of PCI resources |
 //! | [`mem::memory_map`] | memory maps |
 //! | [`runtime`] | times |
-//! | [`pcr`] | quotes of PCRs, which a TPM signs |
+//! | [`pcr`] | quotes of PCRs, which a TPM signs, and the PCRs that an event log leads to |
 //!
 //! Modules and names are those of the crate `uefi` 0.41.0. Nothing calls firmware, nothing trusts
 //! the bytes, and there is no `unsafe` code. Views borrow the bytes that they were read from. What
@@ -194,24 +194,45 @@ pub mod mem {
 }
 
 pub mod pcr {
-    //! Quotes of PCRs, which a TPM signs (TPM 2.0 Library, Part 2, `TPMS_ATTEST`). Begin with
-    //! [`Quote::try_from`].
+    //! The PCRs of a TPM that an event log leads to, and quotes of PCRs, which a TPM signs (TPM 2.0
+    //! Library, Part 2, `TPMS_ATTEST`). Begin with [`replay`] and with [`Quote::try_from`].
     //!
     //! # Examples
     //!
-    //! Whether a message is a quote with this nonce, which shows that it is fresh. The message is
-    //! what the TPM signed: its signature has to be verified first.
+    //! Whether a quote is over the PCRs that a log leads to, and has this nonce, which shows that it
+    //! is fresh. The message is what the TPM signed: its signature has to be verified first.
     //!
     //! ```
-    //! use uefi_formats::pcr::{Quote, QuoteError};
+    //! use uefi_formats::pcr::{Bank, BankPcrs, Quote, is_active, quote_digest, replay};
+    //! use uefi_formats::proto::tcg::{LastEntry, Log};
     //!
-    //! fn is_fresh(message: &[u8], nonce: &[u8]) -> Result<bool, QuoteError> {
-    //!     Ok(Quote::try_from(message)?.extra_data() == nonce)
+    //! fn agrees(message: &[u8], nonce: &[u8], log: &[u8]) -> Result<bool, Box<dyn std::error::Error>> {
+    //!     let quote = Quote::try_from(message)?;
+    //!     let log = Log::read(log, LastEntry::Unknown)?;
+    //!     let banks: Vec<BankPcrs> = Bank::ALL
+    //!         .into_iter()
+    //!         .filter(|bank| is_active(&log, *bank))
+    //!         .map(|bank| BankPcrs { bank, pcrs: replay(&log, bank) })
+    //!         .collect();
+    //!     let hash = Bank::of_size(quote.pcr_digest().len()).ok_or("no bank has this size")?;
+    //!     // A PCR agrees with no quote if its bank isn't in the log, or if it is undetermined.
+    //!     let digest = quote_digest(hash, &quote, &banks);
+    //!     Ok(quote.extra_data() == nonce && digest.is_ok_and(|it| it.as_bytes() == quote.pcr_digest()))
     //! }
     //!
-    //! assert_eq!(is_fresh(b"\xffTCG", b"nonce"), Err(QuoteError::TooShort));
+    //! assert!(agrees(b"\xffTCG", b"nonce", &[]).is_err());
     //! ```
+    //!
+    //! A signer whose hash is SM3 has digests of 32 bytes too: there `hash` is [`Bank::Sm3`].
 
+    #[cfg(feature = "alloc")]
+    pub use crate::formats::pcr_replay::ReadLog;
+    pub use crate::formats::pcr_replay::{
+        Bank, BankPcrs, Fault, Ignored, NoQuoteDigest, PCR_COUNT, PcrValue, Pcrs, ReadLogError,
+        Start, Undetermined, entries, has_digest, has_measured, is_active, is_hash_of,
+        is_hash_of_data, is_quoted, locality_in, quote_digest, replay, replay_from,
+        startup_locality, stated_locality, why_ignored,
+    };
     pub use crate::formats::tpm_quote::{
         ClockInfo, PcrSelection, PcrSelectionIter, Quote, QuoteError, SelectedPcrs,
     };

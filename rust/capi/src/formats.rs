@@ -5,8 +5,4 @@
 // Some fields and imports are those of the proofs, and a form is the one that is proved.
 #![allow(dead_code, unused_imports, unused_labels, clippy::complexity, clippy::style)]
 
-pub(crate) mod pcr_replay;
-pub(crate) mod sha1;
-pub(crate) mod sha2;
-pub(crate) mod sm3;
 pub(crate) mod uefi_c;

@@ -1,5 +1,9 @@
 //! The libraries by the names of their crates, which the functions use.
 
+pub(crate) mod pcr_replay {
+    pub(crate) use uefi_formats::pcr::*;
+}
+
 pub(crate) mod uefi_base {
     pub(crate) use uefi_formats::buffer;
     pub(crate) use uefi_formats::data_types::UnalignedSlice;

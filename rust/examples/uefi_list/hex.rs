@@ -35,6 +35,11 @@ pub fn encode_to_slice(bytes: &[u8], out: &mut [u8]) -> Result<(), FromHexError>
     Ok(())
 }
 
+/// Returns two digits for each byte.
+pub fn encode(bytes: &[u8]) -> Result<String, uefi_formats::AllocError> {
+    Ok(bytes.iter().map(|byte| format!("{byte:02x}")).collect())
+}
+
 /// Returns the bytes that digits spell.
 pub fn decode(digits: &[u8]) -> Result<Vec<u8>, FromHexError> {
     if digits.len() % 2 != 0 {

@@ -15,8 +15,10 @@ macro_rules! fallible_format {
     ($($form:tt)*) => { Ok::<String, uefi_formats::AllocError>(format!($($form)*)) };
 }
 
+mod audit_tests;
 mod base_tests;
 mod equality;
+mod formats;
 #[path = "../../examples/uefi_list/hex.rs"]
 mod hex;
 mod hii_tests;
@@ -30,6 +32,7 @@ mod path_tests;
 mod quote_tests;
 mod records_tests;
 mod sizes;
+mod sm3_tests;
 mod support;
 mod tcg_tests;
 mod test_support;
@@ -37,6 +40,12 @@ mod test_support;
 mod uefi_listing;
 
 // The libraries, by the names that the repository's tests have for them.
+mod pcr_replay {
+    pub use uefi_formats::pcr::*;
+}
+mod sm3 {
+    pub use crate::formats::sm3::*;
+}
 mod tpm_quote {
     pub use uefi_formats::pcr::*;
 }

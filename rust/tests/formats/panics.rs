@@ -3,6 +3,7 @@
 
 use std::panic::{AssertUnwindSafe, catch_unwind};
 use uefi_formats::mem::memory_map::*;
+use uefi_formats::pcr::PcrValue;
 use uefi_formats::proto::hii::config_str::fill_from_hex;
 use uefi_formats::{UnalignedSlice, buffer, little_endian};
 
@@ -34,6 +35,12 @@ fn maps() {
     assert_eq!(MemoryMapMeta::of(96, 48).entry_count(), 2);
     assert!(panics(|| MemoryMapMeta::of(96, 0).entry_count()));
     assert!(panics(|| MemoryMapMeta::of(96, 36).entry_count()));
+}
+
+#[test]
+fn values_of_pcrs() {
+    assert_eq!(PcrValue::new(&[7; 64]).as_bytes(), [7; 64]);
+    assert!(panics(|| PcrValue::new(&[7; 65])));
 }
 
 #[test]

@@ -5,13 +5,6 @@ from tokens import Rule, lex, rewrite
 
 # What C hands over for a slice, and a slice of what it hands over.
 PARAMETERS = {"[u8]": ("Bytes", "as_slice"), "mut [u8]": ("Buffer", "into_slice")}
-
-
-# What the hash functions and PCR replay have beside.
-BELOW = [Rule(before, after) for before, after in [
-    ('use std::convert::AsSlice;', ''), ('AsSlice<u8>', 'AsRef<[u8]>'), ('data.as_slice()', 'data.as_ref()'),
-    ('use std::alloc::AllocError;', ''), ('#[cfg(test)] mod tests;', ''),
-]]
 EXPORTS = [Rule('#[unsafe(no_mangle)]', ''), Rule('pub extern "C" fn', 'pub fn')]
 
 
@@ -20,19 +13,6 @@ def exported(source):
     names = {source.item_name(keyword + 2) for _, keyword, _ in source.items() if source.at(keyword) == 'extern'}
     rewrite(source, EXPORTS)
     return names
-
-
-def below(source):
-    """Writes what is below the functions for C: `Clone`, which may run out of memory, `Debug`, which is
-    derived, and what a trait has that nothing calls are dropped."""
-    for start, keyword, end in reversed(list(source.items())):
-        if source.at(keyword) == 'impl' and source.code(keyword + 1, source.body(keyword)).startswith(('Clone for', 'fmt::Debug for')):
-            source.cut(start, end)
-        elif source.at(keyword) == 'trait':
-            for first, inner, after in reversed(list(source.items(source.body(keyword) + 1, end - 1))):
-                if source.at(inner) == 'final':
-                    source.cut(first, after)
-    rewrite(source, BELOW)
 
 
 def to_c(source, exports, structs):

@@ -41,8 +41,15 @@ def clause(source, i):
         opening += 1
     end = source.after(opening)
     if source.at(end) == '{':
-        # The body stands in the line of its function's head, and below its bounds.
-        source.tokens[end].space = '\n' if source.at(i - 1) == ',' else ' '
+        # The body is in the line of its function's head, or below its bounds.
+        source.tokens[end].space = bounds(source, i) if source.at(i - 1) == ',' else ' '
     elif source.at(end) == ';':
         source.tokens[end].space = ''
     del source.tokens[i:end]
+
+
+def bounds(source, i):
+    """The blanks before the last `where` that is before an index."""
+    while not source.is_name(i, 'where'):
+        i -= 1
+    return source.tokens[i].space

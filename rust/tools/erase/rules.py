@@ -49,7 +49,7 @@ TESTS = rules([(before.replace("ALLOC", alloc), after) for alloc in ("alloc", "r
 ])
 # Elements that go, of lists of parameters, arguments and fields: allocators, their types, writers' types, handles.
 ALLOCATOR = re.compile(
-    r'&?(alloc|heap)|&?rt\.alloc\(\)|self\.alloc|(alloc|heap): ?&?(A|Global|Refusing<Global>)|&?Refusing<Global>'
+    r'&?(alloc|heap)|&?rt\.alloc\(\)|self\.alloc|(alloc|heap): ?&?(A|Global|Refusing(<Global>)?)|&?Refusing<Global>'
     r'|A(: ?Allocator)?( ?\+ ?(Copy|Clone))?( = Global)?|Allocator|Global|_?rt: ?HostRuntime|W: ?fmt::Write')
 # The imports of which nothing is left then.
 EMPTY = rules([("use std::alloc::{};", ""), ("use std::alloc::Allocator;", ""), ("use std::alloc::Global;", ""),

@@ -19,8 +19,19 @@ def to_rust(source, modules, root, tests):
             token.text = root if token.text == 'crate' else modules.get(token.text, token.text)
             if token.text == 'std':
                 token.text = std(source, i, root)
+    labels(source)
     attributes(source, tests)
     check(source)
+
+
+def labels(source):
+    """Drops the names of loops, which proofs call them by, where no `break` or `continue` does."""
+    called = {source.at(i + 1) for i in range(len(source.tokens)) if source.is_name(i, 'break', 'continue')}
+    for i in range(len(source.tokens) - 1, -1, -1):
+        named = source.tokens[i].kind == 'lifetime' and source.at(i + 1) == ':' and source.at(i + 2) in ('for', 'loop', 'while')
+        if named and source.at(i) not in called:
+            source.tokens[i + 2].space = source.tokens[i].space
+            del source.tokens[i:i + 2]
 
 
 def drop_elements(source, opening, close):

@@ -3,7 +3,7 @@
 use core::mem::MaybeUninit;
 use crate::bytes::Bytes;
 
-use crate::formats::pcr_replay::{
+use crate::libraries::pcr_replay::{
     Bank, Fault, PCR_COUNT, PcrValue, Pcrs, Start, Undetermined, is_active, replay_from,
     startup_locality,
 };

@@ -2,7 +2,7 @@
 
 use crate::formats::pcr_replay::pcrs::PCR_COUNT;
 use crate::formats::pcr_replay::start::locality_in;
-use crate::libraries::uefi_tcg::{EventType, LogEvent};
+use crate::formats::uefi_tcg::{EventType, LogEvent};
 
 /// Why an event has no effect on any PCR, and should have.
 ///

@@ -91,7 +91,7 @@ fn word(block: &[u8; BLOCK_LENGTH], words: &[u32; WORD_COUNT], j: usize) -> u32 
 #[inline]
 fn expand(block: &[u8; BLOCK_LENGTH]) -> [u32; WORD_COUNT] {
     let mut words = [0; WORD_COUNT];
-    'words: for j in 0..WORD_COUNT {
+    for j in 0..WORD_COUNT {
         words[j] = word(block, &words, j);
     }
     words
@@ -132,7 +132,7 @@ fn round(j: usize, registers: [u32; 8], w: u32, w_prime: u32) -> [u32; 8] {
 pub(crate) fn compress(value: [u32; 8], block: &[u8; BLOCK_LENGTH]) -> [u32; 8] {
     let words = expand(block);
     let mut registers = value;
-    'rounds: for j in 0..ROUND_COUNT {
+    for j in 0..ROUND_COUNT {
         registers = round(j, registers, words[j], words[j] ^ words[j + 4]);
     }
     [
