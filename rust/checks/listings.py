@@ -6,7 +6,7 @@ import sys
 from concurrent.futures import ThreadPoolExecutor
 
 TOP = os.path.dirname(os.path.dirname(os.path.dirname(os.path.realpath(__file__))))
-sys.path.insert(0, f"{TOP}/tests")
+sys.path[:0] = [f"{TOP}/tests", f"{TOP}/tools"]
 from golden import cases
 from telling import tells
 
