@@ -1,7 +1,9 @@
 pub mod Reading
 pub mod Banks
+pub mod Named
 pub mod Selection
 pub mod Missing
 pub mod Uncompared
 pub mod Verdict
 pub mod Quote
+pub mod Covered

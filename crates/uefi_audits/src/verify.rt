@@ -13,9 +13,11 @@
 
 pub use self::banks::held_banks;
 pub use self::comparison::{agrees, led_to};
+pub use self::covered::covered_pcrs;
 pub use self::held::{Held, HeldError, HeldPcr};
-pub use self::missing::{MissingPcr, missing_pcrs};
-pub use self::quote::QuoteVerdict;
+pub use self::missing::missing_pcrs;
+pub use self::named::{NamedPcr, named_pcrs};
+pub use self::quote::{QuoteVerdict, ReceivedQuote};
 pub use self::reading::{held_in_file, held_in_text};
 pub use self::selection::{PcrSelection, selected_pcrs};
 pub use self::uncompared::uncompared_pcrs;
@@ -23,10 +25,12 @@ pub use self::verdict::Verdict;
 
 mod banks;
 mod comparison;
+mod covered;
 mod held;
 pub mod laws;
 mod line;
 mod missing;
+mod named;
 mod quote;
 mod reading;
 mod selection;

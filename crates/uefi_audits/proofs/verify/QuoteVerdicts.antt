@@ -12,12 +12,12 @@ use Rattle.pcr_replay.specs.declared.start.Start.{Start}
 use Rattle.pcr_replay.specs.Start.{start_at}
 use Rattle.uefi_audits.specs.Start.{assumed_start, is_stated, known_start, start_by}
 use Rattle.uefi_audits.specs.declared.start.KnownStart.{KnownStart}
-use Rattle.uefi_audits.specs.verify.Quote.{Judgement, QuoteAgrees, agreeing, digest_at, is_digest, judged_at, quote_verdict, tried}
+use Rattle.uefi_audits.specs.verify.Quote.{QuoteJudgement, QuoteAgrees, agreeing, digest_at, is_digest, judged_at, quote_verdict, tried}
 use Rattle.uefi_audits.specs.verify.Verdict.{starts}
 
 -- The verdict at the start that is stated, and of three that are tried.
 pub stated_is : (locality : Option ℕ) (hash : Bank) (entries : List Entry) (quote : Quote) (start : KnownStart)
-    (judgement : Judgement) → start ≡ known_start locality entries → start.is_stated ≡ true
+    (judgement : QuoteJudgement) → start ≡ known_start locality entries → start.is_stated ≡ true
     → judgement ≡ judged_at hash entries quote start → judgement ≡ quote_verdict locality hash entries quote
 unfolding quote_verdict
 stated_is locality hash entries quote start judgement known stated is =
@@ -26,7 +26,7 @@ stated_is locality hash entries quote start judgement known stated is =
     ∙ sym (ap (λ it. cond it (judged_at hash entries quote (known_start locality entries)) (tried hash entries quote)) so)
 
 pub tried_is : (locality : Option ℕ) (hash : Bank) (entries : List Entry) (quote : Quote) (start : KnownStart)
-    (judgement : Judgement) → start ≡ known_start locality entries → start.is_stated ≡ false
+    (judgement : QuoteJudgement) → start ≡ known_start locality entries → start.is_stated ≡ false
     → judgement ≡ tried hash entries quote → judgement ≡ quote_verdict locality hash entries quote
 unfolding quote_verdict
 tried_is locality hash entries quote start judgement known unstated is =
@@ -37,7 +37,7 @@ tried_is locality hash entries quote start judgement known unstated is =
 abbrev pub agrees_so : Bank → List Entry → Quote → Start → Bool
 agrees_so hash entries quote start = is_digest quote.pcr_digest (digest_at hash entries quote start)
 
-agreeing_agrees : (one other : Judgement) → (agreeing one other).agrees ≡ (one.agrees || other.agrees)
+agreeing_agrees : (one other : QuoteJudgement) → (agreeing one other).agrees ≡ (one.agrees || other.agrees)
 agreeing_agrees one other = either one.agrees refl other.agrees refl
   where
     either : (a : Bool) → one.agrees ≡ a → (b : Bool) → other.agrees ≡ b
@@ -89,7 +89,7 @@ is_digest_so digest (Ok found) =
     inner one other so = cc
 is_digest_so digest (Err why) = ((λ so. cc), (λ so. cc))
 
-pub quote_agrees : (locality : Option ℕ) (hash : Bank) (entries : List Entry) (quote : Quote) (judgement : Judgement)
+pub quote_agrees : (locality : Option ℕ) (hash : Bank) (entries : List Entry) (quote : Quote) (judgement : QuoteJudgement)
     → judgement ≡ quote_verdict locality hash entries quote
     → (judgement.agrees ≡ true) ↔ QuoteAgrees locality hash entries quote
 quote_agrees locality hash entries quote judgement is =

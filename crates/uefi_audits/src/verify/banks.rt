@@ -22,7 +22,7 @@ pub fn held_banks<A: Allocator>(alloc: A, held: &[HeldPcr]) -> Result<Vec<Bank, 
 }
 
 /// Returns whether a PCR of the bank is held.
-pub(crate) fn is_held(held: &[HeldPcr], bank: Bank) -> bool
+fn is_held(held: &[HeldPcr], bank: Bank) -> bool
     ensures { result ≡ is_held held.now bank }
 {
     held.iter().any(|pcr| pcr.bank == bank)

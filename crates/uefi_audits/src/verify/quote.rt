@@ -3,7 +3,7 @@ ghost use Rattle.std.specs.Result.{result_map_both};
 ghost use Rattle.pcr_replay.specs.Views.{value_of};
 ghost use Rattle.tpm_quote.specs.Views.{quote_of};
 ghost use Rattle.uefi_tcg.specs.LogViews.{entry_of};
-ghost use Rattle.uefi_audits.specs.verify.Quote.{QuoteAgrees, agreeing, is_digest, judged_at, judgement_of, quote_verdict, quoted_banks};
+ghost use Rattle.uefi_audits.specs.verify.Quote.{QuoteAgrees, agreeing, has_its_nonce, is_digest, judged_at, quote_judgement_of, quote_verdict, quoted_banks, received_of};
 
 use crate::replay::replay_banks;
 use crate::start::KnownStart;
@@ -12,6 +12,30 @@ use pcr_replay::{Bank, NoQuoteDigest, PcrValue, is_quoted, quote_digest};
 use std::alloc::{AllocError, Allocator};
 use tpm_quote::Quote;
 use uefi_tcg::LogEntry;
+
+/// A quote, and what is known of it beside its bytes.
+#[derive(Clone, Copy)]
+pub struct ReceivedQuote<'a> {
+    /// The quote.
+    pub quote: Quote<'a>,
+    /// The hash function of its digest.
+    pub hash: Bank,
+    /// The nonce that it was asked for with; `None` if it may have any.
+    pub nonce: Option<&'a [u8]>,
+}
+
+impl<'a> ReceivedQuote<'a> {
+    /// Returns whether the quote has the nonce that it was asked for with: another one is that of
+    /// an older quote, or of one that somebody else asked for.
+    pub fn has_its_nonce(&self) -> bool
+        ensures { result ≡ has_its_nonce (received_of self.now) }
+    {
+        match self.nonce {
+            Some(nonce) => self.quote.extra_data() == nonce,
+            None => true,
+        }
+    }
+}
 
 /// Whether a log leads to the digest in a quote.
 #[derive(Clone, Copy)]
@@ -40,7 +64,7 @@ impl QuoteVerdict {
         hash: Bank,
         locality: Option<u8>,
     ) -> Result<QuoteVerdict, AllocError>
-        ensures verdict { IfOk result (λ verdict. judgement_of verdict
+        ensures verdict { IfOk result (λ verdict. quote_judgement_of verdict
             ≡ quote_verdict locality hash (map entry_of entries.now) (quote_of quote.now)) }
         ensures agreement { IfOk result (λ verdict. IsTrue verdict.agrees
             ↔ QuoteAgrees locality hash (map entry_of entries.now) (quote_of quote.now)) }
@@ -63,7 +87,7 @@ impl QuoteVerdict {
         hash: Bank,
         start: KnownStart,
     ) -> Result<QuoteVerdict, AllocError>
-        ensures { IfOk result (λ verdict. judgement_of verdict
+        ensures { IfOk result (λ verdict. quote_judgement_of verdict
             ≡ judged_at hash (map entry_of entries.now) (quote_of quote.now) start) }
     {
         let banks = quoted_banks(alloc, entries, quote)?;
@@ -78,7 +102,7 @@ impl QuoteVerdict {
 
     /// Returns the one of two verdicts that agrees, and the first if neither or both do.
     fn or(self, other: QuoteVerdict) -> QuoteVerdict
-        ensures { judgement_of result ≡ agreeing (judgement_of self) (judgement_of other) }
+        ensures { quote_judgement_of result ≡ agreeing (quote_judgement_of self) (quote_judgement_of other) }
     {
         if !self.agrees && other.agrees {
             return other;

@@ -2,7 +2,7 @@ ghost use Rattle.std.specs.Prelude.{◌≡◌, map, IfOk};
 ghost use Rattle.uefi_tcg.specs.LogViews.{entry_of, event_of};
 ghost use Rattle.uefi_audits.specs.verify.Uncompared.{extends, is_compared, is_extended, is_uncompared, uncompared_pcrs};
 
-use crate::verify::held::HeldPcr;
+use crate::verify::named::NamedPcr;
 use pcr_replay::PCR_COUNT;
 use std::alloc::{AllocError, Allocator};
 use uefi_tcg::{EventType, LogEntry, LogEvent};
@@ -16,21 +16,21 @@ use uefi_tcg::{EventType, LogEntry, LogEvent};
 pub fn uncompared_pcrs<A: Allocator>(
     alloc: A,
     entries: &[LogEntry<'_>],
-    held: &[HeldPcr],
+    compared: &[NamedPcr],
 ) -> Result<Vec<u32, A>, AllocError>
     ensures { IfOk result (λ found.
-        found.items ≡ uncompared_pcrs (map entry_of entries.now) held.now) }
+        found.items ≡ uncompared_pcrs (map entry_of entries.now) compared.now) }
 {
     (0..PCR_COUNT as u32)
-        .filter(|pcr| is_uncompared(entries, held, *pcr))
+        .filter(|pcr| is_uncompared(entries, compared, *pcr))
         .collect(alloc)
 }
 
 /// Returns whether an event extends a PCR, and no bank of it is compared.
-fn is_uncompared(entries: &[LogEntry<'_>], held: &[HeldPcr], pcr: u32) -> bool
-    ensures { result ≡ is_uncompared (map entry_of entries.now) held.now pcr }
+fn is_uncompared(entries: &[LogEntry<'_>], compared: &[NamedPcr], pcr: u32) -> bool
+    ensures { result ≡ is_uncompared (map entry_of entries.now) compared.now pcr }
 {
-    is_extended(entries, pcr) && !is_compared(held, pcr)
+    is_extended(entries, pcr) && !is_compared(compared, pcr)
 }
 
 /// Returns whether an event of a log extends a PCR.
@@ -48,8 +48,8 @@ fn extends(event: &LogEvent<'_>, pcr: u32) -> bool
 }
 
 /// Returns whether a bank of a PCR is compared.
-fn is_compared(held: &[HeldPcr], pcr: u32) -> bool
-    ensures { result ≡ is_compared held.now pcr }
+fn is_compared(compared: &[NamedPcr], pcr: u32) -> bool
+    ensures { result ≡ is_compared compared.now pcr }
 {
-    held.iter().any(|it| it.pcr == pcr)
+    compared.iter().any(|it| it.pcr == pcr)
 }
