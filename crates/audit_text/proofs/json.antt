@@ -2,6 +2,7 @@ pub mod NoFloatsInContent
 pub mod NoFloats
 pub mod NoFloatsInReplay
 pub mod NoFloatsInVerdict
+pub mod NoFloatsInQuote
 pub mod NoFloatsInDiff
 pub mod Controls
 pub mod NoFloatsInCheck

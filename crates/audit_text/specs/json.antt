@@ -8,5 +8,6 @@ pub mod Event
 pub mod Events
 pub mod Replay
 pub mod Verdict
+pub mod Quote
 pub mod Diff
 pub mod Check

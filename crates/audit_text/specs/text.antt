@@ -7,6 +7,7 @@ pub mod Remarks
 pub mod Agreement
 pub mod Verdict
 pub mod Missing
+pub mod Quote
 pub mod Differences
 pub mod Check
 pub mod EventParts

@@ -1,6 +1,6 @@
 -- What `uefi_audit verify` prints of whether the PCRs that a TPM held are those that a log leads to.
 use Rattle.std.specs.Prelude.{ℕ, zero, suc, List, [], ◌++◌, codes}
-use Rattle.std.specs.Prelude.{flat_map, Option, None, Some, Ok, Err, if◌then◌else◌}
+use Rattle.std.specs.Prelude.{flat_map, map, Option, None, Some, Ok, Err, if◌then◌else◌}
 use Rattle.std.specs.Fmt.{decimal}
 use Rattle.hex.specs.Hex.{encode_upper}
 use Rattle.pcr_replay.specs.declared.fault.Undetermined.{Undetermined}
@@ -11,6 +11,7 @@ use Rattle.audit_text.specs.text.Agreement.{agree_line}
 use Rattle.audit_text.specs.words.Faults.{fault_text}
 use Rattle.audit_text.specs.words.Shown.{shown_name}
 use Rattle.uefi_audits.specs.declared.verify.held.HeldPcr.{HeldPcr}
+use Rattle.uefi_audits.specs.verify.Named.{name_of}
 use Rattle.uefi_audits.specs.verify.Verdict.{Comparison, agrees, is_agreement, led_to}
 
 -- Where PCR 0 starts.
@@ -45,5 +46,5 @@ line_of name comparison held =
 -- What is printed: one line if all PCRs agree, else one for each that doesn't, in order.
 abbrev pub verdict_lines : List ℕ → Comparison → List HeldPcr → List ℕ
 verdict_lines name comparison held =
-    if is_agreement comparison then agree_line name held comparison.start.start.locality
+    if is_agreement comparison then agree_line name (map name_of held) comparison.start.start.locality
     else flat_map (line_of name comparison) held

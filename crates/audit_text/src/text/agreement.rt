@@ -6,7 +6,7 @@ ghost use Rattle.audit_text.specs.text.Agreement.{agree_line, goes_on, is_next, 
 use crate::words::ShownName;
 use std::alloc::{AllocError, Allocator};
 use uefi_audits::naming::bank_name;
-use uefi_audits::verify::HeldPcr;
+use uefi_audits::verify::NamedPcr;
 
 /// Appends the line of PCRs that all agree: each bank with its PCRs, those that follow one another as
 /// a range, and where PCR 0 starts.
@@ -14,24 +14,27 @@ use uefi_audits::verify::HeldPcr;
 pub(super) fn push_agreement<A: Allocator>(
     text: &mut String<A>,
     name: &str,
-    held: &[HeldPcr],
+    pcrs: &[NamedPcr],
     locality: u8,
 ) -> Result<(), AllocError>
-    ensures { OnOk result (AppendsText text.old text.new (agree_line name.now held.now locality)) }
+    ensures { OnOk result (AppendsText text.old text.new (agree_line name.now pcrs.now locality)) }
 {
     let name = ShownName(name);
     write!(text, "{name}: agrees: ")?;
-    push_ranges(text, held)?;
+    push_ranges(text, pcrs)?;
     writeln!(text, " (PCR 0 starts at locality {locality})")
 }
 
 /// Appends each bank with its PCRs.
 #[tactic(auto, unfolding(crate::specs::text::Agreement::ranges_after))]
-fn push_ranges<A: Allocator>(text: &mut String<A>, held: &[HeldPcr]) -> Result<(), AllocError>
-    ensures { OnOk result (AppendsText text.old text.new (ranges_after None held.now)) }
+pub(super) fn push_ranges<A: Allocator>(
+    text: &mut String<A>,
+    pcrs: &[NamedPcr],
+) -> Result<(), AllocError>
+    ensures { OnOk result (AppendsText text.old text.new (ranges_after None pcrs.now)) }
 {
     let mut before = None;
-    let mut rest = held;
+    let mut rest = pcrs;
     while let [pcr, others @ ..] = rest {
         push_pcr(text, before, pcr, others.first())?;
         before = Some(pcr);
@@ -44,19 +47,19 @@ fn push_ranges<A: Allocator>(text: &mut String<A>, held: &[HeldPcr]) -> Result<(
 #[tactic(auto, unfolding(crate::specs::text::Agreement::pcr_text))]
 fn push_pcr<A: Allocator>(
     text: &mut String<A>,
-    before: Option<&HeldPcr>,
-    held: &HeldPcr,
-    after: Option<&HeldPcr>,
+    before: Option<&NamedPcr>,
+    named: &NamedPcr,
+    after: Option<&NamedPcr>,
 ) -> Result<(), AllocError>
     ensures { OnOk result (AppendsText text.old text.new (pcr_text
-        (option_map (λ it. it.now) before.entry) held.now (option_map (λ it. it.now) after.entry))) }
+        (option_map (λ it. it.now) before.entry) named.now (option_map (λ it. it.now) after.entry))) }
 {
-    let pcr = held.pcr;
-    if !is_next(before, held) {
-        push_opening(text, before, held)?;
+    let pcr = named.pcr;
+    if !is_next(before, named) {
+        push_opening(text, before, named)?;
         return write!(text, "{pcr}");
     }
-    if goes_on(held, after) {
+    if goes_on(named, after) {
         return Ok(());
     }
     write!(text, "-{pcr}")
@@ -64,25 +67,25 @@ fn push_pcr<A: Allocator>(
 
 /// Returns whether a PCR is the next one of the bank of the one before it.
 #[tactic(auto, unfolding(crate::specs::text::Agreement::is_next))]
-fn is_next(before: Option<&HeldPcr>, held: &HeldPcr) -> bool
-    ensures { result ≡ is_next (option_map (λ it. it.now) before.entry) held.now }
+fn is_next(before: Option<&NamedPcr>, named: &NamedPcr) -> bool
+    ensures { result ≡ is_next (option_map (λ it. it.now) before.entry) named.now }
 {
     match before {
         None => false,
         Some(before) => {
-            before.bank == held.bank && u64::from(held.pcr) == u64::from(before.pcr) + 1
+            before.bank == named.bank && u64::from(named.pcr) == u64::from(before.pcr) + 1
         }
     }
 }
 
 /// Returns whether the PCR after one is the next one of its bank.
 #[tactic(auto, unfolding(crate::specs::text::Agreement::goes_on))]
-fn goes_on(held: &HeldPcr, after: Option<&HeldPcr>) -> bool
-    ensures { result ≡ goes_on held.now (option_map (λ it. it.now) after.entry) }
+fn goes_on(named: &NamedPcr, after: Option<&NamedPcr>) -> bool
+    ensures { result ≡ goes_on named.now (option_map (λ it. it.now) after.entry) }
 {
     match after {
         None => false,
-        Some(after) => is_next(Some(held), after),
+        Some(after) => is_next(Some(named), after),
     }
 }
 
@@ -91,16 +94,16 @@ fn goes_on(held: &HeldPcr, after: Option<&HeldPcr>) -> bool
 #[tactic(auto, unfolding(crate::specs::text::Agreement::opening))]
 fn push_opening<A: Allocator>(
     text: &mut String<A>,
-    before: Option<&HeldPcr>,
-    held: &HeldPcr,
+    before: Option<&NamedPcr>,
+    named: &NamedPcr,
 ) -> Result<(), AllocError>
     ensures { OnOk result (AppendsText text.old text.new
-        (opening (option_map (λ it. it.now) before.entry) held.now)) }
+        (opening (option_map (λ it. it.now) before.entry) named.now)) }
 {
-    let bank = bank_name(held.bank);
+    let bank = bank_name(named.bank);
     match before {
         None => write!(text, "{bank}: "),
-        Some(before) if before.bank == held.bank => text.push_str(", "),
+        Some(before) if before.bank == named.bank => text.push_str(", "),
         Some(_) => write!(text, "; {bank}: "),
     }
 }

@@ -5,9 +5,9 @@ ghost use Rattle.audit_text.specs.text.Missing.{missing_line, missing_lines};
 use crate::words::ShownName;
 use std::alloc::{AllocError, Allocator};
 use uefi_audits::naming::bank_name;
-use uefi_audits::verify::MissingPcr;
+use uefi_audits::verify::NamedPcr;
 
-/// Appends a line for each PCR that is asked for and not held, by the name of the file that states the
+/// Appends a line for each PCR that is asked for and not stated, by the name of the file that states the
 /// PCRs.
 ///
 /// # Errors
@@ -16,7 +16,7 @@ use uefi_audits::verify::MissingPcr;
 pub fn push_missing<A: Allocator>(
     messages: &mut String<A>,
     name: &str,
-    missing: &[MissingPcr],
+    missing: &[NamedPcr],
 ) -> Result<(), AllocError>
     ensures { OnOk result
         (AppendsText messages.old messages.new (missing_lines name.now missing.now)) }
@@ -32,7 +32,7 @@ pub fn push_missing<A: Allocator>(
 fn push_line<A: Allocator>(
     messages: &mut String<A>,
     name: &str,
-    missing: &MissingPcr,
+    missing: &NamedPcr,
 ) -> Result<(), AllocError>
     ensures { OnOk result
         (AppendsText messages.old messages.new (missing_line name.now missing.now)) }

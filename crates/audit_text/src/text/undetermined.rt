@@ -68,7 +68,7 @@ fn push_if_undetermined<A: Allocator>(
 }
 
 /// Appends the line of a PCR that is undetermined.
-fn push_line<A: Allocator>(
+pub(super) fn push_line<A: Allocator>(
     told: &mut String<A>,
     name: &str,
     bank: Bank,

@@ -10,7 +10,7 @@ use crate::words::{ShownName, fault_text};
 use pcr_replay::{PcrValue, Undetermined};
 use std::alloc::{AllocError, Allocator};
 use uefi_audits::naming::bank_name;
-use uefi_audits::verify::{HeldPcr, Verdict, agrees, led_to};
+use uefi_audits::verify::{HeldPcr, Verdict, agrees, led_to, named_pcrs};
 
 /// Appends whether a log leads to these PCRs: one line if it does, or else a line for each PCR that
 /// doesn't agree. The lines name the log by `name`, and the locality at which PCR 0 starts.
@@ -29,7 +29,8 @@ pub fn push_verdict<A: Allocator + Copy>(
         (verdict_lines name.now (comparison_of verdict.now) held.now)) }
 {
     if verdict.is_agreement() {
-        return push_agreement(text, name, held, verdict.start.start.locality);
+        let named = named_pcrs(alloc, held)?;
+        return push_agreement(text, name, named.as_slice(), verdict.start.start.locality);
     }
     push_disagreements(text, alloc, name, held, verdict)
 }
