@@ -7,7 +7,7 @@ use Rattle.uefi_audit.specs.CommandLine.{AskForNoRequest, AsksBank}
 use Rattle.uefi_audit.specs.declared.request.Request.TheVariants.{Events, Replay, Verify, Diff, Check}
 
 -- Where `--bank` names no bank, `replay` asks for nothing.
-pub no_replay : (found : Found) → ((bank : Option Bank) → AsksBank found bank → ⊥) → AskForNoRequest (codes "replay") found
+pub no_replay : (found : Found) → ((bank : Option Bank) → AsksBank found (codes "bank") bank → ⊥) → AskForNoRequest (codes "replay") found
 no_replay found none (Events logs format) asked = let other = ap (λ name. slice_index name 0) asked.0 in absurd (omega arith)
 no_replay found none (Replay logs bank locality format) asked = none bank asked.2
 no_replay found none (Verify verification) asked = let other = ap (λ name. slice_index name 0) asked.0 in absurd (omega arith)
@@ -15,7 +15,7 @@ no_replay found none (Diff old new bank format) asked = let other = ap (λ name.
 no_replay found none (Check logs format) asked = let other = ap (λ name. slice_index name 0) asked.0 in absurd (omega arith)
 
 -- And so does `diff`.
-pub no_diff : (found : Found) → ((bank : Option Bank) → AsksBank found bank → ⊥) → AskForNoRequest (codes "diff") found
+pub no_diff : (found : Found) → ((bank : Option Bank) → AsksBank found (codes "bank") bank → ⊥) → AskForNoRequest (codes "diff") found
 no_diff found none (Events logs format) asked = let other = ap (λ name. slice_index name 0) asked.0 in absurd (omega arith)
 no_diff found none (Replay logs bank locality format) asked = let other = ap (λ name. slice_index name 0) asked.0 in absurd (omega arith)
 no_diff found none (Verify verification) asked = let other = ap (λ name. slice_index name 0) asked.0 in absurd (omega arith)

@@ -8,6 +8,7 @@ use Rattle.clap.specs.declared.parser.matches.Found.{Found}
 use Rattle.pcr_replay.specs.declared.bank.Bank.{Bank}
 use Rattle.uefi_audits.specs.Naming.{bank_name}
 use Rattle.audit_text.specs.words.Shown.{shown_name_bytes}
+use Rattle.uefi_audit.specs.declared.request.AskedQuote.{AskedQuote}
 use Rattle.uefi_audit.specs.declared.request.Format.{Format}
 use Rattle.uefi_audit.specs.declared.request.Format.TheVariants.{Text, Json}
 use Rattle.uefi_tcg.specs.declared.log.LastEntry.{LastEntry}
@@ -61,9 +62,9 @@ AsksReading found reading =
     AsksLastEntry found reading.last_entry × AsksFlag found (codes "allow-left-over") reading.allow_left_over
     × AsksMaxRows found reading.max_rows
 
--- The bank that `--bank` names, if it is there.
-abbrev pub AsksBank : Found → Option Bank → Type 0
-AsksBank found bank = first_value found (codes "bank") ≡ option_map bank_name bank
+-- The bank that an option names, if it is there.
+abbrev pub AsksBank : Found → List ℕ → Option Bank → Type 0
+AsksBank found id bank = first_value found id ≡ option_map bank_name bank
 
 -- The format by `--json`.
 abbrev pub is_json : Format → Bool
@@ -91,10 +92,22 @@ abbrev pub is_text : Format → Bool
 is_text Text = true
 is_text Json = false
 
+-- The quote that a log is compared with, if there is one.
+pub record AsksItsQuote (found : Found) (asked : AskedQuote) : Type 0 where
+  pub file : first_value found (codes "quote") ≡ Some asked.file.now
+  pub nonce : first_value found (codes "nonce") ≡ option_map (λ text. text.now) asked.nonce
+  pub any_nonce : AsksFlag found (codes "any-nonce") asked.any_nonce
+  pub hash : AsksBank found (codes "quote-hash") asked.hash
+
+abbrev pub AsksQuote : Found → Option AskedQuote → Type 0
+AsksQuote found None = first_value found (codes "quote") ≡ None
+AsksQuote found (Some asked) = AsksItsQuote found asked
+
 -- What `verify` compares.
 pub record AsksVerification (found : Found) (asked : Verification) : Type 0 where
   pub log : first_value found (codes "log") ≡ Some asked.log.now
-  pub registers : first_value found (codes "registers") ≡ Some asked.registers.now
+  pub registers : first_value found (codes "registers") ≡ option_map (λ file. file.now) asked.registers
+  pub quote : AsksQuote found asked.quote
   pub pcrs : first_value found (codes "pcrs") ≡ option_map (λ text. text.now) asked.pcrs
   pub locality : AsksLocality found asked.locality
   pub format : AsksFormat found asked.format
@@ -104,12 +117,12 @@ abbrev pub Asks : List ℕ → Found → Request → Type 0
 Asks name found (Events logs format) =
     (name ≡ codes "events") × AsksLogs found logs.now × AsksFlag found (codes "text") (is_text format)
 Asks name found (Replay logs bank locality format) =
-    (name ≡ codes "replay") × AsksLogs found logs.now × AsksBank found bank × AsksLocality found locality
+    (name ≡ codes "replay") × AsksLogs found logs.now × AsksBank found (codes "bank") bank × AsksLocality found locality
     × AsksFormat found format
 Asks name found (Verify asked) = (name ≡ codes "verify") × AsksVerification found asked
 Asks name found (Diff old new bank format) =
     (name ≡ codes "diff") × (first_value found (codes "old") ≡ Some old.now)
-    × (first_value found (codes "new") ≡ Some new.now) × AsksBank found bank × AsksFormat found format
+    × (first_value found (codes "new") ≡ Some new.now) × AsksBank found (codes "bank") bank × AsksFormat found format
 Asks name found (Check logs format) = (name ≡ codes "check") × AsksLogs found logs.now × AsksFormat found format
 
 -- They ask for no request.

@@ -8,6 +8,8 @@ pub mod CheckReport
 pub mod TaskReport
 pub mod Comparison
 pub mod Verification
+pub mod Quote
+pub mod QuoteCheck
 pub mod Held
 pub mod CommandLine
 pub mod Starts

@@ -1,5 +1,5 @@
 -- What `verify` prints of a log and the PCRs that a TPM held.
-use Rattle.std.specs.Prelude.{ℕ, Bool, List, [], ◌∷◌, ◌++◌, ◌||◌, not, flat_map, nat_lt, if◌then◌else◌}
+use Rattle.std.specs.Prelude.{ℕ, Bool, List, [], ◌∷◌, ◌++◌, ◌||◌, not, flat_map, map, nat_lt, if◌then◌else◌}
 use Rattle.std.specs.List.{filter}
 use Rattle.pcr_replay.specs.ReadLogs.{entries_in}
 use Rattle.uefi_audits.specs.Ignored.{has_no_pcr, ignored_events}
@@ -7,6 +7,7 @@ use Rattle.uefi_audits.specs.Judgement.{judgement_of}
 use Rattle.uefi_audits.specs.LogReplay.{inactive_banks}
 use Rattle.uefi_audits.specs.verify.Banks.{held_banks}
 use Rattle.uefi_audits.specs.verify.Missing.{missing_pcrs}
+use Rattle.uefi_audits.specs.verify.Named.{name_of}
 use Rattle.uefi_audits.specs.verify.Selection.{is_selected}
 use Rattle.uefi_audits.specs.verify.Uncompared.{uncompared_pcrs}
 use Rattle.uefi_audits.specs.verify.Verdict.{Comparison, is_agreement, verdict_of}
@@ -14,7 +15,7 @@ use Rattle.uefi_audits.specs.declared.ignored.IgnoredEvent.{IgnoredEvent}
 use Rattle.uefi_audits.specs.declared.judgement.Judgement.{Judgement}
 use Rattle.uefi_audits.specs.declared.judgement.Judgement.TheVariants.{Accepted, NothingMeasured, LeftOver}
 use Rattle.uefi_audits.specs.declared.verify.held.HeldPcr.{HeldPcr}
-use Rattle.uefi_audits.specs.declared.verify.missing.MissingPcr.{MissingPcr}
+use Rattle.uefi_audits.specs.declared.verify.named.NamedPcr.{NamedPcr}
 use Rattle.audit_text.specs.json.Verdict.{verdict_line}
 use Rattle.audit_text.specs.text.Missing.{missing_lines}
 use Rattle.audit_text.specs.text.Remarks.{ignored_line, inactive_line, start_lines, uncompared_line}
@@ -47,7 +48,7 @@ verdict_messages file held comparison =
     start_lines file.name.now comparison.start
     ++ flat_map (inactive_line file.name.now) (inactive_banks (entries_in file.read) (held_banks held))
     ++ flat_map (ignored_line file.name.now) (ignored_events (entries_in file.read))
-    ++ uncompared_line file.name.now (uncompared_pcrs (entries_in file.read) held)
+    ++ uncompared_line file.name.now (uncompared_pcrs (entries_in file.read) (map name_of held))
 
 -- After these messages, what is printed of the verdict on PCRs.
 abbrev pub with_verdict : List ℕ → LogFile → Verification → List HeldPcr → Comparison → Printed
@@ -61,16 +62,20 @@ abbrev pub compared : List ℕ → LogFile → Verification → List HeldPcr →
 compared before file asked held =
     with_verdict before file asked held (verdict_of asked.locality (entries_in file.read) held)
 
+-- The PCRs that are asked for and not stated.
+abbrev pub missing_in : StatedPcrs → List NamedPcr
+missing_in stated = missing_pcrs stated.selection (map name_of stated.pcrs.now)
+
 -- The verdict on those that are selected, unless PCRs that are asked for are missing.
-unfoldable pub unless_missing : List MissingPcr → List ℕ → LogFile → Verification → StatedPcrs → Printed
+unfoldable pub unless_missing : List NamedPcr → List ℕ → LogFile → Verification → StatedPcrs → Printed
 unless_missing [] before file asked stated = compared before file asked (filter (is_selected stated.selection) stated.pcrs.now)
 unless_missing (pcr ∷ missing) before file asked stated =
-    unjudged (before ++ missing_lines asked.registers.now (pcr ∷ missing))
+    unjudged (before ++ missing_lines stated.file.now (pcr ∷ missing))
 
 -- What follows from the judgement.
 unfoldable pub by_judgement : Judgement → List ℕ → LogFile → Verification → StatedPcrs → Printed
 by_judgement Accepted before file asked stated =
-    unless_missing (missing_pcrs stated.selection stated.pcrs.now) before file asked stated
+    unless_missing (missing_in stated) before file asked stated
 by_judgement NothingMeasured before file asked stated = unjudged before
 by_judgement LeftOver before file asked stated = unjudged before
 

@@ -105,7 +105,11 @@ fn args_of_verify<'a>(alloc: Global) -> Result<Vec<Arg<'a>>, AllocError> {
             "LOG",
             "A file with an event log, - for standard input"
         ),
-        registers(alloc),
+        registers(alloc)?,
+        quote(alloc),
+        nonce(alloc)?,
+        any_nonce(alloc)?,
+        quote_hash(alloc)?,
         pcrs(alloc),
         locality(alloc),
         json(alloc),
@@ -162,14 +166,58 @@ fn bank<'a>(alloc: Global) -> Arg<'a> {
 }
 
 /// Returns the argument for the file or folder with a TPM's PCRs.
-fn registers<'a>(alloc: Global) -> Arg<'a> {
+fn registers<'a>(alloc: Global) -> Result<Arg<'a>, AllocError> {
     option(
         alloc,
         "registers",
         "FILE",
         "What tpm2_pcrread printed, a TPM 1.2's file pcrs, or a folder with files such as pcr-sha256/0",
     )
-    .required(true)
+    .required_unless_present("quote")
+}
+
+/// Returns the argument for the file with a quote.
+fn quote<'a>(alloc: Global) -> Arg<'a> {
+    option(
+        alloc,
+        "quote",
+        "FILE",
+        "What a TPM signed of its PCRs, as tpm2_quote -m writes it; its signature isn't verified",
+    )
+}
+
+/// Returns the argument for the nonce of a quote.
+fn nonce<'a>(alloc: Global) -> Result<Arg<'a>, AllocError> {
+    option(
+        alloc,
+        "nonce",
+        "HEX",
+        "The nonce that the quote was asked for with",
+    )
+    .requires_arg("quote")?
+    .conflicts_with("any-nonce")
+}
+
+/// Returns the flag for quotes with any nonce.
+fn any_nonce<'a>(alloc: Global) -> Result<Arg<'a>, AllocError> {
+    flag(
+        alloc,
+        "any-nonce",
+        "Accepts any nonce, so also an old quote",
+    )
+    .requires_arg("quote")
+}
+
+/// Returns the argument for the hash function of a quote's digest.
+fn quote_hash<'a>(alloc: Global) -> Result<Arg<'a>, AllocError> {
+    option(
+        alloc,
+        "quote-hash",
+        "ALG",
+        "The hash function of the quote's digest; without it the digest's length says it",
+    )
+    .value_parser(BANK_NAMES.as_slice())
+    .requires_arg("quote")
 }
 
 /// Returns the argument for the PCRs to compare.
@@ -178,7 +226,7 @@ fn pcrs<'a>(alloc: Global) -> Arg<'a> {
         alloc,
         "pcrs",
         "PCRS",
-        "Compares these PCRs alone, such as 0-7,14 or sha256:0,7",
+        "Compares these PCRs alone, such as 0-7,14 or sha256:0,7; a quote has to cover them",
     )
 }
 

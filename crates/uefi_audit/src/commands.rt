@@ -1,19 +1,24 @@
-ghost use Rattle.std.specs.Prelude.{IsTrue, OnOk, IfErr};
+ghost use Rattle.std.specs.Prelude.{◌≡◌, IsTrue, OnOk, IfErr};
 ghost use Rattle.std.specs.Io.KnownBytes.{Appends};
 ghost use Rattle.uefi_audit.specs.Ends.{is_output};
+ghost use Rattle.uefi_audit.specs.Quote.{status_without};
 
 use crate::comparison::{Compared, difference_report};
 use crate::failure::{Failure, Status};
 use crate::input::{file_bytes, held_pcrs};
 use crate::log_file::{Opened, open_log};
+use crate::quote::{NotReceived, received_quote};
+use crate::quote_check::{QuoteCheck, quote_report};
 use crate::replay::Asked;
-use crate::request::{Reading, Request, Verification};
+use crate::request::{AskedQuote, Reading, Request, Verification};
 use crate::starts::Starts;
 use crate::task::{Task, task_report};
 use crate::verification::{StatedPcrs, verify_report};
+use audit_text::words::ShownName;
+use hex::FromHexError;
 use std::io::Write;
 use std::rt::Files;
-use uefi_audits::verify::PcrSelection;
+use uefi_audits::verify::{HeldPcr, PcrSelection};
 
 /// Does what the arguments ask for.
 pub(crate) fn perform<R: Files + Input + Print + Eprint + AllocGlobal>(
@@ -33,7 +38,12 @@ pub(crate) fn perform<R: Files + Input + Print + Eprint + AllocGlobal>(
             };
             each_log(rt, logs, reading, Task::Replay(asked))
         }
-        Request::Verify(asked) => verify_log(rt, &asked, reading),
+        Request::Verify(asked) => match (asked.quote, asked.registers) {
+            (Some(quote), _) => verify_quote(rt, &asked, &quote, reading),
+            (None, Some(registers)) => verify_log(rt, &asked, registers, reading),
+            // `clap` makes sure that one of them is there.
+            (None, None) => Err(Failure::Arguments),
+        },
         Request::Diff(old, new, bank, format) => {
             compare_logs(rt, [old, new], Compared { bank, format }, reading)
         }
@@ -104,20 +114,100 @@ fn compare_logs<R: Files + Input + Print + Eprint + AllocGlobal>(
 fn verify_log<R: Files + Input + Print + Eprint + AllocGlobal>(
     rt: &R,
     asked: &Verification<'_>,
+    registers: &str,
     reading: Reading,
 ) -> Result<Status, Failure> {
     let selection = selection_of(rt, asked.pcrs)?;
     let bytes = file_bytes(rt, asked.log);
-    let held = held_pcrs(rt, asked.registers);
+    let held = held_pcrs(rt, registers);
     let (Some(bytes), Some(held)) = (bytes, held) else {
         return Ok(Status::Unread);
     };
     let stated = StatedPcrs {
+        file: registers,
         pcrs: held.as_slice(),
         selection,
     };
     let log = open_log(rt.alloc(), asked.log, bytes.as_slice(), reading)?;
     verify_report(rt.alloc(), log, reading, asked, &stated)?.print(rt)
+}
+
+/// Does `verify` with the log in a file, the quote in another, and the PCRs in a third or in a folder,
+/// if there is one.
+fn verify_quote<R: Files + Input + Print + Eprint + AllocGlobal>(
+    rt: &R,
+    asked: &Verification<'_>,
+    quote: &AskedQuote<'_>,
+    reading: Reading,
+) -> Result<Status, Failure> {
+    let selection = selection_of(rt, asked.pcrs)?;
+    let nonce = nonce_of(rt, quote.nonce)?;
+    let nonce = nonce.as_ref().map(|nonce| nonce.as_slice());
+    let bytes = file_bytes(rt, asked.log);
+    let message = file_bytes(rt, quote.file);
+    let held = held_beside(rt, asked.registers);
+    let (Some(bytes), Some(message), Some(held)) = (bytes, message, held) else {
+        return Ok(Status::Unread);
+    };
+    let received = match received_quote(message.as_slice(), quote, nonce) {
+        Ok(received) => received,
+        Err(why) => return Ok(tell_not_received(rt, quote.file, why)),
+    };
+    let registers = asked.registers.map(|file| StatedPcrs {
+        file,
+        pcrs: held.as_slice(),
+        selection,
+    });
+    let check = QuoteCheck {
+        file: quote.file,
+        received,
+        selection,
+        registers,
+        locality: asked.locality,
+        format: asked.format,
+    };
+    let log = open_log(rt.alloc(), asked.log, bytes.as_slice(), reading)?;
+    quote_report(rt.alloc(), log, reading, &check)?.print(rt)
+}
+
+/// Returns the PCRs that are compared beside a quote: none if no file with them is named. `None` if
+/// they weren't read, which standard error is told.
+fn held_beside<R: Files + Input + Eprint + AllocGlobal>(
+    rt: &R,
+    registers: Option<&str>,
+) -> Option<Vec<HeldPcr>> {
+    match registers {
+        Some(path) => held_pcrs(rt, path),
+        None => Some(Vec::new(rt.alloc())),
+    }
+}
+
+/// Returns the nonce that `--nonce` states, or `None` without it.
+fn nonce_of<R: Eprint + AllocGlobal>(
+    rt: &R,
+    digits: Option<&str>,
+) -> Result<Option<Vec<u8>>, Failure> {
+    let Some(digits) = digits else {
+        return Ok(None);
+    };
+    match hex::decode(rt.alloc(), digits) {
+        Ok(nonce) => Ok(Some(nonce)),
+        Err(FromHexError::OutOfMemory) => Err(Failure::Memory),
+        Err(_) => {
+            let _ = eprintln!(rt; "uefi_audit: --nonce takes pairs of hex digits");
+            Err(Failure::Arguments)
+        }
+    }
+}
+
+/// Tells on standard error why a log isn't compared with a quote, and returns the status that
+/// follows.
+fn tell_not_received<R: Eprint>(rt: &R, path: &str, why: NotReceived) -> Status
+    ensures { result ≡ status_without why }
+{
+    let name = ShownName(path);
+    let _ = eprintln!(rt; "uefi_audit: {name}: {why}");
+    why.status()
 }
 
 /// Returns the PCRs that `--pcrs` selects, or `None` without it.

@@ -3,7 +3,7 @@
 //! A byte goes through it in this order. [`program`] takes the arguments, which [`command_line`]
 //! matches by `clap`. [`request`] says what they ask for, and [`commands`] does it. [`input`] reads
 //! the files, and [`log_file`] a log in one of them, once. [`events`], [`replay`], [`verification`],
-//! [`comparison`] and [`checking`] compute what is asked for and render it as a [`report`] in memory,
+//! [`quote_check`], [`comparison`] and [`checking`] compute what is asked for and render it as a [`report`] in memory,
 //! by the libraries `uefi_audits` and `audit_text`. It is then written.
 //!
 //! The contracts say what the values that `clap` found ask for, and which exit status and which line
@@ -22,6 +22,8 @@ mod failure;
 mod input;
 mod log_file;
 mod program;
+mod quote;
+mod quote_check;
 mod replay;
 mod report;
 mod request;

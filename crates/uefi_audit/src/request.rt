@@ -2,7 +2,8 @@ ghost use Rattle.std.specs.Prelude.{◌≡◌, ℕ, codes, IfSome, IfNone, Match
 ghost use Rattle.clap.specs.Words.{found_of, one_text};
 ghost use Rattle.pcr_replay.specs.declared.bank.Bank.{Bank};
 ghost use Rattle.uefi_tcg.specs.declared.log.LastEntry.{LastEntry};
-ghost use Rattle.uefi_audit.specs.CommandLine.{Asks, AsksBank, AsksFormat, AsksLastEntry, AsksLocality, AsksMaxRows, AsksReading, AskForNoRequest, AskForNothing, IsDecimal, NamesMaxRows};
+ghost use Rattle.uefi_audit.specs.declared.request.AskedQuote.{AskedQuote};
+ghost use Rattle.uefi_audit.specs.CommandLine.{Asks, AsksBank, AsksFormat, AsksLastEntry, AsksLocality, AsksMaxRows, AsksQuote, AsksReading, AskForNoRequest, AskForNothing, IsDecimal, NamesMaxRows};
 
 use clap::ArgMatches;
 use pcr_replay::Bank;
@@ -16,7 +17,7 @@ pub(crate) enum Request<'m, 'a> {
     Events(&'m [&'a str], Format),
     /// `replay LOG.. [--bank B] [--locality N] [--json]`: the PCRs that each log leads to.
     Replay(&'m [&'a str], Option<Bank>, Option<u8>, Format),
-    /// `verify LOG --registers FILE ..`: whether they are those of a TPM.
+    /// `verify LOG --registers FILE|--quote FILE ..`: whether they are those of a TPM.
     Verify(Verification<'a>),
     /// `diff OLD NEW [--bank B] [--json]`: how the events of the two logs differ.
     Diff(&'a str, &'a str, Option<Bank>, Format),
@@ -29,14 +30,29 @@ pub(crate) enum Request<'m, 'a> {
 pub(crate) struct Verification<'a> {
     /// The file with the log.
     pub log: &'a str,
-    /// The file or folder with the PCRs of the TPM.
-    pub registers: &'a str,
-    /// Which of them are compared (`--pcrs`); all without it.
+    /// The file or folder with the PCRs of the TPM (`--registers`).
+    pub registers: Option<&'a str>,
+    /// The quote of the TPM (`--quote`).
+    pub quote: Option<AskedQuote<'a>>,
+    /// Which PCRs are compared (`--pcrs`); all without it.
     pub pcrs: Option<&'a str>,
     /// The locality at which the TPM was started (`--locality`).
     pub locality: Option<u8>,
     /// How the result is printed.
     pub format: Format,
+}
+
+/// A quote with which a log is compared.
+#[derive(Clone, Copy)]
+pub(crate) struct AskedQuote<'a> {
+    /// The file with the quote.
+    pub file: &'a str,
+    /// The nonce that it was asked for with, in hex (`--nonce`).
+    pub nonce: Option<&'a str>,
+    /// Whether it may have any nonce (`--any-nonce`).
+    pub any_nonce: bool,
+    /// The hash function of its digest (`--quote-hash`); without it, the digest's length says it.
+    pub hash: Option<Bank>,
 }
 
 /// How a result is printed.
@@ -115,7 +131,7 @@ fn replay_of<'m, 'a>(matches: &'m ArgMatches<'a>) -> Option<Request<'m, 'a>>
     ensures nothing { IfNone result (AskForNoRequest (codes "replay") (found_of matches.now)) }
 {
     let logs = matches.get_strs("logs")?;
-    let bank = bank_of(matches)?;
+    let bank = bank_of(matches, "bank")?;
     Some(Request::Replay(logs, bank, locality_of(matches), format_of(matches)))
 }
 
@@ -125,13 +141,33 @@ fn verify_of<'m, 'a>(matches: &'m ArgMatches<'a>) -> Option<Request<'m, 'a>>
     ensures nothing { IfNone result (AskForNoRequest (codes "verify") (found_of matches.now)) }
 {
     let log = matches.get_str("log")?;
-    let registers = matches.get_str("registers")?;
+    let quote = quote_of(matches)?;
     Some(Request::Verify(Verification {
         log,
-        registers,
+        registers: matches.get_str("registers"),
+        quote,
         pcrs: matches.get_str("pcrs"),
         locality: locality_of(matches),
         format: format_of(matches),
+    }))
+}
+
+/// Returns the quote that the matches of `verify` ask for, if they ask for one; `None` if they name
+/// no hash function.
+fn quote_of<'a>(matches: &ArgMatches<'a>) -> Option<Option<AskedQuote<'a>>>
+    ensures { MatchOption result
+        ((quote : Option AskedQuote) → AsksQuote (found_of matches.now) quote → ⊥)
+        (AsksQuote (found_of matches.now)) }
+{
+    let Some(file) = matches.get_str("quote") else {
+        return Some(None);
+    };
+    let hash = bank_of(matches, "quote-hash")?;
+    Some(Some(AskedQuote {
+        file,
+        nonce: matches.get_str("nonce"),
+        any_nonce: matches.get_flag("any-nonce"),
+        hash,
     }))
 }
 
@@ -142,7 +178,7 @@ fn diff_of<'m, 'a>(matches: &'m ArgMatches<'a>) -> Option<Request<'m, 'a>>
 {
     let old = matches.get_str("old")?;
     let new = matches.get_str("new")?;
-    let bank = bank_of(matches)?;
+    let bank = bank_of(matches, "bank")?;
     Some(Request::Diff(old, new, bank, format_of(matches)))
 }
 
@@ -211,14 +247,14 @@ fn last_entry_of(matches: &ArgMatches<'_>) -> Option<LastEntry>
     }
 }
 
-/// Returns the bank that a command's matches ask for, if they ask for one; `None` if they name no
-/// bank.
-fn bank_of(matches: &ArgMatches<'_>) -> Option<Option<Bank>>
+/// Returns the bank that the option `id` of a command's matches names, if it is there; `None` if it
+/// names no bank.
+fn bank_of(matches: &ArgMatches<'_>, id: &str) -> Option<Option<Bank>>
     ensures { MatchOption result
-        ((bank : Option Bank) → AsksBank (found_of matches.now) bank → ⊥)
-        (AsksBank (found_of matches.now)) }
+        ((bank : Option Bank) → AsksBank (found_of matches.now) id.now bank → ⊥)
+        (AsksBank (found_of matches.now) id.now) }
 {
-    let Some(name) = matches.get_str("bank") else {
+    let Some(name) = matches.get_str(id) else {
         return Some(None);
     };
     let bank = bank_named(name)?;

@@ -1,14 +1,14 @@
 //! What the arguments ask for, as text, and which arguments are wrong.
 
 use crate::command_line::matches_of;
-use crate::request::{Format, Reading, Request, Verification, request_of};
+use crate::request::{AskedQuote, Format, Reading, Request, Verification, request_of};
 use pcr_replay::Bank;
 use std::alloc::{AllocError, Global};
 use std::test::Fail;
 use uefi_tcg::LastEntry;
 
 /// Arguments after the program's name, and what they ask for.
-const ASKED: [(&[&str], &str); 22] = [
+const ASKED: [(&[&str], &str); 25] = [
     (&["events", "a.log"], "events a.log, as JSON"),
     (&["events", "a.log", "-"], "events a.log -, as JSON"),
     (&["events", "a.log", "--text"], "events a.log, as text"),
@@ -44,6 +44,27 @@ const ASKED: [(&[&str], &str); 22] = [
             "--json",
         ],
         "verify a.log pcrs, PCRs 0-7,14, locality 255, as JSON",
+    ),
+    (
+        &["verify", "a.log", "--quote", "q"],
+        "verify a.log, quote q, all PCRs, locality as stated, as text",
+    ),
+    (
+        &["verify", "a.log", "--quote", "q", "--nonce", "00ff"],
+        "verify a.log, quote q with nonce 00ff, all PCRs, locality as stated, as text",
+    ),
+    (
+        &[
+            "verify",
+            "a.log",
+            "--quote=q",
+            "--any-nonce",
+            "--quote-hash",
+            "sha384",
+            "--registers=pcrs",
+            "--pcrs=7",
+        ],
+        "verify a.log pcrs, quote q with any nonce by Sha384, PCRs 7, locality as stated, as text",
     ),
     (
         &["diff", "a.log", "b.log"],
@@ -97,7 +118,7 @@ const ASKED: [(&[&str], &str); 22] = [
 ];
 
 /// Arguments after the program's name that ask for nothing.
-const WRONG: [&[&str]; 24] = [
+const WRONG: [&[&str]; 29] = [
     &[],
     &["event", "a.log"],
     &["events"],
@@ -119,6 +140,11 @@ const WRONG: [&[&str]; 24] = [
         "three",
     ],
     &["verify", "a.log", "--registers", "pcrs", "--bank", "sha1"],
+    &["verify", "a.log", "--registers", "pcrs", "--nonce", "00"],
+    &["verify", "a.log", "--registers", "pcrs", "--any-nonce"],
+    &["verify", "a.log", "--registers", "pcrs", "--quote-hash=sha1"],
+    &["verify", "a.log", "--quote=q", "--nonce=00", "--any-nonce"],
+    &["verify", "a.log", "--quote=q", "--quote-hash", "sha3_256"],
     &["diff", "a.log"],
     &["diff", "a.log", "b.log", "c.log"],
     &["diff", "a.log", "b.log", "--bank", "sha3_256"],
@@ -163,10 +189,32 @@ fn push_bank(text: &mut String, bank: Option<Bank>) -> Result<(), AllocError> {
     }
 }
 
+/// Appends the quote with which a log is compared.
+fn push_quote(text: &mut String, quote: &AskedQuote<'_>) -> Result<(), AllocError> {
+    let file = quote.file;
+    write!(text, ", quote {file}")?;
+    if let Some(nonce) = quote.nonce {
+        write!(text, " with nonce {nonce}")?;
+    }
+    if quote.any_nonce {
+        text.push_str(" with any nonce")?;
+    }
+    match quote.hash {
+        Some(hash) => write!(text, " by {hash:?}"),
+        None => Ok(()),
+    }
+}
+
 /// Appends what `verify` is asked for.
 fn push_verification(text: &mut String, asked: &Verification<'_>) -> Result<(), AllocError> {
-    let (log, registers) = (asked.log, asked.registers);
-    write!(text, "verify {log} {registers}")?;
+    let log = asked.log;
+    write!(text, "verify {log}")?;
+    if let Some(registers) = asked.registers {
+        write!(text, " {registers}")?;
+    }
+    if let Some(quote) = &asked.quote {
+        push_quote(text, quote)?;
+    }
     match asked.pcrs {
         Some(pcrs) => write!(text, ", PCRs {pcrs}")?,
         None => text.push_str(", all PCRs")?,

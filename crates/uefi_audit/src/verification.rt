@@ -3,13 +3,12 @@ ghost use Rattle.uefi_base.specs.Appending.{AppendsText};
 ghost use Rattle.pcr_replay.specs.ReadLogs.{entries_in};
 ghost use Rattle.uefi_audits.specs.LogReplay.{inactive_banks};
 ghost use Rattle.uefi_audits.specs.verify.Banks.{held_banks};
-ghost use Rattle.uefi_audits.specs.verify.Missing.{missing_pcrs};
 ghost use Rattle.uefi_audits.specs.verify.Uncompared.{uncompared_pcrs};
 ghost use Rattle.uefi_audits.specs.verify.Verdict.{comparison_of};
 ghost use Rattle.audit_text.specs.text.Remarks.{inactive_line, uncompared_line};
 ghost use Rattle.uefi_audit.specs.Opened.{IsReportOf};
 ghost use Rattle.uefi_audit.specs.Printed.{printed_of};
-ghost use Rattle.uefi_audit.specs.Verification.{by_judgement, compared, unless_missing, verdict_status, verdict_text, verification};
+ghost use Rattle.uefi_audit.specs.Verification.{by_judgement, compared, missing_in, unless_missing, verdict_status, verdict_text, verification};
 
 use crate::failure::Status;
 use crate::log_file::{LogFile, Opened, judge};
@@ -25,12 +24,15 @@ use uefi_audits::ignored::{IgnoredEvent, ignored_events};
 use uefi_audits::judgement::Judgement;
 use uefi_audits::log_replay::inactive_banks;
 use uefi_audits::verify::{
-    HeldPcr, PcrSelection, Verdict, held_banks, missing_pcrs, selected_pcrs, uncompared_pcrs,
+    HeldPcr, NamedPcr, PcrSelection, Verdict, held_banks, missing_pcrs, named_pcrs, selected_pcrs,
+    uncompared_pcrs,
 };
 
 /// The PCRs that a TPM is said to have held, and which of them are asked for.
 #[derive(Clone, Copy)]
 pub(crate) struct StatedPcrs<'a> {
+    /// The name of their file.
+    pub file: &'a str,
     /// The PCRs.
     pub pcrs: &'a [HeldPcr],
     /// Those that are asked for; all without a selection.
@@ -92,17 +94,28 @@ fn stated_report(
     stated: &StatedPcrs<'_>,
 ) -> Result<Report, AllocError>
     ensures { IfOk result (λ report. printed_of report
-        ≡ unless_missing (missing_pcrs stated.now.selection stated.now.pcrs.now)
+        ≡ unless_missing (missing_in stated.now)
         (string_bytes messages) file.now asked.now stated.now) }
 {
     let mut messages = messages;
-    let missing = missing_pcrs(alloc, stated.pcrs, &stated.selection)?;
+    let missing = missing_in(alloc, stated)?;
     if !missing.is_empty() {
-        push_missing(&mut messages, asked.registers, missing.as_slice())?;
+        push_missing(&mut messages, stated.file, missing.as_slice())?;
         return Ok(Report::unjudged(alloc, messages));
     }
     let held = selected_pcrs(alloc, stated.pcrs, &stated.selection)?;
     verdict_report(alloc, messages, file, asked, held.as_slice())
+}
+
+/// Returns the PCRs that are asked for and not stated.
+pub(crate) fn missing_in(
+    alloc: Global,
+    stated: &StatedPcrs<'_>,
+) -> Result<Vec<NamedPcr>, AllocError>
+    ensures { IfOk result (λ missing. missing.items ≡ missing_in stated.now) }
+{
+    let named = named_pcrs(alloc, stated.pcrs)?;
+    missing_pcrs(alloc, named.as_slice(), &stated.selection)
 }
 
 /// Returns what is printed after these messages of whether a log leads to these PCRs.
@@ -123,7 +136,8 @@ fn verdict_report(
     push_start(&mut messages, file.name, &verdict.start)?;
     push_inactive_banks(&mut messages, alloc, file, held)?;
     push_ignored(&mut messages, file.name, ignored.as_slice())?;
-    push_uncompared_pcrs(&mut messages, alloc, file, held)?;
+    let compared = named_pcrs(alloc, held)?;
+    push_uncompared_pcrs(&mut messages, alloc, file, compared.as_slice())?;
     Ok(Report {
         text: verdict_text(alloc, file.name, held, &verdict, asked.format)?,
         messages,
@@ -148,22 +162,22 @@ fn push_inactive_banks(
 }
 
 /// Appends the PCRs that events extend and that aren't compared.
-fn push_uncompared_pcrs(
+pub(crate) fn push_uncompared_pcrs(
     messages: &mut String,
     alloc: Global,
     file: &LogFile<'_>,
-    held: &[HeldPcr],
+    compared: &[NamedPcr],
 ) -> Result<(), AllocError>
     ensures { OnOk result (AppendsText messages.old messages.new (uncompared_line
-        file.now.name.now (uncompared_pcrs (entries_in file.now.read) held.now))) }
+        file.now.name.now (uncompared_pcrs (entries_in file.now.read) compared.now))) }
 {
-    let uncompared = uncompared_pcrs(alloc, file.read.entries(), held)?;
+    let uncompared = uncompared_pcrs(alloc, file.read.entries(), compared)?;
     push_uncompared(messages, file.name, uncompared.as_slice())
 }
 
 /// Returns a verdict in a format.
 #[tactic(auto, unfolding(crate::specs::Verification::verdict_text))]
-fn verdict_text(
+pub(crate) fn verdict_text(
     alloc: Global,
     name: &str,
     held: &[HeldPcr],
@@ -183,7 +197,7 @@ fn verdict_text(
 
 /// Returns the status of a verdict: a log is unjudged if a PCR is undetermined, and it differs if one
 /// does, or one of the events without effect should have extended a PCR that no TPM has.
-fn status_of(verdict: &Verdict, ignored: &[IgnoredEvent]) -> Status
+pub(crate) fn status_of(verdict: &Verdict, ignored: &[IgnoredEvent]) -> Status
     ensures { result ≡ verdict_status (comparison_of verdict.now) ignored.now }
 {
     if verdict.undetermined > 0 {

@@ -5,6 +5,7 @@ use test_support::same_text;
 mod json;
 mod missing;
 mod nearest;
+mod quotes;
 mod reading;
 mod selection;
 mod uncompared;

@@ -2,7 +2,9 @@ use audit_text::text::push_missing;
 use std::alloc::Global;
 use std::test::Fail;
 use test_support::{Refusing, same_text, takes_memory};
-use uefi_audits::verify::{HeldPcr, PcrSelection, held_in_text, missing_pcrs, selected_pcrs};
+use uefi_audits::verify::{
+    HeldPcr, PcrSelection, held_in_text, missing_pcrs, named_pcrs, selected_pcrs,
+};
 
 /// The PCRs 0 and 1 of SHA-1, and PCR 0 of SHA-256.
 const HELD: &str = "  sha1:\n    0 : 0xaaaaaaaaaaaaaaaaaaaaaaaaaaaaaaaaaaaaaaaa\n    1 : 0\
@@ -51,7 +53,8 @@ fn missing_lines(
     held: &[HeldPcr],
     selection: &Option<PcrSelection>,
 ) -> Result<String, Fail> {
-    let missing = missing_pcrs(alloc, held, selection)?;
+    let stated = named_pcrs(alloc, held)?;
+    let missing = missing_pcrs(alloc, stated.as_slice(), selection)?;
     let mut messages = String::new(alloc);
     push_missing(&mut messages, "pcrs", missing.as_slice())?;
     Ok(messages)
@@ -86,7 +89,8 @@ fn count_missing(
     held: &[HeldPcr],
     selection: &Option<PcrSelection>,
 ) -> Option<usize> {
-    let missing = missing_pcrs(heap, held, selection).ok()?;
+    let stated = named_pcrs(heap, held).ok()?;
+    let missing = missing_pcrs(heap, stated.as_slice(), selection).ok()?;
     let mut messages = String::new(heap);
     push_missing(&mut messages, "pcrs", missing.as_slice()).ok()?;
     Some(missing.len())

@@ -3,7 +3,7 @@ use pcr_replay::ReadLog;
 use std::alloc::Global;
 use std::test::Fail;
 use test_support::{Refusing, bytes, each_shows, takes_memory};
-use uefi_audits::verify::{HeldPcr, held_in_text, uncompared_pcrs};
+use uefi_audits::verify::{HeldPcr, held_in_text, named_pcrs, uncompared_pcrs};
 use uefi_tcg::{LastEntry, Log};
 
 /// PCR 1 of SHA-1.
@@ -46,7 +46,8 @@ fn held(alloc: Global) -> Result<Vec<HeldPcr>, Fail> {
 fn uncompared_text(alloc: Global, bytes: &[u8]) -> Result<String, Fail> {
     let read = ReadLog::new(alloc, Log::new(bytes, LastEntry::Unknown))?;
     let held = held(alloc)?;
-    let pcrs = uncompared_pcrs(alloc, read.entries(), held.as_slice())?;
+    let compared = named_pcrs(alloc, held.as_slice())?;
+    let pcrs = uncompared_pcrs(alloc, read.entries(), compared.as_slice())?;
     let mut messages = String::new(alloc);
     push_uncompared(&mut messages, "a log", pcrs.as_slice())?;
     Ok(messages)
@@ -61,7 +62,8 @@ fn the_pcrs_that_events_extend_and_that_are_not_compared_are_named(
 
 /// Returns how many PCRs aren't compared, after their line, if no request is refused.
 fn count(heap: &Refusing<Global>, read: &ReadLog<'_>, held: &[HeldPcr]) -> Option<usize> {
-    let pcrs = uncompared_pcrs(heap, read.entries(), held).ok()?;
+    let compared = named_pcrs(heap, held).ok()?;
+    let pcrs = uncompared_pcrs(heap, read.entries(), compared.as_slice()).ok()?;
     let mut messages = String::new(heap);
     push_uncompared(&mut messages, "a log", pcrs.as_slice()).ok()?;
     Some(pcrs.len())

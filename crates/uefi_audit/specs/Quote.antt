@@ -1,0 +1,47 @@
+-- The quote in a file, as it is asked for.
+use Rattle.std.specs.Prelude.{ℕ, ◌≡◌, ◌||◌, Bool, true, false, List, ◌++◌, codes, length, Option, None, Some, is_some, Result, Ok, Err}
+use Rattle.std.specs.Fmt.{decimal}
+use Rattle.tpm_quote.specs.Quote.{Quote}
+use Rattle.tpm_quote.specs.Reading.{IsVerdict}
+use Rattle.tpm_quote.specs.Texts.{quote_error_text}
+use Rattle.pcr_replay.specs.Banks.{bank_of_size}
+use Rattle.pcr_replay.specs.declared.bank.Bank.{Bank}
+use Rattle.uefi_audits.specs.verify.Quote.{Received}
+use Rattle.uefi_audit.specs.declared.failure.Status.{Status}
+use Rattle.uefi_audit.specs.declared.failure.Status.TheVariants.{Unjudged, Unread}
+use Rattle.uefi_audit.specs.declared.quote.NotReceived.{NotReceived}
+use Rattle.uefi_audit.specs.declared.quote.NotReceived.TheVariants.{Malformed, NoNonce, NoHash}
+use Rattle.uefi_audit.specs.declared.request.AskedQuote.{AskedQuote}
+
+-- A nonce is stated, or any will do.
+abbrev pub is_nonce_stated : AskedQuote → Option (List ℕ) → Bool
+is_nonce_stated asked nonce = is_some nonce || asked.any_nonce
+
+-- The hash function of a digest of so many bytes: the one that is named, or else that of its length.
+abbrev pub hash_by : Option Bank → ℕ → Option Bank
+hash_by (Some hash) size = Some hash
+hash_by None size = bank_of_size size
+
+-- The quote that a file's bytes are, with this nonce; or why there is none: the bytes are no quote, no nonce is stated, or there is no hash function.
+abbrev pub Receives : List ℕ → AskedQuote → Option (List ℕ) → Result Received NotReceived → Type 0
+Receives bytes asked nonce (Ok received) =
+    IsVerdict bytes (Ok received.quote) × (received.nonce ≡ nonce) × (is_nonce_stated asked nonce ≡ true)
+    × (hash_by asked.hash (length received.quote.pcr_digest) ≡ Some received.hash)
+Receives bytes asked nonce (Err (Malformed error)) = IsVerdict bytes (Err error)
+Receives bytes asked nonce (Err NoNonce) =
+    (quote : Quote) × IsVerdict bytes (Ok quote) × (is_nonce_stated asked nonce ≡ false)
+Receives bytes asked nonce (Err (NoHash size)) =
+    (quote : Quote) × IsVerdict bytes (Ok quote) × (is_nonce_stated asked nonce ≡ true)
+    × (length quote.pcr_digest ≡ size) × (hash_by asked.hash size ≡ None)
+
+-- The status that follows, and what standard error is told.
+abbrev pub status_without : NotReceived → Status
+status_without (Malformed error) = Unread
+status_without NoNonce = Unjudged
+status_without (NoHash size) = Unjudged
+
+abbrev pub not_received_text : NotReceived → List ℕ
+not_received_text (Malformed error) = quote_error_text error
+not_received_text NoNonce = codes "the nonce isn't stated (--nonce, or --any-nonce)"
+not_received_text (NoHash size) =
+    codes "no hash function here has digests of " ++ decimal size ++ codes " bytes (--quote-hash)"

@@ -1,0 +1,92 @@
+ghost use Rattle.std.specs.Prelude.{◌≡◌, Some};
+ghost use Rattle.std.specs.Option.{option_map};
+ghost use Rattle.std.specs.Result.{result_map_both};
+ghost use Rattle.uefi_audits.specs.verify.Quote.{received_of};
+ghost use Rattle.uefi_audit.specs.Quote.{Receives, hash_by, not_received_text, status_without};
+
+use crate::failure::Status;
+use crate::request::AskedQuote;
+use pcr_replay::Bank;
+use std::fmt;
+use tpm_quote::{Quote, QuoteError};
+use uefi_audits::verify::ReceivedQuote;
+
+/// Why a log isn't compared with the bytes of a file.
+#[derive(Clone, Copy, Drop)]
+pub(crate) enum NotReceived {
+    /// They aren't a quote.
+    Malformed(QuoteError),
+    /// It isn't stated which nonce the quote was asked for with, nor that it may have any.
+    NoNonce,
+    /// No hash function is named, and none here has digests of so many bytes.
+    NoHash(usize),
+}
+
+impl NotReceived {
+    /// Returns the status that follows.
+    pub(crate) fn status(self) -> Status
+        ensures { result ≡ status_without self }
+    {
+        match self {
+            NotReceived::Malformed(_) => Status::Unread,
+            NotReceived::NoNonce | NotReceived::NoHash(_) => Status::Unjudged,
+        }
+    }
+}
+
+/// Writes what is wrong, for standard error.
+impl fmt::Display for NotReceived {
+    ghost output = { λ why. Some (not_received_text why) };
+
+    fn fmt<W: fmt::Write>(&self, f: &mut fmt::Formatter<W>) -> fmt::Result {
+        match self {
+            NotReceived::Malformed(error) => write!(f, "{error}"),
+            NotReceived::NoNonce => {
+                f.write_str("the nonce isn't stated (--nonce, or --any-nonce)")
+            }
+            NotReceived::NoHash(size) => write!(
+                f,
+                "no hash function here has digests of {size} bytes (--quote-hash)"
+            ),
+        }
+    }
+}
+
+/// Returns the quote that the bytes of a file are, with the nonce that it was asked for with.
+///
+/// # Errors
+///
+/// - [`Malformed`](NotReceived::Malformed) if they are no quote.
+/// - [`NoNonce`](NotReceived::NoNonce) if there is no nonce, and not any will do.
+/// - [`NoHash`](NotReceived::NoHash) if the hash function of its digest isn't known.
+pub(crate) fn received_quote<'a>(
+    bytes: &'a [u8],
+    asked: &AskedQuote<'_>,
+    nonce: Option<&'a [u8]>,
+) -> Result<ReceivedQuote<'a>, NotReceived>
+    ensures { Receives bytes.now asked.now (option_map (λ nonce. nonce.now) nonce)
+        (result_map_both received_of (λ why. why) result) }
+{
+    let quote = match Quote::try_from(bytes) {
+        Ok(quote) => quote,
+        Err(error) => return Err(NotReceived::Malformed(error)),
+    };
+    if nonce.is_none() && !asked.any_nonce {
+        return Err(NotReceived::NoNonce);
+    }
+    let size = quote.pcr_digest().len();
+    match hash_by(asked.hash, size) {
+        Some(hash) => Ok(ReceivedQuote { quote, hash, nonce }),
+        None => Err(NotReceived::NoHash(size)),
+    }
+}
+
+/// Returns the hash function of a digest: the one that is named, or else that of its length.
+fn hash_by(named: Option<Bank>, size: usize) -> Option<Bank>
+    ensures { result ≡ hash_by named size }
+{
+    match named {
+        Some(hash) => Some(hash),
+        None => Bank::of_size(size),
+    }
+}
