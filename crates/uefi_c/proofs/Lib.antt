@@ -13,6 +13,9 @@ pub mod EventBytes
 pub mod SignatureLists
 pub mod GptEntries
 pub mod PcrSteps
+pub mod QuoteRead
+pub mod QuoteSets
+pub mod SelectionSteps
 pub mod WalkSteps
 pub mod PassedDigests
 pub mod BootOrders

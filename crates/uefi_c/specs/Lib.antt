@@ -11,6 +11,7 @@ pub mod Config
 pub mod LoadOption
 pub mod EventData
 pub mod Replay
+pub mod Quote
 pub mod Signatures
 pub mod Gpt
 pub mod Info

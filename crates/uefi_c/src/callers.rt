@@ -9,6 +9,7 @@ mod log2;
 mod map;
 mod nodes;
 mod pairs;
+mod selections;
 mod signatures;
 mod tagged;
 
@@ -18,5 +19,6 @@ pub use self::log2::{digests_by_steps, log2_after_event_by_steps, log2_by_steps}
 pub use self::map::entries_by_steps;
 pub use self::nodes::nodes_by_steps;
 pub use self::pairs::pairs_by_steps;
+pub use self::selections::selections_by_steps;
 pub use self::signatures::signatures_by_steps;
 pub use self::tagged::tagged_by_steps;

@@ -29,6 +29,7 @@ mod number;
 mod path;
 mod path_state;
 mod pci;
+mod quote;
 mod replay;
 mod time;
 mod ucs2;
