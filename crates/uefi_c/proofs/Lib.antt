@@ -15,6 +15,7 @@ pub mod GptEntries
 pub mod PcrSteps
 pub mod QuoteRead
 pub mod QuoteSets
+pub mod QuoteBanks
 pub mod SelectionSteps
 pub mod WalkSteps
 pub mod PassedDigests

@@ -12,6 +12,7 @@ pub mod LoadOption
 pub mod EventData
 pub mod Replay
 pub mod Quote
+pub mod QuoteDigest
 pub mod Signatures
 pub mod Gpt
 pub mod Info

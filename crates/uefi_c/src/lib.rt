@@ -30,6 +30,7 @@ mod path;
 mod path_state;
 mod pci;
 mod quote;
+mod quote_digest;
 mod replay;
 mod time;
 mod ucs2;

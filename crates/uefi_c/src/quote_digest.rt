@@ -1,0 +1,172 @@
+ghost use Rattle.std.specs.Prelude.{◌≡◌, ◌&&◌, Some, IsTrue, IsFalse, IfSome};
+ghost use Rattle.std.specs.Result.{result_map_both};
+ghost use Rattle.pcr_replay.specs.Quotes.{is_quoted};
+ghost use Rattle.pcr_replay.specs.Replay.{is_active};
+ghost use Rattle.pcr_replay.specs.Views.{value_of};
+ghost use Rattle.pcr_replay.specs.declared.bank.Bank.{Bank};
+ghost use Rattle.tpm_quote.specs.Quote.{Quote as QuoteFields};
+ghost use Rattle.tpm_quote.specs.Views.{quote_of};
+ghost use Rattle.uefi_tcg.specs.Entries.{Contents};
+ghost use Rattle.uefi_tcg.specs.Logs.{HasContents};
+ghost use Rattle.uefi_c.specs.Quote.{AreQuote};
+ghost use Rattle.uefi_c.specs.QuoteDigest.{HasHash, IsHash, digest_at, digest_seen};
+ghost use Rattle.uefi_c.specs.Replay.{log_given, start_given};
+
+use crate::replay::{NO_FAULT, ROOM, fault_number, log_of, start_of};
+use pcr_replay::{
+    Bank, BankPcrs, NoQuoteDigest, PcrValue, Pcrs, Start, is_active, is_quoted, quote_digest,
+    replay_from,
+};
+use tpm_quote::Quote;
+use uefi_tcg::{AlgorithmId, Log};
+
+/// The algorithm that says that the length of the quote's digest tells the hash function.
+const OF_SIZE: u16 = 0;
+
+/// Why there is no digest: a PCR is selected of a bank that isn't active in the log, or that can't be
+/// replayed. The numbers below are those of a PCR that is undetermined.
+const NO_BANK: u32 = 7;
+
+/// How many banks can be replayed.
+const BANK_COUNT: usize = 5;
+
+/// The digest of the PCRs that a log leads to, or why there is none: of the first selected PCR that
+/// has no value.
+#[derive(Clone, Copy)]
+#[repr(C)]
+pub struct UefiQuoteDigest {
+    /// The length of the digest in bytes; without meaning if there is none.
+    pub size: usize,
+    /// The index of the event in the log by which the PCR is undetermined; without meaning with
+    /// another fault.
+    pub index: usize,
+    /// The offset at which that event starts.
+    pub offset: usize,
+    /// Why there is no digest, 1 to 7; 0 with a digest.
+    pub fault: u32,
+    /// The PCR; without meaning if its bank is missing.
+    pub pcr_index: u32,
+    /// The algorithm of its bank; without meaning with a digest.
+    pub algorithm: u16,
+    /// The digest, in the first bytes.
+    pub value: [u8; ROOM],
+}
+
+/// Computes the digest of the PCRs that a log leads to: over the PCRs that the quote selects, in its
+/// order.
+///
+/// The hash function is that of an algorithm's number, or for 0 that of the digest's length. Without
+/// one, or without a quote, the call returns false.
+#[unsafe(no_mangle)]
+pub extern "C" fn uefi_quote_digest(
+    message: &[u8],
+    hash: u16,
+    log: &[u8],
+    last_entry: usize,
+    locality: u32,
+    out: &mut UefiQuoteDigest,
+) -> bool
+    ensures hash { IsTrue result → HasHash message.now hash }
+    ensures digest { IsTrue result → (quote : QuoteFields) → AreQuote message.now quote
+        → (bank : Bank) → IsHash hash quote bank → (contents : Contents)
+        → HasContents (log_given log.entry last_entry) contents → digest_seen out.new
+        ≡ digest_at bank contents.entries quote (start_given locality contents.entries) }
+    ensures none { IsFalse result → HasHash message.now hash → ⊥ }
+    ensures unchanged { IsFalse result → out.new ≡ out.old }
+{
+    let Ok(quote) = Quote::try_from(message) else {
+        return false;
+    };
+    let Some(hash) = hash_of(hash, &quote) else {
+        return false;
+    };
+    let log = log_of(log, last_entry);
+    *out = seen(&digest_of(hash, &quote, &log, &start_of(&log, locality)));
+    true
+}
+
+/// Returns the hash function of a quote's digest.
+fn hash_of(algorithm: u16, quote: &Quote<'_>) -> Option<Bank>
+    ensures hash { IfSome result (λ hash. IsHash algorithm (quote_of quote.now) hash) }
+    ensures only { (hash : Bank) → IsHash algorithm (quote_of quote.now) hash → result ≡ Some hash }
+{
+    if algorithm == OF_SIZE {
+        return Bank::of_size(quote.pcr_digest().len());
+    }
+    Bank::of(AlgorithmId(algorithm))
+}
+
+/// Returns the digest of the PCRs that a log leads to in a TPM that started so.
+fn digest_of(
+    hash: Bank,
+    quote: &Quote<'_>,
+    log: &Log<'_>,
+    start: &Start,
+) -> Result<PcrValue, NoQuoteDigest>
+    ensures { (contents : Contents) → HasContents log.now contents
+        → result_map_both value_of (λ why. why) result
+        ≡ digest_at hash contents.entries (quote_of quote.now) start.now }
+{
+    let mut banks = [BankPcrs {
+        bank: Bank::Sha1,
+        pcrs: Pcrs::started(Bank::Sha1, 0, false),
+    }; BANK_COUNT];
+    let mut count = 0;
+    for index in 0..BANK_COUNT {
+        let bank = Bank::ALL[index];
+        if is_compared(quote, log, bank) {
+            let pcrs = replay_from(log, bank, start);
+            banks[count] = BankPcrs { bank, pcrs };
+            count += 1;
+        }
+    }
+    quote_digest(hash, quote, &banks[..count])
+}
+
+/// Returns whether a bank has a selection in a quote and is active in a log.
+fn is_compared(quote: &Quote<'_>, log: &Log<'_>, bank: Bank) -> bool
+    ensures { (contents : Contents) → HasContents log.now contents
+        → result ≡ (is_quoted (quote_of quote.now) bank && is_active bank contents.entries) }
+{
+    is_quoted(quote, bank) && is_active(log, bank)
+}
+
+/// Returns a digest, or why there is none.
+fn seen(digest: &Result<PcrValue, NoQuoteDigest>) -> UefiQuoteDigest
+    ensures { digest_seen result ≡ result_map_both value_of (λ why. why) digest.now }
+{
+    let mut value = [0; ROOM];
+    let none = UefiQuoteDigest {
+        size: 0,
+        index: 0,
+        offset: 0,
+        fault: NO_FAULT,
+        pcr_index: 0,
+        algorithm: 0,
+        value,
+    };
+    match digest {
+        Ok(found) => {
+            let bytes = found.as_bytes();
+            value[..bytes.len()].copy_from_slice(bytes);
+            UefiQuoteDigest {
+                size: bytes.len(),
+                value,
+                ..none
+            }
+        }
+        Err(NoQuoteDigest::NoBank(algorithm)) => UefiQuoteDigest {
+            fault: NO_BANK,
+            algorithm: algorithm.0,
+            ..none
+        },
+        Err(NoQuoteDigest::Undetermined(algorithm, pcr, at)) => UefiQuoteDigest {
+            index: at.index,
+            offset: at.offset,
+            fault: fault_number(at.fault),
+            pcr_index: pcr.0,
+            algorithm: algorithm.0,
+            ..none
+        },
+    }
+}
