@@ -1,5 +1,6 @@
 /* Device paths, memory maps, event logs, times, records, PCI resources and
- * configuration texts of UEFI firmware: readers and writers for C.
+ * configuration texts of UEFI firmware, and quotes of a TPM: readers and writers
+ * for C.
  *
  *     // The events of a version 2 log, as EFI_TCG2_PROTOCOL.GetEventLog
  *     // gives it: `start` is EventLogLocation, `last` EventLogLastEntry, and
@@ -37,16 +38,17 @@
  * number that the caller keeps: set it to the start, 0 if nothing else is
  * said, and call until the function returns false. An offset may be any
  * number, also past the end; the rows of a table any bytes: a caller's state
- * needs no trust.
+ * needs no trust. uefi_quote_next_selection takes `cursor`, an index, in the same
+ * way.
  *
  * Results. Most functions return true if they have a result. Where a function
  * returns false, `*offset` and `*out` are as they were. Some return a number
- * instead, each of which has a name: those that end in _state, uefi_pci_next
- * and uefi_load_option. uefi_load_option returns 0 if it has a result: compare
- * it with UEFI_LOAD_OPTION_READ, and don't take it as a bool. uefi_pci_next
- * returns UEFI_PCI_RESOURCE, 1, if it has one. At other numbers of these two,
- * `*offset` and `*out` are as they were. `*out` may be uninitialized: it is
- * only written.
+ * instead, each of which has a name: those that end in _state, uefi_pci_next,
+ * uefi_quote_fault and uefi_load_option. uefi_load_option returns 0 if it has a
+ * result: compare it with UEFI_LOAD_OPTION_READ, and don't take it as a bool.
+ * uefi_pci_next returns UEFI_PCI_RESOURCE, 1, if it has one. At other numbers of
+ * these two, `*offset` and `*out` are as they were. `*out` may be uninitialized:
+ * it is only written.
  *
  * What the caller owes, as for any C function: `at` points to `n` bytes that
  * can be read and stay as they are during the call; other pointers point to
@@ -89,6 +91,7 @@
 #include "uefi_formats/path.h"
 #include "uefi_formats/pci.h"
 #include "uefi_formats/pcr.h"
+#include "uefi_formats/quote.h"
 #include "uefi_formats/record.h"
 #include "uefi_formats/text.h"
 #include "uefi_formats/time.h"

@@ -1,7 +1,7 @@
 /* A program without a C library, which ends with status 0: both sides lay out
  * structures alike, a slice comes back as it was handed over, NULL with length
  * 0 is empty bytes, a log without events has none, the calls on the data of
- * events and on PCRs fill what they are handed, and names and records are
+ * events, on PCRs and on quotes fill what they are handed, and names and records are
  * written where there is room.
  */
 #include "uefi_formats.h"
@@ -36,6 +36,9 @@ HAS(UefiSignature, EITHER(32, 24), owner, EITHER(16, 8), "a signature");
 HAS(UefiGptHeader, EITHER(96, 92), disk_guid, 76, "the header of a partition table");
 HAS(UefiGptEntry, EITHER(144, 136), name, EITHER(72, 64), "a partition");
 HAS(UefiPcr, EITHER(96, 80), value, EITHER(28, 16), "a PCR");
+HAS(UefiQuote, EITHER(80, 52), safe, EITHER(72, 48), "a quote");
+HAS(UefiPcrSelection, 8, algorithm, 4, "a selection of PCRs");
+HAS(UefiQuoteDigest, EITHER(104, 88), value, EITHER(34, 22), "the digest of a quote");
 _Static_assert(UEFI_FORMATS_VERSION == 0x000100, "version 0.1.0");
 
 static const uint8_t path_bytes[] = {1, 2, 6, 0, 9, 8, 0x7f, 0xff, 4, 0};
@@ -289,6 +292,35 @@ static int pcrs(void) {
     return uefi_bank_is_active(log, UEFI_EMPTY_LOG, UEFI_TPM_ALG_SHA256) ? 44 : 0;
 }
 
+/* A quote of the PCRs 0 and 23 of SHA-1, and then of none, to which any log leads: its digest is that of no bytes. */
+static int quotes(void) {
+    static uint8_t bytes[70] = {0xff, 0x54, 0x43, 0x47, 0x80, 0x18, [7] = 1, 7, [10] = 2, 8, 9, [20] = 1, [24] = 2,
+                                [28] = 3, 1, [37] = 4, [41] = 1, [43] = 4, 3, 1, 0, 0x80, [49] = 20, [69] = 5};
+    UefiBytes message = uefi_bytes(bytes, sizeof bytes), log = uefi_bytes(NULL, 0);
+    static UefiQuote quote;
+    static UefiQuoteDigest digest;
+    UefiPcrSelection selection;
+    size_t at = 0;
+    if (!uefi_quote(message, &quote) || quote.qualified_signer.at != bytes + 8 || quote.qualified_signer.n != 1 || quote.extra_data.at != bytes + 11 || quote.extra_data.n != 2)
+        return 72;
+    if (quote.clock != 1 || quote.reset_count != 2 || quote.restart_count != 3 || !quote.safe || quote.firmware_version != 4 || quote.pcr_digest.at != bytes + 50 || quote.pcr_digest.n != 20)
+        return 73;
+    if (!uefi_quote_next_selection(message, &at, &selection) || at != 1 || selection.algorithm != UEFI_TPM_ALG_SHA1 || selection.pcrs != 0x800001)
+        return 74;
+    if (uefi_quote_next_selection(message, &at, &selection) || at != 1 || uefi_quote_fault(message) != UEFI_QUOTE_READ)
+        return 75;
+    if (uefi_quote_fault(uefi_bytes(bytes, 69)) != UEFI_QUOTE_TOO_SHORT || uefi_quote(uefi_bytes(bytes, 69), &quote) || quote.pcr_digest.n != 20)
+        return 76;
+    if (!uefi_quote_digest(message, UEFI_HASH_OF_SIZE, log, UEFI_EMPTY_LOG, 0, &digest) || digest.fault != UEFI_QUOTE_NO_BANK || digest.algorithm != UEFI_TPM_ALG_SHA1)
+        return 77;
+    bytes[45] = bytes[47] = 0;
+    if (!uefi_quote_digest(message, UEFI_HASH_OF_SIZE, log, UEFI_EMPTY_LOG, 0, &digest) || digest.fault != UEFI_PCR_DETERMINED || digest.size != 20 || digest.value[0] != 0xda || digest.value[19] != 0x09)
+        return 78;
+    if (!uefi_quote_digest(message, UEFI_TPM_ALG_SHA256, log, UEFI_EMPTY_LOG, 0, &digest) || digest.size != 32 || digest.value[0] != 0xe3 || digest.value[31] != 0x55)
+        return 79;
+    return uefi_quote_digest(message, 1, log, UEFI_EMPTY_LOG, 0, &digest) || digest.size != 32 ? 80 : 0;
+}
+
 __attribute__((noreturn)) static void end(long status) {
 #if defined(__x86_64__)
     __asm__ volatile("syscall" : : "a"(60L), "D"(status) : "memory");
@@ -313,7 +345,8 @@ __attribute__((used)) static void run(void) {
     status = status ? status : signatures();
     status = status ? status : partitions();
     status = status ? status : four_bytes();
-    end(status ? status : pcrs());
+    status = status ? status : pcrs();
+    end(status ? status : quotes());
 }
 
 #if defined(__x86_64__)

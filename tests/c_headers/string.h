@@ -1,5 +1,6 @@
 #pragma once
 #include <stddef.h>
 int strcmp(const char *one, const char *other);
+size_t strlen(const char *text);
 int memcmp(const void *one, const void *other, size_t n);
 void *memcpy(void *to, const void *from, size_t n);

@@ -1,0 +1,120 @@
+"""What `c/examples/quote.c` has to print: quotes, logs, and whether a log leads to a quote's digest.
+
+The quotes are those of a software TPM whose PCRs were extended as the logs say, by keys that hash by SHA-256.
+"""
+from pathlib import Path
+
+QUOTES = [
+    "ff54434780180022000bde213066bcb2e45af5c1ef49eddb9df8b8141685d4d94a654f703f33f24bde3600080123456789ab"
+    "cdef00000000000005d0000000010000000001201910230016363600000001000b03ff00000020312f22ee6b7daa0fcf66bf"
+    "9e9b6c3e0d3b746c3aaa69ecf213b00cd7e68ce446",
+    "ff54434780180022000bde213066bcb2e45af5c1ef49eddb9df8b8141685d4d94a654f703f33f24bde360000000000000000"
+    "0614000000010000000001201910230016363600000001000b038100000020bdfd4926ecd611ee6fa67ceac3045f32b8e9c5"
+    "b3b5fbebcfdbbaed1082f8ea52",
+    "ff54434780180022000bde213066bcb2e45af5c1ef49eddb9df8b8141685d4d94a654f703f33f24bde360020001122334455"
+    "66778899aabbccddeeff00112233445566778899aabbccddeeff000000000000064c00000001000000000120191023001636"
+    "3600000002000403030000000b03810481002004e23d1d664f36ce1d0b99f1ace35d8c776073518dd55f1c7ac9c8fb6163e4"
+    "a7",
+    "ff54434780180022000b32536abaa9d80c180585b5fcd633c102aaa8a5914c4d2ba8e48e88dc477b4fae0002cafe00000000"
+    "00000680000000010000000001201910230016363600000001000b03ffffff00203a5de426b8889dc1d03fe8e43f4080b209"
+    "0f3529aa4bb450a7c8c401c472318b",
+    "ff54434780180022000b32536abaa9d80c180585b5fcd633c102aaa8a5914c4d2ba8e48e88dc477b4fae0000000000000000"
+    "06a6000000010000000001201910230016363600000001000c03004000002017b0761f87b081d5cf10757ccc89f12be355c7"
+    "0e2e29df288b65b30710dcbcd1",
+    "ff54434780180022000b32536abaa9d80c180585b5fcd633c102aaa8a5914c4d2ba8e48e88dc477b4fae0001ff0000000000"
+    "0006cc000000010000000001201910230016363600000003000d03000080000403000100000b0300020000205b517952cbe9"
+    "c4c147bc3f3434f9d82409e76d09ea58905aefe7fb5415912d9a",
+]
+# The banks and the PCRs of each, its clock and its nonce, as they are printed.
+SHOWN = [
+    (["11 0 1 2 3 4 5 6 7"], 1488, "0123456789abcdef"),
+    (["11 0 7"], 1556, ""),
+    (["4 0 1", "11 0 7 10 16 23"], 1612, "00112233445566778899aabbccddeeff" * 2),
+    (["11 0 1 2 3 4 5 6 7 8 9 10 11 12 13 14 15 16 17 18 19 20 21 22 23"], 1664, "cafe"),
+    (["12 14"], 1702, ""),
+    (["13 23", "4 8", "11 9"], 1740, "ff"),
+]
+EXTENDED = {0: {4: b"\x33" * 20, 11: b"\x11" * 32}, 7: {11: b"\x22" * 32}}
+SIZES = {4: 20, 11: 32}
+AGREES, ANOTHER = "the log agrees", "the nonce is another"
+
+
+def little(number, size):
+    return number.to_bytes(size, "little")
+
+
+def log_of(banks, events):
+    """A version 2 log with these banks, and events of these PCRs, each with the digests of these banks."""
+    table = b"".join(little(bank, 2) + little(SIZES[bank], 2) for bank in banks)
+    header = b"Spec ID Event03\0" + bytes([0, 0, 0, 0, 0, 2, 0, 2]) + little(len(banks), 4) + table + b"\0"
+    log = little(0, 4) + little(3, 4) + bytes(20) + little(len(header), 4) + header
+    for pcr, kind, those in events:
+        digests = b"".join(little(bank, 2) + EXTENDED[pcr][bank] for bank in those)
+        log += little(pcr, 4) + little(kind, 4) + little(len(those), 4) + digests + little(0, 4)
+    return log
+
+
+# Both banks of the TPM, one of them, and the other one in the event of another PCR, so that PCR 0 of SHA-1 is undetermined.
+LOGS = {
+    "both": log_of([4, 11], [(0, 8, [4, 11]), (7, 4, [11])]),
+    "sha256": log_of([11], [(0, 8, [11]), (7, 4, [11])]),
+    "lacking": log_of([4, 11], [(0, 8, [4, 11]), (7, 4, [11]), (0, 4, [11])]),
+    "none": b"",
+}
+# What is said of a quote and a log, where the nonce is the one that was sent.
+VERDICTS = {
+    "both": [AGREES] * 4 + ["the log has no bank 12", "the log has no bank 13"],
+    "sha256": [AGREES, AGREES, "the log has no bank 4", AGREES, "the log has no bank 12", "the log has no bank 13"],
+    "none": [f"the log has no bank {SHOWN[index][0][0].split()[0]}" for index in range(6)],
+}
+UNDETERMINED = "PCR 0 of bank 4 is undetermined: event 2 at 191, fault 1"
+
+
+def shown(index, verdict):
+    banks, clock, nonce = SHOWN[index]
+    lines = [*(f"bank {it}" for it in banks), f"clock {clock} resets 1 restarts 0", "firmware 2019102300163636", f"nonce {nonce}", verdict]
+    return 0 if verdict == AGREES else 1, "".join(f"{it}\n" for it in lines).encode()
+
+
+def rows(room):
+    """The arguments of each run, and what it has to end with."""
+    for index, quote in enumerate(QUOTES):
+        Path(f"{room}/quote{index}").write_bytes(bytes.fromhex(quote))
+    for name, log in LOGS.items():
+        Path(f"{room}/{name}.log").write_bytes(log)
+    quote = lambda index: f"{room}/quote{index}"
+    log = lambda name: f"{room}/{name}.log"
+    for name, verdicts in VERDICTS.items():
+        for index, verdict in enumerate(verdicts):
+            yield [quote(index), log(name)], shown(index, verdict)
+            yield [quote(index), log(name), SHOWN[index][2]], shown(index, verdict)
+    yield [quote(2), log("lacking")], shown(2, UNDETERMINED)
+    for nonce in ("", "0123456789abcd", "0123456789abcdee", "0123456789abcdef00", "not hex"):
+        yield [quote(0), log("both"), nonce], shown(0, ANOTHER)
+    # A digest of another value, and of a length that no hash function has.
+    whole = bytes.fromhex(QUOTES[0])
+    Path(f"{room}/other").write_bytes(whole[:-1] + b"\0")
+    yield [f"{room}/other", log("both")], shown(0, f"the log leads to {QUOTES[0][-64:]}")
+    Path(f"{room}/short").write_bytes(whole[:-34] + b"\0\1\0")
+    yield [f"{room}/short", log("both")], shown(0, "no hash function has digests of this length")
+    # A quote of no PCR, to which any log leads: its digest is SHA-256 of no bytes.
+    of_none = "e3b0c44298fc1c149afbf4c8996fb92427ae41e4649b934ca495991b7852b855"
+    Path(f"{room}/of-none").write_bytes(whole[:-44] + bytes(4) + b"\0\x20" + bytes.fromhex(of_none))
+    for name in LOGS:
+        status, lines = shown(0, AGREES)
+        yield [f"{room}/of-none", log(name)], (status, lines.split(b"\n", 1)[1])
+    for fault, message in enumerate(faults(whole), 1):
+        Path(f"{room}/fault{fault}").write_bytes(message)
+        yield [f"{room}/fault{fault}", log("both")], (2, f"no quote: {fault}\n".encode())
+    yield [f"{room}/missing", log("both")], (2, b"")
+
+
+def faults(whole):
+    """Bytes with each fault, in the order of their numbers."""
+    safe, selection = len(whole) - 53, len(whole) - 40
+    yield b"\0" + whole[1:]
+    yield whole[:5] + b"\x17" + whole[6:]
+    yield whole[:safe] + b"\2" + whole[safe + 1:]
+    yield whole[:selection + 2] + b"\5" + whole[selection + 3:]
+    yield whole[:-1]
+    yield whole + b"\0"
