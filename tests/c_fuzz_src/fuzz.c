@@ -202,7 +202,7 @@ static void one_input(UefiBytes log, size_t whole, uint8_t *rows_end) {
     one_path(part, at), one_map(part);
     for (size_t next = start_of(0, n); NEXT(UefiResource, next, pci_next, log) == UEFI_PCI_RESOURCE;) {}
     for (size_t next = at; NEXT(UefiPair, next, config_next_pair, part);) {}
-    digests_from(rows, part, &at), records_of(part), calls_of(part), contents_of(part), names_of(part);
+    digests_from(rows, part, &at), records_of(part), calls_of(part), contents_of(part), names_of(part), quotes_of(part);
 }
 
 int main(int argc, char **argv) {

@@ -92,5 +92,6 @@ void records_of(UefiBytes part);
 void calls_of(UefiBytes part);
 void contents_of(UefiBytes part);
 void names_of(UefiBytes part);
+void quotes_of(UefiBytes part);
 
 #endif
