@@ -31,3 +31,7 @@ pub(crate) mod uefi_records {
     pub(crate) use uefi_formats::proto::media::file::*;
     pub(crate) use uefi_formats::runtime::*;
 }
+
+pub(crate) mod tpm_quote {
+    pub(crate) use uefi_formats::pcr::*;
+}

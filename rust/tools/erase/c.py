@@ -113,7 +113,7 @@ def function_to_c(source, keyword, structs):
             of, call = PARAMETERS[plain]
             before.insert(0, f"let {name} = {name}.{call}();")
             replace(source, colon + 1, end, f"{of}<{life or chr(39) + '_'}>")
-        elif plain.startswith('mut ') and name != 'offset':
+        elif plain.startswith('mut ') and name not in ('offset', 'cursor'):
             of = plain.removeprefix('mut ')
             outs[name] = of.endswith('[u8]')
             replace(source, colon + 1, end, f"&mut MaybeUninit<{'Bytes<' + chr(39) + 'a>' if outs[name] else of}>")

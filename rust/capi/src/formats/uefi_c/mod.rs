@@ -26,6 +26,8 @@ mod number;
 mod path;
 mod path_state;
 mod pci;
+mod quote;
+mod quote_digest;
 mod replay;
 mod time;
 mod ucs2;

@@ -13,12 +13,12 @@ use crate::libraries::uefi_tcg::{AlgorithmId, LastEntry, Log};
 const EMPTY_LOG: usize = 1;
 
 /// The most bytes that a PCR has.
-const ROOM: usize = 64;
+pub(crate) const ROOM: usize = 64;
 
 // Why a PCR is undetermined.
 
 /// It isn't: it has a value.
-const NO_FAULT: u32 = 0;
+pub(crate) const NO_FAULT: u32 = 0;
 
 /// The event has no digest of the bank's algorithm.
 const NO_DIGEST: u32 = 1;
@@ -132,7 +132,7 @@ fn replayed(log: &[u8], last_entry: usize, algorithm: u16, locality: u32) -> Opt
 
 /// Returns the log of these bytes with this last entry.
 #[inline]
-fn log_of(bytes: &[u8], last_entry: usize) -> Log<'_> {
+pub(crate) fn log_of(bytes: &[u8], last_entry: usize) -> Log<'_> {
     if last_entry == EMPTY_LOG {
         return Log::new(bytes, LastEntry::Empty);
     }
@@ -144,7 +144,7 @@ fn log_of(bytes: &[u8], last_entry: usize) -> Log<'_> {
 
 /// Returns how PCR 0 starts: at this locality if it is below 256, else as the log says.
 #[inline]
-fn start_of(log: &Log<'_>, locality: u32) -> Start {
+pub(crate) fn start_of(log: &Log<'_>, locality: u32) -> Start {
     if locality < 256 {
         Start::at(locality as u8)
     } else {
@@ -197,7 +197,7 @@ fn seen(outcome: &Result<PcrValue, Undetermined>) -> UefiPcr {
 
 /// Returns the number of a fault.
 #[inline]
-fn fault_number(fault: Fault) -> u32 {
+pub(crate) fn fault_number(fault: Fault) -> u32 {
     match fault {
         Fault::NoDigest => NO_DIGEST,
         Fault::TwoDigests => TWO_DIGESTS,

@@ -5,6 +5,6 @@
 mod banks;
 mod logs;
 mod machine_log;
-mod quotes;
+pub(crate) mod quotes;
 mod read_once;
 mod starts;

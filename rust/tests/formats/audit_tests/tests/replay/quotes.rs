@@ -10,7 +10,7 @@ use crate::uefi_tcg::{AlgorithmId, LastEntry, Log, PcrIndex};
 const SHA1_LOG: &str = "0000000008000000333333333333333333333333333333333333333300000000";
 
 /// A log that extends the PCRs 0 and 7 of SHA-256.
-const SHA256_LOG: &str = "0000000003000000000000000000000000000000000000000000000021000000 \
+pub(crate) const SHA256_LOG: &str = "0000000003000000000000000000000000000000000000000000000021000000 \
                           53706563204944204576656e743033000000000000020002010000000b00200000 \
                           0000000008000000010000000b001111111111111111111111111111111111111111 \
                           11111111111111111111111100000000 \
@@ -24,29 +24,55 @@ fn bank_pcrs(bank: Bank, log: &str) -> Result<BankPcrs, Fail> {
     Ok(BankPcrs { bank, pcrs })
 }
 
-/// Quotes of a software TPM whose PCRs were extended as the logs say, by keys that hash by SHA-256.
-const QUOTES: [&str; 6] = [
+// Quotes of a software TPM whose PCRs were extended as the logs say, by keys that hash by SHA-256.
+
+/// PCR 0 to 7 of SHA-256, with a nonce.
+pub(crate) const PCRS_0_TO_7: &str =
     "ff54434780180022000bde213066bcb2e45af5c1ef49eddb9df8b8141685d4d94a654f703f33f24b \
      de3600080123456789abcdef00000000000005d00000000100000000012019102300163636000000 \
      01000b03ff00000020312f22ee6b7daa0fcf66bf9e9b6c3e0d3b746c3aaa69ecf213b00cd7e68ce4 \
-     46",
+     46";
+
+/// PCR 0 and 7 of SHA-256, without a nonce.
+pub(crate) const PCRS_0_AND_7: &str =
     "ff54434780180022000bde213066bcb2e45af5c1ef49eddb9df8b8141685d4d94a654f703f33f24b \
      de3600000000000000000614000000010000000001201910230016363600000001000b0381000000 \
-     20bdfd4926ecd611ee6fa67ceac3045f32b8e9c5b3b5fbebcfdbbaed1082f8ea52",
+     20bdfd4926ecd611ee6fa67ceac3045f32b8e9c5b3b5fbebcfdbbaed1082f8ea52";
+
+/// PCRs of SHA-1 and of SHA-256.
+pub(crate) const TWO_BANKS: &str =
     "ff54434780180022000bde213066bcb2e45af5c1ef49eddb9df8b8141685d4d94a654f703f33f24b \
      de36002000112233445566778899aabbccddeeff00112233445566778899aabbccddeeff00000000 \
      0000064c000000010000000001201910230016363600000002000403030000000b03810481002004 \
-     e23d1d664f36ce1d0b99f1ace35d8c776073518dd55f1c7ac9c8fb6163e4a7",
+     e23d1d664f36ce1d0b99f1ace35d8c776073518dd55f1c7ac9c8fb6163e4a7";
+
+/// All PCRs of SHA-256.
+pub(crate) const ALL_PCRS: &str =
     "ff54434780180022000b32536abaa9d80c180585b5fcd633c102aaa8a5914c4d2ba8e48e88dc477b \
      4fae0002cafe0000000000000680000000010000000001201910230016363600000001000b03ffff \
-     ff00203a5de426b8889dc1d03fe8e43f4080b2090f3529aa4bb450a7c8c401c472318b",
+     ff00203a5de426b8889dc1d03fe8e43f4080b2090f3529aa4bb450a7c8c401c472318b";
+
+/// PCR 14 of SHA-384, which nothing extended.
+pub(crate) const SHA384_PCR_14: &str =
     "ff54434780180022000b32536abaa9d80c180585b5fcd633c102aaa8a5914c4d2ba8e48e88dc477b \
      4fae000000000000000006a6000000010000000001201910230016363600000001000c0300400000 \
-     2017b0761f87b081d5cf10757ccc89f12be355c70e2e29df288b65b30710dcbcd1",
+     2017b0761f87b081d5cf10757ccc89f12be355c70e2e29df288b65b30710dcbcd1";
+
+/// PCRs of SHA-512, SHA-1 and SHA-256.
+pub(crate) const THREE_BANKS: &str =
     "ff54434780180022000b32536abaa9d80c180585b5fcd633c102aaa8a5914c4d2ba8e48e88dc477b \
      4fae0001ff00000000000006cc000000010000000001201910230016363600000003000d03000080 \
      000403000100000b0300020000205b517952cbe9c4c147bc3f3434f9d82409e76d09ea58905aefe7 \
-     fb5415912d9a",
+     fb5415912d9a";
+
+/// All of them.
+const QUOTES: [&str; 6] = [
+    PCRS_0_TO_7,
+    PCRS_0_AND_7,
+    TWO_BANKS,
+    ALL_PCRS,
+    SHA384_PCR_14,
+    THREE_BANKS,
 ];
 
 /// Returns what the PCRs of the banks hold after the logs; those of two banks no log extends.
@@ -73,9 +99,9 @@ fn the_digest_is_that_of_the_tpm() -> Result<(), Fail> {
     Ok(())
 }
 
-/// Returns why there is no digest of the third quote, which is over PCRs of SHA-1 and of SHA-256.
+/// Returns why there is no digest of the quote of two banks.
 fn why_none(banks: &[BankPcrs]) -> Result<Option<NoQuoteDigest>, Fail> {
-    let message = bytes(QUOTES[2])?;
+    let message = bytes(TWO_BANKS)?;
     let quote = Quote::try_from(message.as_slice())?;
     Ok(quote_digest(Bank::Sha256, &quote, banks).err())
 }
