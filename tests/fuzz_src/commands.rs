@@ -50,7 +50,7 @@ fn listed(is_refused: bool, output: Vec<u8>) -> Ending {
 
 impl Command {
     /// The number that the third word is, if it is a word that the command takes.
-    fn argument(&self, word: Option<&[u8]>) -> Option<Option<usize>> {
+    pub fn argument(&self, word: Option<&[u8]>) -> Option<Option<usize>> {
         match (self.third_word, word) {
             (ThirdWord::None, None) | (ThirdWord::LastEntry, Some(b"-")) => Some(None),
             (ThirdWord::Number | ThirdWord::LastEntry, Some(word)) => {

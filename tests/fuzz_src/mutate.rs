@@ -1,5 +1,6 @@
 //! Mutations of an input.
 
+use crate::audit;
 use crate::commands::{Command, Program};
 use crate::input::Input;
 use crate::listings::ThirdWord;
@@ -49,7 +50,8 @@ impl<'a> Mutator<'a> {
     /// A member of the pool with a few mutations.
     pub fn input(&mut self) -> Input {
         let mut input = self.member().clone();
-        if self.command.takes_two {
+        let takes_quote = audit::takes_quote(self.command.name);
+        if self.command.takes_two && !takes_quote {
             match self.below(8) {
                 0..=3 => std::mem::swap(&mut input.bytes, &mut input.other),
                 4 => input.other = self.member().bytes.clone(),
@@ -57,7 +59,8 @@ impl<'a> Mutator<'a> {
                 _ => (),
             }
         }
-        let mut more = self.below(32) > 0;
+        let keeps_log = takes_quote && self.below(2) == 0;
+        let mut more = !keeps_log && self.below(32) > 0;
         while more {
             if self.command.program == Program::Audit && self.below(4) == 0 {
                 self.give_event_all(&mut input.bytes);
@@ -70,8 +73,23 @@ impl<'a> Mutator<'a> {
         if self.below(4000) == 0 && !input.bytes.is_empty() {
             input.bytes = input.bytes.repeat(MANY_BYTES / input.bytes.len() + 1);
         }
-        self.change_word(&mut input);
+        if !keeps_log {
+            self.change_word(&mut input);
+        }
+        if takes_quote {
+            input.other = self.quote(&input);
+        }
         input
+    }
+
+    /// A quote after the input's log, often a mutated one.
+    fn quote(&mut self, input: &Input) -> Vec<u8> {
+        let last_entry = self.command.argument(input.third_word.as_deref());
+        let mut quote = audit::made_quote(self.random, &input.bytes, last_entry);
+        while self.below(3) == 0 {
+            self.replace(&mut quote);
+        }
+        quote
     }
 
     /// An offset, often one near the start, or the next at which a part of the format's may start.

@@ -61,7 +61,7 @@ fn algorithm_name(number: u16) -> Option<&'static str> {
 }
 
 /// The name of an algorithm between quotation marks, or its number.
-fn algorithm(number: u16) -> String {
+pub fn algorithm(number: u16) -> String {
     algorithm_name(number).map_or(number.to_string(), text)
 }
 

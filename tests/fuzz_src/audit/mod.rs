@@ -1,6 +1,6 @@
 //! What plain Rust expects a run of the program `uefi_audit` to end with: its PCRs, its events and
-//! what their data say, its JSON, which digests are the hash of what was measured, and how two logs
-//! differ, over the plain [`readers`](crate::readers) of logs and the hash functions of OpenSSL.
+//! what their data say, its JSON, which digests are the hash of what was measured, how two logs
+//! differ, and whether a log leads to a quote, over the plain [`readers`](crate::readers) of logs and the hash functions of OpenSSL.
 
 #[macro_use]
 mod json;
@@ -9,10 +9,13 @@ mod check;
 mod diff;
 mod events;
 mod log;
+mod made_quote;
+mod quote;
 mod replay;
 
 use crate::input::Input;
 use crate::program::{Ending, other_name};
+use crate::random::Random;
 use log::Log;
 
 /// How many rows a table may have.
@@ -22,7 +25,7 @@ const UNJUDGED: i32 = 4;
 
 /// The commands, each with its words. Without the second word of the first, most mutations would be
 /// refused for the bytes that they leave over. Those whose names begin with `whole` are without.
-pub const COMMANDS: [(&str, &[&str]); 8] = [
+pub const COMMANDS: [(&str, &[&str]); 11] = [
     ("replay", &["replay", "--allow-left-over"]),
     ("whole", &["replay"]),
     ("json", &["replay", "--json", "--allow-left-over"]),
@@ -31,11 +34,26 @@ pub const COMMANDS: [(&str, &[&str]); 8] = [
     ("check", &["check", "--allow-left-over"]),
     ("diff", &["diff", "--allow-left-over"]),
     ("whole_diff", &["diff"]),
+    ("quote", &["verify", "--any-nonce", "--allow-left-over"]),
+    ("quote_json", &["verify", "--nonce=00112233", "--json", "--allow-left-over"]),
+    ("quote_nonce", &["verify", "--nonce=00112233", "--allow-left-over"]),
 ];
+/// The nonce that quotes are asked for with.
+pub const NONCE: [u8; 4] = [0x00, 0x11, 0x22, 0x33];
 
 /// Whether a command takes two files.
 pub fn takes_two(command: &str) -> bool {
-    matches!(command, "diff" | "whole_diff")
+    matches!(command, "diff" | "whole_diff") || takes_quote(command)
+}
+
+/// Whether the second file of a command is a quote.
+pub fn takes_quote(command: &str) -> bool {
+    command.starts_with("quote")
+}
+
+/// A quote of what a log in these bytes leads to, or of something near it.
+pub fn made_quote(random: &mut Random, bytes: &[u8], last_entry: Option<Option<usize>>) -> Vec<u8> {
+    made_quote::made(random, &Log::read("", bytes, last_entry))
 }
 
 /// The words of a run, after the program's name; the third word of the input is the last entry.
@@ -43,7 +61,8 @@ pub fn words(command: &str, third_word: Option<&[u8]>, file: &str) -> Vec<Vec<u8
     let (_, first) = COMMANDS.iter().find(|it| it.0 == command).expect("a command of the program");
     let last_entry = third_word.map(|word| if word == b"-" { b"none" } else { word });
     let last_entry = last_entry.map(|word| [b"--last-entry=", word].concat());
-    let other = takes_two(command).then(|| other_name(file).into_bytes());
+    let option = if takes_quote(command) { "--quote=" } else { "" };
+    let other = takes_two(command).then(|| format!("{option}{}", other_name(file)).into_bytes());
     let first = first.iter().map(|word| Vec::from(*word));
     first.chain(last_entry).chain([Vec::from(file)]).chain(other).collect()
 }
@@ -52,6 +71,12 @@ pub fn words(command: &str, third_word: Option<&[u8]>, file: &str) -> Vec<Vec<u8
 pub fn ending(command: &str, input: &Input, given: Option<Option<usize>>, file: &str) -> Ending {
     let (mut end, other_name) = (Ending::default(), other_name(file));
     let log = Log::read(file, &input.bytes, given);
+    if takes_quote(command) {
+        is_read(&log, true, &mut end);
+        let asked = (command != "quote").then_some(&NONCE[..]);
+        let is_json = command == "quote_json";
+        return quote::ending(&log, &other_name, &input.other, asked, is_json, end);
+    }
     let other = Log::read(&other_name, &input.other, given);
     let mut is_read = |log| is_read(log, !command.starts_with("whole"), &mut end);
     if [is_read(&log), !takes_two(command) || is_read(&other)].contains(&false) {

@@ -52,11 +52,11 @@ type Outcome<'a> = Result<Vec<u8>, (&'a Event<'a>, &'static str)>;
 /// A bank, the number of a PCR, and what that holds.
 type Replayed<'a> = (&'static Bank, u32, Outcome<'a>);
 
-/// What the events of a log lead to in a PCR.
-fn replay<'a>(log: &'a Log<'a>, bank: &Bank, pcr: u32) -> Outcome<'a> {
+/// What the events of a log lead to in a PCR, which starts at a locality if the log states none.
+pub fn replay<'a>(log: &'a Log<'a>, bank: &Bank, pcr: u32, locality: u8) -> Outcome<'a> {
     let is_launched = log.measured().any(|event| (17..23).contains(&event.register));
     let start = if (17..23).contains(&pcr) && !is_launched { 0xff } else { 0 };
-    let (mut value, locality) = (vec![start; bank.size], log.locality().unwrap_or(0));
+    let (mut value, locality) = (vec![start; bank.size], log.locality().unwrap_or(locality));
     if pcr == 0 {
         value[bank.size - 1] = locality;
     }
@@ -81,15 +81,21 @@ fn replay<'a>(log: &'a Log<'a>, bank: &Bank, pcr: u32) -> Outcome<'a> {
     Ok(value)
 }
 
+/// Tells at which locality PCR 0 starts, if the log states none.
+pub fn tell_of_start(log: &Log<'_>, locality: u8, end: &mut Ending) {
+    if log.locality().is_none() {
+        let what = format!("states no locality; PCR 0 starts at locality {locality}");
+        tell(end, log, 0, &what);
+    }
+}
+
 /// The PCRs of each active bank, about which standard error is told.
 pub fn replays<'a>(log: &'a Log<'a>, end: &mut Ending) -> Vec<Replayed<'a>> {
-    if log.locality().is_none() {
-        tell(end, log, 0, "states no locality; PCR 0 starts at locality 0");
-    }
+    tell_of_start(log, 0, end);
     let mut found: Vec<Replayed<'_>> = Vec::new();
     for bank in BANKS {
-        if log.measured().any(|event| !event.digests_of(bank).is_empty()) {
-            found.extend((0..REGISTERS).map(|pcr| (bank, pcr, replay(log, bank, pcr))));
+        if log.is_active(bank) {
+            found.extend((0..REGISTERS).map(|pcr| (bank, pcr, replay(log, bank, pcr, 0))));
         } else if log.algorithms.contains(&bank.algorithm) {
             tell(end, log, 0, &format!("no event has a digest of the bank {}", bank.name));
         }
@@ -113,7 +119,7 @@ pub fn replays<'a>(log: &'a Log<'a>, end: &mut Ending) -> Vec<Replayed<'a>> {
 }
 
 /// Tells of the events that have no effect and should have.
-fn tell_of_ignored(log: &Log<'_>, end: &mut Ending) {
+pub fn tell_of_ignored(log: &Log<'_>, end: &mut Ending) {
     for event in &log.events {
         let (place, pcr) = (event.place(), event.register);
         if event.kind != NO_ACTION && pcr >= REGISTERS {
