@@ -13,13 +13,14 @@ NONCES = [20, 0, 32, 64, 1]
 
 def selections(log):
     """What is quoted of a log: each bank, banks in an order that isn't that of their numbers, all PCRs, PCRs of a
-    dynamic launch, and a bank in two selections."""
+    dynamic launch, a bank in several selections, and one of which no PCR is selected."""
     names, extended = event_log.banks(log), {it.pcr for it in event_log.measured(log)}
     yield from ([(name, range(8))] for name in names)
     yield [(names[-1], extended), (names[0], [0, 7])]
     yield [(name, PCRS) for name in names]
     yield [(names[-1], [0, 1, 17, 22, 23])]
-    yield [(names[0], [0, 1]), (names[0], [7, 17])]
+    yield [(names[0], [0, 1]), (names[0], [1, 7, 17]), (names[-1], [7]), (names[0], [2])]
+    yield [(names[0], []), (names[-1], [0, 7])]
 
 
 def quotes(machine, name, log):

@@ -1,4 +1,5 @@
 """A software TPM beside the program that judges its quotes, and what the program has to print of them."""
+import itertools
 import json
 from collections import namedtuple
 from pathlib import Path
@@ -11,15 +12,21 @@ Quoted = namedtuple("Quoted", "file key nonce selections")
 
 
 def ranges(pcrs):
-    """PCRs as the program prints them, as in `0-7, 14`."""
-    starts = [pcr for pcr in pcrs if pcr - 1 not in pcrs]
-    ends = [pcr for pcr in pcrs if pcr + 1 not in pcrs]
-    return ", ".join(str(first) if first == last else f"{first}-{last}" for first, last in zip(starts, ends))
+    """PCRs as the program prints them: those that follow one another as a range, as in `0-7, 14`."""
+    found = []
+    for pcr in pcrs:
+        if found and pcr == found[-1][-1] + 1:
+            found[-1] = [found[-1][0], pcr]
+        else:
+            found.append([pcr])
+    return ", ".join("-".join(map(str, it)) for it in found)
 
 
 def listed(selections):
-    """Selections as the program prints them."""
-    return "; ".join(f"{bank}: {ranges(pcrs)}" for bank, pcrs in selections)
+    """The PCRs of selections as the program prints them, those of neighbouring selections of a bank together."""
+    named = [(bank, pcr) for bank, pcrs in selections for pcr in pcrs]
+    banks = itertools.groupby(named, lambda it: it[0])
+    return "; ".join(f"{bank}: {ranges(pcr for _, pcr in found)}" for bank, found in banks)
 
 
 def ends_with(name, ending, status, *wanted):
