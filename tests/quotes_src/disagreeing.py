@@ -30,12 +30,12 @@ def first_bitmap(message, bank):
 def nonces(machine, name, log):
     """Other nonces than a quote's, none, and one that isn't hex."""
     quoted, other = reference(machine, name, log), NONCE[::-1]
-    first = f"{quoted.file}: its nonce is 0x{NONCE.hex()}, not 0x{other.hex()}\n"
+    first = f"{quoted.file}: has nonce 0x{NONCE.hex()}, not nonce 0x{other.hex()}\n"
     found = machine.verify(name, quoted.file, "--nonce", other.hex())
     yield tells(f"{name}: another nonce", (found[0], found[1].startswith(first)), (1, True))
     for what, asked in (("a prefix of the nonce", NONCE[:-1]), ("a longer nonce", NONCE + b"\0")):
         ending = machine.verify(name, quoted.file, "--nonce", asked.hex())
-        yield ends_with(f"{name}: {what}", ending, 1, f"{quoted.file}: its nonce is ")
+        yield ends_with(f"{name}: {what}", ending, 1, f"{quoted.file}: has nonce 0x{NONCE.hex()}, not ")
     yield ends_with(f"{name}: no nonce asked for", machine.verify(name, quoted.file), 4, "--any-nonce")
     for text in ("0g", "123", "0x00"):
         yield ends_with(f"{name}: the nonce {text}", machine.verify(name, quoted.file, "--nonce", text), 2, "--nonce")
@@ -63,9 +63,9 @@ def selections(machine, name, log):
     bank = event_log.banks(log)[0]
     quoted = machine.quote(f"{name}.selection", "ecc", [(bank, [1, 2, 3])], NONCE)
     for asked, status, reason in [
-        (f"{bank}:1-7", 4, quoted.file),
-        (f"{bank}:4", 4, quoted.file),
-        ("sm3_256:1", 4, quoted.file),
+        (f"{bank}:1-7", 4, f"{quoted.file}: states no {bank} PCR 7, which is asked for"),
+        (f"{bank}:4", 4, f"{quoted.file}: states no {bank} PCR 4, which is asked for"),
+        ("sm3_256:1", 4, f"{quoted.file}: states no sm3_256 PCR 1, which is asked for"),
         (f"{bank}:1-3", 0, "agrees"),
         (f"{bank}:2", 0, "agrees"),
     ]:
@@ -73,7 +73,7 @@ def selections(machine, name, log):
         yield ends_with(f"{name}: --pcrs {asked} of {listed(quoted.selections)}", ending, status, reason)
     for chosen in ([(bank, [])], [(it, []) for it in event_log.banks(log)]):
         empty = machine.quote(f"{name}.empty", "rsa", chosen, NONCE)
-        yield ends_with(f"{name}: {len(chosen)} empty selections", machine.judge(name, empty), 4, empty.file)
+        yield ends_with(f"{name}: {len(chosen)} empty selections", machine.judge(name, empty), 4, f"{empty.file}: covers no PCR")
 
 
 def signatures(machine, name, log):
@@ -103,18 +103,18 @@ def messages(machine, name, log):
     for length in range(len(message)):
         file = written(machine, "cut", message[:length])
         ending = machine.verify(name, file, "--any-nonce")
-        yield ends_with(f"{name}: cut at {length}", ending, 3, file, "ends within a field")
+        yield ends_with(f"{name}: cut at {length}", ending, 3, file, "too few bytes")
     handle, how = quoted.key.handle, ["-g", "sha256", "-f", "plain"]
     tpm.tool("tpm2_certify", "-C", handle, "-c", handle, *how, "-o", "certified", "-s", "certified.signature")
     tpm.tool("tpm2_gettime", "-c", handle, *how, "--attestation", "time", "-o", "time.signature")
     written(machine, "sized", len(message).to_bytes(2, "big") + message)
     written(machine, "longer", message + b"\0")
     for file, reason in [
-        ("certified", "is not a quote: type 0x8017"),
-        ("time", "is not a quote: type 0x8019"),
-        ("sized", "isn't what a TPM generated"),
-        (f"{quoted.file}.signature", "isn't what a TPM generated"),
-        ("longer", "follow"),
+        ("certified", "an attestation of type 0x8017"),
+        ("time", "an attestation of type 0x8019"),
+        ("sized", "no TPM_GENERATED_VALUE"),
+        (f"{quoted.file}.signature", "no TPM_GENERATED_VALUE"),
+        ("longer", "bytes after the quote"),
     ]:
         yield ends_with(f"{name}: {file}", machine.verify(name, file, "--any-nonce"), 3, file, reason)
     yield ends_with(f"{name}: no file", machine.verify(name, "missing", "--any-nonce"), 3, "missing")
@@ -153,8 +153,8 @@ def banks(machine):
     machine.tpm.boot(whole)
     for bank, log, status, reason in [
         ("sha1", "sha1", 0, "agrees"),
-        ("sha256", "sha1", 4, "sha256"),
-        ("sha512", "sha1", 4, "sha512"),
+        ("sha256", "sha1", 4, "no event has a digest of the bank sha256"),
+        ("sha512", "sha1", 4, "no event has a digest of the bank sha512"),
         ("sha256", "undetermined", 4, "PCR 7 is undetermined"),
     ]:
         quoted = machine.quote("banks", "rsa", [(bank, list(range(8)))], NONCE)

@@ -165,7 +165,8 @@ class SoftwareTpm:
         """Whether OpenSSL verifies the signature beside a file, or another one."""
         words = ["openssl", "dgst", f"-{key.hash}", "-verify", key.file]
         words += ["-signature", signature or f"{file}.signature", file]
-        ran = subprocess.run(words, cwd=self.room, stdin=subprocess.DEVNULL, capture_output=True, check=False)
+        streams = {"capture_output": True, "stdin": subprocess.DEVNULL}
+        ran = subprocess.run(words, env=self.environment, cwd=self.room, check=False, **streams)
         return (ran.returncode, ran.stdout) == (0, b"Verified OK\n")
 
     def fields(self, file):
