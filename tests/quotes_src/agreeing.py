@@ -33,17 +33,18 @@ def quotes(machine, name, log):
 
 
 def agreements(machine, name, log):
-    """Whether each quote is signed, and agrees with the log; as text, as JSON, and beside all PCRs."""
-    machine.tpm.registers(f"{name}.txt")
+    """Whether each quote is signed, and agrees with the log; as text, and beside all PCRs as text and as JSON."""
+    machine.tpm.registers(f"{name}.txt", event_log.banks(log))
     registers, locality = ["--registers", f"{name}.txt"], event_log.start_locality(log)
-    plain = machine.run("verify", name, *registers)
+    pcrs, pcrs_json = (machine.run("verify", name, *registers, *more)[1] for more in ([], ["--json"]))
     for key, quoted in quotes(machine, name, log):
         what = f"{name}: {listed(quoted.selections)} by the key {key}, a nonce of {len(quoted.nonce)} bytes"
         text, json_line = machine.agreement(name, quoted, locality), machine.json_line(name, quoted, locality)
         yield tells(f"{what}: openssl", machine.tpm.is_signed(quoted.key, quoted.file))
         yield tells(f"{what}: verify", machine.judge(name, quoted)[:2], (0, text))
-        yield tells(f"{what}: JSON", machine.judge(name, quoted, "--json")[:2], (0, json_line))
-        yield tells(f"{what}: --registers", machine.judge(name, quoted, *registers)[:2], (0, text + plain[1]))
+        beside, beside_json = (machine.judge(name, quoted, *registers, *more)[:2] for more in ([], ["--json"]))
+        yield tells(f"{what}: --registers", beside, (0, text + pcrs))
+        yield tells(f"{what}: --registers --json", beside_json, (0, json_line + pcrs_json))
 
 
 def localities(machine, name, log):

@@ -48,7 +48,7 @@ def extended_once_more(machine, name, log):
     leads_to = machine.digest(before)
     digests = ",".join(f"{bank}={'5a' * event_log.size(bank)}" for bank in names)
     machine.tpm.tool("tpm2_pcrextend", f"7:{digests}")
-    machine.tpm.registers(f"{name}.txt")
+    machine.tpm.registers(f"{name}.txt", names)
     quoted = machine.quote(f"{name}.extended", "ecc", before.selections, NONCE)
     text = machine.difference(name, quoted, leads_to, event_log.start_locality(log))
     yield tells(f"{name}: PCR 7 extended once more", machine.judge(name, quoted)[:2], (1, text))

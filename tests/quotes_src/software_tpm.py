@@ -8,7 +8,7 @@ import time
 from collections import namedtuple
 
 import event_log
-from event_log import HCRTM, LAUNCH_PCRS, NUMBERS
+from event_log import HCRTM, LAUNCH_PCRS
 
 # Commands of swtpm's control channel (`tpm_ioctl.h`), big-endian numbers with what follows them.
 INIT, SET_LOCALITY, HASH_START, HASH_DATA, HASH_END = 2, 5, 6, 7, 8
@@ -174,8 +174,8 @@ class SoftwareTpm:
         text = self.tool("tpm2_print", "-t", "TPMS_ATTEST", file)
         return dict(re.findall(r"^ *(\w+): *(\w*)$", text, re.M))
 
-    def registers(self, file):
-        """Writes what the PCRs hold to a file, as `tpm2_pcrread` prints it."""
-        text = self.tool("tpm2_pcrread", "+".join(f"{bank}:all" for bank in NUMBERS))
+    def registers(self, file, banks):
+        """Writes what the PCRs of banks hold to a file, as `tpm2_pcrread` prints it."""
+        text = self.tool("tpm2_pcrread", "+".join(f"{bank}:all" for bank in banks))
         with open(f"{self.room}/{file}", "w", encoding="ascii") as out:
             out.write(text)
