@@ -3,7 +3,7 @@ use Rattle.std.proofs.Common.{◌≡◌, ◌∙◌, ℕ, suc, ◌+◌, ◌<◌, 
 use Rattle.std.specs.Prelude.{◌==◌, true, false, Option, None, Some, Result, Ok, Err}
 use Rattle.pcr_replay.specs.Banks.{algorithm_of}
 use Rattle.pcr_replay.specs.BankReplays.{BankOutcomes, bank_outcomes_of}
-use Rattle.pcr_replay.specs.Hashers.{Holds}
+use Rattle.pcr_replay.specs.private.Hashers.{Holds}
 use Rattle.pcr_replay.specs.Quotes.{followed_by, outcomes_of_algorithm, quoted_value, quoted_values}
 use Rattle.pcr_replay.specs.Replay.{Outcome}
 use Rattle.pcr_replay.specs.Views.{outcomes_of}

@@ -1,11 +1,15 @@
 -- The banks of PCRs: those whose hash functions are proved here (TCG Algorithm Registry, `TPM_ALG_ID`; FIPS 180-4; GB/T 32905-2016).
-use Rattle.std.specs.Prelude.{ℕ, ◌==◌, List, Option, None, Some, if◌then◌else◌}
+use Rattle.std.specs.Prelude.{ℕ, ◌==◌, List, [], ◌∷◌, Option, None, Some, if◌then◌else◌}
 use Rattle.sha1.specs.Sha1.{sha1}
 use Rattle.sha2.specs.Sha256.{sha256}
 use Rattle.sha2.specs.Sha512.{sha384, sha512}
 use Rattle.sm3.specs.Sm3.{sm3}
 use Rattle.pcr_replay.specs.declared.bank.Bank.{Bank}
 use Rattle.pcr_replay.specs.declared.bank.Bank.TheVariants.{Sha1, Sha256, Sha384, Sha512, Sm3}
+
+-- All banks that can be replayed, in the order of their algorithms' numbers.
+abbrev pub all_banks : List Bank
+all_banks = Sha1 ∷ Sha256 ∷ Sha384 ∷ Sha512 ∷ Sm3 ∷ []
 
 -- The number of a bank's algorithm.
 abbrev pub algorithm_of : Bank → ℕ

@@ -5,7 +5,6 @@ pub mod Measured
 pub mod Laws
 pub mod Rows
 pub mod Views
-pub mod Hashers
 pub mod BankReplays
 pub mod Quotes
 pub mod WasRead

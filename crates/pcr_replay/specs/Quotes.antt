@@ -1,15 +1,17 @@
 -- The digest that a TPM puts into a quote of its PCRs (TPM 2.0 Library, Part 2, TPMS_QUOTE_INFO): the hash of their values.
-use Rattle.std.specs.Prelude.{ℕ, ◌==◌, Bool, List, [], ◌∷◌, ◌++◌, flat_map, map, slice_get, Option, None, Some, Result, Ok, Err, if◌then◌else◌}
-use Rattle.std.specs.List.{list_any}
+use Rattle.std.specs.Prelude.{ℕ, ◌==◌, ◌&&◌, Bool, List, [], ◌∷◌, ◌++◌, flat_map, map, slice_get, Option, None, Some, Result, Ok, Err, if◌then◌else◌}
+use Rattle.std.specs.List.{filter, list_any}
 use Rattle.std.specs.Option.{option_and_then}
 use Rattle.tpm_quote.specs.PcrSelection.{PcrSelection, selected_pcrs}
 use Rattle.tpm_quote.specs.Quote.{Quote}
-use Rattle.pcr_replay.specs.Banks.{algorithm_of, hash_of}
-use Rattle.pcr_replay.specs.BankReplays.{BankOutcomes}
-use Rattle.pcr_replay.specs.Replay.{Outcome}
+use Rattle.uefi_tcg.specs.Entries.{Entry}
+use Rattle.pcr_replay.specs.Banks.{algorithm_of, all_banks, hash_of}
+use Rattle.pcr_replay.specs.BankReplays.{BankOutcomes, replayed}
+use Rattle.pcr_replay.specs.Replay.{Outcome, is_active}
 use Rattle.pcr_replay.specs.declared.bank.Bank.{Bank}
 use Rattle.pcr_replay.specs.declared.quote.NoQuoteDigest.{NoQuoteDigest}
 use Rattle.pcr_replay.specs.declared.quote.NoQuoteDigest.TheVariants.{NoBank, Undetermined}
+use Rattle.pcr_replay.specs.declared.start.Start.{Start}
 
 -- The PCRs that a quote is over, each with the algorithm of its bank: those of its selections, in order, and of a selection
 -- ascending.
@@ -56,3 +58,11 @@ hashed hash (Err why) = Err why
 
 abbrev pub quote_digest : Bank → List BankOutcomes → Quote → Result (List ℕ) NoQuoteDigest
 quote_digest hash banks quote = hashed hash (quoted_values banks (quoted_pcrs quote.pcr_selections))
+
+-- The banks that have a selection in a quote and are active in a log, in the order of their algorithms' numbers.
+abbrev pub quoted_banks : List Entry → Quote → List Bank
+quoted_banks entries quote = filter (λ bank. is_quoted quote bank && is_active bank entries) all_banks
+
+-- The digest of the PCRs that the events of a log lead to, in a TPM that started so.
+abbrev pub digest_at : Bank → List Entry → Quote → Start → Result (List ℕ) NoQuoteDigest
+digest_at hash entries quote start = quote_digest hash (map (replayed start entries) (quoted_banks entries quote)) quote

@@ -1,6 +1,6 @@
 ghost use Rattle.std.specs.Prelude.{◌≡◌, ◌++◌, [], ℕ, List};
 ghost use Rattle.pcr_replay.specs.Banks.{hash_of};
-ghost use Rattle.pcr_replay.specs.Hashers.{Holds};
+ghost use Rattle.pcr_replay.specs.private.Hashers.{Holds};
 ghost use Rattle.pcr_replay.specs.Views.{value_of};
 ghost use Rattle.pcr_replay.specs.declared.bank.Bank.{Bank};
 

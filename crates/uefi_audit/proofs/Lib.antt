@@ -3,3 +3,4 @@ pub mod EventsPrinted
 pub mod CheckPrinted
 pub mod Replayed
 pub mod Verifying
+pub mod QuoteChecks

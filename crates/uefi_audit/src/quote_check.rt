@@ -3,8 +3,9 @@ ghost use Rattle.uefi_audits.specs.verify.Covered.{covered_pcrs};
 ghost use Rattle.uefi_audits.specs.verify.Quote.{quote_judgement_of, received_of};
 ghost use Rattle.uefi_audit.specs.Opened.{IsReportOf};
 ghost use Rattle.uefi_audit.specs.Printed.{printed_of};
-ghost use Rattle.uefi_audit.specs.QuoteCheck.{by_verdict, quote_checked, quote_printed, quote_status, quote_text, registers_unless_missing, unless_empty, verdict_on, with_registers};
+ghost use Rattle.uefi_audit.specs.QuoteCheck.{QuoteIsMet, by_verdict, quote_checked, quote_printed, quote_status, quote_text, registers_unless_missing, unless_empty, verdict_on, with_registers};
 ghost use Rattle.uefi_audit.specs.Verification.{missing_in};
+ghost use Rattle.uefi_audit.specs.declared.failure.Status.TheVariants.{Well};
 
 use crate::failure::Status;
 use crate::log_file::{LogFile, Opened, judge};
@@ -63,15 +64,17 @@ pub(crate) fn quote_report(
     }
 }
 
-/// Returns what is printed of whether a log leads to the digest of a quote.
+/// Returns what is printed of whether a log leads to the digest of a quote. If all is well, it does.
 fn checked_report(
     alloc: Global,
     file: &LogFile<'_>,
     reading: Reading,
     check: &QuoteCheck<'_>,
 ) -> Result<Report, AllocError>
-    ensures { IfOk result (λ report. printed_of report
+    ensures printed { IfOk result (λ report. printed_of report
         ≡ quote_checked reading.allow_left_over file.now check.now) }
+    ensures met { IfOk result (λ report. report.status ≡ Well
+        → QuoteIsMet file.now check.now) }
 {
     let (judgement, messages) = judge(alloc, file, reading.allow_left_over)?;
     match judgement {

@@ -6,6 +6,7 @@ use Rattle.uefi_tcg.specs.declared.event_type.TheConstants.EventType.{SEPARATOR,
 use Rattle.uefi_tcg.specs.declared.event_type.TheConstants.EventType.{EFI_VARIABLE_DRIVER_CONFIG, EFI_VARIABLE_BOOT, EFI_GPT_EVENT, EFI_ACTION, EFI_VARIABLE_BOOT2, EFI_GPT_EVENT2, EFI_VARIABLE_AUTHORITY}
 use Rattle.uefi_tcg.specs.declared.event_type.TheConstants.EventType.{EFI_SPDM_FIRMWARE_BLOB, EFI_SPDM_FIRMWARE_CONFIG, EFI_SPDM_DEVICE_POLICY, EFI_SPDM_DEVICE_AUTHORITY}
 use Rattle.uefi_tcg.specs.v2.Event.{Event}
+use Rattle.pcr_replay.specs.Banks.{all_banks}
 use Rattle.pcr_replay.specs.declared.bank.Bank.{Bank}
 use Rattle.pcr_replay.specs.Measured.{is_hash_of}
 use Rattle.pcr_replay.specs.Replay.{has_digest}
@@ -13,7 +14,6 @@ use Rattle.uefi_audits.specs.declared.check.Checked.{Checked}
 use Rattle.uefi_audits.specs.declared.check.Checked.TheVariants.{Matches, MatchesNone, NotInLog}
 use Rattle.uefi_audits.specs.declared.check.form.Form.{Form}
 use Rattle.uefi_audits.specs.declared.check.form.Form.TheVariants.{Data, VariableValue, WithoutNul, WithNul, Command, Narrowed}
-use Rattle.uefi_audits.specs.Replay.{all_banks}
 
 -- A number is one of these.
 abbrev pub is_one_of : List ℕ → ℕ → Bool

@@ -2,13 +2,13 @@
 use Rattle.std.specs.Prelude.{ℕ, ◌≡◌, ◌==◌, ◌||◌, not, Bool, List, [], ◌∷◌, length, map, Option, None, Some, is_none}
 use Rattle.std.specs.List.{filter, list_any}
 use Rattle.uefi_tcg.specs.Entries.{Entry}
-use Rattle.pcr_replay.specs.Banks.{algorithm_of}
+use Rattle.pcr_replay.specs.Banks.{algorithm_of, all_banks}
 use Rattle.pcr_replay.specs.BankReplays.{bank_outcomes_of, has_undetermined, replayed}
 use Rattle.pcr_replay.specs.Replay.{is_active}
 use Rattle.pcr_replay.specs.declared.bank.Bank.{Bank}
 use Rattle.uefi_audits.specs.Ignored.{ignored_events}
 use Rattle.uefi_audits.specs.Naming.{bank_of}
-use Rattle.uefi_audits.specs.Replay.{all_banks, asked}
+use Rattle.uefi_audits.specs.Replay.{asked}
 use Rattle.uefi_audits.specs.declared.facts.LogFacts.{LogFacts}
 use Rattle.uefi_audits.specs.declared.log_replay.LogReplay.{LogReplay}
 

@@ -2,13 +2,9 @@
 use Rattle.std.specs.Prelude.{List, [], ◌∷◌, Option, None, Some}
 use Rattle.std.specs.List.{filter}
 use Rattle.pcr_replay.specs.declared.bank.Bank.{Bank}
-use Rattle.pcr_replay.specs.declared.bank.Bank.TheVariants.{Sha1, Sha256, Sha384, Sha512, Sm3}
 use Rattle.uefi_tcg.specs.Entries.{Entry}
+use Rattle.pcr_replay.specs.Banks.{all_banks}
 use Rattle.pcr_replay.specs.Replay.{is_active}
-
--- All banks that can be replayed, in the order of their algorithms' numbers.
-abbrev pub all_banks : List Bank
-all_banks = Sha1 ∷ Sha256 ∷ Sha384 ∷ Sha512 ∷ Sm3 ∷ []
 
 -- Those that are active in a log.
 abbrev pub active_banks : List Entry → List Bank

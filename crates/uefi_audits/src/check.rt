@@ -6,8 +6,8 @@
 ghost use Rattle.std.specs.Prelude.{◌≡◌, ◌↔◌, ◌++◌, IfOk, IsTrue, MatchOption};
 ghost use Rattle.std.specs.List.{list_all};
 ghost use Rattle.uefi_tcg.specs.LogViews.{event_of};
+ghost use Rattle.pcr_replay.specs.Banks.{all_banks};
 ghost use Rattle.uefi_audits.specs.Check.{agrees, are_hashes, has_digests, IsChecked, IsFirstMatch, MatchesBy, MatchesNoneOf, MayMeasureOther, MayNameFile};
-ghost use Rattle.uefi_audits.specs.Replay.{all_banks};
 ghost use Rattle.uefi_audits.specs.declared.check.form.Form.TheVariants.{Command, Narrowed, VariableValue, WithoutNul};
 
 pub use self::counts::TypeCounts;

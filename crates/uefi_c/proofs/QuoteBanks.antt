@@ -4,11 +4,11 @@ use Rattle.std.specs.Prelude.{slice_set}
 use Rattle.std.specs.List.{filter}
 use Rattle.std.proofs.lemmas.List.{append-nil, map-append, take_all, take_more, take_more_set}
 use Rattle.std.proofs.lemmas.List.Elements.{filter-append}
+use Rattle.pcr_replay.specs.Banks.{all_banks}
 use Rattle.pcr_replay.specs.BankReplays.{BankOutcomes, bank_outcomes_of}
 use Rattle.pcr_replay.specs.declared.bank.Bank.{Bank}
 use Rattle.pcr_replay.specs.declared.bank.Bank.TheVariants.{Sha1}
 use Rattle.pcr_replay.specs.declared.bank_pcrs.BankPcrs.{BankPcrs}
-use Rattle.uefi_c.specs.QuoteDigest.{all_banks}
 
 -- The bank of an index, of which there are five.
 abbrev pub bank_at : ℕ → Bank

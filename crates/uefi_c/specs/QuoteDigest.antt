@@ -1,33 +1,14 @@
 -- The digest of the PCRs that a log leads to, over the PCRs that a quote selects, as a call gives it.
-use Rattle.std.specs.Prelude.{ℕ, ◌≡◌, ◌==◌, ◌&&◌, ◌⊎◌, List, [], ◌∷◌, length, map, take, Some, Result, Ok, Err, if◌then◌else◌}
-use Rattle.std.specs.List.{filter}
+use Rattle.std.specs.Prelude.{ℕ, ◌≡◌, ◌==◌, ◌⊎◌, List, length, take, Some, Result, Ok, Err, if◌then◌else◌}
 use Rattle.tpm_quote.specs.Quote.{Quote}
-use Rattle.uefi_tcg.specs.Entries.{Entry}
-use Rattle.pcr_replay.specs.BankReplays.{replayed}
 use Rattle.pcr_replay.specs.Banks.{algorithm_of, bank_of_size}
-use Rattle.pcr_replay.specs.Quotes.{is_quoted, quote_digest}
-use Rattle.pcr_replay.specs.Replay.{is_active}
 use Rattle.pcr_replay.specs.declared.bank.Bank.{Bank}
-use Rattle.pcr_replay.specs.declared.bank.Bank.TheVariants.{Sha1, Sha256, Sha384, Sha512, Sm3}
 use Rattle.pcr_replay.specs.declared.quote.NoQuoteDigest.{NoQuoteDigest}
 use Rattle.pcr_replay.specs.declared.quote.NoQuoteDigest.TheVariants.{NoBank, Undetermined}
 use Rattle.pcr_replay.specs.declared.fault.Undetermined.{Undetermined as EventOf}
-use Rattle.pcr_replay.specs.declared.start.Start.{Start}
 use Rattle.uefi_c.specs.Quote.{AreQuote}
 use Rattle.uefi_c.specs.Replay.{fault_of}
 use Rattle.uefi_c.specs.declared.quote_digest.UefiQuoteDigest.{UefiQuoteDigest}
-
--- Each bank that can be replayed, in the order of their algorithms' numbers.
-abbrev pub all_banks : List Bank
-all_banks = Sha1 ∷ Sha256 ∷ Sha384 ∷ Sha512 ∷ Sm3 ∷ []
-
--- Those that have a selection in a quote and are active in a log.
-abbrev pub quoted_banks : List Entry → Quote → List Bank
-quoted_banks entries quote = filter (λ bank. is_quoted quote bank && is_active bank entries) all_banks
-
--- The digest of the PCRs that the events of a log lead to, in a TPM that started so.
-abbrev pub digest_at : Bank → List Entry → Quote → Start → Result (List ℕ) NoQuoteDigest
-digest_at hash entries quote start = quote_digest hash (map (replayed start entries) (quoted_banks entries quote)) quote
 
 -- The hash function of this algorithm; or for 0, which is none, the first one whose digests have the length of the quote's.
 abbrev pub IsHash : ℕ → Quote → Bank → Type 0

@@ -1,6 +1,6 @@
 ghost use Rattle.std.specs.Prelude.{◌≡◌, ◌&&◌, Some, IsTrue, IsFalse, IfSome};
 ghost use Rattle.std.specs.Result.{result_map_both};
-ghost use Rattle.pcr_replay.specs.Quotes.{is_quoted};
+ghost use Rattle.pcr_replay.specs.Quotes.{digest_at, is_quoted};
 ghost use Rattle.pcr_replay.specs.Replay.{is_active};
 ghost use Rattle.pcr_replay.specs.Views.{value_of};
 ghost use Rattle.pcr_replay.specs.declared.bank.Bank.{Bank};
@@ -9,7 +9,7 @@ ghost use Rattle.tpm_quote.specs.Views.{quote_of};
 ghost use Rattle.uefi_tcg.specs.Entries.{Contents};
 ghost use Rattle.uefi_tcg.specs.Logs.{HasContents};
 ghost use Rattle.uefi_c.specs.Quote.{AreQuote};
-ghost use Rattle.uefi_c.specs.QuoteDigest.{HasHash, IsHash, digest_at, digest_seen};
+ghost use Rattle.uefi_c.specs.QuoteDigest.{HasHash, IsHash, digest_seen};
 ghost use Rattle.uefi_c.specs.Replay.{log_given, start_given};
 
 use crate::replay::{NO_FAULT, ROOM, fault_number, log_of, start_of};

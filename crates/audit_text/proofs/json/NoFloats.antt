@@ -6,11 +6,11 @@ use Rattle.serde_json.specs.Written.{has_float, items_have_float}
 use Rattle.uefi_tcg.specs.v2.Event.{Digest, Event}
 use Rattle.uefi_tcg.specs.Entries.{Entry}
 use Rattle.std.specs.List.{flat_map}
-use Rattle.uefi_audits.specs.Replay.{all_banks}
 use Rattle.uefi_audits.specs.content.Content.{Content}
 use Rattle.audit_text.specs.json.Event.{digest_json, event_json, hashed_bank}
 use Rattle.audit_text.specs.json.Event.{named_number, type_json}
 use Rattle.uefi_tcg.specs.EventTypes.{event_type_name}
+use Rattle.pcr_replay.specs.Banks.{all_banks}
 use Rattle.uefi_audits.specs.Naming.{bank_name}
 use Rattle.pcr_replay.specs.Measured.{is_hash_of_data}
 use Rattle.pcr_replay.specs.declared.bank.Bank.{Bank}

@@ -8,12 +8,12 @@ use Rattle.uefi_tcg.specs.v2.Event.{Digest, Event}
 use Rattle.pcr_replay.specs.declared.bank.Bank.{Bank}
 use Rattle.uefi_tcg.specs.Entries.{Entry}
 use Rattle.pcr_replay.specs.Measured.{is_hash_of_data}
-use Rattle.uefi_audits.specs.Replay.{all_banks}
 use Rattle.uefi_audits.specs.content.Content.{Content, Says, form_of}
 use Rattle.audit_text.specs.json.Algorithm.{algorithm_json}
 use Rattle.audit_text.specs.json.Content.{content_json}
 use Rattle.audit_text.specs.json.Line.{line_of}
 use Rattle.uefi_tcg.specs.EventTypes.{event_type_name}
+use Rattle.pcr_replay.specs.Banks.{all_banks}
 use Rattle.uefi_audits.specs.Naming.{bank_name}
 
 -- A digest: its algorithm, and its bytes in hex.

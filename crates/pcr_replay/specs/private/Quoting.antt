@@ -1,7 +1,7 @@
 -- What a hash function was given of a quote's PCRs.
 use Rattle.std.specs.Prelude.{ℕ, ◌≡◌, List, ◌++◌, Ok}
 use Rattle.pcr_replay.specs.BankReplays.{BankOutcomes}
-use Rattle.pcr_replay.specs.Hashers.{Holds}
+use Rattle.pcr_replay.specs.private.Hashers.{Holds}
 use Rattle.pcr_replay.specs.Quotes.{quoted_values}
 use Rattle.pcr_replay.specs.declared.bank.Bank.{Bank}
 use Rattle.pcr_replay.specs.declared.hasher.Hasher.{Hasher}

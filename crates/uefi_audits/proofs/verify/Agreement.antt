@@ -13,7 +13,7 @@ use Rattle.std.proofs.Math.Seq.{drop-cons}
 use Rattle.pcr_replay.specs.declared.bank.Bank.{Bank}
 use Rattle.pcr_replay.specs.declared.bank.Bank.TheVariants.{Sha1, Sha256, Sha384, Sha512, Sm3}
 use Rattle.pcr_replay.specs.declared.start.Start.{Start}
-use Rattle.pcr_replay.specs.Banks.{algorithm_of}
+use Rattle.pcr_replay.specs.Banks.{algorithm_of, all_banks}
 use Rattle.pcr_replay.specs.Start.{start_at}
 use Rattle.uefi_tcg.specs.Entries.{Entry}
 use Rattle.pcr_replay.specs.Replay.{Outcome, outcomes}
@@ -23,7 +23,6 @@ use Rattle.uefi_audits.specs.Start.{assumed_start, is_stated, known_start, start
 use Rattle.uefi_audits.specs.declared.start.KnownStart.{KnownStart}
 use Rattle.uefi_audits.specs.declared.verify.held.HeldPcr.{HeldPcr}
 use Rattle.pcr_replay.specs.BankReplays.{BankOutcomes, bank_outcomes_of, replayed}
-use Rattle.uefi_audits.specs.Replay.{all_banks}
 use Rattle.uefi_audits.specs.Naming.{bank_of}
 use Rattle.uefi_audits.specs.verify.Banks.{held_banks, is_held, is_same_bank}
 use Rattle.uefi_audits.specs.verify.Verdict.{AgreeAtOne, AgreeByVerdict, Comparison, agrees, compared_at, differs, disagreeing, is_agreement, is_undetermined, is_value, led_to, nearer, nearest, outcomes_in, starts, undetermined, verdict_of}

@@ -9,10 +9,11 @@ use Rattle.uefi_tcg.specs.Entries.{Entry}
 use Rattle.pcr_replay.specs.declared.bank.Bank.{Bank}
 use Rattle.pcr_replay.specs.declared.quote.NoQuoteDigest.{NoQuoteDigest}
 use Rattle.pcr_replay.specs.declared.start.Start.{Start}
+use Rattle.pcr_replay.specs.Quotes.{digest_at}
 use Rattle.pcr_replay.specs.Start.{start_at}
 use Rattle.uefi_audits.specs.Start.{assumed_start, is_stated, known_start, start_by}
 use Rattle.uefi_audits.specs.declared.start.KnownStart.{KnownStart}
-use Rattle.uefi_audits.specs.verify.Quote.{QuoteJudgement, QuoteAgrees, agreeing, digest_at, is_digest, judged_at, quote_verdict, tried}
+use Rattle.uefi_audits.specs.verify.Quote.{QuoteJudgement, QuoteAgrees, agreeing, is_digest, judged_at, quote_verdict, tried}
 use Rattle.uefi_audits.specs.verify.Verdict.{starts}
 
 -- The verdict at the start that is stated, and of three that are tried.

@@ -2,8 +2,7 @@
 use Rattle.std.specs.Prelude.{◌==◌, Bool, List}
 use Rattle.std.specs.List.{filter, list_any}
 use Rattle.pcr_replay.specs.declared.bank.Bank.{Bank}
-use Rattle.pcr_replay.specs.Banks.{algorithm_of}
-use Rattle.uefi_audits.specs.Replay.{all_banks}
+use Rattle.pcr_replay.specs.Banks.{algorithm_of, all_banks}
 use Rattle.uefi_audits.specs.declared.verify.held.HeldPcr.{HeldPcr}
 
 -- Banks are the same if their algorithms are.

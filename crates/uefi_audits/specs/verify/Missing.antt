@@ -1,9 +1,9 @@
 -- The PCRs that are asked for by the option `--pcrs`, and not stated.
 use Rattle.std.specs.Prelude.{ℕ, ◌==◌, ◌&&◌, ◌||◌, not, Bool, List, [], flat_map, map, Option, None, Some, is_some}
 use Rattle.std.specs.List.{filter, list_any, range_with_len}
+use Rattle.pcr_replay.specs.Banks.{all_banks}
 use Rattle.pcr_replay.specs.declared.bank.Bank.{Bank}
 use Rattle.pcr_replay.specs.Replay.{pcr_count}
-use Rattle.uefi_audits.specs.Replay.{all_banks}
 use Rattle.uefi_audits.specs.verify.Banks.{is_same_bank}
 use Rattle.uefi_audits.specs.verify.Selection.{selects}
 use Rattle.uefi_audits.specs.declared.verify.named.NamedPcr.{NamedPcr}

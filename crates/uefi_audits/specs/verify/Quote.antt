@@ -1,20 +1,16 @@
 -- Whether a log leads to the digest in a quote.
-use Rattle.std.specs.Prelude.{ℕ, ◌≡◌, ◌&&◌, Bool, true, false, List, map, Option, None, Some, Result, Ok, Err, if◌then◌else◌}
-use Rattle.std.specs.List.{Any, filter}
+use Rattle.std.specs.Prelude.{ℕ, ◌≡◌, Bool, true, false, List, Option, None, Some, Result, Ok, Err, if◌then◌else◌}
+use Rattle.std.specs.List.{Any}
 use Rattle.std.specs.Option.{option_map}
 use Rattle.std.specs.Result.{result_map_both}
 use Rattle.std.specs.Str.{bytes_eq}
 use Rattle.tpm_quote.specs.Quote.{Quote}
 use Rattle.tpm_quote.specs.Views.{quote_of}
 use Rattle.uefi_tcg.specs.Entries.{Entry}
-use Rattle.pcr_replay.specs.BankReplays.{replayed}
-use Rattle.pcr_replay.specs.Quotes.{is_quoted, quote_digest}
-use Rattle.pcr_replay.specs.Replay.{is_active}
+use Rattle.pcr_replay.specs.Quotes.{digest_at}
 use Rattle.pcr_replay.specs.Views.{value_of}
 use Rattle.pcr_replay.specs.declared.bank.Bank.{Bank}
 use Rattle.pcr_replay.specs.declared.quote.NoQuoteDigest.{NoQuoteDigest}
-use Rattle.pcr_replay.specs.declared.start.Start.{Start}
-use Rattle.uefi_audits.specs.Replay.{all_banks}
 use Rattle.uefi_audits.specs.Start.{assumed_start, is_stated, known_start}
 use Rattle.uefi_audits.specs.declared.start.KnownStart.{KnownStart}
 use Rattle.uefi_audits.specs.declared.verify.quote.QuoteVerdict.{QuoteVerdict}
@@ -35,14 +31,7 @@ is_nonce (Some asked) quoted = bytes_eq quoted asked
 abbrev pub has_its_nonce : Received → Bool
 has_its_nonce received = is_nonce received.nonce received.quote.extra_data
 
--- The banks that have a selection in a quote and are active in a log, in the order of their algorithms' numbers.
-abbrev pub quoted_banks : List Entry → Quote → List Bank
-quoted_banks entries quote = filter (λ bank. is_quoted quote bank && is_active bank entries) all_banks
-
--- The digest of the PCRs that the events of a log lead to, in a TPM that started so; and whether it is that of the quote.
-abbrev pub digest_at : Bank → List Entry → Quote → Start → Result (List ℕ) NoQuoteDigest
-digest_at hash entries quote start = quote_digest hash (map (replayed start entries) (quoted_banks entries quote)) quote
-
+-- Whether a digest is this one.
 abbrev pub is_digest : List ℕ → Result (List ℕ) NoQuoteDigest → Bool
 is_digest digest (Ok found) = bytes_eq found digest
 is_digest digest (Err why) = false

@@ -1,9 +1,10 @@
 ghost use Rattle.std.specs.Prelude.{◌≡◌, ◌↔◌, IsTrue, map, IfOk};
 ghost use Rattle.std.specs.Result.{result_map_both};
+ghost use Rattle.pcr_replay.specs.Quotes.{quoted_banks};
 ghost use Rattle.pcr_replay.specs.Views.{value_of};
 ghost use Rattle.tpm_quote.specs.Views.{quote_of};
 ghost use Rattle.uefi_tcg.specs.LogViews.{entry_of};
-ghost use Rattle.uefi_audits.specs.verify.Quote.{QuoteAgrees, agreeing, has_its_nonce, is_digest, judged_at, quote_judgement_of, quote_verdict, quoted_banks, received_of};
+ghost use Rattle.uefi_audits.specs.verify.Quote.{QuoteAgrees, agreeing, has_its_nonce, is_digest, judged_at, quote_judgement_of, quote_verdict, received_of};
 
 use crate::replay::replay_banks;
 use crate::start::KnownStart;

@@ -2,8 +2,8 @@ use Rattle.std.proofs.Common.{◌++◌, rules, tests}
 use Rattle.std.proofs.lemmas.Iterator.{YieldsList-from_slice}
 use Rattle.std.proofs.lemmas.Iterator.Search.{all_from_yields_List}
 use Rattle.uefi_tcg.specs.LogViews.{event_of}
+use Rattle.pcr_replay.specs.Banks.{all_banks}
 use Rattle.uefi_audits.specs.Check.{agrees}
-use Rattle.uefi_audits.specs.Replay.{all_banks}
 use Rattle.uefi_audits.proofs.check.all_agree.Goals as goal
 
 pub returns : goal.returns

@@ -4,7 +4,7 @@ use Rattle.std.proofs.lemmas.Iterator.Search.{any_from_yields_List}
 use Rattle.pcr_replay.specs.declared.bank.Bank.{Bank}
 use Rattle.pcr_replay.specs.Replay.{has_digest}
 use Rattle.uefi_tcg.specs.LogViews.{event_of}
-use Rattle.uefi_audits.specs.Replay.{all_banks}
+use Rattle.pcr_replay.specs.Banks.{all_banks}
 use Rattle.uefi_audits.proofs.check.has_digests.Goals as goal
 
 pub returns : goal.returns

@@ -1,7 +1,8 @@
 use Rattle.std.proofs.Common.{◌≡◌, ◌∙◌, ap, subst, sym}
 use Rattle.tpm_quote.specs.Views.{quote_of}
 use Rattle.uefi_tcg.specs.Logs.{HasContents}
-use Rattle.uefi_c.specs.QuoteDigest.{IsHash, digest_at}
+use Rattle.pcr_replay.specs.Quotes.{digest_at}
+use Rattle.uefi_c.specs.QuoteDigest.{IsHash}
 use Rattle.uefi_c.proofs.QuoteRead.{none_read, one_read, some_hash}
 use Rattle.uefi_c.proofs.quote_digest.uefi_quote_digest.Goals as goal
 

@@ -1,6 +1,6 @@
 use Rattle.std.proofs.Common.{arith}
 use Rattle.uefi_tcg.specs.LogViews.{event_of}
-use Rattle.uefi_audits.specs.Replay.{all_banks}
+use Rattle.pcr_replay.specs.Banks.{all_banks}
 use Rattle.audit_text.specs.json.Event.{hashed_bank}
 use Rattle.uefi_audits.proofs.FirstOnes.{one_joined}
 use Rattle.audit_text.proofs.json.digests.hashed_banks.Goals as goal

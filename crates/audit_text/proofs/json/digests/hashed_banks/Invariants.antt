@@ -2,7 +2,7 @@ use Rattle.std.proofs.Common.{◌≡◌, map, take}
 use Rattle.std.specs.List.{flat_map}
 use Rattle.serde_json.specs.View.{view}
 use Rattle.uefi_tcg.specs.LogViews.{event_of}
-use Rattle.uefi_audits.specs.Replay.{all_banks}
+use Rattle.pcr_replay.specs.Banks.{all_banks}
 use Rattle.audit_text.specs.json.Event.{hashed_bank}
 use Rattle.audit_text.proofs.json.digests.hashed_banks.Given as goal
 

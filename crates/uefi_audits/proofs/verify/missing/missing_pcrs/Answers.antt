@@ -1,6 +1,6 @@
 use Rattle.std.proofs.Common.{arith}
+use Rattle.pcr_replay.specs.Banks.{all_banks}
 use Rattle.pcr_replay.specs.declared.bank.Bank.TheVariants.{Sha1}
-use Rattle.uefi_audits.specs.Replay.{all_banks}
 use Rattle.uefi_audits.specs.verify.Missing.{missing_of}
 use Rattle.uefi_audits.proofs.FirstOnes.{one_joined}
 use Rattle.uefi_audits.proofs.verify.missing.missing_pcrs.Goals as goal

@@ -1,6 +1,6 @@
 use Rattle.std.proofs.Common.{◌≡◌, take}
 use Rattle.std.specs.Prelude.{flat_map}
-use Rattle.uefi_audits.specs.Replay.{all_banks}
+use Rattle.pcr_replay.specs.Banks.{all_banks}
 use Rattle.uefi_audits.specs.verify.Missing.{missing_of}
 use Rattle.uefi_audits.proofs.verify.missing.missing_pcrs.Given as goal
 
