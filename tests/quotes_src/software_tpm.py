@@ -95,10 +95,14 @@ class SoftwareTpm:
         if answer[6:10] != bytes(4):
             raise RuntimeError(f"swtpm: {message.hex()}: {answer.hex()}")
 
-    def tool(self, *words):
-        """Runs a tool, and returns what it prints."""
+    def run(self, *words):
+        """Runs a tool, and returns how it ended."""
         streams = {"capture_output": True, "text": True, "stdin": subprocess.DEVNULL}
-        ran = subprocess.run(words, env=self.environment, cwd=self.room, check=False, **streams)
+        return subprocess.run(words, env=self.environment, cwd=self.room, check=False, **streams)
+
+    def tool(self, *words):
+        """Runs a tool that has to end well, and returns what it prints."""
+        ran = self.run(*words)
         if ran.returncode:
             raise RuntimeError(f"{' '.join(words)}: {ran.stderr}")
         return ran.stdout
@@ -164,10 +168,8 @@ class SoftwareTpm:
     def is_signed(self, key, file, signature=None):
         """Whether OpenSSL verifies the signature beside a file, or another one."""
         words = ["openssl", "dgst", f"-{key.hash}", "-verify", key.file]
-        words += ["-signature", signature or f"{file}.signature", file]
-        streams = {"capture_output": True, "stdin": subprocess.DEVNULL}
-        ran = subprocess.run(words, env=self.environment, cwd=self.room, check=False, **streams)
-        return (ran.returncode, ran.stdout) == (0, b"Verified OK\n")
+        ran = self.run(*words, "-signature", signature or f"{file}.signature", file)
+        return (ran.returncode, ran.stdout) == (0, "Verified OK\n")
 
     def fields(self, file):
         """The fields of a quote by their names, as `tpm2_print` reads them."""
