@@ -73,7 +73,8 @@ def selections(machine, name, log):
         yield ends_with(f"{name}: --pcrs {asked} of {listed(quoted.selections)}", ending, status, reason)
     for chosen in ([(bank, [])], [(it, []) for it in event_log.banks(log)]):
         empty = machine.quote(f"{name}.empty", "rsa", chosen, NONCE)
-        yield ends_with(f"{name}: {len(chosen)} empty selections", machine.judge(name, empty), 4, f"{empty.file}: covers no PCR")
+        ending = machine.judge(name, empty)
+        yield ends_with(f"{name}: {len(chosen)} empty selections", ending, 4, f"{empty.file}: covers no PCR")
 
 
 def signatures(machine, name, log):
