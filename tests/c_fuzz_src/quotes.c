@@ -101,7 +101,7 @@ static UefiBytes make_quote(UefiBytes bytes) {
     while (count--) {
         push(made, &n, below(20), 2), push(made, &n, size = any() & 15 ? below(5) : below(7), 1);
         push_any(made, &n, size);
-        if (size == 4 && any() & 7) made[n - 1] = 0;
+        if (size == 4) made[n - 1] = any() & 7 ? 0 : 1 << below(8);
     }
     push(made, &n, size = below(33), 2), push_any(made, &n, size);
     if (!(any() & 7)) n = below(n);
