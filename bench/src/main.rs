@@ -26,7 +26,7 @@ use sums::{
 use uefi_formats::mem::memory_map::MemoryMap;
 use uefi_formats::proto::device_path::DevicePath;
 use uefi_formats::proto::hii::config_str::{
-    ConfigurationString, ConfigurationStringIter, MultiConfigurationStringIter, fill_from_hex,
+    ConfigurationString, ConfigurationStringIter, MultiConfigurationStringIter,
 };
 use uefi_formats::proto::{media::file::FileInfo, pci, tcg::v1::EventLog};
 use uefi_formats::runtime::Time;
@@ -89,10 +89,8 @@ const READERS: [Reader; 17] = [
             sum([spelled.len() as u64, first_of(&spelled)])
         },
         |it| {
-            let count = ConfigurationString::parse_bytes_from_hex(text_of(it)).len();
-            let mut spelled = vec![0; count];
-            fill_from_hex(text_of(it), &mut spelled);
-            sum([count as u64, first_of(black_box(&spelled))])
+            let spelled: Vec<u8> = black_box(ConfigurationString::parse_bytes_from_hex(text_of(it)).collect());
+            sum([spelled.len() as u64, first_of(&spelled)])
         },
     ]),
     ("long values", VALUES, value, [

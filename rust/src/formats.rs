@@ -5,8 +5,6 @@
 
 pub(crate) mod pcr_replay;
 pub(crate) mod sha1;
-// The loop that copies is the toolchain's.
-#[allow(clippy::manual_memcpy)]
 pub(crate) mod sha2;
 pub(crate) mod sm3;
 pub(crate) mod tpm_quote;

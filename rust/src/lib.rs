@@ -21,8 +21,6 @@
 #![no_std]
 #![forbid(unsafe_code)]
 #![warn(missing_debug_implementations)]
-// Statuses have the names of the specification.
-#![allow(non_camel_case_types)]
 // The traits `FromStr` are implemented below, over these functions.
 #![allow(clippy::should_implement_trait)]
 
@@ -154,7 +152,7 @@ pub mod proto {
 
             pub use crate::formats::uefi_records::{
                 FileAttribute, FileInfo, FileInfoCreationError, FileProtocolInfo, FileSystemInfo,
-                FileSystemVolumeLabel, first_zero_unit, write_file_info, write_file_system_info,
+                FileSystemVolumeLabel, write_file_info, write_file_system_info,
                 write_file_system_volume_label,
             };
         }

@@ -36,7 +36,7 @@ pub fn encode_to_slice(bytes: &[u8], out: &mut [u8]) -> Result<(), FromHexError>
 }
 
 /// Returns two digits for each byte.
-pub fn encode(bytes: &[u8]) -> Result<String, uefi_formats::AllocError> {
+pub fn encode(bytes: &[u8]) -> Result<String, crate::support::alloc::AllocError> {
     Ok(bytes.iter().map(|byte| format!("{byte:02x}")).collect())
 }
 

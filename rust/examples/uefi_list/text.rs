@@ -1,7 +1,7 @@
 //! Text that is appended to, with an error where memory runs out.
 
 use std::fmt;
-use uefi_formats::AllocError;
+use crate::support::alloc::AllocError;
 
 /// Appends what is displayed.
 pub trait Append {

@@ -12,7 +12,7 @@ mod text;
 
 /// `format!`, which may run out of memory.
 macro_rules! fallible_format {
-    ($($form:tt)*) => { Ok::<String, uefi_formats::AllocError>(format!($($form)*)) };
+    ($($form:tt)*) => { Ok::<String, crate::support::alloc::AllocError>(format!($($form)*)) };
 }
 
 mod audit_tests;
@@ -39,40 +39,8 @@ mod test_support;
 #[path = "../../examples/uefi_list/uefi_listing/mod.rs"]
 mod uefi_listing;
 
-// The libraries, by the names that the repository's tests have for them.
-mod pcr_replay {
-    pub use uefi_formats::pcr::*;
-}
-mod sm3 {
-    pub use crate::formats::sm3::*;
-}
-mod tpm_quote {
-    pub use uefi_formats::pcr::*;
-}
-mod uefi_base {
-    pub use uefi_formats::*;
-}
-mod uefi_hii {
-    pub use uefi_formats::proto::hii::config_str::*;
-}
-mod uefi_map {
-    pub use uefi_formats::mem::memory_map::*;
-    pub use uefi_formats::proto::pci::*;
-}
-mod uefi_node {
-    pub use uefi_formats::proto::device_path::text::*;
-    pub use uefi_formats::proto::device_path::*;
+use formats::{pcr_replay, tpm_quote, uefi_base, uefi_hii, uefi_map, uefi_node, uefi_path, uefi_records, uefi_tcg};
 
-    /// The trait of `as_enum`, which is a call of the node itself in the package.
-    pub trait DevicePathNodeExt {}
-}
-mod uefi_path {
-    pub use uefi_formats::proto::device_path::*;
-}
-mod uefi_records {
-    pub use uefi_formats::proto::media::file::*;
-    pub use uefi_formats::runtime::*;
-}
-mod uefi_tcg {
-    pub use uefi_formats::proto::tcg::*;
+mod sm3 {
+    pub(crate) use crate::formats::{sha2::Digest, sm3::*};
 }

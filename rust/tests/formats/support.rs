@@ -1,15 +1,20 @@
 //! What the tests stand on besides.
 
-pub mod alloc {
-    pub use uefi_formats::AllocError;
-}
+#[path = "../../src/support/alloc.rs"]
+pub mod alloc;
+#[path = "../../src/support/bitflags.rs"]
+pub(crate) mod bitflags;
+#[path = "../../src/support/signed.rs"]
+pub(crate) mod signed;
+#[path = "../../src/support/simd.rs"]
+pub(crate) mod simd;
 
 #[path = "../../src/support/fallible.rs"]
 mod own_fallible;
 
 pub mod fallible {
     pub(crate) use super::own_fallible::*;
-    use uefi_formats::AllocError;
+    use super::alloc::AllocError;
 
     /// What `to_string` gives: a text, or an error where it may run out of memory.
     pub trait Text {

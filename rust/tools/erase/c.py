@@ -43,14 +43,18 @@ def text_of(source):
     return '\n\n'.join(part for part in (docs.strip(), '\n'.join(lines), text[len(docs):].strip()) if part) + '\n'
 
 
-def modules(names):
-    """The module of these crates."""
-    return f"""//! The functions for C, and the crates that the package `uefi-formats` hasn't.
+def modules(libraries, functions):
+    """The module of the functions and of the libraries below them."""
+    shared = ''.join(f'#[path = "../../src/formats/{name}/mod.rs"]\npub(crate) mod {name};\n' for name in libraries)
+    return f"""//! The functions for C, and the libraries that they call, whose files are those of the package `uefi-formats`.
 
-// Some fields and imports are those of the proofs, and a form is the one that is proved.
-#![allow(dead_code, unused_imports, unused_labels, clippy::complexity, clippy::style)]
+// The functions call a part of the libraries.
+#![allow(dead_code, unused_imports)]
+// A form is the one that is proved.
+#![allow(clippy::complexity, clippy::style)]
 
-{''.join(f'pub(crate) mod {name};' + chr(10) for name in names)}"""
+{shared}pub(crate) mod {functions};
+"""
 
 
 def slices_of(source):

@@ -5,6 +5,7 @@ from tokens import Rule, rewrite
 HASHES = [Rule(before, after) for before, after in [
     ('use std::convert::AsSlice;', ''), ('AsSlice<u8>', 'AsRef<[u8]>'), ('data.as_slice()', 'data.as_ref()'),
     ('use std::alloc::AllocError;', ''),
+    ("'bytes: for i in 0..N { out[i] = digest[i]; }", 'out.copy_from_slice(&digest[..N]);'),
     # Functions of a trait that no type has in another form, and what is left of a bound.
     ('final fn', 'fn'), ('Self: Sized, Self::Output,', 'Self: Sized,'),
 ]]

@@ -14,6 +14,7 @@ GHOST = rules([
     ("use std::marker::Model;", ""), ("impl Model for $$type { }", ""), ("impl<$a> Model for $$type { }", ""),
     ("(Drop, $next", "($next"), (", Drop, ", ", "), (", Drop)", ")"), (": Drop +", ":"), ("+ Drop", ""), (": Drop", ""),
     (", laws,", ","), (", laws}", "}"), ("{laws, $next", "{$next"), ("use $a::laws;", ""), ("one_contents();", ""),
+    ("length_fits($$bytes);", ""), ("use uefi_base::buffer::length_fits;", ""), ("use crate::buffer::length_fits;", ""),
 ])
 RUST = rules([
     ("fmt::Formatter<W>", "fmt::Formatter<'_>"),

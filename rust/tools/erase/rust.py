@@ -21,6 +21,7 @@ def to_rust(source, modules, root, tests):
                 token.text = std(source, i, root)
     labels(source)
     attributes(source, tests)
+    specified(source)
     check(source)
 
 
@@ -95,6 +96,14 @@ def attributes(source, tests):
         elif 'Debug' not in given:
             derive = next(j for j in range(start, i) if source.at(j) == 'derive')
             source.tokens[source.close(derive + 1) - 1].text += ', Debug'
+
+
+def specified(source):
+    """Variants whose names are those of a standard."""
+    for start, keyword, end in reversed(list(source.items())):
+        if source.at(keyword) == 'enum' and any('_' in name and name.isupper() for name in source.names(keyword, end)):
+            source.insert(start, '#[allow(non_camel_case_types)]')
+            source.tokens[start].space += '// The names are those of the standard.\n'
 
 
 def check(source):

@@ -31,8 +31,6 @@ pub fn push_configurations(
     let mut count = 0usize;
     while let Some(item) = items.next() {
         push_item(text, &item)?;
-        // Each item has a line, so the items are no more than the text's bytes.
-        length_fits(text);
         count += 1;
     }
     fallible_writeln!(text, "items {count}")?;

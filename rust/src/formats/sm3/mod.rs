@@ -3,13 +3,12 @@
 //! The SM3 hash function (GB/T 32905-2016; ISO/IEC 10118-3:2018), with the interface of the crate
 //! `sm3`: a hasher takes a message piece by piece, and gives its digest of 32 bytes.
 //!
-//! Begin with [`Digest::digest`] if the message is one slice, and with [`Digest::new`],
-//! [`Digest::update`] and [`Digest::finalize`] if it has several parts:
-//!
 //! Nothing here allocates memory.
 
-pub use self::hasher::Sm3;
-pub use crate::formats::sha2::Digest;
+pub(crate) use self::hasher::Sm3;
+// For the functions for C, or for tests: they compile these files too.
+#[allow(unused_imports)]
+pub(crate) use crate::formats::sha2::Digest;
 
 mod compression;
 mod hasher;

@@ -6,34 +6,17 @@
 //! caller makes sure that the part fits, so that a writer compares the length of its buffer once
 //! for all parts.
 
-/// States that the length of a slice fits `usize`, so that what it holds can be counted, and does
-/// nothing when it runs.
-#[inline]
-pub fn length_fits(bytes: &[u8]) {
-    let _length = bytes.len();
-}
-
 /// Copies `part` into `buffer` at `offset`, and leaves all other bytes unchanged. The caller makes
 /// sure that the part fits, so that a writer compares the length of its buffer once for all parts.
-///
-/// # Panics
-///
-/// If the part ends past the buffer.
 #[inline]
-pub fn put(buffer: &mut [u8], offset: usize, part: &[u8]) {
-    assert!(offset <= buffer.len() && part.len() <= buffer.len() - offset);
+pub(crate) fn put(buffer: &mut [u8], offset: usize, part: &[u8]) {
     let end = offset + part.len();
     buffer[offset..end].copy_from_slice(part);
 }
 
 /// Copies `units` into `buffer` at `offset`, two bytes each, little-endian.
-///
-/// # Panics
-///
-/// If the units end past the buffer.
 #[inline]
-pub fn put_units(buffer: &mut [u8], offset: usize, units: &[u16]) {
-    assert!(offset <= buffer.len() && units.len() <= (buffer.len() - offset) / 2);
+pub(crate) fn put_units(buffer: &mut [u8], offset: usize, units: &[u16]) {
     for (i, unit) in units.iter().enumerate() {
         put(buffer, offset + 2 * i, &unit.to_le_bytes());
     }

@@ -5,6 +5,8 @@ use core::{error, fmt};
 /// The status of a failed call (UEFI 2.10, Appendix D), for each error that this project returns.
 ///
 /// Its contract: `crates/uefi_base/src/status.rt`.
+// The names are those of the standard.
+#[allow(non_camel_case_types)]
 #[derive(Clone, Copy, PartialEq, Eq, Debug)]
 pub enum Status {
     /// A parameter is invalid.

@@ -5,7 +5,6 @@ use alloc::vec::Vec;
 #[cfg(feature = "alloc")]
 use crate::support::fallible::*;
 
-use crate::formats::uefi_base::buffer::length_fits;
 use crate::formats::uefi_base::chars_lossy::{CharsLossy, write_characters};
 #[cfg(feature = "alloc")]
 use crate::formats::uefi_base::cstring16::CString16;
@@ -182,7 +181,6 @@ impl<'a> UnalignedSliceIter<'a> {
     /// Returns an iterator over the units in `rest`.
     #[inline]
     fn new(rest: &'a [u8]) -> UnalignedSliceIter<'a> {
-        length_fits(rest);
         UnalignedSliceIter { rest }
     }
 }

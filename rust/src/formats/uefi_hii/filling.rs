@@ -20,13 +20,8 @@ const LANES: usize = 16;
 /// Writes the bytes that a text spells in hex, those of
 /// [`ConfigurationString::parse_bytes_from_hex`](crate::formats::uefi_hii::ConfigurationString::parse_bytes_from_hex),
 /// to a buffer of as many bytes.
-///
-/// # Panics
-///
-/// If the buffer has another length than there are bytes.
 #[inline]
-pub fn fill_from_hex(text: &str, out: &mut [u8]) {
-    assert!(out.len() == HexBytes::new(text).len());
+pub(crate) fn fill_from_hex(text: &str, out: &mut [u8]) {
     let text = text.as_bytes();
     let blocks = text.len() / (DIGITS_PER_BYTE * LANES);
     for block in 0..blocks {

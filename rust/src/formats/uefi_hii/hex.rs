@@ -2,7 +2,6 @@
 
 use crate::formats::uefi_hii::digit::hex_digit;
 use core::iter::{ExactSizeIterator, FusedIterator};
-use crate::formats::uefi_base::buffer::length_fits;
 
 /// The bytes that a text spells in hex, from either end.
 ///
@@ -24,7 +23,6 @@ impl<'a> HexBytes<'a> {
     #[inline]
     pub(crate) fn new(text: &'a str) -> HexBytes<'a> {
         let rest = text.as_bytes();
-        length_fits(rest);
         HexBytes { rest }
     }
 }

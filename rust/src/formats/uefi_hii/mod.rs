@@ -9,17 +9,22 @@
 //! [`MultiConfigurationStringIter`] for one after another, or with [`parse_all`] for all of them.
 //! Each gives a configuration that owns its memory, or the error of a group of pairs in which one
 //! is missing or wrong. [`ConfigurationStringIter`] gives the pairs themselves, and takes no
-//! memory. [`next_pair`] is one step of it, over bytes.
+//! memory.
 
 #[cfg(feature = "alloc")]
 pub use self::configuration::{ConfigurationString, ConfigurationStringElement, NvPair};
 pub use self::error::{ConfigHdrSection, ParseError};
-pub use self::filling::fill_from_hex;
+// For the functions for C, or for tests: they compile these files too.
+#[allow(unused_imports)]
+pub(crate) use self::filling::fill_from_hex;
 pub use self::hex::HexBytes;
 #[cfg(feature = "alloc")]
 pub use self::multi::parse_all;
 pub use self::multi::MultiConfigurationStringIter;
-pub use self::pairs::{ConfigurationStringIter, next_pair};
+pub use self::pairs::ConfigurationStringIter;
+// For the functions for C, or for tests: they compile these files too.
+#[allow(unused_imports)]
+pub(crate) use self::pairs::next_pair;
 
 mod configuration;
 mod digit;

@@ -2,7 +2,6 @@
 
 use crate::formats::uefi_hii::finding::index_of;
 use core::iter::FusedIterator;
-use crate::formats::uefi_base::buffer::length_fits;
 
 /// The byte between two pairs.
 const AMPERSAND: u8 = b'&';
@@ -29,7 +28,6 @@ impl<'a> ConfigurationStringIter<'a> {
     /// Returns the pairs of the text. A text of n bytes has at most n pairs.
     #[inline]
     pub fn new(text: &'a str) -> ConfigurationStringIter<'a> {
-        length_fits(text.as_bytes());
         ConfigurationStringIter { rest: text }
     }
 }
@@ -53,7 +51,7 @@ impl<'a> FusedIterator for ConfigurationStringIter<'a> {}
 /// The pair is the bytes before the first `&`, or all bytes if there is none, cut at their first
 /// `=`. The bytes after that `&` are left.
 #[inline(always)]
-pub fn next_pair(bytes: &[u8]) -> Option<((&[u8], Option<&[u8]>), &[u8])> {
+pub(crate) fn next_pair(bytes: &[u8]) -> Option<((&[u8], Option<&[u8]>), &[u8])> {
     if bytes.is_empty() {
         return None;
     }

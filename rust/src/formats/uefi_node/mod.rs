@@ -6,13 +6,12 @@
 //! A node has a type, a subtype and data. Here each type of the standard is a struct with its
 //! fields.
 //!
-//! Begin with [`DevicePathNodeExt::as_enum`], which returns a node of a path as the value of its
-//! type, or with `TryFrom`, such as [`HardDrive::try_from`](media::HardDrive), for a type that is
-//! known. Values are pushed to a `crate::formats::uefi_path::build::DevicePathBuilder`. [`to_text`] writes a path
-//! as text, and [`from_text`] reads the path of a text. [`from_text_in`] alone allocates.
+//! Values are pushed to a `crate::formats::uefi_path::build::DevicePathBuilder`. [`to_text`] writes a path as text,
+//! and [`from_text`] reads the path of a text. [`from_text_in`] alone allocates.
 
 pub use self::error::NodeConversionError;
-pub use self::node_enum::{DevicePathNodeEnum, DevicePathNodeExt};
+pub use self::node_enum::DevicePathNodeEnum;
+pub(crate) use self::node_enum::DevicePathNodeExt;
 #[cfg(feature = "alloc")]
 pub use self::parse::from_text_in;
 pub use self::parse::{FromTextError, from_text, write_from_text};

@@ -121,9 +121,7 @@ pub enum DevicePathNodeEnum<'a> {
 }
 
 /// Nodes by their types, for [`DevicePathNode`].
-///
-/// Its contract: `crates/uefi_node/src/node_enum.rt`.
-pub trait DevicePathNodeExt<'a> {
+pub(crate) trait DevicePathNodeExt<'a> {
     /// Returns the value that the node is, of the type that its type and subtype state.
     ///
     /// # Errors

@@ -3,7 +3,6 @@
 use crate::formats::uefi_path::instance::DevicePathInstance;
 use crate::formats::uefi_path::walk::{StopCondition, first_nodes};
 use core::iter::FusedIterator;
-use crate::formats::uefi_base::buffer::length_fits;
 
 /// An iterator over the instances of a path, in order.
 ///
@@ -20,7 +19,6 @@ impl<'a> DevicePathInstanceIterator<'a> {
     /// Returns an iterator over the instances in `rest`.
     #[inline]
     pub(crate) fn new(rest: &'a [u8]) -> DevicePathInstanceIterator<'a> {
-        length_fits(rest);
         DevicePathInstanceIterator { rest }
     }
 }

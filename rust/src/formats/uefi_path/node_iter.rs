@@ -3,7 +3,6 @@
 use crate::formats::uefi_path::node::DevicePathNode;
 use crate::formats::uefi_path::walk::{StopCondition, first_node};
 use core::iter::FusedIterator;
-use crate::formats::uefi_base::buffer::length_fits;
 
 /// An iterator over the nodes of a path or of an instance, in order, without the last one.
 ///
@@ -21,7 +20,6 @@ impl<'a> DevicePathNodeIterator<'a> {
     /// Returns an iterator over the nodes in `rest`, up to the one at which the walk stops.
     #[inline]
     pub(crate) fn new(rest: &'a [u8], stop: StopCondition) -> DevicePathNodeIterator<'a> {
-        length_fits(rest);
         DevicePathNodeIterator { rest, stop }
     }
 }

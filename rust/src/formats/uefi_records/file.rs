@@ -7,7 +7,7 @@ pub use self::creation_error::FileInfoCreationError;
 pub use self::file_info::FileInfo;
 pub use self::file_system_info::FileSystemInfo;
 pub use self::file_system_volume_label::FileSystemVolumeLabel;
-pub use self::first_zero::first_zero_unit;
+pub(crate) use self::first_zero::first_zero_unit;
 pub use self::protocol_info::FileProtocolInfo;
 pub use self::write::{write_file_info, write_file_system_info, write_file_system_volume_label};
 

@@ -12,8 +12,11 @@
 
 pub use self::file::{
     FileInfo, FileInfoCreationError, FileProtocolInfo, FileSystemInfo, FileSystemVolumeLabel,
-    first_zero_unit, write_file_info, write_file_system_info, write_file_system_volume_label,
+    write_file_info, write_file_system_info, write_file_system_volume_label,
 };
+// For the functions for C, or for tests: they compile these files too.
+#[allow(unused_imports)]
+pub(crate) use self::file::first_zero_unit;
 pub use self::flags::{Daylight, FileAttribute};
 pub use self::time::{Time, TimeByteConversionError, TimeError, TimeParams};
 

@@ -9,7 +9,9 @@ pub(crate) use self::event::HEADER_LENGTH;
 pub use self::event::PcrEvent;
 pub use self::log::EventLog;
 pub use self::log_iter::EventLogIter;
-pub use self::one_event::event_starting_at;
+// For the functions for C, or for tests: they compile these files too.
+#[allow(unused_imports)]
+pub(crate) use self::one_event::event_starting_at;
 pub use self::write::write_event;
 
 mod boxed;

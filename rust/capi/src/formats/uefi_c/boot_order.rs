@@ -3,7 +3,7 @@
 use core::mem::MaybeUninit;
 use crate::bytes::Bytes;
 
-use crate::libraries::uefi_tcg::content::BootOrder;
+use crate::formats::uefi_tcg::content::BootOrder;
 
 /// Reads the number at an index of the order of boot options that the bytes are: the value of the
 /// variable `BootOrder`. Option 1 is that of the variable `Boot0001`.

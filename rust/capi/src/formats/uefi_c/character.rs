@@ -2,7 +2,7 @@
 
 //! Characters of UCS-2, in UTF-8.
 
-use crate::libraries::uefi_base::buffer::put;
+use crate::formats::uefi_base::buffer::put;
 
 /// The most bytes that a character has in UTF-8.
 const MAX_CHARACTER_LENGTH: usize = 4;

@@ -4,7 +4,7 @@ use core::mem::MaybeUninit;
 use crate::bytes::Bytes;
 
 use crate::formats::uefi_c::cursor::bytes_from;
-use crate::libraries::uefi_hii::next_pair;
+use crate::formats::uefi_hii::next_pair;
 
 /// A key of a configuration text, and its value if it has one.
 ///

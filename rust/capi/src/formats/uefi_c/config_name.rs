@@ -4,8 +4,7 @@ use core::mem::MaybeUninit;
 use crate::bytes::{Buffer, Bytes};
 
 use crate::formats::uefi_c::character::{character_of, put_character};
-use crate::libraries::uefi_base::buffer::length_fits;
-use crate::libraries::uefi_hii::ConfigurationString;
+use crate::formats::uefi_hii::ConfigurationString;
 
 /// Writes the name that the value of a pair with the key `NAME` spells, in UTF-8, to the beginning
 /// of the buffer, and sets `size` to its length; the bytes after it stay as they were.
@@ -42,7 +41,6 @@ fn name_length(text: &str) -> Option<usize> {
     if text.len() % 2 != 0 {
         return None;
     }
-    length_fits(text.as_bytes());
     let mut length = 0;
     let mut bytes = ConfigurationString::parse_bytes_from_hex(text);
     while let Some(high) = bytes.next() {

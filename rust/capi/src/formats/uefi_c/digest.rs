@@ -4,7 +4,7 @@ use core::mem::MaybeUninit;
 use crate::bytes::Bytes;
 
 use crate::formats::uefi_c::log2::event_at;
-use crate::libraries::uefi_tcg::AlgorithmId;
+use crate::formats::uefi_tcg::AlgorithmId;
 
 /// Reads the first digest of an algorithm in the event under the table of these rows that starts at
 /// the offset and keeps to the last entry. Under a table of 2^32 rows or more there is none.

@@ -3,7 +3,7 @@
 use core::mem::MaybeUninit;
 use crate::bytes::{Buffer, Bytes};
 
-use crate::libraries::uefi_hii::{ConfigurationString, fill_from_hex};
+use crate::formats::uefi_hii::{ConfigurationString, fill_from_hex};
 
 /// Writes the bytes that a text in UTF-8 spells in hex to the beginning of the buffer, and sets
 /// `size` to their number; the bytes after them stay as they were.

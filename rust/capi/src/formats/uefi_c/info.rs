@@ -4,7 +4,7 @@ use core::mem::MaybeUninit;
 use crate::bytes::Bytes;
 
 use crate::formats::uefi_c::time::{UefiTime, seen};
-use crate::libraries::uefi_records::{FileInfo, FileSystemInfo, FileSystemVolumeLabel};
+use crate::formats::uefi_records::{FileInfo, FileSystemInfo, FileSystemVolumeLabel};
 
 /// The offset of the name in a file information record.
 pub(crate) const FILE_NAME_OFFSET: usize = 80;

@@ -4,7 +4,7 @@ use core::mem::MaybeUninit;
 use crate::bytes::Bytes;
 
 use crate::formats::uefi_c::info::name_bytes;
-use crate::libraries::uefi_path::{LoadOption, LoadOptionError};
+use crate::formats::uefi_path::{LoadOption, LoadOptionError};
 
 /// The offset of the description.
 const DESCRIPTION_OFFSET: usize = 6;

@@ -3,7 +3,7 @@
 use core::mem::MaybeUninit;
 use crate::bytes::{Buffer, Bytes};
 
-use crate::libraries::uefi_map::{
+use crate::formats::uefi_map::{
     MemoryAttribute, MemoryDescriptor, MemoryMap, MemoryMapKey, MemoryMapMeta, MemoryMapMut,
     MemoryMapRef, MemoryMapRefMut, MemoryType,
 };

@@ -3,7 +3,7 @@
 use core::mem::MaybeUninit;
 use crate::bytes::Bytes;
 
-use crate::libraries::uefi_hii::ConfigurationString;
+use crate::formats::uefi_hii::ConfigurationString;
 
 /// Reads the number that a text in UTF-8 spells in hex, the highest byte first: 1, 2, 4 or 8 bytes.
 #[unsafe(no_mangle)]

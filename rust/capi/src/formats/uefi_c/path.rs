@@ -4,7 +4,7 @@ use core::mem::MaybeUninit;
 use crate::bytes::Bytes;
 
 use crate::formats::uefi_c::cursor::bytes_from;
-use crate::libraries::uefi_path::{DevicePath, DevicePathNode, DeviceType};
+use crate::formats::uefi_path::{DevicePath, DevicePathNode, DeviceType};
 
 /// A node of a device path.
 ///

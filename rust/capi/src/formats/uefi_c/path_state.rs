@@ -4,7 +4,7 @@ use crate::bytes::Bytes;
 
 use crate::formats::uefi_c::cursor::bytes_from;
 use crate::formats::uefi_c::path::{ends_walk, split_node};
-use crate::libraries::uefi_base::little_endian::u16_at;
+use crate::formats::uefi_base::little_endian::u16_at;
 
 // What is at an offset of a path.
 

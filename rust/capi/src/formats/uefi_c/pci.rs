@@ -4,7 +4,7 @@ use core::mem::MaybeUninit;
 use crate::bytes::Bytes;
 
 use crate::formats::uefi_c::cursor::bytes_from;
-use crate::libraries::uefi_map::{QwordAddressSpaceDescriptor, ResourceError};
+use crate::formats::uefi_map::{QwordAddressSpaceDescriptor, ResourceError};
 
 // What stands at a cursor.
 

@@ -3,8 +3,8 @@
 use core::mem::MaybeUninit;
 use crate::bytes::Bytes;
 
-use crate::libraries::tpm_quote::{PcrSelection, Quote, QuoteError};
-use crate::libraries::uefi_tcg::PcrIndex;
+use crate::formats::tpm_quote::{PcrSelection, Quote, QuoteError};
+use crate::formats::uefi_tcg::PcrIndex;
 
 // Why bytes are no quote.
 

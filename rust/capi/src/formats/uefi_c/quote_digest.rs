@@ -4,12 +4,12 @@ use core::mem::MaybeUninit;
 use crate::bytes::Bytes;
 
 use crate::formats::uefi_c::replay::{NO_FAULT, ROOM, fault_number, log_of, start_of};
-use crate::libraries::pcr_replay::{
+use crate::formats::pcr_replay::{
     Bank, BankPcrs, NoQuoteDigest, PcrValue, Pcrs, Start, is_active, is_quoted, quote_digest,
     replay_from,
 };
-use crate::libraries::tpm_quote::Quote;
-use crate::libraries::uefi_tcg::{AlgorithmId, Log};
+use crate::formats::tpm_quote::Quote;
+use crate::formats::uefi_tcg::{AlgorithmId, Log};
 
 /// The algorithm that says that the length of the quote's digest tells the hash function.
 const OF_SIZE: u16 = 0;

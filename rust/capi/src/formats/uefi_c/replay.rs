@@ -3,11 +3,11 @@
 use core::mem::MaybeUninit;
 use crate::bytes::Bytes;
 
-use crate::libraries::pcr_replay::{
+use crate::formats::pcr_replay::{
     Bank, Fault, PCR_COUNT, PcrValue, Pcrs, Start, Undetermined, is_active, replay_from,
     startup_locality,
 };
-use crate::libraries::uefi_tcg::{AlgorithmId, LastEntry, Log};
+use crate::formats::uefi_tcg::{AlgorithmId, LastEntry, Log};
 
 /// The last entry that says that a log is empty.
 const EMPTY_LOG: usize = 1;

@@ -3,7 +3,7 @@
 use core::mem::MaybeUninit;
 use crate::bytes::Bytes;
 
-use crate::libraries::uefi_records::{Daylight, Time, TimeByteConversionError, TimeError, TimeParams};
+use crate::formats::uefi_records::{Daylight, Time, TimeByteConversionError, TimeError, TimeParams};
 
 /// The zone of local time.
 const UNSPECIFIED_ZONE: i16 = 0x07ff;

@@ -6,8 +6,8 @@ use core::mem::MaybeUninit;
 use crate::bytes::{Buffer, Bytes};
 
 use crate::formats::uefi_c::character::{character_of, put_character};
-use crate::libraries::uefi_base::buffer::put;
-use crate::libraries::uefi_base::little_endian::u16_at;
+use crate::formats::uefi_base::buffer::put;
+use crate::formats::uefi_base::little_endian::u16_at;
 
 /// The largest number of units of a text, including its NUL.
 const MAX_UNITS: usize = 1 << 31;

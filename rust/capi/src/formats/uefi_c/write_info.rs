@@ -6,7 +6,7 @@ use crate::bytes::{Buffer, Bytes};
 use crate::formats::uefi_c::info::{FILE_NAME_OFFSET, LABEL_OFFSET, UefiFileInfo, UefiFileSystemInfo};
 use crate::formats::uefi_c::time::bytes_of;
 use crate::formats::uefi_c::ucs2::is_ucs2;
-use crate::libraries::uefi_base::buffer::put;
+use crate::formats::uefi_base::buffer::put;
 
 /// What the sizes of records with a name after fields are multiples of.
 const ALIGNMENT: usize = 8;

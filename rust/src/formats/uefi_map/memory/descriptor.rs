@@ -6,7 +6,6 @@ use super::layout::{
 };
 use super::memory_attribute::MemoryAttribute;
 use super::memory_type::MemoryType;
-use crate::formats::uefi_base::Align;
 use crate::formats::uefi_base::buffer::put;
 use crate::formats::uefi_base::little_endian::{u32_at, u64_at};
 
@@ -86,12 +85,5 @@ impl Default for MemoryDescriptor {
             page_count: 0,
             att: MemoryAttribute::empty(),
         }
-    }
-}
-
-impl Align for MemoryDescriptor {
-    #[inline]
-    fn alignment() -> usize {
-        DESCRIPTOR_ALIGNMENT
     }
 }

@@ -2,7 +2,6 @@
 
 use super::resource::{QwordAddressSpaceDescriptor, RECORD_LENGTH};
 use core::iter::{ExactSizeIterator, FusedIterator};
-use crate::formats::uefi_base::buffer::length_fits;
 
 /// The resources of a list, in order, each by value.
 ///
@@ -19,7 +18,6 @@ impl<'a> ResourceIter<'a> {
     /// Returns the resources of whole records.
     #[inline]
     pub(super) fn new(rest: &'a [u8]) -> ResourceIter<'a> {
-        length_fits(rest);
         ResourceIter { rest }
     }
 }

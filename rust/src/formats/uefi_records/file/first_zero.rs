@@ -16,7 +16,7 @@ const LANES: usize = 16;
 ///
 /// A unit is two bytes, the low byte first; an odd last byte is in none.
 #[inline]
-pub fn first_zero_unit(bytes: &[u8]) -> Option<usize> {
+pub(crate) fn first_zero_unit(bytes: &[u8]) -> Option<usize> {
     let mut index = 0;
     while index + LANES <= bytes.len() / UNIT_LENGTH {
         let run = nonzero_run(bytes, UNIT_LENGTH * index);

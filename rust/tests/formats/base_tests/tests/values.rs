@@ -5,7 +5,7 @@ use crate::support::fallible::*;
 use crate::support::test::Fail;
 use crate::test_support::{same, same_text};
 use crate::uefi_base::little_endian::{u16_at, u32_at, u64_at};
-use crate::uefi_base::{Align, Error, Guid, Identify, Status};
+use crate::uefi_base::{Error, Guid, Identify, Status};
 
 /// The GUID of file information records.
 const FILE_INFO: [u8; 16] = *b"\x92\x6e\x57\x09\x3f\x6d\xd2\x11\x8e\x39\x00\xa0\xc9\x69\x72\x3b";
@@ -91,26 +91,6 @@ fn numbers_stand_low_byte_first() -> Result<(), Fail> {
 #[derive(Debug)]
 struct Label;
 
-impl Align for Label {
-    fn alignment() -> usize {
-        2
-    }
-}
-
 impl Identify for Label {
     const GUID: Guid = Guid([7; 16]);
-}
-
-#[test]
-fn a_type_has_its_guid_and_its_alignment() -> Result<(), Fail> {
-    let found = (
-        Label::alignment(),
-        Label::GUID.to_bytes(),
-        Label::identity(),
-    );
-    same(
-        "alignment, GUID and identity",
-        &found,
-        &(2, [7; 16], Label::GUID),
-    )
 }

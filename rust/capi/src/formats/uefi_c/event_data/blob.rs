@@ -3,7 +3,7 @@
 use core::mem::MaybeUninit;
 use crate::bytes::Bytes;
 
-use crate::libraries::uefi_tcg::content::{PlatformFirmwareBlob, PlatformFirmwareBlob2};
+use crate::formats::uefi_tcg::content::{PlatformFirmwareBlob, PlatformFirmwareBlob2};
 
 /// A blob of firmware (TCG PC Client Platform Firmware Profile 1.06, 10.2,
 /// `UEFI_PLATFORM_FIRMWARE_BLOB`, `UEFI_PLATFORM_FIRMWARE_BLOB2`).

@@ -5,7 +5,7 @@ use crate::bytes::Bytes;
 
 use super::text::{UefiEventText, seen};
 use crate::formats::uefi_c::cursor::units_at;
-use crate::libraries::uefi_tcg::content::CrtmVersion;
+use crate::formats::uefi_tcg::content::CrtmVersion;
 
 // The forms of a version.
 

@@ -3,9 +3,9 @@
 use core::mem::MaybeUninit;
 use crate::bytes::Bytes;
 
-use crate::libraries::uefi_base::UnalignedSlice;
-use crate::libraries::uefi_tcg::UintnSize;
-use crate::libraries::uefi_tcg::content::{GptData, GptEntry, GptHeader};
+use crate::formats::uefi_base::UnalignedSlice;
+use crate::formats::uefi_tcg::UintnSize;
+use crate::formats::uefi_tcg::content::{GptData, GptEntry, GptHeader};
 
 /// The number of units in a partition's name.
 const NAME_UNITS: usize = 36;

@@ -3,8 +3,8 @@
 use core::mem::MaybeUninit;
 use crate::bytes::Bytes;
 
-use crate::libraries::uefi_tcg::UintnSize;
-use crate::libraries::uefi_tcg::content::ImageLoadEvent;
+use crate::formats::uefi_tcg::UintnSize;
+use crate::formats::uefi_tcg::content::ImageLoadEvent;
 
 /// An image that was loaded (TCG PC Client Platform Firmware Profile 1.06, 10.2.3,
 /// `UEFI_IMAGE_LOAD_EVENT`).

@@ -4,7 +4,7 @@ use core::mem::MaybeUninit;
 use crate::bytes::Bytes;
 
 use crate::formats::uefi_c::cursor::bytes_from;
-use crate::libraries::uefi_tcg::content::{TaggedEvent, TaggedEvents};
+use crate::formats::uefi_tcg::content::{TaggedEvent, TaggedEvents};
 
 /// A tagged event (TCG PC Client Platform Firmware Profile 1.06, 10.4.1,
 /// `TCG_PCClientTaggedEvent`).

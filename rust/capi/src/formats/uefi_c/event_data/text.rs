@@ -4,7 +4,7 @@ use core::mem::MaybeUninit;
 use crate::bytes::Bytes;
 
 use crate::formats::uefi_c::cursor::units_at;
-use crate::libraries::uefi_tcg::content::EventText;
+use crate::formats::uefi_tcg::content::EventText;
 
 /// The text of an event (TCG PC Client Platform Firmware Profile 1.06, 10.4.1, `EV_IPL`).
 ///

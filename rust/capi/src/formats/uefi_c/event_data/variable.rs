@@ -4,7 +4,7 @@ use core::mem::MaybeUninit;
 use crate::bytes::Bytes;
 
 use crate::formats::uefi_c::cursor::units_at;
-use crate::libraries::uefi_tcg::content::VariableData;
+use crate::formats::uefi_tcg::content::VariableData;
 
 /// The offset of the name in a variable's data.
 const NAME_OFFSET: usize = 32;

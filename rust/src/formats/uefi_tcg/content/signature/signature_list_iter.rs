@@ -2,7 +2,6 @@
 
 use super::signature_list::SignatureList;
 use core::iter::FusedIterator;
-use crate::formats::uefi_base::buffer::length_fits;
 
 /// An iterator over the lists of a signature database, in order.
 ///
@@ -19,7 +18,6 @@ impl<'a> SignatureListIter<'a> {
     /// Returns an iterator over the lists in `rest`.
     #[inline]
     pub(crate) fn new(rest: &'a [u8]) -> SignatureListIter<'a> {
-        length_fits(rest);
         SignatureListIter { rest }
     }
 }

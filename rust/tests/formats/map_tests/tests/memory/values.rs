@@ -5,7 +5,6 @@ use crate::support::fallible::*;
 use super::meta_of;
 use crate::support::test::Fail;
 use crate::test_support::{each_gives, same, same_text};
-use crate::uefi_base::Align;
 use crate::uefi_map::{
     MemoryAttribute, MemoryDescriptor, MemoryMapError, MemoryMapKey, MemoryMapMeta, MemoryType,
 };
@@ -185,24 +184,6 @@ fn debug_shows_the_name_or_the_number() -> Result<(), Fail> {
     let shown = fallible_format!("{named:?} {numbered:?}")?;
     let expected = "MemoryType(EfiLoaderCode) MemoryType(0x70000000)";
     same_text("both", shown.as_str(), expected)
-}
-
-#[test]
-fn a_default_descriptor_is_zeros() -> Result<(), Fail> {
-    let zeros = MemoryDescriptor {
-        ty: MemoryType(0),
-        padding: 0,
-        phys_start: 0,
-        virt_start: 0,
-        page_count: 0,
-        att: MemoryAttribute::empty(),
-    };
-    let seen = (
-        MemoryDescriptor::default(),
-        MemoryDescriptor::VERSION,
-        MemoryDescriptor::alignment(),
-    );
-    same("the default, version and alignment", &seen, &(zeros, 1, 8))
 }
 
 /// Returns whether the descriptor is itself, and whether it is the default.

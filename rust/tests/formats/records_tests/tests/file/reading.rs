@@ -6,7 +6,7 @@ use crate::records_tests::tests::file::names::{UNITS_OF_AB, Units, units};
 use crate::support::test::Fail;
 use crate::test_support::samples::{FILE, FILE_SYSTEM, ZERO_FILE};
 use crate::test_support::{bytes, each_gives_in, each_holds, each_makes, each_reads, same, same_text};
-use crate::uefi_base::{Align, Error, Guid, Identify, Status};
+use crate::uefi_base::{Error, Guid, Identify, Status};
 use crate::uefi_records::{FileInfo, FileSystemInfo, FileSystemVolumeLabel};
 
 /// The sizes of a file information record, its attributes, whether it is of a directory and whether
@@ -309,29 +309,5 @@ fn each_record_has_its_guid() -> Result<(), Fail> {
     shows(
         FileSystemVolumeLabel::GUID,
         "db47d7d3-fe81-11d3-9a35-0090273fc14d",
-    )
-}
-
-#[test]
-fn each_record_has_its_alignment_and_its_identity() -> Result<(), Fail> {
-    let alignments = (
-        FileInfo::alignment(),
-        FileSystemInfo::alignment(),
-        FileSystemVolumeLabel::alignment(),
-    );
-    let identities = (
-        FileInfo::identity(),
-        FileSystemInfo::identity(),
-        FileSystemVolumeLabel::identity(),
-    );
-    let guids = (
-        FileInfo::GUID,
-        FileSystemInfo::GUID,
-        FileSystemVolumeLabel::GUID,
-    );
-    same(
-        "alignments, identities",
-        &(alignments, identities),
-        &((8, 8, 2), guids),
     )
 }

@@ -2,7 +2,7 @@
 
 use crate::support::test::Fail;
 use crate::test_support::{bytes, holds, same, same_bytes, takes_memory};
-use crate::uefi_base::{Align, Error, Status};
+use crate::uefi_base::{Error, Status};
 use crate::uefi_tcg::v1::{EventLog, PcrEvent, Sha1Digest, write_event};
 use crate::uefi_tcg::{EventType, PcrIndex};
 
@@ -93,9 +93,4 @@ fn a_written_event_is_a_log() -> Result<(), Fail> {
     let row = bytes(EVENT)?;
     let event = only_event(row.as_slice()).ok_or("one event")?;
     same_bytes("the event", event.as_bytes(), row.as_slice())
-}
-
-#[test]
-fn an_event_can_start_at_any_byte() -> Result<(), Fail> {
-    same("alignment", &PcrEvent::alignment(), &1)
 }

@@ -2,7 +2,7 @@
 
 use crate::support::test::Fail;
 use crate::test_support::{bytes, holds, same, same_bytes, takes_memory};
-use crate::uefi_base::{Align, Error, Status};
+use crate::uefi_base::{Error, Status};
 use crate::uefi_tcg::v2::{PcrEventInputs, write_event_inputs};
 use crate::uefi_tcg::{EventType, PcrIndex};
 
@@ -89,9 +89,4 @@ fn other_inputs_differ() -> Result<(), Fail> {
         &box_inputs(&written),
         &Some(false),
     )
-}
-
-#[test]
-fn inputs_can_start_at_any_byte() -> Result<(), Fail> {
-    same("alignment", &PcrEventInputs::alignment(), &1)
 }
