@@ -60,12 +60,7 @@ pub fn push_quote_json(
 
 /// Returns the object of a log.
 #[tactic(auto, unfolding(crate::specs::json::Quote::line_object))]
-fn object_json(
-    alloc: Global,
-    name: &str,
-    locality: u8,
-    quote: Value,
-) -> Result<Value, AllocError>
+fn object_json(alloc: Global, name: &str, locality: u8, quote: Value) -> Result<Value, AllocError>
     ensures { IfOk result (λ value. view value ≡ line_object name.now locality (view quote)) }
 {
     let mut members = Map::new(alloc);
@@ -101,7 +96,12 @@ fn quote_json(
     put(&mut members, alloc, "leads_to", leads_to)?;
     let nonce = hex_json(alloc, quote.extra_data())?;
     put(&mut members, alloc, "nonce", nonce)?;
-    put(&mut members, alloc, "nonce_agrees", nonce_agrees_json(received))?;
+    put(
+        &mut members,
+        alloc,
+        "nonce_agrees",
+        nonce_agrees_json(received),
+    )?;
     Ok(Value::Object(members))
 }
 
@@ -173,10 +173,7 @@ fn clock_json(alloc: Global, clock_info: ClockInfo) -> Result<Value, AllocError>
 
 /// Returns the digest to which a log leads, in hex; `null` if it leads to none.
 #[tactic(auto, unfolding(crate::specs::json::Quote::digest_json))]
-fn digest_json(
-    alloc: Global,
-    digest: &Result<PcrValue, NoQuoteDigest>,
-) -> Result<Value, AllocError>
+fn digest_json(alloc: Global, digest: &Result<PcrValue, NoQuoteDigest>) -> Result<Value, AllocError>
     ensures { IfOk result (λ value. view value
         ≡ digest_json (result_map_both value_of (λ why. why) digest.now)) }
 {

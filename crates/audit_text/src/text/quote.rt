@@ -199,11 +199,7 @@ pub fn push_no_digest(
 
 /// Appends that the bank of an algorithm isn't in a log.
 #[tactic(auto, unfolding(crate::specs::text::Quote::no_bank_line))]
-fn push_no_bank(
-    messages: &mut String,
-    name: &str,
-    algorithm: AlgorithmId,
-) -> Result<(), AllocError>
+fn push_no_bank(messages: &mut String, name: &str, algorithm: AlgorithmId) -> Result<(), AllocError>
     ensures { OnOk result (AppendsText messages.old messages.new
         (no_bank_line name.now (bank_of algorithm.0) algorithm.0)) }
 {

@@ -19,10 +19,7 @@ pub struct NamedPcr {
 /// # Errors
 ///
 /// [`AllocError`] if an allocation fails.
-pub fn named_pcrs<A: Allocator>(
-    alloc: A,
-    held: &[HeldPcr],
-) -> Result<Vec<NamedPcr, A>, AllocError>
+pub fn named_pcrs<A: Allocator>(alloc: A, held: &[HeldPcr]) -> Result<Vec<NamedPcr, A>, AllocError>
     ensures { IfOk result (λ named. named.items ≡ map name_of held.now) }
 {
     held.iter()

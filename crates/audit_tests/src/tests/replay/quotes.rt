@@ -9,7 +9,8 @@ use uefi_tcg::{AlgorithmId, LastEntry, Log, PcrIndex};
 const SHA1_LOG: &str = "0000000008000000333333333333333333333333333333333333333300000000";
 
 /// A log that extends the PCRs 0 and 7 of SHA-256.
-pub(crate) const SHA256_LOG: &str = "0000000003000000000000000000000000000000000000000000000021000000 \
+pub(crate) const SHA256_LOG: &str =
+    "0000000003000000000000000000000000000000000000000000000021000000 \
                           53706563204944204576656e743033000000000000020002010000000b00200000 \
                           0000000008000000010000000b001111111111111111111111111111111111111111 \
                           11111111111111111111111100000000 \
@@ -116,8 +117,16 @@ fn a_pcr_without_a_value_is_named(rt: HostRuntime) -> Result<(), Fail> {
         fault: Fault::NoDigest,
     };
     let undetermined = NoQuoteDigest::Undetermined(AlgorithmId::SHA1, PcrIndex(0), at);
-    same("no bank", &why_none(alloc, &[])?, &Some(NoQuoteDigest::NoBank(AlgorithmId::SHA1)))?;
+    same(
+        "no bank",
+        &why_none(alloc, &[])?,
+        &Some(NoQuoteDigest::NoBank(AlgorithmId::SHA1)),
+    )?;
     let none = NoQuoteDigest::NoBank(AlgorithmId::SHA256);
     same("one bank", &why_none(alloc, &[sha1])?, &Some(none))?;
-    same("no digest", &why_none(alloc, &[of_other_log])?, &Some(undetermined))
+    same(
+        "no digest",
+        &why_none(alloc, &[of_other_log])?,
+        &Some(undetermined),
+    )
 }

@@ -195,7 +195,11 @@ fn a_quote_of_no_pcr_is_named(rt: HostRuntime) -> Result<(), Fail> {
 }
 
 /// Returns how many PCRs a quote covers, after its lines, if no request is refused.
-fn count(heap: &Refusing<Global>, read: &ReadLog<'_>, received: &ReceivedQuote<'_>) -> Option<usize> {
+fn count(
+    heap: &Refusing<Global>,
+    read: &ReadLog<'_>,
+    received: &ReceivedQuote<'_>,
+) -> Option<usize> {
     let (quote, hash) = (&received.quote, received.hash);
     let verdict = QuoteVerdict::new(heap, read.entries(), quote, hash, None).ok()?;
     let mut text = String::new(heap);
