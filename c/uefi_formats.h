@@ -54,10 +54,11 @@
  * can be read and stay as they are during the call; other pointers point to
  * their types, aligned, and overlap neither one another nor the bytes.
  *
- * Stack. In the archive for x86_64-unknown-none, uefi_replay takes about 10 KB
- * of the stack, uefi_replay_pcr about 8 KB, and each other function less than
- * 1 KB. docs/FIRMWARE.md has the numbers by archive. The 24 UefiPcr that the
- * caller of uefi_replay passes are 2304 bytes more (1920 on i686).
+ * Stack. In the archive for x86_64-unknown-none, uefi_quote_digest takes about
+ * 18 KB of the stack, uefi_replay about 11 KB, uefi_replay_pcr about 9 KB, and
+ * each other function less than 1 KB. docs/FIRMWARE.md has the numbers by archive.
+ * The 24 UefiPcr that the caller of uefi_replay passes are 2304 bytes more (1920
+ * on i686).
  *
  * Which archive to link. `tools/build_c PREFIX` installs the first two of these,
  * `tools/build_c PREFIX --target TARGET` the third alone. The description in
