@@ -28,7 +28,14 @@
 extern crate alloc;
 
 mod formats;
+mod macros;
 mod support;
+
+/// What the macros expand to.
+#[doc(hidden)]
+pub mod __macros {
+    pub use crate::macros::{cstr16, guid, unit_count, units};
+}
 
 pub use crate::formats::uefi_base::*;
 pub use crate::support::alloc::AllocError;
@@ -40,6 +47,12 @@ pub mod data_types {
     //! Texts, GUIDs and units in bytes.
 
     pub use crate::formats::uefi_base::*;
+}
+
+pub mod prelude {
+    //! The names of `uefi::prelude` that this package has.
+
+    pub use crate::{Status, cstr16, runtime};
 }
 
 pub mod proto {

@@ -23,6 +23,7 @@ mod formats;
 mod hex;
 mod hii_tests;
 mod listing_tests;
+mod macros;
 mod map_tests;
 mod memory;
 mod mutated_quotes;
