@@ -1,9 +1,11 @@
 -- Requests that matches don't ask for.
-use Rattle.std.proofs.Common.{codes, ap, arith, slice_index}
-use Rattle.std.specs.Prelude.{Option}
+use Rattle.std.proofs.Common.{◌≡◌, ℕ, List, codes, ap, arith, slice_index}
+use Rattle.std.specs.Prelude.{Option, None, Some}
+use Rattle.clap.specs.Words.{first_value}
 use Rattle.clap.specs.declared.parser.matches.Found.{Found}
 use Rattle.pcr_replay.specs.declared.bank.Bank.{Bank}
-use Rattle.uefi_audit.specs.CommandLine.{AskForNoRequest, AsksBank}
+use Rattle.uefi_audit.specs.CommandLine.{AskForNoRequest, AsksBank, AsksQuote}
+use Rattle.uefi_audit.specs.declared.request.AskedQuote.{AskedQuote}
 use Rattle.uefi_audit.specs.declared.request.Request.TheVariants.{Events, Replay, Verify, Diff, Check}
 
 -- Where `--bank` names no bank, `replay` asks for nothing.
@@ -21,3 +23,10 @@ no_diff found none (Replay logs bank locality format) asked = let other = ap (λ
 no_diff found none (Verify verification) asked = let other = ap (λ name. slice_index name 0) asked.0 in absurd (omega arith)
 no_diff found none (Diff old new bank format) asked = none bank asked.3
 no_diff found none (Check logs format) asked = let other = ap (λ name. slice_index name 0) asked.0 in absurd (omega arith)
+
+-- Where `--quote-hash` names no hash function, no quote is asked for.
+pub no_quote : (found : Found) (file : List ℕ) → first_value found (codes "quote") ≡ Some file
+    → ((hash : Option Bank) → AsksBank found (codes "quote-hash") hash → ⊥) → (quote : Option AskedQuote)
+    → AsksQuote found quote → ⊥
+no_quote found file there none None asked = cc
+no_quote found file there none (Some quote) asked = none quote.hash asked.hash

@@ -15,7 +15,7 @@ use Rattle.uefi_audit.specs.declared.request.AskedQuote.{AskedQuote}
 
 -- A nonce is stated, or any will do.
 abbrev pub is_nonce_stated : AskedQuote → Option (List ℕ) → Bool
-is_nonce_stated asked nonce = is_some nonce || asked.any_nonce
+is_nonce_stated asked given = is_some given || asked.any_nonce
 
 -- The hash function of a digest of so many bytes: the one that is named, or else that of its length.
 abbrev pub hash_by : Option Bank → ℕ → Option Bank
@@ -24,14 +24,14 @@ hash_by None size = bank_of_size size
 
 -- The quote that a file's bytes are, with this nonce; or why there is none: the bytes are no quote, no nonce is stated, or there is no hash function.
 abbrev pub Receives : List ℕ → AskedQuote → Option (List ℕ) → Result Received NotReceived → Type 0
-Receives bytes asked nonce (Ok received) =
-    IsVerdict bytes (Ok received.quote) × (received.nonce ≡ nonce) × (is_nonce_stated asked nonce ≡ true)
+Receives bytes asked given (Ok received) =
+    IsVerdict bytes (Ok received.quote) × (received.nonce ≡ given) × (is_nonce_stated asked given ≡ true)
     × (hash_by asked.hash (length received.quote.pcr_digest) ≡ Some received.hash)
-Receives bytes asked nonce (Err (Malformed error)) = IsVerdict bytes (Err error)
-Receives bytes asked nonce (Err NoNonce) =
-    (quote : Quote) × IsVerdict bytes (Ok quote) × (is_nonce_stated asked nonce ≡ false)
-Receives bytes asked nonce (Err (NoHash size)) =
-    (quote : Quote) × IsVerdict bytes (Ok quote) × (is_nonce_stated asked nonce ≡ true)
+Receives bytes asked given (Err (Malformed error)) = IsVerdict bytes (Err error)
+Receives bytes asked given (Err NoNonce) =
+    (quote : Quote) × IsVerdict bytes (Ok quote) × (is_nonce_stated asked given ≡ false)
+Receives bytes asked given (Err (NoHash size)) =
+    (quote : Quote) × IsVerdict bytes (Ok quote) × (is_nonce_stated asked given ≡ true)
     × (length quote.pcr_digest ≡ size) × (hash_by asked.hash size ≡ None)
 
 -- The status that follows, and what standard error is told.

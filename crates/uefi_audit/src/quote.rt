@@ -64,7 +64,7 @@ pub(crate) fn received_quote<'a>(
     asked: &AskedQuote<'_>,
     nonce: Option<&'a [u8]>,
 ) -> Result<ReceivedQuote<'a>, NotReceived>
-    ensures { Receives bytes.now asked.now (option_map (λ nonce. nonce.now) nonce)
+    ensures { Receives bytes.now asked.now (option_map (λ given. given.now) nonce.entry)
         (result_map_both received_of (λ why. why) result) }
 {
     let quote = match Quote::try_from(bytes) {
