@@ -277,6 +277,26 @@ mod as_enum {
             DevicePathNodeExt::as_enum(self)
         }
     }
+
+    /// As [`DevicePathNode::as_enum`].
+    impl<'a> TryFrom<DevicePathNode<'a>> for DevicePathNodeEnum<'a> {
+        type Error = NodeConversionError;
+
+        fn try_from(node: DevicePathNode<'a>) -> Result<DevicePathNodeEnum<'a>, NodeConversionError> {
+            node.as_enum()
+        }
+    }
+}
+
+mod status {
+    use crate::{Error, Status};
+
+    /// The error with this status, without data.
+    impl From<Status> for Error<()> {
+        fn from(status: Status) -> Error<()> {
+            Error::new(status, ())
+        }
+    }
 }
 
 mod from_text {

@@ -17,6 +17,7 @@ macro_rules! fallible_format {
 
 mod audit_tests;
 mod base_tests;
+mod conversions;
 mod equality;
 mod formats;
 #[path = "../../examples/uefi_list/hex.rs"]
