@@ -1,12 +1,13 @@
 -- What `verify` prints of a quote, by the judgement of a log; and what follows where all is well.
 use Rattle.std.proofs.Common.{◌≡◌, ◌∙◌, ℕ, List, [], ◌∷◌, ap, refl, sym}
-use Rattle.std.specs.Prelude.{◌&&◌, ◌||◌, not, Bool, true, false, cond, Option, None, Some, Result, Ok, Err}
+use Rattle.std.specs.Prelude.{◌&&◌, ◌||◌, not, Bool, true, false, cond, Result, Ok, Err}
 use Rattle.pcr_replay.specs.ReadLogs.{entries_in}
 use Rattle.pcr_replay.specs.declared.quote.NoQuoteDigest.{NoQuoteDigest}
 use Rattle.uefi_audits.specs.Ignored.{has_no_pcr, ignored_events}
 use Rattle.uefi_audits.specs.Judgement.{judgement_of}
 use Rattle.uefi_audits.specs.declared.judgement.Judgement.{Judgement}
 use Rattle.uefi_audits.specs.declared.judgement.Judgement.TheVariants.{Accepted, NothingMeasured, LeftOver}
+use Rattle.uefi_audits.specs.declared.verify.held.HeldPcr.{HeldPcr}
 use Rattle.uefi_audits.specs.declared.verify.named.NamedPcr.{NamedPcr}
 use Rattle.uefi_audits.specs.verify.Covered.{covered_pcrs}
 use Rattle.uefi_audits.specs.verify.Missing.{missing_pcrs}
@@ -20,7 +21,6 @@ use Rattle.uefi_audit.specs.declared.failure.Status.{Status}
 use Rattle.uefi_audit.specs.declared.failure.Status.TheVariants.{Well, Differs, Unjudged, Unread}
 use Rattle.uefi_audit.specs.declared.log_file.LogFile.{LogFile}
 use Rattle.uefi_audit.specs.declared.quote_check.QuoteCheck.{QuoteCheck}
-use Rattle.uefi_audit.specs.declared.verification.StatedPcrs.{StatedPcrs}
 
 -- Of a log that is accepted, the verdict on the quote; of another log, the messages on it.
 pub accepted_is : (allow_left_over : Bool) (file : LogFile) (check : QuoteCheck) (judged : Judgement) (messages : List ℕ)
@@ -69,18 +69,18 @@ both_met false true true well = (refl, refl)
 both_met false true false well = (cc, cc)
 both_met false false nonce well = (cc, cc)
 
-beside : (registers : Option StatedPcrs) (file : LogFile) (check : QuoteCheck) (quote : Printed)
-    → (with_registers registers file check quote).status ≡ Well → quote.status ≡ Well
+beside : (pcrs : List HeldPcr) (file : LogFile) (check : QuoteCheck) (quote : Printed)
+    → (with_registers pcrs file check quote).status ≡ Well → quote.status ≡ Well
 unfolding with_registers
-beside None file check quote well = well
-beside (Some stated) file check quote well = first_is_well quote.status _ well
+beside [] file check quote well = well
+beside (pcr ∷ pcrs) file check quote well = first_is_well quote.status _ well
 
 covered : (missing : List NamedPcr) (before : List ℕ) (file : LogFile) (check : QuoteCheck) (judgement : QuoteJudgement)
     → (unless_uncovered missing before file check judgement).status ≡ Well → AreMet check judgement
 unfolding unless_uncovered
 covered [] before file check judgement well =
     both_met (has_no_pcr (ignored_events (entries_in file.read))) judgement.agrees (has_its_nonce (received_of check.received))
-    (beside check.registers file check _ well)
+    (beside check.registers.pcrs.now file check _ well)
 covered (pcr ∷ missing) before file check judgement well = (cc, cc)
 
 some_covered : (pcrs : List NamedPcr) (before : List ℕ) (file : LogFile) (check : QuoteCheck) (judgement : QuoteJudgement)
@@ -88,7 +88,7 @@ some_covered : (pcrs : List NamedPcr) (before : List ℕ) (file : LogFile) (chec
 unfolding unless_empty
 some_covered [] before file check judgement well = (cc, cc)
 some_covered (pcr ∷ pcrs) before file check judgement well =
-    covered (missing_pcrs check.selection (pcr ∷ pcrs)) before file check judgement well
+    covered (missing_pcrs check.registers.selection (pcr ∷ pcrs)) before file check judgement well
 
 with_digest : (digest : Result (List ℕ) NoQuoteDigest) (before : List ℕ) (file : LogFile) (check : QuoteCheck)
     (judgement : QuoteJudgement) → (by_its_digest digest before file check judgement).status ≡ Well → AreMet check judgement

@@ -1,5 +1,5 @@
 -- What `verify` prints of a log and a quote.
-use Rattle.std.specs.Prelude.{ℕ, ◌≡◌, ◌&&◌, ◌||◌, not, Bool, true, List, [], ◌∷◌, ◌++◌, flat_map, Option, None, Some, Result, Ok, Err, if◌then◌else◌}
+use Rattle.std.specs.Prelude.{ℕ, ◌≡◌, ◌&&◌, ◌||◌, not, Bool, true, List, [], ◌∷◌, ◌++◌, flat_map, Result, Ok, Err, if◌then◌else◌}
 use Rattle.std.specs.List.{filter}
 use Rattle.pcr_replay.specs.ReadLogs.{entries_in}
 use Rattle.pcr_replay.specs.declared.quote.NoQuoteDigest.{NoQuoteDigest}
@@ -76,16 +76,16 @@ registers_unless_missing [] file check stated =
     registers_printed file check held (verdict_of check.locality (entries_in file.read) held)
 registers_unless_missing (pcr ∷ missing) file check stated = unjudged (missing_lines stated.file.now (pcr ∷ missing))
 
--- What follows on the quote, if there is such a file.
-unfoldable pub with_registers : Option StatedPcrs → LogFile → QuoteCheck → Printed → Printed
-with_registers None file check quote = quote
-with_registers (Some stated) file check quote =
-    one_after_other quote (registers_unless_missing (missing_in stated) file check stated)
+-- What follows on the quote, if there are such PCRs.
+unfoldable pub with_registers : List HeldPcr → LogFile → QuoteCheck → Printed → Printed
+with_registers [] file check quote = quote
+with_registers (pcr ∷ pcrs) file check quote =
+    one_after_other quote (registers_unless_missing (missing_in check.registers) file check check.registers)
 
 -- All of it, unless the quote doesn't cover PCRs that are asked for.
 unfoldable pub unless_uncovered : List NamedPcr → List ℕ → LogFile → QuoteCheck → QuoteJudgement → Printed
 unless_uncovered [] before file check judgement =
-    with_registers check.registers file check
+    with_registers check.registers.pcrs.now file check
     (quote_printed before file check (covered_pcrs (received_of check.received).quote) judgement)
 unless_uncovered (pcr ∷ missing) before file check judgement =
     unjudged (before ++ missing_lines check.file.now (pcr ∷ missing))
@@ -94,7 +94,7 @@ unless_uncovered (pcr ∷ missing) before file check judgement =
 unfoldable pub unless_empty : List NamedPcr → List ℕ → LogFile → QuoteCheck → QuoteJudgement → Printed
 unless_empty [] before file check judgement = unjudged (before ++ no_pcr_line check.file.now)
 unless_empty (pcr ∷ covered) before file check judgement =
-    unless_uncovered (missing_pcrs check.selection (pcr ∷ covered)) before file check judgement
+    unless_uncovered (missing_pcrs check.registers.selection (pcr ∷ covered)) before file check judgement
 
 -- Unless the log leads to no digest.
 unfoldable pub by_its_digest : Result (List ℕ) NoQuoteDigest → List ℕ → LogFile → QuoteCheck → QuoteJudgement → Printed

@@ -18,7 +18,7 @@ use audit_text::words::ShownName;
 use hex::FromHexError;
 use std::io::Write;
 use std::rt::Files;
-use uefi_audits::verify::{HeldPcr, PcrSelection};
+use uefi_audits::verify::{HeldPcr, PcrSelection, ReceivedQuote};
 
 /// Does what the arguments ask for.
 pub(crate) fn perform<R: Files + Input + Print + Eprint + AllocGlobal>(
@@ -132,41 +132,83 @@ fn verify_log<R: Files + Input + Print + Eprint + AllocGlobal>(
     verify_report(rt.alloc(), log, reading, asked, &stated)?.print(rt)
 }
 
-/// Does `verify` with the log in a file, the quote in another, and the PCRs in a third or in a folder,
-/// if there is one.
-fn verify_quote<R: Files + Input + Print + Eprint + AllocGlobal>(
+/// What `verify --quote` is given: the bytes of its files, and what its options state.
+#[derive(Drop)]
+struct QuoteInput {
+    /// The bytes of the log.
+    log: Vec<u8>,
+    /// The bytes of the quote.
+    message: Vec<u8>,
+    /// The nonce that the quote was asked for with.
+    nonce: Option<Vec<u8>>,
+    /// The PCRs that are compared as well.
+    held: Vec<HeldPcr>,
+    /// The PCRs that are asked for.
+    selection: Option<PcrSelection>,
+}
+
+/// Reads what `verify --quote` is given; `None` if a file wasn't read, which standard error is told.
+fn quote_input<R: Files + Input + Eprint + AllocGlobal>(
     rt: &R,
     asked: &Verification<'_>,
     quote: &AskedQuote<'_>,
-    reading: Reading,
-) -> Result<Status, Failure> {
+) -> Result<Option<QuoteInput>, Failure> {
     let selection = selection_of(rt, asked.pcrs)?;
     let nonce = nonce_of(rt, quote.nonce)?;
-    let nonce = nonce.as_ref().map(|nonce| nonce.as_slice());
-    let bytes = file_bytes(rt, asked.log);
+    let log = file_bytes(rt, asked.log);
     let message = file_bytes(rt, quote.file);
     let held = held_beside(rt, asked.registers);
-    let (Some(bytes), Some(message), Some(held)) = (bytes, message, held) else {
+    let (Some(log), Some(message), Some(held)) = (log, message, held) else {
+        return Ok(None);
+    };
+    Ok(Some(QuoteInput {
+        log,
+        message,
+        nonce,
+        held,
+        selection,
+    }))
+}
+
+/// Returns the quote of the bytes that were read.
+fn received_in<'a>(
+    quote: &AskedQuote<'_>,
+    input: &'a QuoteInput,
+) -> Result<ReceivedQuote<'a>, NotReceived> {
+    match &input.nonce {
+        Some(nonce) => received_quote(input.message.as_slice(), quote, Some(nonce.as_slice())),
+        None => received_quote(input.message.as_slice(), quote, None),
+    }
+}
+
+/// Does `verify` with the log in a file, the quote in another, and the PCRs in a third or in a folder,
+/// if there is one.
+fn verify_quote<'a, R: Files + Input + Print + Eprint + AllocGlobal>(
+    rt: &R,
+    asked: &Verification<'a>,
+    quote: &AskedQuote<'a>,
+    reading: Reading,
+) -> Result<Status, Failure> {
+    let Some(input) = quote_input(rt, asked, quote)? else {
         return Ok(Status::Unread);
     };
-    let received = match received_quote(message.as_slice(), quote, nonce) {
+    let input = &input;
+    let received = match received_in(quote, input) {
         Ok(received) => received,
         Err(why) => return Ok(tell_not_received(rt, quote.file, why)),
     };
-    let registers = asked.registers.map(|file| StatedPcrs {
-        file,
-        pcrs: held.as_slice(),
-        selection,
-    });
     let check = QuoteCheck {
         file: quote.file,
         received,
-        selection,
-        registers,
+        registers: StatedPcrs {
+            file: asked.registers.unwrap_or(""),
+            pcrs: input.held.as_slice(),
+            selection: input.selection,
+        },
         locality: asked.locality,
         format: asked.format,
     };
-    let log = open_log(rt.alloc(), asked.log, bytes.as_slice(), reading)?;
+    let log = open_log(rt.alloc(), asked.log, input.log.as_slice(), reading)?;
     quote_report(rt.alloc(), log, reading, &check)?.print(rt)
 }
 

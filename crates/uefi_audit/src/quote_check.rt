@@ -22,7 +22,7 @@ use std::alloc::{AllocError, Global};
 use uefi_audits::ignored::{IgnoredEvent, ignored_events};
 use uefi_audits::judgement::Judgement;
 use uefi_audits::verify::{
-    PcrSelection, QuoteVerdict, ReceivedQuote, Verdict, covered_pcrs, missing_pcrs, selected_pcrs,
+    QuoteVerdict, ReceivedQuote, Verdict, covered_pcrs, missing_pcrs, selected_pcrs,
 };
 
 /// What `verify --quote` compares a log with, and how.
@@ -32,10 +32,8 @@ pub(crate) struct QuoteCheck<'a> {
     pub file: &'a str,
     /// The quote.
     pub received: ReceivedQuote<'a>,
-    /// The PCRs that it has to cover.
-    pub selection: Option<PcrSelection>,
-    /// The PCRs that are compared as well.
-    pub registers: Option<StatedPcrs<'a>>,
+    /// The PCRs that are compared as well, if there are any, and those that the quote has to cover.
+    pub registers: StatedPcrs<'a>,
     /// The locality at which the TPM was started.
     pub locality: Option<u8>,
     /// How the result is printed.
@@ -126,7 +124,7 @@ fn covered_report(
         push_no_pcr(&mut messages, check.file)?;
         return Ok(Report::unjudged(alloc, messages));
     }
-    let missing = missing_pcrs(alloc, covered.as_slice(), &check.selection)?;
+    let missing = missing_pcrs(alloc, covered.as_slice(), &check.registers.selection)?;
     if !missing.is_empty() {
         push_missing(&mut messages, check.file, missing.as_slice())?;
         return Ok(Report::unjudged(alloc, messages));
@@ -208,13 +206,13 @@ fn with_registers(
     check: &QuoteCheck<'_>,
     quote: Report,
 ) -> Result<Report, AllocError>
-    ensures { IfOk result (λ report. printed_of report ≡ with_registers check.now.registers
-        file.now check.now (printed_of quote)) }
+    ensures { IfOk result (λ report. printed_of report ≡ with_registers
+        check.now.registers.pcrs.now file.now check.now (printed_of quote)) }
 {
-    match &check.registers {
-        Some(stated) => quote.and(&registers_report(alloc, file, check, stated)?),
-        None => Ok(quote),
+    if check.registers.pcrs.is_empty() {
+        return Ok(quote);
     }
+    quote.and(&registers_report(alloc, file, check, &check.registers)?)
 }
 
 /// Returns what is printed of PCRs that are compared beside a quote, unless some that are asked for

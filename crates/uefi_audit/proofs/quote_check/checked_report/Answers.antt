@@ -1,4 +1,4 @@
-use Rattle.std.proofs.Common.{◌≡◌, ◌∙◌, ap, string_bytes, sym}
+use Rattle.std.proofs.Common.{◌∙◌, ap, string_bytes, sym}
 use Rattle.std.proofs.lemmas.Result.{IfOk-weaker}
 use Rattle.uefi_audit.specs.Printed.{Printed, printed_of}
 use Rattle.uefi_audit.proofs.QuoteChecks.{accepted_is, quote_is_met, unjudged_is}
