@@ -6,5 +6,6 @@ pub(crate) mod bitflags;
 #[cfg(feature = "alloc")]
 #[allow(dead_code)]
 pub(crate) mod fallible;
+pub(crate) mod sealed;
 pub(crate) mod signed;
 pub(crate) mod simd;

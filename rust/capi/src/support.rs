@@ -8,6 +8,8 @@ pub(crate) mod bitflags;
 #[allow(dead_code)]
 #[path = "../../src/support/fallible.rs"]
 pub(crate) mod fallible;
+#[path = "../../src/support/sealed.rs"]
+pub(crate) mod sealed;
 #[path = "../../src/support/signed.rs"]
 pub(crate) mod signed;
 #[path = "../../src/support/simd.rs"]

@@ -1,87 +1,63 @@
 //! Sets of flags over the bits of a number.
 
-/// A flag.
-#[derive(Debug)]
-pub struct Flag<B> {
-    pub value: B,
-}
-
-/// A set of flags.
-pub trait Flags: Sized + Copy + 'static {
-    type Bits: Copy
-        + PartialEq
-        + core::ops::BitAnd<Output = Self::Bits>
-        + core::ops::BitOr<Output = Self::Bits>
-        + core::ops::Not<Output = Self::Bits>
-        + Default;
-
-    fn flags<'a>() -> &'a [Flag<Self>];
-
-    fn bits(&self) -> Self::Bits;
-
-    fn from_bits_retain(bits: Self::Bits) -> Self;
-
-    fn empty() -> Self {
-        Self::from_bits_retain(Self::Bits::default())
-    }
-
-    fn all() -> Self {
-        let mut bits = Self::Bits::default();
-        for flag in Self::flags() {
-            bits = bits | flag.value.bits();
-        }
-        Self::from_bits_retain(bits)
-    }
-
-    fn from_bits(bits: Self::Bits) -> Option<Self> {
-        if bits & Self::all().bits() == bits {
-            Some(Self::from_bits_retain(bits))
-        } else {
-            None
-        }
-    }
-
-    fn is_empty(&self) -> bool {
-        self.bits() == Self::Bits::default()
-    }
-
-    fn is_all(&self) -> bool {
-        self.contains(Self::all())
-    }
-
-    fn intersects(&self, other: Self) -> bool {
-        self.bits() & other.bits() != Self::Bits::default()
-    }
-
-    fn contains(&self, other: Self) -> bool {
-        self.bits() & other.bits() == other.bits()
-    }
-
-    fn union(self, other: Self) -> Self {
-        Self::from_bits_retain(self.bits() | other.bits())
-    }
-
-    fn insert(&mut self, other: Self) {
-        *self = self.union(other);
-    }
-
-    fn remove(&mut self, other: Self) {
-        *self = self.difference(other);
-    }
-
-    fn difference(self, other: Self) -> Self {
-        Self::from_bits_retain(self.bits() & !other.bits())
-    }
-}
-
 macro_rules! items {
     (impl $name:ident: $bits:ty { $($(#[$attr:meta])* const $flag:ident = $value:expr;)* }) => {
         impl $name {
             $($(#[$attr])* pub const $flag: $name = $name($value);)*
 
-            pub(crate) const FLAGS: &'static [$crate::support::bitflags::Flag<$name>] = &[
-                $($crate::support::bitflags::Flag { value: $name::$flag },)*
-            ];
+            /// The bits that have a name.
+            const NAMED: $bits = 0 $(| $name::$flag.0)*;
+        }
+
+        // What the public calls of these names do.
+        impl $name {
+            const fn empty_of() -> $name {
+                $name(0)
+            }
+
+            const fn bits_of(set: &$name) -> $bits {
+                set.0
+            }
+
+            const fn from_bits_of(bits: $bits) -> Option<$name> {
+                if bits & $name::NAMED == bits { Some($name(bits)) } else { None }
+            }
+
+            const fn from_bits_retain_of(bits: $bits) -> $name {
+                $name(bits)
+            }
+
+            const fn is_empty_of(set: &$name) -> bool {
+                set.0 == 0
+            }
+
+            const fn is_all_of(set: &$name) -> bool {
+                set.0 & $name::NAMED == $name::NAMED
+            }
+
+            const fn intersects_of(set: &$name, other: $name) -> bool {
+                set.0 & other.0 != 0
+            }
+
+            const fn contains_of(set: &$name, other: $name) -> bool {
+                set.0 & other.0 == other.0
+            }
+
+            const fn union_of(set: $name, other: $name) -> $name {
+                $name(set.0 | other.0)
+            }
+
+            const fn difference_of(set: $name, other: $name) -> $name {
+                $name(set.0 & !other.0)
+            }
+
+            const fn insert_of(set: &mut $name, other: $name) {
+                set.0 |= other.0;
+            }
+
+            const fn remove_of(set: &mut $name, other: $name) {
+                set.0 &= !other.0;
+            }
         }
 
         impl core::ops::BitOr for $name {
@@ -130,7 +106,7 @@ macro_rules! items {
             type Output = $name;
 
             fn not(self) -> $name {
-                $name(!self.0 & (0 $(| $name::$flag.0)*))
+                $name(!self.0 & $name::NAMED)
             }
         }
     };

@@ -1,4 +1,5 @@
 """Conditions: a public function that requires something asserts it, by a row of the table `conditions`."""
+from exports import visibility
 from tokens import lex
 
 
@@ -12,13 +13,13 @@ def read(path):
 def functions(source, crate):
     """The public functions of a file: (name, first token, index of `fn`)."""
     for start, keyword, end in source.items():
-        kind, public = source.at(keyword), source.at(keyword - 1) == 'pub'
+        kind, public = source.at(keyword), visibility(source, keyword) is not None
         if kind == 'fn' and public:
             yield f'{crate}::{source.item_name(keyword)}', start, keyword
         elif kind == 'trait' and public or kind == 'impl':
             owner = source.item_name(keyword)
             for first, inner, _ in source.items(source.body(keyword) + 1, end - 1):
-                if source.at(inner) == 'fn' and (kind == 'trait' or source.at(inner - 1) == 'pub'):
+                if source.at(inner) == 'fn' and (kind == 'trait' or visibility(source, inner) is not None):
                     yield f'{crate}::{owner}::{source.item_name(inner)}', first, inner
 
 

@@ -1,8 +1,10 @@
 """Which items are public: those of the table `exports`, by the paths that a user of the package has. A row is the path of
 an item, and the names of its members: fields, variants, and what its own `impl` blocks and its trait have. The others are
-`pub(crate)`."""
+`pub(crate)`. A function is `const` after CONST. OPEN is for what may get more fields or variants, SEALED for a trait that
+no other package implements."""
 from tokens import lex
 
+CONST, OPEN, SEALED = 'const:', '[non_exhaustive]', '[sealed]'
 NAMED = ('const', 'enum', 'fn', 'static', 'struct', 'trait', 'type')
 
 
@@ -51,6 +53,14 @@ def restrict(source, at):
     source.tokens[at:at + 1] = new
 
 
+def attribute(source, i, text):
+    """The tokens of a text that goes before an index, which the token there is moved after."""
+    new = lex(text)[:-1]
+    new[0].space = source.tokens[i].space
+    source.tokens[i].space = '\n' if text.startswith('#') else ' '
+    return new
+
+
 def restrict_fields(source, keyword, end, members):
     """Makes fields `pub(crate)` that aren't among these members."""
     for i in range(end - 1, keyword, -1):
@@ -78,7 +88,7 @@ class Exports:
 
     def unseen(self):
         """The names that no public item has."""
-        return self.hidden - {row.rpartition('::')[2] for row in self.rows} - set().union(*self.rows.values())
+        return self.hidden - {row.rpartition('::')[2] for row in self.rows} - {name.removeprefix(CONST) for name in set().union(*self.rows.values())}
 
     def paths(self, crate, module, name):
         """The paths by which a user would have an item of a module."""
@@ -93,7 +103,7 @@ class Exports:
     def members(self, crate, module, name):
         """The members of an item that is public, or None."""
         rows = [self.rows[path] for path in self.paths(crate, module, name) if path in self.rows]
-        return set().union(*rows) if rows else None
+        return {name.removeprefix(CONST) for name in set().union(*rows)} | set().union(*rows) if rows else None
 
     def is_public(self, crate, module, name):
         """Whether an item is public, or a module has one that is."""
@@ -113,23 +123,46 @@ class Exports:
                 kind, name, at = source.at(keyword), source.item_name(keyword), visibility(source, keyword)
                 if kind == 'impl' and 'for' not in source.names(keyword, source.until(keyword, '{')):
                     self.restrict_members(source, keyword, end, self.members(crate, self.module_with(crate, module, name), name))
-                elif at is None or kind not in (*NAMED, 'mod') or name in self.associated:
+                elif at is None or kind not in (*NAMED, 'mod'):
                     continue
                 elif not self.is_public(crate, module, name):
+                    if name in self.associated:
+                        continue
                     restrict(source, at)
                     self.hidden.update([name] if kind != 'mod' else [])
-                elif kind == 'struct':
-                    restrict_fields(source, keyword, end, self.members(crate, module, name))
                 elif kind == 'trait':
                     self.drop_bounds(crate, source, keyword)
+                elif kind in ('enum', 'struct'):
+                    members = self.members(crate, module, name)
+                    restrict_fields(source, keyword, end if kind == 'struct' else keyword, members)
+                    source.tokens[start:start] = attribute(source, start, '#[non_exhaustive]') if OPEN in members else []
+        for crate, module, source in self.files:
+            self.seal(crate, module, source)
 
     def restrict_members(self, source, keyword, end, members):
         """Makes members of a public type `pub(crate)` that aren't among these."""
         opening = source.until(keyword, '{')
         for _, inner, _ in reversed(list(source.items(opening + 1, end - 1)) if members is not None else []):
             at = visibility(source, inner)
-            if at is not None and source.item_name(inner) not in members:
+            name = source.item_name(inner)
+            if at is not None and name not in members:
                 restrict(source, at)
+            elif at is not None and f'{CONST}{name}' in members:
+                source.tokens[inner:inner] = attribute(source, inner, 'const')
+
+    def seal(self, crate, module, source):
+        """Seals traits, and what implements them."""
+        for start, keyword, end in reversed(list(source.items())):
+            body, name = source.until(keyword, ';', '{'), source.item_name(keyword)
+            header = source.code(start, body)
+            trait = name if source.at(keyword) == 'trait' else header.partition(' for ')[0].rpartition(' ')[2] if source.at(keyword) == 'impl' else None
+            if trait and SEALED in (self.members(crate, self.module_with(crate, module, trait), trait) or ()):
+                if source.at(keyword) == 'trait':
+                    source.tokens[body:body] = lex(': sealed::Sealed')[:-1]
+                else:
+                    new = lex(header.replace(f'{trait} for', 'sealed::Sealed for') + ' {}')[:-1]
+                    new[0].space = '\n\n'
+                    source.tokens[end:end] = new
 
     def drop_bounds(self, crate, source, keyword):
         """Drops bounds of a public trait that aren't public themselves."""

@@ -16,6 +16,8 @@ GHOST = rules([
     (", laws,", ","), (", laws}", "}"), ("{laws, $next", "{$next"), ("use $a::laws;", ""), ("one_contents();", ""),
     ("length_fits($$bytes);", ""), ("use uefi_base::buffer::length_fits;", ""), ("use crate::buffer::length_fits;", ""),
 ])
+FLAGS = ('bits', 'contains', 'difference', 'empty', 'from_bits', 'from_bits_retain', 'insert', 'intersects', 'is_all', 'is_empty',
+         'remove', 'union')
 RUST = rules([
     ("fmt::Formatter<W>", "fmt::Formatter<'_>"),
     # What allocates returns an error where Rust's own calls end the program.
@@ -37,6 +39,9 @@ RUST = rules([
     ("unsafe { str::from_utf8_unchecked($$bytes) }", 'core::str::from_utf8($$bytes).expect("UTF-8")'),
     # What is proved of a constant is asserted as it is compiled.
     ("prove!($$fact)", "assert!($$fact)"),
+    # The calls of flag sets, as functions that are `const`.
+    *((f"<$set as Flags>::{call}(", f"$set::{call}_of(") for call in FLAGS),
+    ("use bitflags::{Flag, Flags, bitflag_items};", "use bitflags::bitflag_items;"),
     # A product that fits 64 bits: in 32 bits it is past every length, as it is in 64.
     ("$length * $count as usize", "$length.saturating_mul($count as usize)"),
 ])
@@ -58,7 +63,7 @@ EMPTY = rules([("use std::alloc::{};", ""), ("use std::alloc::Allocator;", ""), 
 # The modules of std that are in core, in this package's support, and in std.
 CORE, SUPPORT, STD = {'cell', 'cmp', 'error', 'fmt', 'iter', 'mem', 'ops', 'str'}, {'alloc', 'simd', 'test'}, {'io'}
 # All that may be left.
-ATTRIBUTES = {'allow', 'cfg', 'derive', 'inline', 'must_use', 'repr', 'test'}
+ATTRIBUTES = {'allow', 'cfg', 'derive', 'inline', 'must_use', 'non_exhaustive', 'repr', 'test'}
 MACROS = {'assert', 'bitflag_items', 'fallible_format', 'fallible_write', 'fallible_writeln', 'format_args', 'matches',
           'unreachable', 'write', 'writeln'}
 # Names of which none may be left.

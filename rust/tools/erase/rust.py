@@ -8,6 +8,10 @@ from tokens import OPEN, rewrite
 def to_rust(source, modules, root, tests):
     """Writes a file without ghost text in Rust. `root` is the module of its crate, `modules` those of others."""
     rewrite(source, TESTS + RUST if tests else RUST)
+    for start, keyword, end in reversed(list(source.items())):
+        # What the macro has.
+        if source.code(keyword, keyword + 3) == 'impl Flags for':
+            source.cut(start, end)
     for i in range(len(source.tokens) - 1, -1, -1):
         sign = source.tokens[i].kind == 'sign' and source.at(i)
         close = source.close(i) if sign in OPEN else source.angle(i) if sign == '<' else None
@@ -96,6 +100,26 @@ def attributes(source, tests):
         elif 'Debug' not in given:
             derive = next(j for j in range(start, i) if source.at(j) == 'derive')
             source.tokens[source.close(derive + 1) - 1].text += ', Debug'
+
+
+def must_use(source):
+    """`#[must_use]` for public functions whose value is all that they do."""
+    for start, keyword, end in reversed(list(source.items())):
+        kind, is_public = source.at(keyword), source.at(keyword - 1) == 'pub'
+        inner = source.items(source.until(keyword, '{') + 1, end - 1) if kind in ('impl', 'trait') else ()
+        own = 'for' not in source.names(keyword, source.until(keyword, '{')) if kind == 'impl' else is_public
+        for first, i, _ in reversed([(start, keyword, end), *inner]):
+            visible = source.at(i - 1 - (source.at(i - 1) == 'const')) == 'pub' or kind == 'trait' and is_public
+            if own and visible and source.at(i) == 'fn' and is_value(source, i):
+                source.insert(first, '#[must_use]')
+
+
+def is_value(source, keyword):
+    """Whether a function returns a value other than a `Result`, and takes nothing that it writes to."""
+    opening = source.until(keyword, '(')
+    close = source.close(opening)
+    taken = re.search(r"&('\w+ )?mut ", source.code(opening, close))
+    return not taken and source.at(close + 1) == '->' and source.at(close + 2) not in ('Result', 'fmt')
 
 
 def specified(source):

@@ -5,6 +5,7 @@ use crate::formats::uefi_tcg::AlgorithmId;
 /// A bank of PCRs: those whose values are digests of one algorithm.
 ///
 /// Its contract: `crates/pcr_replay/src/bank.rt`.
+#[non_exhaustive]
 #[derive(Clone, Copy, PartialEq, Eq, Debug)]
 pub enum Bank {
     /// SHA-1, with 20 bytes a PCR.
@@ -31,8 +32,9 @@ impl Bank {
 
     /// Returns the bank of an algorithm; `None` if it has another hash function than these, so
     /// that its PCRs can't be replayed.
+    #[must_use]
     #[inline]
-    pub fn of(algorithm: AlgorithmId) -> Option<Bank> {
+    pub const fn of(algorithm: AlgorithmId) -> Option<Bank> {
         match algorithm {
             AlgorithmId::SHA1 => Some(Bank::Sha1),
             AlgorithmId::SHA256 => Some(Bank::Sha256),
@@ -45,8 +47,9 @@ impl Bank {
 
     /// Returns the bank whose digests have this many bytes: of 32 that of SHA-256, not of SM3. `None`
     /// if no bank has such digests.
+    #[must_use]
     #[inline]
-    pub fn of_size(size: usize) -> Option<Bank> {
+    pub const fn of_size(size: usize) -> Option<Bank> {
         match size {
             20 => Some(Bank::Sha1),
             32 => Some(Bank::Sha256),
@@ -57,8 +60,9 @@ impl Bank {
     }
 
     /// Returns the algorithm of the bank's digests.
+    #[must_use]
     #[inline]
-    pub fn algorithm(self) -> AlgorithmId {
+    pub const fn algorithm(self) -> AlgorithmId {
         match self {
             Bank::Sha1 => AlgorithmId::SHA1,
             Bank::Sha256 => AlgorithmId::SHA256,
@@ -69,8 +73,9 @@ impl Bank {
     }
 
     /// Returns the length of a digest in bytes, which is that of a PCR.
+    #[must_use]
     #[inline]
-    pub fn size(self) -> usize {
+    pub const fn size(self) -> usize {
         match self {
             Bank::Sha1 => 20,
             Bank::Sha256 => 32,

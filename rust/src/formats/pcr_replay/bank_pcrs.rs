@@ -19,6 +19,7 @@ pub struct BankPcrs {
 
 impl BankPcrs {
     /// Returns whether one of the PCRs is undetermined.
+    #[must_use]
     #[inline]
     pub fn has_undetermined(&self) -> bool {
         self.pcrs.outcomes().iter().any(|outcome| outcome.is_err())
@@ -26,6 +27,7 @@ impl BankPcrs {
 
     /// Returns what these events leave in the PCRs of the bank in a TPM that was started so, by what
     /// they leave in one that was started otherwise: PCR 0 alone is replayed.
+    #[must_use]
     #[inline]
     pub fn restarted(&self, entries: &[LogEntry<'_>], start: &Start) -> BankPcrs {
         BankPcrs {

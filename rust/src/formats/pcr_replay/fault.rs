@@ -3,6 +3,7 @@
 /// Why a PCR is undetermined after an event.
 ///
 /// Its contract: `crates/pcr_replay/src/fault.rt`.
+#[non_exhaustive]
 #[derive(Clone, Copy, PartialEq, Eq, Debug)]
 pub enum Fault {
     /// The event has no digest of the bank's algorithm.
@@ -22,6 +23,7 @@ pub enum Fault {
 /// The first event by which a PCR is undetermined.
 ///
 /// Its contract: `crates/pcr_replay/src/fault.rt`.
+#[non_exhaustive]
 #[derive(Clone, Copy, PartialEq, Eq, Debug)]
 pub struct Undetermined {
     /// The event's index in the log: 0 for the first one.

@@ -7,6 +7,7 @@ use crate::formats::uefi_tcg::{EventType, LogEvent};
 /// Why an event has no effect on any PCR, and should have.
 ///
 /// Its contract: `crates/pcr_replay/src/ignored.rt`.
+#[non_exhaustive]
 #[derive(Clone, Copy, PartialEq, Eq, Debug)]
 pub enum Ignored {
     /// It is of a PCR above 23, and its type isn't [`EventType::NO_ACTION`].
@@ -16,6 +17,7 @@ pub enum Ignored {
 }
 
 /// Returns why an event has no effect on any PCR, if it should have; `None` for all others.
+#[must_use]
 #[inline]
 pub fn why_ignored(event: &LogEvent<'_>) -> Option<Ignored> {
     let pcr = event.pcr_index().0;

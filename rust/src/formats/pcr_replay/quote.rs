@@ -12,6 +12,7 @@ use crate::formats::uefi_tcg::{AlgorithmId, PcrIndex};
 /// Why a log leads to no digest that a quote could have.
 ///
 /// Its contract: `crates/pcr_replay/src/quote.rt`.
+#[non_exhaustive]
 #[derive(Clone, Copy, PartialEq, Eq, Debug)]
 pub enum NoQuoteDigest {
     /// A PCR is selected of this algorithm's bank, which isn't among the banks.
@@ -45,6 +46,7 @@ pub fn quote_digest(
 }
 
 /// Returns whether a bank has a selection in a quote.
+#[must_use]
 #[inline]
 pub fn is_quoted(quote: &Quote<'_>, bank: Bank) -> bool {
     quote

@@ -20,6 +20,7 @@ impl PcrValue {
     /// # Panics
     ///
     /// If there are more than 64 bytes.
+    #[must_use]
     #[inline]
     pub fn new(bytes: &[u8]) -> PcrValue {
         assert!(bytes.len() <= 64);
@@ -32,6 +33,7 @@ impl PcrValue {
     }
 
     /// Returns the bytes.
+    #[must_use]
     #[inline]
     pub fn as_bytes(&self) -> &[u8] {
         &self.bytes[..self.length]

@@ -45,18 +45,21 @@ impl<'a> PcrSelection<'a> {
     }
 
     /// Returns the hash algorithm of the bank.
+    #[must_use]
     #[inline]
     pub fn algorithm(&self) -> AlgorithmId {
         self.algorithm
     }
 
     /// Returns the bitmap: PCR n is bit n % 8 of byte n / 8.
+    #[must_use]
     #[inline]
     pub fn bitmap(&self) -> &'a [u8] {
         self.bitmap
     }
 
     /// Returns whether the PCR is selected: no, if the bitmap ends before it.
+    #[must_use]
     #[inline]
     pub fn contains(&self, pcr: PcrIndex) -> bool {
         let byte = byte_at(self.bitmap, (pcr.0 / 8) as usize);
@@ -64,6 +67,7 @@ impl<'a> PcrSelection<'a> {
     }
 
     /// Returns an iterator over the PCRs that are selected, ascending.
+    #[must_use]
     #[inline]
     pub fn pcrs(&self) -> SelectedPcrs<'a> {
         SelectedPcrs::new(*self)

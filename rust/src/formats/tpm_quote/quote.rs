@@ -64,24 +64,28 @@ impl<'a> Quote<'a> {
     }
 
     /// Returns the qualified name of the key that signs (`TPM2B_NAME`), without its size.
+    #[must_use]
     #[inline]
     pub fn qualified_signer(&self) -> &'a [u8] {
         self.qualified_signer
     }
 
     /// Returns the data that the caller of the TPM gave, without their size: the nonce.
+    #[must_use]
     #[inline]
     pub fn extra_data(&self) -> &'a [u8] {
         self.extra_data
     }
 
     /// Returns the clock of the TPM.
+    #[must_use]
     #[inline]
     pub fn clock_info(&self) -> ClockInfo {
         self.clock_info
     }
 
     /// Returns the version of the TPM's firmware. What the number means is the vendor's choice.
+    #[must_use]
     #[inline]
     pub fn firmware_version(&self) -> u64 {
         self.firmware_version
@@ -89,6 +93,7 @@ impl<'a> Quote<'a> {
 
     /// Returns an iterator over the selections, in the quote's order. A bank may be in none, or in
     /// several.
+    #[must_use]
     #[inline]
     pub fn pcr_selections(&self) -> PcrSelectionIter<'a> {
         self.pcr_selections
@@ -96,6 +101,7 @@ impl<'a> Quote<'a> {
 
     /// Returns the digest of the values of the selected PCRs, without its size. The hash algorithm
     /// is that of the key's signature.
+    #[must_use]
     #[inline]
     pub fn pcr_digest(&self) -> &'a [u8] {
         self.pcr_digest

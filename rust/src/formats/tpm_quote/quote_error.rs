@@ -9,6 +9,7 @@ use core::fmt;
 /// whole: the first fault is the error.
 ///
 /// Its contract: `crates/tpm_quote/src/quote_error.rt`.
+#[non_exhaustive]
 #[derive(Clone, Copy, PartialEq, Eq, Debug)]
 pub enum QuoteError {
     /// The first four bytes aren't `TPM_GENERATED_VALUE`, `ff544347`. A `TPM2B_ATTEST`, which begins

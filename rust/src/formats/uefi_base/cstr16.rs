@@ -66,18 +66,21 @@ impl<'a> CStr16<'a> {
     }
 
     /// Returns all units, including the NUL.
+    #[must_use]
     #[inline]
     pub fn as_u16_with_nul(&self) -> &'a [u16] {
         self.units
     }
 
     /// Returns the number of characters: one for each unit but the NUL.
+    #[must_use]
     #[inline]
     pub fn num_chars(&self) -> usize {
         self.units.len() - 1
     }
 
     /// Returns whether there are no characters: whether the NUL is the only unit.
+    #[must_use]
     #[inline]
     pub fn is_empty(&self) -> bool {
         self.num_chars() == 0
@@ -85,6 +88,7 @@ impl<'a> CStr16<'a> {
 
     /// Returns whether the characters, without the NUL, are those of `text` before its first
     /// U+0000, or all of them if it has none.
+    #[must_use]
     #[inline]
     pub fn eq_str_until_nul(&self, text: &str) -> bool {
         are_characters(&self.units[..self.num_chars()], text)

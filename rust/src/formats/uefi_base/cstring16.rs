@@ -51,12 +51,14 @@ impl CString16 {
     }
 
     /// Returns a view of the units that this text owns.
+    #[must_use]
     #[inline]
     pub fn as_cstr16(&self) -> CStr16<'_> {
         CStr16::from_u16_with_nul_unchecked(self.units.as_slice())
     }
 
     /// Returns all units, including the NUL.
+    #[must_use]
     #[inline]
     pub fn as_u16_with_nul(&self) -> &[u16] {
         self.units.as_slice()
@@ -64,6 +66,7 @@ impl CString16 {
 
     /// Returns whether the characters, without the NUL, are those of `text` before its first
     /// U+0000, or all of them if it has none.
+    #[must_use]
     #[inline]
     pub fn eq_str_until_nul(&self, text: &str) -> bool {
         self.as_cstr16().eq_str_until_nul(text)

@@ -29,14 +29,16 @@ pub struct Guid(pub [u8; 16]);
 
 impl Guid {
     /// Returns the GUID with these bytes.
+    #[must_use]
     #[inline]
-    pub fn from_bytes(bytes: [u8; 16]) -> Guid {
+    pub const fn from_bytes(bytes: [u8; 16]) -> Guid {
         Guid(bytes)
     }
 
     /// Returns the bytes of the GUID.
+    #[must_use]
     #[inline]
-    pub fn to_bytes(self) -> [u8; 16] {
+    pub const fn to_bytes(self) -> [u8; 16] {
         self.0
     }
 }

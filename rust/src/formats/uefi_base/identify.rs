@@ -12,6 +12,7 @@ pub trait Identify {
     const GUID: Guid;
 
     /// Returns the GUID.
+    #[must_use]
     #[inline]
     fn identity() -> Guid {
         Self::GUID

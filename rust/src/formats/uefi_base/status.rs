@@ -7,6 +7,7 @@ use core::{error, fmt};
 /// Its contract: `crates/uefi_base/src/status.rt`.
 // The names are those of the standard.
 #[allow(non_camel_case_types)]
+#[non_exhaustive]
 #[derive(Clone, Copy, PartialEq, Eq, Debug)]
 pub enum Status {
     /// A parameter is invalid.
@@ -24,8 +25,9 @@ const ERROR_BIT: u64 = 1 << 63;
 
 impl Status {
     /// Returns the code of the status: the number of the error, with bit 63 set.
+    #[must_use]
     #[inline]
-    pub fn code(self) -> u64 {
+    pub const fn code(self) -> u64 {
         let number = match self {
             Status::INVALID_PARAMETER => 2,
             Status::BAD_BUFFER_SIZE => 4,
@@ -61,20 +63,23 @@ pub struct Error<D> {
 
 impl<D> Error<D> {
     /// Returns the error with this status and this data.
+    #[must_use]
     #[inline]
-    pub fn new(status: Status, data: D) -> Error<D> {
+    pub const fn new(status: Status, data: D) -> Error<D> {
         Error { status, data }
     }
 
     /// Returns the status.
+    #[must_use]
     #[inline]
-    pub fn status(&self) -> Status {
+    pub const fn status(&self) -> Status {
         self.status
     }
 
     /// Returns the data.
+    #[must_use]
     #[inline]
-    pub fn data(&self) -> &D {
+    pub const fn data(&self) -> &D {
         &self.data
     }
 }

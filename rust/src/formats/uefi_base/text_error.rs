@@ -10,6 +10,7 @@ use core::fmt;
 /// a zero that isn't the last unit decides, and `NotNulTerminated` applies if there is none.
 ///
 /// Its contract: `crates/uefi_base/src/text_error.rt`.
+#[non_exhaustive]
 #[derive(Clone, Copy, PartialEq, Eq, Debug)]
 pub enum FromSliceWithNulError {
     /// There are more than 2^31 units.
@@ -47,6 +48,7 @@ impl Error for FromSliceWithNulError {}
 /// its own decides, and `Memory` is returned only if there is none.
 ///
 /// Its contract: `crates/uefi_base/src/text_error.rt`.
+#[non_exhaustive]
 #[derive(Clone, Copy, PartialEq, Eq, Debug)]
 pub enum FromStrError {
     /// There are more than 2^31 - 1 characters.
@@ -85,6 +87,7 @@ impl From<AllocError> for FromStrError {
 /// [`FromSliceWithNulError`], or `Memory`, which is returned only if the units are text.
 ///
 /// Its contract: `crates/uefi_base/src/text_error.rt`.
+#[non_exhaustive]
 #[derive(Clone, Copy, PartialEq, Eq, Debug)]
 pub enum UnalignedCStr16Error {
     /// There are more than 2^31 units.
@@ -153,6 +156,7 @@ impl From<AllocError> for UnalignedCStr16Error {
 /// decides: one at 8, 13, 18 or 23 that isn't `-`, or another that isn't a hex digit.
 ///
 /// Its contract: `crates/uefi_base/src/text_error.rt`.
+#[non_exhaustive]
 #[derive(Clone, Copy, PartialEq, Eq, Debug)]
 pub enum GuidFromStrError {
     /// The text doesn't have 36 bytes.

@@ -46,6 +46,7 @@ impl<'a> UnalignedSlice<'a> {
     /// # Panics
     ///
     /// If the bytes are odd in number.
+    #[must_use]
     #[inline]
     pub fn new(bytes: &'a [u8]) -> UnalignedSlice<'a> {
         assert!(bytes.len() % 2 == 0);
@@ -53,6 +54,7 @@ impl<'a> UnalignedSlice<'a> {
     }
 
     /// Returns the units in all of `bytes`, or `None` if the length is odd.
+    #[must_use]
     #[inline]
     pub fn try_new(bytes: &'a [u8]) -> Option<UnalignedSlice<'a>> {
         if bytes.len() % 2 != 0 {
@@ -62,18 +64,21 @@ impl<'a> UnalignedSlice<'a> {
     }
 
     /// Returns the number of units.
+    #[must_use]
     #[inline]
     pub fn len(&self) -> usize {
         self.bytes.len() / 2
     }
 
     /// Returns whether there are no units.
+    #[must_use]
     #[inline]
     pub fn is_empty(&self) -> bool {
         self.bytes.is_empty()
     }
 
     /// Returns the unit at `index`, or `None` if there are at most `index` units.
+    #[must_use]
     #[inline]
     pub fn get(&self, index: usize) -> Option<u16> {
         if index < self.len() {
@@ -90,6 +95,7 @@ impl<'a> UnalignedSlice<'a> {
     }
 
     /// Returns an iterator over the units, in order.
+    #[must_use]
     #[inline]
     pub fn iter(&self) -> UnalignedSliceIter<'a> {
         UnalignedSliceIter::new(self.bytes)
@@ -97,6 +103,7 @@ impl<'a> UnalignedSlice<'a> {
 
     /// Returns an iterator over the characters of the units in UTF-16, up to the first NUL or the
     /// end. A surrogate that isn't in a pair is U+FFFD.
+    #[must_use]
     #[inline]
     pub fn chars_lossy(&self) -> CharsLossy<'a> {
         CharsLossy::new(self.iter())

@@ -21,6 +21,7 @@ use crate::formats::uefi_path::BoxedDevicePath;
 /// Its contract: `crates/uefi_hii/src/configuration.rt`.
 #[cfg(feature = "alloc")]
 #[derive(Debug)]
+#[non_exhaustive]
 pub struct ConfigurationStringElement {
     /// Where the bytes begin in the block.
     pub offset: u64,
@@ -41,6 +42,7 @@ pub struct ConfigurationStringElement {
 /// Its contract: `crates/uefi_hii/src/configuration.rt`.
 #[cfg(feature = "alloc")]
 #[derive(Debug)]
+#[non_exhaustive]
 pub struct NvPair {
     /// The text before the first `=`, or the whole piece where it has none. It may be empty.
     pub key: String,
@@ -79,6 +81,7 @@ pub struct NvPair {
 /// Its contract: `crates/uefi_hii/src/configuration.rt`.
 #[cfg(feature = "alloc")]
 #[derive(Debug)]
+#[non_exhaustive]
 pub struct ConfigurationString {
     /// The GUID by which the driver routes the configuration.
     pub guid: Guid,

@@ -59,6 +59,7 @@ pub struct MultiConfigurationStringIter<'a> {
 
 impl<'a> MultiConfigurationStringIter<'a> {
     /// Returns the configurations of the text. This takes no memory.
+    #[must_use]
     #[inline]
     pub fn new(text: &'a str) -> MultiConfigurationStringIter<'a> {
         MultiConfigurationStringIter {

@@ -26,6 +26,7 @@ pub struct ConfigurationStringIter<'a> {
 
 impl<'a> ConfigurationStringIter<'a> {
     /// Returns the pairs of the text. A text of n bytes has at most n pairs.
+    #[must_use]
     #[inline]
     pub fn new(text: &'a str) -> ConfigurationStringIter<'a> {
         ConfigurationStringIter { rest: text }

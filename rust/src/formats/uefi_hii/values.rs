@@ -21,6 +21,7 @@ const GUID_LENGTH: usize = 16;
 impl ConfigurationString {
     /// Returns the bytes that a value spells in hex, from either end. No text is refused: what is
     /// no digit stands for 0, as [`HexBytes`] says.
+    #[must_use]
     #[inline]
     pub fn parse_bytes_from_hex(text: &str) -> HexBytes<'_> {
         HexBytes::new(text)
@@ -28,6 +29,7 @@ impl ConfigurationString {
 
     /// Returns the number that a value spells in hex, the highest byte first. `None` where it
     /// spells another count of bytes than 1, 2, 4 or 8.
+    #[must_use]
     #[inline]
     pub fn parse_number_from_hex(text: &str) -> Option<u64> {
         let bytes = HexBytes::new(text);
@@ -43,6 +45,7 @@ impl ConfigurationString {
 
     /// Returns the GUID whose bytes a value spells in hex. `None` where it spells another count of
     /// bytes than 16.
+    #[must_use]
     #[inline]
     pub fn parse_guid_from_hex(text: &str) -> Option<Guid> {
         if HexBytes::new(text).len() != GUID_LENGTH {

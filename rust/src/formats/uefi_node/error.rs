@@ -6,6 +6,7 @@ use core::fmt;
 /// Why a node is no value of a type.
 ///
 /// Its contract: `crates/uefi_node/src/error.rt`.
+#[non_exhaustive]
 #[derive(Clone, Copy, PartialEq, Eq, Debug)]
 pub enum NodeConversionError {
     /// The node has another type or subtype.

@@ -37,6 +37,7 @@ impl BoxedDevicePath {
     }
 
     /// Returns a view of the path that this box owns.
+    #[must_use]
     #[inline]
     pub fn as_path(&self) -> DevicePath<'_> {
         DevicePath::new_unchecked(self.bytes.as_slice())
@@ -72,6 +73,7 @@ impl BoxedDevicePathInstance {
     }
 
     /// Returns a view of the instance that this box owns.
+    #[must_use]
     #[inline]
     pub fn as_instance(&self) -> DevicePathInstance<'_> {
         DevicePathInstance::new_unchecked(self.bytes.as_slice())

@@ -23,12 +23,14 @@ impl BoxedLoadOption {
     }
 
     /// Returns the option, as a view of the bytes that this one owns.
+    #[must_use]
     #[inline]
     pub fn as_load_option(&self) -> LoadOption<'_> {
         LoadOption::new_unchecked(self.bytes.as_slice())
     }
 
     /// Returns all bytes of the option: the value of a variable such as `Boot0000`.
+    #[must_use]
     #[inline]
     pub fn as_bytes(&self) -> &[u8] {
         self.bytes.as_slice()

@@ -33,8 +33,9 @@ impl DeviceType {
 
     /// Returns the standard's name of the type, such as `Hardware Device Path`; `None` for a number
     /// without a constant here.
+    #[must_use]
     #[inline]
-    pub fn name(self) -> Option<&'static str> {
+    pub const fn name(self) -> Option<&'static str> {
         match self {
             DeviceType::HARDWARE => Some("Hardware Device Path"),
             DeviceType::ACPI => Some("ACPI Device Path"),

@@ -35,8 +35,9 @@ pub struct DevicePathHeader {
 
 impl DevicePathHeader {
     /// Returns the header with these fields, whatever the length is.
+    #[must_use]
     #[inline]
-    pub fn new(device_type: DeviceType, sub_type: DeviceSubType, length: u16) -> DevicePathHeader {
+    pub const fn new(device_type: DeviceType, sub_type: DeviceSubType, length: u16) -> DevicePathHeader {
         DevicePathHeader {
             device_type,
             sub_type,
@@ -45,26 +46,30 @@ impl DevicePathHeader {
     }
 
     /// Returns the type.
+    #[must_use]
     #[inline]
-    pub fn device_type(&self) -> DeviceType {
+    pub const fn device_type(&self) -> DeviceType {
         self.device_type
     }
 
     /// Returns the subtype.
+    #[must_use]
     #[inline]
-    pub fn sub_type(&self) -> DeviceSubType {
+    pub const fn sub_type(&self) -> DeviceSubType {
         self.sub_type
     }
 
     /// Returns the stated length of the whole node in bytes.
+    #[must_use]
     #[inline]
-    pub fn length(&self) -> u16 {
+    pub const fn length(&self) -> u16 {
         self.length
     }
 
     /// Returns the four bytes of the header.
+    #[must_use]
     #[inline]
-    pub fn to_bytes(self) -> [u8; 4] {
+    pub const fn to_bytes(self) -> [u8; 4] {
         let [low, high] = self.length.to_le_bytes();
         [self.device_type.0, self.sub_type.0, low, high]
     }

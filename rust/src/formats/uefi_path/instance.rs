@@ -31,6 +31,7 @@ impl<'a> DevicePathInstance<'a> {
     }
 
     /// Returns an iterator over the nodes before the one with the type END, in order.
+    #[must_use]
     #[inline]
     pub fn node_iter(&self) -> DevicePathNodeIterator<'a> {
         DevicePathNodeIterator::new(self.bytes, StopCondition::AnyEndNode)
@@ -43,6 +44,7 @@ impl<'a> DevicePathInstance<'a> {
     }
 
     /// Returns the node with the type END, which is the last.
+    #[must_use]
     #[inline]
     pub fn end_node(&self) -> DevicePathNode<'a> {
         end_node(self.bytes, StopCondition::AnyEndNode)
@@ -61,6 +63,7 @@ impl<'a> DevicePathInstance<'a> {
     }
 
     /// Returns all bytes of the instance, including those of its last node.
+    #[must_use]
     #[inline]
     pub fn as_bytes(&self) -> &'a [u8] {
         self.bytes

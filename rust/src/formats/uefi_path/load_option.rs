@@ -114,6 +114,7 @@ impl<'a> LoadOption<'a> {
     }
 
     /// Returns the parts. The option that is written from them has the same bytes as this one.
+    #[must_use]
     #[inline]
     pub fn parts(&self) -> LoadOptionParts<'a> {
         LoadOptionParts {
@@ -125,18 +126,21 @@ impl<'a> LoadOption<'a> {
     }
 
     /// Returns the attributes: all bits, including those without a name.
+    #[must_use]
     #[inline]
     pub fn attributes(&self) -> LoadOptionAttributes {
         self.attributes
     }
 
     /// Returns the units of the description: the last is zero, the NUL, and no other is.
+    #[must_use]
     #[inline]
     pub fn description(&self) -> UnalignedSlice<'a> {
         self.description
     }
 
     /// Returns the device path that leads to the image: the first of the file path list.
+    #[must_use]
     #[inline]
     pub fn file_path(&self) -> DevicePath<'a> {
         self.file_path
@@ -144,12 +148,14 @@ impl<'a> LoadOption<'a> {
 
     /// Returns the bytes of the file path list, which start with those of
     /// [`file_path`](LoadOption::file_path).
+    #[must_use]
     #[inline]
     pub fn file_path_list(&self) -> &'a [u8] {
         self.file_path_list
     }
 
     /// Returns the data that the image is given.
+    #[must_use]
     #[inline]
     pub fn optional_data(&self) -> &'a [u8] {
         self.optional_data

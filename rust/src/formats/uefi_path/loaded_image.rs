@@ -12,12 +12,14 @@ pub struct LoadedImageDevicePath<'a>(DevicePath<'a>);
 
 impl<'a> LoadedImageDevicePath<'a> {
     /// Returns `path` as the device path of a loaded image.
+    #[must_use]
     #[inline]
     pub fn new(path: DevicePath<'a>) -> LoadedImageDevicePath<'a> {
         LoadedImageDevicePath(path)
     }
 
     /// Returns the device path.
+    #[must_use]
     #[inline]
     pub fn device_path(&self) -> DevicePath<'a> {
         self.0

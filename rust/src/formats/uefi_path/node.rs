@@ -33,24 +33,28 @@ impl<'a> DevicePathNode<'a> {
     }
 
     /// Returns the type.
+    #[must_use]
     #[inline]
     pub fn device_type(&self) -> DeviceType {
         DeviceType(self.bytes[DEVICE_TYPE_OFFSET])
     }
 
     /// Returns the subtype.
+    #[must_use]
     #[inline]
     pub fn sub_type(&self) -> DeviceSubType {
         DeviceSubType(self.bytes[SUB_TYPE_OFFSET])
     }
 
     /// Returns the type and the subtype.
+    #[must_use]
     #[inline]
     pub fn full_type(&self) -> (DeviceType, DeviceSubType) {
         (self.device_type(), self.sub_type())
     }
 
     /// Returns the length of the whole node in bytes, including the header: 4 to 65535.
+    #[must_use]
     #[inline]
     pub fn length(&self) -> u16 {
         u16_at(self.bytes, LENGTH_OFFSET)
@@ -58,18 +62,21 @@ impl<'a> DevicePathNode<'a> {
 
     /// Returns whether the node ends the whole path: whether it has the type END and the subtype
     /// END_ENTIRE (UEFI 2.10, 10.3.1), whatever its data is.
+    #[must_use]
     #[inline]
     pub fn is_end_entire(&self) -> bool {
         self.full_type() == (DeviceType::END, DeviceSubType::END_ENTIRE)
     }
 
     /// Returns the data: the bytes after the four header bytes, at most 65531.
+    #[must_use]
     #[inline]
     pub fn data(&self) -> &'a [u8] {
         &self.bytes[HEADER_LENGTH..]
     }
 
     /// Returns all bytes of the node, including the header.
+    #[must_use]
     #[inline]
     pub fn as_bytes(&self) -> &'a [u8] {
         self.bytes

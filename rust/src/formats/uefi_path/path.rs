@@ -53,24 +53,28 @@ impl<'a> DevicePath<'a> {
     }
 
     /// Returns an iterator over the instances of the path, in order.
+    #[must_use]
     #[inline]
     pub fn instance_iter(&self) -> DevicePathInstanceIterator<'a> {
         DevicePathInstanceIterator::new(self.bytes)
     }
 
     /// Returns an iterator over the nodes before the end-entire one, in order.
+    #[must_use]
     #[inline]
     pub fn node_iter(&self) -> DevicePathNodeIterator<'a> {
         DevicePathNodeIterator::new(self.bytes, StopCondition::EndEntireNode)
     }
 
     /// Returns the bytes of the nodes before the end-entire one.
+    #[must_use]
     #[inline]
     pub fn nodes(&self) -> &'a [u8] {
         nodes_before_end(self.bytes, StopCondition::EndEntireNode)
     }
 
     /// Returns the end-entire node, which is the last.
+    #[must_use]
     #[inline]
     pub fn end_node(&self) -> DevicePathNode<'a> {
         end_node(self.bytes, StopCondition::EndEntireNode)
@@ -90,6 +94,7 @@ impl<'a> DevicePath<'a> {
 
     /// Returns all bytes of the path, including those of the end-entire node. A path of n bytes has
     /// at most n / 4 nodes.
+    #[must_use]
     #[inline]
     pub fn as_bytes(&self) -> &'a [u8] {
         self.bytes

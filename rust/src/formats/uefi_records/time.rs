@@ -125,8 +125,9 @@ impl Time {
     /// Returns the time whose bytes are all zero. To firmware it means that a file's time is not to
     /// be changed (UEFI 2.10, 13.5 `EFI_FILE_PROTOCOL.SetInfo()`). Its year, month and day are
     /// outside their ranges.
+    #[must_use]
     #[inline]
-    pub fn invalid() -> Time {
+    pub const fn invalid() -> Time {
         Time {
             year: 0,
             month: 0,
@@ -174,62 +175,72 @@ impl Time {
     }
 
     /// Returns the year.
+    #[must_use]
     #[inline]
-    pub fn year(&self) -> u16 {
+    pub const fn year(&self) -> u16 {
         self.year
     }
 
     /// Returns the month, 1 for January.
+    #[must_use]
     #[inline]
-    pub fn month(&self) -> u8 {
+    pub const fn month(&self) -> u8 {
         self.month
     }
 
     /// Returns the day of the month, 1 for the first.
+    #[must_use]
     #[inline]
-    pub fn day(&self) -> u8 {
+    pub const fn day(&self) -> u8 {
         self.day
     }
 
     /// Returns the hour of the day.
+    #[must_use]
     #[inline]
-    pub fn hour(&self) -> u8 {
+    pub const fn hour(&self) -> u8 {
         self.hour
     }
 
     /// Returns the minute of the hour.
+    #[must_use]
     #[inline]
-    pub fn minute(&self) -> u8 {
+    pub const fn minute(&self) -> u8 {
         self.minute
     }
 
     /// Returns the second of the minute.
+    #[must_use]
     #[inline]
-    pub fn second(&self) -> u8 {
+    pub const fn second(&self) -> u8 {
         self.second
     }
 
     /// Returns the nanosecond of the second.
+    #[must_use]
     #[inline]
-    pub fn nanosecond(&self) -> u32 {
+    pub const fn nanosecond(&self) -> u32 {
         self.nanosecond
     }
 
     /// Returns the zone in minutes from UTC, or `None` for local time.
+    #[must_use]
     #[inline]
     pub fn time_zone(&self) -> Option<i16> {
         (self.zone != UNSPECIFIED_TIMEZONE).then_some(self.zone)
     }
 
     /// Returns how daylight saving affects the time: all bits, including those without a name.
+    #[must_use]
     #[inline]
-    pub fn daylight(&self) -> Daylight {
+    pub const fn daylight(&self) -> Daylight {
         self.daylight
     }
 
     /// Returns the sixteen bytes of the time, with its padding.
+    #[must_use]
     #[inline]
-    pub fn to_bytes(&self) -> [u8; TIME_LENGTH] {
+    pub const fn to_bytes(&self) -> [u8; TIME_LENGTH] {
         let time = *self;
         let [year_low, year_high] = time.year.to_le_bytes();
         let [nano_0, nano_1, nano_2, nano_3] = time.nanosecond.to_le_bytes();

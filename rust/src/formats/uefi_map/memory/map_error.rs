@@ -6,6 +6,7 @@ use core::fmt;
 /// The error of bytes that are no memory map.
 ///
 /// Its contract: `crates/uefi_map/src/memory/map_error.rt`.
+#[non_exhaustive]
 #[derive(Clone, Copy, Debug)]
 pub enum MemoryMapError {
     /// The address of the bytes isn't a multiple of 8. No call returns it, since none sees an

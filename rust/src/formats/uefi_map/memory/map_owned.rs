@@ -57,6 +57,9 @@ impl MemoryMap for MemoryMapOwned {
 }
 
 #[cfg(feature = "alloc")]
+impl crate::support::sealed::Sealed for MemoryMapOwned {}
+
+#[cfg(feature = "alloc")]
 impl MemoryMapMut for MemoryMapOwned {
     #[inline]
     fn buffer_mut(&mut self) -> &mut [u8] {

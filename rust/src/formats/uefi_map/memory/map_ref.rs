@@ -62,3 +62,5 @@ impl<'a> MemoryMap for MemoryMapRef<'a> {
         self.buffer
     }
 }
+
+impl<'a> crate::support::sealed::Sealed for MemoryMapRef<'a> {}

@@ -83,6 +83,8 @@ impl<'a> MemoryMap for MemoryMapRefMut<'a> {
     }
 }
 
+impl<'a> crate::support::sealed::Sealed for MemoryMapRefMut<'a> {}
+
 impl<'a> MemoryMapMut for MemoryMapRefMut<'a> {
     #[inline]
     fn buffer_mut(&mut self) -> &mut [u8] {

@@ -15,23 +15,27 @@ use super::meta::{MemoryMapKey, MemoryMapMeta};
 /// calls from here.
 ///
 /// Its contract: `crates/uefi_map/src/memory/memory_map.rt`.
-pub trait MemoryMap {
+pub trait MemoryMap: crate::support::sealed::Sealed {
     /// Returns what firmware says of the map.
+    #[must_use]
     fn meta(&self) -> MemoryMapMeta;
 
     /// Returns the key of the state of firmware's map that this one is of.
+    #[must_use]
     #[inline]
     fn key(&self) -> MemoryMapKey {
         self.meta().map_key
     }
 
     /// Returns the count of descriptors.
+    #[must_use]
     #[inline]
     fn len(&self) -> usize {
         self.meta().entry_count()
     }
 
     /// Returns whether there is no descriptor.
+    #[must_use]
     #[inline]
     fn is_empty(&self) -> bool {
         self.len() == 0
@@ -39,6 +43,7 @@ pub trait MemoryMap {
 
     /// Returns the descriptor at the index, or `None` if the index isn't below
     /// [`len`](MemoryMap::len).
+    #[must_use]
     #[inline]
     fn get(&self, i: usize) -> Option<MemoryDescriptor> {
         if i < self.len() {
@@ -53,6 +58,7 @@ pub trait MemoryMap {
     /// # Panics
     ///
     /// If `i` isn't below [`len`](MemoryMap::len).
+    #[must_use]
     #[inline]
     fn at(&self, i: usize) -> MemoryDescriptor {
         assert!(i < self.len());
@@ -61,15 +67,18 @@ pub trait MemoryMap {
     }
 
     /// Returns the whole buffer.
+    #[must_use]
     fn buffer(&self) -> &[u8];
 
     /// Returns the descriptors, in order.
+    #[must_use]
     #[inline]
     fn entries(&self) -> MemoryMapIter<'_> {
         MemoryMapIter::new(self.buffer(), &self.meta())
     }
 
     /// Returns whether no descriptor begins at a lower physical address than the one before it.
+    #[must_use]
     #[inline]
     fn is_sorted(&self) -> bool {
         self.entries().is_sorted_by_key(|entry| entry.phys_start)

@@ -46,8 +46,9 @@ impl MemoryType {
 
     /// Returns the standard's name of the type, such as `EfiLoaderCode`; `None` for a number without
     /// a constant here.
+    #[must_use]
     #[inline]
-    pub fn name(self) -> Option<&'static str> {
+    pub const fn name(self) -> Option<&'static str> {
         match self {
             MemoryType::RESERVED => Some("EfiReservedMemoryType"),
             MemoryType::LOADER_CODE => Some("EfiLoaderCode"),
@@ -71,22 +72,25 @@ impl MemoryType {
 
     /// Returns whether the number is one of those that the standard leaves to OEMs: from
     /// 0x70000000 to 0x7fffffff.
+    #[must_use]
     #[inline]
-    pub fn is_oem(self) -> bool {
+    pub const fn is_oem(self) -> bool {
         matches!(self.0, 0x7000_0000..=0x7fff_ffff)
     }
 
     /// Returns whether the number is one of those that the standard leaves to loaders of operating
     /// systems: from 0x80000000 on.
+    #[must_use]
     #[inline]
-    pub fn is_os_loader(self) -> bool {
+    pub const fn is_os_loader(self) -> bool {
         self.0 > 0x7fff_ffff
     }
 
     /// Returns whether the number is one of those that the standard leaves to OEMs or to loaders of
     /// operating systems.
+    #[must_use]
     #[inline]
-    pub fn is_custom(self) -> bool {
+    pub const fn is_custom(self) -> bool {
         self.is_oem() || self.is_os_loader()
     }
 }

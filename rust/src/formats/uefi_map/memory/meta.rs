@@ -15,8 +15,9 @@ pub struct MemoryMapKey(usize);
 
 impl MemoryMapKey {
     /// Returns the key with the number.
+    #[must_use]
     #[inline]
-    pub fn from_raw(key: usize) -> MemoryMapKey {
+    pub const fn from_raw(key: usize) -> MemoryMapKey {
         MemoryMapKey(key)
     }
 }
@@ -40,8 +41,9 @@ pub struct MemoryMapMeta {
 
 impl MemoryMapMeta {
     /// Returns the sizes of a map of which neither the key nor the version is known: both are 0.
+    #[must_use]
     #[inline]
-    pub fn of(map_size: usize, desc_size: usize) -> MemoryMapMeta {
+    pub const fn of(map_size: usize, desc_size: usize) -> MemoryMapMeta {
         MemoryMapMeta {
             map_size,
             desc_size,
@@ -56,8 +58,9 @@ impl MemoryMapMeta {
     ///
     /// If the stride is 0.
     /// If the stride doesn't divide the map's length.
+    #[must_use]
     #[inline]
-    pub fn entry_count(&self) -> usize {
+    pub const fn entry_count(&self) -> usize {
         assert!(self.desc_size != 0);
         assert!(self.map_size % self.desc_size == 0);
         self.map_size / self.desc_size
@@ -65,6 +68,7 @@ impl MemoryMapMeta {
 
     /// Returns whether the sizes are such as firmware gives: a stride of at least 40 bytes, and a
     /// map of 1 to 2^30 bytes.
+    #[must_use]
     #[inline]
     pub fn assert_sanity_checks(&self) -> bool {
         self.desc_size >= DESCRIPTOR_LENGTH && (1..=MAX_SANE_SIZE).contains(&self.map_size)
@@ -72,8 +76,9 @@ impl MemoryMapMeta {
 
     /// Returns whether the sizes make a map of a buffer with this length: the stride is at least 40
     /// bytes, is a multiple of 8, and divides the map's length, which is at most the buffer's.
+    #[must_use]
     #[inline]
-    pub fn is_map_within(&self, length: usize) -> bool {
+    pub const fn is_map_within(&self, length: usize) -> bool {
         self.desc_size >= DESCRIPTOR_LENGTH
             && self.desc_size % DESCRIPTOR_ALIGNMENT == 0
             && self.map_size % self.desc_size == 0

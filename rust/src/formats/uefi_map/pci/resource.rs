@@ -46,8 +46,9 @@ pub enum ResourceRangeType {
 
 impl ResourceRangeType {
     /// Returns the number of the type.
+    #[must_use]
     #[inline]
-    pub fn number(&self) -> u8 {
+    pub const fn number(&self) -> u8 {
         match self {
             ResourceRangeType::Memory => 0,
             ResourceRangeType::Io => 1,
@@ -90,6 +91,7 @@ impl From<u8> for ResourceRangeType {
 /// they agree with one another.
 ///
 /// Its contract: `crates/uefi_map/src/pci/resource.rt`.
+#[non_exhaustive]
 #[derive(Clone, Copy, Debug)]
 pub struct QwordAddressSpaceDescriptor {
     /// What the range is made of.

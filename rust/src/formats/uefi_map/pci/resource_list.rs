@@ -38,6 +38,7 @@ pub struct ResourceList<'a> {
 
 impl<'a> ResourceList<'a> {
     /// Returns the resources, in order.
+    #[must_use]
     #[inline]
     pub fn iter(&self) -> ResourceIter<'a> {
         ResourceIter::new(self.records)

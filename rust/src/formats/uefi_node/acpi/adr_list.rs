@@ -14,6 +14,7 @@ pub struct AdrList<'a> {
 
 impl<'a> AdrList<'a> {
     /// Returns the addresses in all of `bytes`, or `None` if there is none or a part of one.
+    #[must_use]
     #[inline]
     pub fn new(bytes: &'a [u8]) -> Option<AdrList<'a>> {
         if bytes.is_empty() || bytes.len() % 4 != 0 {
@@ -29,12 +30,14 @@ impl<'a> AdrList<'a> {
     }
 
     /// Returns the number of addresses: at least 1.
+    #[must_use]
     #[inline]
     pub fn count(&self) -> usize {
         self.bytes.len() / 4
     }
 
     /// Returns the address at `index`, or `None` if there are at most `index` addresses.
+    #[must_use]
     #[inline]
     pub fn get(&self, index: usize) -> Option<u32> {
         if index < self.count() {
@@ -45,6 +48,7 @@ impl<'a> AdrList<'a> {
     }
 
     /// Returns the bytes of the addresses.
+    #[must_use]
     #[inline]
     pub fn as_bytes(&self) -> &'a [u8] {
         self.bytes

@@ -33,6 +33,7 @@ pub enum PartitionSignature {
 
 impl PartitionSignature {
     /// Returns the signature with this type and these bytes.
+    #[must_use]
     #[inline]
     pub fn new(signature_type: u8, signature: [u8; 16]) -> PartitionSignature {
         if signature_type == 0 && are_zero(&signature) {
@@ -51,8 +52,9 @@ impl PartitionSignature {
     }
 
     /// Returns the type of the signature.
+    #[must_use]
     #[inline]
-    pub fn signature_type(&self) -> u8 {
+    pub const fn signature_type(&self) -> u8 {
         match self {
             PartitionSignature::None => 0,
             PartitionSignature::Mbr(_) => 1,
@@ -62,8 +64,9 @@ impl PartitionSignature {
     }
 
     /// Returns the 16 bytes of the signature.
+    #[must_use]
     #[inline]
-    pub fn to_bytes(&self) -> [u8; 16] {
+    pub const fn to_bytes(&self) -> [u8; 16] {
         match self {
             PartitionSignature::None => [0; 16],
             PartitionSignature::Mbr([a, b, c, d]) => {
@@ -76,6 +79,7 @@ impl PartitionSignature {
 
     /// Returns whether [`PartitionSignature::new`] returns this value for its type and bytes: an
     /// `Unknown` signature isn't one of the other variants.
+    #[must_use]
     #[inline]
     pub fn is_valid(&self) -> bool {
         match self {

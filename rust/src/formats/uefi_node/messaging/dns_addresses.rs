@@ -14,6 +14,7 @@ pub struct DnsAddresses<'a> {
 
 impl<'a> DnsAddresses<'a> {
     /// Returns the addresses in all of `bytes`, or `None` if there is a part of one.
+    #[must_use]
     #[inline]
     pub fn new(bytes: &'a [u8]) -> Option<DnsAddresses<'a>> {
         if bytes.len() % 16 != 0 {
@@ -29,6 +30,7 @@ impl<'a> DnsAddresses<'a> {
     }
 
     /// Returns the number of addresses.
+    #[must_use]
     #[inline]
     pub fn count(&self) -> usize {
         self.bytes.len() / 16
@@ -36,6 +38,7 @@ impl<'a> DnsAddresses<'a> {
 
     /// Returns the address at `index`, or `None` if there are at most `index` addresses. An IPv4
     /// address is in the first four bytes.
+    #[must_use]
     #[inline]
     pub fn get(&self, index: usize) -> Option<[u8; 16]> {
         if index < self.count() {
@@ -46,6 +49,7 @@ impl<'a> DnsAddresses<'a> {
     }
 
     /// Returns the bytes of the addresses.
+    #[must_use]
     #[inline]
     pub fn as_bytes(&self) -> &'a [u8] {
         self.bytes

@@ -66,6 +66,7 @@ pub(crate) fn is_plain_end(node: &DevicePathNode<'_>, sub_type: DeviceSubType) -
 
 /// Returns the text of a node: in the form of its type, such as `Pci(0x2,0x0)`, if the form has all
 /// of the node; and else in the generic form, `Path(TYPE,SUBTYPE,DATA)` (UEFI 2.10, 10.6.1).
+#[must_use]
 #[inline]
 pub fn node_to_text<'a>(
     node: DevicePathNode<'a>,

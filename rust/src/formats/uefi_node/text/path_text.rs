@@ -78,6 +78,7 @@ fn is_shown_end(node: &DevicePathNode<'_>) -> bool {
 /// each as [`node_to_text`](crate::formats::uefi_node::node_to_text) returns it (UEFI 2.10, 10.6.1).
 ///
 /// An empty instance is an empty text, and so is the path that has no other one.
+#[must_use]
 #[inline]
 pub fn to_text<'a>(
     path: DevicePath<'a>,
@@ -89,6 +90,7 @@ pub fn to_text<'a>(
 }
 
 /// Returns the text of an instance of a path: nodes with `/` between them.
+#[must_use]
 #[inline]
 pub fn instance_to_text<'a>(
     instance: DevicePathInstance<'a>,

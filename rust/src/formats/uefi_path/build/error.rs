@@ -7,6 +7,7 @@ use core::fmt;
 /// Why a node isn't written, or a path isn't built.
 ///
 /// Its contract: `crates/uefi_path/src/build/error.rt`.
+#[non_exhaustive]
 #[derive(Clone, Copy, PartialEq, Eq, Debug)]
 pub enum BuildError {
     /// No node of its type has the value.

@@ -10,6 +10,7 @@ use crate::formats::uefi_base::buffer::put;
 /// Its contract: `crates/uefi_path/src/build/node.rt`.
 pub trait BuildNode {
     /// Returns the type and the subtype of the node.
+    #[must_use]
     fn full_type(&self) -> (DeviceType, DeviceSubType);
 
     /// Writes the node to the start of the buffer, and returns its length in bytes. The bytes after

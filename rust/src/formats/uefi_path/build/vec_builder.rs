@@ -23,6 +23,7 @@ pub struct DevicePathVecBuilder {
 #[cfg(feature = "alloc")]
 impl DevicePathVecBuilder {
     /// Returns a builder without a node. This takes no memory.
+    #[must_use]
     #[inline]
     pub fn new() -> DevicePathVecBuilder {
         DevicePathVecBuilder {

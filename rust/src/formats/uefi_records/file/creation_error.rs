@@ -6,6 +6,7 @@ use core::fmt;
 /// The error of a record that was not written.
 ///
 /// Its contract: `crates/uefi_records/src/file/creation_error.rt`.
+#[non_exhaustive]
 #[derive(Clone, Copy, PartialEq, Eq, Debug)]
 pub enum FileInfoCreationError {
     /// The storage is shorter than the record, whose size this is, in bytes.

@@ -129,60 +129,70 @@ impl<'a> FileInfo<'a> {
     }
 
     /// Returns the size that the record states.
+    #[must_use]
     #[inline]
     pub fn size(&self) -> u64 {
         u64_at(self.bytes, SIZE_OFFSET)
     }
 
     /// Returns the size of the file, in bytes.
+    #[must_use]
     #[inline]
     pub fn file_size(&self) -> u64 {
         u64_at(self.bytes, FILE_SIZE_OFFSET)
     }
 
     /// Returns the size that the file occupies on its volume, in bytes.
+    #[must_use]
     #[inline]
     pub fn physical_size(&self) -> u64 {
         u64_at(self.bytes, PHYSICAL_SIZE_OFFSET)
     }
 
     /// Returns when the file was created: all sixteen bytes, whether or not they are valid.
+    #[must_use]
     #[inline]
     pub fn create_time(&self) -> Time {
         Time::read(&self.bytes[CREATE_TIME_OFFSET..LAST_ACCESS_TIME_OFFSET])
     }
 
     /// Returns when the file was last accessed: all sixteen bytes, whether or not they are valid.
+    #[must_use]
     #[inline]
     pub fn last_access_time(&self) -> Time {
         Time::read(&self.bytes[LAST_ACCESS_TIME_OFFSET..MODIFICATION_TIME_OFFSET])
     }
 
     /// Returns when the file was last modified: all sixteen bytes, whether or not they are valid.
+    #[must_use]
     #[inline]
     pub fn modification_time(&self) -> Time {
         Time::read(&self.bytes[MODIFICATION_TIME_OFFSET..ATTRIBUTE_OFFSET])
     }
 
     /// Returns the file's attributes: all bits, including those without a name.
+    #[must_use]
     #[inline]
     pub fn attribute(&self) -> FileAttribute {
         FileAttribute::from_bits_retain(u64_at(self.bytes, ATTRIBUTE_OFFSET))
     }
 
     /// Returns the units of the name: the last is zero, the NUL, and no other is.
+    #[must_use]
     #[inline]
     pub fn file_name(&self) -> UnalignedSlice<'a> {
         name_at(self.bytes, NAME_OFFSET)
     }
 
     /// Returns whether the file is a directory.
+    #[must_use]
     #[inline]
     pub fn is_directory(&self) -> bool {
         self.attribute().contains(FileAttribute::DIRECTORY)
     }
 
     /// Returns whether the file is not a directory.
+    #[must_use]
     #[inline]
     pub fn is_regular_file(&self) -> bool {
         !self.is_directory()

@@ -102,36 +102,42 @@ impl<'a> FileSystemInfo<'a> {
     }
 
     /// Returns the size that the record states.
+    #[must_use]
     #[inline]
     pub fn size(&self) -> u64 {
         u64_at(self.bytes, SIZE_OFFSET)
     }
 
     /// Returns whether the volume is read-only.
+    #[must_use]
     #[inline]
     pub fn read_only(&self) -> bool {
         self.bytes[READ_ONLY_OFFSET] != 0
     }
 
     /// Returns the size of the volume, in bytes.
+    #[must_use]
     #[inline]
     pub fn volume_size(&self) -> u64 {
         u64_at(self.bytes, VOLUME_SIZE_OFFSET)
     }
 
     /// Returns the number of free bytes on the volume.
+    #[must_use]
     #[inline]
     pub fn free_space(&self) -> u64 {
         u64_at(self.bytes, FREE_SPACE_OFFSET)
     }
 
     /// Returns the size of a block, in bytes.
+    #[must_use]
     #[inline]
     pub fn block_size(&self) -> u32 {
         u32_at(self.bytes, BLOCK_SIZE_OFFSET)
     }
 
     /// Returns the units of the label: the last is zero, the NUL, and no other is.
+    #[must_use]
     #[inline]
     pub fn volume_label(&self) -> UnalignedSlice<'a> {
         name_at(self.bytes, LABEL_OFFSET)

@@ -66,6 +66,7 @@ impl<'a> FileSystemVolumeLabel<'a> {
     }
 
     /// Returns the units of the label: the last is zero, the NUL, and no other is.
+    #[must_use]
     #[inline]
     pub fn volume_label(&self) -> UnalignedSlice<'a> {
         name_at(self.bytes, LABEL_OFFSET)

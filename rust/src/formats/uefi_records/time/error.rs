@@ -7,6 +7,7 @@ use core::fmt;
 /// no name. The default is no fault.
 ///
 /// Its contract: `crates/uefi_records/src/time/error.rt`.
+#[non_exhaustive]
 #[derive(Clone, Copy, PartialEq, Eq, Debug, Default)]
 pub struct TimeError {
     /// The year isn't 1900 to 9999.

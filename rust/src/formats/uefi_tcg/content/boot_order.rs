@@ -19,6 +19,7 @@ pub struct BootOrder<'a> {
 
 impl<'a> BootOrder<'a> {
     /// Returns the order that the bytes are, or `None` if their length is odd.
+    #[must_use]
     #[inline]
     pub fn read(bytes: &'a [u8]) -> Option<BootOrder<'a>> {
         if bytes.len() % 2 != 0 {
@@ -30,12 +31,14 @@ impl<'a> BootOrder<'a> {
     }
 
     /// Returns the numbers, which may be asked for by their index.
+    #[must_use]
     #[inline]
     pub fn numbers(&self) -> UnalignedSlice<'a> {
         self.numbers
     }
 
     /// Returns an iterator over the numbers, in order.
+    #[must_use]
     #[inline]
     pub fn iter(&self) -> UnalignedSliceIter<'a> {
         self.numbers.iter()

@@ -23,6 +23,7 @@ impl BoxedPcrEvent {
     }
 
     /// Returns the event, as a view of the bytes that this one owns.
+    #[must_use]
     #[inline]
     pub fn as_event(&self) -> PcrEvent<'_> {
         PcrEvent::from_bytes(self.bytes.as_slice())

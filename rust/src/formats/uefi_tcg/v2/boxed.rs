@@ -23,6 +23,7 @@ impl BoxedPcrEventInputs {
     }
 
     /// Returns the inputs, as a view of the bytes that these own.
+    #[must_use]
     #[inline]
     pub fn as_inputs(&self) -> PcrEventInputs<'_> {
         PcrEventInputs::from_bytes(self.bytes.as_slice())

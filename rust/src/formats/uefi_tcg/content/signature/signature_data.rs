@@ -16,6 +16,7 @@ pub(crate) const GUID_LENGTH: usize = 16;
 /// A view: the data lives as long as the bytes that it was read from.
 ///
 /// Its contract: `crates/uefi_tcg/src/content/signature/signature_data.rt`.
+#[non_exhaustive]
 #[derive(Clone, Copy, Debug)]
 pub struct SignatureData<'a> {
     /// The agent that added the signature to its database.
@@ -26,6 +27,7 @@ pub struct SignatureData<'a> {
 
 impl<'a> SignatureData<'a> {
     /// Returns the signature that the bytes are, or `None` if there are fewer than sixteen.
+    #[must_use]
     #[inline]
     pub fn read(bytes: &'a [u8]) -> Option<SignatureData<'a>> {
         if bytes.len() < GUID_LENGTH {

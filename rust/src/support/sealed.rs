@@ -1,0 +1,4 @@
+//! What seals a trait.
+
+/// A type of this package.
+pub trait Sealed {}
