@@ -21,6 +21,8 @@
 #![no_std]
 #![forbid(unsafe_code)]
 #![warn(missing_debug_implementations)]
+// Docs link to calls that are there with `alloc` alone.
+#![cfg_attr(not(feature = "alloc"), allow(rustdoc::broken_intra_doc_links))]
 // The traits `FromStr` are implemented below, over these functions.
 #![allow(clippy::should_implement_trait)]
 
