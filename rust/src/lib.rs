@@ -290,6 +290,18 @@ mod as_enum {
     }
 }
 
+#[cfg(feature = "alloc")]
+mod default {
+    use crate::proto::device_path::build::DevicePathVecBuilder;
+
+    /// A builder without a node.
+    impl Default for DevicePathVecBuilder {
+        fn default() -> DevicePathVecBuilder {
+            DevicePathVecBuilder::new()
+        }
+    }
+}
+
 mod status {
     use crate::{Error, Status};
 

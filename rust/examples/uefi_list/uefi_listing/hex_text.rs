@@ -6,8 +6,6 @@
 //! number without leading zeros. [`gap_before`] is the space that comes before bytes, if there are
 //! any. Nothing here allocates memory.
 
-use crate::support::fallible::*;
-
 use core::fmt;
 
 /// The lower case hex digits.

@@ -2,8 +2,6 @@
 
 //! What `info` lists of bytes, and what it refuses.
 
-use crate::support::fallible::*;
-
 use crate::uefi_listing::hex_text::{Hex, HexNumber, write_hex};
 use crate::uefi_listing::listing::Outcome;
 use crate::support::alloc::AllocError;

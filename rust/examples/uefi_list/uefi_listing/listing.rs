@@ -2,8 +2,6 @@
 
 //! The listing of a command over bytes in memory.
 
-use crate::support::fallible::*;
-
 use crate::uefi_listing::command::Command;
 use crate::uefi_listing::config::push_config_listing;
 use crate::uefi_listing::info::push_info_listing;

@@ -2,8 +2,6 @@
 
 //! What `option` lists of bytes, and what it refuses.
 
-use crate::support::fallible::*;
-
 use crate::uefi_listing::hex_text::{Hex, HexNumber, gap_before};
 use crate::uefi_listing::info::Name;
 use crate::uefi_listing::listing::Outcome;

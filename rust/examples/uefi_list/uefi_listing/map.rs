@@ -2,8 +2,6 @@
 
 //! What `map` lists of bytes, and what it refuses.
 
-use crate::support::fallible::*;
-
 use crate::uefi_listing::hex_text::HexNumber;
 use crate::uefi_listing::listing::Outcome;
 use crate::support::alloc::AllocError;

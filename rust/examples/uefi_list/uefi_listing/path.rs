@@ -2,8 +2,6 @@
 
 //! What `path` lists of bytes, and what it refuses.
 
-use crate::support::fallible::*;
-
 use crate::uefi_listing::hex_text::{Hex, HexByte, gap_before};
 use crate::uefi_listing::listing::Outcome;
 use crate::support::alloc::AllocError;

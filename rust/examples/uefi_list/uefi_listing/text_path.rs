@@ -2,8 +2,6 @@
 
 //! What `textpath` lists of bytes, and what it refuses.
 
-use crate::support::fallible::*;
-
 use crate::uefi_listing::listing::Outcome;
 use crate::uefi_listing::path::push_path;
 use crate::support::alloc::AllocError;

@@ -2,8 +2,6 @@
 
 //! What `time` lists of bytes, and what it refuses.
 
-use crate::support::fallible::*;
-
 use crate::uefi_listing::listing::Outcome;
 use crate::support::alloc::AllocError;
 use core::fmt;

@@ -2,17 +2,6 @@
 
 // The initial hash values and the round constants of FIPS 180-4, sections 4.2 and 5.3.
 
-pub(crate) const H256_224: [u32; 8] = [
-    0xc105_9ed8,
-    0x367c_d507,
-    0x3070_dd17,
-    0xf70e_5939,
-    0xffc0_0b31,
-    0x6858_1511,
-    0x64f9_8fa7,
-    0xbefa_4fa4,
-];
-
 pub(crate) const H256_256: [u32; 8] = [
     0x6a09_e667,
     0xbb67_ae85,
@@ -22,28 +11,6 @@ pub(crate) const H256_256: [u32; 8] = [
     0x9b05_688c,
     0x1f83_d9ab,
     0x5be0_cd19,
-];
-
-pub(crate) const H512_224: [u64; 8] = [
-    0x8c3d_37c8_1954_4da2,
-    0x73e1_9966_89dc_d4d6,
-    0x1dfa_b7ae_32ff_9c82,
-    0x679d_d514_582f_9fcf,
-    0x0f6d_2b69_7bd4_4da8,
-    0x77e3_6f73_04c4_8942,
-    0x3f9d_85a8_6a1d_36c8,
-    0x1112_e6ad_91d6_92a1,
-];
-
-pub(crate) const H512_256: [u64; 8] = [
-    0x2231_2194_fc2b_f72c,
-    0x9f55_5fa3_c84c_64c2,
-    0x2393_b86b_6f53_b151,
-    0x9638_7719_5940_eabd,
-    0x9628_3ee2_a88e_ffe3,
-    0xbe5e_1e25_5386_3992,
-    0x2b01_99fc_2c85_b8aa,
-    0x0eb7_2ddc_81c5_2ca2,
 ];
 
 pub(crate) const H512_384: [u64; 8] = [

@@ -8,6 +8,7 @@ use core::fmt::Write as _;
 
 use crate::formats::uefi_base::text_error::FromSliceWithNulError;
 use crate::formats::uefi_base::ucs2::{fault_of, is_character};
+#[cfg(feature = "alloc")]
 use crate::support::alloc::AllocError;
 use core::fmt;
 
@@ -60,6 +61,7 @@ impl<'a> CStr16<'a> {
     }
 
     /// Returns the text that consists of all of `units`, which are known to be text.
+    #[cfg(feature = "alloc")]
     #[inline]
     pub(crate) fn from_u16_with_nul_unchecked(units: &'a [u16]) -> CStr16<'a> {
         CStr16 { units }

@@ -5,10 +5,15 @@ use alloc::vec::Vec;
 #[cfg(feature = "alloc")]
 use crate::support::fallible::*;
 
+#[cfg(feature = "alloc")]
 use crate::formats::uefi_base::cstr16::CStr16;
+#[cfg(feature = "alloc")]
 use crate::formats::uefi_base::text_error::FromStrError;
+#[cfg(feature = "alloc")]
 use crate::formats::uefi_base::ucs2::{MAX_UNIT_CHARACTER, MAX_UNITS};
+#[cfg(feature = "alloc")]
 use crate::support::alloc::AllocError;
+#[cfg(feature = "alloc")]
 use core::fmt;
 
 /// UCS-2 text that owns its units: the owned form of [`CStr16`]. Two texts are equal if their units
@@ -109,6 +114,7 @@ impl fmt::Display for CString16 {
 }
 
 /// Returns the error for characters that can't be made into text.
+#[cfg(feature = "alloc")]
 #[inline]
 fn fault_of(text: &str) -> Option<FromStrError> {
     if char_count(text) >= MAX_UNITS {
@@ -122,18 +128,21 @@ fn fault_of(text: &str) -> Option<FromStrError> {
 }
 
 /// Returns the number of characters.
+#[cfg(feature = "alloc")]
 #[inline]
 fn char_count(text: &str) -> usize {
     text.chars().count()
 }
 
 /// Returns the first character that has no unit of its own.
+#[cfg(feature = "alloc")]
 #[inline]
 fn first_without_unit(text: &str) -> Option<char> {
     text.chars().find(|c| !has_unit(*c))
 }
 
 /// Returns whether the character has a unit of its own that isn't the NUL.
+#[cfg(feature = "alloc")]
 #[inline]
 fn has_unit(c: char) -> bool {
     c != '\0' && c <= MAX_UNIT_CHARACTER

@@ -6,6 +6,7 @@ use crate::formats::uefi_base::text_error::FromSliceWithNulError;
 pub(crate) const MAX_UNITS: usize = 1 << 31;
 
 /// The last character that fits one unit.
+#[cfg(feature = "alloc")]
 pub(crate) const MAX_UNIT_CHARACTER: char = '\u{ffff}';
 
 // The first and the last unit that are half of a surrogate pair of UTF-16.

@@ -9,7 +9,9 @@ use crate::formats::uefi_base::chars_lossy::{CharsLossy, write_characters};
 #[cfg(feature = "alloc")]
 use crate::formats::uefi_base::cstring16::CString16;
 use crate::formats::uefi_base::little_endian::u16_at;
-use crate::formats::uefi_base::text_error::{FromSliceWithNulError, UnalignedCStr16Error};
+#[cfg(feature = "alloc")]
+use crate::formats::uefi_base::text_error::UnalignedCStr16Error;
+#[cfg(feature = "alloc")]
 use crate::formats::uefi_base::ucs2::{fault_of, is_character};
 use core::fmt;
 use core::iter::{ExactSizeIterator, FusedIterator};
@@ -148,6 +150,7 @@ impl<'a> UnalignedSlice<'a> {
     }
 
     /// Returns the first unit that isn't a character, with its index.
+    #[cfg(feature = "alloc")]
     #[inline]
     fn first_non_character(&self) -> Option<(usize, u16)> {
         self.iter()

@@ -5,10 +5,13 @@ use alloc::string::String;
 #[cfg(feature = "alloc")]
 use alloc::vec::Vec;
 
+#[cfg(feature = "alloc")]
 use crate::formats::uefi_hii::error::{ConfigHdrSection, ParseError};
+#[cfg(feature = "alloc")]
 use crate::formats::uefi_hii::peeked::PeekedPairs;
 #[cfg(feature = "alloc")]
 use crate::formats::uefi_hii::reading::read_group;
+#[cfg(feature = "alloc")]
 use crate::formats::uefi_base::Guid;
 #[cfg(feature = "alloc")]
 use crate::formats::uefi_path::BoxedDevicePath;

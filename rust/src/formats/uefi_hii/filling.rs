@@ -7,19 +7,25 @@ use alloc::vec::Vec;
 #[cfg(feature = "alloc")]
 use crate::support::fallible::*;
 
+#[cfg(feature = "alloc")]
 use crate::formats::uefi_hii::hex::{HexBytes, byte_of_one, byte_of_two};
+#[cfg(feature = "alloc")]
 use crate::support::alloc::AllocError;
+#[cfg(feature = "alloc")]
 use crate::support::simd::prelude::*;
 
 /// How many characters spell one byte.
+#[cfg(feature = "alloc")]
 const DIGITS_PER_BYTE: usize = 2;
 
 /// How many bytes are made at a time.
+#[cfg(feature = "alloc")]
 const LANES: usize = 16;
 
 /// Writes the bytes that a text spells in hex, those of
 /// [`ConfigurationString::parse_bytes_from_hex`](crate::formats::uefi_hii::ConfigurationString::parse_bytes_from_hex),
 /// to a buffer of as many bytes.
+#[cfg(feature = "alloc")]
 #[inline]
 pub(crate) fn fill_from_hex(text: &str, out: &mut [u8]) {
     let text = text.as_bytes();
@@ -41,6 +47,7 @@ pub(crate) fn hex_bytes(text: &str) -> Result<Vec<u8>, AllocError> {
 }
 
 /// Fills sixteen bytes from `start` on: in lanes if all their characters are digits.
+#[cfg(feature = "alloc")]
 #[inline]
 fn fill_block(text: &[u8], out: &mut [u8], start: usize) {
     let first = u8x16::from_slice(&text[DIGITS_PER_BYTE * start..]);
@@ -55,6 +62,7 @@ fn fill_block(text: &[u8], out: &mut [u8], start: usize) {
 }
 
 /// Returns whether each lane is a hex digit.
+#[cfg(feature = "alloc")]
 #[inline(always)]
 fn are_digits(lanes: u8x16) -> bool {
     let number = lanes - u8x16::splat(b'0');
@@ -64,6 +72,7 @@ fn are_digits(lanes: u8x16) -> bool {
 }
 
 /// Returns the values of hex digits, lane by lane.
+#[cfg(feature = "alloc")]
 #[inline(always)]
 fn digit_values(digits: u8x16) -> u8x16 {
     let number = digits - u8x16::splat(b'0');
@@ -72,6 +81,7 @@ fn digit_values(digits: u8x16) -> u8x16 {
 }
 
 /// Fills the bytes from `start` up to `end`, one at a time.
+#[cfg(feature = "alloc")]
 #[inline]
 fn fill_each(text: &[u8], out: &mut [u8], start: usize, end: usize) {
     for index in start..end {
@@ -80,6 +90,7 @@ fn fill_each(text: &[u8], out: &mut [u8], start: usize, end: usize) {
 }
 
 /// Returns the byte at an index.
+#[cfg(feature = "alloc")]
 #[inline(always)]
 fn byte_at(text: &[u8], index: usize) -> u8 {
     let offset = DIGITS_PER_BYTE * index;

@@ -20,6 +20,7 @@ pub struct HexBytes<'a> {
 
 impl<'a> HexBytes<'a> {
     /// Returns the bytes that the text spells.
+    #[cfg(feature = "alloc")]
     #[inline]
     pub(crate) fn new(text: &'a str) -> HexBytes<'a> {
         let rest = text.as_bytes();

@@ -15,12 +15,11 @@
 pub use self::configuration::{ConfigurationString, ConfigurationStringElement, NvPair};
 pub use self::error::{ConfigHdrSection, ParseError};
 // For the functions for C, or for tests: they compile these files too.
-#[allow(unused_imports)]
-pub(crate) use self::filling::fill_from_hex;
+#[cfg(feature = "alloc")]
+#[allow(unused_imports)] pub(crate) use self::filling::fill_from_hex;
 pub use self::hex::HexBytes;
 #[cfg(feature = "alloc")]
-pub use self::multi::parse_all;
-pub use self::multi::MultiConfigurationStringIter;
+pub use self::multi::{MultiConfigurationStringIter, parse_all};
 pub use self::pairs::ConfigurationStringIter;
 // For the functions for C, or for tests: they compile these files too.
 #[allow(unused_imports)]

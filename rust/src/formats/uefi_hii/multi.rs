@@ -7,10 +7,13 @@ use crate::support::fallible::*;
 
 #[cfg(feature = "alloc")]
 use crate::formats::uefi_hii::configuration::ConfigurationString;
+#[cfg(feature = "alloc")]
 use crate::formats::uefi_hii::error::ParseError;
+#[cfg(feature = "alloc")]
 use crate::formats::uefi_hii::peeked::PeekedPairs;
 #[cfg(feature = "alloc")]
 use crate::formats::uefi_hii::reading::read_group;
+#[cfg(feature = "alloc")]
 use crate::support::alloc::AllocError;
 
 /// The configurations of a text, and its errors, in order: an item for each group of pairs.
@@ -52,11 +55,13 @@ use crate::support::alloc::AllocError;
 /// ```
 ///
 /// Its contract: `crates/uefi_hii/src/multi.rt`.
+#[cfg(feature = "alloc")]
 #[derive(Debug)]
 pub struct MultiConfigurationStringIter<'a> {
     pairs: PeekedPairs<'a>,
 }
 
+#[cfg(feature = "alloc")]
 impl<'a> MultiConfigurationStringIter<'a> {
     /// Returns the configurations of the text. This takes no memory.
     #[must_use]

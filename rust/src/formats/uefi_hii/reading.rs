@@ -9,16 +9,21 @@ use crate::support::fallible::*;
 
 #[cfg(feature = "alloc")]
 use crate::formats::uefi_hii::configuration::{ConfigurationString, ConfigurationStringElement};
+#[cfg(feature = "alloc")]
 use crate::formats::uefi_hii::error::{ConfigHdrSection, ParseError};
 #[cfg(feature = "alloc")]
 use crate::formats::uefi_hii::filling::hex_bytes;
+#[cfg(feature = "alloc")]
 use crate::formats::uefi_hii::keys;
+#[cfg(feature = "alloc")]
 use crate::formats::uefi_hii::peeked::PeekedPairs;
 #[cfg(feature = "alloc")]
 use crate::formats::uefi_hii::taking::{
     take_alt_cfg_id, take_guid, take_name, take_number, take_nvconfig, take_path,
 };
+#[cfg(feature = "alloc")]
 use crate::formats::uefi_hii::taking::take_value;
+#[cfg(feature = "alloc")]
 use crate::support::alloc::AllocError;
 
 /// Returns the configuration or the error of the group that the pairs begin with. What is left are

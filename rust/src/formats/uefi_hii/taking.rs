@@ -11,17 +11,23 @@ use crate::support::fallible::*;
 
 #[cfg(feature = "alloc")]
 use crate::formats::uefi_hii::configuration::{ConfigurationString, NvPair};
+#[cfg(feature = "alloc")]
 use crate::formats::uefi_hii::error::{ConfigHdrSection, ParseError};
 #[cfg(feature = "alloc")]
 use crate::formats::uefi_hii::filling::hex_bytes;
+#[cfg(feature = "alloc")]
 use crate::formats::uefi_hii::keys;
+#[cfg(feature = "alloc")]
 use crate::formats::uefi_hii::peeked::PeekedPairs;
+#[cfg(feature = "alloc")]
 use crate::support::alloc::AllocError;
+#[cfg(feature = "alloc")]
 use crate::formats::uefi_base::Guid;
 #[cfg(feature = "alloc")]
 use crate::formats::uefi_path::BoxedDevicePath;
 
 /// Returns the next pair's value, if it has the key and a value.
+#[cfg(feature = "alloc")]
 #[inline]
 pub(crate) fn take_value<'a>(pairs: &mut PeekedPairs<'a>, key: &str) -> Option<&'a str> {
     let (found, value) = pairs.next()?;

@@ -9,12 +9,17 @@ use crate::support::fallible::*;
 use crate::formats::uefi_hii::configuration::ConfigurationString;
 #[cfg(feature = "alloc")]
 use crate::formats::uefi_hii::filling::hex_bytes;
+#[cfg(feature = "alloc")]
 use crate::formats::uefi_hii::filling::fill_from_hex;
+#[cfg(feature = "alloc")]
 use crate::formats::uefi_hii::hex::HexBytes;
+#[cfg(feature = "alloc")]
 use crate::support::alloc::AllocError;
+#[cfg(feature = "alloc")]
 use crate::formats::uefi_base::Guid;
 
 /// The bytes of a GUID.
+#[cfg(feature = "alloc")]
 const GUID_LENGTH: usize = 16;
 
 #[cfg(feature = "alloc")]
@@ -93,6 +98,7 @@ impl ConfigurationString {
 
 /// Returns the character that a unit of a name is, of which the two bytes are given. `None` for
 /// zero and for surrogates.
+#[cfg(feature = "alloc")]
 #[inline]
 fn character_of(high: u8, low: u8) -> Option<char> {
     let unit = high as u32 * 256 + low as u32;

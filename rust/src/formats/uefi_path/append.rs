@@ -7,12 +7,16 @@ use crate::support::fallible::*;
 
 #[cfg(feature = "alloc")]
 use crate::formats::uefi_path::boxed::BoxedDevicePath;
+#[cfg(feature = "alloc")]
 use crate::formats::uefi_path::build::BuildError;
 use crate::formats::uefi_path::device_type::{DeviceSubType, DeviceType};
 use crate::formats::uefi_path::header::{DevicePathHeader, HEADER_LENGTH};
+#[cfg(feature = "alloc")]
 use crate::formats::uefi_path::instance::DevicePathInstance;
+#[cfg(feature = "alloc")]
 use crate::formats::uefi_path::node::DevicePathNode;
 use crate::formats::uefi_path::path::DevicePath;
+#[cfg(feature = "alloc")]
 use crate::support::alloc::AllocError;
 
 impl<'a> DevicePath<'a> {
@@ -86,6 +90,7 @@ pub(crate) fn end_entire_bytes() -> [u8; HEADER_LENGTH] {
 }
 
 /// Returns the bytes of the node without data that ends an instance before another one.
+#[cfg(feature = "alloc")]
 #[inline]
 fn end_instance_bytes() -> [u8; HEADER_LENGTH] {
     DevicePathHeader::new(DeviceType::END, DeviceSubType::END_INSTANCE, 4).to_bytes()

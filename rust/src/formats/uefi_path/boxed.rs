@@ -3,9 +3,13 @@
 #[cfg(feature = "alloc")]
 use alloc::vec::Vec;
 
+#[cfg(feature = "alloc")]
 use crate::formats::uefi_path::error::ByteConversionError;
+#[cfg(feature = "alloc")]
 use crate::formats::uefi_path::instance::DevicePathInstance;
+#[cfg(feature = "alloc")]
 use crate::formats::uefi_path::path::DevicePath;
+#[cfg(feature = "alloc")]
 use crate::formats::uefi_path::walk::{StopCondition, split_nodes};
 
 /// A device path that owns its bytes: the owned form of [`DevicePath`], made by

@@ -3,6 +3,7 @@
 #[cfg(feature = "alloc")]
 use alloc::vec::Vec;
 
+#[cfg(feature = "alloc")]
 use crate::formats::uefi_path::load_option::LoadOption;
 
 /// A load option that owns its bytes, as [`LoadOption::new_in_box`] makes it.

@@ -9,7 +9,10 @@ use crate::support::fallible::*;
 use crate::formats::uefi_path::boxed::BoxedDevicePathInstance;
 use crate::formats::uefi_path::node::DevicePathNode;
 use crate::formats::uefi_path::node_iter::DevicePathNodeIterator;
-use crate::formats::uefi_path::walk::{StopCondition, end_node, nodes_before_end};
+#[cfg(feature = "alloc")]
+use crate::formats::uefi_path::walk::nodes_before_end;
+use crate::formats::uefi_path::walk::{StopCondition, end_node};
+#[cfg(feature = "alloc")]
 use crate::support::alloc::AllocError;
 
 /// One instance of a device path (UEFI 2.10, 10.2): nodes of which only the last has the type END.
@@ -38,6 +41,7 @@ impl<'a> DevicePathInstance<'a> {
     }
 
     /// Returns the bytes of the nodes before the one with the type END.
+    #[cfg(feature = "alloc")]
     #[inline]
     pub(crate) fn nodes(&self) -> &'a [u8] {
         nodes_before_end(self.bytes, StopCondition::AnyEndNode)

@@ -11,10 +11,14 @@ use crate::formats::uefi_path::load_option_attributes::LoadOptionAttributes;
 use crate::formats::uefi_path::load_option_description::LoadOptionDescription;
 use crate::formats::uefi_path::load_option_error::LoadOptionError;
 use crate::formats::uefi_path::load_option_parts::LoadOptionParts;
-use crate::formats::uefi_path::load_option_writer::{put_load_option, write_load_option};
+#[cfg(feature = "alloc")]
+use crate::formats::uefi_path::load_option_writer::put_load_option;
+use crate::formats::uefi_path::load_option_writer::write_load_option;
 use crate::formats::uefi_path::path::DevicePath;
 use crate::formats::uefi_base::little_endian::{split_u16, u16_at, u32_at};
-use crate::formats::uefi_base::{Error, Status, UnalignedSlice};
+#[cfg(feature = "alloc")]
+use crate::formats::uefi_base::Status;
+use crate::formats::uefi_base::{Error, UnalignedSlice};
 
 // The offsets of the length of the file path list and of the description.
 pub(crate) const LIST_LENGTH_OFFSET: usize = 4;

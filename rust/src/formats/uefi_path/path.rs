@@ -12,6 +12,7 @@ use crate::formats::uefi_path::instance_iter::DevicePathInstanceIterator;
 use crate::formats::uefi_path::node::DevicePathNode;
 use crate::formats::uefi_path::node_iter::DevicePathNodeIterator;
 use crate::formats::uefi_path::walk::{StopCondition, end_node, nodes_before_end, split_nodes};
+#[cfg(feature = "alloc")]
 use crate::support::alloc::AllocError;
 use core::fmt;
 

@@ -94,6 +94,7 @@ pub struct Time {
     last_pad: u8,
 }
 
+#[cfg(feature = "alloc")]
 const _: () = assert!(size_of::<Time>() == TIME_LENGTH);
 
 impl Time {

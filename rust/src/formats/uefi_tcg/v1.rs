@@ -10,8 +10,8 @@ pub use self::event::PcrEvent;
 pub use self::log::EventLog;
 pub use self::log_iter::EventLogIter;
 // For the functions for C, or for tests: they compile these files too.
-#[allow(unused_imports)]
-pub(crate) use self::one_event::event_starting_at;
+#[cfg(feature = "alloc")]
+#[allow(unused_imports)] pub(crate) use self::one_event::event_starting_at;
 pub use self::write::write_event;
 
 mod boxed;

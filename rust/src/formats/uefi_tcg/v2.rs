@@ -15,8 +15,8 @@ pub use self::inputs::PcrEventInputs;
 pub use self::log::{EventLog, Start};
 pub use self::log_iter::EventLogIter;
 // For the functions for C, or for tests: they compile these files too.
-#[allow(unused_imports)]
-pub(crate) use self::one_event::event_starting_at;
+#[cfg(feature = "alloc")]
+#[allow(unused_imports)] pub(crate) use self::one_event::event_starting_at;
 pub use self::write::write_event_inputs;
 
 mod boxed;

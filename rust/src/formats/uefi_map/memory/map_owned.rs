@@ -3,9 +3,13 @@
 #[cfg(feature = "alloc")]
 use alloc::vec::Vec;
 
+#[cfg(feature = "alloc")]
 use super::map_error::MemoryMapError;
+#[cfg(feature = "alloc")]
 use super::memory_map::{MemoryMap, MemoryMapMut};
+#[cfg(feature = "alloc")]
 use super::meta::MemoryMapMeta;
+#[cfg(feature = "alloc")]
 use super::sizes::Sizes;
 
 /// A memory map that owns its buffer, which is as long as the map.

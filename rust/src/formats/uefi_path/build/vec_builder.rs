@@ -5,10 +5,13 @@ use alloc::vec::Vec;
 #[cfg(feature = "alloc")]
 use crate::support::fallible::*;
 
+#[cfg(feature = "alloc")]
 use crate::formats::uefi_path::append::end_entire_bytes;
 #[cfg(feature = "alloc")]
 use crate::formats::uefi_path::boxed::BoxedDevicePath;
+#[cfg(feature = "alloc")]
 use crate::formats::uefi_path::build::error::BuildError;
+#[cfg(feature = "alloc")]
 use crate::formats::uefi_path::build::node::{BuildNode, is_end_entire};
 
 /// A path that is built in a vector, node by node (UEFI 2.10, 10.2). It grows as nodes are pushed.
@@ -91,6 +94,7 @@ fn append_node<N: BuildNode>(
 }
 
 /// Returns the length of the node in bytes.
+#[cfg(feature = "alloc")]
 #[inline]
 fn size_of<N: BuildNode>(node: &N) -> Result<usize, BuildError> {
     match node.write(&mut []) {

@@ -3,6 +3,7 @@
 #[cfg(feature = "alloc")]
 use alloc::vec::Vec;
 
+#[cfg(feature = "alloc")]
 use crate::formats::uefi_tcg::v1::event::PcrEvent;
 
 /// An event of version 1 that owns its bytes, as [`PcrEvent::new_in_box`] makes it.

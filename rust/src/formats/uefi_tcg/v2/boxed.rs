@@ -3,6 +3,7 @@
 #[cfg(feature = "alloc")]
 use alloc::vec::Vec;
 
+#[cfg(feature = "alloc")]
 use crate::formats::uefi_tcg::v2::inputs::PcrEventInputs;
 
 /// Inputs for an event that own their bytes, as [`PcrEventInputs::new_in_box`] makes them.

@@ -2,8 +2,6 @@
 
 //! Bytes and numbers in hex, beside what was written by hand.
 
-use crate::support::fallible::*;
-
 use crate::support::test::Fail;
 use crate::test_support::{same_bytes, same_text};
 use crate::uefi_listing::hex_text::{Hex, HexByte, HexNumber, gap_before};
