@@ -28,6 +28,7 @@ mod audit_tests;
 #[allow(dead_code, unused_imports)]
 mod base_tests;
 mod conversions;
+mod debug;
 mod equality;
 mod formats;
 #[path = "../../examples/uefi_list/hex.rs"]

@@ -2,7 +2,7 @@
 import re
 
 from rules import ALLOCATOR, ATTRIBUTES, CORE, EMPTY, MACROS, NO_RULE, RUST, STD, SUPPORT, TESTS
-from tokens import OPEN, rewrite
+from tokens import OPEN, lex, rewrite
 
 
 def to_rust(source, modules, root, tests):
@@ -99,7 +99,8 @@ def attributes(source, tests):
             source.insert(start, '#[derive(Debug)]')
         elif 'Debug' not in given:
             derive = next(j for j in range(start, i) if source.at(j) == 'derive')
-            source.tokens[source.close(derive + 1) - 1].text += ', Debug'
+            close = source.close(derive + 1)
+            source.tokens[close:close] = lex(', Debug')[:-1]
 
 
 def must_use(source):

@@ -8,10 +8,19 @@ pub(crate) const ROOM: usize = 64;
 /// Two are equal if all their bytes are.
 ///
 /// Its contract: `crates/pcr_replay/src/value.rt`.
-#[derive(Clone, Copy, Debug)]
+#[derive(Clone, Copy)]
 pub struct PcrValue {
     bytes: [u8; ROOM],
     length: usize,
+}
+
+impl core::fmt::Debug for PcrValue {
+    fn fmt(&self, f: &mut core::fmt::Formatter<'_>) -> core::fmt::Result {
+        f.debug_struct("PcrValue")
+            .field("bytes", &crate::support::debug::Bytes(&self.bytes))
+            .field("length", &self.length)
+            .finish()
+    }
 }
 
 impl PcrValue {

@@ -22,10 +22,19 @@ const BYTE_OF_PCR_24: usize = 3;
 /// A view: the bitmap lives as long as the bytes that it was read from.
 ///
 /// Its contract: `crates/tpm_quote/src/pcr_selection.rt`.
-#[derive(Clone, Copy, Debug)]
+#[derive(Clone, Copy)]
 pub struct PcrSelection<'a> {
     algorithm: AlgorithmId,
     bitmap: &'a [u8],
+}
+
+impl core::fmt::Debug for PcrSelection<'_> {
+    fn fmt(&self, f: &mut core::fmt::Formatter<'_>) -> core::fmt::Result {
+        f.debug_struct("PcrSelection")
+            .field("algorithm", &self.algorithm)
+            .field("bitmap", &crate::support::debug::Bytes(self.bitmap))
+            .finish()
+    }
 }
 
 impl<'a> PcrSelection<'a> {

@@ -12,10 +12,19 @@ use core::iter::{ExactSizeIterator, FusedIterator};
 /// exact.
 ///
 /// Its contract: `crates/tpm_quote/src/pcr_selection_iter.rt`.
-#[derive(Clone, Copy, Debug)]
+#[derive(Clone, Copy)]
 pub struct PcrSelectionIter<'a> {
     rest: &'a [u8],
     count: u32,
+}
+
+impl core::fmt::Debug for PcrSelectionIter<'_> {
+    fn fmt(&self, f: &mut core::fmt::Formatter<'_>) -> core::fmt::Result {
+        f.debug_struct("PcrSelectionIter")
+            .field("rest", &crate::support::debug::Bytes(self.rest))
+            .field("count", &self.count)
+            .finish()
+    }
 }
 
 impl<'a> PcrSelectionIter<'a> {

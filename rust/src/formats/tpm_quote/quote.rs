@@ -29,7 +29,7 @@ const ATTEST_QUOTE: u16 = 0x8018;
 /// A view: it borrows the bytes that it was read from, and what it returns lives as long as they do.
 ///
 /// Its contract: `crates/tpm_quote/src/quote.rt`.
-#[derive(Clone, Copy, Debug)]
+#[derive(Clone, Copy)]
 pub struct Quote<'a> {
     qualified_signer: &'a [u8],
     extra_data: &'a [u8],
@@ -37,6 +37,19 @@ pub struct Quote<'a> {
     firmware_version: u64,
     pcr_selections: PcrSelectionIter<'a>,
     pcr_digest: &'a [u8],
+}
+
+impl core::fmt::Debug for Quote<'_> {
+    fn fmt(&self, f: &mut core::fmt::Formatter<'_>) -> core::fmt::Result {
+        f.debug_struct("Quote")
+            .field("qualified_signer", &crate::support::debug::Bytes(self.qualified_signer))
+            .field("extra_data", &crate::support::debug::Bytes(self.extra_data))
+            .field("clock_info", &self.clock_info)
+            .field("firmware_version", &self.firmware_version)
+            .field("pcr_selections", &self.pcr_selections)
+            .field("pcr_digest", &crate::support::debug::Bytes(self.pcr_digest))
+            .finish()
+    }
 }
 
 impl<'a> Quote<'a> {

@@ -34,7 +34,7 @@ use core::fmt;
 /// ```
 ///
 /// Its contract: `crates/uefi_base/src/cstr16.rt`.
-#[derive(Clone, Copy, Debug)]
+#[derive(Clone, Copy)]
 pub struct CStr16<'a> {
     units: &'a [u16],
 }

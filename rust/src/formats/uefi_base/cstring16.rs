@@ -21,7 +21,6 @@ use core::fmt;
 ///
 /// Its contract: `crates/uefi_base/src/cstring16.rt`.
 #[cfg(feature = "alloc")]
-#[derive(Debug)]
 pub struct CString16 {
     units: Vec<u16>,
 }

@@ -23,7 +23,7 @@ const TEXT_LENGTH: usize = 36;
 /// `FromStr` reads a GUID from its text, and `Display` writes it.
 ///
 /// Its contract: `crates/uefi_base/src/guid.rt`.
-#[derive(Clone, Copy, PartialEq, Eq, PartialOrd, Ord, Hash, Debug)]
+#[derive(Clone, Copy, PartialEq, Eq, PartialOrd, Ord, Hash)]
 #[repr(transparent)]
 pub struct Guid(pub [u8; 16]);
 

@@ -37,7 +37,7 @@ use core::iter::{ExactSizeIterator, FusedIterator};
 /// ```
 ///
 /// Its contract: `crates/uefi_base/src/unaligned.rt`.
-#[derive(Clone, Copy, Debug)]
+#[derive(Clone, Copy)]
 pub struct UnalignedSlice<'a> {
     bytes: &'a [u8],
 }
@@ -182,9 +182,17 @@ impl fmt::Display for UnalignedSlice<'_> {
 /// [`size_hint`](Iterator::size_hint) are exact.
 ///
 /// Its contract: `crates/uefi_base/src/unaligned.rt`.
-#[derive(Clone, Copy, Debug)]
+#[derive(Clone, Copy)]
 pub struct UnalignedSliceIter<'a> {
     rest: &'a [u8],
+}
+
+impl core::fmt::Debug for UnalignedSliceIter<'_> {
+    fn fmt(&self, f: &mut core::fmt::Formatter<'_>) -> core::fmt::Result {
+        f.debug_struct("UnalignedSliceIter")
+            .field("rest", &crate::support::debug::Bytes(self.rest))
+            .finish()
+    }
 }
 
 impl<'a> UnalignedSliceIter<'a> {

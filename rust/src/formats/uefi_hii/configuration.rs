@@ -23,7 +23,6 @@ use crate::formats::uefi_path::BoxedDevicePath;
 ///
 /// Its contract: `crates/uefi_hii/src/configuration.rt`.
 #[cfg(feature = "alloc")]
-#[derive(Debug)]
 #[non_exhaustive]
 pub struct ConfigurationStringElement {
     /// Where the bytes begin in the block.
@@ -36,6 +35,18 @@ pub struct ConfigurationStringElement {
     /// The pairs that follow `VALUE`, up to the next whose key is `OFFSET` or `GUID`, in order. A
     /// key that comes again is kept again.
     pub nvconfig: Vec<NvPair>,
+}
+
+#[cfg(feature = "alloc")]
+impl core::fmt::Debug for ConfigurationStringElement {
+    fn fmt(&self, f: &mut core::fmt::Formatter<'_>) -> core::fmt::Result {
+        f.debug_struct("ConfigurationStringElement")
+            .field("offset", &self.offset)
+            .field("width", &self.width)
+            .field("value", &crate::support::debug::Bytes(&self.value))
+            .field("nvconfig", &self.nvconfig)
+            .finish()
+    }
 }
 
 /// A pair that follows the value of an element (UEFI 2.10, 35.2.1 "String Syntax", `NvConfig`).

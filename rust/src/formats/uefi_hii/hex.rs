@@ -13,9 +13,17 @@ use core::iter::{ExactSizeIterator, FusedIterator};
 /// [`size_hint`](Iterator::size_hint) are exact.
 ///
 /// Its contract: `crates/uefi_hii/src/hex.rt`.
-#[derive(Clone, Copy, Debug)]
+#[derive(Clone, Copy)]
 pub struct HexBytes<'a> {
     rest: &'a [u8],
+}
+
+impl core::fmt::Debug for HexBytes<'_> {
+    fn fmt(&self, f: &mut core::fmt::Formatter<'_>) -> core::fmt::Result {
+        f.debug_struct("HexBytes")
+            .field("rest", &crate::support::debug::Bytes(self.rest))
+            .finish()
+    }
 }
 
 impl<'a> HexBytes<'a> {

@@ -17,7 +17,6 @@ use crate::formats::uefi_path::walk::{StopCondition, split_nodes};
 ///
 /// Its contract: `crates/uefi_path/src/boxed.rt`.
 #[cfg(feature = "alloc")]
-#[derive(Debug)]
 pub struct BoxedDevicePath {
     bytes: Vec<u8>,
 }
@@ -27,7 +26,6 @@ pub struct BoxedDevicePath {
 ///
 /// Its contract: `crates/uefi_path/src/boxed.rt`.
 #[cfg(feature = "alloc")]
-#[derive(Debug)]
 pub struct BoxedDevicePathInstance {
     bytes: Vec<u8>,
 }

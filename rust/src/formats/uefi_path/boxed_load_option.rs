@@ -10,9 +10,17 @@ use crate::formats::uefi_path::load_option::LoadOption;
 ///
 /// Its contract: `crates/uefi_path/src/boxed_load_option.rt`.
 #[cfg(feature = "alloc")]
-#[derive(Debug)]
 pub struct BoxedLoadOption {
     bytes: Vec<u8>,
+}
+
+#[cfg(feature = "alloc")]
+impl core::fmt::Debug for BoxedLoadOption {
+    fn fmt(&self, f: &mut core::fmt::Formatter<'_>) -> core::fmt::Result {
+        f.debug_struct("BoxedLoadOption")
+            .field("bytes", &crate::support::debug::Bytes(&self.bytes))
+            .finish()
+    }
 }
 
 #[cfg(feature = "alloc")]

@@ -21,7 +21,7 @@ use crate::support::alloc::AllocError;
 /// and what it returns lives as long as they do.
 ///
 /// Its contract: `crates/uefi_path/src/instance.rt`.
-#[derive(Clone, Copy, Debug)]
+#[derive(Clone, Copy)]
 pub struct DevicePathInstance<'a> {
     bytes: &'a [u8],
 }

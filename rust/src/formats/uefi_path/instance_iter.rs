@@ -10,9 +10,17 @@ use core::iter::FusedIterator;
 /// instance the iterator returns `None` forever.
 ///
 /// Its contract: `crates/uefi_path/src/instance_iter.rt`.
-#[derive(Clone, Copy, Debug)]
+#[derive(Clone, Copy)]
 pub struct DevicePathInstanceIterator<'a> {
     rest: &'a [u8],
+}
+
+impl core::fmt::Debug for DevicePathInstanceIterator<'_> {
+    fn fmt(&self, f: &mut core::fmt::Formatter<'_>) -> core::fmt::Result {
+        f.debug_struct("DevicePathInstanceIterator")
+            .field("rest", &crate::support::debug::Bytes(self.rest))
+            .finish()
+    }
 }
 
 impl<'a> DevicePathInstanceIterator<'a> {

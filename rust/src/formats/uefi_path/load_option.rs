@@ -43,13 +43,25 @@ pub(crate) const DESCRIPTION_OFFSET: usize = 6;
 /// [`write_load_option`] writes an option from its [`parts`](LoadOption::parts).
 ///
 /// Its contract: `crates/uefi_path/src/load_option.rt`.
-#[derive(Clone, Copy, Debug)]
+#[derive(Clone, Copy)]
 pub struct LoadOption<'a> {
     attributes: LoadOptionAttributes,
     description: UnalignedSlice<'a>,
     file_path: DevicePath<'a>,
     file_path_list: &'a [u8],
     optional_data: &'a [u8],
+}
+
+impl core::fmt::Debug for LoadOption<'_> {
+    fn fmt(&self, f: &mut core::fmt::Formatter<'_>) -> core::fmt::Result {
+        f.debug_struct("LoadOption")
+            .field("attributes", &self.attributes)
+            .field("description", &self.description)
+            .field("file_path", &self.file_path)
+            .field("file_path_list", &crate::support::debug::Bytes(self.file_path_list))
+            .field("optional_data", &crate::support::debug::Bytes(self.optional_data))
+            .finish()
+    }
 }
 
 impl<'a> LoadOption<'a> {

@@ -10,7 +10,7 @@ use crate::support::bitflags::bitflag_items;
 /// `u32`.
 ///
 /// Its contract: `crates/uefi_path/src/load_option_attributes.rt`.
-#[derive(Clone, Copy, PartialEq, Eq, PartialOrd, Ord, Hash, Default, Debug)]
+#[derive(Clone, Copy, PartialEq, Eq, PartialOrd, Ord, Hash, Default)]
 #[repr(transparent)]
 pub struct LoadOptionAttributes(u32);
 

@@ -18,7 +18,7 @@ use crate::formats::uefi_path::path::DevicePath;
 /// [`LoadOption::parts`](crate::formats::uefi_path::LoadOption::parts) returns those of an option that was read.
 ///
 /// Its contract: `crates/uefi_path/src/load_option_parts.rt`.
-#[derive(Clone, Copy, Debug)]
+#[derive(Clone, Copy)]
 pub struct LoadOptionParts<'a> {
     /// The attributes.
     pub attributes: LoadOptionAttributes,
@@ -28,6 +28,17 @@ pub struct LoadOptionParts<'a> {
     pub file_path_list: &'a [u8],
     /// The data that the image is given.
     pub optional_data: &'a [u8],
+}
+
+impl core::fmt::Debug for LoadOptionParts<'_> {
+    fn fmt(&self, f: &mut core::fmt::Formatter<'_>) -> core::fmt::Result {
+        f.debug_struct("LoadOptionParts")
+            .field("attributes", &self.attributes)
+            .field("description", &self.description)
+            .field("file_path_list", &crate::support::debug::Bytes(self.file_path_list))
+            .field("optional_data", &crate::support::debug::Bytes(self.optional_data))
+            .finish()
+    }
 }
 
 impl<'a> LoadOptionParts<'a> {

@@ -20,7 +20,7 @@ use crate::formats::uefi_base::little_endian::u16_at;
 /// do.
 ///
 /// Its contract: `crates/uefi_path/src/node.rt`.
-#[derive(Clone, Copy, Debug)]
+#[derive(Clone, Copy)]
 pub struct DevicePathNode<'a> {
     bytes: &'a [u8],
 }

@@ -10,10 +10,19 @@ use core::iter::FusedIterator;
 /// the iterator returns `None` forever.
 ///
 /// Its contract: `crates/uefi_path/src/node_iter.rt`.
-#[derive(Clone, Copy, Debug)]
+#[derive(Clone, Copy)]
 pub struct DevicePathNodeIterator<'a> {
     rest: &'a [u8],
     stop: StopCondition,
+}
+
+impl core::fmt::Debug for DevicePathNodeIterator<'_> {
+    fn fmt(&self, f: &mut core::fmt::Formatter<'_>) -> core::fmt::Result {
+        f.debug_struct("DevicePathNodeIterator")
+            .field("rest", &crate::support::debug::Bytes(self.rest))
+            .field("stop", &self.stop)
+            .finish()
+    }
 }
 
 impl<'a> DevicePathNodeIterator<'a> {

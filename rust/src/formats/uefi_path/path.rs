@@ -41,7 +41,7 @@ use core::fmt;
 /// ```
 ///
 /// Its contract: `crates/uefi_path/src/path.rt`.
-#[derive(Clone, Copy, Debug)]
+#[derive(Clone, Copy)]
 pub struct DevicePath<'a> {
     bytes: &'a [u8],
 }

@@ -11,10 +11,19 @@ use core::iter::{ExactSizeIterator, FusedIterator};
 /// [`size_hint`](Iterator::size_hint) are exact. It borrows the map's buffer.
 ///
 /// Its contract: `crates/uefi_map/src/memory/iter.rt`.
-#[derive(Clone, Copy, Debug)]
+#[derive(Clone, Copy)]
 pub struct MemoryMapIter<'a> {
     rest: &'a [u8],
     stride: usize,
+}
+
+impl core::fmt::Debug for MemoryMapIter<'_> {
+    fn fmt(&self, f: &mut core::fmt::Formatter<'_>) -> core::fmt::Result {
+        f.debug_struct("MemoryMapIter")
+            .field("rest", &crate::support::debug::Bytes(self.rest))
+            .field("stride", &self.stride)
+            .finish()
+    }
 }
 
 impl<'a> MemoryMapIter<'a> {

@@ -16,7 +16,6 @@ use super::sizes::Sizes;
 ///
 /// Its contract: `crates/uefi_map/src/memory/map_owned.rt`.
 #[cfg(feature = "alloc")]
-#[derive(Debug)]
 pub struct MemoryMapOwned {
     buffer: Vec<u8>,
     sizes: Sizes,

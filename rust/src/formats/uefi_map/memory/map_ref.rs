@@ -28,7 +28,7 @@ use super::meta::MemoryMapMeta;
 /// ```
 ///
 /// Its contract: `crates/uefi_map/src/memory/map_ref.rt`.
-#[derive(Clone, Copy, Debug)]
+#[derive(Clone, Copy)]
 pub struct MemoryMapRef<'a> {
     buffer: &'a [u8],
     meta: MemoryMapMeta,

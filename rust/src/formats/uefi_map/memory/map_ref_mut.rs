@@ -10,7 +10,6 @@ use super::sizes::Sizes;
 /// It borrows the buffer, and allocates nothing.
 ///
 /// Its contract: `crates/uefi_map/src/memory/map_ref_mut.rt`.
-#[derive(Debug)]
 pub struct MemoryMapRefMut<'a> {
     buffer: &'a mut [u8],
     sizes: Sizes,

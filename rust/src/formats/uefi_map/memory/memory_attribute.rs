@@ -10,7 +10,7 @@ use crate::support::bitflags::bitflag_items;
 /// here. The layout is that of `u64`.
 ///
 /// Its contract: `crates/uefi_map/src/memory/memory_attribute.rt`.
-#[derive(Clone, Copy, PartialEq, Eq, PartialOrd, Ord, Hash, Default, Debug)]
+#[derive(Clone, Copy, PartialEq, Eq, PartialOrd, Ord, Hash, Default)]
 #[repr(transparent)]
 pub struct MemoryAttribute(u64);
 

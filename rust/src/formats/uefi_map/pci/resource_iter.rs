@@ -9,9 +9,17 @@ use core::iter::{ExactSizeIterator, FusedIterator};
 /// [`size_hint`](Iterator::size_hint) are exact. It borrows the bytes that the list was read from.
 ///
 /// Its contract: `crates/uefi_map/src/pci/resource_iter.rt`.
-#[derive(Clone, Copy, Debug)]
+#[derive(Clone, Copy)]
 pub struct ResourceIter<'a> {
     rest: &'a [u8],
+}
+
+impl core::fmt::Debug for ResourceIter<'_> {
+    fn fmt(&self, f: &mut core::fmt::Formatter<'_>) -> core::fmt::Result {
+        f.debug_struct("ResourceIter")
+            .field("rest", &crate::support::debug::Bytes(self.rest))
+            .finish()
+    }
 }
 
 impl<'a> ResourceIter<'a> {

@@ -31,9 +31,17 @@ use super::resource_iter::ResourceIter;
 /// ```
 ///
 /// Its contract: `crates/uefi_map/src/pci/resource_list.rt`.
-#[derive(Clone, Copy, Debug)]
+#[derive(Clone, Copy)]
 pub struct ResourceList<'a> {
     records: &'a [u8],
+}
+
+impl core::fmt::Debug for ResourceList<'_> {
+    fn fmt(&self, f: &mut core::fmt::Formatter<'_>) -> core::fmt::Result {
+        f.debug_struct("ResourceList")
+            .field("records", &crate::support::debug::Bytes(self.records))
+            .finish()
+    }
 }
 
 impl<'a> ResourceList<'a> {

@@ -7,9 +7,17 @@ use crate::formats::uefi_base::little_endian::u32_at;
 /// A view: it borrows the bytes.
 ///
 /// Its contract: `crates/uefi_node/src/acpi/adr_list.rt`.
-#[derive(Clone, Copy, PartialEq, Eq, Debug)]
+#[derive(Clone, Copy, PartialEq, Eq)]
 pub struct AdrList<'a> {
     bytes: &'a [u8],
+}
+
+impl core::fmt::Debug for AdrList<'_> {
+    fn fmt(&self, f: &mut core::fmt::Formatter<'_>) -> core::fmt::Result {
+        f.debug_struct("AdrList")
+            .field("bytes", &crate::support::debug::Bytes(self.bytes))
+            .finish()
+    }
 }
 
 impl<'a> AdrList<'a> {

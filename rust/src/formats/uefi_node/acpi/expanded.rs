@@ -27,7 +27,7 @@ use crate::formats::uefi_path::{DevicePathNode, DeviceSubType, DeviceType};
 /// Writing fails with [`BuildError::Form`] if a string has a NUL.
 ///
 /// Its contract: `crates/uefi_node/src/acpi/expanded.rt`.
-#[derive(Clone, Copy, PartialEq, Eq, Debug)]
+#[derive(Clone, Copy, PartialEq, Eq)]
 pub struct Expanded<'a> {
     /// The hardware identifier (`_HID`): an EISA identifier, compressed.
     pub hid: u32,
@@ -42,6 +42,19 @@ pub struct Expanded<'a> {
     /// The identifier of a compatible device as a string, without its NUL. If it is empty, `cid`
     /// counts.
     pub cid_str: &'a [u8],
+}
+
+impl core::fmt::Debug for Expanded<'_> {
+    fn fmt(&self, f: &mut core::fmt::Formatter<'_>) -> core::fmt::Result {
+        f.debug_struct("Expanded")
+            .field("hid", &self.hid)
+            .field("uid", &self.uid)
+            .field("cid", &self.cid)
+            .field("hid_str", &crate::support::debug::Bytes(self.hid_str))
+            .field("uid_str", &crate::support::debug::Bytes(self.uid_str))
+            .field("cid_str", &crate::support::debug::Bytes(self.cid_str))
+            .finish()
+    }
 }
 
 impl Expanded<'_> {

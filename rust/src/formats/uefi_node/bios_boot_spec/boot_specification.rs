@@ -22,7 +22,7 @@ use crate::formats::uefi_path::{DevicePathNode, DeviceSubType, DeviceType};
 /// Offsets are from the start of the node. Numbers are little-endian.
 ///
 /// Its contract: `crates/uefi_node/src/bios_boot_spec/boot_specification.rt`.
-#[derive(Clone, Copy, PartialEq, Eq, Debug)]
+#[derive(Clone, Copy, PartialEq, Eq)]
 pub struct BootSpecification<'a> {
     /// The type of the device.
     pub device_type: BootSpecificationDeviceType,
@@ -30,6 +30,16 @@ pub struct BootSpecification<'a> {
     pub status_flag: u16,
     /// The description of the device: ASCII with a NUL at its end.
     pub description_string: &'a [u8],
+}
+
+impl core::fmt::Debug for BootSpecification<'_> {
+    fn fmt(&self, f: &mut core::fmt::Formatter<'_>) -> core::fmt::Result {
+        f.debug_struct("BootSpecification")
+            .field("device_type", &self.device_type)
+            .field("status_flag", &self.status_flag)
+            .field("description_string", &crate::support::debug::Bytes(self.description_string))
+            .finish()
+    }
 }
 
 impl<'a> TryFrom<DevicePathNode<'a>> for BootSpecification<'a> {

@@ -21,12 +21,21 @@ use crate::formats::uefi_path::{DevicePathNode, DeviceSubType, DeviceType};
 /// Offsets are from the start of the node.
 ///
 /// Its contract: `crates/uefi_node/src/hardware/vendor.rt`.
-#[derive(Clone, Copy, PartialEq, Eq, Debug)]
+#[derive(Clone, Copy, PartialEq, Eq)]
 pub struct Vendor<'a> {
     /// The GUID that says what the data are.
     pub vendor_guid: Guid,
     /// The data of the vendor.
     pub vendor_defined_data: &'a [u8],
+}
+
+impl core::fmt::Debug for Vendor<'_> {
+    fn fmt(&self, f: &mut core::fmt::Formatter<'_>) -> core::fmt::Result {
+        f.debug_struct("Vendor")
+            .field("vendor_guid", &self.vendor_guid)
+            .field("vendor_defined_data", &crate::support::debug::Bytes(self.vendor_defined_data))
+            .finish()
+    }
 }
 
 impl<'a> TryFrom<DevicePathNode<'a>> for Vendor<'a> {

@@ -20,10 +20,18 @@ use crate::formats::uefi_path::{DevicePathNode, DeviceSubType, DeviceType};
 /// Offsets are from the start of the node.
 ///
 /// Its contract: `crates/uefi_node/src/media/piwg_firmware_file.rt`.
-#[derive(Clone, Copy, PartialEq, Eq, Debug)]
+#[derive(Clone, Copy, PartialEq, Eq)]
 pub struct PiwgFirmwareFile<'a> {
     /// What the PI specification says: 16 bytes, the GUID that names the file.
     pub data: &'a [u8],
+}
+
+impl core::fmt::Debug for PiwgFirmwareFile<'_> {
+    fn fmt(&self, f: &mut core::fmt::Formatter<'_>) -> core::fmt::Result {
+        f.debug_struct("PiwgFirmwareFile")
+            .field("data", &crate::support::debug::Bytes(self.data))
+            .finish()
+    }
 }
 
 impl<'a> TryFrom<DevicePathNode<'a>> for PiwgFirmwareFile<'a> {

@@ -19,10 +19,18 @@ use crate::formats::uefi_path::{DevicePathNode, DeviceSubType, DeviceType};
 /// Offsets are from the start of the node.
 ///
 /// Its contract: `crates/uefi_node/src/messaging/bluetooth.rt`.
-#[derive(Clone, Copy, PartialEq, Eq, Debug)]
+#[derive(Clone, Copy, PartialEq, Eq)]
 pub struct Bluetooth {
     /// The address of the device.
     pub device_address: [u8; 6],
+}
+
+impl core::fmt::Debug for Bluetooth {
+    fn fmt(&self, f: &mut core::fmt::Formatter<'_>) -> core::fmt::Result {
+        f.debug_struct("Bluetooth")
+            .field("device_address", &crate::support::debug::Bytes(&self.device_address))
+            .finish()
+    }
 }
 
 impl<'a> TryFrom<DevicePathNode<'a>> for Bluetooth {

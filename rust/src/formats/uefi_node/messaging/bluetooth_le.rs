@@ -20,12 +20,21 @@ use crate::formats::uefi_path::{DevicePathNode, DeviceSubType, DeviceType};
 /// Offsets are from the start of the node.
 ///
 /// Its contract: `crates/uefi_node/src/messaging/bluetooth_le.rt`.
-#[derive(Clone, Copy, PartialEq, Eq, Debug)]
+#[derive(Clone, Copy, PartialEq, Eq)]
 pub struct BluetoothLe {
     /// The address of the device.
     pub device_address: [u8; 6],
     /// The type of the address.
     pub address_type: BluetoothLeAddressType,
+}
+
+impl core::fmt::Debug for BluetoothLe {
+    fn fmt(&self, f: &mut core::fmt::Formatter<'_>) -> core::fmt::Result {
+        f.debug_struct("BluetoothLe")
+            .field("device_address", &crate::support::debug::Bytes(&self.device_address))
+            .field("address_type", &self.address_type)
+            .finish()
+    }
 }
 
 impl<'a> TryFrom<DevicePathNode<'a>> for BluetoothLe {

@@ -7,9 +7,17 @@ use crate::formats::uefi_node::read::bytes_at;
 /// A view: it borrows the bytes.
 ///
 /// Its contract: `crates/uefi_node/src/messaging/dns_addresses.rt`.
-#[derive(Clone, Copy, PartialEq, Eq, Debug)]
+#[derive(Clone, Copy, PartialEq, Eq)]
 pub struct DnsAddresses<'a> {
     bytes: &'a [u8],
+}
+
+impl core::fmt::Debug for DnsAddresses<'_> {
+    fn fmt(&self, f: &mut core::fmt::Formatter<'_>) -> core::fmt::Result {
+        f.debug_struct("DnsAddresses")
+            .field("bytes", &crate::support::debug::Bytes(self.bytes))
+            .finish()
+    }
 }
 
 impl<'a> DnsAddresses<'a> {

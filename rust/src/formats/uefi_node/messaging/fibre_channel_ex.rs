@@ -22,7 +22,7 @@ use crate::formats::uefi_path::{DevicePathNode, DeviceSubType, DeviceType};
 /// Offsets are from the start of the node. Numbers are little-endian.
 ///
 /// Its contract: `crates/uefi_node/src/messaging/fibre_channel_ex.rt`.
-#[derive(Clone, Copy, PartialEq, Eq, Debug)]
+#[derive(Clone, Copy, PartialEq, Eq)]
 pub struct FibreChannelEx {
     /// Reserved bytes, which are zero in the standard.
     pub reserved: u32,
@@ -30,6 +30,16 @@ pub struct FibreChannelEx {
     pub world_wide_name: [u8; 8],
     /// The logical unit.
     pub logical_unit_number: [u8; 8],
+}
+
+impl core::fmt::Debug for FibreChannelEx {
+    fn fmt(&self, f: &mut core::fmt::Formatter<'_>) -> core::fmt::Result {
+        f.debug_struct("FibreChannelEx")
+            .field("reserved", &self.reserved)
+            .field("world_wide_name", &crate::support::debug::Bytes(&self.world_wide_name))
+            .field("logical_unit_number", &crate::support::debug::Bytes(&self.logical_unit_number))
+            .finish()
+    }
 }
 
 impl<'a> TryFrom<DevicePathNode<'a>> for FibreChannelEx {

@@ -21,12 +21,21 @@ use crate::formats::uefi_path::{DevicePathNode, DeviceSubType, DeviceType};
 /// Offsets are from the start of the node. Numbers are little-endian.
 ///
 /// Its contract: `crates/uefi_node/src/messaging/ieee1394.rt`.
-#[derive(Clone, Copy, PartialEq, Eq, Debug)]
+#[derive(Clone, Copy, PartialEq, Eq)]
 pub struct Ieee1394 {
     /// Reserved bytes, which are zero in the standard.
     pub reserved: u32,
     /// The GUID of IEEE 1394, of eight bytes.
     pub guid: [u8; 8],
+}
+
+impl core::fmt::Debug for Ieee1394 {
+    fn fmt(&self, f: &mut core::fmt::Formatter<'_>) -> core::fmt::Result {
+        f.debug_struct("Ieee1394")
+            .field("reserved", &self.reserved)
+            .field("guid", &crate::support::debug::Bytes(&self.guid))
+            .finish()
+    }
 }
 
 impl<'a> TryFrom<DevicePathNode<'a>> for Ieee1394 {

@@ -26,7 +26,7 @@ use crate::formats::uefi_path::{DevicePathNode, DeviceSubType, DeviceType};
 /// Offsets are from the start of the node. Numbers are little-endian.
 ///
 /// Its contract: `crates/uefi_node/src/messaging/infiniband.rt`.
-#[derive(Clone, Copy, PartialEq, Eq, Debug)]
+#[derive(Clone, Copy, PartialEq, Eq)]
 pub struct Infiniband {
     /// Which resource it is.
     pub resource_flags: InfinibandResourceFlags,
@@ -38,6 +38,18 @@ pub struct Infiniband {
     pub target_port_id: u64,
     /// The identifier of the device.
     pub device_id: u64,
+}
+
+impl core::fmt::Debug for Infiniband {
+    fn fmt(&self, f: &mut core::fmt::Formatter<'_>) -> core::fmt::Result {
+        f.debug_struct("Infiniband")
+            .field("resource_flags", &self.resource_flags)
+            .field("port_gid", &crate::support::debug::Bytes(&self.port_gid))
+            .field("ioc_guid_or_service_id", &self.ioc_guid_or_service_id)
+            .field("target_port_id", &self.target_port_id)
+            .field("device_id", &self.device_id)
+            .finish()
+    }
 }
 
 impl<'a> TryFrom<DevicePathNode<'a>> for Infiniband {

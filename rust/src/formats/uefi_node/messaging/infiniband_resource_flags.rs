@@ -9,7 +9,7 @@ use crate::support::bitflags::bitflag_items;
 /// `u32`.
 ///
 /// Its contract: `crates/uefi_node/src/messaging/infiniband_resource_flags.rt`.
-#[derive(Clone, Copy, PartialEq, Eq, PartialOrd, Ord, Hash, Default, Debug)]
+#[derive(Clone, Copy, PartialEq, Eq, PartialOrd, Ord, Hash, Default)]
 #[repr(transparent)]
 pub struct InfinibandResourceFlags(u32);
 

@@ -27,7 +27,7 @@ use crate::formats::uefi_path::{DevicePathNode, DeviceSubType, DeviceType};
 /// Offsets are from the start of the node. Numbers are little-endian.
 ///
 /// Its contract: `crates/uefi_node/src/messaging/ipv4.rt`.
-#[derive(Clone, Copy, PartialEq, Eq, Debug)]
+#[derive(Clone, Copy, PartialEq, Eq)]
 pub struct Ipv4 {
     /// The local address.
     pub local_ip_address: [u8; 4],
@@ -45,6 +45,21 @@ pub struct Ipv4 {
     pub gateway_ip_address: [u8; 4],
     /// The mask of the subnet.
     pub subnet_mask: [u8; 4],
+}
+
+impl core::fmt::Debug for Ipv4 {
+    fn fmt(&self, f: &mut core::fmt::Formatter<'_>) -> core::fmt::Result {
+        f.debug_struct("Ipv4")
+            .field("local_ip_address", &crate::support::debug::Bytes(&self.local_ip_address))
+            .field("remote_ip_address", &crate::support::debug::Bytes(&self.remote_ip_address))
+            .field("local_port", &self.local_port)
+            .field("remote_port", &self.remote_port)
+            .field("protocol", &self.protocol)
+            .field("ip_address_origin", &self.ip_address_origin)
+            .field("gateway_ip_address", &crate::support::debug::Bytes(&self.gateway_ip_address))
+            .field("subnet_mask", &crate::support::debug::Bytes(&self.subnet_mask))
+            .finish()
+    }
 }
 
 impl<'a> TryFrom<DevicePathNode<'a>> for Ipv4 {

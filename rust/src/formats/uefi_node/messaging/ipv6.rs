@@ -28,7 +28,7 @@ use crate::formats::uefi_path::{DevicePathNode, DeviceSubType, DeviceType};
 /// Offsets are from the start of the node. Numbers are little-endian.
 ///
 /// Its contract: `crates/uefi_node/src/messaging/ipv6.rt`.
-#[derive(Clone, Copy, PartialEq, Eq, Debug)]
+#[derive(Clone, Copy, PartialEq, Eq)]
 pub struct Ipv6 {
     /// The local address.
     pub local_ip_address: [u8; 16],
@@ -46,6 +46,21 @@ pub struct Ipv6 {
     pub prefix_length: u8,
     /// The address of the gateway.
     pub gateway_ip_address: [u8; 16],
+}
+
+impl core::fmt::Debug for Ipv6 {
+    fn fmt(&self, f: &mut core::fmt::Formatter<'_>) -> core::fmt::Result {
+        f.debug_struct("Ipv6")
+            .field("local_ip_address", &crate::support::debug::Bytes(&self.local_ip_address))
+            .field("remote_ip_address", &crate::support::debug::Bytes(&self.remote_ip_address))
+            .field("local_port", &self.local_port)
+            .field("remote_port", &self.remote_port)
+            .field("protocol", &self.protocol)
+            .field("ip_address_origin", &self.ip_address_origin)
+            .field("prefix_length", &self.prefix_length)
+            .field("gateway_ip_address", &crate::support::debug::Bytes(&self.gateway_ip_address))
+            .finish()
+    }
 }
 
 impl<'a> TryFrom<DevicePathNode<'a>> for Ipv6 {

@@ -25,7 +25,7 @@ use crate::formats::uefi_path::{DevicePathNode, DeviceSubType, DeviceType};
 /// Offsets are from the start of the node. Numbers are little-endian.
 ///
 /// Its contract: `crates/uefi_node/src/messaging/iscsi.rt`.
-#[derive(Clone, Copy, PartialEq, Eq, Debug)]
+#[derive(Clone, Copy, PartialEq, Eq)]
 pub struct Iscsi<'a> {
     /// The protocol below iSCSI.
     pub protocol: IscsiProtocol,
@@ -37,6 +37,18 @@ pub struct Iscsi<'a> {
     pub target_portal_group_tag: u16,
     /// The name of the target.
     pub iscsi_target_name: &'a [u8],
+}
+
+impl core::fmt::Debug for Iscsi<'_> {
+    fn fmt(&self, f: &mut core::fmt::Formatter<'_>) -> core::fmt::Result {
+        f.debug_struct("Iscsi")
+            .field("protocol", &self.protocol)
+            .field("options", &self.options)
+            .field("logical_unit_number", &crate::support::debug::Bytes(&self.logical_unit_number))
+            .field("target_portal_group_tag", &self.target_portal_group_tag)
+            .field("iscsi_target_name", &crate::support::debug::Bytes(self.iscsi_target_name))
+            .finish()
+    }
 }
 
 impl<'a> TryFrom<DevicePathNode<'a>> for Iscsi<'a> {

@@ -10,7 +10,7 @@ use crate::support::bitflags::bitflag_items;
 /// [`IscsiLoginOptions::from_bits_retain`] keeps bits without a name. The layout is that of `u16`.
 ///
 /// Its contract: `crates/uefi_node/src/messaging/iscsi_login_options.rt`.
-#[derive(Clone, Copy, PartialEq, Eq, PartialOrd, Ord, Hash, Default, Debug)]
+#[derive(Clone, Copy, PartialEq, Eq, PartialOrd, Ord, Hash, Default)]
 #[repr(transparent)]
 pub struct IscsiLoginOptions(u16);
 

@@ -21,12 +21,21 @@ use crate::formats::uefi_path::{DevicePathNode, DeviceSubType, DeviceType};
 /// Offsets are from the start of the node.
 ///
 /// Its contract: `crates/uefi_node/src/messaging/mac_address.rt`.
-#[derive(Clone, Copy, PartialEq, Eq, Debug)]
+#[derive(Clone, Copy, PartialEq, Eq)]
 pub struct MacAddress {
     /// The address, with zeros after it.
     pub mac_address: [u8; 32],
     /// The type of the interface, a number of RFC 3232.
     pub interface_type: u8,
+}
+
+impl core::fmt::Debug for MacAddress {
+    fn fmt(&self, f: &mut core::fmt::Formatter<'_>) -> core::fmt::Result {
+        f.debug_struct("MacAddress")
+            .field("mac_address", &crate::support::debug::Bytes(&self.mac_address))
+            .field("interface_type", &self.interface_type)
+            .finish()
+    }
 }
 
 impl<'a> TryFrom<DevicePathNode<'a>> for MacAddress {

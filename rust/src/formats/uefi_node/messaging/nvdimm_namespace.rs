@@ -15,10 +15,18 @@ use crate::formats::uefi_path::{DevicePathNode, DeviceSubType, DeviceType};
 /// Offsets are from the start of the node.
 ///
 /// Its contract: `crates/uefi_node/src/messaging/nvdimm_namespace.rt`.
-#[derive(Clone, Copy, PartialEq, Eq, Debug)]
+#[derive(Clone, Copy, PartialEq, Eq)]
 pub struct NvdimmNamespace {
     /// The label UUID of the namespace.
     pub uuid: [u8; 16],
+}
+
+impl core::fmt::Debug for NvdimmNamespace {
+    fn fmt(&self, f: &mut core::fmt::Formatter<'_>) -> core::fmt::Result {
+        f.debug_struct("NvdimmNamespace")
+            .field("uuid", &crate::support::debug::Bytes(&self.uuid))
+            .finish()
+    }
 }
 
 impl<'a> TryFrom<DevicePathNode<'a>> for NvdimmNamespace {

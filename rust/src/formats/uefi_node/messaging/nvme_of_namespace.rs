@@ -17,7 +17,7 @@ use crate::formats::uefi_path::{DevicePathNode, DeviceSubType, DeviceType};
 /// Offsets are from the start of the node.
 ///
 /// Its contract: `crates/uefi_node/src/messaging/nvme_of_namespace.rt`.
-#[derive(Clone, Copy, PartialEq, Eq, Debug)]
+#[derive(Clone, Copy, PartialEq, Eq)]
 pub struct NvmeOfNamespace<'a> {
     /// The type of the namespace identifier (NIDT).
     pub nidt: u8,
@@ -25,6 +25,16 @@ pub struct NvmeOfNamespace<'a> {
     pub nid: [u8; 16],
     /// The qualified name (NQN) of the subsystem: UTF-8 with a NUL at its end.
     pub subsystem_nqn: &'a [u8],
+}
+
+impl core::fmt::Debug for NvmeOfNamespace<'_> {
+    fn fmt(&self, f: &mut core::fmt::Formatter<'_>) -> core::fmt::Result {
+        f.debug_struct("NvmeOfNamespace")
+            .field("nidt", &self.nidt)
+            .field("nid", &crate::support::debug::Bytes(&self.nid))
+            .field("subsystem_nqn", &crate::support::debug::Bytes(self.subsystem_nqn))
+            .finish()
+    }
 }
 
 impl<'a> TryFrom<DevicePathNode<'a>> for NvmeOfNamespace<'a> {

@@ -23,7 +23,7 @@ use crate::formats::uefi_path::{DevicePathNode, DeviceSubType, DeviceType};
 /// Offsets are from the start of the node. Numbers are little-endian.
 ///
 /// Its contract: `crates/uefi_node/src/messaging/sas_ex.rt`.
-#[derive(Clone, Copy, PartialEq, Eq, Debug)]
+#[derive(Clone, Copy, PartialEq, Eq)]
 pub struct SasEx {
     /// The SAS address.
     pub sas_address: [u8; 8],
@@ -33,6 +33,17 @@ pub struct SasEx {
     pub info: u16,
     /// The relative target port.
     pub relative_target_port: u16,
+}
+
+impl core::fmt::Debug for SasEx {
+    fn fmt(&self, f: &mut core::fmt::Formatter<'_>) -> core::fmt::Result {
+        f.debug_struct("SasEx")
+            .field("sas_address", &crate::support::debug::Bytes(&self.sas_address))
+            .field("logical_unit_number", &crate::support::debug::Bytes(&self.logical_unit_number))
+            .field("info", &self.info)
+            .field("relative_target_port", &self.relative_target_port)
+            .finish()
+    }
 }
 
 impl<'a> TryFrom<DevicePathNode<'a>> for SasEx {

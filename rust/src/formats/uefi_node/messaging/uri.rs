@@ -19,10 +19,18 @@ use crate::formats::uefi_path::{DevicePathNode, DeviceSubType, DeviceType};
 /// Offsets are from the start of the node.
 ///
 /// Its contract: `crates/uefi_node/src/messaging/uri.rt`.
-#[derive(Clone, Copy, PartialEq, Eq, Debug)]
+#[derive(Clone, Copy, PartialEq, Eq)]
 pub struct Uri<'a> {
     /// The URI (RFC 3986). It may be empty.
     pub value: &'a [u8],
+}
+
+impl core::fmt::Debug for Uri<'_> {
+    fn fmt(&self, f: &mut core::fmt::Formatter<'_>) -> core::fmt::Result {
+        f.debug_struct("Uri")
+            .field("value", &crate::support::debug::Bytes(self.value))
+            .finish()
+    }
 }
 
 impl<'a> TryFrom<DevicePathNode<'a>> for Uri<'a> {

@@ -20,10 +20,18 @@ use crate::formats::uefi_path::{DevicePathNode, DeviceSubType, DeviceType};
 /// Offsets are from the start of the node.
 ///
 /// Its contract: `crates/uefi_node/src/messaging/wifi.rt`.
-#[derive(Clone, Copy, PartialEq, Eq, Debug)]
+#[derive(Clone, Copy, PartialEq, Eq)]
 pub struct Wifi {
     /// The SSID, with zeros after it.
     pub ssid: [u8; 32],
+}
+
+impl core::fmt::Debug for Wifi {
+    fn fmt(&self, f: &mut core::fmt::Formatter<'_>) -> core::fmt::Result {
+        f.debug_struct("Wifi")
+            .field("ssid", &crate::support::debug::Bytes(&self.ssid))
+            .finish()
+    }
 }
 
 impl<'a> TryFrom<DevicePathNode<'a>> for Wifi {

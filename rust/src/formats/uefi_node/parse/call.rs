@@ -12,12 +12,21 @@ use crate::formats::uefi_path::build::{BuildError, BuildNode};
 use crate::formats::uefi_path::{DeviceSubType, DeviceType};
 
 /// A node's text with arguments, in a form that they have.
-#[derive(Clone, Copy, Debug)]
+#[derive(Clone, Copy)]
 pub(crate) struct Call<'a> {
     /// The form.
     form: &'static NodeForm,
     /// The texts of the arguments, with commas between them; `None` if there are none.
     texts: Option<&'a [u8]>,
+}
+
+impl core::fmt::Debug for Call<'_> {
+    fn fmt(&self, f: &mut core::fmt::Formatter<'_>) -> core::fmt::Result {
+        f.debug_struct("Call")
+            .field("form", &self.form)
+            .field("texts", &self.texts.map(crate::support::debug::Bytes))
+            .finish()
+    }
 }
 
 impl<'a> Call<'a> {

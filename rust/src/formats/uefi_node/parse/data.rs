@@ -9,12 +9,21 @@ use crate::formats::uefi_base::buffer::put;
 pub(crate) const GREATEST_DATA: usize = 0xfffb;
 
 /// The arguments of a text, which has all of them.
-#[derive(Clone, Copy, Debug)]
+#[derive(Clone, Copy)]
 pub(crate) struct Listed<'a> {
     /// The arguments of the form.
     pub(crate) parameters: &'static [Parameter],
     /// Their texts, with commas between them; `None` if there are none.
     pub(crate) texts: Option<&'a [u8]>,
+}
+
+impl core::fmt::Debug for Listed<'_> {
+    fn fmt(&self, f: &mut core::fmt::Formatter<'_>) -> core::fmt::Result {
+        f.debug_struct("Listed")
+            .field("parameters", &self.parameters)
+            .field("texts", &self.texts.map(crate::support::debug::Bytes))
+            .finish()
+    }
 }
 
 impl<'a> Listed<'a> {

@@ -50,10 +50,18 @@ use crate::formats::uefi_base::buffer::put;
 /// ```
 ///
 /// Its contract: `crates/uefi_path/src/build/builder.rt`.
-#[derive(Debug)]
 pub struct DevicePathBuilder<'a> {
     buffer: &'a mut [u8],
     end: usize,
+}
+
+impl core::fmt::Debug for DevicePathBuilder<'_> {
+    fn fmt(&self, f: &mut core::fmt::Formatter<'_>) -> core::fmt::Result {
+        f.debug_struct("DevicePathBuilder")
+            .field("buffer", &crate::support::debug::Bytes(&*self.buffer))
+            .field("end", &self.end)
+            .finish()
+    }
 }
 
 impl<'a> DevicePathBuilder<'a> {

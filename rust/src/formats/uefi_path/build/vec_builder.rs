@@ -18,9 +18,17 @@ use crate::formats::uefi_path::build::node::{BuildNode, is_end_entire};
 ///
 /// Its contract: `crates/uefi_path/src/build/vec_builder.rt`.
 #[cfg(feature = "alloc")]
-#[derive(Debug)]
 pub struct DevicePathVecBuilder {
     bytes: Vec<u8>,
+}
+
+#[cfg(feature = "alloc")]
+impl core::fmt::Debug for DevicePathVecBuilder {
+    fn fmt(&self, f: &mut core::fmt::Formatter<'_>) -> core::fmt::Result {
+        f.debug_struct("DevicePathVecBuilder")
+            .field("bytes", &crate::support::debug::Bytes(&self.bytes))
+            .finish()
+    }
 }
 
 #[cfg(feature = "alloc")]

@@ -68,9 +68,17 @@ pub(crate) const ALIGNMENT: usize = 8;
 /// ```
 ///
 /// Its contract: `crates/uefi_records/src/file/file_info.rt`.
-#[derive(Clone, Copy, Debug)]
+#[derive(Clone, Copy)]
 pub struct FileInfo<'a> {
     bytes: &'a [u8],
+}
+
+impl core::fmt::Debug for FileInfo<'_> {
+    fn fmt(&self, f: &mut core::fmt::Formatter<'_>) -> core::fmt::Result {
+        f.debug_struct("FileInfo")
+            .field("bytes", &crate::support::debug::Bytes(self.bytes))
+            .finish()
+    }
 }
 
 impl<'a> FileInfo<'a> {

@@ -42,9 +42,17 @@ pub(crate) const ALIGNMENT: usize = 8;
 /// bytes don't count.
 ///
 /// Its contract: `crates/uefi_records/src/file/file_system_info.rt`.
-#[derive(Clone, Copy, Debug)]
+#[derive(Clone, Copy)]
 pub struct FileSystemInfo<'a> {
     bytes: &'a [u8],
+}
+
+impl core::fmt::Debug for FileSystemInfo<'_> {
+    fn fmt(&self, f: &mut core::fmt::Formatter<'_>) -> core::fmt::Result {
+        f.debug_struct("FileSystemInfo")
+            .field("bytes", &crate::support::debug::Bytes(self.bytes))
+            .finish()
+    }
 }
 
 impl<'a> FileSystemInfo<'a> {

@@ -23,9 +23,17 @@ pub(crate) const ALIGNMENT: usize = 2;
 /// long as they do. Two are equal if the units of the labels are.
 ///
 /// Its contract: `crates/uefi_records/src/file/file_system_volume_label.rt`.
-#[derive(Clone, Copy, Debug)]
+#[derive(Clone, Copy)]
 pub struct FileSystemVolumeLabel<'a> {
     bytes: &'a [u8],
+}
+
+impl core::fmt::Debug for FileSystemVolumeLabel<'_> {
+    fn fmt(&self, f: &mut core::fmt::Formatter<'_>) -> core::fmt::Result {
+        f.debug_struct("FileSystemVolumeLabel")
+            .field("bytes", &crate::support::debug::Bytes(self.bytes))
+            .finish()
+    }
 }
 
 impl<'a> FileSystemVolumeLabel<'a> {

@@ -9,7 +9,7 @@ use crate::support::bitflags::bitflag_items;
 /// [`Daylight::from_bits_retain`] keeps bits without a name. The layout is that of `u8`.
 ///
 /// Its contract: `crates/uefi_records/src/flags/daylight.rt`.
-#[derive(Clone, Copy, PartialEq, Eq, PartialOrd, Ord, Hash, Default, Debug)]
+#[derive(Clone, Copy, PartialEq, Eq, PartialOrd, Ord, Hash, Default)]
 #[repr(transparent)]
 pub struct Daylight(u8);
 

@@ -9,7 +9,7 @@ use crate::support::bitflags::bitflag_items;
 /// [`FileAttribute::from_bits_retain`] keeps bits without a name. The layout is that of `u64`.
 ///
 /// Its contract: `crates/uefi_records/src/flags/file_attribute.rt`.
-#[derive(Clone, Copy, PartialEq, Eq, PartialOrd, Ord, Hash, Default, Debug)]
+#[derive(Clone, Copy, PartialEq, Eq, PartialOrd, Ord, Hash, Default)]
 #[repr(transparent)]
 pub struct FileAttribute(u64);
 

@@ -10,7 +10,6 @@ use crate::formats::uefi_tcg::v1::event::PcrEvent;
 ///
 /// Its contract: `crates/uefi_tcg/src/v1/boxed.rt`.
 #[cfg(feature = "alloc")]
-#[derive(Debug)]
 pub struct BoxedPcrEvent {
     bytes: Vec<u8>,
 }

@@ -10,9 +10,17 @@ use crate::formats::uefi_tcg::v2::inputs::PcrEventInputs;
 ///
 /// Its contract: `crates/uefi_tcg/src/v2/boxed.rt`.
 #[cfg(feature = "alloc")]
-#[derive(Debug)]
 pub struct BoxedPcrEventInputs {
     bytes: Vec<u8>,
+}
+
+#[cfg(feature = "alloc")]
+impl core::fmt::Debug for BoxedPcrEventInputs {
+    fn fmt(&self, f: &mut core::fmt::Formatter<'_>) -> core::fmt::Result {
+        f.debug_struct("BoxedPcrEventInputs")
+            .field("bytes", &crate::support::debug::Bytes(&self.bytes))
+            .finish()
+    }
 }
 
 #[cfg(feature = "alloc")]

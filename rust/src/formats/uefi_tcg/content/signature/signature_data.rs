@@ -17,12 +17,21 @@ pub(crate) const GUID_LENGTH: usize = 16;
 ///
 /// Its contract: `crates/uefi_tcg/src/content/signature/signature_data.rt`.
 #[non_exhaustive]
-#[derive(Clone, Copy, Debug)]
+#[derive(Clone, Copy)]
 pub struct SignatureData<'a> {
     /// The agent that added the signature to its database.
     pub owner: Guid,
     /// The signature without its owner.
     pub data: &'a [u8],
+}
+
+impl core::fmt::Debug for SignatureData<'_> {
+    fn fmt(&self, f: &mut core::fmt::Formatter<'_>) -> core::fmt::Result {
+        f.debug_struct("SignatureData")
+            .field("owner", &self.owner)
+            .field("data", &crate::support::debug::Bytes(self.data))
+            .finish()
+    }
 }
 
 impl<'a> SignatureData<'a> {

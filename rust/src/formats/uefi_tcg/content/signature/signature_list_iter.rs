@@ -9,9 +9,17 @@ use core::iter::FusedIterator;
 /// forever.
 ///
 /// Its contract: `crates/uefi_tcg/src/content/signature/signature_list_iter.rt`.
-#[derive(Clone, Copy, Debug)]
+#[derive(Clone, Copy)]
 pub struct SignatureListIter<'a> {
     rest: &'a [u8],
+}
+
+impl core::fmt::Debug for SignatureListIter<'_> {
+    fn fmt(&self, f: &mut core::fmt::Formatter<'_>) -> core::fmt::Result {
+        f.debug_struct("SignatureListIter")
+            .field("rest", &crate::support::debug::Bytes(self.rest))
+            .finish()
+    }
 }
 
 impl<'a> SignatureListIter<'a> {
