@@ -272,8 +272,6 @@ mod as_enum {
         ///   type and subtype.
         /// - [`NodeConversionError::Length`] if the data have another length than the type has.
         /// - [`NodeConversionError::Form`] if they have the length, and not the form of the type.
-        ///
-        /// Its contract: `crates/uefi_node/src/node_enum.rt`.
         #[inline]
         pub fn as_enum(&self) -> Result<DevicePathNodeEnum<'a>, NodeConversionError> {
             DevicePathNodeExt::as_enum(self)
@@ -329,8 +327,6 @@ mod from_text {
         /// - [`FromTextError::UnknownNode`], [`FromTextError::Argument`], [`FromTextError::Missing`] or
         ///   [`FromTextError::TooLong`] if the text is that of no path.
         /// - [`FromTextError::Buffer`] with the length of the path if the buffer is shorter.
-        ///
-        /// Its contract: `crates/uefi_node/src/parse/path.rt`.
         #[inline]
         pub fn from_text(buffer: &'a mut [u8], text: &str) -> Result<DevicePath<'a>, FromTextError> {
             text::from_text(buffer, text)
