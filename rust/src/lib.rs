@@ -142,8 +142,7 @@ pub mod proto {
     }
 
     pub mod tcg {
-        //! Event logs of measured boot. Begin with [`v1::EventLog::new`] for a log of SHA-1 digests, and
-        //! with [`v2::EventLog::new`] for one whose header states the algorithms.
+        //! Event logs of measured boot. Begin with [`Log::read`], which takes a log of either version.
 
         pub use crate::formats::uefi_tcg::*;
     }

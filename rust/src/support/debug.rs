@@ -1,8 +1,10 @@
 //! Short `Debug`: bytes in hex, of a view its length and how many items it has, flags by name.
 
+use crate::formats::pcr_replay::{PcrValue, Pcrs};
 use crate::formats::uefi_base::{CStr16, Guid, UnalignedSlice};
 use crate::formats::uefi_map::{MemoryMap, MemoryMapRef, MemoryMapRefMut};
 use crate::formats::uefi_path::{DevicePath, DevicePathInstance, DevicePathNode};
+use crate::formats::uefi_records::{FileInfo, FileSystemInfo, FileSystemVolumeLabel};
 use crate::formats::uefi_tcg::{AlgorithmId, Log, v1, v2};
 use core::fmt::{self, Debug, Formatter, Write};
 
@@ -177,13 +179,67 @@ impl Debug for v2::AlgorithmDigestSizes<'_> {
     }
 }
 
+impl Debug for PcrValue {
+    fn fmt(&self, f: &mut Formatter<'_>) -> fmt::Result {
+        f.debug_tuple("PcrValue").field(&Bytes(self.as_bytes())).finish()
+    }
+}
+
+impl Debug for Pcrs {
+    fn fmt(&self, f: &mut Formatter<'_>) -> fmt::Result {
+        f.debug_map().entries(self.outcomes().iter().enumerate()).finish()
+    }
+}
+
+impl Debug for FileInfo<'_> {
+    fn fmt(&self, f: &mut Formatter<'_>) -> fmt::Result {
+        f.debug_struct("FileInfo")
+            .field("size", &self.size())
+            .field("file_size", &self.file_size())
+            .field("physical_size", &self.physical_size())
+            .field("create_time", &self.create_time())
+            .field("last_access_time", &self.last_access_time())
+            .field("modification_time", &self.modification_time())
+            .field("attribute", &self.attribute())
+            .field("file_name", &self.file_name())
+            .finish()
+    }
+}
+
+impl Debug for FileSystemInfo<'_> {
+    fn fmt(&self, f: &mut Formatter<'_>) -> fmt::Result {
+        f.debug_struct("FileSystemInfo")
+            .field("size", &self.size())
+            .field("read_only", &self.read_only())
+            .field("volume_size", &self.volume_size())
+            .field("free_space", &self.free_space())
+            .field("block_size", &self.block_size())
+            .field("volume_label", &self.volume_label())
+            .finish()
+    }
+}
+
+impl Debug for FileSystemVolumeLabel<'_> {
+    fn fmt(&self, f: &mut Formatter<'_>) -> fmt::Result {
+        f.debug_struct("FileSystemVolumeLabel").field("volume_label", &self.volume_label()).finish()
+    }
+}
+
 #[cfg(feature = "alloc")]
 mod owned {
     use super::{Debug, Formatter, fmt};
+    use crate::formats::pcr_replay::ReadLog;
     use crate::formats::uefi_base::CString16;
     use crate::formats::uefi_map::{MemoryMap, MemoryMapOwned};
     use crate::formats::uefi_path::{BoxedDevicePath, BoxedDevicePathInstance};
     use crate::formats::uefi_tcg::v1::BoxedPcrEvent;
+
+    impl Debug for ReadLog<'_> {
+        fn fmt(&self, f: &mut Formatter<'_>) -> fmt::Result {
+            let (header, events) = (self.header(), self.entries().len());
+            f.debug_struct("ReadLog").field("header", &header).field("events", &events).field("end", &self.end()).finish()
+        }
+    }
 
     impl Debug for CString16 {
         fn fmt(&self, f: &mut Formatter<'_>) -> fmt::Result {

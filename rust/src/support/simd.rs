@@ -257,7 +257,7 @@ pub(crate) mod prelude {
     pub(crate) use super::{u8x16, u8x32, u16x16};
 }
 
-#[cfg(test)]
+#[cfg(all(test, feature = "alloc"))]
 mod tests {
     use super::*;
 

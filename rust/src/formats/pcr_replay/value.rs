@@ -12,15 +12,6 @@ pub struct PcrValue {
     length: usize,
 }
 
-impl core::fmt::Debug for PcrValue {
-    fn fmt(&self, f: &mut core::fmt::Formatter<'_>) -> core::fmt::Result {
-        f.debug_struct("PcrValue")
-            .field("bytes", &crate::support::debug::Bytes(&self.bytes))
-            .field("length", &self.length)
-            .finish()
-    }
-}
-
 impl PcrValue {
     /// Returns the value with these bytes, of which there are at most 64.
     ///

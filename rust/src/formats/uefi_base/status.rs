@@ -2,7 +2,7 @@
 
 use core::{error, fmt};
 
-/// The status of a failed call (UEFI 2.10, Appendix D), for each error that this project returns.
+/// The status of a failed call (UEFI 2.10, Appendix D), for each error that a call returns.
 // The names are those of the standard.
 #[allow(non_camel_case_types)]
 #[non_exhaustive]

@@ -71,14 +71,6 @@ pub struct FileInfo<'a> {
     bytes: &'a [u8],
 }
 
-impl core::fmt::Debug for FileInfo<'_> {
-    fn fmt(&self, f: &mut core::fmt::Formatter<'_>) -> core::fmt::Result {
-        f.debug_struct("FileInfo")
-            .field("bytes", &crate::support::debug::Bytes(self.bytes))
-            .finish()
-    }
-}
-
 impl<'a> FileInfo<'a> {
     /// Reads the record in the first `written` bytes of the buffer, or in the whole buffer if it is
     /// shorter.

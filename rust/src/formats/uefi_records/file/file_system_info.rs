@@ -45,14 +45,6 @@ pub struct FileSystemInfo<'a> {
     bytes: &'a [u8],
 }
 
-impl core::fmt::Debug for FileSystemInfo<'_> {
-    fn fmt(&self, f: &mut core::fmt::Formatter<'_>) -> core::fmt::Result {
-        f.debug_struct("FileSystemInfo")
-            .field("bytes", &crate::support::debug::Bytes(self.bytes))
-            .finish()
-    }
-}
-
 impl<'a> FileSystemInfo<'a> {
     /// Reads the record in the first `written` bytes of the buffer, or in the whole buffer if it is
     /// shorter.

@@ -26,14 +26,6 @@ pub struct FileSystemVolumeLabel<'a> {
     bytes: &'a [u8],
 }
 
-impl core::fmt::Debug for FileSystemVolumeLabel<'_> {
-    fn fmt(&self, f: &mut core::fmt::Formatter<'_>) -> core::fmt::Result {
-        f.debug_struct("FileSystemVolumeLabel")
-            .field("bytes", &crate::support::debug::Bytes(self.bytes))
-            .finish()
-    }
-}
-
 impl<'a> FileSystemVolumeLabel<'a> {
     /// Reads the record in the first `written` bytes of the buffer, or in the whole buffer if it is
     /// shorter.
