@@ -1,4 +1,4 @@
-//! The repository's tests of the libraries and of the listings, written out by `tools/erase`, and by
+//! The repository's tests of the libraries, written out by `tools/erase`, and by
 //! hand each allocation refused in turn, and every `# Panics`.
 
 // The form is the one of the repository's tests, of which some are left out.
@@ -7,23 +7,15 @@
 extern crate alloc;
 
 #[macro_use]
-#[path = "../../examples/uefi_list/text.rs"]
 mod text;
-
-/// `format!`, which may run out of memory.
-macro_rules! fallible_format {
-    ($($form:tt)*) => { Ok::<String, crate::support::alloc::AllocError>(format!($($form)*)) };
-}
 
 mod audit_tests;
 mod base_tests;
 mod conversions;
 mod equality;
 mod formats;
-#[path = "../../examples/uefi_list/hex.rs"]
 mod hex;
 mod hii_tests;
-mod listing_tests;
 mod macros;
 mod map_tests;
 mod memory;
@@ -38,8 +30,6 @@ mod sm3_tests;
 mod support;
 mod tcg_tests;
 mod test_support;
-#[path = "../../examples/uefi_list/uefi_listing/mod.rs"]
-mod uefi_listing;
 
 use formats::{pcr_replay, tpm_quote, uefi_base, uefi_hii, uefi_map, uefi_node, uefi_path, uefi_records, uefi_tcg};
 

@@ -2,8 +2,6 @@
 
 //! The names of numbers.
 
-use crate::support::fallible::*;
-
 use crate::support::test::Fail;
 use crate::test_support::{each_gives, same, same_text};
 use crate::uefi_path::{DeviceSubType, DeviceType};

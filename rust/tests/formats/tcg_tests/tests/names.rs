@@ -2,8 +2,6 @@
 
 //! The names of numbers.
 
-use crate::support::fallible::*;
-
 use crate::support::alloc::AllocError;
 use core::fmt::Debug;
 use crate::support::test::Fail;
