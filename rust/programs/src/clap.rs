@@ -1,203 +1,203 @@
-//! What the program calls of `clap`: long options, values, subcommands, help. By hand.
+//! The calls of the toolchain's `clap` that the programs make: subcommands, options and flags with long names,
+//! positionals, the help, and the messages for other words, with the names that are similar. It is written by hand, and
+//! isn't proved.
+//!
+//! It does less: a command has either subcommands, of which one has to be used, or arguments. An option takes one value
+//! a use, and only the last positional takes many. An argument names at most one that it needs, one that can't be used
+//! with it, and one without which it is required.
 
-use std::fmt::Write as _;
-use crate::support::alloc::AllocError;
+mod parser;
+mod shown;
 
-pub mod error {
-    #[derive(Clone, Copy, PartialEq, Eq, Debug)]
-    pub enum ErrorKind { OutOfMemory, DisplayHelp, DisplayVersion, Other }
-}
+use crate::host::io::{self, Write as _};
+use crate::host::rt::{Eprint, Print};
+use crate::support::fallible::{FallibleString, FallibleVec};
 use error::ErrorKind;
+use std::{ops::RangeFrom, str::FromStr};
+use uefi_formats::AllocError;
 
+/// The kinds of errors.
+pub mod error {
+    /// Why there are no matches: the words ask for the help or the version, they are wrong, or an allocation failed.
+    #[derive(Clone, Copy, PartialEq, Eq, Debug)]
+    pub enum ErrorKind { DisplayHelp, DisplayVersion, InvalidWords, OutOfMemory }
+}
+
+/// Why there are no matches, with the text that says it.
 pub struct Error { kind: ErrorKind, text: String }
 
-impl From<AllocError> for Error {
-    fn from(_: AllocError) -> Error { Error { kind: ErrorKind::OutOfMemory, text: String::new() } }
-}
-
 impl Error {
+    /// Returns the kind.
     pub fn kind(&self) -> ErrorKind { self.kind }
-    pub fn print<R: crate::host::rt::Print + crate::host::rt::Eprint>(&self, rt: &R) -> crate::host::io::Result<()> {
-        use crate::host::io::Write as _;
+
+    /// Prints the help or the version on standard output, and what is wrong on standard error.
+    pub fn print<R: Print + Eprint>(&self, rt: &R) -> io::Result<()> {
         match self.kind {
-            ErrorKind::Other => rt.tell(self.text.as_bytes()),
-            _ => rt.writer().write_all(self.text.as_bytes()),
+            ErrorKind::DisplayHelp | ErrorKind::DisplayVersion => io::writer(rt).write_all(self.text.as_bytes()),
+            ErrorKind::InvalidWords | ErrorKind::OutOfMemory => rt.tell(self.text.as_bytes()),
         }
     }
 }
 
-#[derive(Clone, Copy, PartialEq, Eq, Debug)]
-pub enum ArgAction { SetTrue, Append }
-
-#[derive(Clone, Debug)]
-pub enum Parser { Any, Most(u64), Names(Vec<String>) }
-impl From<&[&str]> for Parser {
-    fn from(names: &[&str]) -> Parser { Parser::Names(names.iter().map(|it| it.to_string()).collect()) }
+impl From<AllocError> for Error {
+    fn from(_error: AllocError) -> Error { Error { kind: ErrorKind::OutOfMemory, text: String::new() } }
 }
+
+/// What a use of an argument does: it keeps the one value, adds a value to others, sets a flag, or prints and ends.
+#[derive(Clone, Copy, PartialEq, Eq)]
+pub enum ArgAction { Set, Append, SetTrue, Help, Version }
+
+/// What a value has to be: any text, a number from 0 to this one, or one of these names.
+#[derive(Clone, Copy)]
+pub enum ValueParser<'a> { Text, UpTo(i64), OneOf(&'a [&'a str]) }
+
+impl<'a> From<&'a [&'a str]> for ValueParser<'a> {
+    fn from(names: &'a [&'a str]) -> ValueParser<'a> { ValueParser::OneOf(names) }
+}
+
+/// `value_parser!(u8)`: the numbers of an unsigned type of up to 32 bits.
 macro_rules! value_parser {
-    ($of:ty) => { $crate::clap::Parser::Most(<$of>::MAX as u64) };
+    ($number:ty) => { $crate::clap::ValueParser::UpTo(i64::from(<$number>::MAX)) };
 }
 pub(crate) use value_parser;
 
-#[derive(Clone)]
+/// An argument: an option or a flag if it has a long name, and else a positional.
+#[derive(Clone, Copy)]
 pub struct Arg<'a> {
-    id: &'a str, value: &'a str, help: &'a str, long: bool, required: bool, flag: bool, many: bool, parser: Parser,
+    id: &'a str,
+    long: Option<&'a str>,
+    short: Option<char>,
+    value_name: &'a str,
+    help: &'a str,
+    required: bool,
+    action: ArgAction,
+    parser: ValueParser<'a>,
+    needs: Option<&'a str>,
+    excludes: Option<&'a str>,
+    unless: Option<&'a str>,
 }
 
 impl<'a> Arg<'a> {
+    /// Returns a positional with this id.
     pub fn new(id: &'a str) -> Arg<'a> {
-        Arg { id, value: id, help: "", long: false, required: false, flag: false, many: false, parser: Parser::Any }
+        let (action, parser) = (ArgAction::Set, ValueParser::Text);
+        let (long, short, required, needs, excludes, unless) = (None, None, false, None, None, None);
+        Arg { id, long, short, value_name: id, help: "", required, action, parser, needs, excludes, unless }
     }
-    pub fn value_name(self, value: &'a str) -> Arg<'a> { Arg { value, ..self } }
-    pub fn required(self, required: bool) -> Arg<'a> { Arg { required, ..self } }
+
+    /// Makes it the option or flag `--LONG`.
+    pub fn long(self, long: &'a str) -> Arg<'a> { Arg { long: Some(long), ..self } }
+    /// Says how its value is shown.
+    pub fn value_name(self, value_name: &'a str) -> Arg<'a> { Arg { value_name, ..self } }
+    /// Says what the help has of it.
     pub fn help(self, help: &'a str) -> Arg<'a> { Arg { help, ..self } }
-    pub fn requires_arg(self, _name: &'a str) -> Result<Arg<'a>, AllocError> { Ok(self) }
-    pub fn conflicts_with(self, _name: &'a str) -> Result<Arg<'a>, AllocError> { Ok(self) }
-    pub fn required_unless_present(self, _name: &'a str) -> Result<Arg<'a>, AllocError> { Ok(self) }
-    pub fn long(self, _name: &'a str) -> Arg<'a> { Arg { long: true, ..self } }
-    pub fn action(self, action: ArgAction) -> Arg<'a> {
-        Arg { flag: action == ArgAction::SetTrue, many: action == ArgAction::Append, ..self }
-    }
-    pub fn num_args(self, _range: std::ops::RangeFrom<usize>) -> Arg<'a> { self }
-    pub fn value_parser(self, parser: impl Into<Parser>) -> Arg<'a> { Arg { parser: parser.into(), ..self } }
-    fn left(&self) -> String {
-        match (self.long, self.flag) {
-            (true, true) => format!("--{}", self.id),
-            (true, false) => format!("--{} <{}>", self.id, self.value),
-            _ => format!("<{}>{}", self.value, if self.many { "..." } else { "" }),
-        }
-    }
+    /// Says whether it has to be used.
+    pub fn required(self, required: bool) -> Arg<'a> { Arg { required, ..self } }
+    /// Says what a use of it does.
+    pub fn action(self, action: ArgAction) -> Arg<'a> { Arg { action, ..self } }
+    /// Makes a positional take all words that follow, at least one.
+    pub fn num_args(self, _from_one: RangeFrom<usize>) -> Arg<'a> { self.action(ArgAction::Append) }
+    /// Says what its values have to be.
+    pub fn value_parser(self, parser: impl Into<ValueParser<'a>>) -> Arg<'a> { Arg { parser: parser.into(), ..self } }
+    /// Says which argument has to be used with it.
+    pub fn requires_arg(self, id: &'a str) -> Result<Arg<'a>, AllocError> { Ok(Arg { needs: Some(id), ..self }) }
+    /// Says which argument can't be used with it.
+    pub fn conflicts_with(self, id: &'a str) -> Result<Arg<'a>, AllocError> { Ok(Arg { excludes: Some(id), ..self }) }
+    /// Says without which argument it has to be used.
+    pub fn required_unless_present(self, id: &'a str) -> Result<Arg<'a>, AllocError> { Ok(Arg { unless: Some(id), ..self }) }
+
+    /// Returns whether a use has a value.
+    fn takes_value(&self) -> bool { matches!(self.action, ArgAction::Set | ArgAction::Append) }
 }
 
-pub struct Command<'a> { name: &'a str, version: &'a str, about: &'a str, args: Vec<Arg<'a>>, below: Vec<Command<'a>> }
+/// A program, or a subcommand of it.
+pub struct Command<'a> {
+    name: &'a str,
+    /// The names before its own and its own, of which the first is that of the program's file.
+    path: String,
+    version: Option<&'a str>,
+    about: &'a str,
+    args: Vec<Arg<'a>>,
+    below: Vec<Command<'a>>,
+    required: bool,
+}
 
 impl<'a> Command<'a> {
+    /// Returns a command without arguments.
     pub fn new(name: &'a str) -> Command<'a> {
-        Command { name, version: "", about: "", args: Vec::new(), below: Vec::new() }
+        let (path, args, below) = (String::new(), Vec::new(), Vec::new());
+        Command { name, path, version: None, about: "", args, below, required: false }
     }
-    pub fn version(self, version: &'a str) -> Command<'a> { Command { version, ..self } }
+
+    /// Says which version `--version` prints.
+    pub fn version(self, version: &'a str) -> Command<'a> { Command { version: Some(version), ..self } }
+    /// Says what the help has of it.
     pub fn about(self, about: &'a str) -> Command<'a> { Command { about, ..self } }
-    pub fn subcommand_required(self, _is: bool) -> Command<'a> { self }
-    pub fn arg_required_else_help(self, _is: bool) -> Command<'a> { self }
-    pub fn args(self, args: Vec<Arg<'a>>) -> Result<Command<'a>, AllocError> { Ok(Command { args, ..self }) }
-    pub fn subcommand(mut self, of: Command<'a>) -> Result<Command<'a>, AllocError> { self.below.push(of); Ok(self) }
-
-    fn usage(&self, program: &str) -> String {
-        if !self.below.is_empty() {
-            return format!("Usage: {program} <COMMAND>\n");
-        }
-        let mut out = format!("Usage: {program} {} [OPTIONS]", self.name);
-        for arg in self.args.iter().filter(|it| it.required && it.long).chain(self.args.iter().filter(|it| !it.long)) {
-            let _ = write!(out, " {}", arg.left());
-        }
-        out + "\n"
+    /// Says that one of its subcommands has to be used, as always.
+    pub fn subcommand_required(self, required: bool) -> Command<'a> { Command { required, ..self } }
+    /// Says whether it prints the help where nothing is used.
+    pub fn arg_required_else_help(self, required: bool) -> Command<'a> { Command { required, ..self } }
+    /// Adds arguments.
+    pub fn args(mut self, args: Vec<Arg<'a>>) -> Result<Command<'a>, AllocError> {
+        self.args.fallible_extend_from_slice(&args)?;
+        Ok(self)
     }
 
-    fn help(&self, program: &str) -> String {
-        let mut out = format!("{}\n\n{}", self.about, self.usage(program));
-        let mut table = |title: &str, rows: Vec<(String, String)>| {
-            let width = rows.iter().map(|it| it.0.len()).max().unwrap_or(0);
-            let _ = write!(out, "\n{title}:\n");
-            for (left, right) in rows {
-                let _ = writeln!(out, "  {left:width$}  {right}");
-            }
-        };
-        if !self.below.is_empty() {
-            let mut rows: Vec<_> = self.below.iter().map(|it| (it.name.to_owned(), it.about.to_owned())).collect();
-            rows.push(("help".into(), "Print this message or the help of the given subcommand(s)".into()));
-            table("Commands", rows);
-            table("Options", vec![("-h, --help".into(), "Print help".into()), ("-V, --version".into(), "Print version".into())]);
-            return out;
-        }
-        table("Arguments", self.args.iter().filter(|it| !it.long).map(|it| (it.left(), it.help.into())).collect());
-        let mut rows: Vec<_> = self.args.iter().filter(|it| it.long).map(|it| {
-            let right = match &it.parser {
-                Parser::Names(names) => format!("{} [possible values: {}]", it.help, names.join(", ")),
-                _ => it.help.to_owned(),
-            };
-            (format!("    {}", it.left()), right)
-        }).collect();
-        rows.push(("-h, --help".into(), "Print help".into()));
-        table("Options", rows);
-        out
+    /// Adds a subcommand.
+    pub fn subcommand(mut self, command: Command<'a>) -> Result<Command<'a>, AllocError> {
+        self.below.fallible_push(command)?;
+        Ok(self)
     }
 
-    pub fn try_get_matches_from(self, words: &'a [String]) -> Result<ArgMatches<'a>, Error> {
-        let said = |kind, text| Error { kind, text };
-        let program = words.first().map_or(self.name, |it| it.rsplit('/').next().unwrap_or(it));
-        let other = |of: &Command<'a>, what: String| {
-            said(ErrorKind::Other, format!("error: {what}\n\n{}\nFor more information, try '--help'.\n", of.usage(program)))
-        };
-        let named = |name: &str| self.below.iter().find(|it| it.name == name);
-        let first = words.get(1).map(String::as_str);
-        let of = match first {
-            None => return Err(said(ErrorKind::Other, self.help(program))),
-            Some("-h" | "--help") => return Err(said(ErrorKind::DisplayHelp, self.help(program))),
-            Some("-V" | "--version") => return Err(said(ErrorKind::DisplayVersion, format!("{} {}\n", self.name, self.version))),
-            Some("help") => {
-                let of = words.get(2).map_or(Some(&self), |name| named(name));
-                return Err(match of {
-                    Some(of) => said(ErrorKind::DisplayHelp, of.help(program)),
-                    None => other(&self, format!("unrecognized subcommand '{}'", words[2])),
-                });
-            }
-            Some(name) if name.starts_with('-') => return Err(other(&self, format!("unexpected argument '{name}' found"))),
-            Some(name) => named(name).ok_or_else(|| other(&self, format!("unrecognized subcommand '{name}'")))?,
-        };
-        let mut found: Vec<(&'a str, Vec<&'a str>)> = Vec::new();
-        let (mut rest, mut plain) = (words[2..].iter().map(String::as_str), false);
-        while let Some(word) = rest.next() {
-            let (arg, value) = if !plain && word == "--" {
-                plain = true;
-                continue;
-            } else if !plain && (word == "-h" || word == "--help") {
-                return Err(said(ErrorKind::DisplayHelp, of.help(program)));
-            } else if !plain && word.len() > 1 && word.starts_with('-') {
-                let unknown = || other(of, format!("unexpected argument '{word}' found"));
-                let (name, value) = word.strip_prefix("--").map(|it| it.split_once('=').map_or((it, None), |(a, b)| (a, Some(b)))).ok_or_else(unknown)?;
-                let arg = of.args.iter().find(|it| it.long && it.id == name).ok_or_else(unknown)?;
-                match (arg.flag, value) {
-                    (true, None) => (arg, ""),
-                    (true, Some(value)) => return Err(other(of, format!("unexpected value '{value}' for '--{name}' found; no more were expected"))),
-                    (false, Some(value)) => (arg, value),
-                    (false, None) => (arg, rest.next().filter(|it| it.len() < 2 || !it.starts_with('-')).ok_or_else(|| other(of, format!("a value is required for '{}' but none was supplied", arg.left())))?),
-                }
-            } else {
-                let arg = of.args.iter().find(|it| !it.long && (it.many || found.iter().all(|(id, _)| *id != it.id)));
-                (arg.ok_or_else(|| other(of, format!("unexpected argument '{word}' found")))?, word)
-            };
-            let fits = match &arg.parser {
-                Parser::Any => true,
-                Parser::Most(most) => value.parse::<u64>().is_ok_and(|it| it <= *most),
-                Parser::Names(names) => names.iter().any(|it| it == value),
-            };
-            if !fits {
-                return Err(other(of, format!("invalid value '{value}' for '{}'", arg.left())));
-            }
-            match found.iter_mut().find(|(id, _)| *id == arg.id) {
-                Some((_, values)) if arg.many => values.push(value),
-                Some(_) => return Err(other(of, format!("the argument '{}' cannot be used multiple times", arg.left()))),
-                None => found.push((arg.id, vec![value])),
-            }
+    /// Returns what the words say, of which the first is the program's file.
+    pub fn try_get_matches_from(mut self, words: &'a [String]) -> Result<ArgMatches<'a>, Error> {
+        let file = words.first().map_or("", |word| word.trim_end_matches('/'));
+        let name = file.rsplit('/').next().filter(|name| *name != "..").unwrap_or("");
+        self.build(String::fallible_from_str(name)?)?;
+        parser::parse(&self, words.get(1..).unwrap_or(&[]))
+    }
+
+    /// Adds the flags and the subcommand for the help and the version, also below.
+    fn build(&mut self, path: String) -> Result<(), AllocError> {
+        let flag = |short, id| Arg { short: Some(short), ..Arg::new(id).long(id) };
+        self.args.fallible_push(flag('h', "help").action(ArgAction::Help).help("Print help"))?;
+        if self.version.is_some() {
+            self.args.fallible_push(flag('V', "version").action(ArgAction::Version).help("Print version"))?;
         }
-        let missing: Vec<_> = of.args.iter().filter(|it| it.required && found.iter().all(|(id, _)| *id != it.id)).collect();
-        if !missing.is_empty() {
-            let rows: String = missing.iter().map(|it| format!("\n  {}", it.left())).collect();
-            return Err(other(of, format!("the following required arguments were not provided:{rows}")));
+        let space = if path.is_empty() { "" } else { " " };
+        for below in &mut self.below {
+            below.build(fallible_format!("{path}{space}{}", below.name)?)?;
         }
-        let below = ArgMatches { found, below: None };
-        Ok(ArgMatches { found: Vec::new(), below: Some((of.name, Box::new(below))) })
+        if !self.below.is_empty() {
+            let topic = Arg::new("COMMAND").num_args(1..).help("Print help for the subcommand(s)");
+            let help = Command::new("help").about("Print this message or the help of the given subcommand(s)");
+            let path = fallible_format!("{path}{space}help")?;
+            self.below.fallible_push(Command { path, ..help.args(fallible_vec![topic]?)? })?;
+        }
+        self.path = path;
+        Ok(())
     }
 }
 
-pub struct ArgMatches<'a> { found: Vec<(&'a str, Vec<&'a str>)>, below: Option<(&'a str, Box<ArgMatches<'a>>)> }
+/// The arguments that were used, in the order of their first uses, with their values, and the subcommand.
+#[derive(Default)]
+pub struct ArgMatches<'a> {
+    used: Vec<(Arg<'a>, Vec<&'a str>)>,
+    /// In a vector, which fails without memory where a box ends the program.
+    below: Vec<(&'a str, ArgMatches<'a>)>,
+}
 
 impl<'a> ArgMatches<'a> {
-    pub fn subcommand(&self) -> Option<(&str, &ArgMatches<'a>)> { self.below.as_ref().map(|(name, of)| (*name, &**of)) }
+    /// Returns the subcommand that was used.
+    pub fn subcommand(&self) -> Option<(&'a str, &ArgMatches<'a>)> { self.below.first().map(|(name, of)| (*name, of)) }
+    /// Returns the values of an argument that was used.
     pub fn get_strs(&self, id: &str) -> Option<&[&'a str]> {
-        self.found.iter().find(|it| it.0 == id).map(|it| it.1.as_slice())
+        self.used.iter().find(|(arg, _)| arg.id == id).map(|(_, values)| values.as_slice())
     }
-    pub fn get_str(&self, id: &str) -> Option<&'a str> { self.get_strs(id)?.last().copied() }
+    /// Returns the first value of an argument.
+    pub fn get_str(&self, id: &str) -> Option<&'a str> { self.get_strs(id)?.first().copied() }
+    /// Returns the number that is the first value of an argument, also of `-0`.
+    pub fn get_one<T: FromStr>(&self, id: &str) -> Option<T> { self.get_str(id)?.trim_start_matches('-').parse().ok() }
+    /// Returns whether a flag is set.
     pub fn get_flag(&self, id: &str) -> bool { self.get_strs(id).is_some() }
-    pub fn get_one<T: std::str::FromStr>(&self, id: &str) -> Option<T> { self.get_str(id)?.parse().ok() }
 }
