@@ -25,17 +25,22 @@ pub(super) fn reserve_path(path: &str) -> Result<(), Error> {
 /// Returns standard input without Rust's buffer.
 #[cfg(unix)]
 pub(super) fn standard_input() -> std::io::Result<File> {
-    use std::os::fd::AsFd;
-    check_open(0)?;
-    Ok(File::from(std::io::stdin().as_fd().try_clone_to_owned()?))
+    stream(0)
 }
 
 /// Returns standard output without Rust's buffer, which says of a closed stream that it was written to.
 #[cfg(unix)]
 pub(super) fn standard_output() -> std::io::Result<File> {
-    use std::os::fd::AsFd;
-    check_open(1)?;
-    Ok(File::from(std::io::stdout().as_fd().try_clone_to_owned()?))
+    stream(1)
+}
+
+/// Returns a standard stream. Rust's handle of it would make a buffer first, and end the program without memory for one.
+#[cfg(unix)]
+fn stream(descriptor: std::os::fd::RawFd) -> std::io::Result<File> {
+    check_open(descriptor)?;
+    // SAFETY: Rust has the descriptors 0 to 2 open before `main`, and nothing closes them.
+    let stream = unsafe { std::os::fd::BorrowedFd::borrow_raw(descriptor) };
+    Ok(File::from(stream.try_clone_to_owned()?))
 }
 
 /// Returns standard input without Rust's buffer.

@@ -1,5 +1,6 @@
 //! Linux with the library of GNU: it calls the functions of a program's section `.init_array` before `main`, with the
-//! program's arguments. Rust's own library relies on that too. The package's only `unsafe` blocks are here.
+//! program's arguments. Rust's own library relies on that too. The package's only `unsafe` blocks are here, and
+//! where a standard stream is named by its number.
 
 use core::ffi::{CStr, c_char, c_int};
 use std::fmt;
