@@ -69,7 +69,10 @@ impl<'a> Parser<'_, 'a> {
         }
         self.judge_pending()?;
         match value {
-            None if arg.takes_value() => Ok(self.pending = Some((arg, Vec::new()))),
+            None if arg.takes_value() => {
+                self.pending = Some((arg, Vec::new()));
+                Ok(())
+            }
             _ => self.judge(arg, Vec::fallible_from_slice(value.as_slice())?),
         }
     }
