@@ -17,24 +17,24 @@ pub(crate) mod clap;
 pub(crate) mod serde_json;
 
 // Generated from here on. A form is the one that is proved.
-#[allow(clippy::complexity, clippy::style)]
+#[allow(clippy::complexity, clippy::perf, clippy::style)]
 pub mod audit_text;
-#[allow(clippy::complexity, clippy::style)]
+#[allow(clippy::complexity, clippy::perf, clippy::style)]
 pub mod file_input;
-#[allow(clippy::complexity, clippy::style)]
+#[allow(clippy::complexity, clippy::perf, clippy::style)]
 pub mod uefi_audit;
 // A field is read by contracts alone.
-#[allow(dead_code, clippy::complexity, clippy::style)]
+#[allow(dead_code, clippy::complexity, clippy::perf, clippy::style)]
 pub mod uefi_audits;
-#[allow(clippy::complexity, clippy::style)]
+#[allow(clippy::complexity, clippy::perf, clippy::style)]
 pub mod uefi_list;
-#[allow(clippy::complexity, clippy::style)]
+#[allow(clippy::complexity, clippy::perf, clippy::style)]
 pub mod uefi_listing;
 
 // Generated too. The programs call a part of them.
-#[allow(dead_code, clippy::complexity, clippy::style)]
+#[allow(dead_code, clippy::complexity, clippy::perf, clippy::style)]
 pub(crate) mod hex;
-#[allow(dead_code, clippy::complexity, clippy::style)]
+#[allow(dead_code, clippy::complexity, clippy::perf, clippy::style)]
 pub(crate) mod sha2;
 pub(crate) mod uefi_base {
     //! What isn't public in the package `uefi-formats`.
