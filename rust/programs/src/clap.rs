@@ -1,6 +1,6 @@
 //! The calls of the toolchain's `clap` that the programs make: subcommands, options and flags with long names,
 //! positionals, the help, and the messages for other words, with the names that are similar. It is written by hand, and
-//! isn't proved.
+//! isn't proved. `tests/command_lines` compares it with the toolchain's.
 //!
 //! It does less: a command has either subcommands, of which one has to be used, or arguments. An option takes one value
 //! a use, and only the last positional takes many. An argument names at most one that it needs, one that can't be used
@@ -9,8 +9,7 @@
 mod parser;
 mod shown;
 
-use crate::host::io::{self, Write as _};
-use crate::host::rt::{Eprint, Print};
+use crate::host::{io::{self, Write as _}, rt::{Eprint, Print}};
 use crate::support::fallible::{FallibleString, FallibleVec};
 use error::ErrorKind;
 use std::{ops::RangeFrom, str::FromStr};
@@ -32,10 +31,8 @@ impl Error {
 
     /// Prints the help or the version on standard output, and what is wrong on standard error.
     pub fn print<R: Print + Eprint>(&self, rt: &R) -> io::Result<()> {
-        match self.kind {
-            ErrorKind::DisplayHelp | ErrorKind::DisplayVersion => io::writer(rt).write_all(self.text.as_bytes()),
-            ErrorKind::InvalidWords | ErrorKind::OutOfMemory => rt.tell(self.text.as_bytes()),
-        }
+        let is_asked_for = matches!(self.kind, ErrorKind::DisplayHelp | ErrorKind::DisplayVersion);
+        if is_asked_for { io::writer(rt).write_all(self.text.as_bytes()) } else { rt.tell(self.text.as_bytes()) }
     }
 }
 
@@ -44,12 +41,12 @@ impl From<AllocError> for Error {
 }
 
 /// What a use of an argument does: it keeps the one value, adds a value to others, sets a flag, or prints and ends.
-#[derive(Clone, Copy, PartialEq, Eq)]
-pub enum ArgAction { Set, Append, SetTrue, Help, Version }
+#[derive(Clone, Copy, PartialEq, Eq, Default)]
+pub enum ArgAction { #[default] Set, Append, SetTrue, Help, Version }
 
 /// What a value has to be: any text, a number from 0 to this one, or one of these names.
-#[derive(Clone, Copy)]
-pub enum ValueParser<'a> { Text, UpTo(i64), OneOf(&'a [&'a str]) }
+#[derive(Clone, Copy, Default)]
+pub enum ValueParser<'a> { #[default] Text, UpTo(i64), OneOf(&'a [&'a str]) }
 
 impl<'a> From<&'a [&'a str]> for ValueParser<'a> {
     fn from(names: &'a [&'a str]) -> ValueParser<'a> { ValueParser::OneOf(names) }
@@ -62,11 +59,11 @@ macro_rules! value_parser {
 pub(crate) use value_parser;
 
 /// An argument: an option or a flag if it has a long name, and else a positional.
-#[derive(Clone, Copy)]
+#[derive(Clone, Copy, Default)]
 pub struct Arg<'a> {
     id: &'a str,
     long: Option<&'a str>,
-    short: Option<char>,
+    short: Option<&'a str>,
     value_name: &'a str,
     help: &'a str,
     required: bool,
@@ -79,12 +76,7 @@ pub struct Arg<'a> {
 
 impl<'a> Arg<'a> {
     /// Returns a positional with this id.
-    pub fn new(id: &'a str) -> Arg<'a> {
-        let (action, parser) = (ArgAction::Set, ValueParser::Text);
-        let (long, short, required, needs, excludes, unless) = (None, None, false, None, None, None);
-        Arg { id, long, short, value_name: id, help: "", required, action, parser, needs, excludes, unless }
-    }
-
+    pub fn new(id: &'a str) -> Arg<'a> { Arg { id, value_name: id, ..Arg::default() } }
     /// Makes it the option or flag `--LONG`.
     pub fn long(self, long: &'a str) -> Arg<'a> { Arg { long: Some(long), ..self } }
     /// Says how its value is shown.
@@ -104,13 +96,22 @@ impl<'a> Arg<'a> {
     /// Says which argument can't be used with it.
     pub fn conflicts_with(self, id: &'a str) -> Result<Arg<'a>, AllocError> { Ok(Arg { excludes: Some(id), ..self }) }
     /// Says without which argument it has to be used.
-    pub fn required_unless_present(self, id: &'a str) -> Result<Arg<'a>, AllocError> { Ok(Arg { unless: Some(id), ..self }) }
+    pub fn required_unless_present(self, unless: &'a str) -> Result<Arg<'a>, AllocError> {
+        Ok(Arg { unless: Some(unless), ..self })
+    }
 
     /// Returns whether a use has a value.
     fn takes_value(&self) -> bool { matches!(self.action, ArgAction::Set | ArgAction::Append) }
+
+    /// Returns the values that it may have, if it has them by name.
+    fn possible(&self, space: &str) -> Result<String, AllocError> {
+        let ValueParser::OneOf(names) = self.parser else { return Ok(String::new()) };
+        fallible_format!("{space}[possible values: {}]", shown::joined(names, "")?)
+    }
 }
 
 /// A program, or a subcommand of it.
+#[derive(Default)]
 pub struct Command<'a> {
     name: &'a str,
     /// The names before its own and its own, of which the first is that of the program's file.
@@ -124,45 +125,38 @@ pub struct Command<'a> {
 
 impl<'a> Command<'a> {
     /// Returns a command without arguments.
-    pub fn new(name: &'a str) -> Command<'a> {
-        let (path, args, below) = (String::new(), Vec::new(), Vec::new());
-        Command { name, path, version: None, about: "", args, below, required: false }
-    }
-
+    pub fn new(name: &'a str) -> Command<'a> { Command { name, ..Command::default() } }
     /// Says which version `--version` prints.
     pub fn version(self, version: &'a str) -> Command<'a> { Command { version: Some(version), ..self } }
     /// Says what the help has of it.
     pub fn about(self, about: &'a str) -> Command<'a> { Command { about, ..self } }
-    /// Says that one of its subcommands has to be used, as always.
+    /// Says whether it prints the help where no subcommand is used.
     pub fn subcommand_required(self, required: bool) -> Command<'a> { Command { required, ..self } }
-    /// Says whether it prints the help where nothing is used.
+    /// Says the same of arguments.
     pub fn arg_required_else_help(self, required: bool) -> Command<'a> { Command { required, ..self } }
     /// Adds arguments.
     pub fn args(mut self, args: Vec<Arg<'a>>) -> Result<Command<'a>, AllocError> {
-        self.args.fallible_extend_from_slice(&args)?;
-        Ok(self)
+        self.args.fallible_extend_from_slice(&args).map(|()| self)
     }
 
     /// Adds a subcommand.
     pub fn subcommand(mut self, command: Command<'a>) -> Result<Command<'a>, AllocError> {
-        self.below.fallible_push(command)?;
-        Ok(self)
+        self.below.fallible_push(command).map(|()| self)
     }
 
     /// Returns what the words say, of which the first is the program's file.
     pub fn try_get_matches_from(mut self, words: &'a [String]) -> Result<ArgMatches<'a>, Error> {
-        let file = words.first().map_or("", |word| word.trim_end_matches('/'));
-        let name = file.rsplit('/').next().filter(|name| *name != "..").unwrap_or("");
-        self.build(String::fallible_from_str(name)?)?;
+        let file = words.first().map_or("", |word| word.trim_end_matches('/')).rsplit('/').next().unwrap_or("");
+        self.build(String::fallible_from_str(if file == ".." { "" } else { file })?)?;
         parser::parse(&self, words.get(1..).unwrap_or(&[]))
     }
 
     /// Adds the flags and the subcommand for the help and the version, also below.
     fn build(&mut self, path: String) -> Result<(), AllocError> {
-        let flag = |short, id| Arg { short: Some(short), ..Arg::new(id).long(id) };
-        self.args.fallible_push(flag('h', "help").action(ArgAction::Help).help("Print help"))?;
+        let flag = |short, id, action, help| Arg { short: Some(short), action, help, ..Arg::new(id).long(id) };
+        self.args.fallible_push(flag("h", "help", ArgAction::Help, "Print help"))?;
         if self.version.is_some() {
-            self.args.fallible_push(flag('V', "version").action(ArgAction::Version).help("Print version"))?;
+            self.args.fallible_push(flag("V", "version", ArgAction::Version, "Print version"))?;
         }
         let space = if path.is_empty() { "" } else { " " };
         for below in &mut self.below {

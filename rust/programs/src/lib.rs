@@ -15,6 +15,7 @@ pub(crate) mod support;
 pub mod host;
 pub(crate) mod clap;
 pub(crate) mod serde_json;
+pub(crate) mod strsim;
 
 // Generated from here on. A form is the one that is proved.
 #[allow(clippy::complexity, clippy::perf, clippy::style)]

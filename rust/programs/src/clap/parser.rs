@@ -10,12 +10,9 @@ pub(super) fn parse<'a>(command: &Command<'a>, words: &'a [String]) -> Result<Ar
     let mut words = words.iter();
     while let Some(word) = words.next() {
         let rest = words.as_slice();
-        match command.below.iter().find(|below| below.name == word) {
+        match command.subcommand_named(word) {
             Some(below) if below.name == "help" => return help_of(command, rest),
-            Some(below) => {
-                let below = fallible_vec![(below.name, parse(below, rest)?)]?;
-                return Ok(ArgMatches { below, ..parser.found });
-            }
+            Some(it) => return Ok(ArgMatches { below: fallible_vec![(it.name, parse(it, rest)?)]?, ..parser.found }),
             None if word == "--" => words.try_for_each(|word| parser.read_value(word, true))?,
             None if word.len() > 1 && word.starts_with('-') => parser.read_name(word, rest)?,
             None => parser.read_value(word, false)?,
@@ -28,12 +25,10 @@ pub(super) fn parse<'a>(command: &Command<'a>, words: &'a [String]) -> Result<Ar
 
 /// Fails with the help of the command that the words name below another.
 fn help_of<T>(command: &Command<'_>, words: &[String]) -> Result<T, Error> {
-    let Some((name, rest)) = words.split_first() else {
-        return Err(command.help(ErrorKind::DisplayHelp)?);
-    };
-    match command.below.iter().find(|below| below.name == name) {
-        Some(below) => help_of(below, rest),
-        None => command.fail(format_args!("unrecognized subcommand '{name}'"), Some(&[])),
+    match words.split_first().map(|(name, rest)| (name, command.subcommand_named(name), rest)) {
+        None => Err(command.help(ErrorKind::DisplayHelp)?),
+        Some((_, Some(below), rest)) => help_of(below, rest),
+        Some((name, None, _)) => command.fail(format_args!("unrecognized subcommand '{name}'"), Some(&[])),
     }
 }
 
@@ -48,16 +43,15 @@ struct Parser<'c, 'a> {
 }
 
 impl<'a> Parser<'_, 'a> {
-    /// Reads `--NAME`, `--NAME=VALUE`, or `-N`, after which only flags can come that are never reached.
+    /// Reads `--NAME`, `--NAME=VALUE`, or `-N`. What follows in the word isn't reached, since each `-N` prints and ends.
     fn read_name(&mut self, word: &'a str, rest: &'a [String]) -> Result<(), Error> {
-        let (name, value) = match word.strip_prefix("--") {
-            Some(_) => word.split_once('=').map_or((word, None), |(name, value)| (name, Some(value))),
-            None => (&word[..1 + word[1..].chars().next().map_or(0, char::len_utf8)], None),
+        let (name, value) = match word.split_once('=') {
+            Some((name, value)) if word.starts_with("--") => (name, Some(value)),
+            None if word.starts_with("--") => (word, None),
+            _ => (&word[..word.char_indices().nth(2).map_or(word.len(), |(end, _)| end)], None),
         };
-        let is_named = |arg: &&Arg| match name.strip_prefix("--") {
-            Some(long) => arg.long == Some(long),
-            None => arg.short == name.chars().nth(1),
-        };
+        let is_name = |hyphens, it: Option<&str>| it.is_some() && name.strip_prefix(hyphens) == it;
+        let is_named = |arg: &&Arg| is_name("--", arg.long) || is_name("-", arg.short);
         let Some(arg) = self.command.args.iter().find(is_named) else {
             return self.fail_for_name(name, rest);
         };
@@ -68,20 +62,17 @@ impl<'a> Parser<'_, 'a> {
             return self.command.fail(wrong, Some(&shown));
         }
         self.judge_pending()?;
-        match value {
-            None if arg.takes_value() => {
-                self.pending = Some((arg, Vec::new()));
-                Ok(())
-            }
-            _ => self.judge(arg, Vec::fallible_from_slice(value.as_slice())?),
+        if value.is_none() && arg.takes_value() {
+            self.pending = Some((arg, Vec::new()));
+            return Ok(());
         }
+        self.judge(arg, Vec::fallible_from_slice(value.as_slice())?)
     }
 
     /// Reads a value of the option before it, or of a positional.
     fn read_value(&mut self, word: &'a str, after_hyphens: bool) -> Result<(), Error> {
-        match &mut self.pending {
-            Some((_, values)) if values.is_empty() && !after_hyphens => return Ok(values.fallible_push(word)?),
-            _ => {}
+        if let Some((_, values)) = &mut self.pending && values.is_empty() && !after_hyphens {
+            return Ok(values.fallible_push(word)?);
         }
         let Some(arg) = self.command.positionals().nth(self.filled) else {
             return self.fail_for_word(word, after_hyphens);
@@ -120,10 +111,9 @@ impl<'a> Parser<'_, 'a> {
             return self.command.fail(format_args!("the argument '{arg}' cannot be used multiple times"), Some(&[]));
         }
         let judged = values.iter().try_for_each(|value| self.judge_value(arg, value));
-        let kept = if judged.is_ok() { &values[..] } else { &[] };
         match self.found.used.iter_mut().find(|(used, _)| used.id == arg.id) {
-            Some((_, all)) => all.fallible_extend_from_slice(kept)?,
-            None => self.found.used.fallible_push((*arg, Vec::fallible_from_slice(kept)?))?,
+            Some((_, all)) => all.fallible_extend_from_slice(&values)?,
+            None => self.found.used.fallible_push((*arg, values))?,
         }
         judged
     }
@@ -156,42 +146,39 @@ impl<'a> Parser<'_, 'a> {
     /// Fails for the name of no argument. Tips at what is similar here, or below the subcommands that follow.
     fn fail_for_name(&mut self, name: &str, rest: &[String]) -> Result<(), Error> {
         self.forget_pending()?;
-        let (command, mut used) = (self.command, unique(self.used())?);
-        let long = name.strip_prefix("--").unwrap_or("");
-        let closest = |of: &Command<'a>| similar(long, of.args.iter().filter_map(|arg| arg.long)).map(|mut it| it.pop());
-        let mut tip = String::new();
-        if let Some(long) = closest(command)? {
+        let (command, long) = (self.command, name.strip_prefix("--"));
+        let longs = |of: &Command<'a>| similar(long.unwrap_or(""), of.args.iter().filter_map(|arg| arg.long));
+        let (mut tip, mut used) = (String::new(), unique(self.used().filter(|_| long.is_some()))?);
+        if let Some(long) = longs(command)?.pop() {
             tip = fallible_format!("\n\n  tip: a similar argument exists: '--{long}'")?;
             used = unique(used.iter().chain(command.args.iter().find(|arg| arg.long == Some(long))))?;
         } else if command.positionals().next().is_some() {
             tip = fallible_format!("\n\n  tip: to pass '{name}' as a value, use '-- {name}'")?;
         }
-        for below in rest.iter().filter_map(|word| command.below.iter().find(|below| below.name == word)) {
-            if let (true, Some(long)) = (tip.is_empty(), closest(below)?) {
+        for below in rest.iter().filter_map(|word| command.subcommand_named(word)) {
+            if let (true, Some(long)) = (tip.is_empty(), longs(below)?.pop()) {
                 tip = fallible_format!("\n\n  tip: '{} --{long}' exists", below.name)?;
             }
         }
-        let shown: &[Arg] = if name.starts_with("--") { &used } else { &[] };
-        command.fail(format_args!("unexpected argument '{name}' found{tip}"), Some(shown))
+        command.fail(format_args!("unexpected argument '{name}' found{tip}"), Some(&used))
     }
 
     /// Fails for a word that no positional takes.
     fn fail_for_word(&mut self, word: &str, after_hyphens: bool) -> Result<(), Error> {
         self.forget_pending()?;
-        let below = &self.command.below;
-        if after_hyphens && below.iter().any(|it| it.name == word) {
+        let command = self.command;
+        if after_hyphens && command.subcommand_named(word).is_some() {
             let tip = format_args!("subcommand '{word}' exists; to use it, remove the '--' before it");
-            return self.command.fail(format_args!("unexpected argument '{word}' found\n\n  tip: {tip}"), Some(&[]));
+            return command.fail(format_args!("unexpected argument '{word}' found\n\n  tip: {tip}"), Some(&[]));
         }
-        let similar = similar(word, below.iter().map(|it| it.name))?;
-        let names = joined(&similar, "'")?;
+        let similar = similar(word, command.below.iter().map(|below| below.name))?;
         let (what, tip) = match similar.len() {
-            _ if below.is_empty() => ("unexpected argument", " found"),
+            _ if command.below.is_empty() => ("unexpected argument", " found"),
             0 => ("unrecognized subcommand", ""),
             1 => ("unrecognized subcommand", "\n\n  tip: a similar subcommand exists: "),
             _ => ("unrecognized subcommand", "\n\n  tip: some similar subcommands exist: "),
         };
-        self.command.fail(format_args!("{what} '{word}'{tip}{names}"), Some(&[]))
+        command.fail(format_args!("{what} '{word}'{tip}{}", joined(&similar, "'")?), Some(&[]))
     }
 
     /// Returns the arguments that were used.
@@ -221,9 +208,8 @@ impl<'a> Parser<'_, 'a> {
         }
         let shown = unique(self.used().filter_map(needed).chain(self.used()).chain(&missing))?;
         let mut rows = String::new();
-        for arg in [true, false].iter().flat_map(|is_option| missing.iter().filter(|arg| arg.long.is_some() == *is_option)) {
-            fallible_write!(rows, "\n  {}", Arg { required: true, ..*arg })?;
-        }
+        let of = |is_option| missing.iter().filter(move |arg| arg.long.is_some() == is_option);
+        of(true).chain(of(false)).try_for_each(|arg| fallible_write!(rows, "\n  {}", Arg { required: true, ..*arg }))?;
         command.fail(format_args!("the following required arguments were not provided:{rows}"), Some(&shown))
     }
 }

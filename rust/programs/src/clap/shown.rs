@@ -1,7 +1,7 @@
 //! What is shown of commands and arguments: the usage, the help, and what is wrong with words.
 
-use super::{AllocError, Arg, ArgAction, Command, Error, ErrorKind, ValueParser};
-use crate::support::fallible::{FallibleIterator, FallibleString, FallibleVec};
+use super::{AllocError, Arg, ArgAction, Command, Error, ErrorKind};
+use crate::{strsim::jaro, support::fallible::{FallibleIterator, FallibleString, FallibleVec}};
 use std::fmt;
 
 /// Writes the argument as the usage has it, in brackets if it may be left out.
@@ -19,17 +19,24 @@ impl fmt::Display for Arg<'_> {
 
 impl<'a> Command<'a> {
     /// Returns the positionals.
-    pub(super) fn positionals(&self) -> impl Iterator<Item = &Arg<'a>> { self.args.iter().filter(|arg| arg.long.is_none()) }
+    pub(super) fn positionals(&self) -> impl Iterator<Item = &Arg<'a>> {
+        self.args.iter().filter(|arg| arg.long.is_none())
+    }
+
+    /// Returns the subcommand of this name.
+    pub(super) fn subcommand_named(&self, name: &str) -> Option<&Command<'a>> {
+        self.below.iter().find(|below| below.name == name)
+    }
 
     /// Returns the usage: what is required and what else is to be shown, or all there is.
     fn usage(&self, shown: &[Arg<'a>]) -> Result<String, AllocError> {
-        let mut text = fallible_format!("Usage: {}", if self.path.is_empty() { self.name } else { &self.path })?;
         let is_optional = |arg: &Arg| arg.long.is_some() && arg.short.is_none() && !arg.required;
-        if shown.is_empty() && self.args.iter().any(is_optional) {
-            text.fallible_push_str(" [OPTIONS]")?;
-        }
+        let options = if shown.is_empty() && self.args.iter().any(is_optional) { " [OPTIONS]" } else { "" };
+        let name = if self.path.is_empty() { self.name } else { &self.path };
+        let mut text = fallible_format!("Usage: {name}{options}")?;
         let shown = unique(self.args.iter().filter(|arg| arg.required).chain(shown))?;
-        let positionals = self.positionals().map(|arg| Arg { required: shown.iter().any(|it| it.id == arg.id), ..*arg });
+        let is_shown = |arg: &Arg| shown.iter().any(|it| it.id == arg.id);
+        let positionals = self.positionals().map(|arg| Arg { required: is_shown(arg), ..*arg });
         let mut all = shown.iter().filter(|arg| arg.long.is_some()).copied().chain(positionals);
         all.try_for_each(|arg| fallible_write!(text, " {arg}"))?;
         text.fallible_push_str(if self.below.is_empty() { "" } else { " <COMMAND>" })?;
@@ -61,21 +68,10 @@ impl<'a> Command<'a> {
 
     /// Fails with what is wrong, and the usage if some of it is to be shown.
     pub(super) fn fail<T>(&self, wrong: fmt::Arguments<'_>, shown: Option<&[Arg<'a>]>) -> Result<T, Error> {
-        let mut text = fallible_format!("error: {wrong}")?;
-        if let Some(shown) = shown {
-            fallible_write!(text, "\n\n{}", self.usage(shown)?)?;
-        }
+        let usage = shown.map_or(Ok(String::new()), |shown| fallible_format!("\n\n{}", self.usage(shown)?))?;
         let has_help = self.args.iter().any(|arg| arg.action == ArgAction::Help);
-        text.fallible_push_str(if has_help { "\n\nFor more information, try '--help'.\n" } else { "\n" })?;
-        Err(Error { kind: ErrorKind::InvalidWords, text })
-    }
-}
-
-impl Arg<'_> {
-    /// Returns the values that it may have, if it has them by name.
-    pub(super) fn possible(&self, space: &str) -> Result<String, AllocError> {
-        let ValueParser::OneOf(names) = self.parser else { return Ok(String::new()) };
-        fallible_format!("{space}[possible values: {}]", joined(names, "")?)
+        let hint = if has_help { "\n\nFor more information, try '--help'." } else { "" };
+        Err(Error { kind: ErrorKind::InvalidWords, text: fallible_format!("error: {wrong}{usage}{hint}\n")? })
     }
 }
 
@@ -110,22 +106,4 @@ pub(super) fn similar<'a>(word: &str, names: impl Iterator<Item = &'a str>) -> R
         }
     }
     found.into_iter().map(|(_, name)| name).fallible_collect()
-}
-
-/// Returns how similar two texts are by Jaro, from 0 to 1.
-fn jaro(a: &str, b: &str) -> Result<f64, AllocError> {
-    let (a, b): (Vec<char>, Vec<char>) = (a.chars().fallible_collect()?, b.chars().fallible_collect()?);
-    let range = (a.len().max(b.len()) / 2).saturating_sub(1);
-    let (mut of_a, mut is_taken) = (Vec::new(), Vec::fallible_from_elem(false, b.len())?);
-    for (at, c) in a.iter().enumerate() {
-        let mut near = at.saturating_sub(range)..b.len().min(at + range + 1);
-        if let Some(found) = near.find(|&it| b[it] == *c && !is_taken[it]) {
-            is_taken[found] = true;
-            of_a.fallible_push(c)?;
-        }
-    }
-    let of_b = b.iter().zip(&is_taken).filter(|(_, taken)| **taken).map(|(c, _)| c);
-    let moved = of_a.iter().zip(of_b).filter(|(a, b)| **a != *b).count() / 2;
-    let [found, kept, a, b] = [of_a.len(), of_a.len() - moved, a.len(), b.len()].map(|count| count as f64);
-    Ok(if found == 0.0 { 0.0 } else { (found / a + found / b + kept / found) / 3.0 })
 }
