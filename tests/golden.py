@@ -27,6 +27,19 @@ class Any:
         return bool(other)
 
 
+def program_named(name):
+    """A program's path: the script that proves and builds it first, or, where the command line begins with `--programs DIR`,
+    the one in this folder."""
+    if sys.argv[1:2] == ["--programs"]:
+        return os.path.abspath(f"{sys.argv[2]}/{name}")
+    return f"{TOP}/{name}"
+
+
+def case_names():
+    """The cases that the command line names."""
+    return sys.argv[3 if sys.argv[1:2] == ["--programs"] else 1:]
+
+
 def read(path):
     """The bytes of a file, none if it isn't there."""
     return path.read_bytes() if path.is_file() else b""
@@ -72,7 +85,7 @@ def run(program, folder, *checks):
     the counts, and returns the exit status."""
     # The first call proves and builds the program where that isn't done yet.
     subprocess.run([program, "--version"], capture_output=True, check=False)
-    found, names = cases(folder), sys.argv[1:]
+    found, names = cases(folder), case_names()
     outcomes = [is_as_expected(program, found[it]) for it in names or found]
     with tempfile.TemporaryDirectory(prefix="golden-") as room:
         os.chdir(room)

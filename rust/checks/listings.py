@@ -1,4 +1,4 @@
-"""Listings of uefi_list and of the example of the package in rust/ over the same inputs."""
+"""Listings of the proved uefi_list and of that of the package rust/programs over the same inputs."""
 import os
 import random
 import subprocess
@@ -57,14 +57,14 @@ def build_program():
     subprocess.run([f"{TOP}/uefi_list", "path", "/dev/null"], stdout=subprocess.DEVNULL, check=False)
 
 
-def agree(name, example):
-    """Whether an example prints what the program prints, and enough of it is listings."""
+def agree(name, program):
+    """Whether a program prints what the proved one prints, and enough of it is listings."""
     build_program()
     given = list(inputs())
     with ThreadPoolExecutor(os.cpu_count()) as threads:
-        mine, theirs = (list(threads.map(lambda case: listing(program, case), given)) for program in (example, [PROGRAM]))
+        mine, theirs = (list(threads.map(lambda case: listing(program, case), given)) for program in (program, [PROGRAM]))
     different = [(*case, one, other) for case, one, other in zip(given, mine, theirs) if one != other]
-    yield tells(f"{name}{len(given)} listings are the program's", different[:1], [])
+    yield tells(f"{name}{len(given)} listings are the proved program's", different[:1], [])
     yield tells(f"{name}more than a quarter of them are no refusals", sum(ended[0] == 0 for ended in theirs) > len(given) / 4)
 
 

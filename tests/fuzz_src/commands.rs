@@ -1,5 +1,5 @@
 //! The commands of the programs: what mutations of their inputs begin with, and what plain Rust and
-//! the package in rust/ expect a run to end with. The names of those of `uefi_list` and what they
+//! the package in rust/programs expect a run to end with. The names of those of `uefi_list` and what they
 //! take after FILE come from the plain [`listings`](crate::listings).
 
 use crate::audit;
@@ -8,9 +8,9 @@ use crate::input::Input;
 use crate::listings::{self, List, ThirdWord};
 use crate::program::Ending;
 use std::sync::LazyLock;
-use uefi_list::uefi_listing::command::Command as Asked;
-use uefi_list::uefi_listing::listing::Outcome;
-use uefi_list::uefi_listing::run::run;
+use uefi_tools::uefi_listing::command::Command as Asked;
+use uefi_tools::uefi_listing::listing::Outcome;
+use uefi_tools::uefi_listing::run::run;
 
 const USAGE: &[u8] = b"usage: uefi_list COMMAND FILE [ARG]\n";
 const OTHER_WORDS: i32 = 2;
@@ -79,7 +79,7 @@ impl Command {
         listed(is_refused, listing.unwrap_or_else(|name| format!("refused {name}\n")).into())
     }
 
-    /// What a run by the modules of the package's example `uefi_list` ends with.
+    /// What a run by the package's listings ends with.
     pub fn of_package(&self, input: &Input) -> Ending {
         let words = [self.name.as_bytes(), b"FILE"].into_iter().chain(input.third_word.as_deref());
         let words = words.map(|word| String::from_utf8(word.into())).collect::<Result<Vec<_>, _>>();

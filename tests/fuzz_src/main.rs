@@ -1,5 +1,6 @@
-//! Mutates rows and samples, gives each to plain Rust, of `uefi_list` to the package in rust/, and
-//! some to a proved program, and compares what is printed, the messages and the exit statuses.
+//! Mutates rows and samples, gives each to plain Rust, of `uefi_list` to the package in rust/programs,
+//! and some to a proved program and to the package's, and compares what is printed, the messages and
+//! the exit statuses.
 //!
 //! `fuzz TOP ROOM SECONDS SEED THREADS` gives each thread inputs that follow from SEED and its
 //! number, for so many seconds. TOP is the folder of the repository, and ROOM one for the files of
@@ -24,7 +25,7 @@ mod readers;
 use commands::{COMMANDS, Command, Program};
 use input::Input;
 use mutate::{MAX_LENGTH, Mutator};
-use program::{Ending, FILE};
+use program::{Ending, FILE, Kind};
 use random::Random;
 use std::collections::HashSet;
 use std::fs;
@@ -89,8 +90,8 @@ impl Pool {
         Ok(Pool { command, inputs, shapes: HashSet::new(), counts: [0; 3] })
     }
 
-    /// Runs one input by the package, and one in [`INPUTS_A_RUN`] by the program. Returns the input
-    /// with the endings if one is another than plain Rust expects.
+    /// Runs one input by the package, and one in [`INPUTS_A_RUN`] by both programs. Returns the input
+    /// with the endings if one is another than plain Rust expects, or the programs' aren't the same.
     fn difference(&mut self, random: &mut Random, top: &Path, room: &Path) -> io::Result<Option<String>> {
         let command = self.command;
         let wants_program = random.index(INPUTS_A_RUN) == 0;
@@ -101,7 +102,13 @@ impl Pool {
         let expected = command.expected(&input, FILE);
         let mut endings = Vec::new();
         if wants_program {
-            endings.push(("the program", program::run(command, &input, top, room)?));
+            let run = |kind| program::run(kind, command, &input, top, room);
+            let (proved, packaged) = (run(Kind::Proved)?, run(Kind::Packaged)?);
+            if proved != packaged {
+                let name = command.name;
+                return Ok(Some(format!("command: {name}\n{input}proved: {proved}packaged: {packaged}")));
+            }
+            endings.push(("the program", program::compared(command, proved)));
         }
         if command.program == Program::List {
             let ending = catch_unwind(AssertUnwindSafe(|| command.of_package(&input)));

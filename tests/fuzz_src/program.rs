@@ -1,4 +1,4 @@
-//! Runs of the proved programs.
+//! Runs of the programs, the proved ones and those of the package in rust/programs.
 
 use crate::audit;
 use crate::commands::{self, Program};
@@ -46,9 +46,18 @@ fn words(command: &commands::Command, file: &str, input: &Input) -> (&'static st
     ("uefi_list", words.map(Vec::from).collect())
 }
 
-/// What a run is compared by. Of the blocks of events these are the first lines. The message of other
+/// Which programs there are.
+#[derive(Clone, Copy)]
+pub enum Kind {
+    /// Those that are proved.
+    Proved,
+    /// Those of the package, which the script has built in the folder of the runs' folders.
+    Packaged,
+}
+
+/// What plain Rust can expect of a run. Of the blocks of events these are the first lines. The message of other
 /// words is partly that of `clap`.
-fn compared(command: &commands::Command, mut ending: Ending) -> Ending {
+pub fn compared(command: &commands::Command, mut ending: Ending) -> Ending {
     if command.program == Program::Audit && ending.status == 2 {
         ending.message.clear();
     }
@@ -61,16 +70,20 @@ fn compared(command: &commands::Command, mut ending: Ending) -> Ending {
     ending
 }
 
-/// Runs the program, with the input in a file of a folder.
-pub fn run(command: &commands::Command, input: &Input, top: &Path, room: &Path) -> io::Result<Ending> {
+/// Runs a program, with the input in a file of a folder.
+pub fn run(kind: Kind, command: &commands::Command, input: &Input, top: &Path, room: &Path) -> io::Result<Ending> {
     fs::write(room.join(FILE), &input.bytes)?;
     fs::write(room.join(other_name(FILE)), &input.other)?;
     let (name, words) = words(command, FILE, input);
+    let folder = match kind {
+        Kind::Proved => top.join("crates").join(name).join("out"),
+        Kind::Packaged => room.join(".."),
+    };
     let mut run = Command::new("timeout");
-    run.arg(SECONDS).arg(top.join("crates").join(name).join("out").join(name));
+    run.arg(SECONDS).arg(folder.join(name));
     run.args(words.iter().map(|word| OsStr::from_bytes(word)));
     let ran = run.current_dir(room).stdin(Stdio::null()).output()?;
     // A signal isn't a status of the program.
     let status = ran.status.code().unwrap_or(-1);
-    Ok(compared(command, Ending { status, output: ran.stdout, message: ran.stderr }))
+    Ok(Ending { status, output: ran.stdout, message: ran.stderr })
 }

@@ -1,4 +1,4 @@
-//! The repository's tests of the libraries and of the listings, written out by `tools/erase`, and by
+//! The repository's tests of the libraries, written out by `tools/erase`, and by
 //! hand each allocation refused in turn, and every `# Panics`.
 
 // Rows are tuples, and a step is a closure, to which the source passes an allocator.
@@ -14,13 +14,7 @@
 extern crate alloc;
 
 #[macro_use]
-#[path = "../../examples/uefi_list/text.rs"]
 mod text;
-
-/// `format!`, which may run out of memory.
-macro_rules! fallible_format {
-    ($($form:tt)*) => { Ok::<String, crate::support::alloc::AllocError>(format!($($form)*)) };
-}
 
 // These have what is for tests that are left out, too.
 #[allow(dead_code, unused_imports)]
@@ -31,11 +25,9 @@ mod conversions;
 mod debug;
 mod equality;
 mod formats;
-#[path = "../../examples/uefi_list/hex.rs"]
 mod hex;
 #[allow(dead_code)]
 mod hii_tests;
-mod listing_tests;
 mod macros;
 mod map_tests;
 mod memory;
@@ -50,11 +42,8 @@ mod sizes;
 mod sm3_tests;
 mod support;
 mod tcg_tests;
+#[allow(dead_code)]
 mod test_support;
-// A function of it is there for a proof.
-#[allow(dead_code, clippy::ptr_arg)]
-#[path = "../../examples/uefi_list/uefi_listing/mod.rs"]
-mod uefi_listing;
 
 use formats::{pcr_replay, tpm_quote, uefi_base, uefi_hii, uefi_map, uefi_node, uefi_path, uefi_records, uefi_tcg};
 

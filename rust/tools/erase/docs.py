@@ -14,8 +14,8 @@ SENTENCE = re.compile(r'(?<=[.:])\s+(?=[A-Z`\[])')
 class Docs:
     """The folder of the examples, and which of them have been used."""
 
-    def __init__(self, folder, libraries):
-        self.folder, self.used, self.unsaid = folder, set(), PROOF
+    def __init__(self, folder, libraries, home='crate::formats'):
+        self.folder, self.home, self.used, self.unsaid = folder, home, set(), PROOF
         self.path = re.compile(rf'(?<=[`(\[])(crate|{"|".join(libraries)})::')
 
     def files(self):
@@ -42,7 +42,7 @@ class Docs:
         text = self.with_example(source, i, text, example) if '```' in text else text
         parts = [paragraph(part, 96 - len(indent), self.unsaid) for part in ASIDE.sub('', text).split('\n\n')]
         text = '\n\n'.join(part for part in parts if part)
-        text = self.path.sub(lambda it: f'crate::formats::{crate if it[1] == "crate" else it[1]}::', text)
+        text = self.path.sub(lambda it: f'{self.home}::{crate if it[1] == "crate" else it[1]}::', text)
         return '\n'.join(f'{indent}//{mark} {line}'.rstrip() for line in text.split('\n')) if text else ''
 
     def with_example(self, source, i, text, example):

@@ -17,7 +17,7 @@ def read(path):
 
 def module_of(stem):
     """The path of the module of a file in its crate."""
-    return () if stem == 'lib' else tuple(stem.split('/'))
+    return () if stem in ('lib', 'main') else tuple(stem.split('/'))
 
 
 def imported(source, keyword):

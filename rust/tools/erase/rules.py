@@ -13,7 +13,7 @@ GHOST = rules([
     ("#![tactic $x]", ""), ("#[tactic $x]", ""), ("#[cycle]", ""), ("#[derive(Drop)]", ""), ("pub mod laws;", ""),
     ("use std::marker::Model;", ""), ("impl Model for $$type { }", ""), ("impl<$a> Model for $$type { }", ""),
     ("(Drop, $next", "($next"), (", Drop, ", ", "), (", Drop)", ")"), (": Drop +", ":"), ("+ Drop", ""), (": Drop", ""),
-    (", laws,", ","), (", laws}", "}"), ("{laws, $next", "{$next"), ("use $a::laws;", ""), ("one_contents();", ""),
+    (", laws,", ","), (", laws}", "}"), ("{laws, $next", "{$next"), ("use $a::laws;", ""), ("one_contents();", ""), ("one_value();", ""),
     ("length_fits($$bytes);", ""), ("use uefi_base::buffer::length_fits;", ""), ("use crate::buffer::length_fits;", ""),
 ])
 FLAGS = ('bits', 'contains', 'difference', 'empty', 'from_bits', 'from_bits_retain', 'insert', 'intersects', 'is_all', 'is_empty',

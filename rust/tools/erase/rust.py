@@ -5,8 +5,16 @@ from rules import ALLOCATOR, ATTRIBUTES, CORE, EMPTY, MACROS, NO_RULE, RUST, STD
 from tokens import OPEN, lex, rewrite
 
 
-def to_rust(source, modules, root, tests):
+class Forms:
+    """What a file may have beside what `rules.py` allows: names and macros; what stands for `std`; and whether its functions
+    have callers in other crates."""
+    def __init__(self, std, names=(), macros=(), inline=True):
+        self.std, self.names, self.macros, self.inline = std, set(names), set(macros), inline
+
+
+def to_rust(source, modules, root, tests, more=None):
     """Writes a file without ghost text in Rust. `root` is the module of its crate, `modules` those of others."""
+    more = more or Forms(std)
     rewrite(source, TESTS + RUST if tests else RUST)
     for start, keyword, end in reversed(list(source.items())):
         # What the macro has.
@@ -22,11 +30,11 @@ def to_rust(source, modules, root, tests):
         if token.kind == 'name' and source.at(i + 1) == '::' and source.at(i - 1) not in ('::', '.'):
             token.text = root if token.text == 'crate' else modules.get(token.text, token.text)
             if token.text == 'std':
-                token.text = std(source, i, root)
+                token.text = more.std(source, i, root)
     labels(source)
-    attributes(source, tests)
+    attributes(source, more.inline and not tests)
     specified(source)
-    check(source)
+    check(source, more)
 
 
 def labels(source):
@@ -80,7 +88,7 @@ def head(source, keyword):
     return i
 
 
-def attributes(source, tests):
+def attributes(source, inline):
     """`Debug` for each type without an `impl` of it; `#[inline]` for each function of the library but those
     that display, since a caller in another crate sees only such bodies."""
     by_hand = re.findall(r'impl (?:fmt::)?Debug for (\w+)', source.text())
@@ -91,7 +99,7 @@ def attributes(source, tests):
         given = source.names(start, i)
         if source.at(i) == 'fn':
             has_body = source.at(source.until(i, ';', '{')) == '{'
-            if has_body and not tests and 'inline' not in given and source.at(i + 1) != 'fmt':
+            if has_body and inline and 'inline' not in given and source.at(i + 1) != 'fmt':
                 source.insert(start, '#[inline]')
         elif source.at(i + 1) in by_hand:
             continue
@@ -133,15 +141,16 @@ def specified(source):
             source.tokens[start].space += '// The names are those of the standard.\n'
 
 
-def check(source):
+def check(source, more):
     """Stops at what has no rule."""
     for i, token in enumerate(source.tokens):
         following = source.at(i + 1)
         if token.kind == 'sign' and token.text == '#' and following in ('[', '!'):
             if source.at(i + 2 + (following == '!')) not in ATTRIBUTES:
                 source.refuse(i, 'an attribute without a rule')
-        macro = following == '!' and source.at(i + 2) in OPEN and token.text not in MACROS
-        if token.kind == 'name' and (macro or token.text in NO_RULE and '::' not in (source.at(i - 1), following)):
+        # `if !(..)` is none.
+        macro = following == '!' and not source.tokens[i + 1].space and source.at(i + 2) in OPEN and token.text not in MACROS | more.macros
+        if token.kind == 'name' and (macro or token.text in NO_RULE - more.names and '::' not in (source.at(i - 1), following)):
             source.refuse(i, f'no rule: {token.text}')
 
 
@@ -151,11 +160,12 @@ def calls_fallible(source, i, in_library):
     return name.startswith('fallible_') and following != '!' or name == 'text' and following == '(' and source.at(i - 1) == '.' and not in_library
 
 
-def text_of(source, in_library, gate):
-    """The text, with imports of what Rattle has in scope everywhere, and of traits whose methods calls became."""
+def text_of(source, in_library, gate, imports=None):
+    """The text, with imports of what Rattle has in scope everywhere, and of traits whose methods calls became. `imports` are
+    those of a program."""
     names, owned = set(source.names()), (('string', 'String'), ('vec', 'Vec')) if in_library else ()
-    lines = [f'{gate}\nuse alloc::{module}::{name};' for module, name in owned if name in names]
-    if any(calls_fallible(source, i, in_library) for i in range(len(source.tokens))):
+    lines = [*(imports or ())] + [f'{gate}\nuse alloc::{module}::{name};' for module, name in owned if name in names]
+    if any(calls_fallible(source, i, in_library or imports is not None) for i in range(len(source.tokens))):
         lines.append(f'{gate}\nuse crate::support::fallible::*;' if in_library else 'use crate::support::fallible::*;')
     if 'write_char' in names:
         lines.append('use core::fmt::Write as _;')

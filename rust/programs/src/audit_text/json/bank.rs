@@ -1,0 +1,98 @@
+// @generated from proved source. It is not edited.
+
+use crate::support::fallible::*;
+
+use crate::audit_text::json::event::hex_json;
+use crate::audit_text::words::fault_text;
+use uefi_formats::pcr::{BankPcrs, PcrValue, Pcrs, Undetermined};
+use crate::serde_json::{Map, Value, json, put};
+use crate::support::alloc::AllocError;
+use crate::uefi_audits::naming::bank_name;
+
+/// Returns the banks of a log; `null` if it is refused.
+pub(crate) fn banks_json(banks: Option<&[BankPcrs]>) -> Result<Value, AllocError> {
+    match banks {
+        Some(banks) => Ok(Value::Array(each_bank(banks)?)),
+        None => Ok(Value::Null),
+    }
+}
+
+/// Returns each bank.
+fn each_bank(banks: &[BankPcrs]) -> Result<Vec<Value>, AllocError> {
+    let mut values = Vec::new();
+    for bank in banks {
+        let value = bank_json(bank)?;
+        values.fallible_push(value)?;
+    }
+    Ok(values)
+}
+
+/// Returns a bank: its name, its PCRs, and the events by which some are undetermined.
+fn bank_json(bank: &BankPcrs) -> Result<Value, AllocError> {
+    let mut members = Map::new();
+    let name = Value::try_from_str(bank_name(bank.bank))?;
+    put(&mut members, "algorithm", name)?;
+    let outcomes = Value::Array(outcomes_json(&bank.pcrs)?);
+    put(&mut members, "pcrs", outcomes)?;
+    let undetermined = Value::Array(all_undetermined(&bank.pcrs)?);
+    put(&mut members, "undetermined", undetermined)?;
+    Ok(Value::Object(members))
+}
+
+/// Returns what each PCR holds.
+fn outcomes_json(pcrs: &Pcrs) -> Result<Vec<Value>, AllocError> {
+    let mut values = Vec::new();
+    for outcome in pcrs.outcomes() {
+        let value = outcome_json(outcome)?;
+        values.fallible_push(value)?;
+    }
+    Ok(values)
+}
+
+/// Returns a PCR's value in hex; `null` if it is undetermined.
+fn outcome_json(
+    outcome: &Result<PcrValue, Undetermined>,
+) -> Result<Value, AllocError> {
+    match outcome {
+        Ok(value) => hex_json(value.as_bytes()),
+        Err(_) => Ok(Value::Null),
+    }
+}
+
+/// Returns the events by which PCRs are undetermined, in the order of the PCRs.
+fn all_undetermined(pcrs: &Pcrs) -> Result<Vec<Value>, AllocError> {
+    let outcomes = pcrs.outcomes();
+    let mut values = Vec::new();
+    for pcr in 0..outcomes.len() {
+        push_if_undetermined(&mut values, pcr, &outcomes[pcr])?;
+    }
+    Ok(values)
+}
+
+/// Appends the event by which a PCR is undetermined, if it is.
+fn push_if_undetermined(
+    values: &mut Vec<Value>,
+    pcr: usize,
+    outcome: &Result<PcrValue, Undetermined>,
+) -> Result<(), AllocError> {
+    match outcome {
+        Ok(_) => Ok(()),
+        Err(at) => {
+            let value = undetermined_json(pcr, at)?;
+            values.fallible_push(value)?;
+            Ok(())
+        }
+    }
+}
+
+/// Returns the event by which a PCR is undetermined: its index, its offset, and why.
+fn undetermined_json(pcr: usize, at: &Undetermined) -> Result<Value, AllocError> {
+    let (index, offset) = (at.index, at.offset);
+    let reason = fault_text(at.fault);
+    json!({
+        "index": index,
+        "offset": offset,
+        "pcr": pcr,
+        "reason": reason
+    })
+}

@@ -1,0 +1,152 @@
+// @generated from proved source. It is not edited.
+
+//! What was checked, as JSON.
+
+use crate::support::fallible::*;
+
+use crate::audit_text::json::{line_of, type_json};
+use crate::audit_text::words::form_name;
+use crate::serde_json::{Map, Value, put};
+use crate::support::alloc::AllocError;
+use crate::uefi_audits::check::{CheckResult, Form, Mismatch, TypeCounts};
+
+/// Appends what was found of the events of a log as JSON: a line with an object for each event that
+/// matches in none of its type's forms, and then a line with one for the types of the events.
+///
+/// | key of an event | value |
+/// |---|---|
+/// | `index` | its index in the log |
+/// | `log` | what was given: the log's name |
+/// | `matches` | `false` |
+/// | `offset` | where it starts in the log's bytes |
+/// | `pcr` | the index of its PCR |
+/// | `type` | an object with `name`, if the type has one, and `number` |
+///
+/// The last line's object has the log's name as `log`, and as `checked` an array with an object for
+/// each type of the events, in the order of the types' numbers.
+///
+/// | key of a type | value |
+/// |---|---|
+/// | `forms` | an object with how many match in each form in which any matches |
+/// | `matched` | how many match |
+/// | `matches_none` | how many match in none of the type's forms |
+/// | `not_in_log` | of how many the log doesn't have what was measured |
+/// | `type` | an object with `name`, if the type has one, and `number` |
+///
+/// # Errors
+///
+/// [`AllocError`] if an allocation fails. The text may have grown then.
+pub fn push_check_json(
+    text: &mut String,
+    log: &str,
+    found: &CheckResult<'_>,
+) -> Result<(), AllocError> {
+    push_mismatches(text, log, found.mismatches.as_slice())?;
+    push_types(text, log, found.types.as_slice())
+}
+
+/// Appends a line for each event that matches in none of its type's forms.
+fn push_mismatches(
+    text: &mut String,
+    log: &str,
+    mismatches: &[Mismatch<'_>],
+) -> Result<(), AllocError> {
+    for mismatch in mismatches {
+        push_mismatch(text, log, mismatch)?;
+    }
+    Ok(())
+}
+
+/// Appends the line of an event that matches in none of its type's forms.
+fn push_mismatch(
+    text: &mut String,
+    log: &str,
+    mismatch: &Mismatch<'_>,
+) -> Result<(), AllocError> {
+    let value = mismatch_json(log, mismatch)?;
+    let line = line_of(&value)?;
+    fallible_writeln!(text, "{line}")
+}
+
+/// Returns an event that matches in none of its type's forms.
+fn mismatch_json(log: &str, mismatch: &Mismatch<'_>) -> Result<Value, AllocError> {
+    let entry = &mismatch.entry;
+    let mut members = Map::new();
+    put(&mut members, "index", Value::from(mismatch.index))?;
+    let log = Value::try_from_str(log)?;
+    put(&mut members, "log", log)?;
+    put(&mut members, "matches", Value::Bool(false))?;
+    put(&mut members, "offset", Value::from(entry.offset))?;
+    let pcr = entry.event.pcr_index().0;
+    put(&mut members, "pcr", Value::from(pcr))?;
+    let event_type = type_json(entry.event.event_type())?;
+    put(&mut members, "type", event_type)?;
+    Ok(Value::Object(members))
+}
+
+/// Appends the line of the types.
+fn push_types(
+    text: &mut String,
+    log: &str,
+    types: &[TypeCounts],
+) -> Result<(), AllocError> {
+    let value = types_json(log, types)?;
+    let line = line_of(&value)?;
+    fallible_writeln!(text, "{line}")
+}
+
+/// Returns the counts of the types.
+fn types_json(log: &str, types: &[TypeCounts]) -> Result<Value, AllocError> {
+    let mut members = Map::new();
+    let checked = Value::Array(each_type(types)?);
+    put(&mut members, "checked", checked)?;
+    let log = Value::try_from_str(log)?;
+    put(&mut members, "log", log)?;
+    Ok(Value::Object(members))
+}
+
+/// Returns the counts of each type.
+fn each_type(types: &[TypeCounts]) -> Result<Vec<Value>, AllocError> {
+    let mut values = Vec::new();
+    for counts in types {
+        let value = counts_json(counts)?;
+        values.fallible_push(value)?;
+    }
+    Ok(values)
+}
+
+/// Returns the counts of a type.
+fn counts_json(counts: &TypeCounts) -> Result<Value, AllocError> {
+    let mut members = Map::new();
+    let forms = forms_json(counts)?;
+    put(&mut members, "forms", forms)?;
+    let (matches, none) = (counts.matches, counts.matches_none);
+    put(&mut members, "matched", Value::from(matches))?;
+    put(&mut members, "matches_none", Value::from(none))?;
+    let outside = counts.not_in_log;
+    put(&mut members, "not_in_log", Value::from(outside))?;
+    let event_type = type_json(counts.event_type)?;
+    put(&mut members, "type", event_type)?;
+    Ok(Value::Object(members))
+}
+
+/// Returns how many match in each form in which any matches.
+fn forms_json(counts: &TypeCounts) -> Result<Value, AllocError> {
+    let mut members = Map::new();
+    for form in Form::ALL {
+        put_form(&mut members, counts.matching_in(form), form)?;
+    }
+    Ok(Value::Object(members))
+}
+
+/// Puts in how many match in a form, if any does.
+fn put_form(
+    members: &mut Map<String, Value>,
+    count: u64,
+    form: Form,
+) -> Result<(), AllocError> {
+    if count == 0 {
+        return Ok(());
+    }
+    put(members, form_name(form), Value::from(count))
+}

@@ -1,0 +1,50 @@
+// @generated from proved source. It is not edited.
+
+use crate::support::fallible::*;
+
+use crate::audit_text::words::is_control;
+use crate::serde_json::Value;
+use crate::support::alloc::AllocError;
+
+/// Returns the text of a value on one line, without spaces and without a line's end: each control
+/// character in it is `\u` and four hex digits.
+pub(crate) fn line_of(value: &Value) -> Result<String, AllocError> {
+    let text = value.fallible_to_string()?;
+    escaped(text)
+}
+
+/// Returns whether a text has a control character.
+fn has_control(text: &str) -> bool {
+    text.chars().any(is_control)
+}
+
+/// Returns a text of JSON, in which controls are in strings alone, with these escaped.
+fn escaped(text: String) -> Result<String, AllocError> {
+    if has_control(text.as_str()) {
+        return each_escaped(text.as_str());
+    }
+    Ok(text)
+}
+
+/// Returns a text with each control escaped.
+fn each_escaped(text: &str) -> Result<String, AllocError> {
+    let mut line = String::new();
+    for character in text.chars() {
+        push_character(&mut line, character)?;
+    }
+    Ok(line)
+}
+
+/// Appends a character, or the escape of a control.
+fn push_character(line: &mut String, character: char) -> Result<(), AllocError> {
+    if is_control(character) {
+        return push_escape(line, u32::from(character));
+    }
+    line.fallible_push(character)
+}
+
+/// Appends `\u` and four hex digits.
+fn push_escape(line: &mut String, character: u32) -> Result<(), AllocError> {
+    let (high, low) = ((character / 256) as u8, (character % 256) as u8);
+    fallible_write!(line, "\\u{high:02x}{low:02x}")
+}

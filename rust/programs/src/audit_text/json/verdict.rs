@@ -1,0 +1,151 @@
+// @generated from proved source. It is not edited.
+
+use crate::support::fallible::*;
+
+use crate::audit_text::json::event::hex_json;
+use crate::audit_text::json::line::line_of;
+use crate::audit_text::words::fault_text;
+use uefi_formats::pcr::{BankPcrs, PcrValue, Undetermined};
+use crate::serde_json::{Map, Value, json, put};
+use crate::support::alloc::AllocError;
+use crate::uefi_audits::naming::bank_name;
+use crate::uefi_audits::verify::{HeldPcr, Verdict, agrees, led_to};
+
+/// Appends whether a log leads to these PCRs as one line of JSON: an object, and a line break.
+///
+/// | key | value |
+/// |---|---|
+/// | `agree` | whether all PCRs hold what the log leads to |
+/// | `count` | how many PCRs these are |
+/// | `disagreeing` | an object for each PCR that doesn't, in order |
+/// | `locality` | the locality at which PCR 0 starts |
+/// | `log` | what was given: the log's name |
+///
+/// | key of a PCR | value |
+/// |---|---|
+/// | `bank` | its bank's name |
+/// | `held` | what it held, in hex |
+/// | `leads_to` | what the log leads to, in hex; `null` if that is no value |
+/// | `pcr` | its index |
+/// | `undetermined` | the event by which it is undetermined: `index`, `offset`, `reason`; else `null` |
+///
+/// If the log has no such PCR, both `leads_to` and `undetermined` are `null`.
+///
+/// # Errors
+///
+/// [`AllocError`] if an allocation fails. The text may have grown then.
+pub fn push_verdict_json(
+    text: &mut String,
+    name: &str,
+    held: &[HeldPcr],
+    verdict: &Verdict,
+) -> Result<(), AllocError> {
+    let disagreeing = disagreeing_json(held, verdict.replays.as_slice())?;
+    let value = verdict_json(name, held, verdict, disagreeing)?;
+    let line = line_of(&value)?;
+    fallible_writeln!(text, "{line}")
+}
+
+/// Returns the object of a log.
+fn verdict_json(
+    name: &str,
+    held: &[HeldPcr],
+    verdict: &Verdict,
+    disagreeing: Value,
+) -> Result<Value, AllocError> {
+    let mut members = Map::new();
+    put(
+        &mut members,
+        "agree",
+        Value::Bool(verdict.is_agreement()),
+    )?;
+    put(&mut members, "count", Value::from(held.len()))?;
+    put(&mut members, "disagreeing", disagreeing)?;
+    let locality = Value::from(verdict.start.start.locality);
+    put(&mut members, "locality", locality)?;
+    let log = Value::try_from_str(name)?;
+    put(&mut members, "log", log)?;
+    Ok(Value::Object(members))
+}
+
+/// Returns the PCRs that don't agree.
+fn disagreeing_json(
+    held: &[HeldPcr],
+    replays: &[BankPcrs],
+) -> Result<Value, AllocError> {
+    Ok(Value::Array(each_disagreeing(held, replays)?))
+}
+
+/// Returns each PCR that doesn't agree.
+fn each_disagreeing(
+    held: &[HeldPcr],
+    replays: &[BankPcrs],
+) -> Result<Vec<Value>, AllocError> {
+    let mut values = Vec::new();
+    for pcr in held {
+        push_if_disagreeing(&mut values, pcr, replays)?;
+    }
+    Ok(values)
+}
+
+/// Appends a PCR, unless it agrees.
+fn push_if_disagreeing(
+    values: &mut Vec<Value>,
+    held: &HeldPcr,
+    replays: &[BankPcrs],
+) -> Result<(), AllocError> {
+    if agrees(held, replays) {
+        return Ok(());
+    }
+    let outcome = led_to(held, replays);
+    let led = led_json(outcome)?;
+    let undetermined = undetermined_by(outcome)?;
+    let value = pcr_json(led, undetermined, held)?;
+    values.fallible_push(value)?;
+    Ok(())
+}
+
+/// Returns a PCR that doesn't agree: what it held, what the log leads to, and the event by which it
+/// is undetermined.
+fn pcr_json(
+    led: Value,
+    undetermined: Value,
+    held: &HeldPcr,
+) -> Result<Value, AllocError> {
+    let mut members = Map::new();
+    let bank = Value::try_from_str(bank_name(held.bank))?;
+    put(&mut members, "bank", bank)?;
+    let held_value = hex_json(held.value.as_bytes())?;
+    put(&mut members, "held", held_value)?;
+    put(&mut members, "leads_to", led)?;
+    put(&mut members, "pcr", Value::from(held.pcr))?;
+    put(&mut members, "undetermined", undetermined)?;
+    Ok(Value::Object(members))
+}
+
+/// Returns what the log leads to in a PCR, in hex; `null` if it leads to no value.
+fn led_json(
+    outcome: Option<&Result<PcrValue, Undetermined>>,
+) -> Result<Value, AllocError> {
+    match outcome {
+        Some(Ok(value)) => hex_json(value.as_bytes()),
+        _ => Ok(Value::Null),
+    }
+}
+
+/// Returns the event by which a PCR is undetermined; `null` if it isn't.
+fn undetermined_by(
+    outcome: Option<&Result<PcrValue, Undetermined>>,
+) -> Result<Value, AllocError> {
+    match outcome {
+        Some(Err(at)) => event_json(at),
+        _ => Ok(Value::Null),
+    }
+}
+
+/// Returns the event by which a PCR is undetermined: its index, its offset, and why.
+fn event_json(at: &Undetermined) -> Result<Value, AllocError> {
+    let (index, offset) = (at.index, at.offset);
+    let reason = fault_text(at.fault);
+    json!({"index": index, "offset": offset, "reason": reason})
+}

@@ -1,0 +1,92 @@
+// @generated from proved source. It is not edited.
+
+//! How two event logs differ, as the lines that the program `uefi_audit` prints.
+
+pub use self::change::push_change;
+use self::lines::{push_changed_line, push_compared_line, push_moved_line, push_only_line};
+use crate::audit_text::ComparedLogs;
+use crate::support::alloc::AllocError;
+use crate::uefi_audits::diff::{EventChange, NumberedEntry, PcrDifference};
+
+mod change;
+mod lines;
+
+/// Appends how the events of two logs differ.
+///
+///
+/// The first line names the algorithms whose digests are compared. Then, PCR by PCR, there is a line
+/// for each event that differs from its counterpart, with what changed ([`push_change`]), one for
+/// each event that only the old log has, one for each that only the new log has, and one for the
+/// first event whose order is another. An event is named by its type and what its data say
+/// ([`push_said`](crate::audit_text::words::push_said)), one whose data changed by the name in them; its index
+/// and its offset follow. What no digest covers is marked: all that the data of an image or
+/// a blob say, whose digests follow then, and the name of a variable whose value alone is measured.
+///
+/// # Errors
+///
+/// [`AllocError`] if an allocation fails. The text may have grown then.
+pub fn push_differences(
+    text: &mut String,
+    logs: &ComparedLogs<'_>,
+    differences: &[PcrDifference<'_>],
+) -> Result<(), AllocError> {
+    push_compared_line(text, logs.algorithms)?;
+    push_pcrs(text, logs, differences)
+}
+
+/// Appends how the events of PCRs differ.
+fn push_pcrs(
+    text: &mut String,
+    logs: &ComparedLogs<'_>,
+    differences: &[PcrDifference<'_>],
+) -> Result<(), AllocError> {
+    for difference in differences {
+        push_pcr(text, logs, difference)?;
+    }
+    Ok(())
+}
+
+/// Appends how the events of a PCR differ.
+fn push_pcr(
+    text: &mut String,
+    logs: &ComparedLogs<'_>,
+    difference: &PcrDifference<'_>,
+) -> Result<(), AllocError> {
+    push_changed(text, logs, difference.changed.as_slice())?;
+    push_only(text, logs, difference.only_old.as_slice())?;
+    push_only(text, &reversed(logs), difference.only_new.as_slice())?;
+    push_moved_line(text, logs, &difference.moved)
+}
+
+/// Appends a line for each of these events that differ from their counterparts.
+fn push_changed(
+    text: &mut String,
+    logs: &ComparedLogs<'_>,
+    changed: &[EventChange<'_>],
+) -> Result<(), AllocError> {
+    for change in changed {
+        push_changed_line(text, logs, change)?;
+    }
+    Ok(())
+}
+
+/// Returns the logs the other way round.
+fn reversed<'a>(logs: &ComparedLogs<'a>) -> ComparedLogs<'a> {
+    ComparedLogs {
+        old_name: logs.new_name,
+        new_name: logs.old_name,
+        algorithms: logs.algorithms,
+    }
+}
+
+/// Appends a line for each of these events of the old log, which the new one doesn't have.
+fn push_only(
+    text: &mut String,
+    logs: &ComparedLogs<'_>,
+    only: &[NumberedEntry<'_>],
+) -> Result<(), AllocError> {
+    for found in only {
+        push_only_line(text, logs, found)?;
+    }
+    Ok(())
+}

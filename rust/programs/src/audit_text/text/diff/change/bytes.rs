@@ -1,0 +1,49 @@
+// @generated from proved source. It is not edited.
+
+use crate::support::fallible::*;
+
+use crate::audit_text::text::diff::change::sides::change_between;
+use crate::support::alloc::AllocError;
+
+/// How many bytes of a side are shown.
+const SHOWN_LENGTH: usize = 32;
+
+/// Returns the bytes of both sides in hex from the first that differs; nothing if none does.
+pub(crate) fn byte_change(old: &[u8], new: &[u8]) -> Result<String, AllocError> {
+    if old == new {
+        return Ok(String::new());
+    }
+    bytes_from(common_length(old, new), old, new)
+}
+
+/// Returns the bytes of both sides in hex from an index.
+fn bytes_from(index: usize, old: &[u8], new: &[u8]) -> Result<String, AllocError> {
+    let (_, old) = old.split_at(index);
+    let (_, new) = new.split_at(index);
+    let old = first_bytes(old)?;
+    let new = first_bytes(new)?;
+    let change = change_between(old.as_str(), new.as_str())?;
+    fallible_format!("from byte {index}: {change}")
+}
+
+/// Returns the length of the longest prefix that both sides have.
+fn common_length(old: &[u8], new: &[u8]) -> usize {
+    let shorter = old.len().min(new.len());
+    for index in 0..shorter {
+        if old[index] != new[index] {
+            return index;
+        }
+    }
+    shorter
+}
+
+/// Returns bytes in hex; of more than 32 the first ones, and `..`.
+fn first_bytes(bytes: &[u8]) -> Result<String, AllocError> {
+    if bytes.len() <= SHOWN_LENGTH {
+        return crate::hex::encode(bytes);
+    }
+    let (shown, _) = bytes.split_at(SHOWN_LENGTH);
+    let mut words = crate::hex::encode(shown)?;
+    words.fallible_push_str("..")?;
+    Ok(words)
+}

@@ -1,0 +1,20 @@
+// @generated from proved source. It is not edited.
+
+//! The events of a log for a person to read.
+//!
+//! [`push_event_blocks`] appends a block of lines for each event, and [`push_header_block`] one for
+//! the log's header.
+//!
+//! A name or a text of the log is written as [`ShownName`](crate::audit_text::words::ShownName) displays it, and
+//! a device path as [`uefi_formats::proto::device_path::text::to_text`] returns it, so that a log can't forge a line.
+
+pub use self::blocks::{push_event_blocks, push_header_block};
+
+mod blocks;
+pub(crate) mod content;
+mod firmware;
+mod gpt;
+mod hex_lines;
+pub(crate) mod names;
+mod signatures;
+mod variable;

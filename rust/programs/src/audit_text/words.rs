@@ -1,0 +1,30 @@
+// @generated from proved source. It is not edited.
+
+//! Words that text and JSON share.
+//!
+//! [`push_said`] appends in a few words what the data of an event say. A [`ShownName`] displays a
+//! name so that nothing in it is hidden, and [`ShownBytes`] one that isn't UTF-8. [`fault_text`] is what is wrong with an event by which a
+//! PCR is undetermined, and [`push_number`] appends the number of an algorithm.
+
+pub use self::faults::fault_text;
+pub(crate) use self::forms::form_name;
+pub use self::numbers::push_number;
+pub(crate) use self::path::path_text;
+pub(crate) use self::said::push_bytes;
+pub use self::said::push_said;
+pub(crate) use self::shown::is_control;
+pub use self::shown::{ShownBytes, ShownName};
+pub(crate) use self::types::push_type;
+
+mod faults;
+mod forms;
+pub(crate) mod names;
+mod numbers;
+mod path;
+pub(crate) mod printed;
+mod said;
+mod shown;
+pub(crate) mod signatures;
+pub(crate) mod tags;
+pub(crate) mod texts;
+mod types;

@@ -1,0 +1,177 @@
+// @generated from proved source. It is not edited.
+
+use crate::support::fallible::*;
+
+use crate::audit_text::words::tags::push_tag;
+use crate::audit_text::words::texts::character;
+use crate::audit_text::words::{ShownName, path_text};
+use crate::support::alloc::AllocError;
+use crate::uefi_audits::content::{EventContent, TaggedData};
+use uefi_formats::UnalignedSlice;
+use uefi_formats::proto::device_path::DevicePath;
+use uefi_formats::proto::tcg::content::{
+    CrtmVersion, EventText, ImageLoadEvent, PlatformFirmwareBlob, VariableData,
+};
+
+/// The most characters of a text or of a name that are shown.
+const SHOWN_LENGTH: usize = 80;
+
+/// Appends in a few words what data say; nothing if they aren't read.
+///
+///
+/// | data | words |
+/// |---|---|
+/// | a text, a version | it |
+/// | a separator | `separator` and its number |
+/// | a locality | `locality` and its number |
+/// | the header of a log | `header` |
+/// | tagged events | `tag`, the name of the first one's tag, if it has one, and its number |
+/// | a blob | `blob at` and its address |
+/// | a blob with a description | `blob` and the description |
+/// | a partition table | `disk` and the GUID of the disk |
+/// | a variable | `variable` and its name |
+/// | an image | `image` and its device path, if it has one |
+///
+/// A text, a description or a name is shown as [`ShownName`] displays it, at most 80 characters of
+/// it. A device path is shown whole, as [`uefi_formats::proto::device_path::text::to_text`] returns it. If the bytes are no path,
+/// they are in hex, at most 80 of them.
+///
+/// # Errors
+///
+/// [`AllocError`] if an allocation fails. The text may have grown then.
+pub fn push_said(text: &mut String, content: &EventContent<'_>) -> Result<(), AllocError> {
+    match content {
+        EventContent::Unread => Ok(()),
+        EventContent::Text(said) => push_bytes(text, said.as_bytes()),
+        EventContent::Separator(number) => fallible_write!(text, "separator {number}"),
+        EventContent::Locality(number) => fallible_write!(text, "locality {number}"),
+        EventContent::Header(_) => text.fallible_push_str("header"),
+        EventContent::LoaderText(said) => push_event_text(text, said),
+        EventContent::CrtmVersion(version) => push_version(text, version),
+        EventContent::Blob(blob) => push_blob(text, blob),
+        EventContent::DescribedBlob(described) => {
+            text.fallible_push_str("blob ")?;
+            push_bytes(text, described.description)
+        }
+        EventContent::Tagged(tagged) => push_tagged(text, tagged),
+        EventContent::Gpt(gpt) => {
+            let guid = gpt.header().disk_guid;
+            fallible_write!(text, "disk {guid}")
+        }
+        EventContent::Variable(variable)
+        | EventContent::BootOption(variable, _)
+        | EventContent::BootOrder(variable, _)
+        | EventContent::SignatureLists(variable, _)
+        | EventContent::Signature(variable, _) => push_variable(text, variable),
+        EventContent::Image(image, path) => push_image(text, image, path),
+    }
+}
+
+/// Appends the first bytes, each as the character of its number.
+pub(crate) fn push_bytes(text: &mut String, bytes: &[u8]) -> Result<(), AllocError> {
+    let (shown, _) = bytes.split_at(SHOWN_LENGTH.min(bytes.len()));
+    for byte in shown {
+        push_character(text, char::from(*byte))?;
+    }
+    Ok(())
+}
+
+/// Appends a character as that of a file's name is shown.
+fn push_character(text: &mut String, character: char) -> Result<(), AllocError> {
+    let mut room = [0; 4];
+    let shown = ShownName(character.encode_utf8(&mut room));
+    fallible_write!(text, "{shown}")
+}
+
+/// Appends the first units.
+fn push_units(text: &mut String, units: &UnalignedSlice<'_>) -> Result<(), AllocError> {
+    for index in 0..SHOWN_LENGTH.min(units.len()) {
+        let Some(unit) = units.get(index) else {
+            return Ok(());
+        };
+        push_character(text, character(unit))?;
+    }
+    Ok(())
+}
+
+/// Appends the text of an event.
+fn push_event_text(text: &mut String, said: &EventText<'_>) -> Result<(), AllocError> {
+    match said {
+        EventText::Ascii { text: said, .. } => push_bytes(text, said),
+        EventText::Utf16 { units, .. } => push_units(text, units),
+    }
+}
+
+/// Appends a version.
+fn push_version(text: &mut String, version: &CrtmVersion<'_>) -> Result<(), AllocError> {
+    match version {
+        CrtmVersion::Ucs2(units) => push_units(text, units),
+        CrtmVersion::Guid(guid) => fallible_write!(text, "{guid}"),
+        CrtmVersion::Other(said) => push_event_text(text, said),
+    }
+}
+
+/// Appends where a blob is.
+fn push_blob(text: &mut String, blob: &PlatformFirmwareBlob) -> Result<(), AllocError> {
+    let address = blob.base;
+    fallible_write!(text, "blob at 0x{address:x}")
+}
+
+/// Appends the tag of the first tagged event.
+fn push_tagged(text: &mut String, tagged: &TaggedData<'_>) -> Result<(), AllocError> {
+    match tagged.iter().next() {
+        Some(first) => {
+            text.fallible_push_str("tag ")?;
+            push_tag(text, first.id)
+        }
+        None => text.fallible_push_str("no tagged event"),
+    }
+}
+
+/// Appends `variable` and the name of a variable.
+fn push_variable(text: &mut String, variable: &VariableData<'_>) -> Result<(), AllocError> {
+    text.fallible_push_str("variable ")?;
+    push_units(text, &variable.name)
+}
+
+/// Appends `image` and its device path, if it has one.
+fn push_image(
+    text: &mut String,
+    image: &ImageLoadEvent<'_>,
+    path: &Option<DevicePath<'_>>,
+) -> Result<(), AllocError> {
+    if image.device_path.is_empty() {
+        return text.fallible_push_str("image");
+    }
+    text.fallible_push_str("image ")?;
+    push_path(text, image.device_path, path)
+}
+
+/// Appends the text of a device path; the first of these bytes in hex, if they are none.
+fn push_path(
+    text: &mut String,
+    bytes: &[u8],
+    path: &Option<DevicePath<'_>>,
+) -> Result<(), AllocError> {
+    match path {
+        Some(path) => {
+            let path = path_text(*path);
+            fallible_write!(text, "{path}")
+        }
+        None => push_hex(text, bytes),
+    }
+}
+
+/// Appends the first bytes in hex.
+fn push_hex(text: &mut String, bytes: &[u8]) -> Result<(), AllocError> {
+    let (shown, _) = bytes.split_at(SHOWN_LENGTH.min(bytes.len()));
+    for byte in shown {
+        push_hex_byte(text, *byte)?;
+    }
+    Ok(())
+}
+
+/// Appends two hex digits.
+fn push_hex_byte(text: &mut String, byte: u8) -> Result<(), AllocError> {
+    fallible_write!(text, "{byte:02x}")
+}

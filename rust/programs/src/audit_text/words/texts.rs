@@ -1,0 +1,70 @@
+// @generated from proved source. It is not edited.
+
+use crate::support::fallible::*;
+
+use crate::support::alloc::AllocError;
+use uefi_formats::UnalignedSlice;
+use uefi_formats::proto::device_path::LoadOption;
+use uefi_formats::proto::tcg::content::{CrtmVersion, EventText};
+
+/// Returns units as text, with U+FFFD for each surrogate.
+pub(crate) fn name_text(units: &UnalignedSlice<'_>) -> Result<String, AllocError> {
+    let mut text = String::new();
+    for unit in units.iter() {
+        text.fallible_push(character(unit))?;
+    }
+    Ok(text)
+}
+
+/// Returns the units before the first NUL as text.
+pub(crate) fn text_before_nul(
+    units: &UnalignedSlice<'_>,
+) -> Result<String, AllocError> {
+    let mut text = String::new();
+    for unit in units.iter() {
+        if unit == 0 {
+            return Ok(text);
+        }
+        text.fallible_push(character(unit))?;
+    }
+    Ok(text)
+}
+
+/// Returns the character of a unit: U+FFFD for a surrogate.
+pub(crate) fn character(unit: u16) -> char {
+    match char::from_u32(u32::from(unit)) {
+        Some(character) => character,
+        None => '\u{fffd}',
+    }
+}
+
+/// Returns bytes as text: each is the character of its number.
+pub(crate) fn byte_text(bytes: &[u8]) -> Result<String, AllocError> {
+    let mut text = String::new();
+    for byte in bytes {
+        text.fallible_push(char::from(*byte))?;
+    }
+    Ok(text)
+}
+
+/// Returns the text of an event.
+pub(crate) fn event_text(text: &EventText<'_>) -> Result<String, AllocError> {
+    match text {
+        EventText::Ascii { text, .. } => byte_text(text),
+        EventText::Utf16 { units, .. } => name_text(units),
+    }
+}
+
+/// Returns the text of a version.
+pub(crate) fn version_text(version: &CrtmVersion<'_>) -> Result<String, AllocError> {
+    match version {
+        CrtmVersion::Ucs2(units) => name_text(units),
+        CrtmVersion::Guid(guid) => guid.fallible_to_string(),
+        CrtmVersion::Other(text) => event_text(text),
+    }
+}
+
+/// Returns the description of a boot option, without its NUL.
+pub(crate) fn description_text(option: &LoadOption<'_>) -> Result<String, AllocError> {
+    text_before_nul(&option.description())
+}

@@ -1,0 +1,287 @@
+// @generated from proved source. It is not edited.
+
+use crate::clap::{Arg, ArgAction, ArgMatches, Command, Error, value_parser};
+use crate::support::alloc::AllocError;
+use crate::uefi_audits::naming::BANK_NAMES;
+
+/// The commands in the order of the help, each with what the help says of it.
+const COMMANDS: [[&str; 2]; 5] = [
+    [
+        "events",
+        "Prints the events of the logs, a JSON object a line",
+    ],
+    [
+        "replay",
+        "Prints the PCRs that the logs lead to, as tpm2_pcrread prints them",
+    ],
+    [
+        "verify",
+        "Compares the PCRs that a log leads to with those of a TPM",
+    ],
+    [
+        "diff",
+        "Prints how the events of two logs differ, PCR by PCR",
+    ],
+    [
+        "check",
+        "Prints which events have digests that aren't the hash of what their type measures",
+    ],
+];
+
+/// Returns what `clap` makes of the words, of which the first is the program's name.
+///
+/// # Errors
+///
+/// What `clap` says of other words, the help or the version that they ask for, or
+/// [`OutOfMemory`](clap::error::ErrorKind::OutOfMemory) if an allocation fails.
+pub(crate) fn matches_of<'a>(words: &'a [String]) -> Result<ArgMatches<'a>, Error> {
+    let mut command = Command::new("uefi_audit")
+        .version("0.1.0")
+        .about(
+            "Audits event logs of measured boot: what a TPM's PCRs must be, from the log's bytes",
+        )
+        .subcommand_required(true)
+        .arg_required_else_help(true);
+    for [name, about] in COMMANDS {
+        command = with_subcommand(command, name, about)?;
+    }
+    command.try_get_matches_from(words)
+}
+
+/// Adds the command of this name.
+fn with_subcommand<'a>(
+    command: Command<'a>,
+    name: &'a str,
+    about: &'a str,
+) -> Result<Command<'a>, AllocError> {
+    let args = args_of(name)?;
+    let added = Command::new(name).about(about).args(args)?;
+    command.subcommand(added)
+}
+
+/// Returns the arguments of the command of this name.
+fn args_of<'a>(name: &str) -> Result<Vec<Arg<'a>>, AllocError> {
+    match name {
+        "events" => args_of_events(),
+        "replay" => args_of_replay(),
+        "verify" => args_of_verify(),
+        "diff" => args_of_diff(),
+        _ => args_of_check(),
+    }
+}
+
+fn args_of_events<'a>() -> Result<Vec<Arg<'a>>, AllocError> {
+    let args = fallible_vec![logs(),
+        flag(
+            "text",
+            "Prints a block for each event that a person reads, not JSON"
+        ),
+        last_entry(),
+        allow_left_over(),
+        max_rows(),]?;
+    Ok(args)
+}
+
+fn args_of_replay<'a>() -> Result<Vec<Arg<'a>>, AllocError> {
+    let args = fallible_vec![logs(),
+        bank(),
+        locality(),
+        json(),
+        last_entry(),
+        allow_left_over(),
+        max_rows(),]?;
+    Ok(args)
+}
+
+fn args_of_verify<'a>() -> Result<Vec<Arg<'a>>, AllocError> {
+    let args = fallible_vec![file(
+            "log",
+            "LOG",
+            "A file with an event log, - for standard input"
+        ),
+        registers()?,
+        quote(),
+        nonce()?,
+        any_nonce()?,
+        quote_hash()?,
+        pcrs(),
+        locality(),
+        json(),
+        last_entry(),
+        allow_left_over(),
+        max_rows(),]?;
+    Ok(args)
+}
+
+fn args_of_diff<'a>() -> Result<Vec<Arg<'a>>, AllocError> {
+    let args = fallible_vec![file(
+            "old",
+            "OLD",
+            "A file with an event log, - for standard input"
+        ),
+        file(
+            "new",
+            "NEW",
+            "A file with the log to compare it with"
+        ),
+        option(
+            "bank",
+            "BANK",
+            "Compares the digests of this bank alone, not those of all that both logs have"
+        )
+        .value_parser(BANK_NAMES.as_slice()),
+        json(),
+        last_entry(),
+        allow_left_over(),
+        max_rows(),]?;
+    Ok(args)
+}
+
+fn args_of_check<'a>() -> Result<Vec<Arg<'a>>, AllocError> {
+    let args = fallible_vec![logs(),
+        json(),
+        last_entry(),
+        allow_left_over(),
+        max_rows(),]?;
+    Ok(args)
+}
+
+/// Returns the argument for the bank to replay.
+fn bank<'a>() -> Arg<'a> {
+    option("bank", "BANK", "Replays this bank alone").value_parser(BANK_NAMES.as_slice())
+}
+
+/// Returns the argument for the file or folder with a TPM's PCRs.
+fn registers<'a>() -> Result<Arg<'a>, AllocError> {
+    option(
+        "registers",
+        "FILE",
+        "What tpm2_pcrread printed, a TPM 1.2's file pcrs, or a folder with files such as pcr-sha256/0",
+    )
+    .required_unless_present("quote")
+}
+
+/// Returns the argument for the file with a quote.
+fn quote<'a>() -> Arg<'a> {
+    option(
+        "quote",
+        "FILE",
+        "What a TPM signed of its PCRs, as tpm2_quote -m writes it; its signature isn't verified",
+    )
+}
+
+/// Returns the argument for the nonce of a quote.
+fn nonce<'a>() -> Result<Arg<'a>, AllocError> {
+    option(
+        "nonce",
+        "HEX",
+        "The nonce that the quote was asked for with",
+    )
+    .requires_arg("quote")?
+    .conflicts_with("any-nonce")
+}
+
+/// Returns the flag for quotes with any nonce.
+fn any_nonce<'a>() -> Result<Arg<'a>, AllocError> {
+    flag(
+        "any-nonce",
+        "Accepts any nonce, so also an old quote",
+    )
+    .requires_arg("quote")
+}
+
+/// Returns the argument for the hash function of a quote's digest.
+fn quote_hash<'a>() -> Result<Arg<'a>, AllocError> {
+    option(
+        "quote-hash",
+        "ALG",
+        "The hash function of the quote's digest; without it the digest's length says it",
+    )
+    .value_parser(BANK_NAMES.as_slice())
+    .requires_arg("quote")
+}
+
+/// Returns the argument for the PCRs to compare.
+fn pcrs<'a>() -> Arg<'a> {
+    option(
+        "pcrs",
+        "PCRS",
+        "Compares these PCRs alone, such as 0-7,14 or sha256:0,7; a quote has to cover them",
+    )
+}
+
+/// Returns the flag for JSON.
+fn json<'a>() -> Arg<'a> {
+    flag("json", "Prints a JSON object a line")
+}
+
+/// Returns the argument for the most rows that the table in a header may have.
+fn max_rows<'a>() -> Arg<'a> {
+    option(
+        "max-rows",
+        "N",
+        "Reads logs whose header has up to N algorithms [default: 256]",
+    )
+    .value_parser(value_parser!(u32))
+}
+
+/// Returns the argument for the locality of PCR 0.
+fn locality<'a>() -> Arg<'a> {
+    option(
+        "locality",
+        "N",
+        "Starts PCR 0 at this locality, whatever the log states",
+    )
+    .value_parser(value_parser!(u8))
+}
+
+/// Returns the argument for a file that has to be named, and how the help shows it.
+fn file<'a>(id: &'a str, value_name: &'a str, help: &'a str) -> Arg<'a> {
+    Arg::new(id)
+        .value_name(value_name)
+        .required(true)
+        .help(help)
+}
+
+/// Returns the argument `--NAME VALUE`, and how the help shows it.
+fn option<'a>(name: &'a str, value_name: &'a str, help: &'a str) -> Arg<'a> {
+    Arg::new(name)
+        .long(name)
+        .value_name(value_name)
+        .help(help)
+}
+
+/// Returns the flag `--NAME`, and how the help shows it.
+fn flag<'a>(name: &'a str, help: &'a str) -> Arg<'a> {
+    Arg::new(name)
+        .long(name)
+        .action(ArgAction::SetTrue)
+        .help(help)
+}
+
+/// Returns the argument for logs, of which there may be many.
+fn logs<'a>() -> Arg<'a> {
+    Arg::new("logs")
+        .value_name("LOG")
+        .required(true)
+        .num_args(1..)
+        .action(ArgAction::Append)
+        .help("Files with event logs, - for standard input")
+}
+
+/// Returns the argument for the offset at which the last event starts.
+fn last_entry<'a>() -> Arg<'a> {
+    option(
+        "last-entry",
+        "N|none",
+        "The offset at which the last event starts, none if the log is empty; without it the log ends where padding starts, or with its last whole event",
+    )
+}
+
+/// Returns the flag for logs with bytes after their last event.
+fn allow_left_over<'a>() -> Arg<'a> {
+    flag(
+        "allow-left-over",
+        "Accepts logs with bytes after their last event",
+    )
+}

@@ -1,0 +1,62 @@
+// @generated from proved source. It is not edited.
+
+use crate::host::rt::{Eprint, Print};
+use crate::support::fallible::*;
+
+use crate::uefi_audit::commands::print_text;
+use crate::uefi_audit::failure::{Failure, Status};
+use crate::support::alloc::AllocError;
+use crate::host::io;
+
+/// What a command says of a log, or of two, and what follows from it.
+#[derive(Debug)]
+pub(crate) struct Report {
+    /// What is printed.
+    pub text: String,
+    /// What standard error is told.
+    pub messages: String,
+    /// The status of the run, if nothing else is wrong.
+    pub status: Status,
+}
+
+impl Report {
+    /// Returns the report of what can't be judged: these messages, and nothing that is printed.
+    pub(crate) fn unjudged(messages: String) -> Report {
+        Report {
+            text: String::new(),
+            messages,
+            status: Status::Unjudged,
+        }
+    }
+
+    /// Returns this report with what another one says after it. The worse status counts.
+    ///
+    /// # Errors
+    ///
+    /// [`AllocError`] if an allocation fails.
+    pub(crate) fn and(self, other: &Report) -> Result<Report, AllocError> {
+        let (mut text, mut messages) = (self.text, self.messages);
+        text.fallible_push_str(other.text.as_str())?;
+        messages.fallible_push_str(other.messages.as_str())?;
+        Ok(Report {
+            text,
+            messages,
+            status: self.status.and(other.status),
+        })
+    }
+
+    /// Tells standard error, prints the text, and returns the status. If standard error is closed,
+    /// the status still tells.
+    pub(crate) fn print<R: Print + Eprint>(&self, rt: &R) -> Result<Status, Failure> {
+        tell(rt, self.messages.as_str());
+        print_text(&mut io::writer(rt), self.text.as_str())?;
+        Ok(self.status)
+    }
+}
+
+/// Writes text to standard error.
+fn tell<R: Eprint>(rt: &R, text: &str) {
+    if !text.is_empty() {
+        let _ = fallible_eprint!(rt, "{text}");
+    }
+}

@@ -1,0 +1,49 @@
+// @generated from proved source. It is not edited.
+
+use crate::uefi_audit::checking::check_report;
+use crate::uefi_audit::events::events_report;
+use crate::uefi_audit::log_file::{LogFile, Opened};
+use crate::uefi_audit::replay::{Asked, replay_report};
+use crate::uefi_audit::report::Report;
+use crate::uefi_audit::request::{Format, Reading};
+use crate::support::alloc::AllocError;
+
+/// What is done with each of many logs.
+#[derive(Clone, Copy, Debug)]
+pub(crate) enum Task {
+    /// Its events are printed.
+    Events(Format),
+    /// The PCRs that it leads to are.
+    Replay(Asked),
+    /// The events whose digests match nothing are.
+    Check(Format),
+}
+
+/// Returns what a task prints of a log.
+///
+/// # Errors
+///
+/// [`AllocError`] if an allocation fails.
+pub(crate) fn task_report(
+    log: Opened<'_>,
+    reading: Reading,
+    task: Task,
+) -> Result<Report, AllocError> {
+    match log {
+        Opened::Refused(report) => Ok(report),
+        Opened::Read(file) => read_report(&file, reading, task),
+    }
+}
+
+/// Returns what a task prints of a log that was read.
+fn read_report(
+    file: &LogFile<'_>,
+    reading: Reading,
+    task: Task,
+) -> Result<Report, AllocError> {
+    match task {
+        Task::Events(format) => events_report(file, reading, format),
+        Task::Replay(asked) => replay_report(file, reading, asked),
+        Task::Check(format) => check_report(file, reading, format),
+    }
+}

@@ -1,0 +1,116 @@
+// @generated from proved source. It is not edited.
+
+use crate::support::fallible::*;
+
+use crate::uefi_audits::replay::replay_banks;
+use crate::uefi_audits::start::KnownStart;
+use uefi_formats::pcr::entries::is_active;
+use uefi_formats::pcr::{Bank, NoQuoteDigest, PcrValue, is_quoted, quote_digest};
+use crate::support::alloc::AllocError;
+use uefi_formats::pcr::Quote;
+use uefi_formats::proto::tcg::LogEntry;
+
+/// A quote, and what is known of it beside its bytes.
+#[derive(Clone, Copy, Debug)]
+pub struct ReceivedQuote<'a> {
+    /// The quote.
+    pub quote: Quote<'a>,
+    /// The hash function of its digest.
+    pub hash: Bank,
+    /// The nonce that it was asked for with; `None` if it may have any.
+    pub nonce: Option<&'a [u8]>,
+}
+
+impl<'a> ReceivedQuote<'a> {
+    /// Returns whether the quote has the nonce that it was asked for with: another one is that of
+    /// an older quote, or of one that somebody else asked for.
+    pub fn has_its_nonce(&self) -> bool {
+        match self.nonce {
+            Some(nonce) => self.quote.extra_data() == nonce,
+            None => true,
+        }
+    }
+}
+
+/// Whether a log leads to the digest in a quote.
+#[derive(Clone, Copy, Debug)]
+pub struct QuoteVerdict {
+    /// How PCR 0 starts.
+    pub start: KnownStart,
+    /// The digest of the PCRs that the log leads to, or why it leads to none.
+    pub digest: Result<PcrValue, NoQuoteDigest>,
+    /// Whether it is the digest in the quote.
+    pub agrees: bool,
+}
+
+impl QuoteVerdict {
+    /// Returns the verdict on a quote whose key hashes by this bank's function, after these events.
+    ///
+    /// PCR 0 starts at `locality`, or without one as the events say. If they say nothing, it starts at
+    /// 0, 3 or 4: the first one at which the digests agree, or at 0 if they agree at none.
+    ///
+    /// # Errors
+    ///
+    /// [`AllocError`] if an allocation fails.
+    pub fn new(
+        entries: &[LogEntry<'_>],
+        quote: &Quote<'_>,
+        hash: Bank,
+        locality: Option<u8>,
+    ) -> Result<QuoteVerdict, AllocError> {
+        let start = KnownStart::of(entries, locality);
+        if start.is_stated {
+            return QuoteVerdict::at(entries, quote, hash, start);
+        }
+        let at_0 = QuoteVerdict::at(entries, quote, hash, KnownStart::assumed(0))?;
+        let at_3 = QuoteVerdict::at(entries, quote, hash, KnownStart::assumed(3))?;
+        let at_4 = QuoteVerdict::at(entries, quote, hash, KnownStart::assumed(4))?;
+        Ok(at_0.or(at_3).or(at_4))
+    }
+
+    /// Returns the verdict in a TPM that was started so.
+    fn at(
+        entries: &[LogEntry<'_>],
+        quote: &Quote<'_>,
+        hash: Bank,
+        start: KnownStart,
+    ) -> Result<QuoteVerdict, AllocError> {
+        let banks = quoted_banks(entries, quote)?;
+        let replays = replay_banks(entries, banks.as_slice(), &start.start)?;
+        let digest = quote_digest(hash, quote, replays.as_slice());
+        Ok(QuoteVerdict {
+            start,
+            digest,
+            agrees: is_digest(quote.pcr_digest(), &digest),
+        })
+    }
+
+    /// Returns the one of two verdicts that agrees, and the first if neither or both do.
+    fn or(self, other: QuoteVerdict) -> QuoteVerdict {
+        if !self.agrees && other.agrees {
+            return other;
+        }
+        self
+    }
+}
+
+/// Returns the banks that have a selection in a quote and are active in these events, in the order of
+/// [`Bank::ALL`].
+fn quoted_banks(
+    entries: &[LogEntry<'_>],
+    quote: &Quote<'_>,
+) -> Result<Vec<Bank>, AllocError> {
+    Bank::ALL
+        .iter()
+        .copied()
+        .filter(|bank| is_quoted(quote, *bank) && is_active(entries, *bank))
+        .fallible_collect()
+}
+
+/// Returns whether a digest is this one.
+fn is_digest(digest: &[u8], found: &Result<PcrValue, NoQuoteDigest>) -> bool {
+    match found {
+        Ok(found) => found.as_bytes() == digest,
+        Err(_) => false,
+    }
+}

@@ -1,0 +1,98 @@
+// @generated from proved source. It is not edited.
+
+use crate::host::rt::{Eprint, Input, Print};
+use crate::support::fallible::*;
+
+use crate::file_input::{MAX_READS, ReadError, read_file};
+use std::process::ExitCode;
+use crate::host::rt::{Env, Files};
+use crate::host::env;
+use crate::host::io;
+use crate::uefi_listing::command::command_and_file;
+use crate::uefi_listing::listing::Outcome;
+use crate::uefi_listing::run::{RunError, run};
+
+/// Why the program didn't write the whole listing.
+#[derive(Clone, Copy, Debug)]
+enum Failure {
+    /// The words ask for no listing.
+    OtherWords,
+    /// The file wasn't read, whatever the cause.
+    File,
+    /// A write failed or accepted no bytes.
+    Output,
+    /// An allocation failed.
+    Memory,
+}
+
+impl Failure {
+    /// Returns the exit status.
+    fn status(self) -> u8 {
+        match self {
+            Failure::OtherWords => 2,
+            Failure::File | Failure::Output | Failure::Memory => 3,
+        }
+    }
+
+    /// Returns the line for standard error.
+    fn message(self) -> &'static str {
+        match self {
+            Failure::OtherWords => "usage: uefi_list COMMAND FILE [ARG]",
+            Failure::File => "uefi_list: file",
+            Failure::Output => "uefi_list: output",
+            Failure::Memory => "uefi_list: memory",
+        }
+    }
+}
+
+impl From<ReadError> for Failure {
+    fn from(_error: ReadError) -> Failure {
+        Failure::File
+    }
+}
+
+impl From<RunError> for Failure {
+    fn from(error: RunError) -> Failure {
+        match error {
+            RunError::Memory => Failure::Memory,
+            RunError::Output(_) => Failure::Output,
+        }
+    }
+}
+
+/// Returns the words after the program's name. If one isn't UTF-8, they ask for no listing.
+fn read_words<R: Env>(rt: &R) -> Result<Vec<String>, Failure> {
+    match env::args(rt) {
+        Ok(args) => match args.skip(1).fallible_collect() {
+            Ok(words) => Ok(words),
+            Err(_) => Err(Failure::Memory),
+        },
+        Err(error) if error.kind() == io::ErrorKind::OutOfMemory => Err(Failure::Memory),
+        Err(_) => Err(Failure::OtherWords),
+    }
+}
+
+/// Judges the words, reads the file, and prints its listing.
+fn print_listing<R: Files + Env + Input + Print>(rt: &R) -> Result<Outcome, Failure> {
+    let words = read_words(rt)?;
+    let Some((command, file)) = command_and_file(words.as_slice()) else {
+        return Err(Failure::OtherWords);
+    };
+    let bytes = read_file(rt, file, MAX_READS)?;
+    let outcome = run(&command, bytes.as_slice(), &mut io::writer(rt))?;
+    Ok(outcome)
+}
+
+/// Runs the program, says on standard error why it failed, and returns its exit status.
+pub(crate) fn start<R: Files + Env + Input + Print + Eprint>(rt: &R) -> ExitCode {
+    match print_listing(rt) {
+        Ok(Outcome::Listed) => ExitCode::SUCCESS,
+        Ok(Outcome::Refused) => ExitCode::from(1),
+        Err(failure) => {
+            let message = failure.message();
+            // If standard error is closed too, the exit status still tells.
+            let _ = fallible_eprintln!(rt, "{message}");
+            ExitCode::from(failure.status())
+        }
+    }
+}

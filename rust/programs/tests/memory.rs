@@ -1,0 +1,176 @@
+//! Each allocation of one call of each command is refused in turn, and all from it on: no program aborts.
+//!
+//! The test calls itself as the program, with an allocator that counts the requests from the start of the program's
+//! `main` function on. What Rust allocates before it isn't refused.
+
+use std::alloc::{GlobalAlloc, Layout, System};
+use std::fs::{self, File};
+use std::path::{Path, PathBuf};
+use std::process::{Command, ExitCode, Output};
+use std::sync::atomic::{AtomicBool, AtomicUsize, Ordering::Relaxed};
+use std::{env, ptr};
+
+/// The variable with the program that the test is called as.
+const PROGRAM: &str = "UEFI_TOOLS_PROGRAM";
+/// The variable with the number of the request that is refused, from 1, and `..` if those after it are too.
+const REFUSED: &str = "UEFI_TOOLS_REFUSED";
+
+/// The system's allocator, which refuses what [`FIRST`] and [`LAST`] say once it [`COUNTS`].
+struct Refusing;
+
+/// Whether requests are counted.
+static COUNTS: AtomicBool = AtomicBool::new(false);
+/// How many requests there were.
+static COUNT: AtomicUsize = AtomicUsize::new(0);
+/// The first request that is refused.
+static FIRST: AtomicUsize = AtomicUsize::new(usize::MAX);
+/// The last one.
+static LAST: AtomicUsize = AtomicUsize::new(0);
+
+/// Counts a request, and returns whether it is refused.
+fn is_refused() -> bool {
+    COUNTS.load(Relaxed) && {
+        let number = 1 + COUNT.fetch_add(1, Relaxed);
+        FIRST.load(Relaxed) <= number && number <= LAST.load(Relaxed)
+    }
+}
+
+// SAFETY: what isn't refused is the system's, and null is the answer to what is.
+unsafe impl GlobalAlloc for Refusing {
+    unsafe fn alloc(&self, layout: Layout) -> *mut u8 {
+        // SAFETY: the caller's promises are those of the system's allocator.
+        if is_refused() { ptr::null_mut() } else { unsafe { System.alloc(layout) } }
+    }
+
+    unsafe fn realloc(&self, memory: *mut u8, layout: Layout, size: usize) -> *mut u8 {
+        // SAFETY: as above.
+        if is_refused() { ptr::null_mut() } else { unsafe { System.realloc(memory, layout, size) } }
+    }
+
+    unsafe fn dealloc(&self, memory: *mut u8, layout: Layout) {
+        // SAFETY: as above.
+        unsafe { System.dealloc(memory, layout) }
+    }
+}
+
+#[global_allocator]
+static ALLOCATOR: Refusing = Refusing;
+
+/// A golden case: one call of a program, in a folder with the case's files.
+struct Case {
+    program: &'static str,
+    name: String,
+    words: Vec<String>,
+    folder: PathBuf,
+    input: PathBuf,
+}
+
+/// The golden cases, with one call of each command or more.
+const CASES: [(&str, &[&str]); 2] = [
+    ("uefi_audit", &[
+        "events-two-logs", "events-text", "bank", "replay-json", "verify-stated-locality", "verify-differs-json",
+        "registers-folder", "quote-agrees", "diff", "diff-json", "check", "check-json", "help-all",
+        "arguments-unknown-bank", "arguments-no-registers",
+    ]),
+    ("uefi_list", &[
+        "path-one-record", "pathtext-one-record", "textpath-one-record", "option-one-record", "log1-one-record",
+        "log2-one-record", "log2after-one-record", "config-one-record", "pci-one-record", "time-one-record",
+        "map-one-record", "info-one-record", "other-no-arguments",
+    ]),
+];
+
+/// The repository's folder.
+fn top() -> PathBuf {
+    Path::new(env!("CARGO_MANIFEST_DIR")).join("../..")
+}
+
+/// Returns a case, with its files in a folder of its own.
+fn case_of(program: &'static str, name: &str) -> Case {
+    let tests = top().join("tests").join(if program == "uefi_audit" { "audit" } else { "program" });
+    let case = tests.join("cases").join(name);
+    let folder = Path::new(env!("CARGO_TARGET_TMPDIR")).join("memory").join(name);
+    copy(&case.join("data"), &folder);
+    for sample in text(&case.join("samples")).lines() {
+        fs::copy(top().join("samples").join(sample), folder.join(sample)).unwrap();
+    }
+    let words = text(&case.join("args")).lines().map(str::to_owned).collect();
+    let input = case.join("stdin");
+    Case { program, name: name.to_owned(), words, folder, input: if input.is_file() { input } else { "/dev/null".into() } }
+}
+
+/// Returns the text of a file, an empty one if it isn't there.
+fn text(path: &Path) -> String {
+    fs::read_to_string(path).unwrap_or_default()
+}
+
+/// Copies what is in a folder, if it is there.
+fn copy(from: &Path, to: &Path) {
+    fs::create_dir_all(to).unwrap();
+    for entry in fs::read_dir(from).into_iter().flatten() {
+        let path = entry.unwrap().path();
+        let copied = to.join(path.file_name().unwrap());
+        if path.is_dir() {
+            copy(&path, &copied);
+        } else {
+            fs::copy(&path, copied).unwrap();
+        }
+    }
+}
+
+impl Case {
+    /// Runs the program, and refuses requests.
+    fn run(&self, refused: &str) -> Output {
+        let mut command = Command::new(env::current_exe().unwrap());
+        command.args(&self.words).current_dir(&self.folder).stdin(File::open(&self.input).unwrap());
+        command.env(PROGRAM, self.program).env(REFUSED, refused).output().unwrap()
+    }
+
+    /// Returns what is wrong with the end of a run of which requests were refused.
+    fn fault(&self, refused: &str, whole: &Output) -> Option<String> {
+        let end = self.run(refused);
+        let told = String::from_utf8_lossy(&end.stderr);
+        let last = told.lines().last().unwrap_or("");
+        let says_memory = last.ends_with(": memory") || last.ends_with(": out of memory") || last == "uefi_list: file";
+        let mut lines = whole.stdout.split_inclusive(|byte| *byte == b'\n');
+        let is_part = end.stdout.split_inclusive(|byte| *byte == b'\n').all(|line| lines.any(|other| other == line));
+        let is_expected = end.status.code() == Some(3) && says_memory && is_part;
+        let shown = String::from_utf8_lossy(&end.stdout);
+        (!is_expected).then(|| format!("{} {} {refused}: {}\n{shown}{told}", self.program, self.name, end.status))
+    }
+
+    /// Refuses each request of the program in turn, alone and with those after it. Returns what is wrong.
+    fn faults(&self) -> Vec<String> {
+        let whole = self.run("0");
+        let told = String::from_utf8_lossy(&whole.stderr);
+        let count: usize = told.lines().last().unwrap().strip_prefix("requests: ").unwrap().parse().unwrap();
+        println!("{} {}: {count} requests", self.program, self.name);
+        let forms = (1..=count).flat_map(|number| [format!("{number}"), format!("{number}..")]);
+        forms.filter_map(|refused| self.fault(&refused, &whole)).collect()
+    }
+}
+
+/// Runs a program, and counts its requests.
+fn run_as(program: &str) -> ExitCode {
+    let refused = env::var(REFUSED).unwrap();
+    let first: usize = refused.trim_end_matches('.').parse().unwrap();
+    FIRST.store(if first == 0 { usize::MAX } else { first }, Relaxed);
+    LAST.store(if refused.ends_with("..") { usize::MAX } else { first }, Relaxed);
+    COUNTS.store(true, Relaxed);
+    let end = if program == "uefi_audit" { uefi_tools::uefi_audit::main() } else { uefi_tools::uefi_list::main() };
+    COUNTS.store(false, Relaxed);
+    if first == 0 {
+        eprintln!("requests: {}", COUNT.load(Relaxed));
+    }
+    end
+}
+
+fn main() -> ExitCode {
+    if let Ok(program) = env::var(PROGRAM) {
+        return run_as(&program);
+    }
+    let cases = CASES.iter().flat_map(|(program, names)| names.iter().map(|name| case_of(program, name)));
+    let faults: Vec<String> = cases.flat_map(|case| case.faults()).collect();
+    faults.iter().for_each(|fault| println!("{fault}"));
+    println!("{} ends not as expected", faults.len());
+    ExitCode::from(u8::from(!faults.is_empty()))
+}

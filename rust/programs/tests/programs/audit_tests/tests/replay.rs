@@ -1,0 +1,10 @@
+// @generated from proved source. It is not edited.
+
+//! The PCRs that a log leads to, how PCR 0 starts, and where a log ends.
+
+mod banks;
+mod logs;
+mod machine_log;
+pub(crate) mod quotes;
+mod read_once;
+mod starts;
