@@ -77,9 +77,9 @@
  *   targets neither is checked: on aarch64 and i686, expect a call to change each
  *   vector register that the calling convention lets a function change.
  *
- * Functions follow the System V calling convention on x86-64, where an EFI
- * application gets it by UEFI_CALL, and the convention of C elsewhere. A
- * UEFI_CALL of your own must name that same convention.
+ * Functions follow the System V calling convention on x86-64, and the convention
+ * of C elsewhere: UEFI_CALL says so to the compiler. A UEFI_CALL of your own must
+ * name that same convention.
  */
 #ifndef UEFI_FORMATS_H
 #define UEFI_FORMATS_H
