@@ -171,18 +171,25 @@ def is_current(library):
 
 
 def kit():
-    """Returns the folder of the toolchain."""
+    """Returns the folder of the toolchain, or None where there is no `rt`."""
+    if not shutil.which("rt"):
+        return None
     return os.path.dirname(subprocess.run(["rt", "doc"], capture_output=True, text=True, check=True).stdout.strip())
 
 
 def run_tool(name, *arguments, **how):
     """Runs a tool of LLVM. One program of the toolchain is all of them, by the name that it is called. Without it the system's is taken."""
-    program = f"{kit()}/toolchain/bin/clang"
-    if os.access(program, os.X_OK):
+    folder = kit()
+    program = f"{folder}/toolchain/bin/clang"
+    if folder and os.access(program, os.X_OK):
         return subprocess.run([name, *arguments], executable=program, **how)
     others = map(shutil.which, OTHERS.get(name, [name, name.removeprefix("llvm-")]))
-    program = next(filter(None, others), None) or sys.exit(f"toolchain: neither the toolchain nor the system has {name}")
-    say(f"the toolchain has no {name}: taking {program}")
+    program = next(filter(None, others), None)
+    if not program:
+        say(f"there is no {name}, neither in {'the toolchain' if folder else 'a toolchain, since there is no rt,'} nor in PATH")
+        sys.exit(2)
+    if folder:
+        say(f"the toolchain has no {name}: taking {program}")
     return subprocess.run([program, *arguments], **how)
 
 
