@@ -5,7 +5,7 @@ import subprocess
 
 from telling import TOP, tells
 
-SOURCE = f"{TOP}/tests/c_conventions_src/calls.c"
+SOURCE = f"{TOP}/tests/c_interface_src/calls.c"
 FLAGS = "-std=gnu11 -Wall -Wextra -Werror -O2 -ffreestanding -fno-stack-protector -fno-builtin -fshort-wchar -nostdinc"
 TOOLCHAIN = f"{TOP}/tools/toolchain.py"
 # clang for Windows writes ELF where it is asked to, so that its programs run here. The first has Microsoft's extensions,
