@@ -2,6 +2,7 @@
 import os
 import shutil
 import subprocess
+import tempfile
 
 from telling import TOP, tells
 
@@ -33,27 +34,28 @@ def folders(include, efi):
     return ["-I", include, *(f"-isystem{it}" for it in systems)]
 
 
-def compiled(words, room, include, efi):
+def compiled(words, made, include, efi):
     """What a compiler says of the source, or None if it has no complaint."""
-    ran = subprocess.run([*words, *FLAGS.split(), *folders(include, efi), "-c", "-o", f"{room}/calls.o", SOURCE], capture_output=True, text=True)
+    ran = subprocess.run([*words, *FLAGS.split(), *folders(include, efi), "-c", "-o", made, SOURCE], capture_output=True, text=True)
     return ran.stderr + ran.stdout if ran.returncode else None
 
 
-def outcome(words, room, prefix, archive, efi):
+def outcome(words, prefix, archive, efi):
     """The exit status of the calls as a compiler has them, or what it complains of."""
-    if complaint := compiled(words, room, f"{prefix}/include", efi):
-        return complaint
-    subprocess.run([TOOLCHAIN, "ld.lld", "-static", "-o", f"{room}/calls", f"{room}/calls.o", archive], check=True)
-    return subprocess.run([f"{room}/calls"], check=False).returncode
+    with tempfile.TemporaryDirectory(prefix="c_conventions-") as room:
+        if complaint := compiled(words, f"{room}/calls.o", f"{prefix}/include", efi):
+            return complaint
+        subprocess.run([TOOLCHAIN, "ld.lld", "-static", "-o", f"{room}/calls", f"{room}/calls.o", archive], check=True)
+        return subprocess.run([f"{room}/calls"], check=False).returncode
 
 
-def rows(name, room, prefix, archive, efi, processor="x86_64"):
+def rows(name, prefix, archive, efi, processor):
     """Whether the calls over an archive have the right results, by each compiler and with each order of headers; and
     whether what can't be called is an error. `efi` is the folder of gnu-efi's headers, or None."""
     variants = [*WITHOUT_EFI, *(WITH_EFI if efi and processor == "x86_64" else ())]
     for words in compilers(processor):
-        found = {" ".join(more): outcome([*words, *more], room, prefix, archive, efi) for more in variants}
+        found = {" ".join(more): outcome([*words, *more], prefix, archive, efi) for more in variants}
         yield tells(f"{name}, calls by {' '.join(map(os.path.basename, words))}", found, dict.fromkeys(found, 0))
     for words, said in REFUSED.items() if processor == "x86_64" else ():
-        complaint = compiled([TOOLCHAIN, "clang", *words], room, f"{prefix}/include", None) or ""
+        complaint = compiled([TOOLCHAIN, "clang", *words], os.devnull, f"{prefix}/include", None) or ""
         yield tells(f"{name}, {' '.join(words)} is refused", "uefi_formats.h: " in complaint and said in complaint)

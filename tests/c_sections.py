@@ -2,6 +2,7 @@
 import os
 import shutil
 import subprocess
+import tempfile
 
 from telling import TOP, tells
 
@@ -14,10 +15,12 @@ MOST_BYTES = 12 << 10
 
 
 def run(*words):
+    """Runs a command, which has to end well."""
     subprocess.run(words, check=True)
 
 
 def compile_to(made, prefix, words):
+    """Compiles the program for a target."""
     run(TOOLCHAIN, "clang", *words, *FLAGS, "-I", f"{prefix}/include", "-c", "-o", made, SOURCE)
 
 
@@ -39,8 +42,14 @@ def of_efi(room, prefix, archive):
     return os.path.getsize(program)
 
 
-def rows(name, room, prefix, archive):
+def rows(name, prefix, archive):
     """Whether programs that read paths are small."""
+    with tempfile.TemporaryDirectory(prefix="c_sections-") as room:
+        yield from rows_in(room, name, prefix, archive)
+
+
+def rows_in(room, name, prefix, archive):
+    """The same, with a folder for what is made."""
     status, size = of_linux(room, prefix, archive)
     yield tells(f"{name}, a program for Linux that reads a path", (status, size < MOST_BYTES), (0, True))
     if not shutil.which("ld"):

@@ -2,3 +2,4 @@
 .globl __x86_return_thunk
 __x86_return_thunk:
     ret
+.section .note.GNU-stack, "", @progbits
