@@ -177,18 +177,28 @@ def kit():
     return os.path.dirname(subprocess.run(["rt", "doc"], capture_output=True, text=True, check=True).stdout.strip())
 
 
-def run_tool(name, *arguments, **how):
-    """Runs a tool of LLVM. One program of the toolchain is all of them, by the name that it is called. Without it the system's is taken."""
+def own_tools():
+    """Returns the program of the toolchain that is all tools of LLVM, by the name that it is called, or None."""
     folder = kit()
     program = f"{folder}/toolchain/bin/clang"
-    if folder and os.access(program, os.X_OK):
+    return program if folder and os.access(program, os.X_OK) else None
+
+
+def lacking(names):
+    """Returns the tools of LLVM that neither the toolchain nor PATH has."""
+    return [] if own_tools() else [it for it in names if not shutil.which(it)]
+
+
+def run_tool(name, *arguments, **how):
+    """Runs a tool of LLVM: the toolchain's, or else the system's."""
+    if program := own_tools():
         return subprocess.run([name, *arguments], executable=program, **how)
     others = map(shutil.which, OTHERS.get(name, [name, name.removeprefix("llvm-")]))
     program = next(filter(None, others), None)
     if not program:
-        say(f"there is no {name}, neither in {'the toolchain' if folder else 'a toolchain, since there is no rt,'} nor in PATH")
+        say(f"neither a toolchain nor PATH has {name}")
         sys.exit(2)
-    if folder:
+    if kit():
         say(f"the toolchain has no {name}: taking {program}")
     return subprocess.run([program, *arguments], **how)
 
