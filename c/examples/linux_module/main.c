@@ -61,7 +61,7 @@ static u32 end_of(UefiBytes bytes)
 			;
 		return is_padding(bytes, at) ? UEFI_LOG_ENDED : uefi_log1_state(bytes, bytes.n, at);
 	}
-	/* A table of many rows makes a log slow to read. */
+	/* A table of many rows makes a log slow to read. That of a real log has one to five. */
 	if (header.rows.n / 4 > 8)
 		return UEFI_LOG_EVENT;
 	at = header.event_end;
@@ -112,6 +112,7 @@ static int read_file(const char *name, int (*read)(UefiBytes bytes))
 	return error;
 }
 
+/* Reads what the parameters name. */
 static int __init uefi_boot_init(void)
 {
 	int error = read_file(map, read_map);
@@ -119,6 +120,7 @@ static int __init uefi_boot_init(void)
 	return error ? error : read_file(log, read_log);
 }
 
+/* Nothing is kept: with this function the module can be removed. */
 static void __exit uefi_boot_exit(void)
 {
 }
