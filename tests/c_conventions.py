@@ -14,8 +14,10 @@ TOOLCHAIN = f"{TOP}/tools/toolchain.py"
 WINDOWS = ["--target=x86_64-pc-windows-msvc-elf"], ["--target=x86_64-w64-windows-gnu-elf"]
 TARGETS = {"x86_64": [["--target=x86_64-linux-gnu"], *WINDOWS], "i686": [["--target=i686-linux-gnu"], ["--target=i686-linux-gnu", "-mregparm=3"]]}
 OF_GCC = {"x86_64": [[], ["-mabi=ms"]], "i686": []}
-# What a program may include beside the header, and where gnu-efi's headers are wanted for it.
-WITHOUT_EFI = [], ["-DMACRO"]
+# What a program may include beside the header, and where gnu-efi's headers are wanted for it. In Linux there are no
+# others than its own.
+KERNEL = ["-D__KERNEL__"]
+WITHOUT_EFI = [], ["-DMACRO"], KERNEL
 WITH_EFI = ["-DEFI_FIRST"], ["-DEFI_LAST"]
 # What no archive can be called by, and a word of what the header says of it.
 REFUSED = {("--target=x86_64-linux-gnux32",): "x32", ("--target=x86_64-linux-gnu", "-D__attribute(x)="): "before the header"}
@@ -28,15 +30,17 @@ def compilers(processor):
     return [[*it, *words] for it in clangs for words in TARGETS[processor]] + [[*it, *words] for it in gccs for words in OF_GCC[processor]]
 
 
-def folders(include, efi):
-    """The folders of headers: the library's, those of the tests, and gnu-efi's where they are."""
+def folders(include, efi, words):
+    """The folders of headers: the library's, those of the tests, and gnu-efi's where they are; or Linux's."""
     systems = [f"{TOP}/tests/c_headers", *([efi, f"{efi}/x86_64"] if efi else [])]
+    if set(KERNEL) <= set(words):
+        systems = [f"{TOP}/tests/c_interface_src/kernel"]
     return ["-I", include, *(f"-isystem{it}" for it in systems)]
 
 
 def compiled(words, made, include, efi):
     """What a compiler says of the source, or None if it has no complaint."""
-    ran = subprocess.run([*words, *FLAGS.split(), *folders(include, efi), "-c", "-o", made, SOURCE], capture_output=True, text=True)
+    ran = subprocess.run([*words, *FLAGS.split(), *folders(include, efi, words), "-c", "-o", made, SOURCE], capture_output=True, text=True)
     return ran.stderr + ran.stdout if ran.returncode else None
 
 
