@@ -39,7 +39,7 @@
 #elif defined(_WIN32) || defined(__UEFI__)
 #error "uefi_formats.h: this compiler can't call functions of the System V convention"
 #endif
-#elif defined(__aarch64__) && defined(__AARCH64EL__)
+#elif defined(__aarch64__) && defined(__AARCH64EL__) && !defined(__ILP32__)
 #elif defined(__i386__) && !defined(_WIN32)
 #if !defined(UEFI_CALL) && (defined(__GNUC__) || defined(__clang__))
 #define UEFI_CALL __attribute((__cdecl__, __regparm__(0)))
