@@ -1,4 +1,4 @@
-// @generated from proved source. It is not edited.
+// @generated: a copy of rust/tests/formats/text.rs. It is not edited.
 
 //! Text that is appended to, with an error if an allocation fails.
 

@@ -42,6 +42,7 @@ mod sizes;
 mod sm3_tests;
 mod support;
 mod tcg_tests;
+// A sample is for the tests of the programs.
 #[allow(dead_code)]
 mod test_support;
 

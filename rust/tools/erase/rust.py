@@ -160,12 +160,12 @@ def calls_fallible(source, i, in_library):
     return name.startswith('fallible_') and following != '!' or name == 'text' and following == '(' and source.at(i - 1) == '.' and not in_library
 
 
-def text_of(source, in_library, gate, imports=None):
+def text_of(source, in_library, gate, imports=()):
     """The text, with imports of what Rattle has in scope everywhere, and of traits whose methods calls became. `imports` are
     those of a program."""
     names, owned = set(source.names()), (('string', 'String'), ('vec', 'Vec')) if in_library else ()
-    lines = [*(imports or ())] + [f'{gate}\nuse alloc::{module}::{name};' for module, name in owned if name in names]
-    if any(calls_fallible(source, i, in_library or imports is not None) for i in range(len(source.tokens))):
+    lines = [*imports] + [f'{gate}\nuse alloc::{module}::{name};' for module, name in owned if name in names]
+    if any(calls_fallible(source, i, in_library) for i in range(len(source.tokens))):
         lines.append(f'{gate}\nuse crate::support::fallible::*;' if in_library else 'use crate::support::fallible::*;')
     if 'write_char' in names:
         lines.append('use core::fmt::Write as _;')

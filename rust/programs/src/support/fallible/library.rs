@@ -1,4 +1,4 @@
-// @generated from proved source. It is not edited.
+// @generated: a copy of rust/src/support/fallible.rs. It is not edited.
 
 //! The calls of vectors and texts that end a program whose memory runs out, with an error instead.
 
