@@ -66,6 +66,12 @@ class Calls:
                 self.paths.add((around if of == 'Self' else of, name))
             self.names[name] += name not in own
 
+    def include(self, other):
+        """Adds what other code mentions."""
+        self.names.update(other.names)
+        self.methods |= other.methods
+        self.paths |= other.paths
+
     def calls(self, source, keyword, around, is_trait):
         """Whether this member of a type or a trait is mentioned."""
         name = source.item_name(keyword)

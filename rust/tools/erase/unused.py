@@ -82,18 +82,22 @@ def is_private(source, keyword):
     return source.at(keyword - 1) != ')' and visibility(source, keyword) is None
 
 
-def seeing(source, sources):
-    """The files that see what is private in a file: itself, and those of the modules in its module."""
-    folder = re.sub(r'/lib$', '', source.path.removesuffix('.rt')) + '/'
-    return [it for it in sources if it is source or it.path.startswith(folder)]
+def sees(other, source):
+    """Whether a file sees what is private in another: it is that file, or of a module in its module."""
+    return other is source or other.path.startswith(re.sub(r'/lib$', '', source.path.removesuffix('.rt')) + '/')
 
 
 def gate_items(sources, lib):
     """Puts behind the feature what isn't public and is called from behind it alone. Returns whether there was any."""
-    whole, found = Calls(sources, GATE), False
+    each, whole, found = [Calls([source], GATE) for source in sources], Calls(), False
+    for calls in each:
+        whole.include(calls)
     whole.names.update(lib.names())
     for source in sources:
-        inside = Calls(seeing(source, sources), GATE)
+        inside = Calls()
+        for other, calls in zip(sources, each):
+            if sees(other, source):
+                inside.names.update(calls.names)
         for start, keyword, end in reversed(list(source.items())):
             kind = source.at(keyword)
             if kind == 'impl' and not has(source, start, GATE):
