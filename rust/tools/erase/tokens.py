@@ -191,6 +191,10 @@ class Rule:
 
 
 def rewrite(source, rules):
-    """Applies the first rule that covers what begins at each token, from the last token on."""
+    """Applies the first rule that covers what begins at each token, from the last token on; those that begin with a variable
+    are tried last."""
+    beginning = {}
+    for rule in rules:
+        beginning.setdefault('$' if rule.before[0].startswith('$') else rule.before[0], []).append(rule)
     for i in range(len(source.tokens) - 1, -1, -1):
-        any(rule.apply(source, i) for rule in rules)
+        any(rule.apply(source, i) for rule in (*beginning.get(source.at(i), ()), *beginning.get('$', ())))
