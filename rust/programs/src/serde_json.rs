@@ -176,3 +176,25 @@ macro_rules! json {
     };
 }
 pub(crate) use json;
+
+#[cfg(test)]
+mod tests {
+    use super::*;
+
+    /// Each kind of value has its text.
+    #[test]
+    fn values_have_their_texts() -> Result<(), AllocError> {
+        let items = vec![Value::Null, Value::from(true), Value::from(false), Value::from(0u8), Value::from(10u16), Value::from(u64::MAX)];
+        let value: Result<Value, AllocError> = json!({"b": items, "a": "text", "": Option::<u8>::None});
+        assert_eq!(value?.fallible_to_string()?, r#"{"":null,"a":"text","b":[null,true,false,0,10,18446744073709551615]}"#);
+        Ok(())
+    }
+
+    /// Strings have escapes for quotes, backslashes and controls below the space, and for no other characters.
+    #[test]
+    fn strings_are_escaped() -> Result<(), AllocError> {
+        let value = Value::try_from_str("a\"\\\u{8}\u{c}\n\r\t\0\u{1f} /\u{7f}é€😀")?;
+        assert_eq!(value.fallible_to_string()?, "\"a\\\"\\\\\\b\\f\\n\\r\\t\\u0000\\u001f /\u{7f}é€😀\"");
+        Ok(())
+    }
+}

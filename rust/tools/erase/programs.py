@@ -98,6 +98,14 @@ def close_matches(source, library):
             source.tokens[close:close] = new
 
 
+def drop_makers(source, names):
+    """Drops functions of tests that make a value of a type that may get more fields: only its package can."""
+    for start, keyword, end in reversed(list(source.items())):
+        made = (i for i in range(keyword, end) if source.at(i) in names and source.at(i + 1) == '{' and source.at(i - 1) != '->')
+        if source.at(keyword) == 'fn' and any(made):
+            source.cut(start, end)
+
+
 def std(source, i, root):
     """What stands for `std` in a program."""
     parts = set(source.names(i + 2, source.after(i + 2)))

@@ -105,3 +105,40 @@ impl<T: Ord> BTreeSet<T> {
         Ok(self.0.insert(item, ())?.is_none())
     }
 }
+
+#[cfg(test)]
+mod tests {
+    //! Against the map of Rust, whose insertion ends the program if an allocation fails.
+
+    use super::{BTreeMap, BTreeSet, PART};
+    use std::collections;
+
+    /// Returns numbers in an order that a seed decides, many of them more than once.
+    fn numbers(count: u64, seed: u64) -> impl Iterator<Item = u64> {
+        (0..count).map(move |it| it.wrapping_mul(0x9e37_79b9_7f4a_7c15).rotate_left(seed as u32) % (count - count / 4))
+    }
+
+    /// A map has the entries of Rust's, in the same order, however its keys come.
+    #[test]
+    fn a_map_has_the_entries_of_rusts() {
+        let count = 40 * PART as u64;
+        for order in [Vec::from_iter(0..count), Vec::from_iter((0..count).rev()), numbers(count, 7).collect(), numbers(count, 31).collect()] {
+            let (mut mine, mut other) = (BTreeMap::new(), collections::BTreeMap::new());
+            for (value, key) in order.into_iter().enumerate() {
+                assert_eq!(mine.insert(key, value), Ok(other.insert(key, value)));
+                assert_eq!(mine.get(&(key + 1)), other.get(&(key + 1)));
+            }
+            assert!(mine.iter().eq(other.iter()) && mine.values().eq(other.values()));
+            assert!(mine.parts.iter().all(|part| !part.is_empty() && part.len() <= PART));
+            assert!((0..count).all(|key| mine.get(&key) == other.get(&key)));
+        }
+    }
+
+    /// A set has the items that were inserted.
+    #[test]
+    fn a_set_has_its_items() {
+        let mut set = BTreeSet::new();
+        assert_eq!([set.insert("b"), set.insert("a"), set.insert("b")], [Ok(true), Ok(true), Ok(false)]);
+        assert!(set.contains("a") && set.contains("b") && !set.contains("c"));
+    }
+}
