@@ -52,7 +52,8 @@ impl<'a> Command<'a> {
         })?;
         for arg in &self.args {
             let space = if arg.long.is_some() { "    " } else { "" };
-            let left = arg.short.map_or(fallible_format!("{space}{arg}"), |short| fallible_format!("-{short}, {arg}"))?;
+            let with_short = |short| fallible_format!("-{short}, {arg}");
+            let left = arg.short.map_or_else(|| fallible_format!("{space}{arg}"), with_short)?;
             tables[1 + usize::from(arg.long.is_some())].1.fallible_push((left, arg.help, arg.possible(" ")?))?;
         }
         let mut full = tables.iter().filter(|(_, rows)| !rows.is_empty());
