@@ -72,14 +72,16 @@
  * - libuefi_formats_user.a: proved, compiled by LLVM. For programs of an
  *   operating system: it uses the red zone, and changes xmm0 to xmm15 too.
  * - libuefi_formats.a alone: generated from the proved functions, compiled by
- *   rustc for a target. That of x86_64-unknown-none is for kernels: it uses no
- *   memory below the stack pointer, and changes no vector register. Of other
- *   targets neither is checked: on aarch64 and i686, expect a call to change each
- *   vector register that the calling convention lets a function change.
+ *   rustc for a target. Those of x86_64-unknown-none and
+ *   aarch64-unknown-none-softfloat are for kernels: they change no vector register,
+ *   and that of x86_64-unknown-none uses no memory below the stack pointer. With
+ *   --kernel, it is for Linux (docs/KERNEL.md). Of other targets neither is checked:
+ *   on aarch64 and i686, expect a call to change each vector register that the
+ *   calling convention lets a function change.
  *
- * Functions follow the System V calling convention on x86-64, where an EFI
- * application gets it by UEFI_CALL, and the convention of C elsewhere. A
- * UEFI_CALL of your own must name that same convention.
+ * Functions follow the System V calling convention on x86-64, and the convention
+ * of C elsewhere: UEFI_CALL says so to the compiler. A UEFI_CALL of your own must
+ * name that same convention.
  */
 #ifndef UEFI_FORMATS_H
 #define UEFI_FORMATS_H

@@ -171,18 +171,35 @@ def is_current(library):
 
 
 def kit():
-    """Returns the folder of the toolchain."""
+    """Returns the folder of the toolchain, or None where there is no `rt`."""
+    if not shutil.which("rt"):
+        return None
     return os.path.dirname(subprocess.run(["rt", "doc"], capture_output=True, text=True, check=True).stdout.strip())
 
 
+def own_tools():
+    """Returns the program of the toolchain that is all tools of LLVM, by the name that it is called, or None."""
+    folder = kit()
+    program = f"{folder}/toolchain/bin/clang"
+    return program if folder and os.access(program, os.X_OK) else None
+
+
+def lacking(names):
+    """Returns the tools of LLVM that neither the toolchain nor PATH has."""
+    return [] if own_tools() else [it for it in names if not shutil.which(it)]
+
+
 def run_tool(name, *arguments, **how):
-    """Runs a tool of LLVM. One program of the toolchain is all of them, by the name that it is called. Without it the system's is taken."""
-    program = f"{kit()}/toolchain/bin/clang"
-    if os.access(program, os.X_OK):
+    """Runs a tool of LLVM: the toolchain's, or else the system's."""
+    if program := own_tools():
         return subprocess.run([name, *arguments], executable=program, **how)
     others = map(shutil.which, OTHERS.get(name, [name, name.removeprefix("llvm-")]))
-    program = next(filter(None, others), None) or sys.exit(f"toolchain: neither the toolchain nor the system has {name}")
-    say(f"the toolchain has no {name}: taking {program}")
+    program = next(filter(None, others), None)
+    if not program:
+        say(f"neither a toolchain nor PATH has {name}")
+        sys.exit(2)
+    if kit():
+        say(f"the toolchain has no {name}: taking {program}")
     return subprocess.run([program, *arguments], **how)
 
 

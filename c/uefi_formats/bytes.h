@@ -2,9 +2,14 @@
 #ifndef UEFI_FORMATS_BYTES_H
 #define UEFI_FORMATS_BYTES_H
 
+/* Linux has the same names in a header of its own. */
+#ifdef __KERNEL__
+#include <linux/types.h>
+#else
 #include <stdbool.h>
 #include <stddef.h>
 #include <stdint.h>
+#endif
 
 #define UEFI_FORMATS_VERSION_MAJOR 0
 #define UEFI_FORMATS_VERSION_MINOR 1
@@ -14,19 +19,31 @@
     (UEFI_FORMATS_VERSION_MAJOR << 16 | UEFI_FORMATS_VERSION_MINOR << 8 | UEFI_FORMATS_VERSION_PATCH)
 
 /* UEFI_CALL is the calling convention that the archives are compiled for: System
- * V on x86-64, that of C elsewhere. Define it yourself only where the compiler has
- * another word for the same convention: no compiler or linker sees a wrong one. */
+ * V on x86-64, that of C elsewhere. Compilers whose functions follow another one,
+ * by their target or by an option, call these functions by it. Define it yourself
+ * only where the compiler has another word for the same convention: no compiler or
+ * linker sees a wrong one.
+ *
+ * The keyword is written `__attribute`, since gnu-efi's headers make the one with
+ * more underscores a macro without a value. */
+#ifdef __attribute
+#error "uefi_formats.h: __attribute is a macro: include uefi_formats.h before the header that defines it, or undefine it"
+#endif
 #if defined(__x86_64__) || defined(_M_X64)
-/* For targets whose functions follow Microsoft's convention. */
-#if !defined(UEFI_CALL) && (defined(_WIN64) || defined(__UEFI__))
-#if defined(__GNUC__) || defined(__clang__)
-#define UEFI_CALL __attribute__((sysv_abi))
-#else
+#ifdef __ILP32__
+#error "uefi_formats.h: there is no archive for x32: compile for a target whose pointers have 64 bits"
+#endif
+#ifdef UEFI_CALL
+#elif defined(__GNUC__) || defined(__clang__)
+#define UEFI_CALL __attribute((__sysv_abi__))
+#elif defined(_WIN32) || defined(__UEFI__)
 #error "uefi_formats.h: this compiler can't call functions of the System V convention"
 #endif
-#endif
-#elif defined(__aarch64__) && defined(__AARCH64EL__)
+#elif defined(__aarch64__) && defined(__AARCH64EL__) && !defined(__ILP32__)
 #elif defined(__i386__) && !defined(_WIN32)
+#if !defined(UEFI_CALL) && (defined(__GNUC__) || defined(__clang__))
+#define UEFI_CALL __attribute((__cdecl__, __regparm__(0)))
+#endif
 #else
 #error "uefi_formats.h: there is no archive for this target"
 #endif

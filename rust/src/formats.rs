@@ -1,7 +1,17 @@
-//! The libraries, a module each. Their files are written by `rust/tools/erase`.
+// @generated from proved source. It is not edited.
 
-// Some fields and imports are those of the proofs, and a form is the one that is proved.
-#![allow(dead_code, unused_imports, clippy::complexity, clippy::style)]
+//! The libraries, a module each.
+
+// A loop has the form that its proof is about.
+#![allow(clippy::explicit_counter_loop, clippy::needless_range_loop, clippy::while_let_on_iterator)]
+// So has a test of what is returned.
+#![allow(clippy::question_mark, clippy::redundant_pattern_matching)]
+// Rattle has neither these calls of numbers nor `let` in a condition of several parts.
+#![allow(clippy::collapsible_if, clippy::manual_div_ceil, clippy::manual_is_multiple_of)]
+// A part and what follows it are a pair, also of pairs.
+#![allow(clippy::type_complexity)]
+// The parameters are those of `uefi`, or a record's fields.
+#![allow(clippy::too_many_arguments)]
 
 pub(crate) mod pcr_replay;
 pub(crate) mod sha1;

@@ -142,8 +142,7 @@ pub mod proto {
     }
 
     pub mod tcg {
-        //! Event logs of measured boot. Begin with [`v1::EventLog::new`] for a log of SHA-1 digests, and
-        //! with [`v2::EventLog::new`] for one whose header states the algorithms.
+        //! Event logs of measured boot. Begin with [`Log::read`], which takes a log of either version.
 
         pub use crate::formats::uefi_tcg::*;
     }
@@ -272,8 +271,6 @@ mod as_enum {
         ///   type and subtype.
         /// - [`NodeConversionError::Length`] if the data have another length than the type has.
         /// - [`NodeConversionError::Form`] if they have the length, and not the form of the type.
-        ///
-        /// Its contract: `crates/uefi_node/src/node_enum.rt`.
         #[inline]
         pub fn as_enum(&self) -> Result<DevicePathNodeEnum<'a>, NodeConversionError> {
             DevicePathNodeExt::as_enum(self)
@@ -286,6 +283,18 @@ mod as_enum {
 
         fn try_from(node: DevicePathNode<'a>) -> Result<DevicePathNodeEnum<'a>, NodeConversionError> {
             node.as_enum()
+        }
+    }
+}
+
+#[cfg(feature = "alloc")]
+mod default {
+    use crate::proto::device_path::build::DevicePathVecBuilder;
+
+    /// A builder without a node.
+    impl Default for DevicePathVecBuilder {
+        fn default() -> DevicePathVecBuilder {
+            DevicePathVecBuilder::new()
         }
     }
 }
@@ -317,8 +326,6 @@ mod from_text {
         /// - [`FromTextError::UnknownNode`], [`FromTextError::Argument`], [`FromTextError::Missing`] or
         ///   [`FromTextError::TooLong`] if the text is that of no path.
         /// - [`FromTextError::Buffer`] with the length of the path if the buffer is shorter.
-        ///
-        /// Its contract: `crates/uefi_node/src/parse/path.rt`.
         #[inline]
         pub fn from_text(buffer: &'a mut [u8], text: &str) -> Result<DevicePath<'a>, FromTextError> {
             text::from_text(buffer, text)

@@ -2,6 +2,7 @@
 
 pub(crate) mod alloc;
 pub(crate) mod bitflags;
+pub(crate) mod debug;
 // Some calls are those of the tests and of the examples alone.
 #[cfg(feature = "alloc")]
 #[allow(dead_code)]

@@ -5,7 +5,7 @@ ghost use Rattle.uefi_base.specs.Texts.{status_name, error_text};
 
 use std::{error, fmt};
 
-/// The status of a failed call (UEFI 2.10, Appendix D), for each error that this project returns.
+/// The status of a failed call (UEFI 2.10, Appendix D), for each error that a call returns.
 #[derive(Clone, Copy, PartialEq, Eq, Debug)]
 pub enum Status {
     /// A parameter is invalid.

@@ -4,6 +4,8 @@
 pub(crate) mod alloc;
 #[path = "../../src/support/bitflags.rs"]
 pub(crate) mod bitflags;
+#[path = "../../src/support/debug.rs"]
+pub(crate) mod debug;
 // Some calls are those of the tests and of the examples alone.
 #[allow(dead_code)]
 #[path = "../../src/support/fallible.rs"]

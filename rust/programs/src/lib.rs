@@ -1,8 +1,20 @@
 //! The parts of the programs `uefi_list` and `uefi_audit`, whose `main` functions call [`uefi_list::main`] and
 //! [`uefi_audit::main`]. No interface is promised.
 //!
-//! The modules `audit_text`, `file_input`, `hex`, `sha2`, `uefi_audit`, `uefi_audits`, `uefi_base`, `uefi_list`, `uefi_listing` are written by `rust/tools/erase` from source that is proved; they aren't themselves
+//! The modules `audit_text`, `file_input`, `hex`, `sha2`, `uefi_audit`, `uefi_audits`, `uefi_base`,
+//! `uefi_list`, `uefi_listing` are written from source that is proved; they aren't themselves
 //! proved. The others are by hand: the README says why.
+
+// A loop has the form that its proof is about.
+#![allow(clippy::needless_range_loop, clippy::while_let_on_iterator)]
+// So has a test of what is returned.
+#![allow(clippy::manual_contains, clippy::manual_find, clippy::manual_map, clippy::manual_ok_err)]
+#![allow(clippy::manual_unwrap_or, clippy::question_mark, clippy::redundant_pattern_matching)]
+// Rattle has neither this call of numbers nor `let` in a condition of several parts.
+#![allow(clippy::collapsible_if, clippy::manual_is_multiple_of)]
+// What is borrowed, and for how long, is written out there.
+#![allow(clippy::explicit_auto_deref, clippy::needless_borrows_for_generic_args)]
+#![allow(clippy::needless_lifetimes)]
 
 // A failed allocation is an error: see `support`.
 extern crate alloc;
@@ -17,25 +29,20 @@ pub(crate) mod clap;
 pub(crate) mod serde_json;
 pub(crate) mod strsim;
 
-// Generated from here on. A form is the one that is proved.
-#[allow(clippy::complexity, clippy::perf, clippy::style)]
+// Generated from here on.
 pub mod audit_text;
-#[allow(clippy::complexity, clippy::perf, clippy::style)]
 pub mod file_input;
-#[allow(clippy::complexity, clippy::perf, clippy::style)]
 pub mod uefi_audit;
 // A field is read by contracts alone.
-#[allow(dead_code, clippy::complexity, clippy::perf, clippy::style)]
+#[allow(dead_code)]
 pub mod uefi_audits;
-#[allow(clippy::complexity, clippy::perf, clippy::style)]
 pub mod uefi_list;
-#[allow(clippy::complexity, clippy::perf, clippy::style)]
 pub mod uefi_listing;
 
 // Generated too. The programs call a part of them.
-#[allow(dead_code, clippy::complexity, clippy::perf, clippy::style)]
+#[allow(dead_code)]
 pub(crate) mod hex;
-#[allow(dead_code, clippy::complexity, clippy::perf, clippy::style)]
+#[allow(dead_code)]
 pub(crate) mod sha2;
 pub(crate) mod uefi_base {
     //! What isn't public in the package `uefi-formats`.

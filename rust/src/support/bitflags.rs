@@ -60,6 +60,15 @@ macro_rules! items {
             }
         }
 
+        impl core::fmt::Debug for $name {
+            fn fmt(&self, f: &mut core::fmt::Formatter<'_>) -> core::fmt::Result {
+                let flags = [$(($name::$flag, stringify!($flag))),*].into_iter();
+                let names = flags.filter(|(flag, _)| self.0 & flag.0 == flag.0).map(|(_, name)| name);
+                let unnamed = u64::from(self.0 & !$name::NAMED);
+                crate::support::debug::write_flags(f, stringify!($name), names, unnamed)
+            }
+        }
+
         impl core::ops::BitOr for $name {
             type Output = $name;
 

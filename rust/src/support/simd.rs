@@ -20,6 +20,7 @@ fn word(bytes: &[u8], at: usize) -> u64 {
 }
 
 /// A lane's highest bit where the first is at least the second.
+#[cfg(feature = "alloc")]
 #[inline(always)]
 const fn at_least(a: u64, b: u64) -> u64 {
     let lower = (a | HIGH).wrapping_sub(b & !HIGH);
@@ -33,6 +34,7 @@ const fn zeros(a: u64) -> u64 {
 }
 
 /// The bytes at even places, in the lower half.
+#[cfg(feature = "alloc")]
 #[inline(always)]
 const fn even(a: u64) -> u64 {
     let a = a & 0x00ff_00ff_00ff_00ff;
@@ -64,6 +66,7 @@ impl u8x16 {
         u8x16([word(part, 0), word(part, 8)])
     }
 
+    #[cfg(feature = "alloc")]
     #[inline(always)]
     pub fn copy_to_slice(self, out: &mut [u8]) {
         let part = &mut out[..16];
@@ -72,6 +75,7 @@ impl u8x16 {
     }
 
     /// The lanes at even places of both, and those at odd places.
+    #[cfg(feature = "alloc")]
     #[inline(always)]
     pub fn deinterleave(self, other: u8x16) -> (u8x16, u8x16) {
         let ([a, b], [c, d]) = (self.0, other.0);
@@ -89,11 +93,13 @@ impl u8x16 {
         Mask(self.each(other, |a, b| zeros(a ^ b)))
     }
 
+    #[cfg(feature = "alloc")]
     #[inline(always)]
     pub fn simd_ge(self, other: u8x16) -> Mask {
         Mask(self.each(other, at_least))
     }
 
+    #[cfg(feature = "alloc")]
     #[inline(always)]
     pub fn simd_lt(self, other: u8x16) -> Mask {
         Mask(self.each(other, |a, b| !at_least(a, b) & HIGH))
@@ -174,6 +180,7 @@ impl Mask {
         gathered(self.0[0]) | gathered(self.0[1]) << 8
     }
 
+    #[cfg(feature = "alloc")]
     #[inline(always)]
     pub fn select(self, yes: u8x16, no: u8x16) -> u8x16 {
         let all = self.0.map(|bits| (bits << 1).wrapping_sub(bits >> 7));
@@ -250,7 +257,7 @@ pub(crate) mod prelude {
     pub(crate) use super::{u8x16, u8x32, u16x16};
 }
 
-#[cfg(test)]
+#[cfg(all(test, feature = "alloc"))]
 mod tests {
     use super::*;
 

@@ -1,4 +1,21 @@
+// @generated from proved source. It is not edited.
+
 //! The libraries, from the files of the package: what is private there is tested too.
+
+// The tests call a part of the libraries.
+#![allow(dead_code, unused_imports)]
+// A loop has the form that its proof is about.
+#![allow(clippy::explicit_counter_loop, clippy::needless_range_loop, clippy::while_let_on_iterator)]
+// So has a test of what is returned.
+#![allow(clippy::question_mark, clippy::redundant_pattern_matching)]
+// Rattle has neither these calls of numbers nor `let` in a condition of several parts.
+#![allow(clippy::collapsible_if, clippy::manual_div_ceil, clippy::manual_is_multiple_of)]
+// A part and what follows it are a pair, also of pairs.
+#![allow(clippy::type_complexity)]
+// The parameters are those of `uefi`, or a record's fields.
+#![allow(clippy::too_many_arguments)]
+// The names are those of `uefi`.
+#![allow(clippy::enum_variant_names, clippy::wrong_self_convention)]
 
 #[path = "../../src/formats/pcr_replay/mod.rs"]
 pub(crate) mod pcr_replay;

@@ -1,20 +1,32 @@
 //! The repository's tests of the libraries, written out by `tools/erase`, and by
 //! hand each allocation refused in turn, and every `# Panics`.
 
-// The form is the one of the repository's tests, of which some are left out.
-#![allow(dead_code, unused_imports, clippy::all)]
+// Rows are tuples, and a step is a closure, to which the source passes an allocator.
+#![allow(clippy::type_complexity, clippy::redundant_closure)]
+// A step is the same whether or not its result is what it was given.
+#![allow(clippy::eq_op, clippy::field_reassign_with_default, clippy::useless_conversion)]
+// What these lints offer instead isn't in the source's std, or isn't proved.
+#![allow(clippy::double_ended_iterator_last, clippy::explicit_auto_deref, clippy::len_zero)]
+#![allow(clippy::manual_is_multiple_of, clippy::redundant_as_str, clippy::needless_lifetimes)]
+#![allow(clippy::needless_borrows_for_generic_args, clippy::option_as_ref_deref)]
+#![allow(clippy::question_mark, clippy::while_let_on_iterator)]
 
 extern crate alloc;
 
 #[macro_use]
 mod text;
 
+// These have what is for tests that are left out, too.
+#[allow(dead_code, unused_imports)]
 mod audit_tests;
+#[allow(dead_code, unused_imports)]
 mod base_tests;
 mod conversions;
+mod debug;
 mod equality;
 mod formats;
 mod hex;
+#[allow(dead_code)]
 mod hii_tests;
 mod macros;
 mod map_tests;
@@ -23,12 +35,15 @@ mod mutated_quotes;
 mod node_tests;
 mod panics;
 mod path_tests;
+#[allow(dead_code)]
 mod quote_tests;
 mod records_tests;
 mod sizes;
 mod sm3_tests;
 mod support;
 mod tcg_tests;
+// A sample is for the tests of the programs.
+#[allow(dead_code)]
 mod test_support;
 
 use formats::{pcr_replay, tpm_quote, uefi_base, uefi_hii, uefi_map, uefi_node, uefi_path, uefi_records, uefi_tcg};

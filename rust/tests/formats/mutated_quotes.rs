@@ -7,6 +7,8 @@ use std::collections::BTreeMap;
 use std::mem::discriminant;
 use uefi_formats::pcr::{ClockInfo, Quote, QuoteError};
 
+// A part of the samples, which are private to their tests.
+#[allow(dead_code, clippy::duplicate_mod)]
 #[path = "quote_tests/tests/samples.rs"]
 mod samples;
 

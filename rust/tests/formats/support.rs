@@ -4,6 +4,8 @@
 pub mod alloc;
 #[path = "../../src/support/bitflags.rs"]
 pub(crate) mod bitflags;
+#[path = "../../src/support/debug.rs"]
+pub(crate) mod debug;
 #[path = "../../src/support/sealed.rs"]
 pub(crate) mod sealed;
 #[path = "../../src/support/signed.rs"]

@@ -43,20 +43,6 @@ def text_of(source):
     return '\n\n'.join(part for part in (docs.strip(), '\n'.join(lines), text[len(docs):].strip()) if part) + '\n'
 
 
-def modules(libraries, functions):
-    """The module of the functions and of the libraries below them."""
-    shared = ''.join(f'#[path = "../../src/formats/{name}/mod.rs"]\npub(crate) mod {name};\n' for name in libraries)
-    return f"""//! The functions for C, and the libraries that they call, whose files are those of the package `uefi-formats`.
-
-// The functions call a part of the libraries.
-#![allow(dead_code, unused_imports)]
-// A form is the one that is proved.
-#![allow(clippy::complexity, clippy::style)]
-
-{shared}pub(crate) mod {functions};
-"""
-
-
 def slices_of(source):
     """For each structure of a file for C the fields that are slices."""
     found = {}

@@ -5,8 +5,8 @@ import re
 import textwrap
 
 BLOCK = re.compile(r'(?:^|(?<=\n))([ ]*)//([/!])[^\n]*(?:\n\1//\2[^\n]*)*')
-# Of what a sentence doesn't speak here: a caller in Rust sees no contract.
-PROOF = re.compile(r'specs/|\b(contracts?|prove[sdn]?|proofs?|laws?|clauses?)\b')
+# Of what a sentence doesn't speak here: a caller in Rust sees no contract, and passes no allocator.
+PROOF = re.compile(r'specs/|\b(contracts?|prove[sdn]?|proofs?|laws?|clauses?|ghost|allocators?)\b')
 ASIDE = re.compile(r' ?\(\[`\w+`\]\(crate::laws::\w+\)\)|, with\s+their\s+contracts,')
 SENTENCE = re.compile(r'(?<=[.:])\s+(?=[A-Z`\[])')
 
@@ -27,23 +27,21 @@ class Docs:
         words, folder = {}, f'{self.folder}/{crate}/{os.path.dirname(shown.partition("/src/")[2])}'
         for start, keyword, end in source.items():
             name, kind = source.item_name(keyword), source.at(keyword)
-            link = kind in ('struct', 'enum', 'trait') and source.at(keyword - 1) == 'pub'
-            words[start] = os.path.normpath(f'{folder}/{name}.md'), f'\n\nIts contract: `{shown}`.' * link
+            words[start] = os.path.normpath(f'{folder}/{name}.md')
             if kind in ('impl', 'trait'):
                 for first, inner, _ in source.items(source.until(keyword, '{') + 1, end - 1):
-                    words[first] = os.path.normpath(f'{folder}/{name}.{source.item_name(inner)}.md'), ''
+                    words[first] = os.path.normpath(f'{folder}/{name}.{source.item_name(inner)}.md')
         for i, token in enumerate(source.tokens):
             if '///' in token.space or '//!' in token.space:
-                example, link = words.get(i, (None, ''))
-                token.space = BLOCK.sub(lambda it: self.block(it, source, i, crate, example, link), token.space)
+                token.space = BLOCK.sub(lambda it: self.block(it, source, i, crate, words.get(i)), token.space)
 
-    def block(self, found, source, i, crate, example, link):
+    def block(self, found, source, i, crate, example):
         """A block of docs, written anew."""
         indent, mark = found[1], found[2]
         text = '\n'.join(line.strip()[3:].removeprefix(' ') for line in found[0].split('\n'))
         text = self.with_example(source, i, text, example) if '```' in text else text
         parts = [paragraph(part, 96 - len(indent), self.unsaid) for part in ASIDE.sub('', text).split('\n\n')]
-        text = '\n\n'.join(part for part in parts if part) + link * (mark == '/')
+        text = '\n\n'.join(part for part in parts if part)
         text = self.path.sub(lambda it: f'{self.home}::{crate if it[1] == "crate" else it[1]}::', text)
         return '\n'.join(f'{indent}//{mark} {line}'.rstrip() for line in text.split('\n')) if text else ''
 

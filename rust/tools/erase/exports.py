@@ -73,7 +73,7 @@ class Exports:
     """The rows, and the files of the libraries: (crate, path of its module, source)."""
 
     def __init__(self, rows, lib, files):
-        self.rows, self.places, self.files = rows, list(places(lib)), files
+        self.rows, self.lib, self.places, self.files = rows, lib, list(places(lib)), files
         self.crates = {crate for crate, _, _ in files}
         self.open, self.types, self.hidden, self.associated = set(), {}, set(), set()
         for crate, module, source in files:

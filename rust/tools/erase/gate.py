@@ -14,6 +14,7 @@ def owners(sources):
         names |= {source.item_name(keyword) for source in sources for _, keyword, end in source.items()
                   if source.at(keyword) in ('struct', 'enum', 'type', 'trait', 'fn')
                   and speaks_of(source, keyword, end, names)}
+        names |= set().union(*(gated_iterators(source, names) for source in sources))
     return names
 
 

@@ -1,17 +1,10 @@
 """What isn't public and nothing calls: neither it is written, nor its imports and tests."""
-from collections import Counter
-
 import gate
-from exports import NAMED, imported
+from calls import Calls, implemented
+from exports import NAMED, imported, visibility
 from tokens import lex
 
 ELSEWHERE = '// For the functions for C, or for tests: they compile these files too.\n'
-
-
-def implemented(source, keyword):
-    """The name of the trait that an `impl` block implements, or None."""
-    names = source.names(keyword, source.until(keyword, '{')) if source.at(keyword) == 'impl' else ()
-    return names[names.index('for') - 1] if 'for' in names else None
 
 
 def functions(source, keyword, end):
@@ -24,6 +17,14 @@ def is_inner(source, keyword):
     """Whether an item is `pub(crate)`."""
     i = keyword - (source.at(keyword - 1) in ('const', 'unsafe'))
     return source.code(i - 4, i) == 'pub(crate)'
+
+
+def keep_for_others(source, start, keyword):
+    """Says of an item that it is for the functions for C, or for tests."""
+    if source.at(start) != '#' or 'dead_code' not in source.names(start, keyword):
+        source.insert(start, '#[allow(dead_code)]')
+        token = source.tokens[start]
+        token.space += ELSEWHERE + token.space.rpartition('\n')[2]
 
 
 def write_import(source, start, keyword, end, kinds):
@@ -45,14 +46,14 @@ class Hidden:
     def __init__(self, exports, lib, for_c, tests):
         self.exports, self.files, self.lib = exports, exports.files, lib
         self.elsewhere = self.uses([('', (), source) for source in (*for_c, *tests)])
-        self.names_of_c = set().union(*(source.names() for source in for_c))
-        # For each item that isn't written its name, and those of a trait's functions.
-        self.gone = {}
+        self.of_c, self.of_tests = Calls(for_c), Calls(tests)
+        # For each item that isn't written its name, and those of a trait's functions; and its crate.
+        self.gone, self.gone_in = {}, set()
 
     def settle(self):
         """Drops what isn't public and nothing calls, with its imports."""
         self.split_imports()
-        while self.drop_items() or self.drop_imports() or self.drop_modules():
+        while self.drop_items() or self.drop_members() or self.drop_imports() or self.drop_modules():
             pass
 
     def split_imports(self):
@@ -66,36 +67,62 @@ class Hidden:
                         write_import(source, start, keyword, end, [('pub ', public), ('pub(crate) ', [it for it in names if it not in public])])
 
     def mentions(self):
-        """How often each name is outside of its own item, of imports, and of what implements it; and the names of what is
-        called of a type or a value."""
-        found, called = Counter(self.lib.names()), set()
-        for source in [self.lib, *(source for _, _, source in self.files)]:
-            called.update(source.at(i) for i in range(len(source.tokens)) if source.is_name(i) and source.at(i - 1) in ('.', '::'))
-        for _, _, source in self.files:
-            for _, keyword, end in source.items():
-                own = {implemented(source, keyword), source.item_name(keyword) if source.at(keyword) in NAMED else None}
-                found.update(name for name in source.names(keyword, end) if name not in own and source.at(keyword) != 'use')
-        return found, called
+        """What the libraries call, but for an item in itself and a type in what implements it."""
+        found = Calls([source for _, _, source in self.files])
+        found.names.update(self.lib.names())
+        found.methods.update(self.lib.names())
+        return found
 
     def drop_items(self):
         """Drops items that nothing mentions. Those that only the functions for C call stay."""
-        (found, called), before = self.mentions(), len(self.gone)
-        for _, _, source in self.files:
+        found, before = self.mentions(), len(self.gone)
+        called = found.methods | {name for _, name in found.paths}
+        for crate, _, source in self.files:
             for start, keyword, end in reversed(list(source.items())):
                 name, kind = source.item_name(keyword), source.at(keyword)
-                if kind not in NAMED or not is_inner(source, keyword) or found[name] or kind == 'trait' and called & functions(source, keyword, end):
+                if kind not in NAMED or not is_inner(source, keyword) or found.names[name] or kind == 'trait' and called & functions(source, keyword, end):
                     continue
-                if name not in self.names_of_c:
+                if name not in self.of_c.names:
                     self.gone[name] = {name} | (functions(source, keyword, end) if kind == 'trait' else set())
+                    self.gone_in.add((crate, name))
                     source.cut(start, end)
-                elif source.at(start) != '#' or 'dead_code' not in source.names(start, keyword):
-                    source.insert(start, '#[allow(dead_code)]')
-                    source.tokens[start].space += ELSEWHERE
-        for _, _, source in self.files:
+                else:
+                    keep_for_others(source, start, keyword)
+        for crate, _, source in self.files:
             for start, keyword, end in reversed(list(source.items())):
-                if implemented(source, keyword) in self.gone:
+                if source.at(keyword) == 'impl' and (implemented(source, keyword) in self.gone or (crate, source.item_name(keyword)) in self.gone_in):
                     source.cut(start, end)
         return len(self.gone) > before
+
+    def drop_members(self):
+        """Drops functions and constants of types, and of traits of the package, that nothing calls."""
+        found, dropped = self.mentions(), set()
+        inner = {(crate, source.item_name(keyword)) for crate, _, source in self.files for _, keyword, _ in source.items()
+                 if source.at(keyword) in ('enum', 'struct', 'trait') and is_inner(source, keyword)}
+        traits = {name for _, name in inner}
+        for crate, _, source in self.files:
+            for _, keyword, end in reversed(list(source.items())):
+                trait = source.item_name(keyword) if source.at(keyword) == 'trait' else implemented(source, keyword)
+                if source.at(keyword) in ('impl', 'trait') and (not trait or trait in traits):
+                    whole = (crate, source.item_name(keyword)) in inner
+                    dropped |= self.drop_members_of(source, (keyword, end), (trait, whole), found)
+        return bool(dropped)
+
+    def drop_members_of(self, source, block, kind, found):
+        """Drops what nothing calls of a block of a type or a trait, and returns the names. With `whole`, no member is public."""
+        (keyword, end), (trait, whole), dropped = block, kind, set()
+        around = trait or source.item_name(keyword)
+        for start, i, after in reversed(list(source.items(source.until(keyword, '{') + 1, end - 1))):
+            is_public = not whole and visibility(source, i) is not None and not is_inner(source, i)
+            if source.at(i) not in ('const', 'fn') or is_public or found.calls(source, i, around, trait):
+                continue
+            if any(other.calls(source, i, around, trait) for other in (self.of_c, self.of_tests)):
+                if not trait or source.at(keyword) == 'trait':
+                    keep_for_others(source, start, i)
+            else:
+                dropped.add(source.item_name(i))
+                source.cut(start, after)
+        return dropped
 
     def uses(self, files):
         """What the files import: the paths from the crates on."""

@@ -2,7 +2,7 @@
 import re
 
 from rules import ALLOCATOR, ATTRIBUTES, CORE, EMPTY, MACROS, NO_RULE, RUST, STD, SUPPORT, TESTS
-from tokens import OPEN, rewrite
+from tokens import OPEN, lex, rewrite
 
 
 class Forms:
@@ -107,7 +107,8 @@ def attributes(source, inline):
             source.insert(start, '#[derive(Debug)]')
         elif 'Debug' not in given:
             derive = next(j for j in range(start, i) if source.at(j) == 'derive')
-            source.tokens[source.close(derive + 1) - 1].text += ', Debug'
+            close = source.close(derive + 1)
+            source.tokens[close:close] = lex(', Debug')[:-1]
 
 
 def must_use(source):
@@ -127,7 +128,9 @@ def is_value(source, keyword):
     opening = source.until(keyword, '(')
     close = source.close(opening)
     taken = re.search(r"&('\w+ )?mut ", source.code(opening, close))
-    return not taken and source.at(close + 1) == '->' and source.at(close + 2) not in ('Result', 'fmt')
+    returned = source.code(close + 2, source.until(close + 1, ';', '{', 'where')) if source.at(close + 1) == '->' else 'fmt'
+    # What is a `Result`, or refers to some, has to be used already.
+    return not taken and not re.match(r"(&('\w+ )?)?\[?(Result|fmt)\b", returned)
 
 
 def specified(source):
@@ -151,13 +154,18 @@ def check(source, more):
             source.refuse(i, f'no rule: {token.text}')
 
 
-def text_of(source, in_library, gate, imports=None):
+def calls_fallible(source, i, in_library):
+    """Whether a name is that of a call of the support's traits, and no macro."""
+    name, following = source.at(i), source.at(i + 1)
+    return name.startswith('fallible_') and following != '!' or name == 'text' and following == '(' and source.at(i - 1) == '.' and not in_library
+
+
+def text_of(source, in_library, gate, imports=()):
     """The text, with imports of what Rattle has in scope everywhere, and of traits whose methods calls became. `imports` are
     those of a program."""
     names, owned = set(source.names()), (('string', 'String'), ('vec', 'Vec')) if in_library else ()
-    lines = [*(imports or ())] + [f'{gate}\nuse alloc::{module}::{name};' for module, name in owned if name in names]
-    called = (source.at(i) for i in range(len(source.tokens)) if source.at(i + 1) != '!')
-    if any(name.startswith('fallible_') for name in called) or 'text' in names and not in_library and imports is None:
+    lines = [*imports] + [f'{gate}\nuse alloc::{module}::{name};' for module, name in owned if name in names]
+    if any(calls_fallible(source, i, in_library) for i in range(len(source.tokens))):
         lines.append(f'{gate}\nuse crate::support::fallible::*;' if in_library else 'use crate::support::fallible::*;')
     if 'write_char' in names:
         lines.append('use core::fmt::Write as _;')

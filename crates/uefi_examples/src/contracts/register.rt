@@ -9,10 +9,6 @@ use uefi_tcg::PcrIndex;
 use uefi_tcg::v2::{EventLog, PcrEvent};
 
 /// Returns the events of a log that are of a register, in order, as `iter` has them.
-///
-/// Read a version 2 log by `iter_after_header_event`, in C from `event_end`: these are the events
-/// that firmware writes, and that Linux, tpm2-tools and `uefi_audit` read; `iter`, in C from
-/// `events_start`, starts where the Rust crate `uefi` does.
 pub fn events_of_register<'a>(
     alloc: Global,
     bytes: &'a [u8],

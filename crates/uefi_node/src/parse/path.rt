@@ -57,7 +57,7 @@ pub fn from_text<'a>(buffer: &'a mut [u8], text: &str) -> Result<DevicePath<'a>,
     }
 }
 
-/// Reads the text of a path into memory of an allocator (UEFI 2.10, 10.6.1).
+/// Reads the text of a path into new memory (UEFI 2.10, 10.6.1).
 ///
 /// # Errors
 ///
