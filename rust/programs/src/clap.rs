@@ -1,6 +1,6 @@
 //! The calls of the toolchain's `clap` that the programs make: subcommands, options and flags with long names,
-//! positionals, the help, and the messages for other words, with the names that are similar. It is written by hand, and
-//! isn't proved. `tests/command_lines` compares it with the toolchain's.
+//! positionals, the help, and the messages for other command lines, with the names that are similar. It is written by
+//! hand, and isn't proved. `tests/command_lines` compares it with the toolchain's.
 //!
 //! It does less: a command has either subcommands, of which one has to be used, or arguments. An option takes one value
 //! a use, and only the last positional takes many. An argument names at most one that it needs, one that can't be used
@@ -17,9 +17,9 @@ use uefi_formats::AllocError;
 
 /// The kinds of errors.
 pub mod error {
-    /// Why there are no matches: the words ask for the help or the version, they are wrong, or an allocation failed.
+    /// Why there are no matches: the help or version is asked for, the arguments are wrong, or an allocation failed.
     #[derive(Clone, Copy, PartialEq, Eq, Debug)]
-    pub enum ErrorKind { DisplayHelp, DisplayVersion, InvalidWords, OutOfMemory }
+    pub enum ErrorKind { DisplayHelp, DisplayVersion, InvalidArguments, OutOfMemory }
 }
 
 /// Why there are no matches, with the text that says it.
@@ -144,7 +144,7 @@ impl<'a> Command<'a> {
         self.below.fallible_push(command).map(|()| self)
     }
 
-    /// Returns what the words say, of which the first is the program's file.
+    /// Returns what the words of a command line say, of which the first is the program's file.
     pub fn try_get_matches_from(mut self, words: &'a [String]) -> Result<ArgMatches<'a>, Error> {
         let file = words.first().map_or("", |word| word.trim_end_matches('/')).rsplit('/').next().unwrap_or("");
         self.build(String::fallible_from_str(if file == ".." { "" } else { file })?)?;

@@ -1,7 +1,9 @@
-//! Each allocation of one call of each command is refused in turn, and all from it on: no program aborts.
+//! Each allocation of one call of each command is refused in turn, alone and with all after it: no program aborts. It ends
+//! with status 3 and a message of memory, and has printed no line but those of a whole run.
 //!
-//! The test calls itself as the program, with an allocator that counts the requests from the start of the program's
-//! `main` function on. What Rust allocates before it isn't refused.
+//! The test calls itself as the program, with an allocator that counts the requests from the start of the program's `main`
+//! function on. Excepted is what Rust makes before it: for its handler of stack overflows the name of the thread and a node
+//! of a map, and a stack for signals.
 
 use std::alloc::{GlobalAlloc, Layout, System};
 use std::fs::{self, File};

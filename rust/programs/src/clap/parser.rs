@@ -1,4 +1,4 @@
-//! The walk over the words.
+//! The walk over the words of a command line.
 
 use super::shown::{joined, similar, unique};
 use super::{AllocError, Arg, ArgAction, ArgMatches, Command, Error, ErrorKind, ValueParser};
@@ -43,7 +43,7 @@ struct Parser<'c, 'a> {
 }
 
 impl<'a> Parser<'_, 'a> {
-    /// Reads `--NAME`, `--NAME=VALUE`, or `-N`. What follows in the word isn't reached, since each `-N` prints and ends.
+    /// Reads `--NAME`, `--NAME=VALUE`, or `-N`. What follows it in the word isn't reached: each `-N` prints and ends.
     fn read_name(&mut self, word: &'a str, rest: &'a [String]) -> Result<(), Error> {
         let (name, value) = match word.split_once('=') {
             Some((name, value)) if word.starts_with("--") => (name, Some(value)),
@@ -90,8 +90,8 @@ impl<'a> Parser<'_, 'a> {
 
     /// Judges the argument that was read last, before another error.
     fn forget_pending(&mut self) -> Result<(), AllocError> {
-        let is_memory = |error: Error| error.kind == ErrorKind::OutOfMemory;
-        if self.judge_pending().is_err_and(is_memory) { Err(AllocError) } else { Ok(()) }
+        let is_memory = self.judge_pending().is_err_and(|error| error.kind == ErrorKind::OutOfMemory);
+        if is_memory { Err(AllocError) } else { Ok(()) }
     }
 
     /// Judges a use of an argument, and keeps its values.
@@ -188,7 +188,7 @@ impl<'a> Parser<'_, 'a> {
     fn judge_all(&self) -> Result<(), Error> {
         let (command, is_used) = (self.command, |arg: &&Arg| self.found.get_strs(arg.id).is_some());
         if command.required && self.found.used.is_empty() {
-            return Err(command.help(ErrorKind::InvalidWords)?);
+            return Err(command.help(ErrorKind::InvalidArguments)?);
         }
         let excludes = |arg: &Arg, other: &Arg| arg.excludes == Some(other.id) || other.excludes == Some(arg.id);
         let needed = |arg: &Arg<'a>| command.args.iter().find(|other| arg.needs == Some(other.id));

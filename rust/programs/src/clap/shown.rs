@@ -1,4 +1,4 @@
-//! What is shown of commands and arguments: the usage, the help, and what is wrong with words.
+//! What is shown of commands and arguments: the usage, the help, and what is wrong with a command line.
 
 use super::{AllocError, Arg, ArgAction, Command, Error, ErrorKind};
 use crate::{strsim::jaro, support::fallible::{FallibleIterator, FallibleString, FallibleVec}};
@@ -47,22 +47,17 @@ impl<'a> Command<'a> {
     pub(super) fn help(&self, kind: ErrorKind) -> Result<Error, AllocError> {
         let mut text = fallible_format!("{}\n\n{}\n", self.about, self.usage(&[])?)?;
         let mut tables = [("Commands", Vec::new()), ("Arguments", Vec::new()), ("Options", Vec::new())];
-        for below in &self.below {
-            tables[0].1.fallible_push((fallible_format!("{}", below.name)?, below.about, String::new()))?;
-        }
+        self.below.iter().try_for_each(|below| {
+            tables[0].1.fallible_push((fallible_format!("{}", below.name)?, below.about, String::new()))
+        })?;
         for arg in &self.args {
-            let left = match (arg.long, arg.short) {
-                (None, _) => fallible_format!("{arg}"),
-                (Some(_), None) => fallible_format!("    {arg}"),
-                (Some(_), Some(short)) => fallible_format!("-{short}, {arg}"),
-            };
-            tables[1 + usize::from(arg.long.is_some())].1.fallible_push((left?, arg.help, arg.possible(" ")?))?;
+            let space = if arg.long.is_some() { "    " } else { "" };
+            let with_short = |short| fallible_format!("-{short}, {arg}");
+            let left = arg.short.map_or_else(|| fallible_format!("{space}{arg}"), with_short)?;
+            tables[1 + usize::from(arg.long.is_some())].1.fallible_push((left, arg.help, arg.possible(" ")?))?;
         }
-        for (title, rows) in tables.iter().filter(|(_, rows)| !rows.is_empty()) {
-            fallible_write!(text, "\n{title}:\n")?;
-            let width = rows.iter().map(|(left, ..)| left.chars().count()).max().unwrap_or(0);
-            rows.iter().try_for_each(|(left, help, more)| fallible_writeln!(text, "  {left:width$}  {help}{more}"))?;
-        }
+        let mut full = tables.iter().filter(|(_, rows)| !rows.is_empty());
+        full.try_for_each(|(title, rows)| push_table(&mut text, title, rows))?;
         Ok(Error { kind, text })
     }
 
@@ -71,8 +66,15 @@ impl<'a> Command<'a> {
         let usage = shown.map_or(Ok(String::new()), |shown| fallible_format!("\n\n{}", self.usage(shown)?))?;
         let has_help = self.args.iter().any(|arg| arg.action == ArgAction::Help);
         let hint = if has_help { "\n\nFor more information, try '--help'." } else { "" };
-        Err(Error { kind: ErrorKind::InvalidWords, text: fallible_format!("error: {wrong}{usage}{hint}\n")? })
+        Err(Error { kind: ErrorKind::InvalidArguments, text: fallible_format!("error: {wrong}{usage}{hint}\n")? })
     }
+}
+
+/// Appends a table of the help: of each row what is shown, what it is, and the values that it may have.
+fn push_table(text: &mut String, title: &str, rows: &[(String, &str, String)]) -> Result<(), AllocError> {
+    fallible_write!(text, "\n{title}:\n")?;
+    let width = rows.iter().map(|(left, ..)| left.chars().count()).max().unwrap_or(0);
+    rows.iter().try_for_each(|(left, help, values)| fallible_writeln!(text, "  {left:width$}  {help}{values}"))
 }
 
 /// Returns the names in quotes, with commas between them.
