@@ -2,12 +2,10 @@
 use Rattle.std.proofs.Common.{◌≡◌, ◌∙◌, ℕ, suc, ◌+◌, ◌<◌, ◌≤◌, List, [], ◌∷◌, ◌++◌, append_assoc, append-nil, drop, drop-cons, drop_of_length-le, get_or, length, map, ap, arith, refl, subst, sym}
 use Rattle.std.specs.Prelude.{◌==◌, true, false, Option, None, Some, Result, Ok, Err}
 use Rattle.pcr_replay.specs.Banks.{algorithm_of}
-use Rattle.pcr_replay.specs.BankReplays.{BankOutcomes, bank_outcomes_of}
+use Rattle.pcr_replay.specs.BankReplays.{BankOutcomes}
 use Rattle.pcr_replay.specs.private.Hashers.{Holds}
 use Rattle.pcr_replay.specs.Quotes.{followed_by, outcomes_of_algorithm, quoted_value, quoted_values}
 use Rattle.pcr_replay.specs.Replay.{Outcome}
-use Rattle.pcr_replay.specs.Views.{outcomes_of}
-use Rattle.pcr_replay.specs.declared.bank_pcrs.BankPcrs.{BankPcrs}
 use Rattle.pcr_replay.specs.declared.hasher.Hasher.{Hasher}
 use Rattle.pcr_replay.specs.declared.quote.NoQuoteDigest.{NoQuoteDigest}
 use Rattle.pcr_replay.specs.private.Quoting.{Takes, TakesValues}
@@ -93,33 +91,34 @@ pub no_value : (banks : List BankOutcomes) (pcr : ℕ × ℕ) (why : NoQuoteDige
 unfolding quoted_values
 no_value banks pcr why is = ap (λ first. followed_by first (Ok [])) is
 
--- The bank of an algorithm, among banks of which the first ones aren't.
-one_then_rest : (banks : List BankPcrs) (index : ℕ) (item : BankPcrs) → index < length banks → item ≡ get_or banks index item
-    → drop index banks ≡ item ∷ drop (index + 1) banks
-one_then_rest banks index item within is =
-    let next : suc index ≡ index + 1 = omega arith in
-    drop-cons banks index item within ∙ ap (λ n. get_or banks index item ∷ drop n banks) next
-    ∙ ap (λ first. first ∷ drop (index + 1) banks) (sym is)
+-- The bank of an algorithm, among banks in memory of which the first ones aren't.
+module _ {B : Type 0} (holds : B → BankOutcomes) (banks : List B) (algorithm index : ℕ) where
+  one_then_rest : (item : B) → index < length banks → item ≡ get_or banks index item
+      → drop index banks ≡ item ∷ drop (index + 1) banks
+  one_then_rest item within is =
+      let next : suc index ≡ index + 1 = omega arith in
+      drop-cons banks index item within ∙ ap (λ n. get_or banks index item ∷ drop n banks) next
+      ∙ ap (λ first. first ∷ drop (index + 1) banks) (sym is)
 
-pub other_algorithm : (banks : List BankPcrs) (algorithm index : ℕ) (item : BankPcrs) (found : Option (List Outcome))
-    → index < length banks → item ≡ get_or banks index item → (algorithm_of item.bank == algorithm) ≡ false
-    → outcomes_of_algorithm algorithm (map bank_outcomes_of (drop index banks)) ≡ found
-    → outcomes_of_algorithm algorithm (map bank_outcomes_of (drop (index + 1) banks)) ≡ found
-unfolding outcomes_of_algorithm
-other_algorithm banks algorithm index item found within is other before =
-    let here = ap (λ rest. outcomes_of_algorithm algorithm (map bank_outcomes_of rest)) (one_then_rest banks index item within is) in
-    sym (here ∙ simp other refl) ∙ before
+  pub other_algorithm : (item : B) (found : Option (List Outcome))
+      → index < length banks → item ≡ get_or banks index item → (algorithm_of (holds item).bank == algorithm) ≡ false
+      → outcomes_of_algorithm algorithm (map holds (drop index banks)) ≡ found
+      → outcomes_of_algorithm algorithm (map holds (drop (index + 1) banks)) ≡ found
+  unfolding outcomes_of_algorithm
+  other_algorithm item found within is other before =
+      let here = ap (λ rest. outcomes_of_algorithm algorithm (map holds rest)) (one_then_rest item within is) in
+      sym (here ∙ simp other refl) ∙ before
 
-pub its_algorithm : (banks : List BankPcrs) (algorithm index : ℕ) (item : BankPcrs) (found : Option (List Outcome))
-    → index < length banks → item ≡ get_or banks index item → (algorithm_of item.bank == algorithm) ≡ true
-    → outcomes_of_algorithm algorithm (map bank_outcomes_of (drop index banks)) ≡ found → Some (outcomes_of item.pcrs) ≡ found
-unfolding outcomes_of_algorithm
-its_algorithm banks algorithm index item found within is same before =
-    let here = ap (λ rest. outcomes_of_algorithm algorithm (map bank_outcomes_of rest)) (one_then_rest banks index item within is) in
-    sym (here ∙ simp same refl) ∙ before
+  pub its_algorithm : (item : B) (found : Option (List Outcome))
+      → index < length banks → item ≡ get_or banks index item → (algorithm_of (holds item).bank == algorithm) ≡ true
+      → outcomes_of_algorithm algorithm (map holds (drop index banks)) ≡ found → Some (holds item).outcomes ≡ found
+  unfolding outcomes_of_algorithm
+  its_algorithm item found within is same before =
+      let here = ap (λ rest. outcomes_of_algorithm algorithm (map holds rest)) (one_then_rest item within is) in
+      sym (here ∙ simp same refl) ∙ before
 
-pub no_bank_left : (banks : List BankPcrs) (algorithm index : ℕ) (found : Option (List Outcome)) → length banks ≤ index
-    → outcomes_of_algorithm algorithm (map bank_outcomes_of (drop index banks)) ≡ found → None ≡ found
-unfolding outcomes_of_algorithm
-no_bank_left banks algorithm index found past before =
-    sym (ap (λ rest. outcomes_of_algorithm algorithm (map bank_outcomes_of rest)) (drop_of_length-le banks {i = index} past)) ∙ before
+  pub no_bank_left : (found : Option (List Outcome)) → length banks ≤ index
+      → outcomes_of_algorithm algorithm (map holds (drop index banks)) ≡ found → None ≡ found
+  unfolding outcomes_of_algorithm
+  no_bank_left found past before =
+      sym (ap (λ rest. outcomes_of_algorithm algorithm (map holds rest)) (drop_of_length-le banks {i = index} past)) ∙ before

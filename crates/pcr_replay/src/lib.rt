@@ -12,18 +12,20 @@
 
 pub use self::bank::Bank;
 pub use self::bank_pcrs::BankPcrs;
+pub use self::bank_store::BankStore;
 pub use self::digest::{has_digest, is_hash_of, is_hash_of_data};
 pub use self::fault::{Fault, Undetermined};
 pub use self::ignored::{Ignored, why_ignored};
 pub use self::pcrs::{PCR_COUNT, Pcrs};
-pub use self::quote::{NoQuoteDigest, is_quoted, quote_digest};
+pub use self::quote::{NoQuoteDigest, is_quoted, quote_digest, quote_digest_in};
 pub use self::read_log::{ReadLog, ReadLogError};
-pub use self::replaying::{has_measured, is_active, replay, replay_from};
+pub use self::replaying::{has_measured, is_active, replay, replay_from, replay_into};
 pub use self::start::{Start, locality_in, startup_locality, stated_locality};
 pub use self::value::PcrValue;
 
 mod bank;
 mod bank_pcrs;
+mod bank_store;
 mod digest;
 pub mod entries;
 mod fault;

@@ -1,16 +1,17 @@
-ghost use Rattle.std.specs.Prelude.{◌≡◌, map, option_map, Err, MatchResult};
+ghost use Rattle.std.specs.Prelude.{◌≡◌, map, option_map, slice_get, Err, MatchResult};
+ghost use Rattle.std.specs.Option.{option_and_then};
 ghost use Rattle.std.specs.Result.{result_map_both};
 ghost use Rattle.pcr_replay.specs.BankReplays.{bank_outcomes_of};
 ghost use Rattle.pcr_replay.specs.Quotes.{is_quoted, outcomes_of_algorithm, pcrs_in, quote_digest, quoted_value, quoted_values};
-ghost use Rattle.pcr_replay.specs.Views.{outcomes_of, value_of};
+ghost use Rattle.pcr_replay.specs.Views.{outcome_of, value_of};
 ghost use Rattle.pcr_replay.specs.private.Quoting.{TakesValues};
 ghost use Rattle.tpm_quote.specs.Views.{quote_of, selection_of};
 
 use crate::bank::Bank;
 use crate::bank_pcrs::BankPcrs;
+use crate::bank_store::BankStore;
 use crate::fault::Undetermined;
 use crate::hasher::Hasher;
-use crate::pcrs::Pcrs;
 use crate::value::PcrValue;
 use tpm_quote::{PcrSelection, Quote};
 use uefi_tcg::{AlgorithmId, PcrIndex};
@@ -43,6 +44,22 @@ pub fn quote_digest(
     ensures { result_map_both value_of (λ why. why) result
         ≡ quote_digest hash (map bank_outcomes_of banks.now) (quote_of quote.now) }
 {
+    quote_digest_in(hash, quote, banks)
+}
+
+/// Returns that digest, of PCRs that are kept in any memory.
+///
+/// # Errors
+///
+/// As [`quote_digest`].
+pub fn quote_digest_in<B: BankStore>(
+    hash: Bank,
+    quote: &Quote<'_>,
+    banks: &[B],
+) -> Result<PcrValue, NoQuoteDigest>
+    ensures { result_map_both value_of (λ why. why) result
+        ≡ quote_digest hash (map B.holds banks.now) (quote_of quote.now) }
+{
     let mut hasher = Hasher::new(hash);
     for selection in quote.pcr_selections() {
         take_selection(&mut hasher, &selection, banks)?;
@@ -64,15 +81,15 @@ pub fn is_quoted(quote: &Quote<'_>, bank: Bank) -> bool
 /// # Errors
 ///
 /// As [`quote_digest`].
-fn take_selection(
+fn take_selection<B: BankStore>(
     hasher: &mut Hasher,
     selection: &PcrSelection<'_>,
-    banks: &[BankPcrs],
+    banks: &[B],
 ) -> Result<(), NoQuoteDigest>
     ensures { MatchResult result
-        (λ done. TakesValues (map bank_outcomes_of banks.now)
+        (λ done. TakesValues (map B.holds banks.now)
         (pcrs_in (selection_of selection.now)) hasher.old hasher.new)
-        (λ why. quoted_values (map bank_outcomes_of banks.now)
+        (λ why. quoted_values (map B.holds banks.now)
         (pcrs_in (selection_of selection.now)) ≡ Err why) }
 {
     let algorithm = selection.algorithm();
@@ -89,32 +106,35 @@ fn take_selection(
 ///
 /// As [`quote_digest`].
 #[tactic(auto, unfolding(crate::specs::Quotes::value_of_outcome))]
-fn quoted_value(
-    banks: &[BankPcrs],
+fn quoted_value<B: BankStore>(
+    banks: &[B],
     algorithm: AlgorithmId,
     pcr: PcrIndex,
 ) -> Result<PcrValue, NoQuoteDigest>
     ensures { result_map_both value_of (λ why. why) result
-        ≡ quoted_value (map bank_outcomes_of banks.now) (algorithm.0, pcr.0) }
+        ≡ quoted_value (map B.holds banks.now) (algorithm.0, pcr.0) }
 {
-    let Some(pcrs) = pcrs_of(banks, algorithm) else {
-        return Err(NoQuoteDigest::NoBank(algorithm));
-    };
-    match pcrs.outcome(pcr) {
-        Some(Ok(value)) => Ok(*value),
-        Some(Err(at)) => Err(NoQuoteDigest::Undetermined(algorithm, pcr, *at)),
+    match outcome_in(banks, algorithm, pcr) {
+        Some(Ok(value)) => Ok(value),
+        Some(Err(at)) => Err(NoQuoteDigest::Undetermined(algorithm, pcr, at)),
         None => Err(NoQuoteDigest::NoBank(algorithm)),
     }
 }
 
-/// Returns the PCRs of an algorithm's bank; `None` if it isn't among these.
-fn pcrs_of(banks: &[BankPcrs], algorithm: AlgorithmId) -> Option<&Pcrs>
-    ensures { option_map (λ pcrs. outcomes_of pcrs.now) result
-        ≡ outcomes_of_algorithm algorithm.0 (map bank_outcomes_of banks.now) }
+/// Returns what a PCR of an algorithm's bank holds; `None` if the bank isn't among these, or has no
+/// such PCR.
+fn outcome_in<B: BankStore>(
+    banks: &[B],
+    algorithm: AlgorithmId,
+    pcr: PcrIndex,
+) -> Option<Result<PcrValue, Undetermined>>
+    ensures { option_map outcome_of result
+        ≡ option_and_then (λ outcomes. slice_get outcomes pcr.0)
+        (outcomes_of_algorithm algorithm.0 (map B.holds banks.now)) }
 {
     for found in banks {
-        if found.bank.algorithm() == algorithm {
-            return Some(&found.pcrs);
+        if found.bank().algorithm() == algorithm {
+            return found.outcome(pcr);
         }
     }
     None

@@ -2,7 +2,6 @@ use Rattle.std.proofs.Common.{◌≡◌, ◌∙◌, ℕ, [], ap, map, rules, sub
 use Rattle.std.specs.Prelude.{Err, Ok}
 use Rattle.std.proofs.lemmas.Result.{err_from_is_err_and}
 use Rattle.tpm_quote.specs.Views.{pcr_of, pcrs_left, selection_of}
-use Rattle.pcr_replay.specs.BankReplays.{bank_outcomes_of}
 use Rattle.pcr_replay.specs.Quotes.{pcrs_in, quoted_value, quoted_values}
 use Rattle.pcr_replay.specs.Views.{value_of}
 use Rattle.pcr_replay.specs.declared.quote.NoQuoteDigest.{NoQuoteDigest}
@@ -11,8 +10,8 @@ use Rattle.pcr_replay.proofs.Quoting.{TakenSo, all_taken, more_taken, no_value, 
 use Rattle.pcr_replay.proofs.quote.take_selection.Goals as goal
 
 pub loop-pcr-preserved : goal.loop-pcr-preserved
-loop-pcr-preserved c =
-    let banks = map bank_outcomes_of c.args.banks.now in
+loop-pcr-preserved g c =
+    let banks = map g.B.BankStore.holds c.args.banks.now in
     let algorithm = c.algorithm-algorithm.result.0 in
     let view : ℕ → ℕ × ℕ = λ pcr. (algorithm, pcr) in
     let all = map view (pcrs_left c.into_iter-pcr-iterator.result) in
@@ -25,8 +24,8 @@ loop-pcr-preserved c =
     (one_value banks (algorithm, pcr_of c.in-Some.pcr) _ c.loop-pcr.hasher c.update.new.self is taken)
 
 pub returns-in_err-value : goal.returns-in_err-value
-returns-in_err-value c =
-    let banks = map bank_outcomes_of c.args.banks.now in
+returns-in_err-value g c =
+    let banks = map g.B.BankStore.holds c.args.banks.now in
     let algorithm = c.algorithm-algorithm.result.0 in
     let view : ℕ → ℕ × ℕ = λ pcr. (algorithm, pcr) in
     let all = map view (pcrs_left c.into_iter-pcr-iterator.result) in
@@ -41,8 +40,8 @@ returns-in_err-value c =
     rw failed.1 (none ∙ ap (λ (why : NoQuoteDigest). Err why) (sym failed.2))
 
 pub returns : goal.returns
-returns c =
-    let banks = map bank_outcomes_of c.args.banks.now in
+returns g c =
+    let banks = map g.B.BankStore.holds c.args.banks.now in
     let algorithm = c.algorithm-algorithm.result.0 in
     let view : ℕ → ℕ × ℕ = λ pcr. (algorithm, pcr) in
     let all = map view (pcrs_left c.into_iter-pcr-iterator.result) in

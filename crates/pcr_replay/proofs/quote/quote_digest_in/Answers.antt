@@ -2,15 +2,14 @@ use Rattle.std.proofs.Common.{◌≡◌, ◌∙◌, ℕ, List, [], ap, map, rule
 use Rattle.std.specs.Prelude.{Err, Ok}
 use Rattle.std.proofs.lemmas.Result.{err_from_is_err_and}
 use Rattle.tpm_quote.specs.Views.{quote_of, selections_left}
-use Rattle.pcr_replay.specs.BankReplays.{bank_outcomes_of}
 use Rattle.pcr_replay.specs.Quotes.{hashed, quoted_pcrs, quoted_values}
 use Rattle.pcr_replay.specs.declared.quote.NoQuoteDigest.{NoQuoteDigest}
 use Rattle.pcr_replay.proofs.Quoting.{TakenSo, all_taken, more_taken, none_of_it}
-use Rattle.pcr_replay.proofs.quote.quote_digest.Goals as goal
+use Rattle.pcr_replay.proofs.quote.quote_digest_in.Goals as goal
 
 pub loop-selection-preserved : goal.loop-selection-preserved
-loop-selection-preserved c =
-    let banks = map bank_outcomes_of c.args.banks.now in
+loop-selection-preserved g c =
+    let banks = map g.B.BankStore.holds c.args.banks.now in
     let all = quoted_pcrs (selections_left c.into_iter-selection-iterator.result) in
     let before = subst (λ left. TakenSo banks all (quoted_pcrs left) c.new-hasher.result c.loop-selection.hasher)
     c.in-Some.ensures.steps c.loop-selection.invariant in
@@ -18,8 +17,8 @@ loop-selection-preserved c =
     c.in_ok-take_selection.ensures
 
 pub returns-in_err-take_selection : goal.returns-in_err-take_selection
-returns-in_err-take_selection c =
-    let banks = map bank_outcomes_of c.args.banks.now in
+returns-in_err-take_selection g c =
+    let banks = map g.B.BankStore.holds c.args.banks.now in
     let all = quoted_pcrs (selections_left c.into_iter-selection-iterator.result) in
     let before = subst (λ left. TakenSo banks all (quoted_pcrs left) c.new-hasher.result c.loop-selection.hasher)
     c.in-Some.ensures.steps c.loop-selection.invariant in
@@ -32,8 +31,8 @@ returns-in_err-take_selection c =
     ∙ ap (λ pcrs. hashed c.args.hash (quoted_values banks pcrs)) same)
 
 pub returns : goal.returns
-returns c =
-    let banks = map bank_outcomes_of c.args.banks.now in
+returns g c =
+    let banks = map g.B.BankStore.holds c.args.banks.now in
     let all = quoted_pcrs (selections_left c.into_iter-selection-iterator.result) in
     let same : all ≡ quoted_pcrs (quote_of c.args.quote.now).pcr_selections = search rules in
     let done = all_taken banks all c.new-hasher.result c.loop-selection.hasher
