@@ -120,11 +120,13 @@ def prove_libraries(inside, libraries, progress):
     with concurrent.futures.ThreadPoolExecutor(progress.at_once) as pool:
         while waiting or running:
             under_way = {*waiting, *(library for library, _ in running.values())}
-            free = progress.at_once - sum(jobs for _, jobs in running.values())
+            free = max(0, progress.at_once - sum(jobs for _, jobs in running.values()))
             ready = [it for it in waiting if under_way.isdisjoint(it.below())][:free]
+            last = max((it.name for it in under_way), key=progress.chain, default=None)
             for it in ready:
-                # Processors that have nothing else to do help with a library.
-                jobs = free // len(ready)
+                # Processors that have nothing else to do help with a library. All help with the one for which the most
+                # functions wait, also while others run: once it runs, it can't be given more.
+                jobs = progress.at_once if it.name == last else free // len(ready)
                 waiting.remove(it)
                 running[pool.submit(prove_library, inside, it, jobs, progress)] = it, jobs
             done, _ = concurrent.futures.wait(running, return_when=concurrent.futures.FIRST_COMPLETED)
