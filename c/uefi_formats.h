@@ -6,21 +6,20 @@
  *     // gives it: `start` is EventLogLocation, `last` EventLogLastEntry, and
  *     // `size` how many bytes can be read from `start`.
  *     UefiBytes log = uefi_bytes((const void *)(uintptr_t)start, size);
- *     size_t last_entry = uefi_last_entry(start, last);
+ *     size_t last_entry = uefi_last_entry(start, last), at = 0;
  *     UefiLogHeader header;
  *     UefiEvent2 event;
  *     UefiDigest digest;
- *     if (uefi_log2_header(log, last_entry, &header)) {
- *         size_t at = header.event_end;
- *         while (uefi_log2_next(log, last_entry, header.rows, &at, &event)) {
- *             size_t next = 0;
- *             while (uefi_digest_next(event.digests, header.rows, &next, &digest))
- *                 measure(event.pcr_index, digest.algorithm, digest.bytes);
- *         }
- *         if (at <= last_entry) // the last event wasn't read
- *             damaged(at, uefi_log2_state(log, last_entry, header.rows, at));
- *     } else {
- *         no_header(uefi_log1_state(log, last_entry, 0));
+ *     UefiStatus status = uefi_log_read(log, last_entry, &at);
+ *     if (status != UEFI_OK)
+ *         return damaged(status, at);
+ *     if (uefi_log2_header(log, last_entry, &header) != UEFI_OK)
+ *         return of_version_1(log, last_entry);
+ *     at = header.event_end;
+ *     while (uefi_log2_next(log, last_entry, header.rows, &at, &event) == UEFI_OK) {
+ *         size_t next = 0;
+ *         while (uefi_digest_next(event.digests, header.rows, &next, &digest) == UEFI_OK)
+ *             measure(event.pcr_index, digest.algorithm, digest.bytes);
  *     }
  *
  * Each reader's result is stated for all bytes. None reads a byte outside
@@ -32,33 +31,36 @@
  * Bytes. A function takes bytes as a UefiBytes: where they begin, and how
  * many there are. `at` is never NULL, also where `n` is 0; uefi_bytes() makes
  * one of any pointer and length, and of NULL no bytes. What a function returns
- * in a UefiBytes points into the bytes that it was passed.
+ * in a UefiBytes points into the bytes that it was passed; names, and the texts of
+ * statuses, are constants of the archive.
+ *
+ * Results. A function that can fail returns a UefiStatus (status.h): UEFI_OK if
+ * it succeeds. At another status `*offset`, `*out` and buffers are as they were,
+ * unless its comment says something else. `*out` may be uninitialized: it is only
+ * written. uefi_status_text makes a text of a status. A function that can't fail
+ * returns its value.
  *
  * Cursors. A function that goes from one item to the next takes `offset`, a
  * number that the caller keeps: set it to the start, 0 if nothing else is
- * said, and call until the function returns false. An offset may be any
- * number, also past the end; the rows of a table any bytes: a caller's state
+ * said, and call while the function returns UEFI_OK. It ends with UEFI_END where no
+ * item follows, or with what is wrong with the one at the offset. An offset may be
+ * any number, also past the end; the rows of a table any bytes: a caller's state
  * needs no trust. uefi_quote_next_selection takes `cursor`, an index, in the same
  * way.
  *
- * Results. Most functions return true if they have a result. Where a function
- * returns false, `*offset` and `*out` are as they were. Some return a number
- * instead, each of which has a name: those that end in _state, uefi_pci_next,
- * uefi_quote_fault and uefi_load_option. uefi_load_option returns 0 if it has a
- * result: compare it with UEFI_LOAD_OPTION_READ, and don't take it as a bool.
- * uefi_pci_next returns UEFI_PCI_RESOURCE, 1, if it has one. At other numbers of
- * these two, `*offset` and `*out` are as they were. `*out` may be uninitialized:
- * it is only written.
+ * Writers. A function that writes takes first what it writes to. Where it has a
+ * parameter `size`, it writes to the beginning of the buffer. Then `*size` is the
+ * length of what was written; at UEFI_BUFFER_TOO_SMALL that which the buffer needs;
+ * at another status 0.
  *
  * What the caller owes, as for any C function: `at` points to `n` bytes that
  * can be read and stay as they are during the call; other pointers point to
  * their types, aligned, and overlap neither one another nor the bytes.
  *
- * Stack. In the archive for x86_64-unknown-none, uefi_quote_digest takes about
- * 18 KB of the stack, uefi_replay about 11 KB, uefi_replay_pcr about 9 KB, and
- * each other function less than 1 KB. docs/FIRMWARE.md has the numbers by archive.
- * The 24 UefiPcr that the caller of uefi_replay passes are 2304 bytes more (1920
- * on i686).
+ * Stack. docs/FIRMWARE.md says how much of it a call takes, by archive. What
+ * uefi_replay, uefi_replay_pcr and uefi_quote_digest need beside it is in a
+ * UefiWorkspace of 12,288 bytes, which the caller passes. The 24 UefiPcr of
+ * uefi_replay are 2,304 bytes more (1,920 on i686).
  *
  * Which archive to link. `tools/build_c PREFIX` installs the first two of these,
  * `tools/build_c PREFIX --target TARGET` the third alone. The description in
@@ -96,6 +98,7 @@
 #include "uefi_formats/pcr.h"
 #include "uefi_formats/quote.h"
 #include "uefi_formats/record.h"
+#include "uefi_formats/status.h"
 #include "uefi_formats/text.h"
 #include "uefi_formats/time.h"
 

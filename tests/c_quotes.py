@@ -4,6 +4,8 @@ The quotes are those of a software TPM whose PCRs were extended as the logs say,
 """
 from pathlib import Path
 
+import c_statuses
+
 QUOTES = [
     "ff54434780180022000bde213066bcb2e45af5c1ef49eddb9df8b8141685d4d94a654f703f33f24bde3600080123456789ab"
     "cdef00000000000005d0000000010000000001201910230016363600000001000b03ff00000020312f22ee6b7daa0fcf66bf"
@@ -26,13 +28,14 @@ QUOTES = [
     "c4c147bc3f3434f9d82409e76d09ea58905aefe7fb5415912d9a",
 ]
 # The banks and the PCRs of each, its clock and its nonce, as they are printed.
+SHA1, SHA256, SHA384, SHA512 = (f"TPM_ALG_{it}" for it in ("SHA1", "SHA256", "SHA384", "SHA512"))
 SHOWN = [
-    (["11 0 1 2 3 4 5 6 7"], 1488, "0123456789abcdef"),
-    (["11 0 7"], 1556, ""),
-    (["4 0 1", "11 0 7 10 16 23"], 1612, "00112233445566778899aabbccddeeff" * 2),
-    (["11 0 1 2 3 4 5 6 7 8 9 10 11 12 13 14 15 16 17 18 19 20 21 22 23"], 1664, "cafe"),
-    (["12 14"], 1702, ""),
-    (["13 23", "4 8", "11 9"], 1740, "ff"),
+    ([f"{SHA256} 0 1 2 3 4 5 6 7"], 1488, "0123456789abcdef"),
+    ([f"{SHA256} 0 7"], 1556, ""),
+    ([f"{SHA1} 0 1", f"{SHA256} 0 7 10 16 23"], 1612, "00112233445566778899aabbccddeeff" * 2),
+    ([f"{SHA256} {' '.join(map(str, range(24)))}"], 1664, "cafe"),
+    ([f"{SHA384} 14"], 1702, ""),
+    ([f"{SHA512} 23", f"{SHA1} 8", f"{SHA256} 9"], 1740, "ff"),
 ]
 EXTENDED = {0: {4: b"\x33" * 20, 11: b"\x11" * 32}, 7: {11: b"\x22" * 32}}
 SIZES = {4: 20, 11: 32}
@@ -54,20 +57,22 @@ def log_of(banks, events):
     return log
 
 
-# Both banks of the TPM, one of them, and the other one in the event of another PCR, so that PCR 0 of SHA-1 is undetermined.
+# Both banks of the TPM, one of them, the other one in the event of another PCR, so that PCR 0 of SHA-1 is undetermined, and
+# an event that extends nothing.
 LOGS = {
     "both": log_of([4, 11], [(0, 8, [4, 11]), (7, 4, [11])]),
     "sha256": log_of([11], [(0, 8, [11]), (7, 4, [11])]),
     "lacking": log_of([4, 11], [(0, 8, [4, 11]), (7, 4, [11]), (0, 4, [11])]),
-    "none": b"",
+    "measures-nothing": log_of([4, 11], [(0, 3, [4, 11])]),
 }
 # What is said of a quote and a log, where the nonce is the one that was sent.
+LACKS = "the log has no bank"
 VERDICTS = {
-    "both": [AGREES] * 4 + ["the log has no bank 12", "the log has no bank 13"],
-    "sha256": [AGREES, AGREES, "the log has no bank 4", AGREES, "the log has no bank 12", "the log has no bank 13"],
-    "none": [f"the log has no bank {SHOWN[index][0][0].split()[0]}" for index in range(6)],
+    "both": [AGREES] * 4 + [f"{LACKS} {SHA384}", f"{LACKS} {SHA512}"],
+    "sha256": [AGREES, AGREES, f"{LACKS} {SHA1}", AGREES, f"{LACKS} {SHA384}", f"{LACKS} {SHA512}"],
+    "measures-nothing": [f"{LACKS} {banks[0].split()[0]}" for banks, _, _ in SHOWN],
 }
-UNDETERMINED = "PCR 0 of bank 4 is undetermined: event 2 at 191, fault 1"
+UNDETERMINED = f"PCR 0 of bank {SHA1} is undetermined by event 2 at 191: {c_statuses.NO_DIGEST}"
 
 
 def shown(index, verdict):
@@ -96,21 +101,26 @@ def rows(room):
     Path(f"{room}/other").write_bytes(whole[:-1] + b"\0")
     yield [f"{room}/other", log("both")], shown(0, f"the log leads to {QUOTES[0][-64:]}")
     Path(f"{room}/short").write_bytes(whole[:-34] + b"\0\1\0")
-    yield [f"{room}/short", log("both")], shown(0, "no hash function has digests of this length")
+    yield [f"{room}/short", log("both")], shown(0, f"no digest: {c_statuses.NO_HASH}")
     # A quote of no PCR, to which any log leads: its digest is SHA-256 of no bytes.
     of_none = "e3b0c44298fc1c149afbf4c8996fb92427ae41e4649b934ca495991b7852b855"
     Path(f"{room}/of-none").write_bytes(whole[:-44] + bytes(4) + b"\0\x20" + bytes.fromhex(of_none))
     for name in LOGS:
         status, lines = shown(0, AGREES)
         yield [f"{room}/of-none", log(name)], (status, lines.split(b"\n", 1)[1])
-    for fault, message in enumerate(faults(whole), 1):
-        Path(f"{room}/fault{fault}").write_bytes(message)
-        yield [f"{room}/fault{fault}", log("both")], (2, f"no quote: {fault}\n".encode())
+    for number, (text, message) in enumerate(zip(c_statuses.OF_QUOTES, faults(whole), strict=True)):
+        Path(f"{room}/fault{number}").write_bytes(message)
+        yield [f"{room}/fault{number}", log("both")], (2, f"no quote: {text}\n".encode())
+    # A log of the same events, cut inside the last one, and none.
+    start = len(LOGS["sha256"]) - 50
+    for name, content, why in ("cut", LOGS["sha256"][:-1], f"{start}: {c_statuses.LEFT_OVER}"), ("none", b"", f"0: {c_statuses.NO_EVENT}"):
+        Path(f"{room}/{name}.log").write_bytes(content)
+        yield [quote(0), log(name)], (2, f"no whole log, at {why}\n".encode())
     yield [f"{room}/missing", log("both")], (2, b"")
 
 
 def faults(whole):
-    """Bytes with each fault, in the order of their numbers."""
+    """Bytes with each fault."""
     safe, selection = len(whole) - 53, len(whole) - 40
     yield b"\0" + whole[1:]
     yield whole[:5] + b"\x17" + whole[6:]

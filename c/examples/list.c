@@ -31,14 +31,14 @@ static void put_data(UefiBytes bytes) {
 
 static int list_path(UefiBytes bytes) {
     UefiBytes path, instance;
-    if (!uefi_path(bytes, &path)) {
+    if (uefi_path(bytes, &path) != UEFI_OK) {
         puts("refused InvalidLength");
         return 1;
     }
-    for (size_t at = 0; uefi_path_next_instance(path, &at, &instance);) {
+    for (size_t at = 0; uefi_path_next_instance(path, &at, &instance) == UEFI_OK;) {
         UefiNode node;
         printf("instance %zu\n", instance.n);
-        for (size_t next = 0; uefi_path_next_node(instance, &next, &node);) {
+        for (size_t next = 0; uefi_path_next_node(instance, &next, &node) == UEFI_OK;) {
             printf("  %02x %02x", node.device_type, node.sub_type);
             put_data(node.data);
             putchar('\n');
@@ -51,11 +51,11 @@ static int list_path(UefiBytes bytes) {
 static int list_map(UefiBytes map, size_t stride) {
     UefiDescriptor entry;
     size_t index = 0;
-    if (!uefi_map_check(map, stride)) {
+    if (uefi_map_check(map, stride) != UEFI_OK) {
         puts("refused InvalidSize");
         return 1;
     }
-    for (; uefi_map_entry(map, stride, index, &entry); index++)
+    for (; uefi_map_entry(map, stride, index, &entry) == UEFI_OK; index++)
         printf("entry %" PRIu32 " 0x%" PRIx64 " 0x%" PRIx64 " %" PRIu64 " 0x%" PRIx64 "\n", entry.memory_type,
                entry.phys_start, entry.virt_start, entry.page_count, entry.attribute);
     printf("sorted %s\n", uefi_map_is_sorted(map, stride) ? "yes" : "no");
@@ -66,7 +66,7 @@ static int list_map(UefiBytes map, size_t stride) {
 static int list_log1(UefiBytes log, size_t last_entry) {
     UefiEvent1 event;
     size_t at = 0, count = 0;
-    for (; uefi_log1_next(log, last_entry, &at, &event); count++) {
+    for (; uefi_log1_next(log, last_entry, &at, &event) == UEFI_OK; count++) {
         printf("event %" PRIu32 " 0x%08" PRIx32 " ", event.pcr_index, event.event_type);
         put_hex(uefi_bytes(event.digest, sizeof event.digest));
         put_data(event.event_data);
@@ -93,7 +93,7 @@ static int list_log2(UefiBytes log, size_t last_entry, bool after_header_event) 
     UefiEvent2 event;
     UefiDigest digest;
     size_t count = 0;
-    if (!uefi_log2_header(log, last_entry, &header)) {
+    if (uefi_log2_header(log, last_entry, &header) != UEFI_OK) {
         puts("header none\nevents 0");
         return 0;
     }
@@ -102,11 +102,11 @@ static int list_log2(UefiBytes log, size_t last_entry, bool after_header_event) 
     // events that firmware writes, and that Linux, tpm2-tools and `uefi_audit` read; `iter`, in C
     // from `events_start`, starts where the Rust crate `uefi` does.
     size_t at = after_header_event ? header.event_end : header.events_start;
-    for (; uefi_log2_next(log, last_entry, header.rows, &at, &event); count++) {
+    for (; uefi_log2_next(log, last_entry, header.rows, &at, &event) == UEFI_OK; count++) {
         printf("event %" PRIu32 " 0x%08" PRIx32, event.pcr_index, event.event_type);
         put_data(event.event_data);
         putchar('\n');
-        for (size_t next = 0; uefi_digest_next(event.digests, header.rows, &next, &digest);) {
+        for (size_t next = 0; uefi_digest_next(event.digests, header.rows, &next, &digest) == UEFI_OK;) {
             printf("  digest 0x%04x", digest.algorithm);
             put_data(digest.bytes);
             putchar('\n');
@@ -116,12 +116,12 @@ static int list_log2(UefiBytes log, size_t last_entry, bool after_header_event) 
     return 0;
 }
 
-/* Walks over the list, which is listed only if it is whole. */
-static uint32_t walk_resources(UefiBytes list, size_t *at, size_t *count, bool shown) {
+/* Walks over the list, which is listed only if it is whole. Returns what the walk ends with. */
+static UefiStatus walk_resources(UefiBytes list, size_t *at, size_t *count, bool shown) {
     static const char *const kinds[] = {"Memory", "Io", "Bus"};
     UefiResource range;
-    uint32_t step;
-    for (*at = *count = 0; (step = uefi_pci_next(list, at, &range)) == UEFI_PCI_RESOURCE; ++*count) {
+    UefiStatus status;
+    for (*at = *count = 0; (status = uefi_pci_next(list, at, &range)) == UEFI_OK; ++*count) {
         if (!shown)
             continue;
         if (range.range_type < 3)
@@ -132,31 +132,28 @@ static uint32_t walk_resources(UefiBytes list, size_t *at, size_t *count, bool s
                range.general_flags, range.type_specific_flags, range.granularity, range.address_min,
                range.address_max, range.translation_offset, range.address_length);
     }
-    return step;
+    return status;
 }
 
 static int list_resources(UefiBytes list) {
     size_t at, count;
-    switch (walk_resources(list, &at, &count, false)) {
-    case UEFI_PCI_NO_END_TAG:
-        puts("refused NoEndTag");
-        return 1;
-    case UEFI_PCI_CUT_RECORD:
-        puts("refused CutRecord");
-        return 1;
-    case UEFI_PCI_UNKNOWN_TAG:
-        printf("refused UnknownTag(%u)\n", list.at[at]);
-        return 1;
+    UefiStatus status = walk_resources(list, &at, &count, false);
+    if (status == UEFI_END) {
+        walk_resources(list, &at, &count, true);
+        printf("resources %zu\n", count);
+        return 0;
     }
-    walk_resources(list, &at, &count, true);
-    printf("resources %zu\n", count);
-    return 0;
+    if (status == UEFI_UNKNOWN_TAG)
+        printf("refused UnknownTag(%u)\n", list.at[at]);
+    else
+        puts(status == UEFI_CUT ? "refused CutRecord" : "refused NoEndTag");
+    return 1;
 }
 
 static int list_pairs(UefiBytes text) {
     UefiPair pair;
     size_t at = 0, count = 0;
-    for (; uefi_config_next_pair(text, &at, &pair); count++) {
+    for (; uefi_config_next_pair(text, &at, &pair) == UEFI_OK; count++) {
         printf("pair ");
         fwrite(pair.key.at, 1, pair.key.n, stdout);
         if (pair.has_value) {

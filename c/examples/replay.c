@@ -1,7 +1,8 @@
 /* Prints what the PCRs of a bank hold after the events of a log: `replay FILE ALGORITHM [LAST_ENTRY]`.
  *
- * A line is `PCR VALUE`, in hex, or `PCR undetermined OFFSET FAULT`. ALGORITHM is the TPM's number, such as 11
- * for SHA-256. The exit status is 1 where the bank can't be replayed, and 2 where the file can't be read.
+ * A line is `PCR VALUE`, in hex, or `PCR undetermined by the event at OFFSET: REASON`. ALGORITHM is the TPM's number,
+ * such as 11 for SHA-256. The exit status is 1 where the file isn't a whole log, or the bank can't be replayed, and 2
+ * where the file can't be read.
  */
 #include <inttypes.h>
 #include <stdio.h>
@@ -10,12 +11,42 @@
 #include "uefi_formats.h"
 
 static void put_pcr(uint32_t index, const UefiPcr *pcr) {
+    UefiBytes text;
     printf("%2" PRIu32 " ", index);
-    if (pcr->fault != UEFI_PCR_DETERMINED)
-        printf("undetermined %zu %" PRIu32, pcr->offset, pcr->fault);
-    for (size_t i = 0; pcr->fault == UEFI_PCR_DETERMINED && i < pcr->size; i++)
+    uefi_status_text(pcr->status, &text);
+    if (pcr->status != UEFI_OK)
+        printf("undetermined by the event at %zu: %.*s", pcr->offset, UEFI_TEXT(text));
+    for (size_t i = 0; pcr->status == UEFI_OK && i < pcr->size; i++)
         printf("%02x", pcr->value[i]);
     putchar('\n');
+}
+
+/* Ends a message with the reason of a failure. */
+static int fail(UefiStatus status) {
+    UefiBytes text;
+    uefi_status_text(status, &text);
+    fprintf(stderr, "%.*s\n", UEFI_TEXT(text));
+    return 1;
+}
+
+static int replay(UefiBytes log, size_t last_entry, uint16_t algorithm) {
+    static UefiWorkspace workspace;
+    UefiPcr pcrs[24];
+    size_t offset = 0;
+    /* uefi_replay takes the events before a fault, and doesn't say that others are missing. */
+    UefiStatus status = uefi_log_read(log, last_entry, &offset);
+    if (status != UEFI_OK) {
+        fprintf(stderr, "replay: this is no whole log, at %zu: ", offset);
+        return fail(status);
+    }
+    status = uefi_replay(log, last_entry, algorithm, UEFI_LOCALITY_OF_LOG, &workspace, pcrs);
+    if (status != UEFI_OK) {
+        fprintf(stderr, "replay: algorithm %u: ", algorithm);
+        return fail(status);
+    }
+    for (uint32_t index = 0; index < 24; index++)
+        put_pcr(index, &pcrs[index]);
+    return 0;
 }
 
 int main(int argc, char **argv) {
@@ -28,13 +59,6 @@ int main(int argc, char **argv) {
     fclose(file);
     if (!whole)
         return 2;
-    UefiBytes log = uefi_bytes(bytes, size);
     size_t last_entry = argc == 4 ? (size_t)strtoull(argv[3], NULL, 10) : size;
-    uint16_t algorithm = (uint16_t)strtoull(argv[2], NULL, 10);
-    UefiPcr pcrs[24];
-    if (!uefi_replay(log, last_entry, algorithm, UEFI_LOCALITY_OF_LOG, pcrs))
-        return 1;
-    for (uint32_t index = 0; index < 24; index++)
-        put_pcr(index, &pcrs[index]);
-    return 0;
+    return replay(uefi_bytes(bytes, size), last_entry, (uint16_t)strtoull(argv[2], NULL, 10));
 }

@@ -52,6 +52,27 @@
 #define UEFI_CALL
 #endif
 
+/* A compiler warns where a status isn't used, and where NULL is passed for a
+ * pointer. */
+#if defined(__GNUC__) || defined(__clang__)
+#define UEFI_NODISCARD __attribute((__warn_unused_result__))
+#define UEFI_NONNULL __attribute((__nonnull__))
+#else
+#define UEFI_NODISCARD
+#define UEFI_NONNULL
+#endif
+
+#ifdef __cplusplus
+extern "C" {
+#endif
+
+/* UEFI_FORMATS_VERSION of the archive that is linked. */
+UEFI_CALL uint32_t uefi_formats_version(void);
+
+#ifdef __cplusplus
+}
+#endif
+
 typedef struct {
     const uint8_t *at;
     size_t n;
@@ -74,5 +95,8 @@ static inline UefiBuffer uefi_buffer(void *at, size_t n) {
     UefiBuffer buffer = {at && n ? (uint8_t *)at : none, at ? n : 0};
     return buffer;
 }
+
+/* Two arguments of printf: printf("%.*s", UEFI_TEXT(name)). */
+#define UEFI_TEXT(bytes) (int)(bytes).n, (const char *)(bytes).at
 
 #endif

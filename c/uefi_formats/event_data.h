@@ -2,7 +2,7 @@
 #ifndef UEFI_FORMATS_EVENT_DATA_H
 #define UEFI_FORMATS_EVENT_DATA_H
 
-#include "bytes.h"
+#include "status.h"
 
 #ifdef __cplusplus
 extern "C" {
@@ -25,9 +25,9 @@ extern "C" {
  * (uefi_signature_list_next) or, of the type UEFI_EV_EFI_VARIABLE_AUTHORITY, a
  * signature (uefi_signature).
  *
- * A function returns true if the data are that structure, whole and alone. A
- * loop over uefi_tagged_next is done if it ends at the end of the data. The
- * data of UEFI_EV_POST_CODE may also be a text.
+ * A function returns UEFI_OK if the data are that structure, whole and alone, and
+ * UEFI_OTHER_DATA if they aren't. Where it returns other statuses, its comment
+ * says so. The data of UEFI_EV_POST_CODE may also be a text.
  *
  * A parameter uintn_size is that of the log's UefiLogHeader: UEFI_UINTN_FOUR, as
  * in logs of 32-bit firmware. Every other number is read as UEFI_UINTN_EIGHT. Pass
@@ -41,7 +41,8 @@ typedef struct {
 } UefiVariable;
 
 /* The variable that the data are (UEFI_VARIABLE_DATA). */
-UEFI_CALL bool uefi_variable(UefiBytes event_data, UefiVariable *out);
+UEFI_CALL UEFI_NODISCARD UEFI_NONNULL UefiStatus
+uefi_variable(UefiBytes event_data, UefiVariable *out);
 
 typedef struct {
     UefiBytes device_path; /* as many bytes as are stated, which needn't be a path */
@@ -52,7 +53,8 @@ typedef struct {
 } UefiImage;
 
 /* The image that the data are (UEFI_IMAGE_LOAD_EVENT). */
-UEFI_CALL bool uefi_image(UefiBytes event_data, uint8_t uintn_size, UefiImage *out);
+UEFI_CALL UEFI_NODISCARD UEFI_NONNULL UefiStatus
+uefi_image(UefiBytes event_data, uint8_t uintn_size, UefiImage *out);
 
 typedef struct {
     UefiBytes description; /* ASCII as a rule, at most 255 bytes; of uefi_blob no bytes */
@@ -62,8 +64,10 @@ typedef struct {
 
 /* The blob of firmware that the data are (UEFI_PLATFORM_FIRMWARE_BLOB), and
  * that with a description (UEFI_PLATFORM_FIRMWARE_BLOB2). */
-UEFI_CALL bool uefi_blob(UefiBytes event_data, UefiBlob *out);
-UEFI_CALL bool uefi_blob2(UefiBytes event_data, UefiBlob *out);
+UEFI_CALL UEFI_NODISCARD UEFI_NONNULL UefiStatus
+uefi_blob(UefiBytes event_data, UefiBlob *out);
+UEFI_CALL UEFI_NODISCARD UEFI_NONNULL UefiStatus
+uefi_blob2(UefiBytes event_data, UefiBlob *out);
 
 typedef struct {
     UefiBytes text; /* without the NUL: ASCII, or units of two bytes, little-endian */
@@ -73,7 +77,8 @@ typedef struct {
 
 /* The text that the data are (10.4.1 EV_IPL): ASCII, or else UTF-16, without a
  * NUL but at its end. */
-UEFI_CALL bool uefi_event_text(UefiBytes event_data, UefiEventText *out);
+UEFI_CALL UEFI_NODISCARD UEFI_NONNULL UefiStatus
+uefi_event_text(UefiBytes event_data, UefiEventText *out);
 
 #define UEFI_CRTM_VERSION_UCS2 0u  /* units of two bytes, after which a NUL follows */
 #define UEFI_CRTM_VERSION_GUID 1u  /* text.text is the sixteen bytes of a GUID */
@@ -86,26 +91,29 @@ typedef struct {
 
 /* The version of the root of trust for measurement that the data are (10.4.1
  * EV_S_CRTM_VERSION). */
-UEFI_CALL bool uefi_event_crtm_version(UefiBytes event_data, UefiCrtmVersion *out);
+UEFI_CALL UEFI_NODISCARD UEFI_NONNULL UefiStatus
+uefi_event_crtm_version(UefiBytes event_data, UefiCrtmVersion *out);
 
 typedef struct {
     UefiBytes value;
     uint32_t id; /* says what the value is */
 } UefiTaggedEvent;
 
-/* The next tagged event of the data (TCG_PCClientTaggedEvent). False where none
- * begins: at the end, or where the bytes are cut. */
-UEFI_CALL bool uefi_tagged_next(UefiBytes event_data, size_t *offset, UefiTaggedEvent *out);
+/* The next tagged event of the data (TCG_PCClientTaggedEvent), UEFI_END at the
+ * end of the data, or UEFI_CUT. */
+UEFI_CALL UEFI_NODISCARD UEFI_NONNULL UefiStatus
+uefi_tagged_next(UefiBytes event_data, size_t *offset, UefiTaggedEvent *out);
 
 /* The number at an index of an order of boot options, the value of BootOrder:
- * 1 is that of Boot0001. False if the bytes are odd in number, or it has no such
- * index. */
-UEFI_CALL bool uefi_boot_order(UefiBytes bytes, size_t index, uint16_t *out);
+ * 1 is that of Boot0001. UEFI_OTHER_DATA if the bytes are odd in number, UEFI_END
+ * if the order has no such index. */
+UEFI_CALL UEFI_NODISCARD UEFI_NONNULL UefiStatus
+uefi_boot_order(UefiBytes bytes, size_t index, uint16_t *out);
 
 /* ---- Signature databases (UEFI 2.10, 32.4.1): the values of PK, KEK, db and dbx ----
  *
- * A database is lists, one after another, and is whole if the walk over them
- * ends at the end of the bytes. */
+ * A database is lists, one after another. It is whole if the walk over them ends
+ * with UEFI_END. */
 
 typedef struct {
     UefiBytes header;     /* its meaning depends on the type; the types that have a name have none */
@@ -114,8 +122,10 @@ typedef struct {
     uint8_t signature_type[16]; /* a GUID */
 } UefiSignatureList;
 
-/* The next list (EFI_SIGNATURE_LIST). */
-UEFI_CALL bool uefi_signature_list_next(UefiBytes lists, size_t *offset, UefiSignatureList *out);
+/* The next list (EFI_SIGNATURE_LIST), UEFI_END at the end of the bytes, or
+ * UEFI_BAD_SIGNATURE_LIST. */
+UEFI_CALL UEFI_NODISCARD UEFI_NONNULL UefiStatus
+uefi_signature_list_next(UefiBytes lists, size_t *offset, UefiSignatureList *out);
 
 typedef struct {
     UefiBytes value; /* a hash or a certificate, as the type of the list says */
@@ -123,14 +133,16 @@ typedef struct {
 } UefiSignature;
 
 /* The signature that all the bytes are (EFI_SIGNATURE_DATA), such as the value
- * of a variable that was measured as an authority. False if they are fewer than
- * sixteen. */
-UEFI_CALL bool uefi_signature(UefiBytes bytes, UefiSignature *out);
+ * of a variable that was measured as an authority. UEFI_OTHER_DATA if they are
+ * fewer than sixteen. */
+UEFI_CALL UEFI_NODISCARD UEFI_NONNULL UefiStatus
+uefi_signature(UefiBytes bytes, UefiSignature *out);
 
 /* The next signature of a list, whose signatures and signature_size these are
- * (EFI_SIGNATURE_DATA). False at a size below 16. */
-UEFI_CALL bool uefi_signature_next(UefiBytes signatures, uint32_t signature_size, size_t *offset,
-                                   UefiSignature *out);
+ * (EFI_SIGNATURE_DATA); UEFI_END at the end of the bytes; UEFI_CUT;
+ * UEFI_BAD_SIGNATURE_SIZE. The signatures of a list that was read are whole. */
+UEFI_CALL UEFI_NODISCARD UEFI_NONNULL UefiStatus
+uefi_signature_next(UefiBytes signatures, uint32_t signature_size, size_t *offset, UefiSignature *out);
 
 /* ---- Partition tables (10.4.1 UEFI_GPT_DATA; UEFI 2.10, 5.3) ---- */
 
@@ -153,7 +165,8 @@ typedef struct {
 
 /* The header of the partition table that the data of an event are, of type
  * UEFI_EV_EFI_GPT_EVENT. No CRC32 is compared. */
-UEFI_CALL bool uefi_gpt_header(UefiBytes event_data, uint8_t uintn_size, UefiGptHeader *out);
+UEFI_CALL UEFI_NODISCARD UEFI_NONNULL UefiStatus
+uefi_gpt_header(UefiBytes event_data, uint8_t uintn_size, UefiGptHeader *out);
 
 typedef struct {
     UefiBytes rest; /* what an entry of more than 128 bytes has */
@@ -165,11 +178,10 @@ typedef struct {
     uint16_t name[36]; /* with a NUL if it is shorter */
 } UefiGptEntry;
 
-/* The entry at an index of that table. False if the data are no table, or it
- * has no such entry: a loop over the index ends. A call goes over the entries
- * before it. */
-UEFI_CALL bool uefi_gpt_entry(UefiBytes event_data, uint8_t uintn_size, size_t index,
-                              UefiGptEntry *out);
+/* The entry at an index of that table. UEFI_OTHER_DATA if the data are no table,
+ * UEFI_END if it has no such entry. A call goes over the entries before it. */
+UEFI_CALL UEFI_NODISCARD UEFI_NONNULL UefiStatus
+uefi_gpt_entry(UefiBytes event_data, uint8_t uintn_size, size_t index, UefiGptEntry *out);
 
 #ifdef __cplusplus
 }

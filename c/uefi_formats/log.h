@@ -2,7 +2,7 @@
 #ifndef UEFI_FORMATS_LOG_H
 #define UEFI_FORMATS_LOG_H
 
-#include "bytes.h"
+#include "status.h"
 
 #ifdef __cplusplus
 extern "C" {
@@ -49,6 +49,11 @@ extern "C" {
 #define UEFI_EV_EFI_SPDM_DEVICE_POLICY 0x800000e3u
 #define UEFI_EV_EFI_SPDM_DEVICE_AUTHORITY 0x800000e4u
 
+/* The standard's name of a type of events, such as `EV_IPL`, in ASCII without a
+ * NUL, or UEFI_NO_NAME. */
+UEFI_CALL UEFI_NODISCARD UEFI_NONNULL UefiStatus
+uefi_event_type_name(uint32_t event_type, UefiBytes *name);
+
 /* Algorithms of digests (TCG Algorithm Registry, TPM_ALG_ID), and how many bytes each digest has. */
 #define UEFI_TPM_ALG_SHA1 0x0004u     /* 20 */
 #define UEFI_TPM_ALG_SHA256 0x000bu   /* 32 */
@@ -58,6 +63,11 @@ extern "C" {
 #define UEFI_TPM_ALG_SHA3_256 0x0027u /* 32 */
 #define UEFI_TPM_ALG_SHA3_384 0x0028u /* 48 */
 #define UEFI_TPM_ALG_SHA3_512 0x0029u /* 64 */
+
+/* The standard's name of an algorithm, such as `TPM_ALG_SHA256`, in ASCII without
+ * a NUL, or UEFI_NO_NAME. */
+UEFI_CALL UEFI_NODISCARD UEFI_NONNULL UefiStatus
+uefi_algorithm_name(uint16_t algorithm, UefiBytes *name);
 
 /* `last_entry` is the offset at which the last event starts, firmware's
  * EventLogLastEntry less EventLogLocation. An event that starts there may end
@@ -69,25 +79,18 @@ extern "C" {
  * last entry UEFI_EMPTY_LOG. uefi_last_entry() makes either from what
  * GetEventLog returned.
  *
- * Whether a walk read the last event. A walk calls the function for the next
- * event, from the first event on, until it returns false at an offset `at`. The
- * last event was read if and only if `at > last_entry`: then the event that was
- * read last started at `last_entry`. If `at <= last_entry`, uefi_log1_state or
- * uefi_log2_state says what is at `at` instead. UEFI_LOG_ENDED: the log is empty,
- * or its bytes end there, cut between two events. Another number: it is cut
- * inside an event, or is damaged. Each can also mean that `last_entry` isn't the
- * log's own.
- *
- * With the log's length as the last entry, `at` is never above it. UEFI_LOG_ENDED
- * then says that whole events fill the bytes, and a log that is cut between two
- * events looks like a whole one.
+ * Whether the log is whole. Call uefi_log_read first: it judges the whole log. A
+ * walk calls the function for the next event, from the first event on, until it
+ * returns another status than UEFI_OK. That status says why the walk ended, and
+ * UEFI_END alone doesn't say that the last event was read: a log that is cut
+ * between two events ends so too.
  *
  * Padding. The area that has the log may be longer than the log. The bytes after
  * the last event, which firmware never wrote, are then all 0, or all 0xff. A walk
  * with the log's own last entry ends before them. A walk with the log's length
  * as the last entry doesn't: it reads zeros as events whose fields are all 0. So
  * end it where all bytes from the offset on are 0, or all are 0xff: look before
- * each call. The functions in pcr.h do so themselves. */
+ * each call. uefi_log_read and the functions in pcr.h do so themselves. */
 
 /* The last entry of a log without events. */
 #define UEFI_EMPTY_LOG ((size_t)1)
@@ -98,6 +101,26 @@ static inline size_t uefi_last_entry(uint64_t location, uint64_t last) {
     return last ? (size_t)(last - location) : UEFI_EMPTY_LOG;
 }
 
+/* Reads a whole log, to judge it. A log that begins with a header is of version 2,
+ * and its events follow the one that has the header. Another is of version 1.
+ *
+ * UEFI_OK if the log has an event, and the last one starts at `last_entry`. What
+ * follows it isn't judged. If the last entry isn't known, nothing but padding
+ * follows the last event. Then a log that was cut between two events, or after
+ * zeros with which an event begins, looks like a whole one of fewer events.
+ *
+ * Else the first of these that holds:
+ *
+ *     UEFI_TOO_MANY_ALGORITHMS    the header's table has more than 256 rows
+ *     UEFI_NO_EVENT               there is no event, or none but the header's
+ *     UEFI_LEFT_OVER              the log doesn't end with its last event: `*offset`
+ *                                 is where that ends
+ *
+ * `*offset` is set at UEFI_LEFT_OVER alone. The function for the next event says
+ * what is there. */
+UEFI_CALL UEFI_NODISCARD UEFI_NONNULL UefiStatus
+uefi_log_read(UefiBytes log, size_t last_entry, size_t *offset);
+
 typedef struct {
     UefiBytes event_data;
     uint32_t pcr_index;
@@ -105,8 +128,15 @@ typedef struct {
     uint8_t digest[20];
 } UefiEvent1;
 
-/* The next event of a version 1 log (TCG_PCR_EVENT). */
-UEFI_CALL bool uefi_log1_next(UefiBytes log, size_t last_entry, size_t *offset, UefiEvent1 *out);
+/* The next event of a version 1 log (TCG_PCR_EVENT).
+ *
+ *     UEFI_END                   the last event was read, the log has none, or its
+ *                                bytes end here
+ *     UEFI_CUT                   the bytes end inside the event
+ *     UEFI_CROSSES_LAST_ENTRY    the event starts before `last_entry`, and ends
+ *                                after it */
+UEFI_CALL UEFI_NODISCARD UEFI_NONNULL UefiStatus
+uefi_log1_next(UefiBytes log, size_t last_entry, size_t *offset, UefiEvent1 *out);
 
 typedef struct {
     UefiBytes rows;   /* of the table of algorithms: see below */
@@ -144,75 +174,61 @@ typedef struct {
  *
  * The table of a real log has one to five rows. One of many rows makes a log
  * slow to read: a call for an event goes over them once, and once more for each
- * of its digests; a call for a digest goes over them twice. So a log of E events
- * with D digests each, under a table with R rows, takes up to
- * E * (3 * D + 2) * R steps. To refuse a header of more rows before any event is
- * read, write
+ * of its digests; a call for a digest goes over them twice. So a walk over a log
+ * of E events with D digests each, under a table with R rows, takes up to
+ * E * (3 * D + 2) * R steps. uefi_log_read refuses a table of more than 256 rows
+ * before it reads an event. For a lower limit, read the header before, and write
  *
  *     if (header.rows.n / 4 > 8)
  *         return refused;
  */
 
 /* The header of a version 2 log. It is in the log's first event, which is one of
- * version 1, of type EV_NO_ACTION. False if the log has no such event, or no
- * event at all. uefi_log1_state(log, last_entry, 0) says what it has instead:
- *
- *     UEFI_LOG_ENDED                 nothing: the log is empty
- *     UEFI_LOG_EVENT                 a whole event without a whole header: the log
- *                                    is of version 1, or its header is damaged
- *     UEFI_LOG_CUT                   an event inside which the bytes end
- *     UEFI_LOG_CROSSES_LAST_ENTRY    an event that starts before `last_entry`, and
- *                                    ends after it
- */
-UEFI_CALL bool uefi_log2_header(UefiBytes log, size_t last_entry, UefiLogHeader *out);
+ * version 1, of type EV_NO_ACTION. UEFI_NO_HEADER if the log has no such event, or
+ * no event at all. uefi_log1_next, from 0 on, then says what the log begins with:
+ * UEFI_OK if it is of version 1, or its header is damaged. */
+UEFI_CALL UEFI_NODISCARD UEFI_NONNULL UefiStatus
+uefi_log2_header(UefiBytes log, size_t last_entry, UefiLogHeader *out);
 
 /* The next event of a version 2 log (TCG_PCR_EVENT2) under the header's table,
- * whose rows these are. False under a table of 2^32 rows or more, which no
- * header has.
+ * whose rows these are. Its statuses are those of uefi_log1_next, and:
+ *
+ *     UEFI_UNKNOWN_ALGORITHM      a digest is of an algorithm that has no row
+ *     UEFI_TOO_MANY_DIGESTS       the event states more digests than there are rows
+ *     UEFI_TOO_MANY_ALGORITHMS    there are 2^32 rows or more, as no header has
  *
  * Start at the header's `event_end`. Firmware writes the first event there, and
  * Linux and tpm2-tools read it there. `events_start` is for programs that must
  * list what the Rust crate `uefi` lists, which starts there. The two differ only
  * where other bytes follow the header in its event. */
-UEFI_CALL bool uefi_log2_next(UefiBytes log, size_t last_entry, UefiBytes rows, size_t *offset,
-                              UefiEvent2 *out);
+UEFI_CALL UEFI_NODISCARD UEFI_NONNULL UefiStatus
+uefi_log2_next(UefiBytes log, size_t last_entry, UefiBytes rows, size_t *offset, UefiEvent2 *out);
 
-/* The next digest of an event, under the same rows. False if the bytes from the
- * offset on begin with none, as at their end, and under a table of 2^32 rows or
- * more, which no header has. */
-UEFI_CALL bool uefi_digest_next(UefiBytes digests, UefiBytes rows, size_t *offset, UefiDigest *out);
+/* The next digest of an event, under the same rows. UEFI_END at the end of the
+ * bytes, UEFI_CUT, UEFI_UNKNOWN_ALGORITHM, or UEFI_TOO_MANY_ALGORITHMS as for
+ * uefi_log2_next. The digests of an event that was read are whole. */
+UEFI_CALL UEFI_NODISCARD UEFI_NONNULL UefiStatus
+uefi_digest_next(UefiBytes digests, UefiBytes rows, size_t *offset, UefiDigest *out);
 
 /* The first digest of an algorithm in the event of a version 2 log that starts
- * at the offset: where uefi_log2_next read it from, and not where it ended. False
- * if there is none, and under a table of 2^32 rows or more. */
-UEFI_CALL bool uefi_log2_digest(UefiBytes log, size_t last_entry, UefiBytes rows, size_t offset, uint16_t algorithm,
-                                UefiBytes *digest);
+ * at the offset: where uefi_log2_next read it from, and not where it ended.
+ * UEFI_NO_EVENT if none can be read there, UEFI_NO_DIGEST if it has no digest of the
+ * algorithm. */
+UEFI_CALL UEFI_NODISCARD UEFI_NONNULL UefiStatus
+uefi_log2_digest(UefiBytes log, size_t last_entry, UefiBytes rows, size_t offset, uint16_t algorithm,
+                 UefiBytes *digest);
 
-/* The last event was read, the log has none, or its bytes end here, also
- * because it is cut between two events: compare the offset with `last_entry`. */
-#define UEFI_LOG_ENDED 0u
-#define UEFI_LOG_EVENT 1u /* an event */
-#define UEFI_LOG_CUT 2u   /* the bytes end inside the event that begins here */
-#define UEFI_LOG_CROSSES_LAST_ENTRY 3u /* the event starts before the last entry, and ends after it */
-#define UEFI_LOG_UNKNOWN_ALGORITHM 4u  /* a digest of the event is of an algorithm that has no row */
-#define UEFI_LOG_TOO_MANY_DIGESTS 5u   /* the event states more digests than there are rows */
-
-/* What is at the offset where a walk over a log ended, as one of these numbers:
- * of a version 1 log one of the first four. Under a table of 2^32 rows or more it
- * is UEFI_LOG_ENDED or UEFI_LOG_CUT. */
-UEFI_CALL uint32_t uefi_log1_state(UefiBytes log, size_t last_entry, size_t offset);
-UEFI_CALL uint32_t uefi_log2_state(UefiBytes log, size_t last_entry, UefiBytes rows, size_t offset);
-
-/* Writes an event of a version 1 log to the beginning of the buffer, and sets
- * `*size` to its length. If it returns false, the buffer is as it was, and
- * `*size` is the length that it needs, or 0 if the data has 2^32 bytes or
+/* Writes an event of a version 1 log. UEFI_TOO_LONG if the data have 2^32 bytes or
  * more. */
-UEFI_CALL bool uefi_write_event(UefiBuffer buffer, UefiBytes event_data, const uint8_t digest[20],
-                                uint32_t pcr_index, uint32_t event_type, size_t *size);
+UEFI_CALL UEFI_NODISCARD UEFI_NONNULL UefiStatus
+uefi_write_event(UefiBuffer buffer, UefiBytes event_data, const uint8_t digest[20], uint32_t pcr_index,
+                 uint32_t event_type, size_t *size);
 
-/* The same of what firmware is handed to log an event (EFI_TCG2_EVENT). */
-UEFI_CALL bool uefi_write_event_inputs(UefiBuffer buffer, UefiBytes event_data, uint32_t pcr_index,
-                                       uint32_t event_type, size_t *size);
+/* Writes what firmware is handed to log an event (EFI_TCG2_EVENT). UEFI_TOO_LONG if
+ * it has 2^32 bytes or more: 18, and the data. */
+UEFI_CALL UEFI_NODISCARD UEFI_NONNULL UefiStatus
+uefi_write_event_inputs(UefiBuffer buffer, UefiBytes event_data, uint32_t pcr_index, uint32_t event_type,
+                        size_t *size);
 
 #ifdef __cplusplus
 }

@@ -2,7 +2,7 @@
 #ifndef UEFI_FORMATS_MAP_H
 #define UEFI_FORMATS_MAP_H
 
-#include "bytes.h"
+#include "status.h"
 
 #ifdef __cplusplus
 extern "C" {
@@ -26,6 +26,11 @@ extern "C" {
 #define UEFI_EfiPersistentMemory 14u
 #define UEFI_EfiUnacceptedMemoryType 15u
 
+/* The standard's name of a type, such as `EfiLoaderCode`, in ASCII without a
+ * NUL, or UEFI_NO_NAME. */
+UEFI_CALL UEFI_NODISCARD UEFI_NONNULL UefiStatus
+uefi_memory_type_name(uint32_t memory_type, UefiBytes *name);
+
 typedef struct {
     uint32_t memory_type; /* what the memory is used for, such as UEFI_EfiConventionalMemory */
     uint32_t padding;
@@ -35,18 +40,21 @@ typedef struct {
     uint64_t attribute;
 } UefiDescriptor;
 
-/* Whether all the bytes are a map whose descriptors are `stride` bytes apart,
+/* UEFI_OK if all the bytes are a map whose descriptors are `stride` bytes apart,
  * firmware's DescriptorSize: at least 40, a multiple of 8, and a divisor of
- * their number. 0 bytes are a map too, without descriptors. */
-UEFI_CALL bool uefi_map_check(UefiBytes map, size_t stride);
+ * their number. Else UEFI_NOT_MAP. 0 bytes are a map too, without descriptors. */
+UEFI_CALL UEFI_NODISCARD UefiStatus
+uefi_map_check(UefiBytes map, size_t stride);
 
-/* Descriptor `index` of the map. False if the bytes are no map with this
- * stride, or it has no such descriptor: so a loop over the index ends. */
-UEFI_CALL bool uefi_map_entry(UefiBytes map, size_t stride, size_t index, UefiDescriptor *out);
+/* Descriptor `index` of the map. UEFI_NOT_MAP as for uefi_map_check, UEFI_END if
+ * the map has no such descriptor. */
+UEFI_CALL UEFI_NODISCARD UEFI_NONNULL UefiStatus
+uefi_map_entry(UefiBytes map, size_t stride, size_t index, UefiDescriptor *out);
 
 /* Writes descriptor `index` of the map that all of the buffer is: its forty
- * bytes. False where uefi_map_entry returns false. */
-UEFI_CALL bool uefi_map_set(UefiBuffer map, size_t stride, size_t index, const UefiDescriptor *entry);
+ * bytes. The statuses are those of uefi_map_entry. */
+UEFI_CALL UEFI_NODISCARD UEFI_NONNULL UefiStatus
+uefi_map_set(UefiBuffer map, size_t stride, size_t index, const UefiDescriptor *entry);
 
 /* Whether the bytes are a map in which no descriptor begins at a lower
  * physical address than the one before it. */

@@ -2,7 +2,7 @@
 #ifndef UEFI_FORMATS_PATH_H
 #define UEFI_FORMATS_PATH_H
 
-#include "bytes.h"
+#include "status.h"
 
 #ifdef __cplusplus
 extern "C" {
@@ -25,30 +25,29 @@ typedef struct {
 } UefiNode;
 
 /* Finds the path that the bytes begin with. No other prefix of them is a
- * path. False if none is: a node is cut, states a length below 4, or no node
- * ends the path. */
-UEFI_CALL bool uefi_path(UefiBytes bytes, UefiBytes *path);
+ * path. UEFI_NO_PATH if none is: a node is cut, states a length below 4, or no
+ * node ends the path. */
+UEFI_CALL UEFI_NODISCARD UEFI_NONNULL UefiStatus
+uefi_path(UefiBytes bytes, UefiBytes *path);
 
 /* The next node of a path that uefi_path returned, or of an instance that
- * uefi_path_next_instance returned. False at the node that ends it, which is
+ * uefi_path_next_instance returned: UEFI_END at the node that ends it, which is
  * not handed out. The nodes of a path are those of all its instances, with
- * the nodes that end the others (type 0x7f, subtype 0x01). */
-UEFI_CALL bool uefi_path_next_node(UefiBytes path, size_t *offset, UefiNode *out);
+ * the nodes that end the others (type 0x7f, subtype 0x01).
+ *
+ * In other bytes UEFI_NO_END if they end at the offset, or before it; UEFI_CUT; or
+ * UEFI_SHORT_NODE. */
+UEFI_CALL UEFI_NODISCARD UEFI_NONNULL UefiStatus
+uefi_path_next_node(UefiBytes path, size_t *offset, UefiNode *out);
 
 /* The next instance of a path: its bytes, with those of the node that ends
- * it. False after the last. Two ends side by side have an empty instance
- * between them, of the second end alone. */
-UEFI_CALL bool uefi_path_next_instance(UefiBytes path, size_t *offset, UefiBytes *instance);
-
-#define UEFI_PATH_ENDED 0u      /* the node that ends the walk */
-#define UEFI_PATH_NODE 1u       /* another node */
-#define UEFI_PATH_NO_END 2u     /* the bytes end here, and no node ended the walk */
-#define UEFI_PATH_CUT_NODE 3u   /* the bytes end inside the node that begins here */
-#define UEFI_PATH_SHORT_NODE 4u /* the node that begins here states a length below 4 */
-
-/* What is at the offset where a walk over nodes ended, as one of these
- * numbers. */
-UEFI_CALL uint32_t uefi_path_state(UefiBytes path, size_t offset);
+ * it. UEFI_END at the end of the path. Two ends side by side have an empty
+ * instance between them, of the second end alone.
+ *
+ * In other bytes UEFI_NO_END, UEFI_CUT or UEFI_SHORT_NODE if no instance begins at
+ * the offset: the fault of the first node from there on that can't be read. */
+UEFI_CALL UEFI_NODISCARD UEFI_NONNULL UefiStatus
+uefi_path_next_instance(UefiBytes path, size_t *offset, UefiBytes *instance);
 
 /* ---- Load options (UEFI 2.10, 3.1.3): values of Boot0000 and others ---- */
 
@@ -65,27 +64,22 @@ typedef struct {
 #define UEFI_LOAD_OPTION_HIDDEN 0x00000008u
 #define UEFI_LOAD_OPTION_CATEGORY 0x00001f00u
 
-#define UEFI_LOAD_OPTION_READ 0u           /* *out has it */
-#define UEFI_LOAD_OPTION_TOO_SHORT 1u      /* fewer than six bytes */
-#define UEFI_LOAD_OPTION_NO_NUL 2u         /* no unit of the description is zero */
-#define UEFI_LOAD_OPTION_LIST_TOO_LONG 3u  /* fewer bytes follow than the file path list is stated to have */
-#define UEFI_LOAD_OPTION_NO_FILE_PATH 4u   /* the list begins with no device path */
-
-/* Reads the load option that all the bytes are. It returns 0 if it succeeds, and
- * not true as the readers that return a bool do:
- *
- *     if (uefi_load_option(bytes, &option) == UEFI_LOAD_OPTION_READ)
+/* Reads the load option that all the bytes are. Fails with UEFI_TOO_SHORT if they
+ * are fewer than six, UEFI_NOT_NUL_TERMINATED, UEFI_FILE_PATH_LIST_TOO_LONG or
+ * UEFI_NO_FILE_PATH.
  *
  * `file_path_list` has the paths one after another. `file_path` is the first;
  * others are the operating system's, and aren't checked. To go on, pass uefi_path
  * the bytes that follow a path:
  *
- *     UefiBytes path = option.file_path, list = option.file_path_list;
- *     for (size_t at = path.n; uefi_path(uefi_bytes(list.at + at, list.n - at), &path); at += path.n)
+ *     UefiBytes list = option.file_path_list, path;
+ *     size_t at = option.file_path.n;
+ *     for (; uefi_path(uefi_bytes(list.at + at, list.n - at), &path) == UEFI_OK; at += path.n)
  *         further_path(path);
  *
  * The description includes its NUL; the name in a UefiVariable has none. */
-UEFI_CALL uint32_t uefi_load_option(UefiBytes bytes, UefiLoadOption *out);
+UEFI_CALL UEFI_NODISCARD UEFI_NONNULL UefiStatus
+uefi_load_option(UefiBytes bytes, UefiLoadOption *out);
 
 #ifdef __cplusplus
 }

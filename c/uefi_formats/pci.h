@@ -2,7 +2,7 @@
 #ifndef UEFI_FORMATS_PCI_H
 #define UEFI_FORMATS_PCI_H
 
-#include "bytes.h"
+#include "status.h"
 
 #ifdef __cplusplus
 extern "C" {
@@ -19,14 +19,10 @@ typedef struct {
     uint8_t type_specific_flags;
 } UefiResource;
 
-#define UEFI_PCI_END 0u         /* the end tag: the list is whole */
-#define UEFI_PCI_RESOURCE 1u    /* a resource: *out has it, and *offset is its end */
-#define UEFI_PCI_NO_END_TAG 2u  /* the bytes end here, without an end tag */
-#define UEFI_PCI_CUT_RECORD 3u  /* the bytes end inside the record that begins here */
-#define UEFI_PCI_UNKNOWN_TAG 4u /* list.at[*offset] is neither tag */
-
-/* What stands at the offset, as one of these numbers. */
-UEFI_CALL uint32_t uefi_pci_next(UefiBytes list, size_t *offset, UefiResource *out);
+/* The next resource of a list. UEFI_END at the end tag: the list is whole, and
+ * any bytes may follow. Else UEFI_NO_END, UEFI_CUT or UEFI_UNKNOWN_TAG. */
+UEFI_CALL UEFI_NODISCARD UEFI_NONNULL UefiStatus
+uefi_pci_next(UefiBytes list, size_t *offset, UefiResource *out);
 
 #ifdef __cplusplus
 }

@@ -2,7 +2,6 @@
 #ifndef UEFI_FORMATS_QUOTE_H
 #define UEFI_FORMATS_QUOTE_H
 
-#include "bytes.h"
 #include "pcr.h"
 
 #ifdef __cplusplus
@@ -14,20 +13,22 @@ extern "C" {
  * TPMS_QUOTE_INFO). `message` is the bytes that it signs, without the two of
  * a TPM2B_ATTEST's size.
  *
+ *     static UefiWorkspace workspace;
  *     UefiQuote quote;
  *     UefiQuoteDigest found;
- *     if (!uefi_quote(message, &quote))
- *         return no_quote(uefi_quote_fault(message));
- *     if (!uefi_quote_digest(message, UEFI_HASH_OF_SIZE, log, last_entry, UEFI_LOCALITY_OF_LOG, &found))
- *         return no_hash();
- *     bool agrees = found.fault == UEFI_PCR_DETERMINED && found.size == quote.pcr_digest.n
+ *     UefiStatus status = uefi_quote(message, &quote);
+ *     if (status != UEFI_OK)
+ *         return no_quote(status);
+ *     status = uefi_quote_digest(message, UEFI_HASH_OF_SIZE, log, last_entry, UEFI_LOCALITY_OF_LOG,
+ *                                &workspace, &found);
+ *     bool agrees = status == UEFI_OK && found.size == quote.pcr_digest.n
  *         && !memcmp(found.value, quote.pcr_digest.at, found.size);
  *
  * Nothing here verifies a signature. Agreement says something of a machine
  * only if the signature over `message` is that of a key which you know to be
  * its TPM's, and if `extra_data` is the nonce that you sent. A quote that
  * selects no PCR is agreed to by any log, so look at the selections too: what
- * isn't selected may be anything. pcr.h has what to ask of the log before.
+ * isn't selected may be anything. Ask uefi_log_read about the log before.
  *
  * A TPM that is sound writes a few selections. For a message of N bytes
  * uefi_quote_digest takes about N steps for the quote and up to 6 × N hashes of
@@ -45,21 +46,15 @@ typedef struct {
     bool safe;                  /* the TPM never reported a greater value of the clock */
 } UefiQuote;
 
-/* Reads the quote that the bytes are, whole and alone. False if they are none. */
-UEFI_CALL bool uefi_quote(UefiBytes message, UefiQuote *out);
-
-#define UEFI_QUOTE_READ 0u          /* the bytes are a quote */
-#define UEFI_QUOTE_NOT_GENERATED 1u /* the first four aren't TPM_GENERATED_VALUE: no TPM made them, or they begin
-                                     * with their size (TPM2B_ATTEST) */
-#define UEFI_QUOTE_NOT_QUOTE 2u     /* the TPM signed another structure */
-#define UEFI_QUOTE_SAFE 3u          /* the byte `safe` is neither 0 nor 1 */
-#define UEFI_QUOTE_SELECTION 4u     /* a PCR above 23 is selected, or a bitmap has more than four bytes */
-#define UEFI_QUOTE_TOO_SHORT 5u     /* the bytes end within a field or before one */
-#define UEFI_QUOTE_LEFT_OVER 6u     /* bytes follow the quote */
-
-/* Why the bytes are no quote, as one of these numbers: the first fault, where
- * they are read from the first to the last. */
-UEFI_CALL uint32_t uefi_quote_fault(UefiBytes message);
+/* Reads the quote that the bytes are, whole and alone. Else it fails with the first
+ * fault, where they are read from the first to the last:
+ *
+ *     UEFI_NOT_GENERATED    no TPM made them, or they begin with their size (TPM2B_ATTEST)
+ *     UEFI_NOT_QUOTE        the TPM signed another structure
+ *     UEFI_BAD_SAFE, UEFI_BAD_SELECTION, UEFI_TOO_SHORT, UEFI_LEFT_OVER
+ */
+UEFI_CALL UEFI_NODISCARD UEFI_NONNULL UefiStatus
+uefi_quote(UefiBytes message, UefiQuote *out);
 
 typedef struct {
     uint32_t pcrs;      /* bit n is PCR n; none above 23 */
@@ -67,24 +62,23 @@ typedef struct {
 } UefiPcrSelection;
 
 /* The next selection of PCRs, in the quote's order. `cursor` is its index: 0 for
- * the first. False after the last, and if the bytes are no quote. A bank may be
- * in several, and a selection may have no PCR. */
-UEFI_CALL bool uefi_quote_next_selection(UefiBytes message, size_t *cursor, UefiPcrSelection *out);
+ * the first. UEFI_END after the last, and the fault of uefi_quote if the bytes are no
+ * quote. A bank may be in several, and a selection may have no PCR. */
+UEFI_CALL UEFI_NODISCARD UEFI_NONNULL UefiStatus
+uefi_quote_next_selection(UefiBytes message, size_t *cursor, UefiPcrSelection *out);
 
-/* With the fault UEFI_PCR_DETERMINED, `value` and `size`. With UEFI_QUOTE_NO_BANK,
- * the `algorithm`; with another, that and the PCR, and the event's `index` and
- * `offset`. The other fields have no meaning. */
+/* With the status UEFI_OK, `value` and `size`. With UEFI_NO_BANK, the `algorithm`;
+ * with another, one of those of UefiPcr, that and the PCR, and the event's `index`
+ * and `offset`. The other fields have no meaning. */
 typedef struct {
     size_t size;        /* of the digest in bytes */
     size_t index;       /* of the event in the log by which the PCR is undetermined, from 0 on */
     size_t offset;      /* at which that event starts */
-    uint32_t fault;     /* UEFI_QUOTE_NO_BANK, or as in UefiPcr */
+    UefiStatus status;
     uint32_t pcr_index; /* the first selected PCR that has no value */
     uint16_t algorithm; /* of its bank */
     uint8_t value[64];  /* in its first bytes */
 } UefiQuoteDigest;
-
-#define UEFI_QUOTE_NO_BANK 7u /* a PCR is selected of a bank that isn't active in the log, or can't be replayed */
 
 /* For `hash`: the hash function by the digest's length. 32 bytes are SHA-256. */
 #define UEFI_HASH_OF_SIZE 0u
@@ -92,14 +86,15 @@ typedef struct {
 /* The digest of the PCRs that a log leads to, over those that the quote
  * selects, in its order; or why there is none. `out->value` is then to be
  * compared with the quote's `pcr_digest`. The log, its last entry and the
- * locality are as for uefi_replay: if uefi_startup_locality returns false, try
- * 0, 3 and 4.
+ * locality are as for uefi_replay: if uefi_startup_locality returns
+ * UEFI_NO_LOCALITY, try 0, 3 and 4.
  *
  * `hash` is the algorithm of the quote's digest, which is that of the key's
- * signature, or UEFI_HASH_OF_SIZE. False if the bytes are no quote, or there is
- * no such hash function here. */
-UEFI_CALL bool uefi_quote_digest(UefiBytes message, uint16_t hash, UefiBytes log, size_t last_entry,
-                                 uint32_t locality, UefiQuoteDigest *out);
+ * signature, or UEFI_HASH_OF_SIZE. At a fault of uefi_quote, and at UEFI_NO_HASH,
+ * `*out` is as it was. Else it is set, and its `status` is returned. */
+UEFI_CALL UEFI_NODISCARD UEFI_NONNULL UefiStatus
+uefi_quote_digest(UefiBytes message, uint16_t hash, UefiBytes log, size_t last_entry, uint32_t locality,
+                  UefiWorkspace *workspace, UefiQuoteDigest *out);
 
 #ifdef __cplusplus
 }

@@ -10,8 +10,9 @@ extern "C" {
 
 /* `written` is how many bytes of the buffer firmware wrote. A name is its
  * bytes: units of two bytes, little-endian, of which the last is zero and no
- * other. If a function returns false, `*needed` is the size that the buffer
- * needs, or 0 if no name ends in the bytes that were written. */
+ * other. At UEFI_BUFFER_TOO_SMALL `*needed` is the size that the buffer needs.
+ * UEFI_NOT_NUL_TERMINATED if no name ends in the bytes that were written: then
+ * `*needed` is 0. */
 
 typedef struct {
     UefiBytes name;
@@ -24,7 +25,8 @@ typedef struct {
     UefiTime modification_time;
 } UefiFileInfo;
 
-UEFI_CALL bool uefi_file_info(UefiBytes buffer, size_t written, UefiFileInfo *out, size_t *needed);
+UEFI_CALL UEFI_NODISCARD UEFI_NONNULL UefiStatus
+uefi_file_info(UefiBytes buffer, size_t written, UefiFileInfo *out, size_t *needed);
 
 typedef struct {
     UefiBytes label;
@@ -35,24 +37,26 @@ typedef struct {
     bool read_only;
 } UefiFileSystemInfo;
 
-UEFI_CALL bool uefi_file_system_info(UefiBytes buffer, size_t written, UefiFileSystemInfo *out,
-                                     size_t *needed);
+UEFI_CALL UEFI_NODISCARD UEFI_NONNULL UefiStatus
+uefi_file_system_info(UefiBytes buffer, size_t written, UefiFileSystemInfo *out, size_t *needed);
 
-UEFI_CALL bool uefi_volume_label(UefiBytes buffer, size_t written, UefiBytes *label, size_t *needed);
+UEFI_CALL UEFI_NODISCARD UEFI_NONNULL UefiStatus
+uefi_volume_label(UefiBytes buffer, size_t written, UefiBytes *label, size_t *needed);
 
-/* These write a record to the beginning of the buffer, and set `*size` to its
- * size. A name is all of its bytes, up to and with the NUL, and UCS-2 text:
- * uefi_ucs2_units makes it of UTF-8. The record states its own size, and `size`
- * of the structure isn't read. The times may have any fields, and get zeros as
- * padding.
+/* These write a record. A name is all of its bytes, up to and with the NUL, and
+ * UCS-2 text: uefi_ucs2_units makes it of UTF-8. UEFI_NOT_TEXT if it isn't. The
+ * record states its own size, and `size` of the structure isn't read. The times may
+ * have any fields, and get zeros as padding.
  *
  * The bytes after the name stay as they were, also those that round the size of
  * the first two up to a multiple of 8, and so do the bytes 9 to 15 of the second,
- * which have no meaning. If a function returns false, the buffer is as it was,
- * and `*size` is the size that it needs, or 0 if the name isn't UCS-2 text. */
-UEFI_CALL bool uefi_write_file_info(const UefiFileInfo *info, UefiBuffer buffer, size_t *size);
-UEFI_CALL bool uefi_write_file_system_info(const UefiFileSystemInfo *info, UefiBuffer buffer, size_t *size);
-UEFI_CALL bool uefi_write_volume_label(UefiBytes label, UefiBuffer buffer, size_t *size);
+ * which have no meaning. */
+UEFI_CALL UEFI_NODISCARD UEFI_NONNULL UefiStatus
+uefi_write_file_info(UefiBuffer buffer, const UefiFileInfo *info, size_t *size);
+UEFI_CALL UEFI_NODISCARD UEFI_NONNULL UefiStatus
+uefi_write_file_system_info(UefiBuffer buffer, const UefiFileSystemInfo *info, size_t *size);
+UEFI_CALL UEFI_NODISCARD UEFI_NONNULL UefiStatus
+uefi_write_volume_label(UefiBuffer buffer, UefiBytes label, size_t *size);
 
 #ifdef __cplusplus
 }

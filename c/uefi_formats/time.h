@@ -2,7 +2,7 @@
 #ifndef UEFI_FORMATS_TIME_H
 #define UEFI_FORMATS_TIME_H
 
-#include "bytes.h"
+#include "status.h"
 
 #ifdef __cplusplus
 extern "C" {
@@ -32,17 +32,20 @@ typedef struct {
     bool daylight;   /* has a bit without a name; no other field is named then */
 } UefiTimeFaults;
 
-/* The time in the first sixteen bytes. False if there are fewer, or a field is
- * at fault. */
-UEFI_CALL bool uefi_time(UefiBytes bytes, UefiTime *out);
+/* The time in the first sixteen bytes. UEFI_TOO_SHORT if there are fewer,
+ * UEFI_BAD_TIME if a field is at fault. */
+UEFI_CALL UEFI_NODISCARD UEFI_NONNULL UefiStatus
+uefi_time(UefiBytes bytes, UefiTime *out);
 
-/* The fields at fault of the time in the first sixteen bytes. False if there
- * are fewer, or no field is at fault. */
-UEFI_CALL bool uefi_time_faults(UefiBytes bytes, UefiTimeFaults *out);
+/* The fields at fault of the time in the first sixteen bytes: all false if none
+ * is. UEFI_TOO_SHORT if there are fewer bytes. */
+UEFI_CALL UEFI_NODISCARD UEFI_NONNULL UefiStatus
+uefi_time_faults(UefiBytes bytes, UefiTimeFaults *out);
 
-/* Writes the sixteen bytes of a time, with zeros as padding. False if a field
- * is out of its range; daylight may have any bits. */
-UEFI_CALL bool uefi_write_time(const UefiTime *time, uint8_t bytes[16]);
+/* Writes the sixteen bytes of a time, with zeros as padding. UEFI_BAD_TIME if a
+ * field is out of its range; daylight may have any bits. */
+UEFI_CALL UEFI_NODISCARD UEFI_NONNULL UefiStatus
+uefi_write_time(uint8_t bytes[16], const UefiTime *time);
 
 #ifdef __cplusplus
 }

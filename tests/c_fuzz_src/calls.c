@@ -1,17 +1,17 @@
 /* Load options, the data of events, GUIDs, numbers, and what is written. */
 #include "fuzz.h"
 
-static uint32_t plain_load_option(UefiBytes bytes, UefiLoadOption *out) {
+static UefiStatus plain_load_option(UefiBytes bytes, UefiLoadOption *out) {
     const uint8_t *b = bytes.at;
     size_t end = 6;
-    if (bytes.n < 6) return UEFI_LOAD_OPTION_TOO_SHORT;
+    if (bytes.n < 6) return UEFI_TOO_SHORT;
     while (bytes.n - end >= 2 && u16_at(b + end)) end += 2;
-    if (bytes.n - end < 2) return UEFI_LOAD_OPTION_NO_NUL;
+    if (bytes.n - end < 2) return UEFI_NOT_NUL_TERMINATED;
     UefiBytes rest = from(bytes, end + 2), list = {rest.at, u16_at(b + 4)}, path;
-    if (list.n > rest.n) return UEFI_LOAD_OPTION_LIST_TOO_LONG;
-    if (!plain_path(list, &path)) return UEFI_LOAD_OPTION_NO_FILE_PATH;
+    if (list.n > rest.n) return UEFI_FILE_PATH_LIST_TOO_LONG;
+    if (plain_path(list, &path) != UEFI_OK) return UEFI_NO_FILE_PATH;
     *out = (UefiLoadOption){{b + 6, end - 4}, path, list, from(rest, list.n), u32_at(b)};
-    return UEFI_LOAD_OPTION_READ;
+    return UEFI_OK;
 }
 
 static void one_load_option(UefiBytes bytes) {
@@ -26,14 +26,14 @@ static void one_load_option(UefiBytes bytes) {
     READ(UefiLoadOption, load_option, bytes);
 }
 
-static bool plain_variable(UefiBytes bytes, UefiVariable *out) {
-    if (bytes.n < 32) return false;
+static UefiStatus plain_variable(UefiBytes bytes, UefiVariable *out) {
+    if (bytes.n < 32) return UEFI_OTHER_DATA;
     UefiBytes rest = from(bytes, 32);
     uint64_t units = u64_at(bytes.at + 16);
-    if (units > rest.n / 2 || u64_at(bytes.at + 24) != rest.n - 2 * units) return false;
+    if (units > rest.n / 2 || u64_at(bytes.at + 24) != rest.n - 2 * units) return UEFI_OTHER_DATA;
     out->name = (UefiBytes){rest.at, 2 * units}, out->value = from(rest, 2 * units);
     memcpy(out->guid, bytes.at, 16);
-    return true;
+    return UEFI_OK;
 }
 
 static void one_variable(UefiBytes bytes) {
@@ -45,14 +45,14 @@ static void one_variable(UefiBytes bytes) {
     READ(UefiVariable, variable, bytes);
 }
 
-static bool plain_image(UefiBytes bytes, uint8_t uintn_size, UefiImage *out) {
+static UefiStatus plain_image(UefiBytes bytes, uint8_t uintn_size, UefiImage *out) {
     const uint8_t *b = bytes.at;
     size_t width = uintn_width(uintn_size), start = 8 + 3 * width;
-    if (bytes.n < start || uintn_at(b + start - width, width) > bytes.n - start) return false;
+    if (bytes.n < start || uintn_at(b + start - width, width) > bytes.n - start) return UEFI_OTHER_DATA;
     size_t path = uintn_at(b + start - width, width);
     *out = (UefiImage){{b + start, path}, from(bytes, start + path), u64_at(b), uintn_at(b + 8, width),
                        uintn_at(b + 8 + width, width)};
-    return true;
+    return UEFI_OK;
 }
 
 static void one_image(UefiBytes bytes) {
@@ -63,44 +63,46 @@ static void one_image(UefiBytes bytes) {
     READ(UefiImage, image, bytes, uintn_size);
 }
 
-static bool plain_blob(UefiBytes bytes, UefiBlob *out) {
-    if (bytes.n != 16) return false;
+static UefiStatus plain_blob(UefiBytes bytes, UefiBlob *out) {
+    if (bytes.n != 16) return UEFI_OTHER_DATA;
     *out = (UefiBlob){slice(0, 0), u64_at(bytes.at), u64_at(bytes.at + 8)};
-    return true;
+    return UEFI_OK;
 }
 
-static bool plain_blob2(UefiBytes bytes, UefiBlob *out) {
+static UefiStatus plain_blob2(UefiBytes bytes, UefiBlob *out) {
     const uint8_t *b = bytes.at;
-    if (!bytes.n || bytes.n != 17u + b[0]) return false;
+    if (!bytes.n || bytes.n != 17u + b[0]) return UEFI_OTHER_DATA;
     *out = (UefiBlob){{b + 1, b[0]}, u64_at(b + 1 + b[0]), u64_at(b + 9 + b[0])};
-    return true;
+    return UEFI_OK;
 }
 
-static bool plain_tagged_next(UefiBytes bytes, size_t *at, UefiTaggedEvent *out) {
+static UefiStatus plain_tagged_next(UefiBytes bytes, size_t *at, UefiTaggedEvent *out) {
     UefiBytes left = from(bytes, *at);
-    if (left.n < 8 || u32_at(left.at + 4) > left.n - 8) return false;
+    if (!left.n) return UEFI_END;
+    if (left.n < 8 || u32_at(left.at + 4) > left.n - 8) return UEFI_CUT;
     *out = (UefiTaggedEvent){{left.at + 8, u32_at(left.at + 4)}, u32_at(left.at)};
     *at += 8 + out->value.n;
-    return true;
+    return UEFI_OK;
 }
 
 static void one_tagged(UefiBytes bytes) {
     size_t at = any() & 3 ? below(bytes.n + 2) : (size_t)any(), left = from(bytes, at).n;
     uint32_t length = below(left < 250 ? left - 7 : 250);
     if (left > 8 && any() & 1) memcpy((uint8_t *)bytes.at + at + 4, &length, 4);
-    NEXT(UefiTaggedEvent, at, tagged_next, bytes);
+    while (NEXT(UefiTaggedEvent, at, tagged_next, bytes) == UEFI_OK) {}
 }
 
-static bool plain_boot_order(UefiBytes bytes, size_t index, uint16_t *out) {
-    if (bytes.n % 2 || index >= bytes.n / 2) return false;
+static UefiStatus plain_boot_order(UefiBytes bytes, size_t index, uint16_t *out) {
+    if (bytes.n % 2) return UEFI_OTHER_DATA;
+    if (index >= bytes.n / 2) return UEFI_END;
     *out = u16_at(bytes.at + 2 * index);
-    return true;
+    return UEFI_OK;
 }
 
-static bool plain_signature(UefiBytes bytes, UefiSignature *out) {
-    if (bytes.n < 16) return false;
+static UefiStatus plain_signature(UefiBytes bytes, UefiSignature *out) {
+    if (bytes.n < 16) return UEFI_OTHER_DATA;
     out->value = from(bytes, 16), memcpy(out->owner, bytes.at, 16);
-    return true;
+    return UEFI_OK;
 }
 
 static void one_guid(UefiBytes bytes) {
@@ -112,17 +114,18 @@ static void one_guid(UefiBytes bytes) {
         to += sprintf(to, "%02x", bytes.at[order[i]]);
         if (i == 3 || i == 5 || i == 7 || i == 9) *to++ = '-';
     }
-    uefi_guid_text(bytes.at, text);
+    uefi_guid_text(text, bytes.at);
     NEED(!memcmp(text, spelled, 36) && text[36] == 0x5a);
 }
 
-static bool plain_config_number(UefiBytes text, uint64_t *out) {
+static UefiStatus plain_config_number(UefiBytes text, uint64_t *out) {
     uint8_t bytes[8];
     size_t n = 0;
-    if (!plain_hex(text, uefi_buffer(bytes, 8), &n) || (n != 1 && n != 2 && n != 4 && n != 8)) return false;
+    if (plain_hex(uefi_buffer(bytes, 8), text, &n) != UEFI_OK) return UEFI_NOT_NUMBER;
+    if (n != 1 && n != 2 && n != 4 && n != 8) return UEFI_NOT_NUMBER;
     *out = 0;
     for (size_t i = 0; i < n; i++) *out = *out << 8 | bytes[i];
-    return true;
+    return UEFI_OK;
 }
 
 static void one_number(UefiBytes text) {
@@ -132,10 +135,11 @@ static void one_number(UefiBytes text) {
     READ(uint64_t, config_number, text);
 }
 
-static bool plain_map_set(UefiBuffer map, size_t stride, size_t index, const UefiDescriptor *entry) {
-    if (stride < 40 || stride % 8 || map.n % stride || index >= map.n / stride) return false;
+static UefiStatus plain_map_set(UefiBuffer map, size_t stride, size_t index, const UefiDescriptor *entry) {
+    if (stride < 40 || stride % 8 || map.n % stride) return UEFI_NOT_MAP;
+    if (index >= map.n / stride) return UEFI_END;
     memcpy(map.at + index * stride, entry, 40);
-    return true;
+    return UEFI_OK;
 }
 
 static void one_entry_written(UefiBytes bytes) {

@@ -12,24 +12,24 @@ static bool is_text(const uint8_t *b, size_t n, size_t width, bool *has_nul) {
     return n % width == 0;
 }
 
-static bool plain_event_text(UefiBytes bytes, UefiEventText *out) {
+static UefiStatus plain_event_text(UefiBytes bytes, UefiEventText *out) {
     bool has_nul, ascii = is_text(bytes.at, bytes.n, 1, &has_nul);
-    if (!ascii && !is_text(bytes.at, bytes.n, 2, &has_nul)) return false;
+    if (!ascii && !is_text(bytes.at, bytes.n, 2, &has_nul)) return UEFI_OTHER_DATA;
     *out = (UefiEventText){slice(bytes.at, bytes.n - (has_nul ? ascii ? 1 : 2 : 0)), !ascii, has_nul};
-    return true;
+    return UEFI_OK;
 }
 
-static bool plain_event_crtm_version(UefiBytes bytes, UefiCrtmVersion *out) {
+static UefiStatus plain_event_crtm_version(UefiBytes bytes, UefiCrtmVersion *out) {
     bool has_nul;
     if (is_text(bytes.at, bytes.n, 2, &has_nul) && has_nul) {
         *out = (UefiCrtmVersion){{slice(bytes.at, bytes.n - 2), true, true}, UEFI_CRTM_VERSION_UCS2};
     } else if (bytes.n == 16) {
         *out = (UefiCrtmVersion){{bytes, false, false}, UEFI_CRTM_VERSION_GUID};
     } else {
-        if (!plain_event_text(bytes, &out->text)) return false;
+        if (plain_event_text(bytes, &out->text) != UEFI_OK) return UEFI_OTHER_DATA;
         out->form = UEFI_CRTM_VERSION_OTHER;
     }
-    return true;
+    return UEFI_OK;
 }
 
 static void one_text(UefiBytes bytes) {
@@ -41,22 +41,25 @@ static void one_text(UefiBytes bytes) {
     READ(UefiEventText, event_text, bytes), READ(UefiCrtmVersion, event_crtm_version, bytes);
 }
 
-static bool plain_signature_list_next(UefiBytes bytes, size_t *at, UefiSignatureList *out) {
+static UefiStatus plain_signature_list_next(UefiBytes bytes, size_t *at, UefiSignatureList *out) {
     UefiBytes left = from(bytes, *at);
     const uint8_t *b = left.at;
-    if (left.n < 28) return false;
+    if (!left.n) return UEFI_END;
+    if (left.n < 28) return UEFI_BAD_SIGNATURE_LIST;
     uint64_t size = u32_at(b + 16), header = u32_at(b + 20), each = u32_at(b + 24);
-    if (size > left.n || 28 + header > size || each < 16 || (size - 28 - header) % each) return false;
+    if (size > left.n || 28 + header > size || each < 16 || (size - 28 - header) % each) return UEFI_BAD_SIGNATURE_LIST;
     *out = (UefiSignatureList){slice(b + 28, header), slice(b + 28 + header, size - 28 - header), each, {0}};
     memcpy(out->signature_type, b, 16), *at += size;
-    return true;
+    return UEFI_OK;
 }
 
-static bool plain_signature_next(UefiBytes signatures, uint32_t size, size_t *at, UefiSignature *out) {
+static UefiStatus plain_signature_next(UefiBytes signatures, uint32_t size, size_t *at, UefiSignature *out) {
     UefiBytes left = from(signatures, *at);
-    if (left.n < size) return false;
+    if (size < 16) return UEFI_BAD_SIGNATURE_SIZE;
+    if (!left.n) return UEFI_END;
+    if (left.n < size) return UEFI_CUT;
     out->value = (UefiBytes){left.at + 16, size - 16}, memcpy(out->owner, left.at, 16), *at += size;
-    return true;
+    return UEFI_OK;
 }
 
 static void one_list(UefiBytes bytes) {
@@ -67,35 +70,43 @@ static void one_list(UefiBytes bytes) {
         memset(b + 16, 0, 12);
         b[16] = 28 + below(50), b[20] = below(5), b[24] = 15 + below(10);
     }
-    if (!BOTH(list, at, signature_list_next, bytes, &at, &list)) return;
-    while (NEXT(UefiSignature, next, signature_next, list.signatures, list.signature_size)) {}
+    if (BOTH(list, at, signature_list_next, bytes, &at, &list) != UEFI_OK) return;
+    while (NEXT(UefiSignature, next, signature_next, list.signatures, list.signature_size) == UEFI_OK) {}
     NEED(next == list.signatures.n);
 }
 
-static bool plain_gpt_header(UefiBytes bytes, uint8_t uintn_size, UefiGptHeader *out) {
+/* Signatures of any size, which may be cut. */
+static void one_signature(UefiBytes bytes) {
+    size_t at = any() & 3 ? below(bytes.n + 2) : (size_t)any();
+    uint32_t size = any() & 7 ? 14 + below(8) : any();
+    while (NEXT(UefiSignature, at, signature_next, bytes, size) == UEFI_OK) {}
+}
+
+static UefiStatus plain_gpt_header(UefiBytes bytes, uint8_t uintn_size, UefiGptHeader *out) {
     const uint8_t *b = bytes.at;
     size_t width = uintn_width(uintn_size), start = 92 + width;
-    if (bytes.n < start) return false;
+    if (bytes.n < start) return UEFI_OTHER_DATA;
     uint64_t size = u32_at(b + 84), count = uintn_at(b + 92, width);
-    if (size < 128 || (bytes.n - start) % size || (bytes.n - start) / size != count) return false;
+    if (size < 128 || (bytes.n - start) % size || (bytes.n - start) / size != count) return UEFI_OTHER_DATA;
     *out = (UefiGptHeader){.signature = u64_at(b), .revision = u32_at(b + 8), .header_size = u32_at(b + 12),
         .header_crc32 = u32_at(b + 16), .reserved = u32_at(b + 20), .my_lba = u64_at(b + 24),
         .alternate_lba = u64_at(b + 32), .first_usable_lba = u64_at(b + 40), .last_usable_lba = u64_at(b + 48),
         .partition_entry_lba = u64_at(b + 72), .entry_count = u32_at(b + 80), .entry_size = size,
         .entries_crc32 = u32_at(b + 88)};
     memcpy(out->disk_guid, b + 56, 16);
-    return true;
+    return UEFI_OK;
 }
 
-static bool plain_gpt_entry(UefiBytes bytes, uint8_t uintn_size, size_t index, UefiGptEntry *out) {
+static UefiStatus plain_gpt_entry(UefiBytes bytes, uint8_t uintn_size, size_t index, UefiGptEntry *out) {
     UefiGptHeader header;
     size_t start = 92 + uintn_width(uintn_size);
-    if (!plain_gpt_header(bytes, uintn_size, &header) || index >= (bytes.n - start) / header.entry_size) return false;
+    if (plain_gpt_header(bytes, uintn_size, &header) != UEFI_OK) return UEFI_OTHER_DATA;
+    if (index >= (bytes.n - start) / header.entry_size) return UEFI_END;
     const uint8_t *b = bytes.at + start + index * header.entry_size;
     *out = (UefiGptEntry){.rest = slice(b + 128, header.entry_size - 128), .first_lba = u64_at(b + 32),
                           .last_lba = u64_at(b + 40), .attributes = u64_at(b + 48)};
     memcpy(out->type_guid, b, 16), memcpy(out->unique_guid, b + 16, 16), memcpy(out->name, b + 56, 72);
-    return true;
+    return UEFI_OK;
 }
 
 static void one_table(UefiBytes bytes) {
@@ -110,5 +121,5 @@ static void one_table(UefiBytes bytes) {
 }
 
 void contents_of(UefiBytes part) {
-    one_text(part), one_list(part), one_table(part);
+    one_text(part), one_list(part), one_signature(part), one_table(part);
 }

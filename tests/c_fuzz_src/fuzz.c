@@ -1,11 +1,11 @@
-/* Mutated inputs before a guard page: each result is that of plain C (plain.c, or here), and where a call
- * returns false, nothing was written. fuzz SECONDS SEED FILE.. */
+/* Mutated inputs before a guard page: each result is that of plain C (plain.c, or here), and where a call fails, what it
+ * writes to stays as it was. fuzz SECONDS SEED FILE.. */
 #include "fuzz.h"
 
 #include <sys/mman.h>
 #include <time.h>
 
-static uint8_t *area(void) {
+uint8_t *area(void) {
     uint8_t *at = mmap(0, AREA + 4096, PROT_READ | PROT_WRITE, MAP_PRIVATE | MAP_ANONYMOUS, -1, 0);
     if (at == MAP_FAILED || mprotect(at + AREA, 4096, PROT_NONE)) exit(2);
     return at + AREA;
@@ -43,56 +43,29 @@ UefiBytes from(UefiBytes bytes, size_t at) {
 
 UefiBytes slice(const uint8_t *at, size_t n) { return (UefiBytes){n ? at : (const uint8_t *)ANY, n}; }
 
-bool put(const uint8_t *bytes, size_t n, UefiBuffer buffer, size_t *size) {
+UefiStatus put(const uint8_t *bytes, size_t n, UefiBuffer buffer, size_t *size) {
     *size = n;
-    if (n > buffer.n) return false;
+    if (n > buffer.n) return UEFI_BUFFER_TOO_SMALL;
     memcpy(buffer.at, bytes, n);
-    return true;
+    return UEFI_OK;
 }
 
-static bool is_after_log(UefiBytes log, size_t last, size_t at) {
-    return at >= log.n || at > last || (last == UEFI_EMPTY_LOG && !at);
-}
-
-static uint32_t plain_log1_state(UefiBytes log, size_t last, size_t at) {
-    UefiEvent1 event;
-    if (is_after_log(log, last, at)) return UEFI_LOG_ENDED;
-    if (plain_log1_next(log, last, &at, &event)) return UEFI_LOG_EVENT;
-    return plain_log1_next(log, log.n, &at, &event) ? UEFI_LOG_CROSSES_LAST_ENTRY : UEFI_LOG_CUT;
-}
-
-static uint32_t plain_log2_state(UefiBytes log, size_t last, UefiBytes rows, size_t at) {
+UefiStatus plain_log2_digest(UefiBytes log, size_t last, UefiBytes rows, size_t at, uint16_t algorithm, UefiBytes *out) {
     UefiEvent2 event;
     UefiDigest digest;
-    if (is_after_log(log, last, at)) return UEFI_LOG_ENDED;
-    if (plain_log2_next(log, last, rows, &at, &event)) return UEFI_LOG_EVENT;
-    if (plain_log2_next(log, log.n, rows, &at, &event)) return UEFI_LOG_CROSSES_LAST_ENTRY;
-    if (log.n - at < 12) return UEFI_LOG_CUT;
-    size_t count = u32_at(log.at + at + 8), next = at + 12;
-    if (count > rows.n / 4) return UEFI_LOG_TOO_MANY_DIGESTS;
-    while (count && plain_digest_next(log, rows, &next, &digest)) count--;
-    bool is_unknown = count && log.n - next >= 2 && plain_size_of(rows, u16_at(log.at + next)) < 0;
-    return is_unknown ? UEFI_LOG_UNKNOWN_ALGORITHM : UEFI_LOG_CUT;
-}
-
-static bool plain_log2_digest(UefiBytes log, size_t last, UefiBytes rows, size_t at, uint16_t algorithm,
-                              UefiBytes *out) {
-    UefiEvent2 event = {0};
-    UefiDigest digest;
-    plain_log2_next(log, last, rows, &at, &event);
-    for (size_t next = 0; plain_digest_next(event.digests, rows, &next, &digest);)
-        if (digest.algorithm == algorithm) return *out = digest.bytes, true;
-    return false;
+    if (plain_log2_next(log, last, rows, &at, &event) != UEFI_OK) return UEFI_NO_EVENT;
+    for (size_t next = 0; plain_digest_next(event.digests, rows, &next, &digest) == UEFI_OK;)
+        if (digest.algorithm == algorithm) return *out = digest.bytes, UEFI_OK;
+    return UEFI_NO_DIGEST;
 }
 
 static void walk1(UefiBytes log, size_t last, size_t at) {
-    do SAME(log1_state, log, last, at);
-    while (NEXT(UefiEvent1, at, log1_next, log, last));
+    while (NEXT(UefiEvent1, at, log1_next, log, last) == UEFI_OK) {}
 }
 
 static size_t digests_from(UefiBytes rows, UefiBytes digests, size_t *at) {
     size_t count = 0;
-    while (NEXT(UefiDigest, *at, digest_next, digests, rows)) count++;
+    while (NEXT(UefiDigest, *at, digest_next, digests, rows) == UEFI_OK) count++;
     return count;
 }
 
@@ -100,46 +73,36 @@ static void walk2(UefiBytes log, size_t last, UefiBytes rows, size_t at) {
     for (bool is_event = true; is_event;) {
         UefiEvent2 event = {0};
         size_t next = at;
-        plain_log2_next(log, last, rows, &next, &event);
-        bool of_event = any() & 1 && event.digest_count;
+        bool of_event = plain_log2_next(log, last, rows, &next, &event) == UEFI_OK && any() & 1 && event.digest_count;
         uint16_t algorithm = of_event ? u16_at(event.digests.at) : any() & 7 ? below(14) : any();
-        READ(UefiBytes, log2_digest, log, last, rows, at, algorithm), SAME(log2_state, log, last, rows, at);
-        is_event = BOTH(event, at, log2_next, log, last, rows, &at, &event), next = 0;
+        READ(UefiBytes, log2_digest, log, last, rows, at, algorithm);
+        is_event = BOTH(event, at, log2_next, log, last, rows, &at, &event) == UEFI_OK, next = 0;
         if (is_event) NEED(digests_from(rows, event.digests, &next) == event.digest_count && next == event.digests.n);
     }
 }
 
-static uint32_t plain_path_state(UefiBytes path, size_t at) {
-    UefiBytes left = from(path, at);
-    size_t node = plain_node_length(path, at);
-    if (!left.n) return UEFI_PATH_NO_END;
-    if (!node) return left.n >= 4 && u16_at(left.at + 2) < 4 ? UEFI_PATH_SHORT_NODE : UEFI_PATH_CUT_NODE;
-    bool is_end = left.at[0] == 0x7f && (left.at[1] == 0xff || node == left.n);
-    return is_end ? UEFI_PATH_ENDED : UEFI_PATH_NODE;
-}
-
 static void one_path(UefiBytes bytes, size_t at) {
     size_t next = at;
-    READ(UefiBytes, path, bytes), NEXT(UefiBytes, next, path_next_instance, bytes);
-    do SAME(path_state, bytes, at);
-    while (NEXT(UefiNode, at, path_next_node, bytes));
+    READ(UefiBytes, path, bytes);
+    while (NEXT(UefiBytes, next, path_next_instance, bytes) == UEFI_OK) {}
+    while (NEXT(UefiNode, at, path_next_node, bytes) == UEFI_OK) {}
 }
 
-static uint32_t plain_pci_next(UefiBytes list, size_t *at, UefiResource *out) {
+static UefiStatus plain_pci_next(UefiBytes list, size_t *at, UefiResource *out) {
     UefiBytes left = from(list, *at);
     const uint8_t *b = left.at;
-    if (!left.n) return UEFI_PCI_NO_END_TAG;
-    if (*b == 0x79) return UEFI_PCI_END;
-    if (*b != 0x8a) return UEFI_PCI_UNKNOWN_TAG;
-    if (left.n < 46) return UEFI_PCI_CUT_RECORD;
+    if (!left.n) return UEFI_NO_END;
+    if (*b == 0x79) return UEFI_END;
+    if (*b != 0x8a) return UEFI_UNKNOWN_TAG;
+    if (left.n < 46) return UEFI_CUT;
     *out = (UefiResource){u64_at(b + 6), u64_at(b + 14), u64_at(b + 22), u64_at(b + 30), u64_at(b + 38),
                           b[3], b[4], b[5]};
     *at += 46;
-    return UEFI_PCI_RESOURCE;
+    return UEFI_OK;
 }
 
-static bool plain_config_next_pair(UefiBytes text, size_t *at, UefiPair *out) {
-    if (*at >= text.n) return false;
+static UefiStatus plain_config_next_pair(UefiBytes text, size_t *at, UefiPair *out) {
+    if (*at >= text.n) return UEFI_END;
     UefiBytes piece = from(text, *at);
     const uint8_t *end = memchr(piece.at, '&', piece.n);
     if (end) piece.n = end - piece.at;
@@ -148,15 +111,11 @@ static bool plain_config_next_pair(UefiBytes text, size_t *at, UefiPair *out) {
     out->value = equals ? from(piece, out->key.n + 1) : (UefiBytes){(const uint8_t *)ANY, ANY};
     out->has_value = equals;
     *at += piece.n + (end ? 1 : 0);
-    return true;
-}
-
-static bool plain_map_check(UefiBytes map, size_t stride) {
-    return stride >= 40 && stride % 8 == 0 && map.n % stride == 0;
+    return UEFI_OK;
 }
 
 static bool plain_map_is_sorted(UefiBytes map, size_t stride) {
-    bool sorted = plain_map_check(map, stride);
+    bool sorted = plain_map_check(map, stride) == UEFI_OK;
     for (size_t i = stride; sorted && i < map.n; i += stride)
         sorted = u64_at(map.at + i - stride + 8) <= u64_at(map.at + i + 8);
     return sorted;
@@ -165,7 +124,8 @@ static bool plain_map_is_sorted(UefiBytes map, size_t stride) {
 static void one_map(UefiBytes map) {
     size_t stride = any() & 3 ? 8 * below(10) : below(100), index = any() & 7 ? below(6) : (size_t)any();
     if (stride && any() & 3) map = from(map, map.n % stride);
-    SAME(map_check, map, stride), SAME(map_is_sorted, map, stride), READ(UefiDescriptor, map_entry, map, stride, index);
+    SAME(map_check, map, stride), SAME_BOOL(map_is_sorted, map, stride);
+    READ(UefiDescriptor, map_entry, map, stride, index);
 }
 
 /* Makes rows of a table: small numbers, large ones, and after some of them bytes of any kind. */
@@ -187,8 +147,9 @@ static size_t start_of(size_t offset, size_t n) {
 static void one_input(UefiBytes log, size_t whole, uint8_t *rows_end) {
     UefiLogHeader header;
     size_t n = log.n, last = any() & 7 ? any() & 1 ? whole : below(n + 40) : any() & 1 ? 0 : (size_t)-1 - below(40);
-    size_t none = 0;
-    if (BOTH(header, none, log2_header, log, last, &header))
+    size_t none = 0, end = 7;
+    SAME_AT(end, log_read, log, last);
+    if (BOTH(header, none, log2_header, log, last, &header) == UEFI_OK)
         walk2(log, last, header.rows, any() & 1 ? header.events_start : header.event_end);
     walk1(log, last, start_of(0, n));
     size_t r = below(72), at;
@@ -200,9 +161,11 @@ static void one_input(UefiBytes log, size_t whole, uint8_t *rows_end) {
     UefiBytes part = from(log, below(n + 1));
     at = start_of(0, part.n);
     one_path(part, at), one_map(part);
-    for (size_t next = start_of(0, n); NEXT(UefiResource, next, pci_next, log) == UEFI_PCI_RESOURCE;) {}
-    for (size_t next = at; NEXT(UefiPair, next, config_next_pair, part);) {}
+    for (size_t next = start_of(0, n); NEXT(UefiResource, next, pci_next, log) == UEFI_OK;) {}
+    for (size_t next = at; NEXT(UefiPair, next, config_next_pair, part) == UEFI_OK;) {}
     digests_from(rows, part, &at), records_of(part), calls_of(part), contents_of(part), names_of(part), quotes_of(part);
+    numbers();
+    if (!(any() & 3)) pcrs();
 }
 
 int main(int argc, char **argv) {
@@ -218,6 +181,7 @@ int main(int argc, char **argv) {
     }
     if (!seed_count) return 3;
     uint8_t *log_end = area(), *rows_end = area();
+    huge();
     for (; inputs % 1024 || time(0) < end; inputs++) {
         size_t seed = below(seed_count), n = any() & 1 ? sizes[seed] : below(sizes[seed] + 1);
         if (any() & 1 && n > 600) n = below(600);
@@ -228,10 +192,6 @@ int main(int argc, char **argv) {
         }
         one_input((UefiBytes){log, n}, sizes[seed], rows_end);
     }
+    need_statuses(all_calls);
     printf("%zu inputs, 0 differences\n", inputs);
-    for (Count *calls = all_calls; calls; calls = calls->next) {
-        printf("%s:", calls->name);
-        for (int i = 0; i < 8; i++) printf(" %zu", calls->results[i]);
-        puts("");
-    }
 }

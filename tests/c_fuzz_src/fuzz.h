@@ -19,15 +19,22 @@ size_t below(size_t n);
 void need(bool holds, const char *what, const char *file, int line);
 #define NEED(holds) need(holds, #holds, __FILE__, __LINE__)
 
-/* How often a call returned each result. */
+/* Memory whose end is before a page that can't be read. The value is that end. */
+uint8_t *area(void);
+
+/* How often a call, at one place of the program, returned each status. */
+enum { STATUSES = UEFI_BAD_SIGNATURE_SIZE + 1 };
 typedef struct Count {
     const char *name;
-    size_t results[8];
-    bool is_known;
+    size_t results[STATUSES];
+    bool is_known, is_bool;
     struct Count *next;
 } Count;
 
 uint32_t counted(Count *calls, uint32_t result);
+
+/* Prints how often each call returned each status. Ends the program where one never returned a status that it has. */
+void need_statuses(const Count *all_calls);
 
 /* Whether the bytes are the same, but for words that are ANY in what plain C wrote. */
 bool is_same(const void *found, const void *wanted, size_t n);
@@ -37,11 +44,16 @@ bool is_same(const void *found, const void *wanted, size_t n);
 UefiBytes from(UefiBytes bytes, size_t at);
 UefiBytes slice(const uint8_t *at, size_t n);
 
+/* What a call returned, with its count. */
+#define COUNTED(call, result) \
+    ({ static Count calls = {.name = #call}; counted(&calls, result); })
+#define COUNTED_BOOL(call, result) \
+    ({ static Count calls = {.name = #call, .is_bool = true}; counted(&calls, result); })
+
 /* Calls uefi_NAME, and plain_NAME with the same arguments, which may name `&at` and `&out`. Both return the same,
  * leave the same number in `at`, and write the same to `out`, whose bytes are 0xcc before. The value is the result. */
 #define BOTH(out, at, call, ...)                                                                    \
     ({                                                                                              \
-        static Count calls = {.name = #call};                                                       \
         __typeof__(out) found;                                                                      \
         size_t start = (at), end;                                                                   \
         memset(&(out), 0xcc, sizeof(out));                                                          \
@@ -51,11 +63,13 @@ UefiBytes slice(const uint8_t *at, size_t n);
         NEED(plain_##call(__VA_ARGS__) == result && (at) == end);                                   \
         __builtin_clear_padding(&found), __builtin_clear_padding(&(out));                           \
         NEED(is_same(&found, &(out), sizeof(out)));                                                 \
-        counted(&calls, result);                                                                    \
+        COUNTED(call, result);                                                                      \
     })
 #define READ(type, call, ...) ({ type out; size_t none = 0; BOTH(out, none, call, __VA_ARGS__, &out); })
 #define NEXT(type, at, call, ...) ({ type out; BOTH(out, at, call, __VA_ARGS__, &(at), &out); })
 #define SAME(call, ...) ({ size_t none = 0, out; BOTH(out, none, call, __VA_ARGS__); })
+#define SAME_AT(at, call, ...) ({ size_t out; BOTH(out, at, call, __VA_ARGS__, &(at)); })
+#define SAME_BOOL(call, ...) ({ bool result = uefi_##call(__VA_ARGS__); NEED(plain_##call(__VA_ARGS__) == result); COUNTED_BOOL(call, result); })
 
 /* The same of a call that writes to a `buffer`, of a length near to the `size` that it states. */
 #define WRITE(call, ...)                                                                            \
@@ -75,17 +89,24 @@ UefiBytes slice(const uint8_t *at, size_t n);
     })
 
 /* Puts bytes into a buffer that has room for them, and states their count. */
-bool put(const uint8_t *bytes, size_t n, UefiBuffer buffer, size_t *size);
+UefiStatus put(const uint8_t *bytes, size_t n, UefiBuffer buffer, size_t *size);
 
 /* The length of the character that UTF-8 has there, and the byte that hex spells there. */
 size_t character(const uint8_t *b, size_t n);
 bool is_utf8(UefiBytes text);
 uint8_t plain_byte(const uint8_t *b, size_t n);
-bool plain_hex(UefiBytes text, UefiBuffer buffer, size_t *size);
+UefiStatus plain_hex(UefiBuffer buffer, UefiBytes text, size_t *size);
 
 /* The fields of sixteen bytes, and the bytes of fields. */
 UefiTime time_at(const uint8_t *b);
 void put_time(const UefiTime *time, uint8_t *b);
+
+UefiStatus plain_log2_digest(UefiBytes log, size_t last, UefiBytes rows, size_t at, uint16_t algorithm, UefiBytes *out);
+
+/* Makes a quote at the end of the bytes, mostly a whole one. */
+UefiBytes make_quote(UefiBytes bytes);
+UefiStatus plain_quote(UefiBytes message, UefiQuote *out);
+UefiStatus plain_quote_next_selection(UefiBytes message, size_t *cursor, UefiPcrSelection *out);
 
 /* What is read of these bytes, and written. */
 void records_of(UefiBytes part);
@@ -93,5 +114,12 @@ void calls_of(UefiBytes part);
 void contents_of(UefiBytes part);
 void names_of(UefiBytes part);
 void quotes_of(UefiBytes part);
+
+/* Names of numbers, and PCRs of logs that are made. */
+void numbers(void);
+void pcrs(void);
+
+/* What is read of memory of more than 2^32 bytes. */
+void huge(void);
 
 #endif

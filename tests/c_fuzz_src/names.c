@@ -9,42 +9,42 @@ static size_t encoded(uint32_t unit, uint8_t *to) {
     return to[0] = 0xe0 | unit >> 12, to[1] = 0x80 | (unit >> 6 & 63), to[2] = 0x80 | (unit & 63), 3;
 }
 
-static bool plain_ucs2_text(UefiBytes units, UefiBuffer buffer, size_t *size) {
+static UefiStatus plain_ucs2_text(UefiBuffer buffer, UefiBytes units, size_t *size) {
     static uint8_t text[ROOM];
     size_t n = 0;
     *size = 0;
-    if (units.n % 2 || !units.n || u16_at(units.at + units.n - 2)) return false;
+    if (units.n % 2 || !units.n || u16_at(units.at + units.n - 2)) return UEFI_NOT_TEXT;
     for (size_t i = 0, length; i + 2 < units.n; i += 2, n += length)
-        if (!(length = encoded(u16_at(units.at + i), text + n))) return false;
+        if (!(length = encoded(u16_at(units.at + i), text + n))) return UEFI_NOT_TEXT;
     return put(text, n, buffer, size);
 }
 
-static bool plain_ucs2_units(UefiBytes text, UefiBuffer buffer, size_t *size) {
+static UefiStatus plain_ucs2_units(UefiBuffer buffer, UefiBytes text, size_t *size) {
     static uint8_t units[ROOM];
     size_t n = 0;
     *size = 0;
-    if (!is_utf8(text)) return false;
+    if (!is_utf8(text)) return UEFI_NOT_TEXT;
     for (size_t i = 0, length; i < text.n; i += length, n += 2) {
         const uint8_t *b = text.at + i;
         length = character(b, text.n - i);
         uint32_t unit = length == 1 ? b[0] : b[0] & (length == 2 ? 31 : 15);
         for (size_t k = 1; k < length; k++) unit = unit << 6 | (b[k] & 63);
-        if (length == 4 || !unit) return false;
+        if (length == 4 || !unit) return UEFI_NOT_TEXT;
         units[n] = unit, units[n + 1] = unit >> 8;
     }
     units[n] = units[n + 1] = 0;
     return put(units, n + 2, buffer, size);
 }
 
-static bool plain_config_name(UefiBytes value, UefiBuffer buffer, size_t *size) {
+static UefiStatus plain_config_name(UefiBuffer buffer, UefiBytes value, size_t *size) {
     static uint8_t name[ROOM];
     size_t n = 0;
     *size = 0;
-    if (!is_utf8(value) || value.n % 2) return false;
+    if (!is_utf8(value) || value.n % 2) return UEFI_NOT_TEXT;
     for (size_t i = 0, length; i < value.n; i += 4, n += length) {
         uint32_t high = plain_byte(value.at + i, 2);
-        if (i + 4 > value.n) return !high && put(name, n, buffer, size);
-        if (!(length = encoded(high << 8 | plain_byte(value.at + i + 2, 2), name + n))) return false;
+        if (i + 4 > value.n) return high ? UEFI_NOT_TEXT : put(name, n, buffer, size);
+        if (!(length = encoded(high << 8 | plain_byte(value.at + i + 2, 2), name + n))) return UEFI_NOT_TEXT;
     }
     return put(name, n, buffer, size);
 }
@@ -81,7 +81,7 @@ static void one_utf8(UefiBytes text) {
         text.n = mutate_text(text, 40, pieces, any() & 7 ? 8 : 10);
         if (text.n && !(any() & 15)) ((uint8_t *)text.at)[below(text.n)] = 0;
     }
-    WRITE(ucs2_units, text, buffer, &size);
+    WRITE(ucs2_units, buffer, text, &size);
 }
 
 static void one_config_name(UefiBytes value) {
@@ -91,59 +91,61 @@ static void one_config_name(UefiBytes value) {
         if (i + 2 <= value.n && !(any() & 7)) memcpy((uint8_t *)value.at + i, any() & 3 ? "00" : "01", 2), i += 2;
         value.n = i && !(any() & 15) ? i - 1 : i;
     }
-    WRITE(config_name, value, buffer, &size);
+    WRITE(config_name, buffer, value, &size);
 }
 
 /* Whether units are a name, and a record with it after `offset` bytes fits, whose size is a multiple of eight. */
-static bool has_room(UefiBytes name, size_t offset, UefiBuffer buffer, size_t *size) {
+static UefiStatus has_room(UefiBytes name, size_t offset, UefiBuffer buffer, size_t *size) {
     size_t length;
-    bool is_name = plain_ucs2_text(name, (UefiBuffer){buffer.at, 0}, &length) || length;
+    bool is_name = plain_ucs2_text((UefiBuffer){buffer.at, 0}, name, &length) != UEFI_NOT_TEXT;
     *size = is_name ? (offset + name.n + 7) / 8 * 8 : 0;
-    return is_name && *size <= buffer.n;
+    return !is_name ? UEFI_NOT_TEXT : *size <= buffer.n ? UEFI_OK : UEFI_BUFFER_TOO_SMALL;
 }
 
-static bool plain_write_file_info(const UefiFileInfo *info, UefiBuffer buffer, size_t *size) {
+static UefiStatus plain_write_file_info(UefiBuffer buffer, const UefiFileInfo *info, size_t *size) {
     uint8_t *b = buffer.at;
-    if (!has_room(info->name, 80, buffer, size)) return false;
+    UefiStatus status = has_room(info->name, 80, buffer, size);
+    if (status != UEFI_OK) return status;
     memcpy(b, size, 8), memcpy(b + 8, &info->file_size, 8), memcpy(b + 16, &info->physical_size, 8);
     put_time(&info->create_time, b + 24), put_time(&info->last_access_time, b + 40);
     put_time(&info->modification_time, b + 56);
     memcpy(b + 72, &info->attribute, 8), memcpy(b + 80, info->name.at, info->name.n);
-    return true;
+    return UEFI_OK;
 }
 
 static void one_file_written(UefiBytes name) {
     uint8_t bytes[48];
     for (int i = 0; i < 48; i++) bytes[i] = any();
     UefiFileInfo info = {name, any(), any(), any(), any(), time_at(bytes), time_at(bytes + 16), time_at(bytes + 32)};
-    WRITE(write_file_info, &info, buffer, &size);
+    WRITE(write_file_info, buffer, &info, &size);
 }
 
 /* Bytes 9 to 15 of the buffer stay. */
-static bool plain_write_file_system_info(const UefiFileSystemInfo *info, UefiBuffer buffer, size_t *size) {
+static UefiStatus plain_write_file_system_info(UefiBuffer buffer, const UefiFileSystemInfo *info, size_t *size) {
     uint8_t *b = buffer.at;
-    if (!has_room(info->label, 36, buffer, size)) return false;
+    UefiStatus status = has_room(info->label, 36, buffer, size);
+    if (status != UEFI_OK) return status;
     memcpy(b, size, 8), b[8] = info->read_only, memcpy(b + 16, &info->volume_size, 8);
     memcpy(b + 24, &info->free_space, 8), memcpy(b + 32, &info->block_size, 4);
     memcpy(b + 36, info->label.at, info->label.n);
-    return true;
+    return UEFI_OK;
 }
 
-static bool plain_write_volume_label(UefiBytes label, UefiBuffer buffer, size_t *size) {
-    bool is_name = has_room(label, 0, (UefiBuffer){buffer.at, ROOM}, size);
-    return is_name && put(label.at, label.n, buffer, size);
+static UefiStatus plain_write_volume_label(UefiBuffer buffer, UefiBytes label, size_t *size) {
+    UefiStatus status = has_room(label, 0, (UefiBuffer){buffer.at, ROOM}, size);
+    return status == UEFI_OK ? put(label.at, label.n, buffer, size) : status;
 }
 
 static void one_volume_written(UefiBytes label) {
     UefiFileSystemInfo info = {label, any(), any(), any(), any(), any() & 1};
-    WRITE(write_file_system_info, &info, buffer, &size);
-    WRITE(write_volume_label, label, buffer, &size);
+    WRITE(write_file_system_info, buffer, &info, &size);
+    WRITE(write_volume_label, buffer, label, &size);
 }
 
 void names_of(UefiBytes part) {
     UefiBytes units = part, name;
     if (any() & 3) units = last_of(part), mutate_units(units);
-    WRITE(ucs2_text, units, buffer, &size);
+    WRITE(ucs2_text, buffer, units, &size);
     one_utf8(part), one_config_name(part), name = last_of(part);
     if (any() & 7) mutate_units(name);
     one_file_written(name), one_volume_written(name);

@@ -26,17 +26,35 @@ static inline uint64_t uintn_at(const uint8_t *at, size_t width) {
     return width == 4 ? u32_at(at) : u64_at(at);
 }
 
-/* The length of the node at the offset, 0 for none. */
-size_t plain_node_length(UefiBytes bytes, size_t at);
-bool plain_path(UefiBytes bytes, UefiBytes *path);
-bool plain_path_next_node(UefiBytes path, size_t *offset, UefiNode *out);
-bool plain_path_next_instance(UefiBytes path, size_t *offset, UefiBytes *instance);
-bool plain_map_entry(UefiBytes map, size_t stride, size_t index, UefiDescriptor *out);
-bool plain_log1_next(UefiBytes log, size_t last_entry, size_t *offset, UefiEvent1 *out);
-bool plain_log2_header(UefiBytes log, size_t last_entry, UefiLogHeader *out);
-bool plain_log2_next(UefiBytes log, size_t last_entry, UefiBytes rows, size_t *offset, UefiEvent2 *out);
-/* The size of an algorithm's digests, by its first row; -1 for none. */
-long plain_size_of(UefiBytes rows, uint16_t algorithm);
-bool plain_digest_next(UefiBytes digests, UefiBytes rows, size_t *offset, UefiDigest *out);
+UefiStatus plain_path(UefiBytes bytes, UefiBytes *path);
+UefiStatus plain_path_next_node(UefiBytes path, size_t *offset, UefiNode *out);
+UefiStatus plain_path_next_instance(UefiBytes path, size_t *offset, UefiBytes *instance);
+UefiStatus plain_map_check(UefiBytes map, size_t stride);
+UefiStatus plain_map_entry(UefiBytes map, size_t stride, size_t index, UefiDescriptor *out);
+UefiStatus plain_log_read(UefiBytes log, size_t last_entry, size_t *offset);
+UefiStatus plain_log1_next(UefiBytes log, size_t last_entry, size_t *offset, UefiEvent1 *out);
+UefiStatus plain_log2_header(UefiBytes log, size_t last_entry, UefiLogHeader *out);
+UefiStatus plain_log2_next(UefiBytes log, size_t last_entry, UefiBytes rows, size_t *offset, UefiEvent2 *out);
+UefiStatus plain_digest_next(UefiBytes digests, UefiBytes rows, size_t *offset, UefiDigest *out);
+
+/* The next event of a log of either version, and where it starts. The end of the log is that of its last whole event, or
+ * the beginning of padding where the last entry isn't known. */
+typedef struct {
+    UefiBytes log;
+    UefiLogHeader header;
+    size_t last_entry, at;
+    bool has_header, is_known;
+} PlainLog;
+
+typedef struct {
+    size_t start;
+    UefiEvent1 event1;
+    UefiEvent2 event2;
+    uint32_t pcr_index, event_type;
+    UefiBytes event_data;
+} PlainEvent;
+
+PlainLog plain_log(UefiBytes log, size_t last_entry);
+bool plain_next_event(PlainLog *log, PlainEvent *out);
 
 #endif

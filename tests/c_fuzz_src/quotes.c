@@ -4,15 +4,15 @@
 /* What is left of a quote, and the first fault. */
 typedef struct {
     UefiBytes left;
-    uint32_t fault;
+    UefiStatus fault;
 } Reader;
 
-static void judge(Reader *r, bool holds, uint32_t fault) {
+static void judge(Reader *r, bool holds, UefiStatus fault) {
     if (!r->fault && !holds) r->fault = fault;
 }
 
 static UefiBytes take(Reader *r, size_t n) {
-    judge(r, n <= r->left.n, UEFI_QUOTE_TOO_SHORT);
+    judge(r, n <= r->left.n, UEFI_TOO_SHORT);
     UefiBytes found = slice(r->left.at, r->fault ? 0 : n);
     r->left = from(r->left, found.n);
     return found;
@@ -32,53 +32,46 @@ static UefiBytes sized(Reader *r) {
 /* Reads a quote, and writes the selection of an index; true if it is there. */
 static bool read_quote(Reader *r, UefiQuote *out, size_t index, UefiPcrSelection *selection) {
     bool found = false;
-    judge(r, number(r, 4) == 0xff544347, UEFI_QUOTE_NOT_GENERATED);
-    judge(r, number(r, 2) == 0x8018, UEFI_QUOTE_NOT_QUOTE);
+    judge(r, number(r, 4) == 0xff544347, UEFI_NOT_GENERATED);
+    judge(r, number(r, 2) == 0x8018, UEFI_NOT_QUOTE);
     out->qualified_signer = sized(r), out->extra_data = sized(r);
     out->clock = number(r, 8), out->reset_count = number(r, 4), out->restart_count = number(r, 4);
     uint64_t safe = number(r, 1);
-    judge(r, safe <= 1, UEFI_QUOTE_SAFE);
+    judge(r, safe <= 1, UEFI_BAD_SAFE);
     out->safe = safe == 1, out->firmware_version = number(r, 8);
     uint64_t count = number(r, 4);
     for (size_t i = 0; i < count && !r->fault; i++) {
         uint16_t algorithm = number(r, 2);
         size_t n = number(r, 1);
-        judge(r, n <= 4, UEFI_QUOTE_SELECTION);
+        judge(r, n <= 4, UEFI_BAD_SELECTION);
         UefiBytes bitmap = take(r, n);
         uint32_t pcrs = 0;
         for (size_t k = bitmap.n; k--;) pcrs = pcrs << 8 | bitmap.at[k];
-        judge(r, pcrs < 1 << 24, UEFI_QUOTE_SELECTION);
+        judge(r, pcrs < 1 << 24, UEFI_BAD_SELECTION);
         if (i == index) *selection = (UefiPcrSelection){pcrs, algorithm}, found = true;
     }
     out->pcr_digest = sized(r);
-    judge(r, !r->left.n, UEFI_QUOTE_LEFT_OVER);
-    return found && !r->fault;
+    judge(r, !r->left.n, UEFI_LEFT_OVER);
+    return found;
 }
 
-static uint32_t plain_quote_fault(UefiBytes message) {
-    Reader r = {message, 0};
-    UefiQuote quote;
-    UefiPcrSelection selection;
-    read_quote(&r, &quote, 0, &selection);
-    return r.fault;
-}
-
-static bool plain_quote(UefiBytes message, UefiQuote *out) {
-    Reader r = {message, 0};
+UefiStatus plain_quote(UefiBytes message, UefiQuote *out) {
+    Reader r = {message, UEFI_OK};
     UefiQuote quote;
     UefiPcrSelection selection;
     read_quote(&r, &quote, 0, &selection);
     if (!r.fault) *out = quote;
-    return !r.fault;
+    return r.fault;
 }
 
-static bool plain_quote_next_selection(UefiBytes message, size_t *cursor, UefiPcrSelection *out) {
-    Reader r = {message, 0};
+UefiStatus plain_quote_next_selection(UefiBytes message, size_t *cursor, UefiPcrSelection *out) {
+    Reader r = {message, UEFI_OK};
     UefiQuote quote;
     UefiPcrSelection selection;
-    if (!read_quote(&r, &quote, *cursor, &selection)) return false;
-    *out = selection, ++*cursor;
-    return true;
+    bool is_there = read_quote(&r, &quote, *cursor, &selection);
+    if (r.fault) return r.fault;
+    if (!is_there) return UEFI_END;
+    return *out = selection, ++*cursor, UEFI_OK;
 }
 
 static void push(uint8_t *made, size_t *n, uint64_t value, size_t width) {
@@ -89,8 +82,8 @@ static void push_any(uint8_t *made, size_t *n, size_t count) {
     while (count--) made[(*n)++] = any();
 }
 
-/* Makes a quote at the end of the bytes, mostly a whole one. */
-static UefiBytes make_quote(UefiBytes bytes) {
+UefiBytes make_quote(UefiBytes bytes) {
+    static const uint8_t banks[] = {4, 11, 12, 13, 18}, sizes[] = {20, 32, 48, 64};
     uint8_t made[256];
     size_t n = 0, size;
     push(made, &n, 0xff544347, 4), push(made, &n, 0x8018, 2);
@@ -99,23 +92,25 @@ static UefiBytes make_quote(UefiBytes bytes) {
     size_t count = below(5);
     push(made, &n, count, 4);
     while (count--) {
-        push(made, &n, below(20), 2), push(made, &n, size = any() & 15 ? below(5) : below(7), 1);
-        push_any(made, &n, size);
+        push(made, &n, any() & 3 ? banks[below(5)] : below(20), 2);
+        push(made, &n, size = any() & 15 ? below(5) : below(7), 1), push_any(made, &n, size);
+        /* One PCR of the first eight, or any of all. */
+        if (size && any() & 1) memset(made + n - size, 0, size), made[n - size] = 1 << (any() & 1 ? 0 : below(8));
         if (size == 4) made[n - 1] = any() & 7 ? 0 : 1 << below(8);
     }
-    push(made, &n, size = below(33), 2), push_any(made, &n, size);
+    push(made, &n, size = any() & 1 ? sizes[below(4)] : below(33), 2), push_any(made, &n, size);
     if (!(any() & 7)) n = below(n);
     if (!(any() & 7)) push_any(made, &n, 1 + below(2));
+    for (size_t k = any() & 3 ? 0 : below(3); k-- && n;) made[below(n)] = any();
     if (n > bytes.n) return bytes;
     UefiBytes quote = from(bytes, bytes.n - n);
     memcpy((uint8_t *)quote.at, made, n);
-    for (size_t k = any() & 3 ? 0 : below(3); k-- && n;) ((uint8_t *)quote.at)[below(n)] = any();
     return quote;
 }
 
 void quotes_of(UefiBytes part) {
     UefiBytes message = any() & 7 ? make_quote(part) : part;
     size_t at = any() & 3 ? 0 : any() & 1 ? below(4) : any();
-    READ(UefiQuote, quote, message), SAME(quote_fault, message);
-    while (NEXT(UefiPcrSelection, at, quote_next_selection, message)) {}
+    READ(UefiQuote, quote, message);
+    while (NEXT(UefiPcrSelection, at, quote_next_selection, message) == UEFI_OK) {}
 }

@@ -13,9 +13,8 @@ void put_time(const UefiTime *time, uint8_t *b) {
 }
 
 /* The fields at fault of sixteen bytes: daylight alone, or those out of range. */
-static bool plain_time_faults(UefiBytes bytes, UefiTimeFaults *out) {
-    static const UefiTimeFaults none;
-    if (bytes.n < 16) return false;
+static UefiStatus plain_time_faults(UefiBytes bytes, UefiTimeFaults *out) {
+    if (bytes.n < 16) return UEFI_TOO_SHORT;
     UefiTime time = time_at(bytes.at);
     UefiTimeFaults faults = {.daylight = time.daylight > 3};
     if (!faults.daylight) {
@@ -28,23 +27,24 @@ static bool plain_time_faults(UefiBytes bytes, UefiTimeFaults *out) {
         faults.nanosecond = time.nanosecond > 999999999;
         faults.zone = time.zone != 0x7ff && (time.zone < -1440 || time.zone > 1440);
     }
-    if (!memcmp(&faults, &none, sizeof none)) return false;
-    return *out = faults, true;
+    return *out = faults, UEFI_OK;
 }
 
-static bool plain_time(UefiBytes bytes, UefiTime *out) {
+static UefiStatus plain_time(UefiBytes bytes, UefiTime *out) {
+    static const UefiTimeFaults none;
     UefiTimeFaults faults;
-    if (bytes.n < 16 || plain_time_faults(bytes, &faults)) return false;
-    return *out = time_at(bytes.at), true;
+    if (plain_time_faults(bytes, &faults) != UEFI_OK) return UEFI_TOO_SHORT;
+    if (memcmp(&faults, &none, sizeof none)) return UEFI_BAD_TIME;
+    return *out = time_at(bytes.at), UEFI_OK;
 }
 
 /* A time is written if its fields are within their ranges; daylight may be any number. */
-static bool plain_write_time(const UefiTime *time, uint8_t *to) {
+static UefiStatus plain_write_time(uint8_t *to, const UefiTime *time) {
     uint8_t b[16];
-    UefiTimeFaults faults;
+    UefiTime read;
     put_time(time, b), b[14] = 0;
-    if (plain_time_faults(uefi_bytes(b, 16), &faults)) return false;
-    return put_time(time, to), true;
+    if (plain_time(uefi_bytes(b, 16), &read) != UEFI_OK) return UEFI_BAD_TIME;
+    return put_time(time, to), UEFI_OK;
 }
 
 /* Makes times that are near the ends of the ranges. */
@@ -61,7 +61,7 @@ static void one_time(UefiBytes bytes) {
     if (bytes.n < 16) return;
     UefiTime time = time_at(bytes.at);
     if (any() & 1) time.daylight = any();
-    WRITE_TO(16, write_time, &time, buffer.at);
+    WRITE_TO(16, write_time, buffer.at, &time);
 }
 
 /* Where the name ends that is at an offset of the bytes that were written; 0 if it doesn't. */
@@ -73,34 +73,36 @@ static size_t plain_name(UefiBytes buffer, size_t written, size_t offset) {
 }
 
 /* Whether a record of this length is within the buffer. If it isn't, the caller learns the size that is needed. */
-static bool is_within(UefiBytes buffer, size_t end, size_t *needed) {
+static UefiStatus is_within(UefiBytes buffer, size_t end, size_t *needed) {
     size_t size = (end + 7) / 8 * 8;
-    if (end && size <= buffer.n) return true;
-    return *needed = size, false;
+    if (end && size <= buffer.n) return UEFI_OK;
+    return *needed = size, end ? UEFI_BUFFER_TOO_SMALL : UEFI_NOT_NUL_TERMINATED;
 }
 
-static bool plain_file_info(UefiBytes buffer, size_t written, UefiFileInfo *out, size_t *needed) {
+static UefiStatus plain_file_info(UefiBytes buffer, size_t written, UefiFileInfo *out, size_t *needed) {
     const uint8_t *b = buffer.at;
     size_t end = plain_name(buffer, written, 80);
-    if (!is_within(buffer, end, needed)) return false;
+    UefiStatus status = is_within(buffer, end, needed);
+    if (status != UEFI_OK) return status;
     *out = (UefiFileInfo){{b + 80, end - 80}, u64_at(b), u64_at(b + 8), u64_at(b + 16), u64_at(b + 72),
                           time_at(b + 24), time_at(b + 40), time_at(b + 56)};
-    return true;
+    return UEFI_OK;
 }
 
-static bool plain_file_system_info(UefiBytes buffer, size_t written, UefiFileSystemInfo *out, size_t *needed) {
+static UefiStatus plain_file_system_info(UefiBytes buffer, size_t written, UefiFileSystemInfo *out, size_t *needed) {
     const uint8_t *b = buffer.at;
     size_t end = plain_name(buffer, written, 36);
-    if (!is_within(buffer, end, needed)) return false;
+    UefiStatus status = is_within(buffer, end, needed);
+    if (status != UEFI_OK) return status;
     *out = (UefiFileSystemInfo){{b + 36, end - 36}, u64_at(b), u64_at(b + 16), u64_at(b + 24),
                                 u32_at(b + 32), b[8] != 0};
-    return true;
+    return UEFI_OK;
 }
 
-static bool plain_volume_label(UefiBytes buffer, size_t written, UefiBytes *out, size_t *needed) {
+static UefiStatus plain_volume_label(UefiBytes buffer, size_t written, UefiBytes *out, size_t *needed) {
     size_t end = plain_name(buffer, written, 0);
-    if (!end) return *needed = 0, false;
-    return *out = (UefiBytes){buffer.at, end}, true;
+    if (!end) return *needed = 0, UEFI_NOT_NUL_TERMINATED;
+    return *out = (UefiBytes){buffer.at, end}, UEFI_OK;
 }
 
 static void one_record(UefiBytes buffer, size_t written) {
@@ -140,11 +142,12 @@ uint8_t plain_byte(const uint8_t *b, size_t n) {
     return low < 0 ? 0 : b[0] == '+' ? low : high < 0 ? 0 : 16 * high + low;
 }
 
-bool plain_hex(UefiBytes text, UefiBuffer buffer, size_t *size) {
-    *size = is_utf8(text) ? (text.n + 1) / 2 : 0;
-    if (!is_utf8(text) || *size > buffer.n) return false;
+UefiStatus plain_hex(UefiBuffer buffer, UefiBytes text, size_t *size) {
+    if (!is_utf8(text)) return *size = 0, UEFI_NOT_TEXT;
+    *size = (text.n + 1) / 2;
+    if (*size > buffer.n) return UEFI_BUFFER_TOO_SMALL;
     for (size_t i = 0; i < *size; i++) buffer.at[i] = plain_byte(text.at + 2 * i, text.n - 2 * i);
-    return true;
+    return UEFI_OK;
 }
 
 static void one_text(UefiBytes text) {
@@ -154,27 +157,27 @@ static void one_text(UefiBytes text) {
     if (any() & 1)
         for (size_t i = 0; i < text.n; i++) b[i] = any() & 7 ? "0123456789abcdefABCDEF+g"[below(24)] : (char)(any() & 127);
     if (any() & 3 && text.n > 4) memcpy(b + below(text.n - 4), pieces[below(5)], 2 + below(3));
-    WRITE(hex, text, buffer, &size);
+    WRITE(hex, buffer, text, &size);
 }
 
-static bool plain_write_event(UefiBuffer buffer, UefiBytes data, const uint8_t *digest, uint32_t pcr,
-                              uint32_t type, size_t *size) {
+static UefiStatus plain_write_event(UefiBuffer buffer, UefiBytes data, const uint8_t *digest, uint32_t pcr,
+                                    uint32_t type, size_t *size) {
     uint8_t *b = buffer.at;
     uint32_t length = data.n;
     *size = 32 + data.n;
-    if (*size > buffer.n) return false;
+    if (*size > buffer.n) return UEFI_BUFFER_TOO_SMALL;
     memcpy(b, &pcr, 4), memcpy(b + 4, &type, 4), memcpy(b + 8, digest, 20), memcpy(b + 28, &length, 4);
-    return memcpy(b + 32, data.at, data.n), true;
+    return memcpy(b + 32, data.at, data.n), UEFI_OK;
 }
 
 /* The size, the header (its size, 14, and the version, 1), the register, the type, and the data. */
-static bool plain_write_event_inputs(UefiBuffer buffer, UefiBytes data, uint32_t pcr, uint32_t type, size_t *size) {
+static UefiStatus plain_write_event_inputs(UefiBuffer buffer, UefiBytes data, uint32_t pcr, uint32_t type, size_t *size) {
     static const uint8_t header[] = {14, 0, 0, 0, 1, 0};
     uint8_t *b = buffer.at;
     uint32_t length = *size = 18 + data.n;
-    if (*size > buffer.n) return false;
+    if (*size > buffer.n) return UEFI_BUFFER_TOO_SMALL;
     memcpy(b, &length, 4), memcpy(b + 4, header, 6), memcpy(b + 10, &pcr, 4), memcpy(b + 14, &type, 4);
-    return memcpy(b + 18, data.at, data.n), true;
+    return memcpy(b + 18, data.at, data.n), UEFI_OK;
 }
 
 static void one_event_written(UefiBytes data) {

@@ -10,9 +10,9 @@ static int count(UefiBytes bytes) {
     UefiNode node;
     size_t at = 0;
     int nodes = 0;
-    if (!uefi_path(bytes, &path))
+    if (uefi_path(bytes, &path) != UEFI_OK)
         return -1;
-    while (uefi_path_next_node(path, &at, &node))
+    while (uefi_path_next_node(path, &at, &node) == UEFI_OK)
         nodes++;
     return nodes;
 }

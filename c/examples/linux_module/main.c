@@ -3,14 +3,13 @@
  * Reads a memory map and an event log in the kernel: insmod uefi_boot.ko map=FILE log=FILE bank=11
  *
  * It prints each range of the map, and what the PCRs of a bank (of the TPM's algorithm, 11 for SHA-256) hold after the
- * events of the log. A map or log that is damaged isn't loaded: insmod fails with EBADMSG.
+ * events of the log. If the map or the log is damaged, insmod fails with EBADMSG.
  */
 #define pr_fmt(fmt) KBUILD_MODNAME ": " fmt
 
 #include <linux/kernel_read_file.h>
 #include <linux/module.h>
 #include <linux/slab.h>
-#include <linux/string.h>
 #include <linux/vmalloc.h>
 
 #include <uefi_formats.h>
@@ -28,71 +27,83 @@ static ushort bank = UEFI_TPM_ALG_SHA256;
 module_param(bank, ushort, 0444);
 MODULE_PARM_DESC(bank, "the TPM's number of the PCRs' algorithm, 11 by default");
 
+/* Prints a range of a memory map, with the name of its type. */
+static void print_range(const UefiDescriptor *range)
+{
+	UefiBytes name;
+
+	if (uefi_memory_type_name(range->memory_type, &name) != UEFI_OK)
+		name = uefi_bytes("unknown", 7);
+	pr_info("range %llx pages %llu type %u %.*s\n", range->phys_start, range->page_count, range->memory_type,
+		UEFI_TEXT(name));
+}
+
 /* Prints the ranges of a memory map. */
 static int read_map(UefiBytes bytes)
 {
 	UefiDescriptor range;
 	size_t i;
 
-	if (!uefi_map_check(bytes, stride))
+	if (uefi_map_check(bytes, stride) != UEFI_OK)
 		return -EBADMSG;
-	for (i = 0; uefi_map_entry(bytes, stride, i, &range); i++)
-		pr_info("range %llx type %u pages %llu\n", range.phys_start, range.memory_type, range.page_count);
+	for (i = 0; uefi_map_entry(bytes, stride, i, &range) == UEFI_OK; i++)
+		print_range(&range);
 	return 0;
 }
 
-/* Whether all bytes from an offset on are 0, or all 0xff: memory that firmware didn't write. */
-static bool is_padding(UefiBytes bytes, size_t at)
-{
-	return at < bytes.n && (bytes.at[at] == 0 || bytes.at[at] == 0xff) &&
-	       !memchr_inv(bytes.at + at, bytes.at[at], bytes.n - at);
-}
-
-/* What is where the walk over a log of either version ends: UEFI_LOG_ENDED if whole events, and padding, fill the bytes. */
-static u32 end_of(UefiBytes bytes)
+/* What is wrong with a log, and from which offset on. Whole events, and padding, fill the bytes of a whole one. */
+static UefiStatus fault_of(UefiBytes bytes, size_t *offset)
 {
 	UefiLogHeader header;
-	UefiEvent1 event1;
-	UefiEvent2 event2;
-	size_t at = 0;
 
-	if (!uefi_log2_header(bytes, bytes.n, &header)) {
-		while (!is_padding(bytes, at) && uefi_log1_next(bytes, bytes.n, &at, &event1))
-			;
-		return is_padding(bytes, at) ? UEFI_LOG_ENDED : uefi_log1_state(bytes, bytes.n, at);
-	}
 	/* A table of many rows makes a log slow to read. That of a real log has one to five. */
-	if (header.rows.n / 4 > 8)
-		return UEFI_LOG_EVENT;
-	at = header.event_end;
-	while (!is_padding(bytes, at) && uefi_log2_next(bytes, bytes.n, header.rows, &at, &event2))
-		;
-	return is_padding(bytes, at) ? UEFI_LOG_ENDED : uefi_log2_state(bytes, bytes.n, header.rows, at);
+	if (uefi_log2_header(bytes, bytes.n, &header) == UEFI_OK && header.rows.n / 4 > 8)
+		return UEFI_TOO_MANY_ALGORITHMS;
+	return uefi_log_read(bytes, bytes.n, offset);
+}
+
+/* What doesn't fit on the kernel's stack. */
+struct replay {
+	UefiWorkspace workspace;
+	UefiPcr pcrs[24];
+};
+
+/* Prints what each PCR holds. */
+static void print_pcrs(const UefiPcr *pcrs)
+{
+	UefiBytes text;
+	int i;
+
+	for (i = 0; i < 24; i++) {
+		uefi_status_text(pcrs[i].status, &text);
+		if (pcrs[i].status == UEFI_OK)
+			pr_info("pcr %d %*phN\n", i, (int)pcrs[i].size, pcrs[i].value);
+		else
+			pr_info("pcr %d undetermined by event %zu: %.*s\n", i, pcrs[i].index, UEFI_TEXT(text));
+	}
 }
 
 /* Prints the PCRs that a whole log leads to. */
 static int read_log(UefiBytes bytes)
 {
-	UefiPcr *pcrs;
-	u32 state = end_of(bytes);
-	int i, error = 0;
+	struct replay *replay;
+	UefiBytes text;
+	size_t offset = 0;
+	UefiStatus status = fault_of(bytes, &offset);
 
-	if (state != UEFI_LOG_ENDED) {
-		pr_err("the log is damaged: %u\n", state);
+	if (status != UEFI_OK) {
+		uefi_status_text(status, &text);
+		pr_err("the log is damaged at %zu: %.*s\n", offset, UEFI_TEXT(text));
 		return -EBADMSG;
 	}
-	pcrs = kcalloc(24, sizeof(*pcrs), GFP_KERNEL);
-	if (!pcrs)
+	replay = kmalloc(sizeof(*replay), GFP_KERNEL);
+	if (!replay)
 		return -ENOMEM;
-	if (!uefi_replay(bytes, bytes.n, bank, UEFI_LOCALITY_OF_LOG, pcrs))
-		error = -EINVAL;
-	for (i = 0; !error && i < 24; i++)
-		if (pcrs[i].fault == UEFI_PCR_DETERMINED)
-			pr_info("pcr %d %*phN\n", i, (int)pcrs[i].size, pcrs[i].value);
-		else
-			pr_info("pcr %d undetermined by event %zu\n", i, pcrs[i].index);
-	kfree(pcrs);
-	return error;
+	status = uefi_replay(bytes, bytes.n, bank, UEFI_LOCALITY_OF_LOG, &replay->workspace, replay->pcrs);
+	if (status == UEFI_OK)
+		print_pcrs(replay->pcrs);
+	kfree(replay);
+	return status == UEFI_OK ? 0 : -EINVAL;
 }
 
 /* Reads a file, if it is named, by a function over its bytes. */

@@ -12,10 +12,10 @@ pub mod LoadOptionParts
 pub mod EventBytes
 pub mod SignatureLists
 pub mod GptEntries
-pub mod PcrSteps
 pub mod QuoteRead
 pub mod QuoteSets
 pub mod QuoteBanks
+pub mod WorkspaceBanks
 pub mod SelectionSteps
 pub mod WalkSteps
 pub mod PassedDigests

@@ -10,7 +10,8 @@ use Rattle.uefi_base.specs.Views.{error_data}
 use Rattle.uefi_base.proofs.UnitsOfBytes.{half_as_many_units, units_by_place}
 use Rattle.uefi_records.specs.file.Name.{first_zero, record_size, units_from}
 use Rattle.uefi_records.specs.file.Verdict.{Verdict, without_name, too_small, accepted, judged, verdict, Refuses}
-use Rattle.uefi_c.specs.Info.{NeedsSize}
+use Rattle.uefi_c.specs.Info.{HasStatus, NeedsSize}
+use Rattle.uefi_c.specs.Status.{buffer_too_small, not_nul_terminated}
 
 -- The first zero unit is one of the units.
 first_within : (units : List ℕ) (start index : ℕ) → position_from (λ unit. unit == 0) start units ≡ Some index
@@ -112,3 +113,16 @@ pub needs : (v : Verdict) (error : Error (Option ℕ)) (needed : ℕ) → Refuse
 needs without_name error needed refuses is = is ∙ ap (λ (o : Option ℕ). unwrap_or o 0) refuses.1
 needs (too_small size) error needed refuses is = is ∙ ap (λ (o : Option ℕ). unwrap_or o 0) refuses.1
 needs (accepted name) error needed refuses is = absurd refuses
+
+-- The status that is beside an error, by whether it has a size.
+pub status_with : (v : Verdict) (error : Error (Option ℕ)) → Refuses v error → (size : ℕ) → error_data error ≡ Some size
+    → HasStatus v buffer_too_small
+status_with without_name error refuses size is = let no : None ≡ Some size = sym refuses.1 ∙ is in cc
+status_with (too_small n) error refuses size is = refl
+status_with (accepted name) error refuses size is = absurd refuses
+
+pub status_without : (v : Verdict) (error : Error (Option ℕ)) → Refuses v error → error_data error ≡ None
+    → HasStatus v not_nul_terminated
+status_without without_name error refuses is = refl
+status_without (too_small n) error refuses is = let no : Some n ≡ None = sym refuses.1 ∙ is in cc
+status_without (accepted name) error refuses is = absurd refuses

@@ -1,15 +1,22 @@
 -- The selections of a quote, one after another.
-use Rattle.std.proofs.Common.{◌≡◌, ℕ, ◌+◌, ◌<◌, ◌≤◌, ◌⊎◌, inl, inr, List, [], ◌∷◌, ◌++◌, length, map, take, get_or, Some, None, sym, ap, ◌∙◌}
-use Rattle.std.specs.Prelude.{slice_get}
+use Rattle.std.proofs.Common.{◌≡◌, ℕ, ◌+◌, ◌<◌, ◌≤◌, ◌⊎◌, inl, inr, List, [], ◌∷◌, ◌++◌, length, map, take, get_or, Some, None, refl, sym, ap, ◌∙◌}
+use Rattle.std.specs.Prelude.{◌≢◌, slice_get}
 use Rattle.std.specs.Option.{option_map}
+use Rattle.std.proofs.lemmas.Bool.{ne_eqb}
 use Rattle.std.proofs.lemmas.List.{map-append, take_all, take_more}
 use Rattle.std.proofs.lemmas.Option.{slice_get_cases}
 use Rattle.tpm_quote.specs.PcrSelection.{PcrSelection}
+use Rattle.uefi_c.specs.EventData.{given}
+use Rattle.uefi_c.specs.Status.{ok}
 use Rattle.uefi_c.specs.Quote.{selection_given, selection_seen}
 use Rattle.uefi_c.specs.declared.quote.UefiPcrSelection.{UefiPcrSelection}
 
 some_is : (one other : ℕ × ℕ) → Some one ≡ Some other → one ≡ other
 some_is one other e = cc
+
+-- A call that gave none.
+pub given_none : (status : ℕ) (found : ℕ × ℕ) → status ≢ ok → given status found ≡ None
+given_none status found other = simp (ne_eqb status ok other) refl
 
 module _ (selections : List PcrSelection) (index : ℕ) where
   abbrev Cases : Type 0

@@ -6,6 +6,7 @@ use Rattle.uefi_records.specs.file.Verdict.{Verdict, without_name, too_small, ac
 use Rattle.uefi_records.specs.time.Fields.{without_pads}
 use Rattle.uefi_c.specs.declared.info.UefiFileInfo.{UefiFileInfo}
 use Rattle.uefi_c.specs.declared.info.UefiFileSystemInfo.{UefiFileSystemInfo}
+use Rattle.uefi_c.specs.Status.{buffer_too_small, not_nul_terminated, ok}
 use Rattle.uefi_c.specs.Time.{time_seen}
 
 -- The size that a buffer needs, by the verdict on it: that of the record if the buffer is too small, 0 if there is no name.
@@ -13,6 +14,12 @@ abbrev pub NeedsSize : Verdict → ℕ → Type 0
 NeedsSize without_name needed = needed ≡ 0
 NeedsSize (too_small size) needed = needed ≡ size
 NeedsSize (accepted name) needed = ⊥
+
+-- The status of a verdict.
+abbrev pub HasStatus : Verdict → ℕ → Type 0
+HasStatus without_name status = status ≡ not_nul_terminated
+HasStatus (too_small size) status = status ≡ buffer_too_small
+HasStatus (accepted name) status = status ≡ ok
 
 abbrev pub file_seen : UefiFileInfo → FileFields
 file_seen seen = record {

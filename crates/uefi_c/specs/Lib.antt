@@ -1,6 +1,7 @@
+pub mod Status
 pub mod Cursor
 pub mod Path
-pub mod State
+pub mod Faults
 pub mod Map
 pub mod Log1
 pub mod Log2
@@ -11,6 +12,7 @@ pub mod Config
 pub mod LoadOption
 pub mod EventData
 pub mod Replay
+pub mod Workspace
 pub mod Quote
 pub mod QuoteDigest
 pub mod Signatures

@@ -5,6 +5,7 @@ use Rattle.uefi_path.specs.Node.{joined}
 use Rattle.uefi_path.specs.LoadOption.{LoadOption, IsLoadOption, load_option_bytes, file_path_list, with_nul}
 use Rattle.uefi_path.specs.declared.load_option_error.LoadOptionError.{LoadOptionError}
 use Rattle.uefi_path.specs.declared.load_option_error.LoadOptionError.TheVariants.{TooShort, NotNulTerminated, FilePathListTooLong, FilePath}
+use Rattle.uefi_c.specs.Status.{file_path_list_too_long, no_file_path, not_nul_terminated, too_short}
 use Rattle.uefi_c.specs.declared.load_option.UefiLoadOption.{UefiLoadOption}
 
 -- What a call gives of a load option: the bytes of its parts.
@@ -19,9 +20,9 @@ pub record Shows (option : LoadOption) (seen : UefiLoadOption) : Type 0 where
 abbrev pub IsSeenOf : List ℕ → UefiLoadOption → Type 0
 IsSeenOf bytes seen = (option : LoadOption) × IsLoadOption option × (bytes ≡ load_option_bytes option) × Shows option seen
 
--- The number of each error.
-abbrev pub error_number : LoadOptionError → ℕ
-error_number TooShort = 1
-error_number NotNulTerminated = 2
-error_number FilePathListTooLong = 3
-error_number (FilePath fault) = 4
+-- The status of each error.
+abbrev pub status_of : LoadOptionError → ℕ
+status_of TooShort = too_short
+status_of NotNulTerminated = not_nul_terminated
+status_of FilePathListTooLong = file_path_list_too_long
+status_of (FilePath fault) = no_file_path

@@ -5,6 +5,7 @@ use Rattle.tpm_quote.specs.PcrSelection.{PcrSelection, selected_pcrs}
 use Rattle.tpm_quote.specs.Quote.{Quote, IsQuote, quote_bytes}
 use Rattle.tpm_quote.specs.declared.quote_error.QuoteError.{QuoteError}
 use Rattle.tpm_quote.specs.declared.quote_error.QuoteError.TheVariants.{NotGenerated, NotQuote, Safe, Selection, TooShort, LeftOver}
+use Rattle.uefi_c.specs.Status.{bad_safe, bad_selection, left_over, not_generated, not_quote, too_short}
 use Rattle.uefi_c.specs.declared.quote.UefiPcrSelection.{UefiPcrSelection}
 use Rattle.uefi_c.specs.declared.quote.UefiQuote.{UefiQuote}
 
@@ -35,14 +36,14 @@ quote_seen seen selections = record {
 abbrev pub HasFields : List ℕ → UefiQuote → Type 0
 HasFields bytes seen = (selections : List PcrSelection) × AreQuote bytes (quote_seen seen selections)
 
--- The number of each fault.
-abbrev pub fault_number : QuoteError → ℕ
-fault_number NotGenerated = 1
-fault_number (NotQuote kind) = 2
-fault_number (Safe value) = 3
-fault_number Selection = 4
-fault_number TooShort = 5
-fault_number LeftOver = 6
+-- The status of each fault.
+abbrev pub status_of : QuoteError → ℕ
+status_of NotGenerated = not_generated
+status_of (NotQuote kind) = not_quote
+status_of (Safe value) = bad_safe
+status_of Selection = bad_selection
+status_of TooShort = too_short
+status_of LeftOver = left_over
 
 -- PCRs as a set of bits: bit n is PCR n.
 abbrev pub set_of : List ℕ → ℕ

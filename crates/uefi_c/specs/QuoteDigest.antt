@@ -7,7 +7,8 @@ use Rattle.pcr_replay.specs.declared.quote.NoQuoteDigest.{NoQuoteDigest}
 use Rattle.pcr_replay.specs.declared.quote.NoQuoteDigest.TheVariants.{NoBank, Undetermined}
 use Rattle.pcr_replay.specs.declared.fault.Undetermined.{Undetermined as EventOf}
 use Rattle.uefi_c.specs.Quote.{AreQuote}
-use Rattle.uefi_c.specs.Replay.{fault_of}
+use Rattle.uefi_c.specs.Replay.{IsPcrStatus, fault_of}
+use Rattle.uefi_c.specs.Status.{no_bank, ok}
 use Rattle.uefi_c.specs.declared.quote_digest.UefiQuoteDigest.{UefiQuoteDigest}
 
 -- The hash function of this algorithm; or for 0, which is none, the first one whose digests have the length of the quote's.
@@ -19,17 +20,17 @@ IsHash algorithm quote hash =
 abbrev pub HasHash : List ℕ → ℕ → Type 0
 HasHash bytes algorithm = (quote : Quote) × AreQuote bytes quote × ((hash : Bank) × IsHash algorithm quote hash)
 
--- The fault where a PCR is selected of a bank that isn't active in the log, or that can't be replayed.
-abbrev pub no_bank : ℕ
-no_bank = 7
+-- The statuses of a digest.
+abbrev pub IsDigestStatus : ℕ → Type 0
+IsDigestStatus status = (status ≡ no_bank) ⊎ IsPcrStatus status
 
 -- The event by which a PCR is undetermined.
 abbrev pub event_seen : UefiQuoteDigest → EventOf
-event_seen seen = record { index = seen.index; offset = seen.offset; fault = fault_of seen.fault }
+event_seen seen = record { index = seen.index; offset = seen.offset; fault = fault_of seen.status }
 
--- What a call gave: with the fault 0 a digest, else why there is none.
+-- What a call gave: on success a digest, else why there is none.
 abbrev pub digest_seen : UefiQuoteDigest → Result (List ℕ) NoQuoteDigest
 digest_seen seen =
-    if seen.fault == 0 then Ok (take seen.size seen.value)
-    else if seen.fault == no_bank then Err (NoBank (record { 0 = seen.algorithm }))
+    if seen.status == ok then Ok (take seen.size seen.value)
+    else if seen.status == no_bank then Err (NoBank (record { 0 = seen.algorithm }))
     else Err (Undetermined (record { 0 = seen.algorithm }) (record { 0 = seen.pcr_index }) (event_seen seen))

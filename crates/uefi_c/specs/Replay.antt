@@ -1,5 +1,5 @@
 -- Logs and PCRs (`pcr_replay`) of plain numbers.
-use Rattle.std.specs.Prelude.{ℕ, ◌==◌, List, Ok, Err, nat_le, nat_lt, length, take, if◌then◌else◌}
+use Rattle.std.specs.Prelude.{ℕ, ◌≡◌, ◌==◌, ◌⊎◌, List, [], ◌∷◌, Ok, Err, nat_le, nat_lt, length, take, if◌then◌else◌}
 use Rattle.std.specs.Borrow.{Bor}
 use Rattle.pcr_replay.specs.declared.fault.Fault.{Fault}
 use Rattle.pcr_replay.specs.declared.fault.Fault.TheVariants.{NoDigest, TwoDigests, OtherLength, UnknownLocality, OtherLocality, LateLocality}
@@ -10,6 +10,7 @@ use Rattle.pcr_replay.specs.declared.start.Start.{Start}
 use Rattle.uefi_tcg.specs.Entries.{Entry}
 use Rattle.pcr_replay.specs.Replay.{Outcome}
 use Rattle.pcr_replay.specs.Start.{start_at, start_in}
+use Rattle.uefi_c.specs.Status.{IsOneOf, late_locality, no_digest, ok, other_length, other_locality, two_digests, unknown_locality}
 use Rattle.uefi_c.specs.declared.replay.UefiPcr.{UefiPcr}
 
 -- The last entry that a number stands for in a log of this length: 1 says that the log is empty, and the length or more that it isn't known.
@@ -24,18 +25,26 @@ log_given bytes last_entry = record { bytes = bytes; last_entry = last_entry_giv
 abbrev pub start_given : ℕ → List Entry → Start
 start_given locality entries = if nat_lt locality 256 then start_at locality else start_in entries
 
--- The fault of a number from 1 to 6.
+-- The statuses of a PCR that is undetermined, and of any.
+abbrev pub IsPcrFault : ℕ → Type 0
+IsPcrFault status =
+    IsOneOf status (no_digest ∷ two_digests ∷ other_length ∷ unknown_locality ∷ other_locality ∷ late_locality ∷ [])
+
+abbrev pub IsPcrStatus : ℕ → Type 0
+IsPcrStatus status = (status ≡ ok) ⊎ IsPcrFault status
+
+-- The fault of one of them.
 abbrev pub fault_of : ℕ → Fault
-fault_of number =
-    if number == 1 then NoDigest
-    else if number == 2 then TwoDigests
-    else if number == 3 then OtherLength
-    else if number == 4 then UnknownLocality
-    else if number == 5 then OtherLocality
+fault_of status =
+    if status == no_digest then NoDigest
+    else if status == two_digests then TwoDigests
+    else if status == other_length then OtherLength
+    else if status == unknown_locality then UnknownLocality
+    else if status == other_locality then OtherLocality
     else LateLocality
 
--- What a PCR holds: with the fault 0 a value, else the event by which it is undetermined.
+-- What a PCR holds: on success a value, else the event by which it is undetermined.
 abbrev pub outcome_seen : UefiPcr → Outcome
 outcome_seen seen =
-    if seen.fault == 0 then Ok (take seen.size seen.value)
-    else Err (record { index = seen.index; offset = seen.offset; fault = fault_of seen.fault })
+    if seen.status == ok then Ok (take seen.size seen.value)
+    else Err (record { index = seen.index; offset = seen.offset; fault = fault_of seen.status })

@@ -1,6 +1,6 @@
 //! Callers of the exported functions: what the loops of a C program over them find.
 //!
-//! Each loop calls its function from the start until it returns false. What it finds is proved to
+//! Each loop calls its function from the start while it returns success. What it finds is proved to
 //! be the list that the library's iterator gives.
 
 mod instances;

@@ -1,9 +1,11 @@
-ghost use Rattle.std.specs.Prelude.{◌≡◌, ◌<◌, ◌≤◌, [], ◌∷◌, drop, length, IsTrue, IsFalse, IfSome, IfNone};
+ghost use Rattle.std.specs.Prelude.{◌≡◌, ◌<◌, ◌≤◌, [], ◌∷◌, drop, length, IfSome, IfNone, ◌≢◌};
 ghost use Rattle.uefi_hii.specs.Pairs.{pairs};
 ghost use Rattle.uefi_hii.specs.Views.{pair_view};
 ghost use Rattle.uefi_c.specs.Config.{pair_seen};
+ghost use Rattle.uefi_c.specs.Status.{ended, IsOneOf, ok};
 
 use crate::cursor::bytes_from;
+use crate::status::{self, UefiStatus};
 use uefi_hii::next_pair;
 
 /// A key of a configuration text, and its value if it has one.
@@ -24,21 +26,22 @@ pub extern "C" fn uefi_config_next_pair<'a>(
     text: &'a [u8],
     offset: &mut usize,
     out: &mut UefiPair<'a>,
-) -> bool
-    ensures pair { IsTrue result → pairs (drop offset.old text.now)
+) -> UefiStatus
+    ensures pair { result ≡ ok → pairs (drop offset.old text.now)
         ≡ pair_seen out.new ∷ pairs (drop offset.new text.now) }
-    ensures moves { IsTrue result → offset.old < offset.new }
-    ensures within { IsTrue result → offset.new ≤ length text.now }
-    ensures none { IsFalse result → pairs (drop offset.old text.now) ≡ [] }
-    ensures offset_unchanged { IsFalse result → offset.new ≡ offset.old }
-    ensures out_unchanged { IsFalse result → out.new ≡ out.old }
+    ensures moves { result ≡ ok → offset.old < offset.new }
+    ensures within { result ≡ ok → offset.new ≤ length text.now }
+    ensures known { IsOneOf result (ok ∷ ended ∷ []) }
+    ensures none { result ≢ ok → pairs (drop offset.old text.now) ≡ [] }
+    ensures offset_unchanged { result ≢ ok → offset.new ≡ offset.old }
+    ensures out_unchanged { result ≢ ok → out.new ≡ out.old }
 {
     let Some((pair, end)) = pair_at(text, *offset) else {
-        return false;
+        return status::END;
     };
     *out = pair;
     *offset = end;
-    true
+    status::OK
 }
 
 /// Returns the pair of a configuration text at the offset, and the offset of the next.

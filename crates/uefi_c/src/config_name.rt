@@ -1,9 +1,11 @@
-ghost use Rattle.std.specs.Prelude.{◌≡◌, ◌↔◌, ◌+◌, ◌*◌, ◌≤◌, length, IsTrue, IsFalse, IsSome, MatchOption};
+ghost use Rattle.std.specs.Prelude.{◌≡◌, ◌↔◌, ◌+◌, ◌*◌, ◌≤◌, length, IsSome, MatchOption, ◌≢◌, [], ◌∷◌};
 ghost use Rattle.uefi_base.specs.Buffer.{put_prefix};
 ghost use Rattle.uefi_hii.specs.Values.{name};
 ghost use Rattle.uefi_c.specs.Config.{HasName, name_of};
+ghost use Rattle.uefi_c.specs.Status.{buffer_too_small, IsOneOf, not_text, ok};
 
 use crate::character::{character_of, put_character};
+use crate::status::{self, UefiStatus};
 use uefi_base::buffer::length_fits;
 use uefi_hii::ConfigurationString;
 
@@ -14,31 +16,33 @@ use uefi_hii::ConfigurationString;
 /// `uefi_hex`. Two of them are a unit, the high byte first, and a character: not zero, and no
 /// surrogate. An odd last byte is 0, and no unit. A name may be empty.
 ///
-/// If it returns false, all bytes stay as they were, and `size` is the length that the buffer
-/// needs, or 0 if the value spells no name.
+/// If it returns another status than success, all bytes stay as they were, and `size` is the length
+/// that the buffer needs, or 0 if the value spells no name.
 #[unsafe(no_mangle)]
-pub extern "C" fn uefi_config_name(value: &[u8], buffer: &mut [u8], size: &mut usize) -> bool
-    ensures fits { IsTrue result
+pub extern "C" fn uefi_config_name(buffer: &mut [u8], value: &[u8], size: &mut usize) -> UefiStatus
+    ensures fits { (result ≡ ok)
         ↔ HasName value.now × (length (name_of value.now) ≤ length buffer.old) }
-    ensures written { IsTrue result → buffer.new ≡ put_prefix (name_of value.now) buffer.old }
+    ensures known { IsOneOf result (ok ∷ buffer_too_small ∷ not_text ∷ []) }
+    ensures no_such_name { (result ≡ not_text) ↔ ¬ HasName value.now }
+    ensures written { result ≡ ok → buffer.new ≡ put_prefix (name_of value.now) buffer.old }
     ensures size { HasName value.now → size.new ≡ length (name_of value.now) }
     ensures no_name { ¬ HasName value.now → size.new ≡ 0 }
-    ensures unchanged { IsFalse result → buffer.new ≡ buffer.old }
+    ensures unchanged { result ≢ ok → buffer.new ≡ buffer.old }
 {
     let Ok(text) = str::from_utf8(value) else {
         *size = 0;
-        return false;
+        return status::NOT_TEXT;
     };
     let Some(length) = name_length(text) else {
         *size = 0;
-        return false;
+        return status::NOT_TEXT;
     };
     *size = length;
     if buffer.len() < length {
-        return false;
+        return status::BUFFER_TOO_SMALL;
     }
     write_name(text, buffer);
-    true
+    status::OK
 }
 
 /// Returns the length in UTF-8 of the name that a value spells, or `None` if it spells none.

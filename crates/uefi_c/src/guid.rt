@@ -5,7 +5,7 @@ ghost use Rattle.uefi_base.specs.GuidText.{guid_text};
 /// Writes the text of a GUID: five groups of lowercase hex digits, separated by dashes, of which the
 /// first three are the little-endian numbers of the GUID.
 #[unsafe(no_mangle)]
-pub extern "C" fn uefi_guid_text(guid: &[u8; 16], text: &mut [u8; 36])
+pub extern "C" fn uefi_guid_text(text: &mut [u8; 36], guid: &[u8; 16])
     ensures { text.new ≡ guid_text guid.now }
 {
     let [a, b, c, d, e, f, g, h, i, j, k, l, m, n, o, p] = *guid;

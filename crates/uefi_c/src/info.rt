@@ -1,11 +1,15 @@
-ghost use Rattle.std.specs.Prelude.{◌≡◌, ◌+◌, ◌*◌, ◌≤◌, length, take, drop, IsTrue, IsFalse};
+ghost use Rattle.std.specs.Prelude.{◌≡◌, ◌+◌, ◌*◌, ◌≤◌, length, take, drop, ◌≢◌};
 ghost use Rattle.uefi_base.specs.Unaligned.{units_of};
 ghost use Rattle.uefi_records.specs.file.FileInfo.{file_fields, file_info_verdict, size_in};
 ghost use Rattle.uefi_records.specs.file.FileSystemInfo.{file_system_fields, file_system_info_verdict, volume_label_verdict};
 ghost use Rattle.uefi_records.specs.file.Verdict.{accepted};
-ghost use Rattle.uefi_c.specs.Info.{NeedsSize, file_seen, without_padding, file_system_seen};
+ghost use Rattle.uefi_records.specs.file.Verdict.{Refuses, Verdict};
+ghost use Rattle.uefi_c.specs.Info.{HasStatus, NeedsSize, file_seen, without_padding, file_system_seen};
+ghost use Rattle.uefi_c.specs.Status.{ok};
 
+use crate::status::{self, UefiStatus};
 use crate::time::{UefiTime, seen};
+use uefi_base::Error;
 use uefi_records::{FileInfo, FileSystemInfo, FileSystemVolumeLabel};
 
 /// The offset of the name in a file information record.
@@ -56,24 +60,26 @@ pub struct UefiFileSystemInfo<'a> {
 
 /// Reads the file information record in the first `written` bytes of the buffer.
 ///
-/// If it returns false, `needed` is the size of the record if the buffer is too small for it, and 0
-/// if the written bytes have no name.
+/// If it isn't there, `needed` is the size of the record if the buffer is too small for it, and 0 if
+/// the written bytes have no name.
 #[unsafe(no_mangle)]
 pub extern "C" fn uefi_file_info<'a>(
     buffer: &'a [u8],
     written: usize,
     out: &mut UefiFileInfo<'a>,
     needed: &mut usize,
-) -> bool
-    ensures name { IsTrue result
+) -> UefiStatus
+    ensures name { result ≡ ok
         → file_info_verdict (take written buffer.now) (length buffer.now)
         ≡ accepted (units_of out.new.name.now) }
-    ensures size { IsTrue result → out.new.size ≡ size_in buffer.now }
-    ensures fields { IsTrue result
+    ensures size { result ≡ ok → out.new.size ≡ size_in buffer.now }
+    ensures fields { result ≡ ok
         → file_seen out.new ≡ without_padding (file_fields buffer.now) }
-    ensures none { IsFalse result
+    ensures status { HasStatus
+        (file_info_verdict (take written buffer.now) (length buffer.now)) result }
+    ensures none { result ≢ ok
         → NeedsSize (file_info_verdict (take written buffer.now) (length buffer.now)) needed.new }
-    ensures unchanged { IsFalse result → out.new ≡ out.old }
+    ensures unchanged { result ≢ ok → out.new ≡ out.old }
 {
     match FileInfo::from_uefi(buffer, written) {
         Ok(info) => {
@@ -87,34 +93,36 @@ pub extern "C" fn uefi_file_info<'a>(
                 last_access_time: seen(&info.last_access_time()),
                 modification_time: seen(&info.modification_time()),
             };
-            true
+            status::OK
         }
         Err(error) => {
             *needed = error.data().unwrap_or(0);
-            false
+            status_of(&error)
         }
     }
 }
 
 /// Reads the file system information record in the first `written` bytes of the buffer.
 ///
-/// If it returns false, `needed` is the size of the record if the buffer is too small for it, and 0
-/// if the written bytes have no label.
+/// If it isn't there, `needed` is the size of the record if the buffer is too small for it, and 0 if
+/// the written bytes have no label.
 #[unsafe(no_mangle)]
 pub extern "C" fn uefi_file_system_info<'a>(
     buffer: &'a [u8],
     written: usize,
     out: &mut UefiFileSystemInfo<'a>,
     needed: &mut usize,
-) -> bool
-    ensures label { IsTrue result
+) -> UefiStatus
+    ensures label { result ≡ ok
         → file_system_info_verdict (take written buffer.now) (length buffer.now)
         ≡ accepted (units_of out.new.label.now) }
-    ensures size { IsTrue result → out.new.size ≡ size_in buffer.now }
-    ensures fields { IsTrue result → file_system_seen out.new ≡ file_system_fields buffer.now }
-    ensures none { IsFalse result → NeedsSize
+    ensures size { result ≡ ok → out.new.size ≡ size_in buffer.now }
+    ensures fields { result ≡ ok → file_system_seen out.new ≡ file_system_fields buffer.now }
+    ensures status { HasStatus
+        (file_system_info_verdict (take written buffer.now) (length buffer.now)) result }
+    ensures none { result ≢ ok → NeedsSize
         (file_system_info_verdict (take written buffer.now) (length buffer.now)) needed.new }
-    ensures unchanged { IsFalse result → out.new ≡ out.old }
+    ensures unchanged { result ≢ ok → out.new ≡ out.old }
 {
     match FileSystemInfo::from_uefi(buffer, written) {
         Ok(info) => {
@@ -126,11 +134,11 @@ pub extern "C" fn uefi_file_system_info<'a>(
                 block_size: info.block_size(),
                 read_only: info.read_only(),
             };
-            true
+            status::OK
         }
         Err(error) => {
             *needed = error.data().unwrap_or(0);
-            false
+            status_of(&error)
         }
     }
 }
@@ -143,23 +151,36 @@ pub extern "C" fn uefi_volume_label<'a>(
     written: usize,
     label: &mut &'a [u8],
     needed: &mut usize,
-) -> bool
-    ensures label { IsTrue result
+) -> UefiStatus
+    ensures label { result ≡ ok
         → volume_label_verdict (take written buffer.now) (length buffer.now)
         ≡ accepted (units_of label.new.now) }
-    ensures none { IsFalse result → NeedsSize
+    ensures status { HasStatus
+        (volume_label_verdict (take written buffer.now) (length buffer.now)) result }
+    ensures none { result ≢ ok → NeedsSize
         (volume_label_verdict (take written buffer.now) (length buffer.now)) needed.new }
-    ensures unchanged { IsFalse result → label.new ≡ label.old }
+    ensures unchanged { result ≢ ok → label.new ≡ label.old }
 {
     match FileSystemVolumeLabel::from_uefi(buffer, written) {
         Ok(record) => {
             *label = name_bytes(buffer, 0, record.volume_label().len());
-            true
+            status::OK
         }
         Err(error) => {
             *needed = error.data().unwrap_or(0);
-            false
+            status_of(&error)
         }
+    }
+}
+
+/// Returns the status of an error.
+fn status_of(error: &Error<Option<usize>>) -> UefiStatus
+    ensures verdict { (verdict : Verdict) → Refuses verdict error.now → HasStatus verdict result }
+    ensures fault { result ≢ ok }
+{
+    match error.data() {
+        Some(_size) => status::BUFFER_TOO_SMALL,
+        None => status::NOT_NUL_TERMINATED,
     }
 }
 

@@ -2,8 +2,9 @@
 //!
 //! A function takes bytes by a pointer and a length, and most a cursor besides: an offset that the
 //! caller keeps. It reads at the cursor and moves it. Whatever the cursor holds, the contract says
-//! what the function returns, by the definitions of the libraries; where it returns false, all that
-//! it could have written is as it was. No function keeps anything, allocates, or fails to return.
+//! what the function returns, by the definitions of the libraries. A function that can fail returns a
+//! [`status`]: if that isn't success, all that it could have written is as it was, unless its docs
+//! say otherwise. No function keeps anything, allocates, or fails to return.
 //!
 //! [`callers`] has a proved loop over the calls for each list that a library's iterator gives.
 #![tactic(auto)]
@@ -22,17 +23,22 @@ mod info;
 mod load_option;
 mod log1;
 mod log2;
-mod log2_state;
-mod log_state;
+mod log2_fault;
+mod log_end;
+mod log_read;
 mod map;
+mod names;
+mod node_fault;
 mod number;
 mod path;
-mod path_state;
 mod pci;
 mod quote;
 mod quote_digest;
 mod replay;
+mod status;
 mod time;
 mod ucs2;
+mod version;
+pub mod workspace;
 mod write;
 mod write_info;

@@ -4,9 +4,11 @@ ghost use Rattle.uefi_path.specs.LoadOption.{EncodesLoadOption, HasFault, file_p
 ghost use Rattle.uefi_path.specs.Node.{joined};
 ghost use Rattle.uefi_path.specs.LoadOptionViews.{load_option_of};
 ghost use Rattle.uefi_path.specs.declared.load_option_error.LoadOptionError.{LoadOptionError};
-ghost use Rattle.uefi_c.specs.LoadOption.{IsSeenOf, error_number};
+ghost use Rattle.uefi_c.specs.LoadOption.{IsSeenOf, status_of};
+ghost use Rattle.uefi_c.specs.Status.{ok};
 
 use crate::info::name_bytes;
+use crate::status::{self, UefiStatus};
 use uefi_path::{LoadOption, LoadOptionError};
 
 /// The offset of the description.
@@ -31,23 +33,23 @@ pub struct UefiLoadOption<'a> {
 
 /// Reads the load option that the bytes are.
 ///
-/// It returns 0, or why they are none: 1 if there are fewer than six, 2 if no unit of the
-/// description is zero, 3 if fewer bytes follow than the file path list is stated to have, 4 if the
-/// list begins with no device path.
+/// If they are none, it returns why: there are fewer than six, no unit of the description is zero,
+/// fewer bytes follow than the file path list is stated to have, or the list begins with no device
+/// path.
 #[unsafe(no_mangle)]
-pub extern "C" fn uefi_load_option<'a>(bytes: &'a [u8], out: &mut UefiLoadOption<'a>) -> u32
-    ensures option { result ≡ 0 → IsSeenOf bytes.now out.new }
-    ensures fault { result ≢ 0
-        → (error : LoadOptionError) × (result ≡ error_number error) × HasFault bytes.now error }
-    ensures none { result ≢ 0 → ¬ EncodesLoadOption bytes.now }
-    ensures unchanged { result ≢ 0 → out.new ≡ out.old }
+pub extern "C" fn uefi_load_option<'a>(bytes: &'a [u8], out: &mut UefiLoadOption<'a>) -> UefiStatus
+    ensures option { result ≡ ok → IsSeenOf bytes.now out.new }
+    ensures fault { result ≢ ok
+        → (error : LoadOptionError) × (result ≡ status_of error) × HasFault bytes.now error }
+    ensures none { result ≢ ok → ¬ EncodesLoadOption bytes.now }
+    ensures unchanged { result ≢ ok → out.new ≡ out.old }
 {
     match LoadOption::try_from(bytes) {
         Ok(option) => {
             *out = seen(bytes, &option);
-            0
+            status::OK
         }
-        Err(error) => error_number(&error),
+        Err(error) => status_of(&error),
     }
 }
 
@@ -71,14 +73,15 @@ fn seen<'a>(bytes: &'a [u8], option: &LoadOption<'a>) -> UefiLoadOption<'a>
     }
 }
 
-/// Returns the number of an error.
-fn error_number(error: &LoadOptionError) -> u32
-    ensures { result ≡ error_number error.now }
+/// Returns the status of an error.
+fn status_of(error: &LoadOptionError) -> UefiStatus
+    ensures status { result ≡ status_of error.now }
+    ensures fault { result ≢ ok }
 {
     match error {
-        LoadOptionError::TooShort => 1,
-        LoadOptionError::NotNulTerminated => 2,
-        LoadOptionError::FilePathListTooLong => 3,
-        LoadOptionError::FilePath(_) => 4,
+        LoadOptionError::TooShort => status::TOO_SHORT,
+        LoadOptionError::NotNulTerminated => status::NOT_NUL_TERMINATED,
+        LoadOptionError::FilePathListTooLong => status::FILE_PATH_LIST_TOO_LONG,
+        LoadOptionError::FilePath(_) => status::NO_FILE_PATH,
     }
 }

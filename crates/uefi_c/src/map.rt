@@ -1,7 +1,9 @@
-ghost use Rattle.std.specs.Prelude.{◌≡◌, ◌<◌, ◌↔◌, length, Some, IsTrue, IsFalse};
+ghost use Rattle.std.specs.Prelude.{◌≡◌, ◌<◌, ◌↔◌, length, Some, IsTrue, ◌≢◌, [], ◌∷◌};
 ghost use Rattle.uefi_map.specs.memory.Map.{IsMap, AreSorted, IsWithDescriptor, count_of, entry_of};
 ghost use Rattle.uefi_c.specs.Map.{sizes_of, descriptor_of};
+ghost use Rattle.uefi_c.specs.Status.{ended, IsOneOf, not_map, ok};
 
+use crate::status::{self, UefiStatus};
 use uefi_map::{
     MemoryAttribute, MemoryDescriptor, MemoryMap, MemoryMapKey, MemoryMapMeta, MemoryMapMut,
     MemoryMapRef, MemoryMapRefMut, MemoryType,
@@ -25,12 +27,17 @@ pub struct UefiDescriptor {
     pub attribute: u64,
 }
 
-/// Returns whether all the bytes are a map with this stride.
+/// Tests that all the bytes are a map with this stride.
 #[unsafe(no_mangle)]
-pub extern "C" fn uefi_map_check(map: &[u8], stride: usize) -> bool
-    ensures { IsTrue result ↔ IsMap (length map.now) (sizes_of (length map.now) stride) }
+pub extern "C" fn uefi_map_check(map: &[u8], stride: usize) -> UefiStatus
+    ensures map { (result ≡ ok) ↔ IsMap (length map.now) (sizes_of (length map.now) stride) }
+    ensures known { IsOneOf result (ok ∷ not_map ∷ []) }
 {
-    sizes_of(map.len(), stride).is_map_within(map.len())
+    if sizes_of(map.len(), stride).is_map_within(map.len()) {
+        status::OK
+    } else {
+        status::NOT_MAP
+    }
 }
 
 /// Reads the descriptor at an index of the map that all the bytes are.
@@ -40,18 +47,20 @@ pub extern "C" fn uefi_map_entry(
     stride: usize,
     index: usize,
     out: &mut UefiDescriptor,
-) -> bool
+) -> UefiStatus
     ensures found { let sizes = sizes_of (length map.now) stride in
-        IsTrue result ↔ (IsMap (length map.now) sizes × (index < count_of sizes)) }
+        (result ≡ ok) ↔ (IsMap (length map.now) sizes × (index < count_of sizes)) }
+    ensures no_map { (result ≡ not_map) ↔ ¬ IsMap (length map.now) (sizes_of (length map.now) stride) }
+    ensures known { IsOneOf result (ok ∷ ended ∷ not_map ∷ []) }
     ensures entry { let sizes = sizes_of (length map.now) stride in
-        IsTrue result → entry_of map.now sizes index ≡ Some (descriptor_of out.new) }
-    ensures unchanged { IsFalse result → out.new ≡ out.old }
+        result ≡ ok → entry_of map.now sizes index ≡ Some (descriptor_of out.new) }
+    ensures unchanged { result ≢ ok → out.new ≡ out.old }
 {
     let Ok(map) = MemoryMapRef::new(map, sizes_of(map.len(), stride)) else {
-        return false;
+        return status::NOT_MAP;
     };
     let Some(entry) = map.get(index) else {
-        return false;
+        return status::END;
     };
     *out = UefiDescriptor {
         memory_type: entry.ty.0,
@@ -61,7 +70,7 @@ pub extern "C" fn uefi_map_entry(
         page_count: entry.page_count,
         attribute: entry.att.bits(),
     };
-    true
+    status::OK
 }
 
 /// Writes the descriptor at an index of the map that all the bytes are: its forty bytes.
@@ -71,21 +80,23 @@ pub extern "C" fn uefi_map_set(
     stride: usize,
     index: usize,
     entry: &UefiDescriptor,
-) -> bool
+) -> UefiStatus
     ensures found { let sizes = sizes_of (length map.old) stride in
-        IsTrue result ↔ (IsMap (length map.old) sizes × (index < count_of sizes)) }
+        (result ≡ ok) ↔ (IsMap (length map.old) sizes × (index < count_of sizes)) }
+    ensures no_map { (result ≡ not_map) ↔ ¬ IsMap (length map.old) (sizes_of (length map.old) stride) }
+    ensures known { IsOneOf result (ok ∷ ended ∷ not_map ∷ []) }
     ensures written { let sizes = sizes_of (length map.old) stride in
-        IsTrue result → IsWithDescriptor map.old sizes index (descriptor_of entry.now) map.new }
-    ensures unchanged { IsFalse result → map.new ≡ map.old }
+        result ≡ ok → IsWithDescriptor map.old sizes index (descriptor_of entry.now) map.new }
+    ensures unchanged { result ≢ ok → map.new ≡ map.old }
 {
     let sizes = sizes_of(map.len(), stride);
     if !sizes.is_map_within(map.len()) {
-        return false;
+        return status::NOT_MAP;
     }
     let mut map = MemoryMapRefMut::over(map, sizes);
     match map.set(index, descriptor_of(entry)) {
-        Some(_) => true,
-        None => false,
+        Some(_) => status::OK,
+        None => status::END,
     }
 }
 

@@ -1,12 +1,16 @@
-ghost use Rattle.std.specs.Prelude.{◌≡◌, ◌++◌, ◌↔◌, ◌+◌, ◌≤◌, List, ℕ, drop, length, IsTrue, IsFalse, IfSome, IfNone};
+ghost use Rattle.std.specs.Prelude.{◌≡◌, ◌++◌, ◌↔◌, ◌+◌, ◌≤◌, List, ℕ, drop, length, IsTrue, IfSome, IfNone, ◌≢◌, [], ◌∷◌, IfOk, IfErr, IsErr};
 ghost use Rattle.uefi_base.specs.Prefix.{IsPrefix};
 ghost use Rattle.uefi_path.specs.Node.{Node, Fits, encoding, joined, HasNode, IsEnd};
 ghost use Rattle.uefi_path.specs.Path.{IsPath, HasPath};
 ghost use Rattle.uefi_path.specs.private.Encoding.{EncodesInstance};
 ghost use Rattle.uefi_path.specs.Views.{node_of};
+ghost use Rattle.uefi_c.specs.Faults.{HasLastNode, IsNodeFault, MeetsNodeFault};
 ghost use Rattle.uefi_c.specs.Path.{HasInstance, node_seen, IsNextNode, IsNextInstance, EndsWalk};
+ghost use Rattle.uefi_c.specs.Status.{ended, IsOneOf, no_path, ok};
 
 use crate::cursor::bytes_from;
+use crate::node_fault::node_fault;
+use crate::status::{self, UefiStatus};
 use uefi_path::{DevicePath, DevicePathNode, DeviceType};
 
 /// A node of a device path.
@@ -23,61 +27,59 @@ pub struct UefiNode<'a> {
 
 /// Finds the path that the bytes begin with: the one prefix that is a path.
 #[unsafe(no_mangle)]
-pub extern "C" fn uefi_path<'a>(bytes: &'a [u8], path: &mut &'a [u8]) -> bool
-    ensures found { IsTrue result ↔ HasPath bytes.now }
-    ensures path { IsTrue result → (nodes : List Node) → IsPath nodes
+pub extern "C" fn uefi_path<'a>(bytes: &'a [u8], path: &mut &'a [u8]) -> UefiStatus
+    ensures found { (result ≡ ok) ↔ HasPath bytes.now }
+    ensures known { IsOneOf result (ok ∷ no_path ∷ []) }
+    ensures path { result ≡ ok → (nodes : List Node) → IsPath nodes
         → IsPrefix (joined nodes) bytes.now → path.new.now ≡ joined nodes }
-    ensures unchanged { IsFalse result → path.new ≡ path.old }
+    ensures unchanged { result ≢ ok → path.new ≡ path.old }
 {
     let Ok(found) = DevicePath::try_from(bytes) else {
-        return false;
+        return status::NO_PATH;
     };
     *path = found.as_bytes();
-    true
+    status::OK
 }
 
 /// Reads the node at the offset, unless it ends the walk, and moves the offset to its end.
 ///
-/// An end-entire node ends the walk, and a node of type END after which the bytes end.
+/// An end-entire node ends the walk, and a node of type END after which the bytes end. Without a node
+/// it returns why: the bytes end there, they cut it, or it states a length below 4.
 #[unsafe(no_mangle)]
 pub extern "C" fn uefi_path_next_node<'a>(
     path: &'a [u8],
     offset: &mut usize,
     out: &mut UefiNode<'a>,
-) -> bool
-    ensures node { IsTrue result → IsNextNode path.now offset.old (node_seen out.new) offset.new }
-    ensures none { IsFalse result
+) -> UefiStatus
+    ensures node { result ≡ ok → IsNextNode path.now offset.old (node_seen out.new) offset.new }
+    ensures ended { result ≡ ended → HasLastNode path.now offset.old }
+    ensures fault { result ≢ ok → result ≢ ended
+        → IsNodeFault (drop offset.old path.now) result }
+    ensures none { result ≢ ok
         → (node : Node) (end : ℕ) → IsNextNode path.now offset.old node end → ⊥ }
-    ensures offset_unchanged { IsFalse result → offset.new ≡ offset.old }
-    ensures out_unchanged { IsFalse result → out.new ≡ out.old }
+    ensures offset_unchanged { result ≢ ok → offset.new ≡ offset.old }
+    ensures out_unchanged { result ≢ ok → out.new ≡ out.old }
 {
-    let Some((node, end)) = next_node(path, *offset) else {
-        return false;
+    let Some(rest) = bytes_from(path, *offset) else {
+        return status::NO_END;
     };
+    let Some((node, after)) = split_node(rest) else {
+        return node_fault(rest);
+    };
+    if ends_walk(&node, after.is_empty()) {
+        return status::END;
+    }
     *out = UefiNode {
         data: node.data(),
         device_type: node.device_type().0,
         sub_type: node.sub_type().0,
     };
-    *offset = end;
-    true
-}
-
-/// Returns the node at the offset, unless it ends the walk, and the offset of its end.
-fn next_node(path: &[u8], offset: usize) -> Option<(DevicePathNode<'_>, usize)>
-    ensures node { IfSome result (λ found. IsNextNode path.now offset (node_of found.0) found.1) }
-    ensures none { IfNone result
-        ((node : Node) (end : ℕ) → IsNextNode path.now offset node end → ⊥) }
-{
-    let (node, rest) = split_node(bytes_from(path, offset)?)?;
-    if ends_walk(&node, rest.is_empty()) {
-        return None;
-    }
-    Some((node, path.len() - rest.len()))
+    *offset = path.len() - after.len();
+    status::OK
 }
 
 /// Returns whether the node ends the walk, by whether the bytes end after it.
-pub(crate) fn ends_walk(node: &DevicePathNode<'_>, is_at_end: bool) -> bool
+fn ends_walk(node: &DevicePathNode<'_>, is_at_end: bool) -> bool
     ensures { IsTrue result ↔ EndsWalk (node_of node.now) (IsTrue is_at_end) }
 {
     if !is_end(node) {
@@ -93,56 +95,63 @@ fn is_end(node: &DevicePathNode<'_>) -> bool
     node.device_type() == DeviceType::END
 }
 
-/// Finds the instance at the offset, and moves the offset to its end.
+/// Finds the instance at the offset, and moves the offset to its end. Without one it returns why: the
+/// bytes end there, or the fault of the first node that isn't there.
 #[unsafe(no_mangle)]
 pub extern "C" fn uefi_path_next_instance<'a>(
     path: &'a [u8],
     offset: &mut usize,
     instance: &mut &'a [u8],
-) -> bool
-    ensures instance { IsTrue result
+) -> UefiStatus
+    ensures instance { result ≡ ok
         → IsNextInstance path.now offset.old instance.new.now offset.new }
-    ensures none { IsFalse result → ¬ HasInstance (drop offset.old path.now) }
-    ensures offset_unchanged { IsFalse result → offset.new ≡ offset.old }
-    ensures out_unchanged { IsFalse result → instance.new ≡ instance.old }
+    ensures ended { (result ≡ ended) ↔ (length path.now ≤ offset.old) }
+    ensures fault { result ≢ ok → result ≢ ended
+        → MeetsNodeFault (drop offset.old path.now) result }
+    ensures none { result ≢ ok → ¬ HasInstance (drop offset.old path.now) }
+    ensures offset_unchanged { result ≢ ok → offset.new ≡ offset.old }
+    ensures out_unchanged { result ≢ ok → instance.new ≡ instance.old }
 {
-    let Some(found) = instance_at(path, *offset) else {
-        return false;
-    };
-    *offset += found.len();
-    *instance = found;
-    true
-}
-
-/// Returns the instance at the offset.
-fn instance_at(path: &[u8], offset: usize) -> Option<&[u8]>
-    ensures instance { IfSome result (λ found. EncodesInstance found.now) }
-    ensures prefix { IfSome result (λ found. IsPrefix found.now (drop offset path.now)) }
-    ensures within { IfSome result (λ found. offset + length found.now ≤ length path.now) }
-    ensures none { IfNone result (¬ HasInstance (drop offset path.now)) }
-{
-    first_instance(bytes_from(path, offset)?)
+    if *offset >= path.len() {
+        return status::END;
+    }
+    let (_, rest) = path.split_at(*offset);
+    match first_instance(rest) {
+        Ok(found) => {
+            *offset += found.len();
+            *instance = found;
+            status::OK
+        }
+        Err(fault) => fault,
+    }
 }
 
 /// Returns the instance that the bytes begin with: the nodes up to the first of type END.
-fn first_instance(bytes: &[u8]) -> Option<&[u8]>
-    ensures instance { IfSome result (λ found. EncodesInstance found.now) }
-    ensures prefix { IfSome result (λ found. IsPrefix found.now bytes.now) }
-    ensures none { IfNone result (¬ HasInstance bytes.now) }
+///
+/// # Errors
+///
+/// The fault of the first node that isn't there.
+fn first_instance(bytes: &[u8]) -> Result<&[u8], UefiStatus>
+    ensures instance { IfOk result (λ found. EncodesInstance found.now) }
+    ensures prefix { IfOk result (λ found. IsPrefix found.now bytes.now) }
+    ensures none { IsErr result → ¬ HasInstance bytes.now }
+    ensures fault { IfErr result (MeetsNodeFault bytes.now) }
 {
     let mut rest = bytes;
     loop {
-        let (node, after) = split_node(rest)?;
+        let Some((node, after)) = split_node(rest) else {
+            return Err(node_fault(rest));
+        };
         rest = after;
         if is_end(&node) {
             let (found, _) = bytes.split_at(bytes.len() - rest.len());
-            return Some(found);
+            return Ok(found);
         }
     }
 }
 
 /// Returns the node that the bytes begin with, and the bytes after it.
-pub(crate) fn split_node(bytes: &[u8]) -> Option<(DevicePathNode<'_>, &[u8])>
+fn split_node(bytes: &[u8]) -> Option<(DevicePathNode<'_>, &[u8])>
     ensures fits { IfSome result (λ split. Fits (node_of split.0)) }
     ensures split { IfSome result
         (λ split. bytes.now ≡ encoding (node_of split.0) ++ split.1.now) }

@@ -2,26 +2,11 @@ ghost use Rattle.std.specs.Prelude.{◌≡◌, ◌≢◌, ◌+◌, ℕ, [], ◌�
 ghost use Rattle.uefi_map.specs.pci.Resource.{range_type, record_length};
 ghost use Rattle.uefi_map.specs.pci.ResourceList.{BeginWithRecords};
 ghost use Rattle.uefi_c.specs.Pci.{resource_seen, IsStep};
+ghost use Rattle.uefi_c.specs.Status.{ok};
 
 use crate::cursor::bytes_from;
+use crate::status::{self, UefiStatus};
 use uefi_map::{QwordAddressSpaceDescriptor, ResourceError};
-
-// What stands at a cursor.
-
-/// The end tag.
-const END: u32 = 0;
-
-/// A record.
-const RECORD: u32 = 1;
-
-/// The end of the bytes.
-const NO_END_TAG: u32 = 2;
-
-/// The tag of a record that the bytes cut.
-const CUT_RECORD: u32 = 3;
-
-/// Another byte.
-const UNKNOWN_TAG: u32 = 4;
 
 /// A range that a PCI root bridge decodes.
 #[derive(Clone, Copy)]
@@ -46,31 +31,34 @@ pub struct UefiResource {
     pub type_specific_flags: u8,
 }
 
-/// Reads the resource at the offset, and moves the offset to its end. It returns what stands at the
-/// offset: 1 for the record of a resource, 0 for the end tag, 2 for the end of the bytes, 3 for a
-/// record that the bytes cut, 4 for another byte. If that isn't 1, nothing is written.
+/// Reads the resource at the offset, and moves the offset to its end. At the end tag the walk has
+/// ended. The other statuses: the bytes end there, they cut the record, or another byte is there.
 #[unsafe(no_mangle)]
-pub extern "C" fn uefi_pci_next(list: &[u8], offset: &mut usize, out: &mut UefiResource) -> u32
+pub extern "C" fn uefi_pci_next(
+    list: &[u8],
+    offset: &mut usize,
+    out: &mut UefiResource,
+) -> UefiStatus
     ensures step { IsStep (drop offset.old list.now) result }
-    ensures resource { result ≡ 1 → BeginWithRecords (drop offset.old list.now)
+    ensures resource { result ≡ ok → BeginWithRecords (drop offset.old list.now)
         (resource_seen out.new ∷ []) (drop offset.new list.now) }
-    ensures offset { result ≡ 1 → offset.new ≡ offset.old + record_length }
-    ensures offset_unchanged { result ≢ 1 → offset.new ≡ offset.old }
-    ensures out_unchanged { result ≢ 1 → out.new ≡ out.old }
+    ensures offset { result ≡ ok → offset.new ≡ offset.old + record_length }
+    ensures offset_unchanged { result ≢ ok → offset.new ≡ offset.old }
+    ensures out_unchanged { result ≢ ok → out.new ≡ out.old }
 {
     let Some(rest) = bytes_from(list, *offset) else {
-        return NO_END_TAG;
+        return status::NO_END;
     };
     match QwordAddressSpaceDescriptor::read(rest) {
         Ok(Some((resource, after))) => {
             *out = seen(&resource);
             *offset = list.len() - after.len();
-            RECORD
+            status::OK
         }
-        Ok(None) => END,
-        Err(ResourceError::NoEndTag) => NO_END_TAG,
-        Err(ResourceError::CutRecord) => CUT_RECORD,
-        Err(ResourceError::UnknownTag(_)) => UNKNOWN_TAG,
+        Ok(None) => status::END,
+        Err(ResourceError::NoEndTag) => status::NO_END,
+        Err(ResourceError::CutRecord) => status::CUT,
+        Err(ResourceError::UnknownTag(_)) => status::UNKNOWN_TAG,
         // A record is read without memory.
         Err(ResourceError::Memory) => unreachable!(),
     }

@@ -1,4 +1,4 @@
-ghost use Rattle.std.specs.Prelude.{◌≡◌, ◌≢◌, ◌+◌, ◌^◌, ◌<◌, ◌≤◌, IsTrue, IsFalse, IfSome, slice_get};
+ghost use Rattle.std.specs.Prelude.{◌≡◌, ◌≢◌, ◌+◌, ◌^◌, ◌<◌, IfSome, slice_get};
 ghost use Rattle.std.specs.Option.{option_map};
 ghost use Rattle.tpm_quote.specs.Fault.{HasFault};
 ghost use Rattle.tpm_quote.specs.PcrSelection.{selected_pcrs};
@@ -6,33 +6,12 @@ ghost use Rattle.tpm_quote.specs.Quote.{Quote as QuoteFields};
 ghost use Rattle.tpm_quote.specs.Views.{quote_of, selection_of};
 ghost use Rattle.tpm_quote.specs.declared.quote_error.QuoteError.{QuoteError};
 ghost use Rattle.uefi_c.specs.EventData.{given};
-ghost use Rattle.uefi_c.specs.Quote.{AreQuote, HasFields, HasQuote, fault_number, quote_seen, selection_given, selection_seen, set_of};
+ghost use Rattle.uefi_c.specs.Quote.{AreQuote, HasFields, HasQuote, quote_seen, selection_given, selection_seen, set_of, status_of};
+ghost use Rattle.uefi_c.specs.Status.{ended, ok};
 
+use crate::status::{self, UefiStatus};
 use tpm_quote::{PcrSelection, Quote, QuoteError};
 use uefi_tcg::PcrIndex;
-
-// Why bytes are no quote.
-
-/// They are one.
-const NO_FAULT: u32 = 0;
-
-/// The first four bytes aren't the magic of what a TPM makes.
-const NOT_GENERATED: u32 = 1;
-
-/// The TPM signed another structure.
-const NOT_QUOTE: u32 = 2;
-
-/// The byte `safe` of the clock is neither 0 nor 1.
-const SAFE: u32 = 3;
-
-/// A selection isn't one of a PC.
-const SELECTION: u32 = 4;
-
-/// The bytes end within a field, or before one.
-const TOO_SHORT: u32 = 5;
-
-/// Bytes follow the quote.
-const LEFT_OVER: u32 = 6;
 
 /// How many PCRs a PC has.
 const PCR_COUNT: u32 = 24;
@@ -70,61 +49,57 @@ pub struct UefiPcrSelection {
     pub algorithm: u16,
 }
 
-/// Reads the quote that the bytes are, whole and alone.
+/// Reads the quote that the bytes are, whole and alone. If they are none, it returns why: the first
+/// fault, where they are read from the first to the last.
 #[unsafe(no_mangle)]
-pub extern "C" fn uefi_quote<'a>(message: &'a [u8], out: &mut UefiQuote<'a>) -> bool
-    ensures quote { IsTrue result → HasFields message.now out.new }
-    ensures none { IsFalse result → HasQuote message.now → ⊥ }
-    ensures unchanged { IsFalse result → out.new ≡ out.old }
-{
-    let Ok(quote) = Quote::try_from(message) else {
-        return false;
-    };
-    *out = seen(&quote);
-    true
-}
-
-/// Returns why bytes are no quote: 0 if they are one, 1 without the magic of a TPM, 2 for another
-/// structure, 3 for another byte `safe` than 0 and 1, 4 for a selection that a PC hasn't, 5 for too
-/// few bytes, 6 for bytes after the quote.
-#[unsafe(no_mangle)]
-pub extern "C" fn uefi_quote_fault(message: &[u8]) -> u32
-    ensures quote { result ≡ 0 → HasQuote message.now }
-    ensures fault { result ≢ 0
-        → (error : QuoteError) × (result ≡ fault_number error) × HasFault message.now error }
-    ensures none { result ≢ 0 → HasQuote message.now → ⊥ }
+pub extern "C" fn uefi_quote<'a>(message: &'a [u8], out: &mut UefiQuote<'a>) -> UefiStatus
+    ensures quote { result ≡ ok → HasFields message.now out.new }
+    ensures fault { result ≢ ok
+        → (error : QuoteError) × (result ≡ status_of error) × HasFault message.now error }
+    ensures none { result ≢ ok → HasQuote message.now → ⊥ }
+    ensures unchanged { result ≢ ok → out.new ≡ out.old }
 {
     match Quote::try_from(message) {
-        Ok(_quote) => NO_FAULT,
-        Err(error) => fault_number(&error),
+        Ok(quote) => {
+            *out = seen(&quote);
+            status::OK
+        }
+        Err(error) => status_of(&error),
     }
 }
 
 /// Reads the selection of this index, and moves the index to the next. It goes over all selections.
+/// If the bytes are no quote, it returns why, as [`uefi_quote`].
 #[unsafe(no_mangle)]
 pub extern "C" fn uefi_quote_next_selection(
     message: &[u8],
     cursor: &mut usize,
     out: &mut UefiPcrSelection,
-) -> bool
-    ensures quote { IsTrue result → HasQuote message.now }
+) -> UefiStatus
+    ensures quote { result ≡ ok → HasQuote message.now }
     ensures selection { (quote : QuoteFields) → AreQuote message.now quote
         → given result (selection_seen out.new)
         ≡ option_map selection_given (slice_get quote.pcr_selections cursor.old) }
-    ensures moves { IsTrue result → cursor.new ≡ cursor.old + 1 }
-    ensures few { IsTrue result → cursor.old < 2 ^ 32 }
-    ensures cursor_unchanged { IsFalse result → cursor.new ≡ cursor.old }
-    ensures out_unchanged { IsFalse result → out.new ≡ out.old }
+    ensures ended { result ≡ ended → HasQuote message.now }
+    ensures fault { result ≢ ok → result ≢ ended
+        → (error : QuoteError) × (result ≡ status_of error) × HasFault message.now error }
+    ensures moves { result ≡ ok → cursor.new ≡ cursor.old + 1 }
+    ensures few { result ≡ ok → cursor.old < 2 ^ 32 }
+    ensures cursor_unchanged { result ≢ ok → cursor.new ≡ cursor.old }
+    ensures out_unchanged { result ≢ ok → out.new ≡ out.old }
 {
     let Some(selection) = selection_at(message, *cursor) else {
-        return false;
+        return match Quote::try_from(message) {
+            Ok(_quote) => status::END,
+            Err(error) => status_of(&error),
+        };
     };
     *out = UefiPcrSelection {
         pcrs: set_of(&selection),
         algorithm: selection.algorithm().0,
     };
     *cursor += 1;
-    true
+    status::OK
 }
 
 /// Returns the fields of a quote.
@@ -144,18 +119,19 @@ fn seen<'a>(quote: &Quote<'a>) -> UefiQuote<'a>
     }
 }
 
-/// Returns the number of a fault.
-fn fault_number(error: &QuoteError) -> u32
-    ensures fault { result ≡ fault_number error.now }
-    ensures some { 1 ≤ result }
+/// Returns the status of a fault.
+pub(crate) fn status_of(error: &QuoteError) -> UefiStatus
+    ensures status { result ≡ status_of error.now }
+    ensures fault { result ≢ ok }
+    ensures another { result ≢ ended }
 {
     match error {
-        QuoteError::NotGenerated => NOT_GENERATED,
-        QuoteError::NotQuote(_) => NOT_QUOTE,
-        QuoteError::Safe(_) => SAFE,
-        QuoteError::Selection => SELECTION,
-        QuoteError::TooShort => TOO_SHORT,
-        QuoteError::LeftOver => LEFT_OVER,
+        QuoteError::NotGenerated => status::NOT_GENERATED,
+        QuoteError::NotQuote(_) => status::NOT_QUOTE,
+        QuoteError::Safe(_) => status::BAD_SAFE,
+        QuoteError::Selection => status::BAD_SELECTION,
+        QuoteError::TooShort => status::TOO_SHORT,
+        QuoteError::LeftOver => status::LEFT_OVER,
     }
 }
 

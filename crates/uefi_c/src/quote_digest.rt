@@ -1,34 +1,32 @@
-ghost use Rattle.std.specs.Prelude.{◌≡◌, ◌&&◌, Some, IsTrue, IsFalse, IfSome};
+ghost use Rattle.std.specs.Prelude.{◌≡◌, ◌&&◌, Some, IfSome};
 ghost use Rattle.std.specs.Result.{result_map_both};
 ghost use Rattle.pcr_replay.specs.Quotes.{digest_at, is_quoted};
 ghost use Rattle.pcr_replay.specs.Replay.{is_active};
 ghost use Rattle.pcr_replay.specs.Views.{value_of};
 ghost use Rattle.pcr_replay.specs.declared.bank.Bank.{Bank};
+ghost use Rattle.tpm_quote.specs.Fault.{HasFault};
 ghost use Rattle.tpm_quote.specs.Quote.{Quote as QuoteFields};
 ghost use Rattle.tpm_quote.specs.Views.{quote_of};
+ghost use Rattle.tpm_quote.specs.declared.quote_error.QuoteError.{QuoteError};
 ghost use Rattle.uefi_tcg.specs.Entries.{Contents};
 ghost use Rattle.uefi_tcg.specs.Logs.{HasContents};
-ghost use Rattle.uefi_c.specs.Quote.{AreQuote};
-ghost use Rattle.uefi_c.specs.QuoteDigest.{HasHash, IsHash, digest_seen};
+ghost use Rattle.uefi_c.specs.Quote.{AreQuote, HasQuote, status_of};
+ghost use Rattle.uefi_c.specs.QuoteDigest.{HasHash, IsDigestStatus, IsHash, digest_seen};
 ghost use Rattle.uefi_c.specs.Replay.{log_given, start_given};
+ghost use Rattle.uefi_c.specs.Status.{no_hash};
 
-use crate::replay::{NO_FAULT, ROOM, fault_number, log_of, start_of};
+use crate::quote::status_of;
+use crate::replay::{ROOM, log_of, start_of, status_of as fault_status};
+use crate::status::{self, UefiStatus};
+use crate::workspace::{BANK_COUNT, UefiWorkspace};
 use pcr_replay::{
-    Bank, BankPcrs, NoQuoteDigest, PcrValue, Pcrs, Start, is_active, is_quoted, quote_digest,
-    replay_from,
+    Bank, NoQuoteDigest, PcrValue, Start, is_active, is_quoted, quote_digest_in, replay_into,
 };
 use tpm_quote::Quote;
 use uefi_tcg::{AlgorithmId, Log};
 
 /// The algorithm that says that the length of the quote's digest tells the hash function.
 const OF_SIZE: u16 = 0;
-
-/// Why there is no digest: a PCR is selected of a bank that isn't active in the log, or that can't be
-/// replayed. The numbers below are those of a PCR that is undetermined.
-const NO_BANK: u32 = 7;
-
-/// How many banks can be replayed.
-const BANK_COUNT: usize = 5;
 
 /// The digest of the PCRs that a log leads to, or why there is none: of the first selected PCR that
 /// has no value.
@@ -38,12 +36,12 @@ pub struct UefiQuoteDigest {
     /// The length of the digest in bytes; without meaning if there is none.
     pub size: usize,
     /// The index of the event in the log by which the PCR is undetermined; without meaning with
-    /// another fault.
+    /// another status.
     pub index: usize,
     /// The offset at which that event starts.
     pub offset: usize,
-    /// Why there is no digest, 1 to 7; 0 with a digest.
-    pub fault: u32,
+    /// Success with a digest, else why there is none.
+    pub status: UefiStatus,
     /// The PCR; without meaning if its bank is missing.
     pub pcr_index: u32,
     /// The algorithm of its bank; without meaning with a digest.
@@ -53,10 +51,10 @@ pub struct UefiQuoteDigest {
 }
 
 /// Computes the digest of the PCRs that a log leads to: over the PCRs that the quote selects, in its
-/// order.
+/// order. It returns its status.
 ///
 /// The hash function is that of an algorithm's number, or for 0 that of the digest's length. Without
-/// one, or without a quote, the call returns false.
+/// one, or without a quote, nothing is written, and the call returns why.
 #[unsafe(no_mangle)]
 pub extern "C" fn uefi_quote_digest(
     message: &[u8],
@@ -64,25 +62,32 @@ pub extern "C" fn uefi_quote_digest(
     log: &[u8],
     last_entry: usize,
     locality: u32,
+    workspace: &mut UefiWorkspace,
     out: &mut UefiQuoteDigest,
-) -> bool
-    ensures hash { IsTrue result → HasHash message.now hash }
-    ensures digest { IsTrue result → (quote : QuoteFields) → AreQuote message.now quote
+) -> UefiStatus
+    ensures digest { HasHash message.now hash → (quote : QuoteFields) → AreQuote message.now quote
         → (bank : Bank) → IsHash hash quote bank → (contents : Contents)
         → HasContents (log_given log.entry last_entry) contents → digest_seen out.new
         ≡ digest_at bank contents.entries quote (start_given locality contents.entries) }
-    ensures none { IsFalse result → HasHash message.now hash → ⊥ }
-    ensures unchanged { IsFalse result → out.new ≡ out.old }
+    ensures status { HasHash message.now hash → result ≡ out.new.status }
+    ensures known { HasHash message.now hash → IsDigestStatus result }
+    ensures no_quote { (HasQuote message.now → ⊥) → (error : QuoteError)
+        × (result ≡ status_of error) × HasFault message.now error }
+    ensures no_hash { HasQuote message.now → (HasHash message.now hash → ⊥) → result ≡ no_hash }
+    ensures unchanged { (HasHash message.now hash → ⊥) → out.new ≡ out.old }
 {
-    let Ok(quote) = Quote::try_from(message) else {
-        return false;
+    let quote = match Quote::try_from(message) {
+        Ok(quote) => quote,
+        Err(error) => return status_of(&error),
     };
     let Some(hash) = hash_of(hash, &quote) else {
-        return false;
+        return status::NO_HASH;
     };
     let log = log_of(log, last_entry);
-    *out = seen(&digest_of(hash, &quote, &log, &start_of(&log, locality)));
-    true
+    let start = start_of(&log, locality);
+    let found = seen(&digest_of(hash, &quote, &log, &start, workspace));
+    *out = found;
+    found.status
 }
 
 /// Returns the hash function of a quote's digest.
@@ -102,25 +107,21 @@ fn digest_of(
     quote: &Quote<'_>,
     log: &Log<'_>,
     start: &Start,
+    workspace: &mut UefiWorkspace,
 ) -> Result<PcrValue, NoQuoteDigest>
     ensures { (contents : Contents) → HasContents log.now contents
         → result_map_both value_of (λ why. why) result
         ≡ digest_at hash contents.entries (quote_of quote.now) start.now }
 {
-    let mut banks = [BankPcrs {
-        bank: Bank::Sha1,
-        pcrs: Pcrs::started(Bank::Sha1, 0, false),
-    }; BANK_COUNT];
     let mut count = 0;
     for index in 0..BANK_COUNT {
         let bank = Bank::ALL[index];
         if is_compared(quote, log, bank) {
-            let pcrs = replay_from(log, bank, start);
-            banks[count] = BankPcrs { bank, pcrs };
+            replay_into(&mut workspace.banks[count], log, bank, start);
             count += 1;
         }
     }
-    quote_digest(hash, quote, &banks[..count])
+    quote_digest_in(hash, quote, &workspace.banks[..count])
 }
 
 /// Returns whether a bank has a selection in a quote and is active in a log.
@@ -133,14 +134,15 @@ fn is_compared(quote: &Quote<'_>, log: &Log<'_>, bank: Bank) -> bool
 
 /// Returns a digest, or why there is none.
 fn seen(digest: &Result<PcrValue, NoQuoteDigest>) -> UefiQuoteDigest
-    ensures { digest_seen result ≡ result_map_both value_of (λ why. why) digest.now }
+    ensures digest { digest_seen result ≡ result_map_both value_of (λ why. why) digest.now }
+    ensures known { IsDigestStatus result.status }
 {
     let mut value = [0; ROOM];
     let none = UefiQuoteDigest {
         size: 0,
         index: 0,
         offset: 0,
-        fault: NO_FAULT,
+        status: status::OK,
         pcr_index: 0,
         algorithm: 0,
         value,
@@ -156,14 +158,14 @@ fn seen(digest: &Result<PcrValue, NoQuoteDigest>) -> UefiQuoteDigest
             }
         }
         Err(NoQuoteDigest::NoBank(algorithm)) => UefiQuoteDigest {
-            fault: NO_BANK,
+            status: status::NO_BANK,
             algorithm: algorithm.0,
             ..none
         },
         Err(NoQuoteDigest::Undetermined(algorithm, pcr, at)) => UefiQuoteDigest {
             index: at.index,
             offset: at.offset,
-            fault: fault_number(at.fault),
+            status: fault_status(at.fault),
             pcr_index: pcr.0,
             algorithm: algorithm.0,
             ..none

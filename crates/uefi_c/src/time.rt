@@ -1,9 +1,11 @@
-ghost use Rattle.std.specs.Prelude.{◌≡◌, ◌≢◌, ◌↔◌, ◌⊎◌, ◌<◌, length, IsTrue, IsFalse};
+ghost use Rattle.std.specs.Prelude.{◌≡◌, ◌≢◌, ◌↔◌, ◌<◌, length, [], ◌∷◌};
 ghost use Rattle.uefi_records.specs.time.Faults.{IsValid, reading_faults, no_fault};
 ghost use Rattle.uefi_records.specs.time.Fields.{TimeFields, StandsIn, time_bytes, time_length, without_pads};
 ghost use Rattle.uefi_records.specs.time.Views.{time_of};
 ghost use Rattle.uefi_c.specs.Time.{time_seen, faults_seen, HasTime, HasFaults};
+ghost use Rattle.uefi_c.specs.Status.{bad_time, IsOneOf, ok, too_short};
 
+use crate::status::{self, UefiStatus};
 use uefi_records::{Daylight, Time, TimeByteConversionError, TimeError, TimeParams};
 
 /// The zone of local time.
@@ -57,46 +59,68 @@ pub struct UefiTimeFaults {
     pub daylight: bool,
 }
 
-/// Reads the time in the first sixteen bytes, if it has no fault.
-#[unsafe(no_mangle)]
-pub extern "C" fn uefi_time(bytes: &[u8], out: &mut UefiTime) -> bool
-    ensures time { IsTrue result → HasTime bytes.now (time_seen out.new) }
-    ensures none { IsFalse result
-        → (length bytes.now < time_length) ⊎ ((time : TimeFields) × HasFaults bytes.now time) }
-    ensures unchanged { IsFalse result → out.new ≡ out.old }
-{
-    let Ok(time) = Time::try_from(bytes) else {
-        return false;
-    };
-    *out = seen(&time);
-    true
-}
+/// No field is at fault.
+const NO_FAULTS: UefiTimeFaults = UefiTimeFaults {
+    year: false,
+    month: false,
+    day: false,
+    hour: false,
+    minute: false,
+    second: false,
+    nanosecond: false,
+    zone: false,
+    daylight: false,
+};
 
-/// Finds the fields at fault of the time in the first sixteen bytes, if there are any.
+/// Reads the time in the first sixteen bytes, if there are as many, and it has no fault.
 #[unsafe(no_mangle)]
-pub extern "C" fn uefi_time_faults(bytes: &[u8], out: &mut UefiTimeFaults) -> bool
-    ensures faults { IsTrue result → (time : TimeFields) × HasFaults bytes.now time
-        × (faults_seen out.new ≡ reading_faults time) }
-    ensures none { IsFalse result → (length bytes.now < time_length)
-        ⊎ ((time : TimeFields) × HasTime bytes.now time) }
-    ensures unchanged { IsFalse result → out.new ≡ out.old }
+pub extern "C" fn uefi_time(bytes: &[u8], out: &mut UefiTime) -> UefiStatus
+    ensures time { result ≡ ok → HasTime bytes.now (time_seen out.new) }
+    ensures known { IsOneOf result (ok ∷ too_short ∷ bad_time ∷ []) }
+    ensures short { result ≡ too_short → length bytes.now < time_length }
+    ensures bad { result ≡ bad_time → (time : TimeFields) × HasFaults bytes.now time }
+    ensures unchanged { result ≢ ok → out.new ≡ out.old }
 {
     match Time::try_from(bytes) {
-        Ok(_time) => false,
-        Err(TimeByteConversionError::InvalidSize) => false,
+        Ok(time) => {
+            *out = seen(&time);
+            status::OK
+        }
+        Err(TimeByteConversionError::InvalidSize) => status::TOO_SHORT,
+        Err(TimeByteConversionError::InvalidFields(_)) => status::BAD_TIME,
+    }
+}
+
+/// Finds the fields at fault of the time in the first sixteen bytes, if there are as many: without a
+/// fault none.
+#[unsafe(no_mangle)]
+pub extern "C" fn uefi_time_faults(bytes: &[u8], out: &mut UefiTimeFaults) -> UefiStatus
+    ensures faults { result ≡ ok → (time : TimeFields) × StandsIn time bytes.now
+        × (faults_seen out.new ≡ reading_faults time) }
+    ensures known { IsOneOf result (ok ∷ too_short ∷ []) }
+    ensures short { result ≡ too_short → length bytes.now < time_length }
+    ensures unchanged { result ≢ ok → out.new ≡ out.old }
+{
+    match Time::try_from(bytes) {
+        Ok(_time) => {
+            *out = NO_FAULTS;
+            status::OK
+        }
+        Err(TimeByteConversionError::InvalidSize) => status::TOO_SHORT,
         Err(TimeByteConversionError::InvalidFields(faults)) => {
             *out = seen_faults(&faults);
-            true
+            status::OK
         }
     }
 }
 
 /// Writes the sixteen bytes of a time, if its fields are in their ranges. Any bits of daylight are.
 #[unsafe(no_mangle)]
-pub extern "C" fn uefi_write_time(time: &UefiTime, bytes: &mut [u8; 16]) -> bool
-    ensures valid { IsTrue result ↔ IsValid (time_seen time.now) }
-    ensures written { IsTrue result → bytes.new ≡ time_bytes (time_seen time.now) }
-    ensures unchanged { IsFalse result → bytes.new ≡ bytes.old }
+pub extern "C" fn uefi_write_time(bytes: &mut [u8; 16], time: &UefiTime) -> UefiStatus
+    ensures valid { (result ≡ ok) ↔ IsValid (time_seen time.now) }
+    ensures known { IsOneOf result (ok ∷ bad_time ∷ []) }
+    ensures written { result ≡ ok → bytes.new ≡ time_bytes (time_seen time.now) }
+    ensures unchanged { result ≢ ok → bytes.new ≡ bytes.old }
 {
     let params = TimeParams {
         year: time.year,
@@ -110,10 +134,10 @@ pub extern "C" fn uefi_write_time(time: &UefiTime, bytes: &mut [u8; 16]) -> bool
         daylight: Daylight::from_bits_retain(time.daylight),
     };
     let Ok(time) = Time::new(params) else {
-        return false;
+        return status::BAD_TIME;
     };
     *bytes = time.to_bytes();
-    true
+    status::OK
 }
 
 /// Returns the fields of a time, without its padding.

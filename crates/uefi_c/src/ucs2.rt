@@ -1,14 +1,16 @@
 //! UCS-2 text in bytes, and in UTF-8.
 
-ghost use Rattle.std.specs.Prelude.{◌≡◌, ◌↔◌, ◌*◌, ◌+◌, ◌≤◌, length, IsTrue, IsFalse, MatchOption};
+ghost use Rattle.std.specs.Prelude.{◌≡◌, ◌↔◌, ◌*◌, ◌+◌, ◌≤◌, length, IsTrue, MatchOption, ◌≢◌, [], ◌∷◌};
 ghost use Rattle.std.specs.Str.{chars};
 ghost use Rattle.uefi_base.specs.Buffer.{put_prefix};
 ghost use Rattle.uefi_base.specs.Ucs2.{HasUnit, MakeUcs2Text};
 ghost use Rattle.uefi_base.specs.private.Search.{IsFirstWithoutUnit};
 ghost use Rattle.uefi_c.specs.Ucs2.{IsUcs2, utf8_of, MakesUcs2, ucs2_of};
 ghost use Rattle.uefi_c.specs.private.Ucs2.{HasNul};
+ghost use Rattle.uefi_c.specs.Status.{buffer_too_small, IsOneOf, not_text, ok};
 
 use crate::character::{character_of, put_character};
+use crate::status::{self, UefiStatus};
 use uefi_base::buffer::put;
 use uefi_base::little_endian::u16_at;
 
@@ -27,60 +29,64 @@ const UNIT_LENGTH: usize = 2;
 /// The text is all of `units`: two bytes each, little-endian, of which the last is zero, and no
 /// other is zero or a surrogate. There are at most 2^31.
 ///
-/// If it returns false, all bytes stay as they were, and `size` is the length that the buffer
-/// needs, or 0 if the units are no text.
+/// If it returns another status than success, all bytes stay as they were, and `size` is the length
+/// that the buffer needs, or 0 if the units are no text.
 #[unsafe(no_mangle)]
-pub extern "C" fn uefi_ucs2_text(units: &[u8], buffer: &mut [u8], size: &mut usize) -> bool
-    ensures fits { IsTrue result
+pub extern "C" fn uefi_ucs2_text(buffer: &mut [u8], units: &[u8], size: &mut usize) -> UefiStatus
+    ensures fits { (result ≡ ok)
         ↔ IsUcs2 units.now × (length (utf8_of units.now) ≤ length buffer.old) }
-    ensures written { IsTrue result → buffer.new ≡ put_prefix (utf8_of units.now) buffer.old }
+    ensures known { IsOneOf result (ok ∷ buffer_too_small ∷ not_text ∷ []) }
+    ensures no_such_text { (result ≡ not_text) ↔ ¬ IsUcs2 units.now }
+    ensures written { result ≡ ok → buffer.new ≡ put_prefix (utf8_of units.now) buffer.old }
     ensures size { IsUcs2 units.now → size.new ≡ length (utf8_of units.now) }
     ensures no_text { ¬ IsUcs2 units.now → size.new ≡ 0 }
-    ensures unchanged { IsFalse result → buffer.new ≡ buffer.old }
+    ensures unchanged { result ≢ ok → buffer.new ≡ buffer.old }
 {
     let Some(length) = text_length(units) else {
         *size = 0;
-        return false;
+        return status::NOT_TEXT;
     };
     *size = length;
     if buffer.len() < length {
-        return false;
+        return status::BUFFER_TOO_SMALL;
     }
     write_text(units, buffer);
-    true
+    status::OK
 }
 
 /// Writes a text in UTF-8 as UCS-2 to the beginning of the buffer, two bytes for each character and
 /// for the NUL, little-endian, and sets `size` to their number; the bytes after them stay as they
 /// were.
 ///
-/// If it returns false, all bytes stay as they were, and `size` is the length that the buffer
-/// needs, or 0 if the text isn't UTF-8, has 2^31 characters or more, or has one that is U+0000 or
-/// above U+FFFF.
+/// If it returns another status than success, all bytes stay as they were, and `size` is the length
+/// that the buffer needs, or 0 if the text isn't UTF-8, has 2^31 characters or more, or has one
+/// that is U+0000 or above U+FFFF.
 #[tactic(auto, using(crate::proofs::Ucs2Puts::ucs2_size))]
 #[unsafe(no_mangle)]
-pub extern "C" fn uefi_ucs2_units(text: &[u8], buffer: &mut [u8], size: &mut usize) -> bool
-    ensures fits { IsTrue result
+pub extern "C" fn uefi_ucs2_units(buffer: &mut [u8], text: &[u8], size: &mut usize) -> UefiStatus
+    ensures fits { (result ≡ ok)
         ↔ MakesUcs2 text.now × (length (ucs2_of text.now) ≤ length buffer.old) }
-    ensures written { IsTrue result → buffer.new ≡ put_prefix (ucs2_of text.now) buffer.old }
+    ensures known { IsOneOf result (ok ∷ buffer_too_small ∷ not_text ∷ []) }
+    ensures no_such_units { (result ≡ not_text) ↔ ¬ MakesUcs2 text.now }
+    ensures written { result ≡ ok → buffer.new ≡ put_prefix (ucs2_of text.now) buffer.old }
     ensures size { MakesUcs2 text.now → size.new ≡ length (ucs2_of text.now) }
     ensures no_units { ¬ MakesUcs2 text.now → size.new ≡ 0 }
-    ensures unchanged { IsFalse result → buffer.new ≡ buffer.old }
+    ensures unchanged { result ≢ ok → buffer.new ≡ buffer.old }
 {
     let Ok(text) = str::from_utf8(text) else {
         *size = 0;
-        return false;
+        return status::NOT_TEXT;
     };
     let Some(length) = units_length(text) else {
         *size = 0;
-        return false;
+        return status::NOT_TEXT;
     };
     *size = length;
     if buffer.len() < length {
-        return false;
+        return status::BUFFER_TOO_SMALL;
     }
     write_units(text, buffer);
-    true
+    status::OK
 }
 
 /// Returns whether the bytes are the units of a text.

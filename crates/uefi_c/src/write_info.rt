@@ -1,4 +1,4 @@
-ghost use Rattle.std.specs.Prelude.{◌≡◌, ◌↔◌, ◌+◌, ◌%◌, ◌≤◌, length, IsTrue, IsFalse, MatchOption};
+ghost use Rattle.std.specs.Prelude.{◌≡◌, ◌↔◌, ◌+◌, ◌%◌, ◌≤◌, length, MatchOption, ◌≢◌, [], ◌∷◌};
 ghost use Rattle.uefi_base.specs.Buffer.{put_prefix};
 ghost use Rattle.uefi_base.specs.Unaligned.{units_of};
 ghost use Rattle.uefi_records.specs.file.Name.{record_size};
@@ -6,8 +6,10 @@ ghost use Rattle.uefi_records.specs.file.FileInfo.{file_info_alignment, file_inf
 ghost use Rattle.uefi_records.specs.file.FileSystemInfo.{file_system_info_bytes, file_system_info_size, label_offset, unused_bytes, volume_label_bytes, volume_label_size};
 ghost use Rattle.uefi_c.specs.Info.{file_seen, file_system_seen};
 ghost use Rattle.uefi_c.specs.Ucs2.{IsUcs2};
+ghost use Rattle.uefi_c.specs.Status.{buffer_too_small, IsOneOf, not_text, ok};
 
 use crate::info::{FILE_NAME_OFFSET, LABEL_OFFSET, UefiFileInfo, UefiFileSystemInfo};
+use crate::status::{self, UefiStatus};
 use crate::time::bytes_of;
 use crate::ucs2::is_ucs2;
 use uefi_base::buffer::put;
@@ -43,34 +45,37 @@ const BLOCK_SIZE_OFFSET: usize = 32;
 /// zeros as padding. The bytes after the name stay as they were, also those that round the size up
 /// to a multiple of 8.
 ///
-/// If it returns false, all bytes stay as they were, and `size` is the size that the buffer needs,
-/// or 0 if the name isn't UCS-2 text with a NUL.
+/// If it returns another status than success, all bytes stay as they were, and `size` is the size
+/// that the buffer needs, or 0 if the name isn't UCS-2 text with a NUL.
 #[unsafe(no_mangle)]
 pub extern "C" fn uefi_write_file_info(
-    info: &UefiFileInfo<'_>,
     buffer: &mut [u8],
+    info: &UefiFileInfo<'_>,
     size: &mut usize,
-) -> bool
-    ensures fits { IsTrue result ↔ IsUcs2 info.now.name.now
+) -> UefiStatus
+    ensures fits { (result ≡ ok)
+        ↔ IsUcs2 info.now.name.now
         × (file_info_size (length (units_of info.now.name.now)) ≤ length buffer.old) }
-    ensures written { IsTrue result → buffer.new ≡ put_prefix
+    ensures known { IsOneOf result (ok ∷ buffer_too_small ∷ not_text ∷ []) }
+    ensures no_such_name { (result ≡ not_text) ↔ ¬ IsUcs2 info.now.name.now }
+    ensures written { result ≡ ok → buffer.new ≡ put_prefix
         (file_info_bytes (file_seen info.now) (units_of info.now.name.now)) buffer.old }
     ensures size { IsUcs2 info.now.name.now
         → size.new ≡ file_info_size (length (units_of info.now.name.now)) }
     ensures no_name { ¬ IsUcs2 info.now.name.now → size.new ≡ 0 }
-    ensures unchanged { IsFalse result → buffer.new ≡ buffer.old }
+    ensures unchanged { result ≢ ok → buffer.new ≡ buffer.old }
 {
     let name = info.name;
     let Some(length) = record_size(name, FILE_NAME_OFFSET) else {
         *size = 0;
-        return false;
+        return status::NOT_TEXT;
     };
     *size = length;
     if buffer.len() < length {
-        return false;
+        return status::BUFFER_TOO_SMALL;
     }
     put_file_info(buffer, info, name, length);
-    true
+    status::OK
 }
 
 /// Writes a file system information record to the beginning of the buffer, and sets `size` to its
@@ -79,64 +84,74 @@ pub extern "C" fn uefi_write_file_info(
 /// The record states its own size, and not that of `info`. The bytes after the label stay as they
 /// were, also those that round the size up to a multiple of 8, and so do the unused bytes 9 to 15.
 ///
-/// If it returns false, all bytes stay as they were, and `size` is the size that the buffer needs,
-/// or 0 if the label isn't UCS-2 text with a NUL.
+/// If it returns another status than success, all bytes stay as they were, and `size` is the size
+/// that the buffer needs, or 0 if the label isn't UCS-2 text with a NUL.
 #[unsafe(no_mangle)]
 pub extern "C" fn uefi_write_file_system_info(
-    info: &UefiFileSystemInfo<'_>,
     buffer: &mut [u8],
+    info: &UefiFileSystemInfo<'_>,
     size: &mut usize,
-) -> bool
-    ensures fits { IsTrue result ↔ IsUcs2 info.now.label.now
+) -> UefiStatus
+    ensures fits { (result ≡ ok)
+        ↔ IsUcs2 info.now.label.now
         × (file_system_info_size (length (units_of info.now.label.now)) ≤ length buffer.old) }
-    ensures written { IsTrue result → buffer.new ≡ put_prefix
+    ensures known { IsOneOf result (ok ∷ buffer_too_small ∷ not_text ∷ []) }
+    ensures no_such_label { (result ≡ not_text) ↔ ¬ IsUcs2 info.now.label.now }
+    ensures written { result ≡ ok → buffer.new ≡ put_prefix
         (file_system_info_bytes (file_system_seen info.now) (unused_bytes buffer.old)
         (units_of info.now.label.now)) buffer.old }
     ensures size { IsUcs2 info.now.label.now
         → size.new ≡ file_system_info_size (length (units_of info.now.label.now)) }
     ensures no_label { ¬ IsUcs2 info.now.label.now → size.new ≡ 0 }
-    ensures unchanged { IsFalse result → buffer.new ≡ buffer.old }
+    ensures unchanged { result ≢ ok → buffer.new ≡ buffer.old }
 {
     let label = info.label;
     let Some(length) = record_size(label, LABEL_OFFSET) else {
         *size = 0;
-        return false;
+        return status::NOT_TEXT;
     };
     *size = length;
     if buffer.len() < length {
-        return false;
+        return status::BUFFER_TOO_SMALL;
     }
     put_file_system_info(buffer, info, label, length);
-    true
+    status::OK
 }
 
 /// Writes the record of a volume label alone to the beginning of the buffer, and sets `size` to its
 /// size: the label, with its NUL. The bytes after it stay as they were.
 ///
-/// If it returns false, all bytes stay as they were, and `size` is the size that the buffer needs,
-/// or 0 if the label isn't UCS-2 text with a NUL.
+/// If it returns another status than success, all bytes stay as they were, and `size` is the size
+/// that the buffer needs, or 0 if the label isn't UCS-2 text with a NUL.
 #[tactic(auto, using(crate::proofs::Ucs2Units::label_size))]
 #[unsafe(no_mangle)]
-pub extern "C" fn uefi_write_volume_label(label: &[u8], buffer: &mut [u8], size: &mut usize) -> bool
-    ensures fits { IsTrue result ↔ IsUcs2 label.now
+pub extern "C" fn uefi_write_volume_label(
+    buffer: &mut [u8],
+    label: &[u8],
+    size: &mut usize,
+) -> UefiStatus
+    ensures fits { (result ≡ ok)
+        ↔ IsUcs2 label.now
         × (volume_label_size (length (units_of label.now)) ≤ length buffer.old) }
-    ensures written { IsTrue result
+    ensures known { IsOneOf result (ok ∷ buffer_too_small ∷ not_text ∷ []) }
+    ensures no_such_label { (result ≡ not_text) ↔ ¬ IsUcs2 label.now }
+    ensures written { result ≡ ok
         → buffer.new ≡ put_prefix (volume_label_bytes (units_of label.now)) buffer.old }
     ensures size { IsUcs2 label.now
         → size.new ≡ volume_label_size (length (units_of label.now)) }
     ensures no_label { ¬ IsUcs2 label.now → size.new ≡ 0 }
-    ensures unchanged { IsFalse result → buffer.new ≡ buffer.old }
+    ensures unchanged { result ≢ ok → buffer.new ≡ buffer.old }
 {
     if !is_ucs2(label) {
         *size = 0;
-        return false;
+        return status::NOT_TEXT;
     }
     *size = label.len();
     if buffer.len() < label.len() {
-        return false;
+        return status::BUFFER_TOO_SMALL;
     }
     put(buffer, 0, label);
-    true
+    status::OK
 }
 
 /// Returns the size of a record with fields before this name at this offset, or `None` if the name

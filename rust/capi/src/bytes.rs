@@ -1,6 +1,9 @@
 //! Slices as C hands them over: where they begin, and how many bytes there are.
 
 use core::marker::PhantomData;
+use core::mem::MaybeUninit;
+
+use crate::formats::uefi_c::workspace::UefiWorkspace;
 
 /// Bytes that are read (`UefiBytes`).
 ///
@@ -51,5 +54,16 @@ impl<'a> Buffer<'a> {
     pub(crate) fn into_slice(self) -> &'a mut [u8] {
         // SAFETY: the caller in C ensures it, and there is one `Buffer` of these bytes.
         unsafe { core::slice::from_raw_parts_mut(self.at, self.n) }
+    }
+}
+
+/// Returns the workspace in memory of C's (`UefiWorkspace`), which needn't have been set.
+#[inline]
+pub(crate) fn workspace_in(memory: &mut MaybeUninit<UefiWorkspace>) -> &mut UefiWorkspace {
+    // SAFETY: it consists of numbers alone, and zeros are such. They are written here, in its place, so
+    // that it isn't on the stack.
+    unsafe {
+        core::ptr::write_bytes(memory.as_mut_ptr(), 0, 1);
+        memory.assume_init_mut()
     }
 }

@@ -5,6 +5,8 @@ from tokens import Rule, lex, rewrite
 
 # What C hands over for a slice, and a slice of what it hands over.
 PARAMETERS = {"[u8]": ("Bytes", "as_slice"), "mut [u8]": ("Buffer", "into_slice")}
+# Memory that C needn't set, in which a call works.
+WORKSPACE = 'UefiWorkspace'
 EXPORTS = [Rule('#[unsafe(no_mangle)]', ''), Rule('pub extern "C" fn', 'pub fn')]
 
 
@@ -36,8 +38,8 @@ def text_of(source):
     """The text, with the imports of what C hands over."""
     names = set(source.names())
     lines = ['use core::mem::MaybeUninit;'] * ('MaybeUninit' in names)
-    used = sorted(names & {'Buffer', 'Bytes'})
-    lines += [f'use crate::bytes::{used[0]};' if len(used) == 1 else 'use crate::bytes::{Buffer, Bytes};'] * bool(used)
+    used = sorted(names & {'Buffer', 'Bytes', 'workspace_in'})
+    lines += [f'use crate::bytes::{used[0]};' if len(used) == 1 else f'use crate::bytes::{{{", ".join(used)}}};'] * bool(used)
     text = source.text()
     docs = re.match(r'(//![^\n]*\n)*', text)[0]
     return '\n\n'.join(part for part in (docs.strip(), '\n'.join(lines), text[len(docs):].strip()) if part) + '\n'
@@ -103,6 +105,9 @@ def function_to_c(source, keyword, structs):
             of, call = PARAMETERS[plain]
             before.insert(0, f"let {name} = {name}.{call}();")
             replace(source, colon + 1, end, f"{of}<{life or chr(39) + '_'}>")
+        elif plain == f'mut {WORKSPACE}':
+            before.insert(0, f"let {name} = workspace_in({name});")
+            replace(source, colon + 1, end, f"&mut MaybeUninit<{WORKSPACE}>")
         elif plain.startswith('mut ') and name not in ('offset', 'cursor'):
             of = plain.removeprefix('mut ')
             outs[name] = of.endswith('[u8]')
@@ -131,7 +136,7 @@ def writes_to_c(source, body, outs):
     i = source.close(body)
     while i > body:
         i -= 1
-        if source.at(i) not in outs or source.tokens[i].kind != 'name':
+        if source.at(i) not in outs or source.tokens[i].kind != 'name' or source.at(i - 1) == '.':
             continue
         if source.at(i - 1) != '*' or source.at(i + 1) != '=':
             source.refuse(i, 'what C may leave uninitialized is read, or written in part')

@@ -3,6 +3,7 @@ ghost use Rattle.uefi_path.specs.Node.{Node, joined};
 ghost use Rattle.uefi_path.specs.Path.{IsPath, AreInstances};
 
 use crate::path::uefi_path_next_instance;
+use crate::status;
 use std::alloc::{AllocError, Allocator};
 
 /// Collects the instances of a path, by a loop: those that the library's `instance_iter` gives.
@@ -17,7 +18,7 @@ pub fn instances_by_steps<'a, A: Allocator>(
     let mut parts = Vec::new(alloc);
     let mut offset = 0;
     let mut instance: &'a [u8] = &[];
-    while uefi_path_next_instance(path, &mut offset, &mut instance) {
+    while uefi_path_next_instance(path, &mut offset, &mut instance) == status::OK {
         parts.push(instance)?;
     }
     Ok(parts)

@@ -3,6 +3,7 @@ ghost use Rattle.uefi_tcg.specs.v1.Log.{IsLog};
 ghost use Rattle.uefi_c.specs.Log1.{event_seen};
 
 use crate::log1::{UefiEvent1, uefi_log1_next};
+use crate::status;
 use std::alloc::{AllocError, Allocator};
 
 /// Collects the events of a version 1 log, by a loop: the log, as the library's `iter` gives it.
@@ -21,7 +22,7 @@ pub fn log1_by_steps<'a, A: Allocator>(
         event_type: 0,
         digest: [0; 20],
     };
-    while uefi_log1_next(log, last_entry, &mut offset, &mut event) {
+    while uefi_log1_next(log, last_entry, &mut offset, &mut event) == status::OK {
         views.push(event)?;
     }
     Ok(views)

@@ -11,6 +11,7 @@ ghost use Rattle.uefi_c.specs.Log2.{digest_seen, parts_of, parts_seen};
 use crate::log2::{
     UefiDigest, UefiEvent2, UefiLogHeader, uefi_digest_next, uefi_log2_header, uefi_log2_next,
 };
+use crate::status;
 use std::alloc::{AllocError, Allocator};
 
 /// Collects the events of a version 2 log, by a loop: the log, as the library's `iter` gives it.
@@ -24,7 +25,7 @@ pub fn log2_by_steps<'a, A: Allocator>(
         × (map parts_seen views.items ≡ map parts_of events)) }
 {
     let mut header = no_header();
-    if !uefi_log2_header(log, last_entry, &mut header) {
+    if uefi_log2_header(log, last_entry, &mut header) != status::OK {
         return Ok(Vec::new(alloc));
     }
     events_from(alloc, log, last_entry, header.rows, header.events_start)
@@ -42,7 +43,7 @@ pub fn log2_after_event_by_steps<'a, A: Allocator>(
         × (map parts_seen views.items ≡ map parts_of events)) }
 {
     let mut header = no_header();
-    if !uefi_log2_header(log, last_entry, &mut header) {
+    if uefi_log2_header(log, last_entry, &mut header) != status::OK {
         return Ok(Vec::new(alloc));
     }
     events_from(alloc, log, last_entry, header.rows, header.event_end)
@@ -71,7 +72,7 @@ fn events_from<'a, A: Allocator>(
         pcr_index: 0,
         event_type: 0,
     };
-    while uefi_log2_next(log, last_entry, rows, &mut offset, &mut event) {
+    while uefi_log2_next(log, last_entry, rows, &mut offset, &mut event) == status::OK {
         views.push(event)?;
     }
     Ok(views)
@@ -109,7 +110,7 @@ pub fn digests_by_steps<'a, A: Allocator>(
         bytes: &[],
         algorithm: 0,
     };
-    while uefi_digest_next(digests, rows, &mut offset, &mut digest) {
+    while uefi_digest_next(digests, rows, &mut offset, &mut digest) == status::OK {
         views.push(digest)?;
     }
     Ok(views)

@@ -3,6 +3,7 @@ ghost use Rattle.uefi_map.specs.memory.Map.{IsMap, entries_of};
 ghost use Rattle.uefi_c.specs.Map.{sizes_of, descriptor_of};
 
 use crate::map::{UefiDescriptor, uefi_map_entry};
+use crate::status;
 use std::alloc::{AllocError, Allocator};
 
 /// Collects the descriptors of a map, by a loop over the index: those that the library's `entries`
@@ -26,7 +27,7 @@ pub fn entries_by_steps<A: Allocator>(
         page_count: 0,
         attribute: 0,
     };
-    while uefi_map_entry(bytes, stride, index, &mut entry) {
+    while uefi_map_entry(bytes, stride, index, &mut entry) == status::OK {
         views.push(entry)?;
         index += 1;
     }

@@ -4,6 +4,7 @@ ghost use Rattle.uefi_path.specs.Path.{IsPath, IsInstance, all_but_last};
 ghost use Rattle.uefi_c.specs.Path.{node_seen};
 
 use crate::path::{UefiNode, uefi_path_next_node};
+use crate::status;
 use std::alloc::{AllocError, Allocator};
 
 /// Collects the nodes of a path or of an instance, by a loop: all but the last, as the library's
@@ -24,7 +25,7 @@ pub fn nodes_by_steps<'a, A: Allocator>(
         device_type: 0,
         sub_type: 0,
     };
-    while uefi_path_next_node(path, &mut offset, &mut node) {
+    while uefi_path_next_node(path, &mut offset, &mut node) == status::OK {
         views.push(node)?;
     }
     Ok(views)

@@ -3,6 +3,7 @@ ghost use Rattle.uefi_hii.specs.Pairs.{pairs};
 ghost use Rattle.uefi_c.specs.Config.{pair_seen};
 
 use crate::config::{UefiPair, uefi_config_next_pair};
+use crate::status;
 use std::alloc::{AllocError, Allocator};
 
 /// Collects the pairs of a configuration text, by a loop: those that the library's
@@ -20,7 +21,7 @@ pub fn pairs_by_steps<'a, A: Allocator>(
         value: &[],
         has_value: false,
     };
-    while uefi_config_next_pair(text, &mut offset, &mut pair) {
+    while uefi_config_next_pair(text, &mut offset, &mut pair) == status::OK {
         views.push(pair)?;
     }
     Ok(views)

@@ -3,6 +3,7 @@ ghost use Rattle.tpm_quote.specs.Quote.{Quote};
 ghost use Rattle.uefi_c.specs.Quote.{AreQuote, selection_given, selection_seen};
 
 use crate::quote::{UefiPcrSelection, uefi_quote_next_selection};
+use crate::status;
 use std::alloc::{AllocError, Allocator};
 
 /// Collects the selections of a quote, by a loop: those that the library's `PcrSelectionIter` gives.
@@ -19,7 +20,7 @@ pub fn selections_by_steps<A: Allocator>(
         pcrs: 0,
         algorithm: 0,
     };
-    while uefi_quote_next_selection(message, &mut cursor, &mut selection) {
+    while uefi_quote_next_selection(message, &mut cursor, &mut selection) == status::OK {
         views.push(selection)?;
     }
     Ok(views)

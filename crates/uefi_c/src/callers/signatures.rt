@@ -4,6 +4,7 @@ ghost use Rattle.uefi_c.specs.Cursor.{AreItems};
 ghost use Rattle.uefi_c.specs.Signatures.{signature_seen};
 
 use crate::event_data::{UefiSignature, uefi_signature_next};
+use crate::status;
 use std::alloc::{AllocError, Allocator};
 
 /// Collects the signatures of a size that the bytes begin with, by a loop.
@@ -21,7 +22,9 @@ pub fn signatures_by_steps<'a, A: Allocator>(
         value: &[],
         owner: [0; 16],
     };
-    while uefi_signature_next(signatures, signature_size, &mut offset, &mut signature) {
+    while uefi_signature_next(signatures, signature_size, &mut offset, &mut signature)
+        == status::OK
+    {
         views.push(signature)?;
     }
     Ok(views)

@@ -3,6 +3,7 @@ ghost use Rattle.uefi_tcg.specs.content.Tagged.{AreTagged};
 ghost use Rattle.uefi_c.specs.EventData.{tagged_seen};
 
 use crate::event_data::{UefiTaggedEvent, uefi_tagged_next};
+use crate::status;
 use std::alloc::{AllocError, Allocator};
 
 /// Collects the tagged events in the data of an event, by a loop: those that the library's
@@ -17,7 +18,7 @@ pub fn tagged_by_steps<'a, A: Allocator>(
     let mut views = Vec::new(alloc);
     let mut offset = 0;
     let mut tagged = UefiTaggedEvent { value: &[], id: 0 };
-    while uefi_tagged_next(event_data, &mut offset, &mut tagged) {
+    while uefi_tagged_next(event_data, &mut offset, &mut tagged) == status::OK {
         views.push(tagged)?;
     }
     Ok(views)

@@ -1,7 +1,9 @@
-ghost use Rattle.std.specs.Prelude.{◌≡◌, [], IsTrue, IsFalse};
+ghost use Rattle.std.specs.Prelude.{◌≡◌, [], IsTrue, ◌≢◌, ◌∷◌};
 ghost use Rattle.uefi_tcg.specs.content.Blob.{ReadsBlob, ReadsDescribedBlob};
 ghost use Rattle.uefi_c.specs.EventData.{given, blob_seen, described_seen};
+ghost use Rattle.uefi_c.specs.Status.{IsOneOf, ok, other_data};
 
+use crate::status::{self, UefiStatus};
 use uefi_tcg::content::{PlatformFirmwareBlob, PlatformFirmwareBlob2};
 
 /// A blob of firmware (TCG PC Client Platform Firmware Profile 1.06, 10.2,
@@ -19,35 +21,37 @@ pub struct UefiBlob<'a> {
 
 /// Reads the blob without a description that the data of an event are.
 #[unsafe(no_mangle)]
-pub extern "C" fn uefi_blob<'a>(event_data: &'a [u8], out: &mut UefiBlob<'a>) -> bool
+pub extern "C" fn uefi_blob<'a>(event_data: &'a [u8], out: &mut UefiBlob<'a>) -> UefiStatus
     ensures blob { ReadsBlob event_data.now (given result (blob_seen out.new)) }
-    ensures description { IsTrue result → out.new.description.now ≡ [] }
-    ensures unchanged { IsFalse result → out.new ≡ out.old }
+    ensures description { result ≡ ok → out.new.description.now ≡ [] }
+    ensures known { IsOneOf result (ok ∷ other_data ∷ []) }
+    ensures unchanged { result ≢ ok → out.new ≡ out.old }
 {
     let Some(blob) = PlatformFirmwareBlob::read(event_data) else {
-        return false;
+        return status::OTHER_DATA;
     };
     *out = UefiBlob {
         description: &[],
         base: blob.base,
         length: blob.length,
     };
-    true
+    status::OK
 }
 
 /// Reads the blob with a description that the data of an event are.
 #[unsafe(no_mangle)]
-pub extern "C" fn uefi_blob2<'a>(event_data: &'a [u8], out: &mut UefiBlob<'a>) -> bool
+pub extern "C" fn uefi_blob2<'a>(event_data: &'a [u8], out: &mut UefiBlob<'a>) -> UefiStatus
     ensures blob { ReadsDescribedBlob event_data.now (given result (described_seen out.new)) }
-    ensures unchanged { IsFalse result → out.new ≡ out.old }
+    ensures known { IsOneOf result (ok ∷ other_data ∷ []) }
+    ensures unchanged { result ≢ ok → out.new ≡ out.old }
 {
     let Some(described) = PlatformFirmwareBlob2::read(event_data) else {
-        return false;
+        return status::OTHER_DATA;
     };
     *out = UefiBlob {
         description: described.description,
         base: described.blob.base,
         length: described.blob.length,
     };
-    true
+    status::OK
 }

@@ -1,9 +1,11 @@
-ghost use Rattle.std.specs.Prelude.{◌≡◌, ◌≤◌, ◌%◌, length, IsTrue, IsFalse};
+ghost use Rattle.std.specs.Prelude.{◌≡◌, ◌≤◌, ◌%◌, length, IsTrue, IsFalse, ◌≢◌, [], ◌∷◌};
 ghost use Rattle.uefi_tcg.specs.content.CrtmVersion.{ReadsCrtmVersion};
 ghost use Rattle.uefi_c.specs.EventData.{given, version_seen};
+ghost use Rattle.uefi_c.specs.Status.{IsOneOf, ok, other_data};
 
 use super::text::{UefiEventText, seen};
 use crate::cursor::units_at;
+use crate::status::{self, UefiStatus};
 use uefi_tcg::content::CrtmVersion;
 
 // The forms of a version.
@@ -33,19 +35,20 @@ pub struct UefiCrtmVersion<'a> {
 pub extern "C" fn uefi_event_crtm_version<'a>(
     event_data: &'a [u8],
     out: &mut UefiCrtmVersion<'a>,
-) -> bool
+) -> UefiStatus
     ensures version { ReadsCrtmVersion event_data.now (given result (version_seen out.new)) }
-    ensures known { IsTrue result → out.new.form ≤ 2 }
-    ensures string { IsTrue result → out.new.form ≡ 0
+    ensures known { result ≡ ok → out.new.form ≤ 2 }
+    ensures string { result ≡ ok → out.new.form ≡ 0
         → IsTrue out.new.text.is_utf16 × IsTrue out.new.text.has_nul }
-    ensures guid { IsTrue result → out.new.form ≡ 1
+    ensures guid { result ≡ ok → out.new.form ≡ 1
         → IsFalse out.new.text.is_utf16 × IsFalse out.new.text.has_nul }
-    ensures whole_units { IsTrue result → IsTrue out.new.text.is_utf16
+    ensures whole_units { result ≡ ok → IsTrue out.new.text.is_utf16
         → length out.new.text.text.now % 2 ≡ 0 }
-    ensures unchanged { IsFalse result → out.new ≡ out.old }
+    ensures status { IsOneOf result (ok ∷ other_data ∷ []) }
+    ensures unchanged { result ≢ ok → out.new ≡ out.old }
 {
     match CrtmVersion::read(event_data) {
-        None => false,
+        None => status::OTHER_DATA,
         Some(CrtmVersion::Ucs2(units)) => {
             let text = UefiEventText {
                 text: units_at(event_data, 0, units.len()),
@@ -53,7 +56,7 @@ pub extern "C" fn uefi_event_crtm_version<'a>(
                 has_nul: true,
             };
             *out = UefiCrtmVersion { text, form: UCS2 };
-            true
+            status::OK
         }
         Some(CrtmVersion::Guid(_)) => {
             let text = UefiEventText {
@@ -62,14 +65,14 @@ pub extern "C" fn uefi_event_crtm_version<'a>(
                 has_nul: false,
             };
             *out = UefiCrtmVersion { text, form: GUID };
-            true
+            status::OK
         }
         Some(CrtmVersion::Other(text)) => {
             *out = UefiCrtmVersion {
                 text: seen(event_data, &text),
                 form: OTHER,
             };
-            true
+            status::OK
         }
     }
 }

@@ -1,10 +1,12 @@
-ghost use Rattle.std.specs.Prelude.{◌≡◌, ◌≤◌, None, length, IsTrue, IsFalse, IfSome, IfNone};
+ghost use Rattle.std.specs.Prelude.{◌≡◌, ◌≤◌, None, length, IfSome, IfNone, ◌≢◌, [], ◌∷◌, Some};
 ghost use Rattle.uefi_base.specs.Views.{slice_units};
 ghost use Rattle.uefi_tcg.specs.UintnSize.{uintn_size_of};
 ghost use Rattle.uefi_tcg.specs.content.Gpt.{GptData as Gpt, IsGptData, ReadsGptData, gpt_bytes};
 ghost use Rattle.uefi_tcg.specs.content.GptViews.{entry_of, header_of};
 ghost use Rattle.uefi_c.specs.Gpt.{HasEntry, HasHeader, entry_seen, header_seen};
+ghost use Rattle.uefi_c.specs.Status.{ended, IsOneOf, ok, other_data};
 
+use crate::status::{self, UefiStatus};
 use uefi_base::UnalignedSlice;
 use uefi_tcg::UintnSize;
 use uefi_tcg::content::{GptData, GptEntry, GptHeader};
@@ -74,17 +76,18 @@ pub extern "C" fn uefi_gpt_header(
     event_data: &[u8],
     uintn_size: u8,
     out: &mut UefiGptHeader,
-) -> bool
-    ensures header { IsTrue result → HasHeader (uintn_size_of uintn_size) event_data.now
+) -> UefiStatus
+    ensures header { result ≡ ok → HasHeader (uintn_size_of uintn_size) event_data.now
         (header_seen out.new) }
-    ensures none { IsFalse result → ReadsGptData (uintn_size_of uintn_size) event_data.now None }
-    ensures unchanged { IsFalse result → out.new ≡ out.old }
+    ensures none { result ≢ ok → ReadsGptData (uintn_size_of uintn_size) event_data.now None }
+    ensures known { IsOneOf result (ok ∷ other_data ∷ []) }
+    ensures unchanged { result ≢ ok → out.new ≡ out.old }
 {
     let Some(gpt) = GptData::read(event_data, UintnSize::from_header(uintn_size)) else {
-        return false;
+        return status::OTHER_DATA;
     };
     *out = seen_header(&gpt.header());
-    true
+    status::OK
 }
 
 /// Reads the entry at an index of the partition table that the data of an event are, with the size
@@ -95,19 +98,27 @@ pub extern "C" fn uefi_gpt_entry<'a>(
     uintn_size: u8,
     index: usize,
     out: &mut UefiGptEntry<'a>,
-) -> bool
-    ensures entry { IsTrue result → HasEntry (uintn_size_of uintn_size) event_data.now index
+) -> UefiStatus
+    ensures entry { result ≡ ok → HasEntry (uintn_size_of uintn_size) event_data.now index
         (entry_seen out.new) }
-    ensures none { let size = uintn_size_of uintn_size in IsFalse result → (gpt : Gpt)
+    ensures known { IsOneOf result (ok ∷ ended ∷ other_data ∷ []) }
+    ensures ended { let size = uintn_size_of uintn_size in result ≡ ended
+        → (gpt : Gpt) × ReadsGptData size event_data.now (Some gpt) }
+    ensures no_table { result ≡ other_data
+        → ReadsGptData (uintn_size_of uintn_size) event_data.now None }
+    ensures none { let size = uintn_size_of uintn_size in result ≢ ok → (gpt : Gpt)
         → IsGptData size gpt → event_data.now ≡ gpt_bytes size gpt → length gpt.entries ≤ index }
-    ensures unchanged { IsFalse result → out.new ≡ out.old }
+    ensures unchanged { result ≢ ok → out.new ≡ out.old }
 {
     let size = UintnSize::from_header(uintn_size);
     let Some(entry) = entry_at(event_data, size, index) else {
-        return false;
+        return match GptData::read(event_data, size) {
+            Some(_gpt) => status::END,
+            None => status::OTHER_DATA,
+        };
     };
     *out = seen_entry(&entry);
-    true
+    status::OK
 }
 
 /// Returns the entry at an index of the table that the bytes are with a `UINTN` of this size.

@@ -1,8 +1,10 @@
-ghost use Rattle.std.specs.Prelude.{◌≡◌, IsFalse};
+ghost use Rattle.std.specs.Prelude.{◌≡◌, ◌≢◌, [], ◌∷◌};
 ghost use Rattle.uefi_tcg.specs.UintnSize.{uintn_size_of};
 ghost use Rattle.uefi_tcg.specs.content.Image.{ReadsImage};
 ghost use Rattle.uefi_c.specs.EventData.{given, image_seen};
+ghost use Rattle.uefi_c.specs.Status.{IsOneOf, ok, other_data};
 
+use crate::status::{self, UefiStatus};
 use uefi_tcg::UintnSize;
 use uefi_tcg::content::ImageLoadEvent;
 
@@ -30,13 +32,14 @@ pub extern "C" fn uefi_image<'a>(
     event_data: &'a [u8],
     uintn_size: u8,
     out: &mut UefiImage<'a>,
-) -> bool
+) -> UefiStatus
     ensures image { ReadsImage (uintn_size_of uintn_size) event_data.now
         (given result (image_seen out.new)) }
-    ensures unchanged { IsFalse result → out.new ≡ out.old }
+    ensures known { IsOneOf result (ok ∷ other_data ∷ []) }
+    ensures unchanged { result ≢ ok → out.new ≡ out.old }
 {
     let Some(image) = ImageLoadEvent::read(event_data, UintnSize::from_header(uintn_size)) else {
-        return false;
+        return status::OTHER_DATA;
     };
     *out = UefiImage {
         device_path: image.device_path,
@@ -45,5 +48,5 @@ pub extern "C" fn uefi_image<'a>(
         length_in_memory: image.length_in_memory,
         link_time_address: image.link_time_address,
     };
-    true
+    status::OK
 }

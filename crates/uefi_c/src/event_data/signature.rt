@@ -1,4 +1,4 @@
-ghost use Rattle.std.specs.Prelude.{◌≡◌, ◌+◌, ◌≤◌, take, drop, length, IsTrue, IsFalse, IfSome, IfNone};
+ghost use Rattle.std.specs.Prelude.{◌≡◌, ◌+◌, ◌≤◌, take, drop, length, IfSome, IfNone, ◌≢◌, ◌<◌, [], ◌∷◌};
 ghost use Rattle.uefi_base.specs.LittleEndian.{u32_at};
 ghost use Rattle.uefi_base.specs.Prefix.{IsPrefix};
 ghost use Rattle.uefi_tcg.specs.content.Signature.{HasSignatureList, HasSize, IsSignatureList, ReadsSignature, Signature, list_bytes, signature_bytes};
@@ -6,8 +6,10 @@ ghost use Rattle.uefi_tcg.specs.content.SignatureViews.{list_of, signature_of};
 ghost use Rattle.uefi_c.specs.Cursor.{Stands};
 ghost use Rattle.uefi_c.specs.EventData.{given};
 ghost use Rattle.uefi_c.specs.Signatures.{IsNextList, IsGivenAs, signature_seen};
+ghost use Rattle.uefi_c.specs.Status.{bad_signature_list, bad_signature_size, cut, ended, IsOneOf, ok, other_data};
 
 use crate::cursor::bytes_from;
+use crate::status::{self, UefiStatus};
 use uefi_base::little_endian::u32_at;
 use uefi_tcg::content::{SignatureData, SignatureList, SignatureLists};
 
@@ -15,6 +17,9 @@ use uefi_tcg::content::{SignatureData, SignatureList, SignatureLists};
 const LIST_SIZE_OFFSET: usize = 16;
 
 const FIELDS_LENGTH: usize = 28;
+
+/// The length of the owner in a signature.
+const OWNER_LENGTH: u32 = 16;
 
 /// A list of signatures of one type (UEFI 2.10, 32.4.1, `EFI_SIGNATURE_LIST`).
 #[derive(Clone, Copy)]
@@ -46,18 +51,25 @@ pub extern "C" fn uefi_signature_list_next<'a>(
     lists: &'a [u8],
     offset: &mut usize,
     out: &mut UefiSignatureList<'a>,
-) -> bool
-    ensures list { IsTrue result → IsNextList lists.now offset.old out.new offset.new }
-    ensures none { IsFalse result → ¬ HasSignatureList (drop offset.old lists.now) }
-    ensures offset_unchanged { IsFalse result → offset.new ≡ offset.old }
-    ensures out_unchanged { IsFalse result → out.new ≡ out.old }
+) -> UefiStatus
+    ensures list { result ≡ ok → IsNextList lists.now offset.old out.new offset.new }
+    ensures known { IsOneOf result (ok ∷ ended ∷ bad_signature_list ∷ []) }
+    ensures ended { result ≡ ended → length lists.now ≤ offset.old }
+    ensures bad_list { result ≡ bad_signature_list → offset.old < length lists.now }
+    ensures none { result ≢ ok → ¬ HasSignatureList (drop offset.old lists.now) }
+    ensures offset_unchanged { result ≢ ok → offset.new ≡ offset.old }
+    ensures out_unchanged { result ≢ ok → out.new ≡ out.old }
 {
     let Some((list, end)) = list_at(lists, *offset) else {
-        return false;
+        return if *offset < lists.len() {
+            status::BAD_SIGNATURE_LIST
+        } else {
+            status::END
+        };
     };
     *out = list;
     *offset = end;
-    true
+    status::OK
 }
 
 /// Returns the list at the offset, and the offset of its end.
@@ -117,18 +129,19 @@ fn seen<'a>(bytes: &'a [u8], list: &SignatureList<'a>) -> UefiSignatureList<'a>
 
 /// Reads the signature that the bytes are: the value of a variable that was measured as an authority.
 #[unsafe(no_mangle)]
-pub extern "C" fn uefi_signature<'a>(bytes: &'a [u8], out: &mut UefiSignature<'a>) -> bool
+pub extern "C" fn uefi_signature<'a>(bytes: &'a [u8], out: &mut UefiSignature<'a>) -> UefiStatus
     ensures signature { ReadsSignature bytes.now (given result (signature_seen out.new)) }
-    ensures unchanged { IsFalse result → out.new ≡ out.old }
+    ensures known { IsOneOf result (ok ∷ other_data ∷ []) }
+    ensures unchanged { result ≢ ok → out.new ≡ out.old }
 {
     let Some(signature) = SignatureData::read(bytes) else {
-        return false;
+        return status::OTHER_DATA;
     };
     *out = UefiSignature {
         value: signature.data,
         owner: signature.owner.0,
     };
-    true
+    status::OK
 }
 
 /// Reads the signature of a size at the offset of a list's signatures, and moves the offset to its
@@ -139,24 +152,45 @@ pub extern "C" fn uefi_signature_next<'a>(
     signature_size: u32,
     offset: &mut usize,
     out: &mut UefiSignature<'a>,
-) -> bool
-    ensures signature { IsTrue result → HasSize signature_size (signature_seen out.new) }
-    ensures stands { IsTrue result → Stands (signature_bytes (signature_seen out.new))
+) -> UefiStatus
+    ensures signature { result ≡ ok → HasSize signature_size (signature_seen out.new) }
+    ensures stands { result ≡ ok → Stands (signature_bytes (signature_seen out.new))
         signatures.now offset.old offset.new }
-    ensures none { IsFalse result → (signature : Signature) → HasSize signature_size signature
+    ensures known { IsOneOf result (ok ∷ ended ∷ cut ∷ bad_signature_size ∷ []) }
+    ensures ended { result ≡ ended → length signatures.now ≤ offset.old }
+    ensures cut { result ≡ cut → offset.old < length signatures.now }
+    ensures bad_size { result ≡ bad_signature_size → signature_size < 16 }
+    ensures none { result ≢ ok → (signature : Signature) → HasSize signature_size signature
         → IsPrefix (signature_bytes signature) (drop offset.old signatures.now) → ⊥ }
-    ensures offset_unchanged { IsFalse result → offset.new ≡ offset.old }
-    ensures out_unchanged { IsFalse result → out.new ≡ out.old }
+    ensures offset_unchanged { result ≢ ok → offset.new ≡ offset.old }
+    ensures out_unchanged { result ≢ ok → out.new ≡ out.old }
 {
     let Some(signature) = signature_at(signatures, signature_size as usize, *offset) else {
-        return false;
+        return no_signature(signatures.len(), signature_size, *offset);
     };
     *out = UefiSignature {
         value: signature.data,
         owner: signature.owner.0,
     };
     *offset += signature_size as usize;
-    true
+    status::OK
+}
+
+/// Returns why no signature of a size is at the offset in this many bytes.
+fn no_signature(length: usize, size: u32, offset: usize) -> UefiStatus
+    ensures known { IsOneOf result (ended ∷ cut ∷ bad_signature_size ∷ []) }
+    ensures ended { result ≡ ended → length ≤ offset }
+    ensures cut { result ≡ cut → offset < length }
+    ensures bad_size { result ≡ bad_signature_size → size < 16 }
+{
+    if size < OWNER_LENGTH {
+        return status::BAD_SIGNATURE_SIZE;
+    }
+    if offset < length {
+        status::CUT
+    } else {
+        status::END
+    }
 }
 
 /// Returns the signature of a size at the offset.

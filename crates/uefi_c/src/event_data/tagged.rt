@@ -1,11 +1,13 @@
-ghost use Rattle.std.specs.Prelude.{◌≡◌, drop, IsTrue, IsFalse, IfSome, IfNone};
+ghost use Rattle.std.specs.Prelude.{◌≡◌, drop, IfSome, IfNone, ◌≢◌, ◌<◌, ◌≤◌, [], ◌∷◌, length};
 ghost use Rattle.uefi_base.specs.Prefix.{IsPrefix};
 ghost use Rattle.uefi_tcg.specs.content.Tagged.{Tagged, IsTagged, tagged_bytes};
 ghost use Rattle.uefi_tcg.specs.content.Views.{tagged_of};
 ghost use Rattle.uefi_c.specs.Cursor.{Stands};
 ghost use Rattle.uefi_c.specs.EventData.{tagged_seen};
+ghost use Rattle.uefi_c.specs.Status.{cut, ended, IsOneOf, ok};
 
 use crate::cursor::bytes_from;
+use crate::status::{self, UefiStatus};
 use uefi_tcg::content::{TaggedEvent, TaggedEvents};
 
 /// A tagged event (TCG PC Client Platform Firmware Profile 1.06, 10.4.1,
@@ -25,24 +27,31 @@ pub extern "C" fn uefi_tagged_next<'a>(
     event_data: &'a [u8],
     offset: &mut usize,
     out: &mut UefiTaggedEvent<'a>,
-) -> bool
-    ensures tagged { IsTrue result → IsTagged (tagged_seen out.new) }
-    ensures stands { IsTrue result → Stands (tagged_bytes (tagged_seen out.new))
+) -> UefiStatus
+    ensures tagged { result ≡ ok → IsTagged (tagged_seen out.new) }
+    ensures stands { result ≡ ok → Stands (tagged_bytes (tagged_seen out.new))
         event_data.now offset.old offset.new }
-    ensures none { IsFalse result → (tagged : Tagged) → IsTagged tagged
+    ensures known { IsOneOf result (ok ∷ ended ∷ cut ∷ []) }
+    ensures ended { result ≡ ended → length event_data.now ≤ offset.old }
+    ensures cut { result ≡ cut → offset.old < length event_data.now }
+    ensures none { result ≢ ok → (tagged : Tagged) → IsTagged tagged
         → IsPrefix (tagged_bytes tagged) (drop offset.old event_data.now) → ⊥ }
-    ensures offset_unchanged { IsFalse result → offset.new ≡ offset.old }
-    ensures out_unchanged { IsFalse result → out.new ≡ out.old }
+    ensures offset_unchanged { result ≢ ok → offset.new ≡ offset.old }
+    ensures out_unchanged { result ≢ ok → out.new ≡ out.old }
 {
     let Some((tagged, end)) = tagged_at(event_data, *offset) else {
-        return false;
+        return if *offset < event_data.len() {
+            status::CUT
+        } else {
+            status::END
+        };
     };
     *out = UefiTaggedEvent {
         value: tagged.data,
         id: tagged.id,
     };
     *offset = end;
-    true
+    status::OK
 }
 
 /// Returns the tagged event at the offset, and the offset of its end.

@@ -1,9 +1,11 @@
-ghost use Rattle.std.specs.Prelude.{◌≡◌, ◌%◌, length, IsTrue, IsFalse};
+ghost use Rattle.std.specs.Prelude.{◌≡◌, ◌%◌, length, IsTrue, ◌≢◌, [], ◌∷◌};
 ghost use Rattle.uefi_tcg.specs.content.Text.{IsEventText, ReadsText, text_bytes};
 ghost use Rattle.uefi_tcg.specs.content.Views.{text_of};
 ghost use Rattle.uefi_c.specs.EventData.{given, text_seen};
+ghost use Rattle.uefi_c.specs.Status.{IsOneOf, ok, other_data};
 
 use crate::cursor::units_at;
+use crate::status::{self, UefiStatus};
 use uefi_tcg::content::EventText;
 
 /// The text of an event (TCG PC Client Platform Firmware Profile 1.06, 10.4.1, `EV_IPL`).
@@ -21,17 +23,21 @@ pub struct UefiEventText<'a> {
 
 /// Reads the text that the data of an event are.
 #[unsafe(no_mangle)]
-pub extern "C" fn uefi_event_text<'a>(event_data: &'a [u8], out: &mut UefiEventText<'a>) -> bool
+pub extern "C" fn uefi_event_text<'a>(
+    event_data: &'a [u8],
+    out: &mut UefiEventText<'a>,
+) -> UefiStatus
     ensures text { ReadsText event_data.now (given result (text_seen out.new)) }
-    ensures whole_units { IsTrue result
+    ensures whole_units { result ≡ ok
         → IsTrue out.new.is_utf16 → length out.new.text.now % 2 ≡ 0 }
-    ensures unchanged { IsFalse result → out.new ≡ out.old }
+    ensures known { IsOneOf result (ok ∷ other_data ∷ []) }
+    ensures unchanged { result ≢ ok → out.new ≡ out.old }
 {
     let Some(text) = EventText::read(event_data) else {
-        return false;
+        return status::OTHER_DATA;
     };
     *out = seen(event_data, &text);
-    true
+    status::OK
 }
 
 /// Returns the text that the bytes are, with its bytes.

@@ -1,8 +1,10 @@
-ghost use Rattle.std.specs.Prelude.{◌≡◌, ◌%◌, length, IsTrue, IsFalse};
+ghost use Rattle.std.specs.Prelude.{◌≡◌, ◌%◌, length, IsTrue, ◌≢◌, [], ◌∷◌};
 ghost use Rattle.uefi_tcg.specs.content.Variable.{ReadsVariable};
 ghost use Rattle.uefi_c.specs.EventData.{given, variable_seen};
+ghost use Rattle.uefi_c.specs.Status.{IsOneOf, ok, other_data};
 
 use crate::cursor::units_at;
+use crate::status::{self, UefiStatus};
 use uefi_tcg::content::VariableData;
 
 /// The offset of the name in a variable's data.
@@ -23,18 +25,19 @@ pub struct UefiVariable<'a> {
 
 /// Reads the variable that the data of an event are, whole and alone.
 #[unsafe(no_mangle)]
-pub extern "C" fn uefi_variable<'a>(event_data: &'a [u8], out: &mut UefiVariable<'a>) -> bool
+pub extern "C" fn uefi_variable<'a>(event_data: &'a [u8], out: &mut UefiVariable<'a>) -> UefiStatus
     ensures variable { ReadsVariable event_data.now (given result (variable_seen out.new)) }
-    ensures whole_units { IsTrue result → length out.new.name.now % 2 ≡ 0 }
-    ensures unchanged { IsFalse result → out.new ≡ out.old }
+    ensures whole_units { result ≡ ok → length out.new.name.now % 2 ≡ 0 }
+    ensures known { IsOneOf result (ok ∷ other_data ∷ []) }
+    ensures unchanged { result ≢ ok → out.new ≡ out.old }
 {
     let Some(variable) = VariableData::read(event_data) else {
-        return false;
+        return status::OTHER_DATA;
     };
     *out = UefiVariable {
         name: units_at(event_data, NAME_OFFSET, variable.name.len()),
         value: variable.data,
         guid: variable.guid.0,
     };
-    true
+    status::OK
 }

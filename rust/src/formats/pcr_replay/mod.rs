@@ -11,20 +11,30 @@
 
 pub use self::bank::Bank;
 pub use self::bank_pcrs::BankPcrs;
+// For the functions for C, or for tests: they compile these files too.
+#[allow(unused_imports)]
+pub(crate) use self::bank_store::BankStore;
 pub use self::digest::{has_digest, is_hash_of, is_hash_of_data};
 pub use self::fault::{Fault, Undetermined};
 pub use self::ignored::{Ignored, why_ignored};
 pub use self::pcrs::{PCR_COUNT, Pcrs};
 pub use self::quote::{NoQuoteDigest, is_quoted, quote_digest};
+// For the functions for C, or for tests: they compile these files too.
+#[allow(unused_imports)]
+pub(crate) use self::quote::quote_digest_in;
 #[cfg(feature = "alloc")]
 pub use self::read_log::ReadLog;
 pub use self::read_log::ReadLogError;
 pub use self::replaying::{has_measured, is_active, replay, replay_from};
+// For the functions for C, or for tests: they compile these files too.
+#[allow(unused_imports)]
+pub(crate) use self::replaying::replay_into;
 pub use self::start::{Start, locality_in, startup_locality, stated_locality};
 pub use self::value::PcrValue;
 
 mod bank;
 mod bank_pcrs;
+mod bank_store;
 mod digest;
 pub mod entries;
 mod fault;

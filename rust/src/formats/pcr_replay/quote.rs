@@ -2,9 +2,9 @@
 
 use crate::formats::pcr_replay::bank::Bank;
 use crate::formats::pcr_replay::bank_pcrs::BankPcrs;
+use crate::formats::pcr_replay::bank_store::BankStore;
 use crate::formats::pcr_replay::fault::Undetermined;
 use crate::formats::pcr_replay::hasher::Hasher;
-use crate::formats::pcr_replay::pcrs::Pcrs;
 use crate::formats::pcr_replay::value::PcrValue;
 use crate::formats::tpm_quote::{PcrSelection, Quote};
 use crate::formats::uefi_tcg::{AlgorithmId, PcrIndex};
@@ -36,6 +36,20 @@ pub fn quote_digest(
     quote: &Quote<'_>,
     banks: &[BankPcrs],
 ) -> Result<PcrValue, NoQuoteDigest> {
+    quote_digest_in(hash, quote, banks)
+}
+
+/// Returns that digest, of PCRs that are kept in any memory.
+///
+/// # Errors
+///
+/// As [`quote_digest`].
+#[inline]
+pub(crate) fn quote_digest_in<B: BankStore>(
+    hash: Bank,
+    quote: &Quote<'_>,
+    banks: &[B],
+) -> Result<PcrValue, NoQuoteDigest> {
     let mut hasher = Hasher::new(hash);
     for selection in quote.pcr_selections() {
         take_selection(&mut hasher, &selection, banks)?;
@@ -58,10 +72,10 @@ pub fn is_quoted(quote: &Quote<'_>, bank: Bank) -> bool {
 ///
 /// As [`quote_digest`].
 #[inline]
-fn take_selection(
+fn take_selection<B: BankStore>(
     hasher: &mut Hasher,
     selection: &PcrSelection<'_>,
-    banks: &[BankPcrs],
+    banks: &[B],
 ) -> Result<(), NoQuoteDigest> {
     let algorithm = selection.algorithm();
     for pcr in selection.pcrs() {
@@ -77,27 +91,29 @@ fn take_selection(
 ///
 /// As [`quote_digest`].
 #[inline]
-fn quoted_value(
-    banks: &[BankPcrs],
+fn quoted_value<B: BankStore>(
+    banks: &[B],
     algorithm: AlgorithmId,
     pcr: PcrIndex,
 ) -> Result<PcrValue, NoQuoteDigest> {
-    let Some(pcrs) = pcrs_of(banks, algorithm) else {
-        return Err(NoQuoteDigest::NoBank(algorithm));
-    };
-    match pcrs.outcome(pcr) {
-        Some(Ok(value)) => Ok(*value),
-        Some(Err(at)) => Err(NoQuoteDigest::Undetermined(algorithm, pcr, *at)),
+    match outcome_in(banks, algorithm, pcr) {
+        Some(Ok(value)) => Ok(value),
+        Some(Err(at)) => Err(NoQuoteDigest::Undetermined(algorithm, pcr, at)),
         None => Err(NoQuoteDigest::NoBank(algorithm)),
     }
 }
 
-/// Returns the PCRs of an algorithm's bank; `None` if it isn't among these.
+/// Returns what a PCR of an algorithm's bank holds; `None` if the bank isn't among these, or has no
+/// such PCR.
 #[inline]
-fn pcrs_of(banks: &[BankPcrs], algorithm: AlgorithmId) -> Option<&Pcrs> {
+fn outcome_in<B: BankStore>(
+    banks: &[B],
+    algorithm: AlgorithmId,
+    pcr: PcrIndex,
+) -> Option<Result<PcrValue, Undetermined>> {
     for found in banks {
-        if found.bank.algorithm() == algorithm {
-            return Some(&found.pcrs);
+        if found.bank().algorithm() == algorithm {
+            return found.outcome(pcr);
         }
     }
     None

@@ -1,5 +1,5 @@
 use Rattle.uefi_c.proofs.BootOrders.{no_order}
 use Rattle.uefi_c.proofs.boot_order.uefi_boot_order.Goals as goal
 
-pub returns-in_default-clause-none : goal.returns-in_default-clause-none
-returns-in_default-clause-none c = λ _. no_order c.args.bytes.now c.args.index c.in_default.ensures
+pub returns-in_default-clause-no_order : goal.returns-in_default-clause-no_order
+returns-in_default-clause-no_order c = λ _. no_order c.args.bytes.now c.in_default.ensures

@@ -7,7 +7,8 @@ use Rattle.pcr_replay.specs.BankReplays.{replayed}
 use Rattle.pcr_replay.specs.Quotes.{is_quoted, quote_digest}
 use Rattle.pcr_replay.specs.Replay.{is_active}
 use Rattle.pcr_replay.specs.declared.bank.Bank.{Bank}
-use Rattle.uefi_c.proofs.QuoteBanks.{all_replayed, bank_at, one_fails, one_passes}
+use Rattle.uefi_c.specs.declared.workspace.UefiWorkspace.{UefiWorkspace}
+use Rattle.uefi_c.proofs.QuoteBanks.{all_replayed, one_fails, one_passes}
 use Rattle.uefi_c.proofs.quote_digest.digest_of.Goals as goal
 use Rattle.uefi_c.proofs.quote_digest.digest_of.Goals.{then-is_compared, else-is_compared}
 
@@ -18,31 +19,31 @@ loop-index-preserved c =
     let now = c.loop-index in
     elim c.if-is_compared.branch [
       | then-is_compared w ↦ record {
-        replayed = λ contents has. rw (w.banks-is, w.count-is) (
-            one_passes (test contents) (replayed c.args.start.now contents.entries) now.banks now.count now.index
-            (record { bank = bank_at now.index; pcrs = w.replay_from-pcrs.result })
+        replayed = λ contents has. rw (w.workspace-is, w.count-is) (
+            one_passes (test contents) (replayed c.args.start.now contents.entries) now.workspace.banks now.count now.index
+            w.replay_into.new.store
             (omega (arith, now.invariant.few, now.invariant.room, c.loop-index-test.true)) c.loop-index-test.true
             (sym (c.is_compared.ensures contents has) ∙ w.if-is_compared.true)
-            (λ i. record { bank = bank_at now.index; outcomes = w.replay_from-pcrs.ensures contents has i })
+            (w.replay_into.ensures contents has)
             (now.invariant.replayed contents has)
             );
         few = omega (arith, w.count-is, now.invariant.few);
-        room = ap length w.banks-is ∙ length-set now.banks now.count _ ∙ now.invariant.room;
+        room = ap (λ (it : UefiWorkspace). length it.banks) w.workspace-is ∙ length-set now.workspace.banks now.count _ ∙ now.invariant.room;
       }
       | else-is_compared w ↦ record {
-        replayed = λ contents has. rw (w.banks-is, w.count-is) (
-            one_fails (test contents) (replayed c.args.start.now contents.entries) now.banks now.count now.index c.loop-index-test.true
+        replayed = λ contents has. rw (w.workspace-is, w.count-is) (
+            one_fails (test contents) (replayed c.args.start.now contents.entries) now.workspace.banks now.count now.index c.loop-index-test.true
             (sym (c.is_compared.ensures contents has) ∙ w.if-is_compared.false) (now.invariant.replayed contents has)
             );
         few = omega (arith, w.count-is, now.invariant.few);
-        room = rw w.banks-is now.invariant.room;
+        room = rw w.workspace-is now.invariant.room;
       }
     ]
 
 pub returns : goal.returns
 returns c = λ contents has.
-    c.quote_digest.ensures
+    c.quote_digest_in.ensures
     ∙ ap (λ banks. quote_digest c.args.hash banks (quote_of c.args.quote.now))
     (all_replayed (λ bank. is_quoted (quote_of c.args.quote.now) bank && is_active bank contents.entries)
-    (replayed c.args.start.now contents.entries) c.loop-index.banks c.loop-index.count c.loop-index.index
+    (replayed c.args.start.now contents.entries) c.loop-index.workspace.banks c.loop-index.count c.loop-index.index
     c.loop-index-test.false (c.loop-index.invariant.replayed contents has))

@@ -14,7 +14,7 @@ abbrev pub invariant-loop-index : goal.invariant-loop-index
 invariant-loop-index l = record {
   replayed : (contents : Contents) → HasContents l.log contents
       → AreReplayed (λ bank. is_quoted (quote_of l.quote) bank && is_active bank contents.entries)
-      (replayed l.start contents.entries) l.banks l.count l.index;
+      (replayed l.start contents.entries) l.workspace.banks l.count l.index;
   few : l.count ≤ l.index;
-  room : length l.banks ≡ 5;
+  room : length l.workspace.banks ≡ 5;
 }

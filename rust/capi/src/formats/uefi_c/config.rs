@@ -4,6 +4,7 @@ use core::mem::MaybeUninit;
 use crate::bytes::Bytes;
 
 use crate::formats::uefi_c::cursor::bytes_from;
+use crate::formats::uefi_c::status::{self, UefiStatus};
 use crate::formats::uefi_hii::next_pair;
 
 /// A key of a configuration text, and its value if it has one.
@@ -24,14 +25,14 @@ pub extern "C" fn uefi_config_next_pair<'a>(
     text: Bytes<'a>,
     offset: &mut usize,
     out: &mut MaybeUninit<UefiPair<'a>>,
-) -> bool {
+) -> UefiStatus {
     let text = text.as_slice();
     let Some((pair, end)) = pair_at(text, *offset) else {
-        return false;
+        return status::END;
     };
     out.write(pair);
     *offset = end;
-    true
+    status::OK
 }
 
 /// Returns the pair of a configuration text at the offset, and the offset of the next.

@@ -4,6 +4,7 @@ use core::mem::MaybeUninit;
 use crate::bytes::{Buffer, Bytes};
 
 use crate::formats::uefi_c::character::{character_of, put_character};
+use crate::formats::uefi_c::status::{self, UefiStatus};
 use crate::formats::uefi_hii::ConfigurationString;
 
 /// Writes the name that the value of a pair with the key `NAME` spells, in UTF-8, to the beginning
@@ -13,26 +14,26 @@ use crate::formats::uefi_hii::ConfigurationString;
 /// `uefi_hex`. Two of them are a unit, the high byte first, and a character: not zero, and no
 /// surrogate. An odd last byte is 0, and no unit. A name may be empty.
 ///
-/// If it returns false, all bytes stay as they were, and `size` is the length that the buffer
-/// needs, or 0 if the value spells no name.
+/// If it returns another status than success, all bytes stay as they were, and `size` is the length
+/// that the buffer needs, or 0 if the value spells no name.
 #[unsafe(no_mangle)]
-pub extern "C" fn uefi_config_name(value: Bytes<'_>, buffer: Buffer<'_>, size: &mut MaybeUninit<usize>) -> bool {
-    let value = value.as_slice();
+pub extern "C" fn uefi_config_name(buffer: Buffer<'_>, value: Bytes<'_>, size: &mut MaybeUninit<usize>) -> UefiStatus {
     let buffer = buffer.into_slice();
+    let value = value.as_slice();
     let Ok(text) = core::str::from_utf8(value) else {
         size.write(0);
-        return false;
+        return status::NOT_TEXT;
     };
     let Some(length) = name_length(text) else {
         size.write(0);
-        return false;
+        return status::NOT_TEXT;
     };
     size.write(length);
     if buffer.len() < length {
-        return false;
+        return status::BUFFER_TOO_SMALL;
     }
     write_name(text, buffer);
-    true
+    status::OK
 }
 
 /// Returns the length in UTF-8 of the name that a value spells, or `None` if it spells none.

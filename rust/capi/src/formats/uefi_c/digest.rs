@@ -4,6 +4,7 @@ use core::mem::MaybeUninit;
 use crate::bytes::Bytes;
 
 use crate::formats::uefi_c::log2::event_at;
+use crate::formats::uefi_c::status::{self, UefiStatus};
 use crate::formats::uefi_tcg::AlgorithmId;
 
 /// Reads the first digest of an algorithm in the event under the table of these rows that starts at
@@ -16,15 +17,15 @@ pub extern "C" fn uefi_log2_digest<'a>(
     offset: usize,
     algorithm: u16,
     out: &mut MaybeUninit<Bytes<'a>>,
-) -> bool {
+) -> UefiStatus {
     let log = log.as_slice();
     let rows = rows.as_slice();
     let Some(event) = event_at(log, last_entry, rows, offset) else {
-        return false;
+        return status::NO_EVENT;
     };
     let Some(digest) = event.digest(AlgorithmId(algorithm)) else {
-        return false;
+        return status::NO_DIGEST;
     };
     out.write(Bytes::new(digest));
-    true
+    status::OK
 }

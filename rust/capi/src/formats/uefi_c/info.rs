@@ -3,7 +3,9 @@
 use core::mem::MaybeUninit;
 use crate::bytes::Bytes;
 
+use crate::formats::uefi_c::status::{self, UefiStatus};
 use crate::formats::uefi_c::time::{UefiTime, seen};
+use crate::formats::uefi_base::Error;
 use crate::formats::uefi_records::{FileInfo, FileSystemInfo, FileSystemVolumeLabel};
 
 /// The offset of the name in a file information record.
@@ -54,15 +56,15 @@ pub struct UefiFileSystemInfo<'a> {
 
 /// Reads the file information record in the first `written` bytes of the buffer.
 ///
-/// If it returns false, `needed` is the size of the record if the buffer is too small for it, and 0
-/// if the written bytes have no name.
+/// If it isn't there, `needed` is the size of the record if the buffer is too small for it, and 0 if
+/// the written bytes have no name.
 #[unsafe(no_mangle)]
 pub extern "C" fn uefi_file_info<'a>(
     buffer: Bytes<'a>,
     written: usize,
     out: &mut MaybeUninit<UefiFileInfo<'a>>,
     needed: &mut MaybeUninit<usize>,
-) -> bool {
+) -> UefiStatus {
     let buffer = buffer.as_slice();
     match FileInfo::from_uefi(buffer, written) {
         Ok(info) => {
@@ -76,26 +78,26 @@ pub extern "C" fn uefi_file_info<'a>(
                 last_access_time: seen(&info.last_access_time()),
                 modification_time: seen(&info.modification_time()),
             });
-            true
+            status::OK
         }
         Err(error) => {
             needed.write(error.data().unwrap_or(0));
-            false
+            status_of(&error)
         }
     }
 }
 
 /// Reads the file system information record in the first `written` bytes of the buffer.
 ///
-/// If it returns false, `needed` is the size of the record if the buffer is too small for it, and 0
-/// if the written bytes have no label.
+/// If it isn't there, `needed` is the size of the record if the buffer is too small for it, and 0 if
+/// the written bytes have no label.
 #[unsafe(no_mangle)]
 pub extern "C" fn uefi_file_system_info<'a>(
     buffer: Bytes<'a>,
     written: usize,
     out: &mut MaybeUninit<UefiFileSystemInfo<'a>>,
     needed: &mut MaybeUninit<usize>,
-) -> bool {
+) -> UefiStatus {
     let buffer = buffer.as_slice();
     match FileSystemInfo::from_uefi(buffer, written) {
         Ok(info) => {
@@ -107,11 +109,11 @@ pub extern "C" fn uefi_file_system_info<'a>(
                 block_size: info.block_size(),
                 read_only: info.read_only(),
             });
-            true
+            status::OK
         }
         Err(error) => {
             needed.write(error.data().unwrap_or(0));
-            false
+            status_of(&error)
         }
     }
 }
@@ -124,17 +126,26 @@ pub extern "C" fn uefi_volume_label<'a>(
     written: usize,
     label: &mut MaybeUninit<Bytes<'a>>,
     needed: &mut MaybeUninit<usize>,
-) -> bool {
+) -> UefiStatus {
     let buffer = buffer.as_slice();
     match FileSystemVolumeLabel::from_uefi(buffer, written) {
         Ok(record) => {
             label.write(Bytes::new(name_bytes(buffer, 0, record.volume_label().len())));
-            true
+            status::OK
         }
         Err(error) => {
             needed.write(error.data().unwrap_or(0));
-            false
+            status_of(&error)
         }
+    }
+}
+
+/// Returns the status of an error.
+#[inline]
+fn status_of(error: &Error<Option<usize>>) -> UefiStatus {
+    match error.data() {
+        Some(_size) => status::BUFFER_TOO_SMALL,
+        None => status::NOT_NUL_TERMINATED,
     }
 }
 

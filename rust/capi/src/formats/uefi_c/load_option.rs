@@ -4,6 +4,7 @@ use core::mem::MaybeUninit;
 use crate::bytes::Bytes;
 
 use crate::formats::uefi_c::info::name_bytes;
+use crate::formats::uefi_c::status::{self, UefiStatus};
 use crate::formats::uefi_path::{LoadOption, LoadOptionError};
 
 /// The offset of the description.
@@ -28,18 +29,18 @@ pub struct UefiLoadOption<'a> {
 
 /// Reads the load option that the bytes are.
 ///
-/// It returns 0, or why they are none: 1 if there are fewer than six, 2 if no unit of the
-/// description is zero, 3 if fewer bytes follow than the file path list is stated to have, 4 if the
-/// list begins with no device path.
+/// If they are none, it returns why: there are fewer than six, no unit of the description is zero,
+/// fewer bytes follow than the file path list is stated to have, or the list begins with no device
+/// path.
 #[unsafe(no_mangle)]
-pub extern "C" fn uefi_load_option<'a>(bytes: Bytes<'a>, out: &mut MaybeUninit<UefiLoadOption<'a>>) -> u32 {
+pub extern "C" fn uefi_load_option<'a>(bytes: Bytes<'a>, out: &mut MaybeUninit<UefiLoadOption<'a>>) -> UefiStatus {
     let bytes = bytes.as_slice();
     match LoadOption::try_from(bytes) {
         Ok(option) => {
             out.write(seen(bytes, &option));
-            0
+            status::OK
         }
-        Err(error) => error_number(&error),
+        Err(error) => status_of(&error),
     }
 }
 
@@ -56,13 +57,13 @@ fn seen<'a>(bytes: &'a [u8], option: &LoadOption<'a>) -> UefiLoadOption<'a> {
     }
 }
 
-/// Returns the number of an error.
+/// Returns the status of an error.
 #[inline]
-fn error_number(error: &LoadOptionError) -> u32 {
+fn status_of(error: &LoadOptionError) -> UefiStatus {
     match error {
-        LoadOptionError::TooShort => 1,
-        LoadOptionError::NotNulTerminated => 2,
-        LoadOptionError::FilePathListTooLong => 3,
-        LoadOptionError::FilePath(_) => 4,
+        LoadOptionError::TooShort => status::TOO_SHORT,
+        LoadOptionError::NotNulTerminated => status::NOT_NUL_TERMINATED,
+        LoadOptionError::FilePathListTooLong => status::FILE_PATH_LIST_TOO_LONG,
+        LoadOptionError::FilePath(_) => status::NO_FILE_PATH,
     }
 }

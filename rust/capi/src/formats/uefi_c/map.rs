@@ -3,6 +3,7 @@
 use core::mem::MaybeUninit;
 use crate::bytes::{Buffer, Bytes};
 
+use crate::formats::uefi_c::status::{self, UefiStatus};
 use crate::formats::uefi_map::{
     MemoryAttribute, MemoryDescriptor, MemoryMap, MemoryMapKey, MemoryMapMeta, MemoryMapMut,
     MemoryMapRef, MemoryMapRefMut, MemoryType,
@@ -26,11 +27,15 @@ pub struct UefiDescriptor {
     pub attribute: u64,
 }
 
-/// Returns whether all the bytes are a map with this stride.
+/// Tests that all the bytes are a map with this stride.
 #[unsafe(no_mangle)]
-pub extern "C" fn uefi_map_check(map: Bytes<'_>, stride: usize) -> bool {
+pub extern "C" fn uefi_map_check(map: Bytes<'_>, stride: usize) -> UefiStatus {
     let map = map.as_slice();
-    sizes_of(map.len(), stride).is_map_within(map.len())
+    if sizes_of(map.len(), stride).is_map_within(map.len()) {
+        status::OK
+    } else {
+        status::NOT_MAP
+    }
 }
 
 /// Reads the descriptor at an index of the map that all the bytes are.
@@ -40,13 +45,13 @@ pub extern "C" fn uefi_map_entry(
     stride: usize,
     index: usize,
     out: &mut MaybeUninit<UefiDescriptor>,
-) -> bool {
+) -> UefiStatus {
     let map = map.as_slice();
     let Ok(map) = MemoryMapRef::new(map, sizes_of(map.len(), stride)) else {
-        return false;
+        return status::NOT_MAP;
     };
     let Some(entry) = map.get(index) else {
-        return false;
+        return status::END;
     };
     out.write(UefiDescriptor {
         memory_type: entry.ty.0,
@@ -56,7 +61,7 @@ pub extern "C" fn uefi_map_entry(
         page_count: entry.page_count,
         attribute: entry.att.bits(),
     });
-    true
+    status::OK
 }
 
 /// Writes the descriptor at an index of the map that all the bytes are: its forty bytes.
@@ -66,16 +71,16 @@ pub extern "C" fn uefi_map_set(
     stride: usize,
     index: usize,
     entry: &UefiDescriptor,
-) -> bool {
+) -> UefiStatus {
     let map = map.into_slice();
     let sizes = sizes_of(map.len(), stride);
     if !sizes.is_map_within(map.len()) {
-        return false;
+        return status::NOT_MAP;
     }
     let mut map = MemoryMapRefMut::over(map, sizes);
     match map.set(index, descriptor_of(entry)) {
-        Some(_) => true,
-        None => false,
+        Some(_) => status::OK,
+        None => status::END,
     }
 }
 

@@ -3,31 +3,9 @@
 use core::mem::MaybeUninit;
 use crate::bytes::Bytes;
 
+use crate::formats::uefi_c::status::{self, UefiStatus};
 use crate::formats::tpm_quote::{PcrSelection, Quote, QuoteError};
 use crate::formats::uefi_tcg::PcrIndex;
-
-// Why bytes are no quote.
-
-/// They are one.
-const NO_FAULT: u32 = 0;
-
-/// The first four bytes aren't the magic of what a TPM makes.
-const NOT_GENERATED: u32 = 1;
-
-/// The TPM signed another structure.
-const NOT_QUOTE: u32 = 2;
-
-/// The byte `safe` of the clock is neither 0 nor 1.
-const SAFE: u32 = 3;
-
-/// A selection isn't one of a PC.
-const SELECTION: u32 = 4;
-
-/// The bytes end within a field, or before one.
-const TOO_SHORT: u32 = 5;
-
-/// Bytes follow the quote.
-const LEFT_OVER: u32 = 6;
 
 /// How many PCRs a PC has.
 const PCR_COUNT: u32 = 24;
@@ -65,46 +43,41 @@ pub struct UefiPcrSelection {
     pub algorithm: u16,
 }
 
-/// Reads the quote that the bytes are, whole and alone.
+/// Reads the quote that the bytes are, whole and alone. If they are none, it returns why: the first
+/// fault, where they are read from the first to the last.
 #[unsafe(no_mangle)]
-pub extern "C" fn uefi_quote<'a>(message: Bytes<'a>, out: &mut MaybeUninit<UefiQuote<'a>>) -> bool {
-    let message = message.as_slice();
-    let Ok(quote) = Quote::try_from(message) else {
-        return false;
-    };
-    out.write(seen(&quote));
-    true
-}
-
-/// Returns why bytes are no quote: 0 if they are one, 1 without the magic of a TPM, 2 for another
-/// structure, 3 for another byte `safe` than 0 and 1, 4 for a selection that a PC hasn't, 5 for too
-/// few bytes, 6 for bytes after the quote.
-#[unsafe(no_mangle)]
-pub extern "C" fn uefi_quote_fault(message: Bytes<'_>) -> u32 {
+pub extern "C" fn uefi_quote<'a>(message: Bytes<'a>, out: &mut MaybeUninit<UefiQuote<'a>>) -> UefiStatus {
     let message = message.as_slice();
     match Quote::try_from(message) {
-        Ok(_quote) => NO_FAULT,
-        Err(error) => fault_number(&error),
+        Ok(quote) => {
+            out.write(seen(&quote));
+            status::OK
+        }
+        Err(error) => status_of(&error),
     }
 }
 
 /// Reads the selection of this index, and moves the index to the next. It goes over all selections.
+/// If the bytes are no quote, it returns why, as [`uefi_quote`].
 #[unsafe(no_mangle)]
 pub extern "C" fn uefi_quote_next_selection(
     message: Bytes<'_>,
     cursor: &mut usize,
     out: &mut MaybeUninit<UefiPcrSelection>,
-) -> bool {
+) -> UefiStatus {
     let message = message.as_slice();
     let Some(selection) = selection_at(message, *cursor) else {
-        return false;
+        return match Quote::try_from(message) {
+            Ok(_quote) => status::END,
+            Err(error) => status_of(&error),
+        };
     };
     out.write(UefiPcrSelection {
         pcrs: set_of(&selection),
         algorithm: selection.algorithm().0,
     });
     *cursor += 1;
-    true
+    status::OK
 }
 
 /// Returns the fields of a quote.
@@ -123,16 +96,16 @@ fn seen<'a>(quote: &Quote<'a>) -> UefiQuote<'a> {
     }
 }
 
-/// Returns the number of a fault.
+/// Returns the status of a fault.
 #[inline]
-fn fault_number(error: &QuoteError) -> u32 {
+pub(crate) fn status_of(error: &QuoteError) -> UefiStatus {
     match error {
-        QuoteError::NotGenerated => NOT_GENERATED,
-        QuoteError::NotQuote(_) => NOT_QUOTE,
-        QuoteError::Safe(_) => SAFE,
-        QuoteError::Selection => SELECTION,
-        QuoteError::TooShort => TOO_SHORT,
-        QuoteError::LeftOver => LEFT_OVER,
+        QuoteError::NotGenerated => status::NOT_GENERATED,
+        QuoteError::NotQuote(_) => status::NOT_QUOTE,
+        QuoteError::Safe(_) => status::BAD_SAFE,
+        QuoteError::Selection => status::BAD_SELECTION,
+        QuoteError::TooShort => status::TOO_SHORT,
+        QuoteError::LeftOver => status::LEFT_OVER,
     }
 }
 

@@ -1,25 +1,20 @@
 // @generated from proved source. It is not edited.
 
 use core::mem::MaybeUninit;
-use crate::bytes::Bytes;
+use crate::bytes::{Bytes, workspace_in};
 
-use crate::formats::uefi_c::replay::{NO_FAULT, ROOM, fault_number, log_of, start_of};
+use crate::formats::uefi_c::quote::status_of;
+use crate::formats::uefi_c::replay::{ROOM, log_of, start_of, status_of as fault_status};
+use crate::formats::uefi_c::status::{self, UefiStatus};
+use crate::formats::uefi_c::workspace::{BANK_COUNT, UefiWorkspace};
 use crate::formats::pcr_replay::{
-    Bank, BankPcrs, NoQuoteDigest, PcrValue, Pcrs, Start, is_active, is_quoted, quote_digest,
-    replay_from,
+    Bank, NoQuoteDigest, PcrValue, Start, is_active, is_quoted, quote_digest_in, replay_into,
 };
 use crate::formats::tpm_quote::Quote;
 use crate::formats::uefi_tcg::{AlgorithmId, Log};
 
 /// The algorithm that says that the length of the quote's digest tells the hash function.
 const OF_SIZE: u16 = 0;
-
-/// Why there is no digest: a PCR is selected of a bank that isn't active in the log, or that can't be
-/// replayed. The numbers below are those of a PCR that is undetermined.
-const NO_BANK: u32 = 7;
-
-/// How many banks can be replayed.
-const BANK_COUNT: usize = 5;
 
 /// The digest of the PCRs that a log leads to, or why there is none: of the first selected PCR that
 /// has no value.
@@ -29,12 +24,12 @@ pub struct UefiQuoteDigest {
     /// The length of the digest in bytes; without meaning if there is none.
     pub size: usize,
     /// The index of the event in the log by which the PCR is undetermined; without meaning with
-    /// another fault.
+    /// another status.
     pub index: usize,
     /// The offset at which that event starts.
     pub offset: usize,
-    /// Why there is no digest, 1 to 7; 0 with a digest.
-    pub fault: u32,
+    /// Success with a digest, else why there is none.
+    pub status: UefiStatus,
     /// The PCR; without meaning if its bank is missing.
     pub pcr_index: u32,
     /// The algorithm of its bank; without meaning with a digest.
@@ -44,10 +39,10 @@ pub struct UefiQuoteDigest {
 }
 
 /// Computes the digest of the PCRs that a log leads to: over the PCRs that the quote selects, in its
-/// order.
+/// order. It returns its status.
 ///
 /// The hash function is that of an algorithm's number, or for 0 that of the digest's length. Without
-/// one, or without a quote, the call returns false.
+/// one, or without a quote, nothing is written, and the call returns why.
 #[unsafe(no_mangle)]
 pub extern "C" fn uefi_quote_digest(
     message: Bytes<'_>,
@@ -55,19 +50,24 @@ pub extern "C" fn uefi_quote_digest(
     log: Bytes<'_>,
     last_entry: usize,
     locality: u32,
+    workspace: &mut MaybeUninit<UefiWorkspace>,
     out: &mut MaybeUninit<UefiQuoteDigest>,
-) -> bool {
+) -> UefiStatus {
     let message = message.as_slice();
     let log = log.as_slice();
-    let Ok(quote) = Quote::try_from(message) else {
-        return false;
+    let workspace = workspace_in(workspace);
+    let quote = match Quote::try_from(message) {
+        Ok(quote) => quote,
+        Err(error) => return status_of(&error),
     };
     let Some(hash) = hash_of(hash, &quote) else {
-        return false;
+        return status::NO_HASH;
     };
     let log = log_of(log, last_entry);
-    out.write(seen(&digest_of(hash, &quote, &log, &start_of(&log, locality))));
-    true
+    let start = start_of(&log, locality);
+    let found = seen(&digest_of(hash, &quote, &log, &start, workspace));
+    out.write(found);
+    found.status
 }
 
 /// Returns the hash function of a quote's digest.
@@ -86,21 +86,17 @@ fn digest_of(
     quote: &Quote<'_>,
     log: &Log<'_>,
     start: &Start,
+    workspace: &mut UefiWorkspace,
 ) -> Result<PcrValue, NoQuoteDigest> {
-    let mut banks = [BankPcrs {
-        bank: Bank::Sha1,
-        pcrs: Pcrs::started(Bank::Sha1, 0, false),
-    }; BANK_COUNT];
     let mut count = 0;
     for index in 0..BANK_COUNT {
         let bank = Bank::ALL[index];
         if is_compared(quote, log, bank) {
-            let pcrs = replay_from(log, bank, start);
-            banks[count] = BankPcrs { bank, pcrs };
+            replay_into(&mut workspace.banks[count], log, bank, start);
             count += 1;
         }
     }
-    quote_digest(hash, quote, &banks[..count])
+    quote_digest_in(hash, quote, &workspace.banks[..count])
 }
 
 /// Returns whether a bank has a selection in a quote and is active in a log.
@@ -117,7 +113,7 @@ fn seen(digest: &Result<PcrValue, NoQuoteDigest>) -> UefiQuoteDigest {
         size: 0,
         index: 0,
         offset: 0,
-        fault: NO_FAULT,
+        status: status::OK,
         pcr_index: 0,
         algorithm: 0,
         value,
@@ -133,14 +129,14 @@ fn seen(digest: &Result<PcrValue, NoQuoteDigest>) -> UefiQuoteDigest {
             }
         }
         Err(NoQuoteDigest::NoBank(algorithm)) => UefiQuoteDigest {
-            fault: NO_BANK,
+            status: status::NO_BANK,
             algorithm: algorithm.0,
             ..none
         },
         Err(NoQuoteDigest::Undetermined(algorithm, pcr, at)) => UefiQuoteDigest {
             index: at.index,
             offset: at.offset,
-            fault: fault_number(at.fault),
+            status: fault_status(at.fault),
             pcr_index: pcr.0,
             algorithm: algorithm.0,
             ..none

@@ -1,42 +1,21 @@
 // @generated from proved source. It is not edited.
 
 use core::mem::MaybeUninit;
-use crate::bytes::Bytes;
+use crate::bytes::{Bytes, workspace_in};
 
+use crate::formats::uefi_c::status::{self, UefiStatus};
+use crate::formats::uefi_c::workspace::UefiWorkspace;
 use crate::formats::pcr_replay::{
-    Bank, Fault, PCR_COUNT, PcrValue, Pcrs, Start, Undetermined, is_active, replay_from,
+    Bank, BankStore, Fault, PCR_COUNT, PcrValue, Start, Undetermined, is_active, replay_into,
     startup_locality,
 };
-use crate::formats::uefi_tcg::{AlgorithmId, LastEntry, Log};
+use crate::formats::uefi_tcg::{AlgorithmId, LastEntry, Log, PcrIndex};
 
 /// The last entry that says that a log is empty.
 const EMPTY_LOG: usize = 1;
 
 /// The most bytes that a PCR has.
 pub(crate) const ROOM: usize = 64;
-
-// Why a PCR is undetermined.
-
-/// It isn't: it has a value.
-pub(crate) const NO_FAULT: u32 = 0;
-
-/// The event has no digest of the bank's algorithm.
-const NO_DIGEST: u32 = 1;
-
-/// It has two digests of the bank's algorithm or more.
-const TWO_DIGESTS: u32 = 2;
-
-/// Its digest hasn't the length that the bank's digests have.
-const OTHER_LENGTH: u32 = 3;
-
-/// It states a locality at which no TPM is started: not 0, 3 or 4.
-const UNKNOWN_LOCALITY: u32 = 4;
-
-/// It states another locality than an event before it, or than the 4 of a hardware CRTM.
-const OTHER_LOCALITY: u32 = 5;
-
-/// It states the locality after PCR 0 was extended.
-const LATE_LOCALITY: u32 = 6;
 
 /// What a PCR holds after the events of a log: a value, or the first event by which it is
 /// undetermined.
@@ -49,33 +28,39 @@ pub struct UefiPcr {
     pub index: usize,
     /// The offset at which that event starts; without meaning with a value.
     pub offset: usize,
-    /// Why the PCR is undetermined, 1 to 6; 0 with a value.
-    pub fault: u32,
+    /// Success with a value, else why the PCR is undetermined.
+    pub status: UefiStatus,
     /// The value, in the first bytes.
     pub value: [u8; ROOM],
 }
 
 /// Replays a log: writes what each of the 24 PCRs of a bank holds after the log's events.
 ///
-/// The bank is that of an algorithm's number; without a hash function for it the call returns
-/// false. A locality below 256 is that at which the TPM was started; else the log says it.
+/// The bank is that of an algorithm's number; without a hash function for it the call says so. A
+/// locality below 256 is that at which the TPM was started; else the log says it.
 #[unsafe(no_mangle)]
 pub extern "C" fn uefi_replay(
     log: Bytes<'_>,
     last_entry: usize,
     algorithm: u16,
     locality: u32,
+    workspace: &mut MaybeUninit<UefiWorkspace>,
     out: &mut MaybeUninit<[UefiPcr; PCR_COUNT]>,
-) -> bool {
+) -> UefiStatus {
     let log = log.as_slice();
-    let Some(pcrs) = replayed(log, last_entry, algorithm, locality) else {
-        return false;
+    let workspace = workspace_in(workspace);
+    let Some(bank) = Bank::of(AlgorithmId(algorithm)) else {
+        return status::NO_HASH;
     };
-    out.write(all_seen(&pcrs));
-    true
+    let log = log_of(log, last_entry);
+    let start = start_of(&log, locality);
+    replay_into(&mut workspace.banks[0], &log, bank, &start);
+    out.write(workspace.banks[0].pcrs);
+    status::OK
 }
 
-/// Replays a log for one PCR. It takes as long as for all, and returns false for a PCR above 23 too.
+/// Replays a log for one PCR, and returns its status. It takes as long as for all. Without a hash
+/// function for the algorithm, and for a PCR above 23, nothing is written.
 #[unsafe(no_mangle)]
 pub extern "C" fn uefi_replay_pcr(
     log: Bytes<'_>,
@@ -83,30 +68,35 @@ pub extern "C" fn uefi_replay_pcr(
     algorithm: u16,
     locality: u32,
     pcr_index: u32,
+    workspace: &mut MaybeUninit<UefiWorkspace>,
     out: &mut MaybeUninit<UefiPcr>,
-) -> bool {
+) -> UefiStatus {
     let log = log.as_slice();
-    let Some(pcrs) = replayed(log, last_entry, algorithm, locality) else {
-        return false;
+    let workspace = workspace_in(workspace);
+    let Some(bank) = Bank::of(AlgorithmId(algorithm)) else {
+        return status::NO_HASH;
     };
-    let pcr = pcr_index as usize;
-    if pcr >= PCR_COUNT {
-        return false;
-    }
-    out.write(seen(&pcrs.outcomes()[pcr]));
-    true
+    let log = log_of(log, last_entry);
+    let start = start_of(&log, locality);
+    replay_into(&mut workspace.banks[0], &log, bank, &start);
+    let Some(outcome) = workspace.banks[0].outcome(PcrIndex(pcr_index)) else {
+        return status::NO_PCR;
+    };
+    let found = seen(&outcome);
+    out.write(found);
+    found.status
 }
 
 /// Finds the locality at which the TPM was started, as a log says: 4 with a hardware CRTM, else the
-/// first that an event states. False if it says nothing.
+/// first that an event states.
 #[unsafe(no_mangle)]
-pub extern "C" fn uefi_startup_locality(log: Bytes<'_>, last_entry: usize, out: &mut MaybeUninit<u8>) -> bool {
+pub extern "C" fn uefi_startup_locality(log: Bytes<'_>, last_entry: usize, out: &mut MaybeUninit<u8>) -> UefiStatus {
     let log = log.as_slice();
     let Some(locality) = startup_locality(&log_of(log, last_entry)) else {
-        return false;
+        return status::NO_LOCALITY;
     };
     out.write(locality);
-    true
+    status::OK
 }
 
 /// Returns whether the bank of an algorithm is active: an event of the log that extends a PCR has a
@@ -120,24 +110,22 @@ pub extern "C" fn uefi_bank_is_active(log: Bytes<'_>, last_entry: usize, algorit
     }
 }
 
-/// Returns what the PCRs of the bank of an algorithm hold after the events of a log.
-#[inline]
-fn replayed(log: &[u8], last_entry: usize, algorithm: u16, locality: u32) -> Option<Pcrs> {
-    let bank = Bank::of(AlgorithmId(algorithm))?;
-    let log = log_of(log, last_entry);
-    Some(replay_from(&log, bank, &start_of(&log, locality)))
-}
-
 /// Returns the log of these bytes with this last entry.
 #[inline]
 pub(crate) fn log_of(bytes: &[u8], last_entry: usize) -> Log<'_> {
+    Log::new(bytes, last_entry_of(bytes, last_entry))
+}
+
+/// Returns the last entry that a number stands for in a log of these bytes.
+#[inline]
+pub(crate) fn last_entry_of(bytes: &[u8], last_entry: usize) -> LastEntry {
     if last_entry == EMPTY_LOG {
-        return Log::new(bytes, LastEntry::Empty);
+        return LastEntry::Empty;
     }
     if last_entry >= bytes.len() {
-        return Log::new(bytes, LastEntry::Unknown);
+        return LastEntry::Unknown;
     }
-    Log::new(bytes, LastEntry::At(last_entry))
+    LastEntry::At(last_entry)
 }
 
 /// Returns how PCR 0 starts: at this locality if it is below 256, else as the log says.
@@ -150,26 +138,9 @@ pub(crate) fn start_of(log: &Log<'_>, locality: u32) -> Start {
     }
 }
 
-/// Returns what each PCR holds.
+/// Returns what a PCR holds, as a caller sees it.
 #[inline]
-fn all_seen(pcrs: &Pcrs) -> [UefiPcr; PCR_COUNT] {
-    let outcomes = pcrs.outcomes();
-    let mut all = [UefiPcr {
-        size: 0,
-        index: 0,
-        offset: 0,
-        fault: NO_FAULT,
-        value: [0; ROOM],
-    }; PCR_COUNT];
-    for pcr in 0..PCR_COUNT {
-        all[pcr] = seen(&outcomes[pcr]);
-    }
-    all
-}
-
-/// Returns what a PCR holds.
-#[inline]
-fn seen(outcome: &Result<PcrValue, Undetermined>) -> UefiPcr {
+pub(crate) fn seen(outcome: &Result<PcrValue, Undetermined>) -> UefiPcr {
     let mut value = [0; ROOM];
     match outcome {
         Ok(held) => {
@@ -179,7 +150,7 @@ fn seen(outcome: &Result<PcrValue, Undetermined>) -> UefiPcr {
                 size: bytes.len(),
                 index: 0,
                 offset: 0,
-                fault: NO_FAULT,
+                status: status::OK,
                 value,
             }
         }
@@ -187,21 +158,21 @@ fn seen(outcome: &Result<PcrValue, Undetermined>) -> UefiPcr {
             size: 0,
             index: at.index,
             offset: at.offset,
-            fault: fault_number(at.fault),
+            status: status_of(at.fault),
             value,
         },
     }
 }
 
-/// Returns the number of a fault.
+/// Returns the status of a fault.
 #[inline]
-pub(crate) fn fault_number(fault: Fault) -> u32 {
+pub(crate) fn status_of(fault: Fault) -> UefiStatus {
     match fault {
-        Fault::NoDigest => NO_DIGEST,
-        Fault::TwoDigests => TWO_DIGESTS,
-        Fault::OtherLength => OTHER_LENGTH,
-        Fault::UnknownLocality => UNKNOWN_LOCALITY,
-        Fault::OtherLocality => OTHER_LOCALITY,
-        Fault::LateLocality => LATE_LOCALITY,
+        Fault::NoDigest => status::NO_DIGEST,
+        Fault::TwoDigests => status::TWO_DIGESTS,
+        Fault::OtherLength => status::OTHER_LENGTH,
+        Fault::UnknownLocality => status::UNKNOWN_LOCALITY,
+        Fault::OtherLocality => status::OTHER_LOCALITY,
+        Fault::LateLocality => status::LATE_LOCALITY,
     }
 }

@@ -3,6 +3,7 @@
 use core::mem::MaybeUninit;
 use crate::bytes::Bytes;
 
+use crate::formats::uefi_c::status::{self, UefiStatus};
 use crate::formats::uefi_records::{Daylight, Time, TimeByteConversionError, TimeError, TimeParams};
 
 /// The zone of local time.
@@ -56,34 +57,54 @@ pub struct UefiTimeFaults {
     pub daylight: bool,
 }
 
-/// Reads the time in the first sixteen bytes, if it has no fault.
-#[unsafe(no_mangle)]
-pub extern "C" fn uefi_time(bytes: Bytes<'_>, out: &mut MaybeUninit<UefiTime>) -> bool {
-    let bytes = bytes.as_slice();
-    let Ok(time) = Time::try_from(bytes) else {
-        return false;
-    };
-    out.write(seen(&time));
-    true
-}
+/// No field is at fault.
+const NO_FAULTS: UefiTimeFaults = UefiTimeFaults {
+    year: false,
+    month: false,
+    day: false,
+    hour: false,
+    minute: false,
+    second: false,
+    nanosecond: false,
+    zone: false,
+    daylight: false,
+};
 
-/// Finds the fields at fault of the time in the first sixteen bytes, if there are any.
+/// Reads the time in the first sixteen bytes, if there are as many, and it has no fault.
 #[unsafe(no_mangle)]
-pub extern "C" fn uefi_time_faults(bytes: Bytes<'_>, out: &mut MaybeUninit<UefiTimeFaults>) -> bool {
+pub extern "C" fn uefi_time(bytes: Bytes<'_>, out: &mut MaybeUninit<UefiTime>) -> UefiStatus {
     let bytes = bytes.as_slice();
     match Time::try_from(bytes) {
-        Ok(_time) => false,
-        Err(TimeByteConversionError::InvalidSize) => false,
+        Ok(time) => {
+            out.write(seen(&time));
+            status::OK
+        }
+        Err(TimeByteConversionError::InvalidSize) => status::TOO_SHORT,
+        Err(TimeByteConversionError::InvalidFields(_)) => status::BAD_TIME,
+    }
+}
+
+/// Finds the fields at fault of the time in the first sixteen bytes, if there are as many: without a
+/// fault none.
+#[unsafe(no_mangle)]
+pub extern "C" fn uefi_time_faults(bytes: Bytes<'_>, out: &mut MaybeUninit<UefiTimeFaults>) -> UefiStatus {
+    let bytes = bytes.as_slice();
+    match Time::try_from(bytes) {
+        Ok(_time) => {
+            out.write(NO_FAULTS);
+            status::OK
+        }
+        Err(TimeByteConversionError::InvalidSize) => status::TOO_SHORT,
         Err(TimeByteConversionError::InvalidFields(faults)) => {
             out.write(seen_faults(&faults));
-            true
+            status::OK
         }
     }
 }
 
 /// Writes the sixteen bytes of a time, if its fields are in their ranges. Any bits of daylight are.
 #[unsafe(no_mangle)]
-pub extern "C" fn uefi_write_time(time: &UefiTime, bytes: &mut MaybeUninit<[u8; 16]>) -> bool {
+pub extern "C" fn uefi_write_time(bytes: &mut MaybeUninit<[u8; 16]>, time: &UefiTime) -> UefiStatus {
     let params = TimeParams {
         year: time.year,
         month: time.month,
@@ -96,10 +117,10 @@ pub extern "C" fn uefi_write_time(time: &UefiTime, bytes: &mut MaybeUninit<[u8; 
         daylight: Daylight::from_bits_retain(time.daylight),
     };
     let Ok(time) = Time::new(params) else {
-        return false;
+        return status::BAD_TIME;
     };
     bytes.write(time.to_bytes());
-    true
+    status::OK
 }
 
 /// Returns the fields of a time, without its padding.

@@ -6,6 +6,7 @@ use core::mem::MaybeUninit;
 use crate::bytes::{Buffer, Bytes};
 
 use crate::formats::uefi_c::character::{character_of, put_character};
+use crate::formats::uefi_c::status::{self, UefiStatus};
 use crate::formats::uefi_base::buffer::put;
 use crate::formats::uefi_base::little_endian::u16_at;
 
@@ -24,49 +25,49 @@ const UNIT_LENGTH: usize = 2;
 /// The text is all of `units`: two bytes each, little-endian, of which the last is zero, and no
 /// other is zero or a surrogate. There are at most 2^31.
 ///
-/// If it returns false, all bytes stay as they were, and `size` is the length that the buffer
-/// needs, or 0 if the units are no text.
+/// If it returns another status than success, all bytes stay as they were, and `size` is the length
+/// that the buffer needs, or 0 if the units are no text.
 #[unsafe(no_mangle)]
-pub extern "C" fn uefi_ucs2_text(units: Bytes<'_>, buffer: Buffer<'_>, size: &mut MaybeUninit<usize>) -> bool {
-    let units = units.as_slice();
+pub extern "C" fn uefi_ucs2_text(buffer: Buffer<'_>, units: Bytes<'_>, size: &mut MaybeUninit<usize>) -> UefiStatus {
     let buffer = buffer.into_slice();
+    let units = units.as_slice();
     let Some(length) = text_length(units) else {
         size.write(0);
-        return false;
+        return status::NOT_TEXT;
     };
     size.write(length);
     if buffer.len() < length {
-        return false;
+        return status::BUFFER_TOO_SMALL;
     }
     write_text(units, buffer);
-    true
+    status::OK
 }
 
 /// Writes a text in UTF-8 as UCS-2 to the beginning of the buffer, two bytes for each character and
 /// for the NUL, little-endian, and sets `size` to their number; the bytes after them stay as they
 /// were.
 ///
-/// If it returns false, all bytes stay as they were, and `size` is the length that the buffer
-/// needs, or 0 if the text isn't UTF-8, has 2^31 characters or more, or has one that is U+0000 or
-/// above U+FFFF.
+/// If it returns another status than success, all bytes stay as they were, and `size` is the length
+/// that the buffer needs, or 0 if the text isn't UTF-8, has 2^31 characters or more, or has one
+/// that is U+0000 or above U+FFFF.
 #[unsafe(no_mangle)]
-pub extern "C" fn uefi_ucs2_units(text: Bytes<'_>, buffer: Buffer<'_>, size: &mut MaybeUninit<usize>) -> bool {
-    let text = text.as_slice();
+pub extern "C" fn uefi_ucs2_units(buffer: Buffer<'_>, text: Bytes<'_>, size: &mut MaybeUninit<usize>) -> UefiStatus {
     let buffer = buffer.into_slice();
+    let text = text.as_slice();
     let Ok(text) = core::str::from_utf8(text) else {
         size.write(0);
-        return false;
+        return status::NOT_TEXT;
     };
     let Some(length) = units_length(text) else {
         size.write(0);
-        return false;
+        return status::NOT_TEXT;
     };
     size.write(length);
     if buffer.len() < length {
-        return false;
+        return status::BUFFER_TOO_SMALL;
     }
     write_units(text, buffer);
-    true
+    status::OK
 }
 
 /// Returns whether the bytes are the units of a text.

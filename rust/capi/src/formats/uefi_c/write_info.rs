@@ -4,6 +4,7 @@ use core::mem::MaybeUninit;
 use crate::bytes::{Buffer, Bytes};
 
 use crate::formats::uefi_c::info::{FILE_NAME_OFFSET, LABEL_OFFSET, UefiFileInfo, UefiFileSystemInfo};
+use crate::formats::uefi_c::status::{self, UefiStatus};
 use crate::formats::uefi_c::time::bytes_of;
 use crate::formats::uefi_c::ucs2::is_ucs2;
 use crate::formats::uefi_base::buffer::put;
@@ -39,26 +40,26 @@ const BLOCK_SIZE_OFFSET: usize = 32;
 /// zeros as padding. The bytes after the name stay as they were, also those that round the size up
 /// to a multiple of 8.
 ///
-/// If it returns false, all bytes stay as they were, and `size` is the size that the buffer needs,
-/// or 0 if the name isn't UCS-2 text with a NUL.
+/// If it returns another status than success, all bytes stay as they were, and `size` is the size
+/// that the buffer needs, or 0 if the name isn't UCS-2 text with a NUL.
 #[unsafe(no_mangle)]
 pub extern "C" fn uefi_write_file_info(
-    info: &UefiFileInfo<'_>,
     buffer: Buffer<'_>,
+    info: &UefiFileInfo<'_>,
     size: &mut MaybeUninit<usize>,
-) -> bool {
+) -> UefiStatus {
     let buffer = buffer.into_slice();
     let name = info.name.as_slice();
     let Some(length) = record_size(name, FILE_NAME_OFFSET) else {
         size.write(0);
-        return false;
+        return status::NOT_TEXT;
     };
     size.write(length);
     if buffer.len() < length {
-        return false;
+        return status::BUFFER_TOO_SMALL;
     }
     put_file_info(buffer, info, name, length);
-    true
+    status::OK
 }
 
 /// Writes a file system information record to the beginning of the buffer, and sets `size` to its
@@ -67,47 +68,51 @@ pub extern "C" fn uefi_write_file_info(
 /// The record states its own size, and not that of `info`. The bytes after the label stay as they
 /// were, also those that round the size up to a multiple of 8, and so do the unused bytes 9 to 15.
 ///
-/// If it returns false, all bytes stay as they were, and `size` is the size that the buffer needs,
-/// or 0 if the label isn't UCS-2 text with a NUL.
+/// If it returns another status than success, all bytes stay as they were, and `size` is the size
+/// that the buffer needs, or 0 if the label isn't UCS-2 text with a NUL.
 #[unsafe(no_mangle)]
 pub extern "C" fn uefi_write_file_system_info(
-    info: &UefiFileSystemInfo<'_>,
     buffer: Buffer<'_>,
+    info: &UefiFileSystemInfo<'_>,
     size: &mut MaybeUninit<usize>,
-) -> bool {
+) -> UefiStatus {
     let buffer = buffer.into_slice();
     let label = info.label.as_slice();
     let Some(length) = record_size(label, LABEL_OFFSET) else {
         size.write(0);
-        return false;
+        return status::NOT_TEXT;
     };
     size.write(length);
     if buffer.len() < length {
-        return false;
+        return status::BUFFER_TOO_SMALL;
     }
     put_file_system_info(buffer, info, label, length);
-    true
+    status::OK
 }
 
 /// Writes the record of a volume label alone to the beginning of the buffer, and sets `size` to its
 /// size: the label, with its NUL. The bytes after it stay as they were.
 ///
-/// If it returns false, all bytes stay as they were, and `size` is the size that the buffer needs,
-/// or 0 if the label isn't UCS-2 text with a NUL.
+/// If it returns another status than success, all bytes stay as they were, and `size` is the size
+/// that the buffer needs, or 0 if the label isn't UCS-2 text with a NUL.
 #[unsafe(no_mangle)]
-pub extern "C" fn uefi_write_volume_label(label: Bytes<'_>, buffer: Buffer<'_>, size: &mut MaybeUninit<usize>) -> bool {
-    let label = label.as_slice();
+pub extern "C" fn uefi_write_volume_label(
+    buffer: Buffer<'_>,
+    label: Bytes<'_>,
+    size: &mut MaybeUninit<usize>,
+) -> UefiStatus {
     let buffer = buffer.into_slice();
+    let label = label.as_slice();
     if !is_ucs2(label) {
         size.write(0);
-        return false;
+        return status::NOT_TEXT;
     }
     size.write(label.len());
     if buffer.len() < label.len() {
-        return false;
+        return status::BUFFER_TOO_SMALL;
     }
     put(buffer, 0, label);
-    true
+    status::OK
 }
 
 /// Returns the size of a record with fields before this name at this offset, or `None` if the name

@@ -1,4 +1,4 @@
-use Rattle.std.proofs.Common.{List, ℕ, ◌<◌, map, refl, ap, ◌∙◌, length, arith}
+use Rattle.std.proofs.Common.{List, ℕ, ◌<◌, map, ap, ◌∙◌, length, arith}
 use Rattle.std.specs.Borrow.{Bor}
 use Rattle.std.proofs.lemmas.List.{map-append}
 use Rattle.uefi_c.proofs.Cursors.{moves, within}
@@ -11,7 +11,7 @@ bytes_of part = part.now
 pub loop-instance-smaller : goal.loop-instance-smaller
 loop-instance-smaller g c =
     let new = c.uefi_path_next_instance.new in
-    let next = c.loop-instance-test.ensures.instance refl in
+    let next = c.uefi_path_next_instance.ensures.instance c.loop-instance-test.true in
     let some : 0 < length new.instance.now = omega
     (arith, instance_bytes next.nodes next.is_instance, ap length next.encoded) in
     omega (
@@ -23,7 +23,7 @@ loop-instance-smaller g c =
 pub loop-instance-preserved : goal.loop-instance-preserved
 loop-instance-preserved g c = λ nodes instances encoded are.
     let new = c.uefi_path_next_instance.new in
-    let next = c.loop-instance-test.ensures.instance refl in
+    let next = c.uefi_path_next_instance.ensures.instance c.loop-instance-test.true in
     one_instance_less c.args.path.now c.loop-instance.offset new.offset new.instance.now next instances
     (map bytes_of c.loop-instance.parts.items) (map bytes_of c.push.new.self.items)
     (ap (map bytes_of) c.in_ok-push.ensures.items ∙ map-append bytes_of c.loop-instance.parts.items _)
@@ -32,4 +32,4 @@ loop-instance-preserved g c = λ nodes instances encoded are.
 pub returns : goal.returns
 returns g c = λ nodes instances encoded are.
     no_instance_left c.args.path.now c.loop-instance.offset instances (map bytes_of c.loop-instance.parts.items)
-    (c.loop-instance-test.ensures.none refl) (c.loop-instance.invariant nodes instances encoded are)
+    (c.uefi_path_next_instance.ensures.none c.loop-instance-test.false) (c.loop-instance.invariant nodes instances encoded are)

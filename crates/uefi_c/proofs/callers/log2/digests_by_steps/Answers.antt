@@ -1,4 +1,4 @@
-use Rattle.std.proofs.Common.{refl, sym, subst, arith}
+use Rattle.std.proofs.Common.{sym, subst, arith}
 use Rattle.uefi_tcg.specs.v2.Digests.{digest_bytes}
 use Rattle.uefi_tcg.specs.v2.Reading.{rows_in}
 use Rattle.uefi_c.specs.Log2.{digest_seen}
@@ -16,7 +16,7 @@ pub loop-digest-smaller : goal.loop-digest-smaller
 loop-digest-smaller g c =
     let new = c.uefi_digest_next.new in
     let digest = digest_seen new.out in
-    let stands = c.loop-digest-test.ensures.stands refl in
+    let stands = c.uefi_digest_next.ensures.stands c.loop-digest-test.true in
     omega (
       arith,
       moves (digest_bytes digest) c.args.digests.now c.loop-digest.offset new.offset stands (some_bytes digest),
@@ -26,12 +26,12 @@ loop-digest-smaller g c =
 pub loop-digest-preserved : goal.loop-digest-preserved
 loop-digest-preserved g c = λ all are is.
     let new = c.uefi_digest_next.new in
-    let ensures = c.loop-digest-test.ensures in
-    one_less (rows_in c.args.rows.now) c.args.digests.now c.loop-digest.offset new.offset new.out (ensures.digest refl)
-    (ensures.stands refl) all c.loop-digest.views.items c.push.new.self.items c.in_ok-push.ensures.items
+    let ensures = c.uefi_digest_next.ensures in
+    one_less (rows_in c.args.rows.now) c.args.digests.now c.loop-digest.offset new.offset new.out (ensures.digest c.loop-digest-test.true)
+    (ensures.stands c.loop-digest-test.true) all c.loop-digest.views.items c.push.new.self.items c.in_ok-push.ensures.items
     (c.loop-digest.invariant all are is)
 
 pub returns : goal.returns
 returns g c = λ few all are is.
     none_left (rows_in c.args.rows.now) all c.args.digests.now c.loop-digest.offset c.loop-digest.views.items
-    (c.loop-digest-test.ensures.none refl few) (c.loop-digest.invariant all are is)
+    (c.uefi_digest_next.ensures.none c.loop-digest-test.false few) (c.loop-digest.invariant all are is)

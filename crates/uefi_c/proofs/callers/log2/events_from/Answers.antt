@@ -1,4 +1,4 @@
-use Rattle.std.proofs.Common.{refl, sym, subst, arith}
+use Rattle.std.proofs.Common.{sym, subst, arith}
 use Rattle.uefi_tcg.specs.v2.Reading.{rows_in}
 use Rattle.uefi_c.proofs.Log2Steps.{Found, none_yet, moves, ends_within, found_more, found_all}
 use Rattle.uefi_c.proofs.callers.log2.events_from.Goals as goal
@@ -11,7 +11,7 @@ loop-event-init g c =
 
 pub loop-event-smaller : goal.loop-event-smaller
 loop-event-smaller g c =
-    let next = c.loop-event-test.ensures.next refl in
+    let next = c.uefi_log2_next.ensures.next c.loop-event-test.true in
     let new = c.uefi_log2_next.new in
     let table = rows_in c.args.rows.now in
     omega (
@@ -24,11 +24,11 @@ pub loop-event-preserved : goal.loop-event-preserved
 loop-event-preserved g c =
     let new = c.uefi_log2_next.new in
     found_more (rows_in c.args.rows.now) c.args.last_entry c.loop-event.offset new.offset c.args.log.now new.out
-    (c.loop-event-test.ensures.next refl) c.requires.few c.args.start c.loop-event.views.items c.push.new.self.items
+    (c.uefi_log2_next.ensures.next c.loop-event-test.true) c.requires.few c.args.start c.loop-event.views.items c.push.new.self.items
     c.in_ok-push.ensures.items c.loop-event.invariant
 
 pub returns : goal.returns
 returns g c =
     found_all (rows_in c.args.rows.now) c.args.last_entry c.args.start c.loop-event.offset c.args.log.now
     c.loop-event.views.items
-    c.requires.few c.loop-event.invariant (c.loop-event-test.ensures.none refl c.requires.few)
+    c.requires.few c.loop-event.invariant (c.uefi_log2_next.ensures.none c.loop-event-test.false c.requires.few)

@@ -1,4 +1,4 @@
-use Rattle.std.proofs.Common.{List, ◌++◌, refl, sym, ap, ◌∙◌, map, drop}
+use Rattle.std.proofs.Common.{List, ◌++◌, sym, ap, ◌∙◌, map, drop}
 use Rattle.std.proofs.lemmas.List.{append-nil}
 use Rattle.uefi_hii.specs.Pairs.{Pair, pairs}
 use Rattle.uefi_c.specs.Config.{pair_seen}
@@ -11,10 +11,10 @@ loop-pair-preserved g c =
     let text = c.args.text.now in
     one_more c.loop-pair.views.items c.push.new.self.items new.out (pairs (drop c.loop-pair.offset text))
     (pairs (drop new.offset text)) (pairs text)
-    c.in_ok-push.ensures.items (c.loop-pair-test.ensures.pair refl) c.loop-pair.invariant
+    c.in_ok-push.ensures.items (c.uefi_config_next_pair.ensures.pair c.loop-pair-test.true) c.loop-pair.invariant
 
 pub returns : goal.returns
 returns g c =
     let seen = map pair_seen c.loop-pair.views.items in
-    sym (append-nil seen) ∙ ap (λ (t : List Pair). seen ++ t) (sym (c.loop-pair-test.ensures.none refl))
+    sym (append-nil seen) ∙ ap (λ (t : List Pair). seen ++ t) (sym (c.uefi_config_next_pair.ensures.none c.loop-pair-test.false))
     ∙ c.loop-pair.invariant

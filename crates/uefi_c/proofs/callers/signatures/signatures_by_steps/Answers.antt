@@ -1,4 +1,4 @@
-use Rattle.std.proofs.Common.{refl, sym, subst, arith, drop}
+use Rattle.std.proofs.Common.{sym, subst, arith, drop}
 use Rattle.uefi_tcg.specs.content.Signature.{HasSize, signature_bytes}
 use Rattle.uefi_c.specs.Signatures.{signature_seen}
 use Rattle.uefi_c.proofs.Cursors.{moves, within}
@@ -13,8 +13,8 @@ loop-signature-init g c = subst (Passed signature_seen (HasSize c.args.signature
 pub loop-signature-smaller : goal.loop-signature-smaller
 loop-signature-smaller g c =
     let new = c.uefi_signature_next.new in
-    let stands = c.loop-signature-test.ensures.stands refl in
-    let some = some_signature_bytes c.args.signature_size (signature_seen new.out) (c.loop-signature-test.ensures.signature refl) in
+    let stands = c.uefi_signature_next.ensures.stands c.loop-signature-test.true in
+    let some = some_signature_bytes c.args.signature_size (signature_seen new.out) (c.uefi_signature_next.ensures.signature c.loop-signature-test.true) in
     omega (
       arith,
       moves (signature_bytes (signature_seen new.out)) c.args.signatures.now c.loop-signature.offset new.offset stands some,
@@ -25,7 +25,7 @@ pub loop-signature-preserved : goal.loop-signature-preserved
 loop-signature-preserved g c =
     let new = c.uefi_signature_next.new in
     one_more signature_seen (HasSize c.args.signature_size) signature_bytes c.args.signatures.now c.loop-signature.offset new.offset new.out
-    (c.loop-signature-test.ensures.signature refl) (c.loop-signature-test.ensures.stands refl) c.loop-signature.views.items
+    (c.uefi_signature_next.ensures.signature c.loop-signature-test.true) (c.uefi_signature_next.ensures.stands c.loop-signature-test.true) c.loop-signature.views.items
     c.push.new.self.items c.in_ok-push.ensures.items c.loop-signature.invariant
 
 pub returns : goal.returns
@@ -33,5 +33,5 @@ returns g c = record {
   each = c.loop-signature.invariant.each;
   rest = drop c.loop-signature.offset c.args.signatures.now;
   split = c.loop-signature.invariant.split;
-  no_more = c.loop-signature-test.ensures.none refl;
+  no_more = c.uefi_signature_next.ensures.none c.loop-signature-test.false;
 }

@@ -1,4 +1,4 @@
-use Rattle.std.proofs.Common.{◌∙◌, ap, map, refl, sym, subst, arith, drop, ◌++◌}
+use Rattle.std.proofs.Common.{◌∙◌, ap, map, sym, subst, arith, drop, ◌++◌}
 use Rattle.uefi_tcg.specs.content.Tagged.{IsTagged, tagged_bytes}
 use Rattle.uefi_c.specs.EventData.{tagged_seen}
 use Rattle.uefi_c.proofs.Cursors.{moves, within}
@@ -13,7 +13,7 @@ loop-tagged-init g c = subst (Passed tagged_seen IsTagged tagged_bytes c.args.ev
 pub loop-tagged-smaller : goal.loop-tagged-smaller
 loop-tagged-smaller g c =
     let new = c.uefi_tagged_next.new in
-    let stands = c.loop-tagged-test.ensures.stands refl in
+    let stands = c.uefi_tagged_next.ensures.stands c.loop-tagged-test.true in
     let some = some_tagged_bytes (tagged_seen new.out) in
     omega (
       arith,
@@ -25,7 +25,7 @@ pub loop-tagged-preserved : goal.loop-tagged-preserved
 loop-tagged-preserved g c =
     let new = c.uefi_tagged_next.new in
     one_more tagged_seen IsTagged tagged_bytes c.args.event_data.now c.loop-tagged.offset new.offset new.out
-    (c.loop-tagged-test.ensures.tagged refl) (c.loop-tagged-test.ensures.stands refl) c.loop-tagged.views.items
+    (c.uefi_tagged_next.ensures.tagged c.loop-tagged-test.true) (c.uefi_tagged_next.ensures.stands c.loop-tagged-test.true) c.loop-tagged.views.items
     c.push.new.self.items c.in_ok-push.ensures.items c.loop-tagged.invariant
 
 pub returns : goal.returns
@@ -36,6 +36,6 @@ returns g c = (
     in_bytes = c.loop-tagged.invariant.split
         ∙ ap (λ j. j ++ drop c.loop-tagged.offset c.args.event_data.now)
         (sym (concat_map tagged_bytes (map tagged_seen c.loop-tagged.views.items)));
-    no_more = c.loop-tagged-test.ensures.none refl;
+    no_more = c.uefi_tagged_next.ensures.none c.loop-tagged-test.false;
   },
 )

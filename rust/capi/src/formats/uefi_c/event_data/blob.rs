@@ -3,6 +3,7 @@
 use core::mem::MaybeUninit;
 use crate::bytes::Bytes;
 
+use crate::formats::uefi_c::status::{self, UefiStatus};
 use crate::formats::uefi_tcg::content::{PlatformFirmwareBlob, PlatformFirmwareBlob2};
 
 /// A blob of firmware (TCG PC Client Platform Firmware Profile 1.06, 10.2,
@@ -20,30 +21,30 @@ pub struct UefiBlob<'a> {
 
 /// Reads the blob without a description that the data of an event are.
 #[unsafe(no_mangle)]
-pub extern "C" fn uefi_blob<'a>(event_data: Bytes<'a>, out: &mut MaybeUninit<UefiBlob<'a>>) -> bool {
+pub extern "C" fn uefi_blob<'a>(event_data: Bytes<'a>, out: &mut MaybeUninit<UefiBlob<'a>>) -> UefiStatus {
     let event_data = event_data.as_slice();
     let Some(blob) = PlatformFirmwareBlob::read(event_data) else {
-        return false;
+        return status::OTHER_DATA;
     };
     out.write(UefiBlob {
         description: Bytes::new(&[]),
         base: blob.base,
         length: blob.length,
     });
-    true
+    status::OK
 }
 
 /// Reads the blob with a description that the data of an event are.
 #[unsafe(no_mangle)]
-pub extern "C" fn uefi_blob2<'a>(event_data: Bytes<'a>, out: &mut MaybeUninit<UefiBlob<'a>>) -> bool {
+pub extern "C" fn uefi_blob2<'a>(event_data: Bytes<'a>, out: &mut MaybeUninit<UefiBlob<'a>>) -> UefiStatus {
     let event_data = event_data.as_slice();
     let Some(described) = PlatformFirmwareBlob2::read(event_data) else {
-        return false;
+        return status::OTHER_DATA;
     };
     out.write(UefiBlob {
         description: Bytes::new(described.description),
         base: described.blob.base,
         length: described.blob.length,
     });
-    true
+    status::OK
 }

@@ -5,6 +5,7 @@ use crate::bytes::Bytes;
 
 use super::text::{UefiEventText, seen};
 use crate::formats::uefi_c::cursor::units_at;
+use crate::formats::uefi_c::status::{self, UefiStatus};
 use crate::formats::uefi_tcg::content::CrtmVersion;
 
 // The forms of a version.
@@ -34,10 +35,10 @@ pub struct UefiCrtmVersion<'a> {
 pub extern "C" fn uefi_event_crtm_version<'a>(
     event_data: Bytes<'a>,
     out: &mut MaybeUninit<UefiCrtmVersion<'a>>,
-) -> bool {
+) -> UefiStatus {
     let event_data = event_data.as_slice();
     match CrtmVersion::read(event_data) {
-        None => false,
+        None => status::OTHER_DATA,
         Some(CrtmVersion::Ucs2(units)) => {
             let text = UefiEventText {
                 text: Bytes::new(units_at(event_data, 0, units.len())),
@@ -45,7 +46,7 @@ pub extern "C" fn uefi_event_crtm_version<'a>(
                 has_nul: true,
             };
             out.write(UefiCrtmVersion { text, form: UCS2 });
-            true
+            status::OK
         }
         Some(CrtmVersion::Guid(_)) => {
             let text = UefiEventText {
@@ -54,14 +55,14 @@ pub extern "C" fn uefi_event_crtm_version<'a>(
                 has_nul: false,
             };
             out.write(UefiCrtmVersion { text, form: GUID });
-            true
+            status::OK
         }
         Some(CrtmVersion::Other(text)) => {
             out.write(UefiCrtmVersion {
                 text: seen(event_data, &text),
                 form: OTHER,
             });
-            true
+            status::OK
         }
     }
 }

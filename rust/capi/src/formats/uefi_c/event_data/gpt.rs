@@ -3,6 +3,7 @@
 use core::mem::MaybeUninit;
 use crate::bytes::Bytes;
 
+use crate::formats::uefi_c::status::{self, UefiStatus};
 use crate::formats::uefi_base::UnalignedSlice;
 use crate::formats::uefi_tcg::UintnSize;
 use crate::formats::uefi_tcg::content::{GptData, GptEntry, GptHeader};
@@ -72,13 +73,13 @@ pub extern "C" fn uefi_gpt_header(
     event_data: Bytes<'_>,
     uintn_size: u8,
     out: &mut MaybeUninit<UefiGptHeader>,
-) -> bool {
+) -> UefiStatus {
     let event_data = event_data.as_slice();
     let Some(gpt) = GptData::read(event_data, UintnSize::from_header(uintn_size)) else {
-        return false;
+        return status::OTHER_DATA;
     };
     out.write(seen_header(&gpt.header()));
-    true
+    status::OK
 }
 
 /// Reads the entry at an index of the partition table that the data of an event are, with the size
@@ -89,14 +90,17 @@ pub extern "C" fn uefi_gpt_entry<'a>(
     uintn_size: u8,
     index: usize,
     out: &mut MaybeUninit<UefiGptEntry<'a>>,
-) -> bool {
+) -> UefiStatus {
     let event_data = event_data.as_slice();
     let size = UintnSize::from_header(uintn_size);
     let Some(entry) = entry_at(event_data, size, index) else {
-        return false;
+        return match GptData::read(event_data, size) {
+            Some(_gpt) => status::END,
+            None => status::OTHER_DATA,
+        };
     };
     out.write(seen_entry(&entry));
-    true
+    status::OK
 }
 
 /// Returns the entry at an index of the table that the bytes are with a `UINTN` of this size.

@@ -3,6 +3,7 @@
 use core::mem::MaybeUninit;
 use crate::bytes::Bytes;
 
+use crate::formats::uefi_c::status::{self, UefiStatus};
 use crate::formats::uefi_tcg::UintnSize;
 use crate::formats::uefi_tcg::content::ImageLoadEvent;
 
@@ -30,10 +31,10 @@ pub extern "C" fn uefi_image<'a>(
     event_data: Bytes<'a>,
     uintn_size: u8,
     out: &mut MaybeUninit<UefiImage<'a>>,
-) -> bool {
+) -> UefiStatus {
     let event_data = event_data.as_slice();
     let Some(image) = ImageLoadEvent::read(event_data, UintnSize::from_header(uintn_size)) else {
-        return false;
+        return status::OTHER_DATA;
     };
     out.write(UefiImage {
         device_path: Bytes::new(image.device_path),
@@ -42,5 +43,5 @@ pub extern "C" fn uefi_image<'a>(
         length_in_memory: image.length_in_memory,
         link_time_address: image.link_time_address,
     });
-    true
+    status::OK
 }

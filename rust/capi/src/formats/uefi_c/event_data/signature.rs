@@ -4,6 +4,7 @@ use core::mem::MaybeUninit;
 use crate::bytes::Bytes;
 
 use crate::formats::uefi_c::cursor::bytes_from;
+use crate::formats::uefi_c::status::{self, UefiStatus};
 use crate::formats::uefi_base::little_endian::u32_at;
 use crate::formats::uefi_tcg::content::{SignatureData, SignatureList, SignatureLists};
 
@@ -11,6 +12,9 @@ use crate::formats::uefi_tcg::content::{SignatureData, SignatureList, SignatureL
 const LIST_SIZE_OFFSET: usize = 16;
 
 const FIELDS_LENGTH: usize = 28;
+
+/// The length of the owner in a signature.
+const OWNER_LENGTH: u32 = 16;
 
 /// A list of signatures of one type (UEFI 2.10, 32.4.1, `EFI_SIGNATURE_LIST`).
 #[derive(Clone, Copy, Debug)]
@@ -42,14 +46,18 @@ pub extern "C" fn uefi_signature_list_next<'a>(
     lists: Bytes<'a>,
     offset: &mut usize,
     out: &mut MaybeUninit<UefiSignatureList<'a>>,
-) -> bool {
+) -> UefiStatus {
     let lists = lists.as_slice();
     let Some((list, end)) = list_at(lists, *offset) else {
-        return false;
+        return if *offset < lists.len() {
+            status::BAD_SIGNATURE_LIST
+        } else {
+            status::END
+        };
     };
     out.write(list);
     *offset = end;
-    true
+    status::OK
 }
 
 /// Returns the list at the offset, and the offset of its end.
@@ -97,16 +105,16 @@ fn seen<'a>(bytes: &'a [u8], list: &SignatureList<'a>) -> UefiSignatureList<'a> 
 
 /// Reads the signature that the bytes are: the value of a variable that was measured as an authority.
 #[unsafe(no_mangle)]
-pub extern "C" fn uefi_signature<'a>(bytes: Bytes<'a>, out: &mut MaybeUninit<UefiSignature<'a>>) -> bool {
+pub extern "C" fn uefi_signature<'a>(bytes: Bytes<'a>, out: &mut MaybeUninit<UefiSignature<'a>>) -> UefiStatus {
     let bytes = bytes.as_slice();
     let Some(signature) = SignatureData::read(bytes) else {
-        return false;
+        return status::OTHER_DATA;
     };
     out.write(UefiSignature {
         value: Bytes::new(signature.data),
         owner: signature.owner.0,
     });
-    true
+    status::OK
 }
 
 /// Reads the signature of a size at the offset of a list's signatures, and moves the offset to its
@@ -117,17 +125,30 @@ pub extern "C" fn uefi_signature_next<'a>(
     signature_size: u32,
     offset: &mut usize,
     out: &mut MaybeUninit<UefiSignature<'a>>,
-) -> bool {
+) -> UefiStatus {
     let signatures = signatures.as_slice();
     let Some(signature) = signature_at(signatures, signature_size as usize, *offset) else {
-        return false;
+        return no_signature(signatures.len(), signature_size, *offset);
     };
     out.write(UefiSignature {
         value: Bytes::new(signature.data),
         owner: signature.owner.0,
     });
     *offset += signature_size as usize;
-    true
+    status::OK
+}
+
+/// Returns why no signature of a size is at the offset in this many bytes.
+#[inline]
+fn no_signature(length: usize, size: u32, offset: usize) -> UefiStatus {
+    if size < OWNER_LENGTH {
+        return status::BAD_SIGNATURE_SIZE;
+    }
+    if offset < length {
+        status::CUT
+    } else {
+        status::END
+    }
 }
 
 /// Returns the signature of a size at the offset.

@@ -4,6 +4,7 @@ use core::mem::MaybeUninit;
 use crate::bytes::Bytes;
 
 use crate::formats::uefi_c::cursor::bytes_from;
+use crate::formats::uefi_c::status::{self, UefiStatus};
 use crate::formats::uefi_tcg::content::{TaggedEvent, TaggedEvents};
 
 /// A tagged event (TCG PC Client Platform Firmware Profile 1.06, 10.4.1,
@@ -23,17 +24,21 @@ pub extern "C" fn uefi_tagged_next<'a>(
     event_data: Bytes<'a>,
     offset: &mut usize,
     out: &mut MaybeUninit<UefiTaggedEvent<'a>>,
-) -> bool {
+) -> UefiStatus {
     let event_data = event_data.as_slice();
     let Some((tagged, end)) = tagged_at(event_data, *offset) else {
-        return false;
+        return if *offset < event_data.len() {
+            status::CUT
+        } else {
+            status::END
+        };
     };
     out.write(UefiTaggedEvent {
         value: Bytes::new(tagged.data),
         id: tagged.id,
     });
     *offset = end;
-    true
+    status::OK
 }
 
 /// Returns the tagged event at the offset, and the offset of its end.

@@ -4,6 +4,7 @@ use core::mem::MaybeUninit;
 use crate::bytes::Bytes;
 
 use crate::formats::uefi_c::cursor::units_at;
+use crate::formats::uefi_c::status::{self, UefiStatus};
 use crate::formats::uefi_tcg::content::EventText;
 
 /// The text of an event (TCG PC Client Platform Firmware Profile 1.06, 10.4.1, `EV_IPL`).
@@ -21,13 +22,16 @@ pub struct UefiEventText<'a> {
 
 /// Reads the text that the data of an event are.
 #[unsafe(no_mangle)]
-pub extern "C" fn uefi_event_text<'a>(event_data: Bytes<'a>, out: &mut MaybeUninit<UefiEventText<'a>>) -> bool {
+pub extern "C" fn uefi_event_text<'a>(
+    event_data: Bytes<'a>,
+    out: &mut MaybeUninit<UefiEventText<'a>>,
+) -> UefiStatus {
     let event_data = event_data.as_slice();
     let Some(text) = EventText::read(event_data) else {
-        return false;
+        return status::OTHER_DATA;
     };
     out.write(seen(event_data, &text));
-    true
+    status::OK
 }
 
 /// Returns the text that the bytes are, with its bytes.

@@ -4,6 +4,7 @@ use core::mem::MaybeUninit;
 use crate::bytes::Bytes;
 
 use crate::formats::uefi_c::cursor::units_at;
+use crate::formats::uefi_c::status::{self, UefiStatus};
 use crate::formats::uefi_tcg::content::VariableData;
 
 /// The offset of the name in a variable's data.
@@ -24,15 +25,15 @@ pub struct UefiVariable<'a> {
 
 /// Reads the variable that the data of an event are, whole and alone.
 #[unsafe(no_mangle)]
-pub extern "C" fn uefi_variable<'a>(event_data: Bytes<'a>, out: &mut MaybeUninit<UefiVariable<'a>>) -> bool {
+pub extern "C" fn uefi_variable<'a>(event_data: Bytes<'a>, out: &mut MaybeUninit<UefiVariable<'a>>) -> UefiStatus {
     let event_data = event_data.as_slice();
     let Some(variable) = VariableData::read(event_data) else {
-        return false;
+        return status::OTHER_DATA;
     };
     out.write(UefiVariable {
         name: Bytes::new(units_at(event_data, NAME_OFFSET, variable.name.len())),
         value: Bytes::new(variable.data),
         guid: variable.guid.0,
     });
-    true
+    status::OK
 }
