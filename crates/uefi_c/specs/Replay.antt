@@ -1,5 +1,5 @@
 -- Logs and PCRs (`pcr_replay`) of plain numbers.
-use Rattle.std.specs.Prelude.{ℕ, ◌≡◌, ◌==◌, ◌⊎◌, List, [], ◌∷◌, Ok, Err, nat_le, nat_lt, length, take, if◌then◌else◌}
+use Rattle.std.specs.Prelude.{ℕ, ◌≡◌, ◌==◌, ◌⊎◌, List, [], ◌∷◌, Ok, Err, nat_lt, length, take, if◌then◌else◌}
 use Rattle.std.specs.Borrow.{Bor}
 use Rattle.pcr_replay.specs.declared.fault.Fault.{Fault}
 use Rattle.pcr_replay.specs.declared.fault.Fault.TheVariants.{NoDigest, TwoDigests, OtherLength, UnknownLocality, OtherLocality, LateLocality}
@@ -13,9 +13,9 @@ use Rattle.pcr_replay.specs.Start.{start_at, start_in}
 use Rattle.uefi_c.specs.Status.{IsOneOf, late_locality, no_digest, ok, other_length, other_locality, two_digests, unknown_locality}
 use Rattle.uefi_c.specs.declared.replay.UefiPcr.{UefiPcr}
 
--- The last entry that a number stands for in a log of this length: 1 says that the log is empty, and the length or more that it isn't known.
+-- The last entry that a number stands for in a log of this length: 1 says that the log is empty, and the length that it isn't known.
 abbrev pub last_entry_given : ℕ → ℕ → LastEntry
-last_entry_given size offset = if offset == 1 then Empty else if nat_le size offset then Unknown else At offset
+last_entry_given size offset = if offset == 1 then Empty else if offset == size then Unknown else At offset
 
 -- The log of these bytes with this last entry.
 abbrev pub log_given : Bor (List ℕ) → ℕ → Log
