@@ -18,8 +18,8 @@ WARNED = {
     "uefi_map_check(uefi_bytes(0, 0), 48);": "unused-result",
     "return (int)uefi_time(uefi_bytes(0, 0), (UefiTime *)0);": "nonnull",
 }
-# Options with which the header is an error, each with a word of it.
-REFUSED = {"-fshort-enums": "uefi_status_has_four_bytes"}
+# An option with which the header is an error, and a word of it. Enumerations of Windows have four bytes with it too.
+REFUSED, REASON, WINDOWS = "-fshort-enums", "uefi_status_has_four_bytes", "windows"
 
 
 def compilers():
@@ -27,7 +27,7 @@ def compilers():
     own = ["-nostdinc", f"-isystem{TOP}/tests/c_headers"]
     found = {f"clang {it}": [TOOLCHAIN, "clang", f"--target={it}", *own] for it in TARGETS_OF_CLANG}
     found |= {it: [it] for it in ("gcc", "clang") if shutil.which(it)}
-    return found | ({"gcc -mabi=ms": ["gcc", "-mabi=ms"]} if shutil.which("gcc") else {})
+    return found | ({f"gcc {it}": ["gcc", it] for it in ("-m32", "-mabi=ms")} if shutil.which("gcc") else {})
 
 
 def complaint(words, source):
@@ -51,9 +51,8 @@ def rows(include):
         for statement, word in WARNED.items():
             said = complaint([*words, *dialect("c11")], f'#include "uefi_formats.h"\nint f(void);\nint f(void) {{ {statement} return 0; }}\n')
             yield tells(f"{name}: {word} is warned of", word in (said or ""))
-        for option, word in REFUSED.items():
-            said = complaint([*words, *dialect("c11"), option], '#include "uefi_formats.h"\n')
-            yield tells(f"{name}: {option} is refused", word in (said or ""))
+        said = complaint([*words, *dialect("c11"), REFUSED], '#include "uefi_formats.h"\n')
+        yield tells(f"{name}: {REFUSED} is refused", WINDOWS in name or REASON in (said or ""))
 
 
 def declared(include):

@@ -112,11 +112,11 @@ static inline size_t uefi_last_entry(uint64_t location, uint64_t last) {
  * Else the first of these that holds:
  *
  *     UEFI_TOO_MANY_ALGORITHMS    the header's table has more than 256 rows
- *     UEFI_NO_EVENT               there is no event, or none but the header's
- *     UEFI_LEFT_OVER              the log doesn't end with its last event: `*offset`
- *                                 is where that ends
+ *     UEFI_NO_EVENT               there is no whole event, or none but the header's
+ *     UEFI_LEFT_OVER              the log doesn't end with its last whole event:
+ *                                 `*offset` is where that ends
  *
- * `*offset` is set at UEFI_LEFT_OVER alone. The function for the next event says
+ * `*offset` is set at UEFI_LEFT_OVER alone. uefi_log1_next or uefi_log2_next says
  * what is there. */
 UEFI_CALL UEFI_NODISCARD UEFI_NONNULL UefiStatus
 uefi_log_read(UefiBytes log, size_t last_entry, size_t *offset);

@@ -33,8 +33,10 @@ typedef struct Count {
 
 uint32_t counted(Count *calls, uint32_t result);
 
-/* Prints how often each call returned each status. Ends the program where one never returned a status that it has. */
-void need_statuses(const Count *all_calls);
+/* Prints how often each call returned each status. Ends the program where one returned a status that it hasn't, or never
+ * returned one that it has, of so many inputs. */
+enum { ENOUGH_INPUTS = 1 << 14 };
+void need_statuses(const Count *all_calls, bool is_enough);
 
 /* Whether the bytes are the same, but for words that are ANY in what plain C wrote. */
 bool is_same(const void *found, const void *wanted, size_t n);
@@ -46,30 +48,30 @@ UefiBytes slice(const uint8_t *at, size_t n);
 
 /* What a call returned, with its count. */
 #define COUNTED(call, result) \
-    ({ static Count calls = {.name = #call}; counted(&calls, result); })
+    ({ static Count calls_ = {.name = #call}; counted(&calls_, result); })
 #define COUNTED_BOOL(call, result) \
-    ({ static Count calls = {.name = #call, .is_bool = true}; counted(&calls, result); })
+    ({ static Count calls_ = {.name = #call, .is_bool = true}; counted(&calls_, result); })
 
 /* Calls uefi_NAME, and plain_NAME with the same arguments, which may name `&at` and `&out`. Both return the same,
  * leave the same number in `at`, and write the same to `out`, whose bytes are 0xcc before. The value is the result. */
 #define BOTH(out, at, call, ...)                                                                    \
     ({                                                                                              \
-        __typeof__(out) found;                                                                      \
-        size_t start = (at), end;                                                                   \
+        __typeof__(out) found_;                                                                     \
+        size_t start_ = (at), end_;                                                                 \
         memset(&(out), 0xcc, sizeof(out));                                                          \
-        uint32_t result = uefi_##call(__VA_ARGS__);                                                 \
-        memcpy(&found, &(out), sizeof(out)), end = (at);                                            \
-        memset(&(out), 0xcc, sizeof(out)), (at) = start;                                            \
-        NEED(plain_##call(__VA_ARGS__) == result && (at) == end);                                   \
-        __builtin_clear_padding(&found), __builtin_clear_padding(&(out));                           \
-        NEED(is_same(&found, &(out), sizeof(out)));                                                 \
-        COUNTED(call, result);                                                                      \
+        uint32_t result_ = uefi_##call(__VA_ARGS__);                                                \
+        memcpy(&found_, &(out), sizeof(out)), end_ = (at);                                          \
+        memset(&(out), 0xcc, sizeof(out)), (at) = start_;                                           \
+        NEED(plain_##call(__VA_ARGS__) == result_ && (at) == end_);                                 \
+        __builtin_clear_padding(&found_), __builtin_clear_padding(&(out));                          \
+        NEED(is_same(&found_, &(out), sizeof(out)));                                                \
+        COUNTED(call, result_);                                                                     \
     })
-#define READ(type, call, ...) ({ type out; size_t none = 0; BOTH(out, none, call, __VA_ARGS__, &out); })
-#define NEXT(type, at, call, ...) ({ type out; BOTH(out, at, call, __VA_ARGS__, &(at), &out); })
-#define SAME(call, ...) ({ size_t none = 0, out; BOTH(out, none, call, __VA_ARGS__); })
-#define SAME_AT(at, call, ...) ({ size_t out; BOTH(out, at, call, __VA_ARGS__, &(at)); })
-#define SAME_BOOL(call, ...) ({ bool result = uefi_##call(__VA_ARGS__); NEED(plain_##call(__VA_ARGS__) == result); COUNTED_BOOL(call, result); })
+#define READ(type, call, ...) ({ type out_; size_t none_ = 0; BOTH(out_, none_, call, __VA_ARGS__, &out_); })
+#define NEXT(type, at, call, ...) ({ type out_; BOTH(out_, at, call, __VA_ARGS__, &(at), &out_); })
+#define SAME(call, ...) ({ size_t none_ = 0, out_; BOTH(out_, none_, call, __VA_ARGS__); })
+#define SAME_AT(at, call, ...) ({ size_t out_; BOTH(out_, at, call, __VA_ARGS__, &(at)); })
+#define SAME_BOOL(call, ...) ({ bool result_ = uefi_##call(__VA_ARGS__); NEED(plain_##call(__VA_ARGS__) == result_); COUNTED_BOOL(call, result_); })
 
 /* The same of a call that writes to a `buffer`, of a length near to the `size` that it states. */
 #define WRITE(call, ...)                                                                            \

@@ -81,28 +81,31 @@ static bool returns(const Call *call, UefiStatus status) {
     return *it == status;
 }
 
-static void need_of_call(const Count *all_calls, const Call *call) {
+static void need_of_call(const Count *all_calls, const Call *call, bool is_enough) {
     size_t sums[STATUSES];
     sum(all_calls, call->call, sums);
     printf("%s:", call->call);
     for (int i = 0; i < STATUSES; i++)
         if (sums[i]) printf(" %d:%zu", i, sums[i]);
     puts("");
-    for (int i = 0; i < STATUSES; i++)
-        if (!sums[i] == returns(call, (UefiStatus)i)) printf("status %d: %s\n", i, sums[i] ? "unexpected" : "never returned"), exit(1);
+    for (int i = 0; i < STATUSES; i++) {
+        if (!sums[i] != returns(call, (UefiStatus)i)) continue;
+        printf("status %d: %s\n", i, sums[i] ? "unexpected" : "never returned");
+        if (sums[i] || is_enough) exit(1);
+    }
 }
 
-static void need_of_bool(const Count *count) {
+static void need_of_bool(const Count *count, bool is_enough) {
     printf("%s: false:%zu true:%zu\n", count->name, count->results[0], count->results[1]);
-    if (!count->results[0] || !count->results[1]) puts("never both"), exit(1);
+    if (is_enough && (!count->results[0] || !count->results[1])) exit(1);
 }
 
-void need_statuses(const Count *all_calls) {
+void need_statuses(const Count *all_calls, bool is_enough) {
     size_t names = 0;
-    for (size_t i = 0; i < sizeof calls / sizeof *calls; i++) need_of_call(all_calls, &calls[i]);
+    for (size_t i = 0; i < sizeof calls / sizeof *calls; i++) need_of_call(all_calls, &calls[i], is_enough);
     for (const Count *it = all_calls; it; it = it->next) {
         for (size_t i = 0; i < sizeof calls / sizeof *calls; i++) names += !strcmp(it->name, calls[i].call);
-        if (it->is_bool) need_of_bool(it), names++;
+        if (it->is_bool) need_of_bool(it, is_enough), names++;
         if (!names) printf("%s has no row\n", it->name), exit(1);
         names = 0;
     }

@@ -20,17 +20,17 @@ void print(const char *format, ...);
 bool expect(bool same, const char *what);
 
 /* Calls uefi_NAME and plain_NAME with the same arguments, which may name `&at` and `&out`. Both return the same, and
- * leave the same in `at` and, up to the member `last`, in `out`. The value is what they return. */
+ * leave the same in `at` and, up to the member `last`, in `out`. The value is the status that they return. */
 #define BOTH(out, last, at, name, ...)                                                                                 \
     ({                                                                                                                 \
         __typeof__(out) by_library;                                                                                    \
         size_t start = (at), n = offsetof(__typeof__(out), last) + sizeof((out).last);                                 \
-        bool found = uefi_##name(__VA_ARGS__);                                                                         \
+        UefiStatus status = uefi_##name(__VA_ARGS__);                                                                  \
         size_t end = (at);                                                                                             \
         by_library = (out), (at) = start;                                                                              \
-        expect(plain_##name(__VA_ARGS__) == found && (at) == end, #name);                                              \
-        expect(!found || !memcmp(&by_library, &(out), n), "what " #name " reads");                                     \
-        found;                                                                                                         \
+        expect(plain_##name(__VA_ARGS__) == status && (at) == end, #name);                                             \
+        expect(status != UEFI_OK || !memcmp(&by_library, &(out), n), "what " #name " reads");                          \
+        status;                                                                                                        \
     })
 
 /* Reads the memory map that firmware has at this moment, and walks over it. False if there is none. */

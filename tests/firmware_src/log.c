@@ -36,22 +36,26 @@ static const Bank banks[] = {{1, 0x4, "sha1"}, {2, 0xb, "sha256"}, {4, 0xc, "sha
                              {16, 0x12, "sm3_256"}};
 
 static EfiTcg2 *tcg2;
+static UefiWorkspace workspace;
 static UefiBytes log;
 static size_t last_entry, event_count, digest_count;
 
-/* Walks over the bytes of a log, counts what they have, and returns where the last event ends. */
-static size_t walk(UefiBytes bytes) {
+/* Walks over the bytes of a log, counts what they have, and returns where the last event ends. The status says why. */
+static size_t walk(UefiBytes bytes, UefiStatus *status) {
     UefiLogHeader header;
     UefiEvent2 event;
     UefiDigest digest;
     size_t at = 0;
     event_count = digest_count = 0;
-    if (!BOTH(header, uintn_size, at, log2_header, bytes, last_entry, &header))
+    *status = BOTH(header, uintn_size, at, log2_header, bytes, last_entry, &header);
+    if (*status != UEFI_OK)
         return 0;
     at = header.event_end;
-    for (; BOTH(event, event_type, at, log2_next, bytes, last_entry, header.rows, &at, &event); event_count++)
-        for (size_t next = 0; BOTH(digest, algorithm, next, digest_next, event.digests, header.rows, &next, &digest);)
+    while ((*status = BOTH(event, event_type, at, log2_next, bytes, last_entry, header.rows, &at, &event)) == UEFI_OK) {
+        for (size_t next = 0; BOTH(digest, algorithm, next, digest_next, event.digests, header.rows, &next, &digest) == UEFI_OK;)
             digest_count++;
+        event_count++;
+    }
     return at;
 }
 
@@ -67,15 +71,26 @@ static bool get_log(void) {
     return true;
 }
 
+/* What uefi_log_read says of the bytes of a log. */
+static UefiStatus judge(UefiBytes bytes) {
+    size_t at = 77, by_plain = 77;
+    UefiStatus status = uefi_log_read(bytes, last_entry, &at);
+    expect(plain_log_read(bytes, last_entry, &by_plain) == status && by_plain == at, "log_read");
+    return status;
+}
+
 static void compare_log(void) {
-    size_t end = walk(log), events = event_count;
+    UefiStatus status;
+    size_t end = walk(log, &status), events = event_count;
+    expect(status == UEFI_END && judge(log) == UEFI_OK, "a whole log");
     print("event log, %u bytes, last entry %u, %u digests: %u events\n", end, last_entry, digest_count, events);
     /* No byte of the log is lost; with one byte fewer the last event is. */
     log = uefi_bytes(log.at, end);
-    walk(uefi_bytes(log.at, end - 1));
-    expect(event_count == events - 1, "a cut log");
+    walk(uefi_bytes(log.at, end - 1), &status);
+    expect(event_count == events - 1 && status == UEFI_CUT, "a cut log");
+    expect(judge(uefi_bytes(log.at, end - 1)) == UEFI_LEFT_OVER, "what is wrong with a cut log");
     for (size_t k = 0; k < REPEATS; k++)
-        expect(walk(log) == end && event_count == events, "a walk with interrupts on");
+        expect(walk(log, &status) == end && event_count == events, "a walk with interrupts on");
     print("file event.log %b\nlast_entry %u\n", &log, last_entry);
 }
 
@@ -100,9 +115,10 @@ static void read_register(const Bank *bank, unsigned index) {
     UefiBytes value = uefi_bytes(response + 30, response[29]);
     UefiPcr pcr;
     print("pcr %u %b\n", (uint64_t)index, &value);
-    if (!uefi_replay_pcr(log, last_entry, bank->algorithm, UEFI_LOCALITY_OF_LOG, index, &pcr))
+    UefiStatus status = uefi_replay_pcr(log, last_entry, bank->algorithm, UEFI_LOCALITY_OF_LOG, index, &workspace, &pcr);
+    if (status == UEFI_NO_HASH)
         return;
-    bool same = pcr.fault == UEFI_PCR_DETERMINED && pcr.size == value.n && !memcmp(pcr.value, value.at, value.n);
+    bool same = status == UEFI_OK && pcr.size == value.n && !memcmp(pcr.value, value.at, value.n);
     expect(same, "a register is as the log leaves it");
     replayed++;
 }

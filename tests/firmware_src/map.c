@@ -17,10 +17,10 @@ static bool get_map(void) {
 
 #ifdef PLANT
 /* Turns a bit of one descriptor. */
-static bool turned(UefiBytes bytes, size_t size, size_t index, UefiDescriptor *out) {
-    bool found = uefi_map_entry(bytes, size, index, out);
+static UefiStatus turned(UefiBytes bytes, size_t size, size_t index, UefiDescriptor *out) {
+    UefiStatus status = uefi_map_entry(bytes, size, index, out);
     out->memory_type ^= index == 3;
-    return found;
+    return status;
 }
 #define uefi_map_entry turned
 #endif
@@ -31,11 +31,11 @@ bool read_map(void) {
     bool is_sorted = true;
     if (!get_map())
         return false;
-    expect(uefi_map_check(map, stride), "the map is one");
-    expect(!uefi_map_check(uefi_bytes(map.at, map.n - 1), stride), "a cut map");
-    expect(!uefi_map_entry(map, stride, (size_t)-1, &entry) && entry.memory_type == 77, "no last descriptor");
-    expect(!uefi_map_entry(map, 39, 0, &entry) && entry.memory_type == 77, "a stride of 39");
-    for (uint64_t last = 0; BOTH(entry, attribute, none, map_entry, map, stride, count, &entry); count++) {
+    expect(uefi_map_check(map, stride) == UEFI_OK, "the map is one");
+    expect(uefi_map_check(uefi_bytes(map.at, map.n - 1), stride) == UEFI_NOT_MAP, "a cut map");
+    expect(uefi_map_entry(map, stride, (size_t)-1, &entry) == UEFI_END && entry.memory_type == 77, "no last descriptor");
+    expect(uefi_map_entry(map, 39, 0, &entry) == UEFI_NOT_MAP && entry.memory_type == 77, "a stride of 39");
+    for (uint64_t last = 0; BOTH(entry, attribute, none, map_entry, map, stride, count, &entry) == UEFI_OK; count++) {
         is_sorted &= last <= entry.phys_start;
         last = entry.phys_start;
     }
@@ -47,7 +47,7 @@ bool read_map(void) {
 
 UefiBytes readable_from(const void *at) {
     UefiDescriptor entry;
-    for (size_t i = 0; uefi_map_entry(map, stride, i, &entry); i++) {
+    for (size_t i = 0; uefi_map_entry(map, stride, i, &entry) == UEFI_OK; i++) {
         uint64_t end = entry.phys_start + 4096 * entry.page_count;
         if (entry.phys_start <= (uint64_t)at && (uint64_t)at < end)
             return uefi_bytes(at, (size_t)(end - (uint64_t)at));

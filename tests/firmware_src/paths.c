@@ -14,12 +14,12 @@ static size_t read_path(const char *file, UefiBytes bytes) {
     UefiBytes path, cut, instance;
     UefiNode node;
     size_t none = 0, count = 0;
-    if (!expect(BOTH(path, n, none, path, bytes, &path), "a path"))
+    if (!expect(BOTH(path, n, none, path, bytes, &path) == UEFI_OK, "a path"))
         return 0;
     expect(path.n == length_by_firmware(bytes.at), "a path's length by firmware");
-    expect(!uefi_path(uefi_bytes(path.at, path.n - 1), &cut), "a cut path");
-    for (size_t next = 0; BOTH(instance, n, next, path_next_instance, path, &next, &instance);)
-        for (size_t at = 0; BOTH(node, sub_type, at, path_next_node, instance, &at, &node);)
+    expect(uefi_path(uefi_bytes(path.at, path.n - 1), &cut) == UEFI_NO_PATH, "a cut path");
+    for (size_t next = 0; BOTH(instance, n, next, path_next_instance, path, &next, &instance) == UEFI_OK;)
+        for (size_t at = 0; BOTH(node, sub_type, at, path_next_node, instance, &at, &node) == UEFI_OK;)
             count++;
     if (file)
         print("%s, %u bytes: %u nodes\nfile %s %b\n", file, path.n, count, file, &path);
