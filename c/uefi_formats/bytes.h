@@ -73,6 +73,13 @@ UEFI_CALL uint32_t uefi_formats_version(void);
 }
 #endif
 
+/* How many elements an array has at least: a compiler of C may warn of a smaller one. */
+#ifdef __cplusplus
+#define UEFI_AT_LEAST(n) n
+#else
+#define UEFI_AT_LEAST(n) static n
+#endif
+
 typedef struct {
     const uint8_t *at;
     size_t n;

@@ -221,7 +221,7 @@ uefi_log2_digest(UefiBytes log, size_t last_entry, UefiBytes rows, size_t offset
 /* Writes an event of a version 1 log. UEFI_TOO_LONG if the data have 2^32 bytes or
  * more. */
 UEFI_CALL UEFI_NODISCARD UEFI_NONNULL UefiStatus
-uefi_write_event(UefiBuffer buffer, UefiBytes event_data, const uint8_t digest[20], uint32_t pcr_index,
+uefi_write_event(UefiBuffer buffer, UefiBytes event_data, const uint8_t digest[UEFI_AT_LEAST(20)], uint32_t pcr_index,
                  uint32_t event_type, size_t *size);
 
 /* Writes what firmware is handed to log an event (EFI_TCG2_EVENT). UEFI_TOO_LONG if

@@ -56,7 +56,7 @@ typedef struct {
  * event by which it is undetermined. */
 UEFI_CALL UEFI_NODISCARD UEFI_NONNULL UefiStatus
 uefi_replay(UefiBytes log, size_t last_entry, uint16_t algorithm, uint32_t locality, UefiWorkspace *workspace,
-            UefiPcr pcrs[24]);
+            UefiPcr pcrs[UEFI_AT_LEAST(24)]);
 
 /* The same for one PCR. It takes as long as for all. At UEFI_NO_HASH, and at
  * UEFI_NO_PCR for a PCR above 23, `*out` is as it was. Else it is set, and its

@@ -10,7 +10,7 @@ extern "C" {
 
 /* Writes the text of a GUID, without a NUL: five groups of lowercase hex digits,
  * separated by dashes. */
-UEFI_CALL UEFI_NONNULL void uefi_guid_text(uint8_t text[36], const uint8_t guid[16]);
+UEFI_CALL UEFI_NONNULL void uefi_guid_text(uint8_t text[UEFI_AT_LEAST(36)], const uint8_t guid[UEFI_AT_LEAST(16)]);
 
 /* UCS-2 text (UEFI 2.10, 2.3.1, CHAR16) is units of two bytes, little-endian. The
  * last unit is zero, the NUL. Each other one is a character: not zero, and not

@@ -45,7 +45,7 @@ uefi_time_faults(UefiBytes bytes, UefiTimeFaults *out);
 /* Writes the sixteen bytes of a time, with zeros as padding. UEFI_BAD_TIME if a
  * field is out of its range; daylight may have any bits. */
 UEFI_CALL UEFI_NODISCARD UEFI_NONNULL UefiStatus
-uefi_write_time(uint8_t bytes[16], const UefiTime *time);
+uefi_write_time(uint8_t bytes[UEFI_AT_LEAST(16)], const UefiTime *time);
 
 #ifdef __cplusplus
 }
