@@ -122,7 +122,7 @@ pub(crate) fn last_entry_of(bytes: &[u8], last_entry: usize) -> LastEntry {
     if last_entry == EMPTY_LOG {
         return LastEntry::Empty;
     }
-    if last_entry >= bytes.len() {
+    if last_entry == bytes.len() {
         return LastEntry::Unknown;
     }
     LastEntry::At(last_entry)
