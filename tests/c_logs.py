@@ -45,6 +45,8 @@ def refused(room):
         (write(room, "cut", log[:-1]), SHA256): (LAST, c_statuses.LEFT_OVER),
         (write(room, "rows", many_rows(257)), SHA256): (0, c_statuses.TOO_MANY_ALGORITHMS),
         (LOG, SHA256, str(LAST - 1)): (BEFORE, c_statuses.LEFT_OVER),
+        (write(room, "between", log[:BEFORE]), SHA256, str(LAST)): (BEFORE, c_statuses.LEFT_OVER),
+        (LOG, SHA256, str(1 << 30)): (len(log), c_statuses.LEFT_OVER),
         (LOG, SHA256, "1"): (0, c_statuses.NO_EVENT),
     }
     found = {given: f"replay: this is no whole log, at {at}: {why}\n".encode() for given, (at, why) in runs.items()}
