@@ -1,6 +1,7 @@
 -- The quote in a file, as it is asked for.
 use Rattle.std.specs.Prelude.{ℕ, ◌≡◌, ◌||◌, Bool, true, false, List, ◌++◌, codes, length, Option, None, Some, is_some, Result, Ok, Err}
 use Rattle.std.specs.Fmt.{decimal}
+use Rattle.hex.specs.Hex.{decode_of}
 use Rattle.tpm_quote.specs.Quote.{Quote}
 use Rattle.tpm_quote.specs.Reading.{IsVerdict}
 use Rattle.tpm_quote.specs.Texts.{quote_error_text}
@@ -12,6 +13,12 @@ use Rattle.uefi_audit.specs.declared.failure.Status.TheVariants.{Unjudged, Unrea
 use Rattle.uefi_audit.specs.declared.quote.NotReceived.{NotReceived}
 use Rattle.uefi_audit.specs.declared.quote.NotReceived.TheVariants.{Malformed, NoNonce, NoHash}
 use Rattle.uefi_audit.specs.declared.request.AskedQuote.{AskedQuote}
+
+-- The nonce by the hex digits of `--nonce`: the bytes that they are, and none without digits.
+abbrev pub IsNonce : Option (List ℕ) → Option (List ℕ) → Type 0
+IsNonce None nonce = nonce ≡ None
+IsNonce (Some digits) None = ⊥
+IsNonce (Some digits) (Some bytes) = decode_of digits ≡ Ok bytes
 
 -- A nonce is stated, or any will do.
 abbrev pub is_nonce_stated : AskedQuote → Option (List ℕ) → Bool

@@ -1,7 +1,10 @@
-ghost use Rattle.std.specs.Prelude.{◌≡◌, IsTrue, OnOk, IfErr};
+ghost use Rattle.std.specs.Prelude.{◌≡◌, [], IsTrue, OnOk, IfErr, IfOk, IfSome, None};
+ghost use Rattle.std.specs.Option.{option_map};
+ghost use Rattle.std.specs.Result.{result_map_both};
 ghost use Rattle.std.specs.Io.KnownBytes.{Appends};
 ghost use Rattle.uefi_audit.specs.Ends.{is_output};
-ghost use Rattle.uefi_audit.specs.Quote.{status_without};
+ghost use Rattle.uefi_audit.specs.Quote.{IsNonce, Receives, status_without};
+ghost use Rattle.uefi_audits.specs.verify.Quote.{received_of};
 
 use crate::comparison::{Compared, difference_report};
 use crate::failure::{Failure, Status};
@@ -152,7 +155,13 @@ fn quote_input<R: Files + Input + Eprint + AllocGlobal>(
     rt: &R,
     asked: &Verification<'_>,
     quote: &AskedQuote<'_>,
-) -> Result<Option<QuoteInput>, Failure> {
+) -> Result<Option<QuoteInput>, Failure>
+    ensures nonce { IfOk result (λ read. IfSome read (λ input. IsNonce
+        (option_map (λ digits. digits.now) quote.now.nonce)
+        (option_map (λ bytes. bytes.items) input.nonce))) }
+    ensures held { IfOk result (λ read. IfSome read (λ input. input.held.items ≡ []
+        → asked.now.registers ≡ None)) }
+{
     let selection = selection_of(rt, asked.pcrs)?;
     let nonce = nonce_of(rt, quote.nonce)?;
     let log = file_bytes(rt, asked.log);
@@ -174,7 +183,11 @@ fn quote_input<R: Files + Input + Eprint + AllocGlobal>(
 fn received_in<'a>(
     quote: &AskedQuote<'_>,
     input: &'a QuoteInput,
-) -> Result<ReceivedQuote<'a>, NotReceived> {
+) -> Result<ReceivedQuote<'a>, NotReceived>
+    ensures { Receives input.now.message.items quote.now
+        (option_map (λ bytes. bytes.items) input.now.nonce)
+        (result_map_both received_of (λ why. why) result) }
+{
     match &input.nonce {
         Some(nonce) => received_quote(input.message.as_slice(), quote, Some(nonce.as_slice())),
         None => received_quote(input.message.as_slice(), quote, None),
@@ -217,7 +230,9 @@ fn verify_quote<'a, R: Files + Input + Print + Eprint + AllocGlobal>(
 fn held_beside<R: Files + Input + Eprint + AllocGlobal>(
     rt: &R,
     registers: Option<&str>,
-) -> Option<Vec<HeldPcr>> {
+) -> Option<Vec<HeldPcr>>
+    ensures { IfSome result (λ held. held.items ≡ [] → registers.entry ≡ None) }
+{
     match registers {
         Some(path) => held_pcrs(rt, path),
         None => Some(Vec::new(rt.alloc())),
@@ -228,7 +243,10 @@ fn held_beside<R: Files + Input + Eprint + AllocGlobal>(
 fn nonce_of<R: Eprint + AllocGlobal>(
     rt: &R,
     digits: Option<&str>,
-) -> Result<Option<Vec<u8>>, Failure> {
+) -> Result<Option<Vec<u8>>, Failure>
+    ensures { IfOk result (λ nonce. IsNonce (option_map (λ digits. digits.now) digits.entry)
+        (option_map (λ bytes. bytes.items) nonce)) }
+{
     let Some(digits) = digits else {
         return Ok(None);
     };
