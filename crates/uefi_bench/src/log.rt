@@ -1,6 +1,6 @@
 use uefi_tcg::{v1, v2};
 
-/// Reads the bytes as an event log of version 1 with this last entry. The sum is over register,
+/// Reads the bytes as an event log of version 1 with this last entry. The sum is over PCR,
 /// type, first byte of the digest and length of the data of each event.
 #[unsafe(no_mangle)]
 pub extern "C" fn port_log1(bytes: &[u8], last_entry: usize) -> u64 {
@@ -17,7 +17,7 @@ pub extern "C" fn port_log1(bytes: &[u8], last_entry: usize) -> u64 {
     sum
 }
 
-/// Reads the bytes as an event log of version 2 with this last entry. The sum is over register,
+/// Reads the bytes as an event log of version 2 with this last entry. The sum is over PCR,
 /// type and length of the data of each event and, if `digests` is 1, over [`digest_sum`].
 #[unsafe(no_mangle)]
 pub extern "C" fn port_log2(bytes: &[u8], last_entry: usize, digests: u32) -> u64 {

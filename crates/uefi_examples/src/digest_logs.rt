@@ -212,7 +212,7 @@ pub fn event_count_after_header_event(bytes: &[u8], last_entry: usize) -> usize
     count_after_header_event(bytes, last_entry)
 }
 
-/// Returns how many events of a log of version 2 are of a register.
+/// Returns how many events of a log of version 2 are of a PCR.
 pub fn count_of_register(bytes: &[u8], last_entry: usize, register: PcrIndex) -> usize
     ensures { (events : List Event) × IsLogOf after_header (Some bytes.now) (Some last_entry) events
         × (result ≡ count_by (λ event. event.pcr_index == register.0) events) }

@@ -92,14 +92,14 @@ pub fn zero_version() -> Version
     Version::default()
 }
 
-/// Returns whether one register is less: exactly if its number is.
+/// Returns whether one PCR is less: exactly if its number is.
 pub fn is_lower_register(one: &PcrIndex, other: &PcrIndex) -> bool
     ensures { IsTrue result ↔ (one.now.0 < other.now.0) }
 {
     one < other
 }
 
-/// Hashes equal registers: their hashes are equal, those of their numbers.
+/// Hashes equal PCRs: their hashes are equal, those of their numbers.
 pub fn hashes<H: Hasher>(one: &PcrIndex, other: &PcrIndex, mut first: H, mut second: H) -> (H, H)
     requires registers { one.now ≡ other.now }
     requires hashers { first ≡ second }

@@ -4,7 +4,7 @@ use test_support::{bytes, same};
 use uefi_tcg::PcrIndex;
 use uefi_tcg::v2::EventLog;
 
-/// The events of each register in the log, counted by a reader of another language. Register 8 has
+/// The events of each PCR in the log, counted by a reader of another language. PCR 8 has
 /// none.
 const COUNTS: [(u32, usize); 10] = [
     (0, 4),
@@ -22,7 +22,7 @@ const COUNTS: [(u32, usize); 10] = [
 /// The offset at which the last event of the log starts.
 const LAST_ENTRY: usize = 5294;
 
-/// Returns how many events of the log extended a register.
+/// Returns how many events of the log extended a PCR.
 fn count_of_register(log: &EventLog<'_>, register: PcrIndex) -> usize {
     log.iter()
         .filter(|event| event.pcr_index() == register)

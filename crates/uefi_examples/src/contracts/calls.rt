@@ -10,7 +10,7 @@ use std::{fs, io};
 use uefi_map::MemoryMapMeta;
 use uefi_tcg::PcrIndex;
 
-/// Prints the types of the events of a log that are of a register. The last event of the log may
+/// Prints the types of the events of a log that are of a PCR. The last event of the log may
 /// start anywhere, so every whole event counts.
 pub fn print_types<R: Files + Print + AllocGlobal>(
     rt: &R,

@@ -8,7 +8,7 @@ use std::alloc::{AllocError, Global};
 use uefi_tcg::PcrIndex;
 use uefi_tcg::v2::{EventLog, PcrEvent};
 
-/// Returns the events of a log that are of a register, in order, as `iter` has them.
+/// Returns the events of a log that are of a PCR, in order, as `iter` has them.
 pub fn events_of_register<'a>(
     alloc: Global,
     bytes: &'a [u8],

@@ -3,7 +3,7 @@ use Rattle.std.specs.Prelude.{◌==◌}
 use Rattle.uefi_tcg.specs.v2.Views.{event_of}
 use Rattle.uefi_examples.proofs.contracts.register.events_of_register.Given as goal
 
--- Those that were found, and those of the register that are left.
+-- Those that were found, and those of the PCR that are left.
 abbrev pub invariant-loop-event : goal.invariant-loop-event
 invariant-loop-event l =
     map event_of l.events.items ++ filter (λ event. event.pcr_index == l.register.0) l.event-iterator.events

@@ -2,7 +2,7 @@ use Rattle.std.proofs.Common.{◌≡◌, ◌++◌, map, filter}
 use Rattle.std.specs.Prelude.{◌==◌}
 use Rattle.uefi_examples.proofs.contracts.register.types_of_register.Given as goal
 
--- Those that were found, and those of the register that are left.
+-- Those that were found, and those of the PCR that are left.
 abbrev pub invariant-loop-event : goal.invariant-loop-event
 invariant-loop-event l =
     l.types.items
