@@ -8,6 +8,6 @@ pub mod file;
 pub mod map;
 pub mod partition;
 pub mod path;
-pub mod register;
+pub mod pcr;
 pub mod resources;
 pub mod time;

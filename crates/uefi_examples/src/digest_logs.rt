@@ -213,14 +213,14 @@ pub fn event_count_after_header_event(bytes: &[u8], last_entry: usize) -> usize
 }
 
 /// Returns how many events of a log of version 2 are of a PCR.
-pub fn count_of_register(bytes: &[u8], last_entry: usize, register: PcrIndex) -> usize
+pub fn count_of_pcr(bytes: &[u8], last_entry: usize, pcr: PcrIndex) -> usize
     ensures { (events : List Event) × IsLogOf after_header (Some bytes.now) (Some last_entry) events
-        × (result ≡ count_by (λ event. event.pcr_index == register.0) events) }
+        × (result ≡ count_by (λ event. event.pcr_index == pcr.0) events) }
 {
     let log = EventLog::new(Some(bytes), Some(last_entry), false);
     let mut count = 0;
     for event in log.iter() {
-        if event.pcr_index() == register {
+        if event.pcr_index() == pcr {
             count += 1;
         }
     }

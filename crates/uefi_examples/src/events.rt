@@ -15,15 +15,15 @@ use uefi_tcg::{EventType, PcrIndex};
 /// Writes an event to a caller's buffer, if it fits; else the buffer stays as it was.
 pub fn write_loader_event(
     buffer: &mut [u8],
-    register: PcrIndex,
+    pcr: PcrIndex,
     digest: Sha1Digest,
     event_data: &[u8],
 ) -> Result<(), Error<Option<usize>>>
     ensures written { OnOk result (buffer.new ≡ put_prefix
-        (event_bytes (event_given register EventType.IPL digest event_data.now)) buffer.old) }
+        (event_bytes (event_given pcr EventType.IPL digest event_data.now)) buffer.old) }
     ensures unchanged { OnErr result (buffer.new ≡ buffer.old) }
 {
-    write_event(buffer, register, EventType::IPL, digest, event_data)?;
+    write_event(buffer, pcr, EventType::IPL, digest, event_data)?;
     Ok(())
 }
 
@@ -93,7 +93,7 @@ pub fn zero_version() -> Version
 }
 
 /// Returns whether one PCR is less: exactly if its number is.
-pub fn is_lower_register(one: &PcrIndex, other: &PcrIndex) -> bool
+pub fn is_lower_pcr(one: &PcrIndex, other: &PcrIndex) -> bool
     ensures { IsTrue result ↔ (one.now.0 < other.now.0) }
 {
     one < other
@@ -101,7 +101,7 @@ pub fn is_lower_register(one: &PcrIndex, other: &PcrIndex) -> bool
 
 /// Hashes equal PCRs: their hashes are equal, those of their numbers.
 pub fn hashes<H: Hasher>(one: &PcrIndex, other: &PcrIndex, mut first: H, mut second: H) -> (H, H)
-    requires registers { one.now ≡ other.now }
+    requires pcrs { one.now ≡ other.now }
     requires hashers { first ≡ second }
     ensures same { result.0 ≡ result.1 }
     ensures number { result.0 ≡ fold H.write first (fed.u32 one.now.0) }

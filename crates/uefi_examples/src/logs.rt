@@ -98,18 +98,18 @@ pub fn events_of_part<'a>(
 /// Writes an event to a buffer, if it fits, and reads the log that its bytes are: this event.
 pub fn event_read_back<'a>(
     buffer: &'a mut [u8],
-    register: PcrIndex,
+    pcr: PcrIndex,
     digest: Sha1Digest,
     event_data: &[u8],
 ) -> Option<PcrEvent<'a>>
     ensures event { IfSome result (λ event. event_of event
-        ≡ event_given register EventType.IPL digest event_data.now) }
+        ≡ event_given pcr EventType.IPL digest event_data.now) }
     ensures fits { IsSome result ↔ (length event_data.now < 2 ^ 32)
         × (header_length + length event_data.now ≤ length buffer.old) }
 {
     one_log_v1();
     written_event();
-    let written = write_event(buffer, register, EventType::IPL, digest, event_data);
+    let written = write_event(buffer, pcr, EventType::IPL, digest, event_data);
     let Ok(end) = written else {
         return None;
     };

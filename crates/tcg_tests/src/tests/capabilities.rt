@@ -184,7 +184,7 @@ fn names_are_numbers() -> Result<(), Fail> {
         &0x8000_0008,
     )?;
     same("an algorithm", &AlgorithmId::SM3_256.0, &0x12)?;
-    holds("registers are ordered", PcrIndex(4) < PcrIndex(7))
+    holds("PCRs are ordered", PcrIndex(4) < PcrIndex(7))
 }
 
 /// Returns the capability of version 2 with these numbers as its fields, in the order of its

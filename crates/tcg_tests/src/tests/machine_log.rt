@@ -23,19 +23,17 @@ const COUNTS: [(u32, usize); 10] = [
 const LAST_ENTRY: usize = 5294;
 
 /// Returns how many events of the log extended a PCR.
-fn count_of_register(log: &EventLog<'_>, register: PcrIndex) -> usize {
-    log.iter()
-        .filter(|event| event.pcr_index() == register)
-        .count()
+fn count_of_pcr(log: &EventLog<'_>, pcr: PcrIndex) -> usize {
+    log.iter().filter(|event| event.pcr_index() == pcr).count()
 }
 
 #[test]
-fn each_register_of_a_machines_log_has_its_events(rt: HostRuntime) -> Result<(), Fail> {
+fn each_pcr_of_a_machines_log_has_its_events(rt: HostRuntime) -> Result<(), Fail> {
     let bytes = bytes(rt.alloc(), MACHINE_LOG)?;
     let log = EventLog::new(Some(bytes.as_slice()), Some(LAST_ENTRY), false);
-    for &(register, count) in &COUNTS {
-        let found = count_of_register(&log, PcrIndex(register));
-        same("a register", &(register, found), &(register, count))?;
+    for &(pcr, count) in &COUNTS {
+        let found = count_of_pcr(&log, PcrIndex(pcr));
+        same("a PCR", &(pcr, found), &(pcr, count))?;
     }
     Ok(())
 }

@@ -2,7 +2,7 @@ use super::configuration::first_value_at;
 use super::file::file_size_in;
 use super::map::region_at;
 use super::path::goes_over_medium;
-use super::register::events_of_register;
+use super::pcr::events_of_pcr;
 use super::resources::is_decoded;
 use super::time::year_in;
 use std::rt::Files;
@@ -12,14 +12,10 @@ use uefi_tcg::PcrIndex;
 
 /// Prints the types of the events of a log that are of a PCR. The last event of the log may
 /// start anywhere, so every whole event counts.
-pub fn print_types<R: Files + Print + AllocGlobal>(
-    rt: &R,
-    file: &str,
-    register: u32,
-) -> io::Result<()> {
+pub fn print_types<R: Files + Print + AllocGlobal>(rt: &R, file: &str, pcr: u32) -> io::Result<()> {
     let bytes = fs::read(rt, file)?;
-    let register = PcrIndex(register);
-    let events = events_of_register(rt.alloc(), bytes.as_slice(), bytes.len(), register)?;
+    let pcr = PcrIndex(pcr);
+    let events = events_of_pcr(rt.alloc(), bytes.as_slice(), bytes.len(), pcr)?;
     for event in events.iter() {
         println!(rt; "{}", event.event_type().0)?;
     }

@@ -2,7 +2,7 @@
 
 //! Event logs of measured boot, as the TCG specifications for EFI platforms lay them out.
 //!
-//! Firmware extends a register for each thing that it measures, and adds an event to a log. It
+//! Firmware extends a PCR for each thing that it measures, and adds an event to a log. It
 //! returns the log as bytes with a *last entry*: the offset at which the last event starts.
 //!
 //! Begin with [`Log::read`], which reads a log of either version, or says why it isn't whole.

@@ -34,11 +34,11 @@ pub const FILE_SYSTEM: &str = "3000000000000000 02 eeeeeeeeeeeeee 01000000000000
 /// The thirty-first of February 2024, local time: every month has 31 days.
 pub const LAST_OF_FEBRUARY: &str = "e807 02 1f 00 00 00 00  00000000  ff07 00 00";
 
-/// An event of 34 bytes of a version 1 log: register 0, `EV_S_CRTM_VERSION`.
+/// An event of 34 bytes of a version 1 log: PCR 0, `EV_S_CRTM_VERSION`.
 pub const CRTM_VERSION: &str =
     "00000000 08000000 1489f923c4dca729178b3e3233458550d8dddf29 02000000 0000";
 
-/// An event of 48 bytes of a version 1 log: register 0, `EV_EFI_PLATFORM_FIRMWARE_BLOB`.
+/// An event of 48 bytes of a version 1 log: PCR 0, `EV_EFI_PLATFORM_FIRMWARE_BLOB`.
 pub const FIRMWARE_BLOB: &str = "00000000 08000080 c706e7dd36392984eb06aaa08ff336844077b3ed \
     10000000 000082000000000000000e0000000000";
 
@@ -211,7 +211,7 @@ pub const FOUR_HEADER: &str = "00000000 03000000 0000000000000000000000000000000
     53706563204944204576656e74303300 00000000 00020002 04000000 \
     04001400 0b002000 0c003000 0d004000 00";
 
-/// Two events under these four algorithms, of 190 and 204 bytes: register 0, `EV_S_CRTM_VERSION`
+/// Two events under these four algorithms, of 190 and 204 bytes: PCR 0, `EV_S_CRTM_VERSION`
 /// and `EV_EFI_PLATFORM_FIRMWARE_BLOB`.
 pub const FOUR_EVENTS: &str = "00000000 08000000 04000000 \
     0400 1489f923c4dca729178b3e3233458550d8dddf29 \

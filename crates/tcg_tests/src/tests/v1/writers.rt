@@ -21,7 +21,7 @@ fn check_fields(event: &PcrEvent<'_>, row: &[u8]) -> Result<(), Fail> {
     same_bytes("the event", event.as_bytes(), row)?;
     let fields = (event.pcr_index(), event.event_type(), event.digest());
     let expected = (PCR, EventType::IPL, DIGEST);
-    same("its register, type and digest", &fields, &expected)?;
+    same("its PCR, type and digest", &fields, &expected)?;
     same_bytes("its data", event.event_data(), EVENT_DATA.as_slice())
 }
 

@@ -43,7 +43,7 @@ yields view rest before after (Some x) only yielded left = let first : view x �
 -- The iterator yields the event that was written.
 read : (c : goal.After-next) → IsSome c.next.result
     × IfSome c.next.result
-    (λ event. event_of event ≡ event_given c.args.register IPL c.args.digest c.args.event_data.now)
+    (λ event. event_of event ≡ event_given c.args.pcr IPL c.args.digest c.args.event_data.now)
 read c =
     let wrote = c.in-Ok.ensures in
     let log = subst (λ (input : LogInput). IsLogOf input.bytes input.last_entry c.iter.result.events) c.new.ensures

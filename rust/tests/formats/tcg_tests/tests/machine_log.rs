@@ -6,7 +6,7 @@ use crate::test_support::{bytes, same};
 use crate::uefi_tcg::PcrIndex;
 use crate::uefi_tcg::v2::EventLog;
 
-/// The events of each register in the log, counted by a reader of another language. Register 8 has
+/// The events of each PCR in the log, counted by a reader of another language. PCR 8 has
 /// none.
 const COUNTS: [(u32, usize); 10] = [
     (0, 4),
@@ -24,20 +24,18 @@ const COUNTS: [(u32, usize); 10] = [
 /// The offset at which the last event of the log starts.
 const LAST_ENTRY: usize = 5294;
 
-/// Returns how many events of the log extended a register.
-fn count_of_register(log: &EventLog<'_>, register: PcrIndex) -> usize {
-    log.iter()
-        .filter(|event| event.pcr_index() == register)
-        .count()
+/// Returns how many events of the log extended a PCR.
+fn count_of_pcr(log: &EventLog<'_>, pcr: PcrIndex) -> usize {
+    log.iter().filter(|event| event.pcr_index() == pcr).count()
 }
 
 #[test]
-fn each_register_of_a_machines_log_has_its_events() -> Result<(), Fail> {
+fn each_pcr_of_a_machines_log_has_its_events() -> Result<(), Fail> {
     let bytes = bytes(MACHINE_LOG)?;
     let log = EventLog::new(Some(bytes.as_slice()), Some(LAST_ENTRY), false);
-    for &(register, count) in &COUNTS {
-        let found = count_of_register(&log, PcrIndex(register));
-        same("a register", &(register, found), &(register, count))?;
+    for &(pcr, count) in &COUNTS {
+        let found = count_of_pcr(&log, PcrIndex(pcr));
+        same("a PCR", &(pcr, found), &(pcr, count))?;
     }
     Ok(())
 }

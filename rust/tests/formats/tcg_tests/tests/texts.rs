@@ -5,7 +5,7 @@ use crate::support::fallible::*;
 use crate::support::alloc::AllocError;
 use crate::uefi_tcg::{EventType, PcrIndex};
 
-/// Appends an event's register in decimal and its type in hex, a space after each.
+/// Appends the index of an event's PCR in decimal and its type in hex, a space after each.
 pub(crate) fn push_kind(
     text: &mut String,
     pcr_index: PcrIndex,

@@ -43,7 +43,7 @@ const LOGS: [(&str, Option<usize>, &str); 14] = [
     ("", Some(0), ""),
 ];
 
-/// Returns the events that an iterator gives, one a line: register, type, digest and data.
+/// Returns the events that an iterator gives, one a line: PCR, type, digest and data.
 fn lines_of(events: EventLogIter<'_>) -> Result<String, AllocError> {
     let mut lines = String::new();
     for event in events {

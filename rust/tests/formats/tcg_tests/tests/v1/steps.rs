@@ -30,7 +30,7 @@ fn the_steps_of_a_log_are_its_events() -> Result<(), Fail> {
     )
 }
 
-/// An offset, a last entry, and the register, the type and the length of the event of `LOG1` that
+/// An offset, a last entry, and the PCR, the type and the length of the event of `LOG1` that
 /// starts there. The offset 1 is inside the first event.
 const STEPS: [(usize, usize, Option<(u32, u32, usize)>); 14] = [
     (0, 34, Some((0, 0x8, 34))),
@@ -49,7 +49,7 @@ const STEPS: [(usize, usize, Option<(u32, u32, usize)>); 14] = [
     (usize::MAX, usize::MAX, None),
 ];
 
-/// The register, the type and the length of the event that starts there.
+/// The PCR, the type and the length of the event that starts there.
 fn step(input: &[u8], offset: usize, last_entry: usize) -> Option<(u32, u32, usize)> {
     let event = event_starting_at(input, offset, last_entry)?;
     Some((

@@ -181,7 +181,7 @@ const LOGS: [Row; 19] = [
     (Log::Empty, Some(0), None, Lines::None),
 ];
 
-/// Returns the events that an iterator gives, one a line: register, type, data, and each digest
+/// Returns the events that an iterator gives, one a line: PCR, type, data, and each digest
 /// after its algorithm.
 pub(crate) fn lines_of(events: EventLogIter<'_>) -> Result<String, AllocError> {
     let mut lines = String::new();

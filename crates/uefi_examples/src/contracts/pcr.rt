@@ -9,23 +9,23 @@ use uefi_tcg::PcrIndex;
 use uefi_tcg::v2::{EventLog, PcrEvent};
 
 /// Returns the events of a log that are of a PCR, in order, as `iter` has them.
-pub fn events_of_register<'a>(
+pub fn events_of_pcr<'a>(
     alloc: Global,
     bytes: &'a [u8],
     last_entry: usize,
-    register: PcrIndex,
+    pcr: PcrIndex,
 ) -> Result<Vec<PcrEvent<'a>>, AllocError>
     ensures events { IfOk result (λ events. (log : List Event)
         × IsLogOf after_header (Some bytes.now) (Some last_entry) log
-        × (map event_of events.items ≡ filter (λ event. event.pcr_index == register.0) log)) }
+        × (map event_of events.items ≡ filter (λ event. event.pcr_index == pcr.0) log)) }
     ensures count { IfOk result (λ events. (log : List Event)
         × IsLogOf after_header (Some bytes.now) (Some last_entry) log
-        × (length events.items ≡ count_by (λ event. event.pcr_index == register.0) log)) }
+        × (length events.items ≡ count_by (λ event. event.pcr_index == pcr.0) log)) }
 {
     let log = EventLog::new(Some(bytes), Some(last_entry), false);
     let mut events = Vec::new(alloc);
     for event in log.iter() {
-        if event.pcr_index() == register {
+        if event.pcr_index() == pcr {
             events.push(event)?;
         }
     }
@@ -33,21 +33,21 @@ pub fn events_of_register<'a>(
 }
 
 /// Returns the types of these events, in order.
-pub fn types_of_register(
+pub fn types_of_pcr(
     alloc: Global,
     bytes: &[u8],
     last_entry: usize,
-    register: PcrIndex,
+    pcr: PcrIndex,
 ) -> Result<Vec<u32>, AllocError>
     ensures { IfOk result (λ types. (log : List Event)
         × IsLogOf after_header (Some bytes.now) (Some last_entry) log
         × (types.items ≡ map (λ event. event.event_type)
-        (filter (λ event. event.pcr_index == register.0) log))) }
+        (filter (λ event. event.pcr_index == pcr.0) log))) }
 {
     let log = EventLog::new(Some(bytes), Some(last_entry), false);
     let mut types = Vec::new(alloc);
     for event in log.iter() {
-        if event.pcr_index() == register {
+        if event.pcr_index() == pcr {
             types.push(event.event_type().0)?;
         }
     }

@@ -4,7 +4,7 @@ use Rattle.std.proofs.lemmas.List.{append-nil, length-map, map-append}
 use Rattle.std.proofs.lemmas.List.Sums.{length-filter}
 use Rattle.uefi_tcg.specs.v2.Event.{Event}
 use Rattle.uefi_tcg.specs.v2.Views.{event_of}
-use Rattle.uefi_examples.proofs.contracts.register.events_of_register.Goals as goal
+use Rattle.uefi_examples.proofs.contracts.pcr.events_of_pcr.Goals as goal
 
 -- The first of the events to come is found if it passes.
 found_more : (test : Event → Bool) (found left rest all : List Event) (event : Event) → left ≡ event ∷ rest
@@ -14,7 +14,7 @@ found_more test found left rest all event is tested so_far = simp append_assoc (
 
 pub loop-event-preserved-in-Continue-1 : goal.loop-event-preserved-in-Continue-1
 loop-event-preserved-in-Continue-1 c =
-    let test : Event → Bool = λ event. event.pcr_index == c.args.register.0 in
+    let test : Event → Bool = λ event. event.pcr_index == c.args.pcr.0 in
     let passes : test (event_of c.in-Some.event) ≡ true = sym (rw c.pcr_index.ensures at c.if-eq.ensures) in
     simp (c.in_ok-push.ensures.items, map-append)
     (found_more test _ _ _ _ _ c.in-Some.ensures.steps passes c.loop-event.invariant)
@@ -33,5 +33,5 @@ returns-clause-count c =
     at c.loop-event.invariant in (
       log,
       rw c.new-log.ensures at c.iter-event-items.ensures.log,
-      counted event_of (λ event. event.pcr_index == c.args.register.0) log _ found,
+      counted event_of (λ event. event.pcr_index == c.args.pcr.0) log _ found,
     )

@@ -1,0 +1,10 @@
+use Rattle.std.proofs.Common.{◌≡◌, ◌++◌, map, filter}
+use Rattle.std.specs.Prelude.{◌==◌}
+use Rattle.uefi_examples.proofs.contracts.pcr.types_of_pcr.Given as goal
+
+-- Those that were found, and those of the PCR that are left.
+abbrev pub invariant-loop-event : goal.invariant-loop-event
+invariant-loop-event l =
+    l.types.items
+    ++ map (λ event. event.event_type) (filter (λ event. event.pcr_index == l.pcr.0) l.event-iterator.events)
+    ≡ map (λ event. event.event_type) (filter (λ event. event.pcr_index == l.pcr.0) l.initial.event-iterator.events)
