@@ -70,7 +70,7 @@ pub fn lines(log: &Log<'_>, end: &mut Ending) -> String {
         };
         types.entry(kind).or_default().push(form);
         if form == NONE {
-            let place = format!("{} ({}, PCR {})", event.place(), kind_name(kind), event.register);
+            let place = format!("{} ({}, PCR {})", event.place(), kind_name(kind), event.pcr);
             lines += &format!("{}: {place} matches in none of the forms of its type\n", log.name);
             end.status = end.status.max(1);
         }

@@ -6,7 +6,7 @@ use super::block::printed_text;
 use super::check::{has_forms, is_hash_of};
 use super::events::{Said, said, shown_algorithm};
 use super::json::{escaped, hex, shown};
-use super::log::{Event, IPL, Log, REGISTERS, type_name};
+use super::log::{Event, IPL, Log, PCR_COUNT, type_name};
 use crate::program::Ending;
 use std::collections::{HashMap, VecDeque};
 use std::hash::Hash;
@@ -40,7 +40,7 @@ pub fn lines(old: &Log<'_>, new: &Log<'_>, end: &mut Ending) -> String {
     algorithms.retain(|number| news.contains(number));
     let [olds, news] = [old, new].map(entries);
     let pcr = |pcr| pcr_lines(&of_pcr(&olds, pcr), &of_pcr(&news, pcr), [old, new], &algorithms);
-    let lines: String = (0..=REGISTERS).map(pcr).collect();
+    let lines: String = (0..=PCR_COUNT).map(pcr).collect();
     let status = if algorithms.is_empty() { UNJUDGED } else { (!lines.is_empty()).into() };
     end.status = end.status.max(status);
     compared_line(&algorithms) + &lines
@@ -59,7 +59,7 @@ fn entries<'a>(log: &'a Log<'a>) -> Vec<Entry<'a>> {
 }
 
 fn of_pcr<'a>(entries: &'a [Entry<'a>], pcr: u32) -> Vec<&'a Entry<'a>> {
-    entries.iter().filter(|entry| entry.event.register.min(REGISTERS) == pcr).collect()
+    entries.iter().filter(|entry| entry.event.pcr.min(PCR_COUNT) == pcr).collect()
 }
 
 /// The lines of the events of a PCR; none if all are the same.
@@ -97,7 +97,7 @@ fn moved_line((old, new): &Pair<'_>, algorithms: &[u16]) -> String {
 
 /// The PCR of an event and its type, in which it agrees with its counterpart.
 fn kind(entry: &Entry<'_>) -> (u32, u32) {
-    (entry.event.register, entry.event.kind)
+    (entry.event.pcr, entry.event.kind)
 }
 
 /// What makes events the same, wherever they are: of each algorithm the first digest counts.
@@ -106,7 +106,7 @@ fn identity<'a>(
     algorithms: &[u16],
 ) -> (u32, u32, &'a [u8], Vec<Option<&'a [u8]>>) {
     let first = |number: &u16| event.digests.iter().find(|it| it.0 == *number).map(|it| it.1);
-    (event.register, event.kind, event.data, algorithms.iter().map(first).collect())
+    (event.pcr, event.kind, event.data, algorithms.iter().map(first).collect())
 }
 
 /// The first event with a key is the counterpart of the first with it, the second of the second, and
@@ -168,7 +168,7 @@ fn at(Entry { event, .. }: &Entry<'_>) -> String {
 /// The PCR and the type of an event.
 fn start(Entry { event, .. }: &Entry<'_>) -> String {
     let kind = type_name(event.kind).unwrap_or_else(|| format!("type {:#x}", event.kind));
-    format!("PCR {}: {kind}", event.register)
+    format!("PCR {}: {kind}", event.pcr)
 }
 
 /// An event, what its data say, whether a digest covers that, and where it is.

@@ -39,18 +39,18 @@ const TAGS: [(u64, &str); 7] = [
 
 /// The first line of an event's block.
 pub fn head(event: &Event<'_>) -> String {
-    format!("{}: {}: PCR {}, {}\n", event.log, event.place(), event.register, kind_name(event.kind))
+    format!("{}: {}: PCR {}, {}\n", event.log, event.place(), event.pcr, kind_name(event.kind))
 }
 
 pub fn json_line(event: &Event<'_>) -> String {
-    let Event { index, offset, register, kind: number, .. } = event;
+    let Event { index, offset, pcr, kind: number, .. } = event;
     let content = said(event).map_or("null".to_owned(), |it| object(&[(it.key, &it.json)]));
     let (data, log) = (hex_text(event.data), text(event.log));
     let digest = |it: &(u16, &[u8])| object!(algorithm: algorithm(it.0), digest: hex_text(it.1));
     let hashes = BANKS.iter().filter(|it| event.is_hash(it, event.data)).map(|it| text(it.name));
     let (digests, hashes_to) = (array(event.digests.iter().map(digest)), array(hashes));
     let kind = object!(name: type_name(event.kind).map_or(String::new(), |it| text(&it)), number);
-    object!(content, data, digests, hashes_to, index, log, offset, pcr: register, type: kind) + "\n"
+    object!(content, data, digests, hashes_to, index, log, offset, pcr, type: kind) + "\n"
 }
 
 /// The name of an algorithm.

@@ -26,7 +26,7 @@ fn selection(random: &mut Random, log: &Log<'_>) -> Vec<u8> {
         1..=14 if !algorithms.is_empty() => random.one_of(&algorithms),
         _ => BANKS[random.index(BANKS.len())].algorithm,
     };
-    let extended = log.measured().fold(0, |pcrs, event| pcrs | 1 << event.register);
+    let extended = log.measured().fold(0, |pcrs, event| pcrs | 1 << event.pcr);
     let pcrs = match random.below(8) {
         0 => 0,
         1 => 0xff_ffff,

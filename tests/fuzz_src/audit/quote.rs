@@ -3,7 +3,7 @@
 
 use super::events::algorithm;
 use super::json::{array, hex, hex_text, text};
-use super::log::{Log, REGISTERS};
+use super::log::{Log, PCR_COUNT};
 use super::replay::{BANKS, Bank, replay, tell_of_ignored, tell_of_start};
 use super::{UNJUDGED, tell};
 use crate::program::Ending;
@@ -53,7 +53,7 @@ impl<'a> Rest<'a> {
         let bitmap = if size > 4 { return Err(other.into()) } else { self.bytes(size)? };
         let is_selected = |pcr: &u32| bitmap[*pcr as usize / 8] >> (pcr % 8) & 1 == 1;
         let pcrs: Vec<_> = (0..8 * size as u32).filter(is_selected).collect();
-        if pcrs.iter().any(|pcr| *pcr >= REGISTERS) {
+        if pcrs.iter().any(|pcr| *pcr >= PCR_COUNT) {
             Err(other.into())
         } else {
             Ok((algorithm, pcrs))
@@ -259,7 +259,7 @@ fn verdict(log: &Log<'_>, quote: &Quote<'_>, (locality, found): &(u8, Vec<u8>)) 
 /// Tells of the PCRs that events extend and that a quote doesn't cover.
 fn tell_of_uncompared(log: &Log<'_>, quote: &Quote<'_>, end: &mut Ending) {
     let covered: BTreeSet<_> = quote.selected().map(|it| it.1).collect();
-    let extended: BTreeSet<_> = log.measured().map(|event| event.register).collect();
+    let extended: BTreeSet<_> = log.measured().map(|event| event.pcr).collect();
     let others: Vec<_> = extended.difference(&covered).map(u32::to_string).collect();
     if !others.is_empty() {
         tell(end, log, 0, &format!("not compared: PCR {}, which events extend", others.join(", ")));

@@ -1,7 +1,7 @@
 //! The banks, with their hash functions by the system's OpenSSL, and the PCRs that a log leads to.
 
 use super::json::{array, hex, hex_text, text};
-use super::log::{Event, HCRTM, Log, NO_ACTION, REGISTERS};
+use super::log::{Event, HCRTM, Log, NO_ACTION, PCR_COUNT};
 use super::{UNJUDGED, tell};
 use crate::program::Ending;
 use std::collections::BTreeSet;
@@ -54,14 +54,14 @@ type Replayed<'a> = (&'static Bank, u32, Outcome<'a>);
 
 /// What the events of a log lead to in a PCR, which starts at a locality if the log states none.
 pub fn replay<'a>(log: &'a Log<'a>, bank: &Bank, pcr: u32, locality: u8) -> Outcome<'a> {
-    let is_launched = log.measured().any(|event| (17..23).contains(&event.register));
+    let is_launched = log.measured().any(|event| (17..23).contains(&event.pcr));
     let start = if (17..23).contains(&pcr) && !is_launched { 0xff } else { 0 };
     let (mut value, locality) = (vec![start; bank.size], log.locality().unwrap_or(locality));
     if pcr == 0 {
         value[bank.size - 1] = locality;
     }
     let mut is_extended = false;
-    for event in log.events.iter().filter(|event| event.register == pcr) {
+    for event in log.events.iter().filter(|event| event.pcr == pcr) {
         let fault = match (event.stated().filter(|_| pcr == 0), &event.digests_of(bank)[..]) {
             (Some(it), _) if ![0, 3, 4].contains(&it) => "states a locality other than 0, 3 and 4",
             (Some(it), _) if it != locality => "states another locality than PCR 0 starts at",
@@ -95,7 +95,7 @@ pub fn replays<'a>(log: &'a Log<'a>, end: &mut Ending) -> Vec<Replayed<'a>> {
     let mut found: Vec<Replayed<'_>> = Vec::new();
     for bank in BANKS {
         if log.is_active(bank) {
-            found.extend((0..REGISTERS).map(|pcr| (bank, pcr, replay(log, bank, pcr, 0))));
+            found.extend((0..PCR_COUNT).map(|pcr| (bank, pcr, replay(log, bank, pcr, 0))));
         } else if log.algorithms.contains(&bank.algorithm) {
             tell(end, log, 0, &format!("no event has a digest of the bank {}", bank.name));
         }
@@ -121,8 +121,8 @@ pub fn replays<'a>(log: &'a Log<'a>, end: &mut Ending) -> Vec<Replayed<'a>> {
 /// Tells of the events that have no effect and should have.
 pub fn tell_of_ignored(log: &Log<'_>, end: &mut Ending) {
     for event in &log.events {
-        let (place, pcr) = (event.place(), event.register);
-        if event.kind != NO_ACTION && pcr >= REGISTERS {
+        let (place, pcr) = (event.place(), event.pcr);
+        if event.kind != NO_ACTION && pcr >= PCR_COUNT {
             tell(end, log, 1, &format!("{place} is of PCR {pcr}, which no TPM has"));
         } else if pcr != 0 && event.stated().is_some() {
             tell(end, log, 0, &format!("{place} states the locality, and isn't of PCR 0"));
@@ -141,9 +141,9 @@ pub fn listing(found: &[Replayed<'_>]) -> String {
 }
 
 pub fn json_line(log: &Log<'_>, found: &[Replayed<'_>]) -> String {
-    let undetermined = |(_, register, outcome): &Replayed<'_>| {
+    let undetermined = |(_, pcr, outcome): &Replayed<'_>| {
         let (Event { index, offset, .. }, fault) = outcome.as_ref().err()?;
-        Some(object!(index, offset, pcr: register, reason: text(fault)))
+        Some(object!(index, offset, pcr, reason: text(fault)))
     };
     let value = |it: &Replayed<'_>| it.2.as_ref().map_or("null".to_owned(), |it| hex_text(it));
     let bank = |bank: &[Replayed<'_>]| {
@@ -153,7 +153,7 @@ pub fn json_line(log: &Log<'_>, found: &[Replayed<'_>]) -> String {
     let rest = object!(count: log.rest, offset: log.end);
     let part = |is_it: bool| if is_it && log.rest > 0 { &rest } else { "null" };
     let (left_over, padding) = (part(!log.is_padded), part(log.is_padded));
-    let banks = array(found.chunks(REGISTERS as usize).map(bank));
+    let banks = array(found.chunks(PCR_COUNT as usize).map(bank));
     let locality = object!(number: log.locality().unwrap_or(0), stated: log.locality().is_some());
     let not_replayed = not_replayed(log, found);
     object!(banks, left_over, locality, log: text(log.name), not_replayed, padding) + "\n"
