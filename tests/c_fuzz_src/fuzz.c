@@ -27,11 +27,11 @@ uint32_t counted(Count *calls, uint32_t result) {
 }
 
 bool is_same(const void *found, const void *wanted, size_t n) {
-    static const uint64_t any_word = ANY;
-    for (size_t i = 0; i < n; i += 8) {
-        size_t length = n - i < 8 ? n - i : 8;
+    static const uintptr_t any_word = ANY;
+    for (size_t i = 0; i < n; i += sizeof any_word) {
+        size_t length = n - i < sizeof any_word ? n - i : sizeof any_word;
         const uint8_t *word = (const uint8_t *)wanted + i;
-        bool is_any = length == 8 && !memcmp(word, &any_word, 8);
+        bool is_any = length == sizeof any_word && !memcmp(word, &any_word, length);
         if (!is_any && memcmp((const uint8_t *)found + i, word, length)) return false;
     }
     return true;

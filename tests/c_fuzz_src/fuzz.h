@@ -40,7 +40,7 @@ void need_statuses(const Count *all_calls, bool is_enough);
 
 /* Whether the bytes are the same, but for words that are ANY in what plain C wrote. */
 bool is_same(const void *found, const void *wanted, size_t n);
-#define ANY 0xa5a5a5a5a5a5a5a5
+#define ANY ((uintptr_t)0xa5a5a5a5a5a5a5a5)
 
 /* The bytes from an offset on; and a slice of a structure that may be anywhere if it has no byte. */
 UefiBytes from(UefiBytes bytes, size_t at);
@@ -121,7 +121,8 @@ void quotes_of(UefiBytes part);
 void numbers(void);
 void pcrs(void);
 
-/* What is read of memory of more than 2^32 bytes. */
+/* What is read of memory of more than 2^32 bytes, where a size_t can state so many. */
+#define HAS_HUGE (SIZE_MAX > UINT32_MAX)
 void huge(void);
 
 #endif

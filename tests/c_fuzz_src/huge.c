@@ -1,6 +1,7 @@
 /* What is read of memory of more than 2^32 bytes, which are zeros. */
 #include "fuzz.h"
 
+#if HAS_HUGE
 #include <sys/mman.h>
 
 static UefiBytes zeros(size_t n) {
@@ -51,3 +52,6 @@ void huge(void) {
     long_events(all), long_tables(all);
     munmap((void *)all.at, all.n);
 }
+#else
+void huge(void) {}
+#endif

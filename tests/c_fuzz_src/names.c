@@ -102,11 +102,14 @@ static UefiStatus has_room(UefiBytes name, size_t offset, UefiBuffer buffer, siz
     return !is_name ? UEFI_NOT_TEXT : *size <= buffer.n ? UEFI_OK : UEFI_BUFFER_TOO_SMALL;
 }
 
+/* The size of a record, in its first eight bytes. */
+static void put_size(uint64_t size, uint8_t *b) { memcpy(b, &size, 8); }
+
 static UefiStatus plain_write_file_info(UefiBuffer buffer, const UefiFileInfo *info, size_t *size) {
     uint8_t *b = buffer.at;
     UefiStatus status = has_room(info->name, 80, buffer, size);
     if (status != UEFI_OK) return status;
-    memcpy(b, size, 8), memcpy(b + 8, &info->file_size, 8), memcpy(b + 16, &info->physical_size, 8);
+    put_size(*size, b), memcpy(b + 8, &info->file_size, 8), memcpy(b + 16, &info->physical_size, 8);
     put_time(&info->create_time, b + 24), put_time(&info->last_access_time, b + 40);
     put_time(&info->modification_time, b + 56);
     memcpy(b + 72, &info->attribute, 8), memcpy(b + 80, info->name.at, info->name.n);
@@ -125,7 +128,7 @@ static UefiStatus plain_write_file_system_info(UefiBuffer buffer, const UefiFile
     uint8_t *b = buffer.at;
     UefiStatus status = has_room(info->label, 36, buffer, size);
     if (status != UEFI_OK) return status;
-    memcpy(b, size, 8), b[8] = info->read_only, memcpy(b + 16, &info->volume_size, 8);
+    put_size(*size, b), b[8] = info->read_only, memcpy(b + 16, &info->volume_size, 8);
     memcpy(b + 24, &info->free_space, 8), memcpy(b + 32, &info->block_size, 4);
     memcpy(b + 36, info->label.at, info->label.n);
     return UEFI_OK;

@@ -8,6 +8,15 @@ typedef struct {
 
 #define FAULTS_OF_QUOTES UEFI_NOT_GENERATED, UEFI_NOT_QUOTE, UEFI_BAD_SAFE, UEFI_BAD_SELECTION, UEFI_TOO_SHORT, UEFI_LEFT_OVER
 
+/* Those of bytes that are more than a size_t of 32 bits can state. */
+#if HAS_HUGE
+#define TOO_LONG_ALSO , UEFI_TOO_LONG
+#define TOO_MANY_ALSO , UEFI_TOO_MANY_ALGORITHMS
+#else
+#define TOO_LONG_ALSO
+#define TOO_MANY_ALSO
+#endif
+
 #define FAULTS_OF_PCRS                                                                              \
     UEFI_NO_DIGEST, UEFI_TWO_DIGESTS, UEFI_OTHER_LENGTH, UEFI_UNKNOWN_LOCALITY, UEFI_OTHER_LOCALITY, UEFI_LATE_LOCALITY
 
@@ -32,12 +41,12 @@ static const Call calls[] = {
     {"log_read", {UEFI_NO_EVENT, UEFI_TOO_MANY_ALGORITHMS, UEFI_LEFT_OVER}},
     {"log1_next", {UEFI_END, UEFI_CUT, UEFI_CROSSES_LAST_ENTRY}},
     {"log2_header", {UEFI_NO_HEADER}},
-    {"log2_next", {UEFI_END, UEFI_CUT, UEFI_CROSSES_LAST_ENTRY, UEFI_UNKNOWN_ALGORITHM, UEFI_TOO_MANY_DIGESTS,
-                   UEFI_TOO_MANY_ALGORITHMS}},
-    {"digest_next", {UEFI_END, UEFI_CUT, UEFI_UNKNOWN_ALGORITHM, UEFI_TOO_MANY_ALGORITHMS}},
+    {"log2_next", {UEFI_END, UEFI_CUT, UEFI_CROSSES_LAST_ENTRY, UEFI_UNKNOWN_ALGORITHM, UEFI_TOO_MANY_DIGESTS
+                   TOO_MANY_ALSO}},
+    {"digest_next", {UEFI_END, UEFI_CUT, UEFI_UNKNOWN_ALGORITHM TOO_MANY_ALSO}},
     {"log2_digest", {UEFI_NO_EVENT, UEFI_NO_DIGEST}},
-    {"write_event", {UEFI_BUFFER_TOO_SMALL, UEFI_TOO_LONG}},
-    {"write_event_inputs", {UEFI_BUFFER_TOO_SMALL, UEFI_TOO_LONG}},
+    {"write_event", {UEFI_BUFFER_TOO_SMALL TOO_LONG_ALSO}},
+    {"write_event_inputs", {UEFI_BUFFER_TOO_SMALL TOO_LONG_ALSO}},
     {"event_type_name", {UEFI_NO_NAME}},
     {"algorithm_name", {UEFI_NO_NAME}},
     {"memory_type_name", {UEFI_NO_NAME}},
