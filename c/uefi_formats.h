@@ -3,7 +3,7 @@
  * for C.
  *
  *     // The events of a version 2 log, as EFI_TCG2_PROTOCOL.GetEventLog
- *     // gives it: `start` is EventLogLocation, `last` EventLogLastEntry, and
+ *     // returns it: `start` is EventLogLocation, `last` EventLogLastEntry, and
  *     // `size` how many bytes can be read from `start`.
  *     UefiBytes log = uefi_bytes((const void *)(uintptr_t)start, size);
  *     size_t last_entry = uefi_last_entry(start, last), at = 0;
@@ -81,9 +81,7 @@
  *   on aarch64 and i686, expect a call to change each vector register that the
  *   calling convention lets a function change.
  *
- * Functions follow the System V calling convention on x86-64, and the convention
- * of C elsewhere: UEFI_CALL says so to the compiler. A UEFI_CALL of your own must
- * name that same convention.
+ * Calling convention. UEFI_CALL names it to the compiler: see bytes.h.
  */
 #ifndef UEFI_FORMATS_H
 #define UEFI_FORMATS_H

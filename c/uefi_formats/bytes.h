@@ -21,8 +21,8 @@
 /* UEFI_CALL is the calling convention that the archives are compiled for: System
  * V on x86-64, that of C elsewhere. Compilers whose functions follow another one,
  * by their target or by an option, call these functions by it. Define it yourself
- * only where the compiler has another word for the same convention: no compiler or
- * linker sees a wrong one.
+ * only where the compiler has another keyword for the same convention: no compiler
+ * or linker notices a wrong one.
  *
  * The keyword is written `__attribute`, since gnu-efi's headers make the one with
  * more underscores a macro without a value. */

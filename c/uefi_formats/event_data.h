@@ -18,7 +18,7 @@ extern "C" {
  *     UEFI_EV_IPL                                                           uefi_event_text
  *     UEFI_EV_S_CRTM_VERSION                                                uefi_event_crtm_version
  *     UEFI_EV_EVENT_TAG                                                     uefi_tagged_next
- *     UEFI_EV_EFI_GPT_EVENT                                                 uefi_gpt_header, uefi_gpt_entry
+ *     UEFI_EV_EFI_GPT_EVENT, .._GPT_EVENT2                                  uefi_gpt_header, uefi_gpt_entry
  *
  * The value of a variable may be a load option (uefi_load_option), an order of
  * boot options (uefi_boot_order), a signature database
@@ -116,7 +116,7 @@ uefi_boot_order(UefiBytes bytes, size_t index, uint16_t *out);
  * with UEFI_END. */
 
 typedef struct {
-    UefiBytes header;     /* its meaning depends on the type; the types that have a name have none */
+    UefiBytes header;     /* its meaning depends on the type; empty for the standard's types */
     UefiBytes signatures; /* for uefi_signature_next */
     uint32_t signature_size; /* of each, with the sixteen bytes of its owner */
     uint8_t signature_type[16]; /* a GUID */

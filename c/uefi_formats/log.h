@@ -104,10 +104,11 @@ static inline size_t uefi_last_entry(uint64_t location, uint64_t last) {
 /* Reads a whole log, to judge it. A log that begins with a header is of version 2,
  * and its events follow the one that has the header. Another is of version 1.
  *
- * UEFI_OK if the log has an event, and the last one starts at `last_entry`. What
- * follows it isn't judged. If the last entry isn't known, nothing but padding
- * follows the last event. Then a log that was cut between two events, or after
- * zeros with which an event begins, looks like a whole one of fewer events.
+ * UEFI_OK if the log has an event, and the last one starts at `last_entry`: what
+ * follows it isn't judged. If the last entry isn't known, UEFI_OK if the log has
+ * an event, and nothing but padding follows the last. A log that was cut between
+ * two events, or after zeros with which an event begins, then looks like a whole
+ * one of fewer events.
  *
  * Else the first of these that holds:
  *

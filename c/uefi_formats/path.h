@@ -33,7 +33,7 @@ uefi_path(UefiBytes bytes, UefiBytes *path);
 /* The next node of a path that uefi_path returned, or of an instance that
  * uefi_path_next_instance returned: UEFI_END at the node that ends it, which is
  * not handed out. The nodes of a path are those of all its instances, with
- * the nodes that end the others (type 0x7f, subtype 0x01).
+ * the nodes that end the others (type 0x7f, any subtype but 0xff).
  *
  * In other bytes UEFI_NO_END if they end at the offset, or before it; UEFI_CUT; or
  * UEFI_SHORT_NODE. */

@@ -67,9 +67,9 @@ typedef struct {
 UEFI_CALL UEFI_NODISCARD UEFI_NONNULL UefiStatus
 uefi_quote_next_selection(UefiBytes message, size_t *cursor, UefiPcrSelection *out);
 
-/* With the status UEFI_OK, `value` and `size`. With UEFI_NO_BANK, the `algorithm`;
- * with another, one of those of UefiPcr, that and the PCR, and the event's `index`
- * and `offset`. The other fields have no meaning. */
+/* With the status UEFI_OK, `value` and `size` are set. With UEFI_NO_BANK it is
+ * `algorithm`; with a fault of UefiPcr, `algorithm`, `pcr_index`, `index` and
+ * `offset`. The other fields have no meaning. */
 typedef struct {
     size_t size;        /* of the digest in bytes */
     size_t index;       /* of the event in the log by which the PCR is undetermined, from 0 on */

@@ -17,7 +17,7 @@ typedef enum {
     UEFI_NO_NAME = 5,                   /* the standard has no name for the number */
     UEFI_TOO_LONG = 6,                  /* the data have more bytes than the record can state */
     UEFI_TOO_SHORT = 7,                 /* the bytes end within a field, or before one */
-    UEFI_LEFT_OVER = 8,                 /* bytes follow that aren't part of it */
+    UEFI_LEFT_OVER = 8,                 /* bytes follow the last event of the log, or the quote */
     UEFI_CUT = 9,                       /* the bytes end inside the item that begins at the offset */
     UEFI_NO_END = 10,                   /* the bytes end, without the node or the tag that ends the list */
     UEFI_SHORT_NODE = 11,               /* the node at the offset states a length below 4 */

@@ -29,7 +29,7 @@ typedef struct {
     bool second;     /* is above 59 */
     bool nanosecond; /* is above 999,999,999 */
     bool zone;       /* is neither 0x07ff nor -1440 to 1440 */
-    bool daylight;   /* has a bit without a name; no other field is named then */
+    bool daylight;   /* has a bit without a name; then all other fields are false */
 } UefiTimeFaults;
 
 /* The time in the first sixteen bytes. UEFI_TOO_SHORT if there are fewer,
