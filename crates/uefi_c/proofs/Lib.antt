@@ -19,6 +19,7 @@ pub mod WorkspaceBanks
 pub mod SelectionSteps
 pub mod WalkSteps
 pub mod PassedDigests
+pub mod UnknownAlgorithms
 pub mod BootOrders
 pub mod Utf8Puts
 pub mod Ucs2Units

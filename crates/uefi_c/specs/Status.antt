@@ -55,7 +55,7 @@ short_node = 11
 abbrev pub no_path : ℕ
 no_path = 12
 
--- No unit of the description is zero.
+-- No unit of the description, the name or the label is zero.
 abbrev pub not_nul_terminated : ℕ
 not_nul_terminated = 13
 
@@ -192,7 +192,7 @@ status_texts =
     ∷ (no_end, codes "the bytes end before the end of the list")
     ∷ (short_node, codes "a node states a length below 4")
     ∷ (no_path, codes "the bytes begin with no device path")
-    ∷ (not_nul_terminated, codes "the description has no NUL")
+    ∷ (not_nul_terminated, codes "the text has no NUL")
     ∷ (file_path_list_too_long, codes "the file path list is longer than the bytes")
     ∷ (no_file_path, codes "the file path list begins with no device path")
     ∷ (unknown_tag, codes "a byte is neither tag of the list")

@@ -4,7 +4,7 @@ use core::mem::MaybeUninit;
 use crate::bytes::{Bytes, workspace_in};
 
 use crate::formats::uefi_c::status::{self, UefiStatus};
-use crate::formats::uefi_c::workspace::UefiWorkspace;
+use crate::formats::uefi_c::workspace::{UefiBank, UefiWorkspace};
 use crate::formats::pcr_replay::{
     Bank, BankStore, Fault, PCR_COUNT, PcrValue, Start, Undetermined, is_active, replay_into,
     startup_locality,
@@ -53,8 +53,7 @@ pub extern "C" fn uefi_replay(
         return status::NO_HASH;
     };
     let log = log_of(log, last_entry);
-    let start = start_of(&log, locality);
-    replay_into(&mut workspace.banks[0], &log, bank, &start);
+    replay_at(&mut workspace.banks[0], &log, bank, locality);
     out.write(workspace.banks[0].pcrs);
     status::OK
 }
@@ -77,8 +76,7 @@ pub extern "C" fn uefi_replay_pcr(
         return status::NO_HASH;
     };
     let log = log_of(log, last_entry);
-    let start = start_of(&log, locality);
-    replay_into(&mut workspace.banks[0], &log, bank, &start);
+    replay_at(&mut workspace.banks[0], &log, bank, locality);
     let Some(outcome) = workspace.banks[0].outcome(PcrIndex(pcr_index)) else {
         return status::NO_PCR;
     };
@@ -108,6 +106,13 @@ pub extern "C" fn uefi_bank_is_active(log: Bytes<'_>, last_entry: usize, algorit
         Some(bank) => is_active(&log_of(log, last_entry), bank),
         None => false,
     }
+}
+
+/// Replays a log for a bank, in a TPM that was started at this locality if it is below 256, else as
+/// the log says.
+#[inline]
+fn replay_at(held: &mut UefiBank, log: &Log<'_>, bank: Bank, locality: u32) {
+    replay_into(held, log, bank, &start_of(log, locality));
 }
 
 /// Returns the log of these bytes with this last entry.

@@ -48,7 +48,7 @@ pub(crate) const SHORT_NODE: UefiStatus = 11;
 /// The bytes begin with no path.
 pub(crate) const NO_PATH: UefiStatus = 12;
 
-/// No unit of the description is zero.
+/// No unit of the description, the name or the label is zero.
 pub(crate) const NOT_NUL_TERMINATED: UefiStatus = 13;
 
 /// Fewer bytes follow than the file path list is stated to have.
@@ -164,7 +164,7 @@ fn text_before_logs(status: UefiStatus) -> &'static str {
         NO_END => "the bytes end before the end of the list",
         SHORT_NODE => "a node states a length below 4",
         NO_PATH => "the bytes begin with no device path",
-        NOT_NUL_TERMINATED => "the description has no NUL",
+        NOT_NUL_TERMINATED => "the text has no NUL",
         FILE_PATH_LIST_TOO_LONG => "the file path list is longer than the bytes",
         NO_FILE_PATH => "the file path list begins with no device path",
         UNKNOWN_TAG => "a byte is neither tag of the list",
