@@ -1,11 +1,11 @@
-/* The event log of EFI_TCG2_PROTOCOL.GetEventLog, with firmware's own last entry, and what the TPM's registers hold, by
+/* The event log of EFI_TCG2_PROTOCOL.GetEventLog, with firmware's own last entry, and what the TPM's PCRs hold, by
  * TPM2_PCR_Read (TPM 2.0 Library, part 3, 22.4): those of a bank that can be replayed are what uefi_replay_pcr gives of
  * the log. */
 #include "app.h"
 
 /* How often the walk is repeated: firmware takes interrupts on the stack of the library's functions. */
 #define REPEATS 2000
-#define REGISTERS 24
+#define PCR_COUNT 24
 #define EFI_LOG_FORMAT_2 2
 #define TCG2_PROTOCOL_GUID {0x607f766c, 0x7455, 0x42be, {0x93, 0x0b, 0xe4, 0xd7, 0x6d, 0xb2, 0x72, 0x0f}}
 
@@ -98,19 +98,19 @@ static uint32_t big_u32(const uint8_t *at) {
     return (uint32_t)at[0] << 24 | (uint32_t)at[1] << 16 | (uint32_t)at[2] << 8 | at[3];
 }
 
-/* How often a register changed since the TPM started, as each response says: it must stay the same. */
+/* How often a PCR changed since the TPM started, as each response says: it must stay the same. */
 static uint32_t changes;
 static size_t replayed;
 
-/* Asks the TPM for a register, and compares it with what the log leaves in it. */
-static void read_register(const Bank *bank, unsigned index) {
+/* Asks the TPM for a PCR, and compares it with what the log leaves in it. */
+static void read_pcr(const Bank *bank, unsigned index) {
     uint8_t response[128] = {0}, command[20] = {0x80, 0x01, [5] = 20, [8] = 0x01, 0x7e, [13] = 1};
     command[15] = (uint8_t)bank->algorithm, command[16] = 3;
     command[17 + index / 8] = (uint8_t)(1 << index % 8);
     bool is_read = tcg2->submit_command(tcg2, sizeof command, command, sizeof response, response) == EFI_SUCCESS;
-    if (!expect(is_read && !big_u32(response + 6) && big_u32(response + 24) == 1, "the TPM tells its registers"))
+    if (!expect(is_read && !big_u32(response + 6) && big_u32(response + 24) == 1, "the TPM tells its PCRs"))
         return;
-    expect(!changes || changes == big_u32(response + 10), "no register changed since");
+    expect(!changes || changes == big_u32(response + 10), "no PCR changed since");
     changes = big_u32(response + 10);
     UefiBytes value = uefi_bytes(response + 30, response[29]);
     UefiPcr pcr;
@@ -119,21 +119,21 @@ static void read_register(const Bank *bank, unsigned index) {
     if (status == UEFI_NO_HASH)
         return;
     bool same = status == UEFI_OK && pcr.size == value.n && !memcmp(pcr.value, value.at, value.n);
-    expect(same, "a register is as the log leaves it");
+    expect(same, "a PCR is as the log leaves it");
     replayed++;
 }
 
-static void read_registers(void) {
+static void read_pcrs(void) {
     EfiTcg2Capability capability = {.size = sizeof capability};
     expect(tcg2->get_capability(tcg2, &capability) == EFI_SUCCESS, "the TPM's banks");
     for (const Bank *bank = banks; bank < banks + sizeof banks / sizeof *banks; bank++) {
         if (!(capability.active_banks & bank->bit))
             continue;
         print("bank %s\n", bank->name);
-        for (unsigned index = 0; index < REGISTERS; index++)
-            read_register(bank, index);
+        for (unsigned index = 0; index < PCR_COUNT; index++)
+            read_pcr(bank, index);
     }
-    print("register changes %u, replayed %u\n", (uint64_t)changes, replayed);
+    print("PCR changes %u, replayed %u\n", (uint64_t)changes, replayed);
 }
 
 void read_log(void) {
@@ -142,7 +142,7 @@ void read_log(void) {
     if (!expect(has_tpm && get_log(), "there is an event log"))
         return;
     compare_log();
-    read_registers();
+    read_pcrs();
     size_t before = last_entry;
     expect(get_log() && last_entry == before, "nothing was logged since");
 }
