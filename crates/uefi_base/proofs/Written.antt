@@ -43,7 +43,7 @@ part_put part old new end size sized ended put = ap (take end) put
 
 module _ {E : Type 0} {part old new : List ℕ} {size : ℕ} {Is Fits : Type 0} {Fails : E → Type 0}
     (sized : Is → Fits → length part ≡ size) where
-  -- The part stands in the buffer up to where the writer says that it ends.
+  -- The part is in the buffer up to where the writer says that it ends.
   pub seen_in : (Whole : List ℕ → Type 0) → (Is → Fits → Whole part) → (written : Result ℕ E)
       → Wrote part old new size Is Fits Fails written
       → IfOk written (λ end. (end ≤ length new) × Whole (take end new))

@@ -19,7 +19,7 @@ rest_at_end bytes rest n is = by_order (cases_lt n (length bytes))
         ∙ nil_from_length (drop (length bytes) bytes) (omega (arith, length-drop (length bytes) bytes)) ∙ sym none
 
 module _ (encoding bytes : List ℕ) (start end : ℕ) (stands : Stands encoding bytes start end) where
-  -- What follows an encoding that stands there follows its end.
+  -- What follows an encoding that is there follows its end.
   pub after : drop end bytes ≡ stands.begins.0
   after =
       ap (λ (n : ℕ). drop n bytes) stands.ends ∙ sym (drop-drop (length encoding) start bytes)

@@ -78,7 +78,7 @@ module _ (offset alignment written : ℕ) (buffer name : List ℕ)
     first_within (units_of named) 0 there.index there.found,
   )
 
-  -- It stands within the buffer.
+  -- It is within the buffer.
   pub name_within : offset + 2 * length name ≤ length buffer
   name_within = omega (arith, enough, sized, count)
 

@@ -22,7 +22,7 @@ module _ (rest after : List ℕ) (resource : QwordAddressSpaceDescriptor)
       ∙ ap (drop record_length) (sym begin.4 ∙ from)
       ∙ drop-drop record_length offset list)
 
-  -- So the resource stands between the two, as what was made of its fields says.
+  -- So the resource is between the two, as what was made of its fields says.
   pub one_record : (list : List ℕ) (offset new : ℕ) (seen : QwordAddressSpaceDescriptor) → rest ≡ drop offset list
       → new ≡ length list - length after
       → ((number : ℕ) → resource.resource_range_type ≡ range_type number → seen ≡ resource)

@@ -16,7 +16,7 @@ pub ucs2_size : (bytes : List ℕ) → length (ucs2_of bytes) ≡ 2 * (length (c
 ucs2_size bytes = units_read_back.sized (chars bytes ++ 0 ∷ [])
     ∙ ap (λ (n : ℕ). 2 * n) (length-append (chars bytes) (0 ∷ []))
 
--- The units stand at the beginning of a buffer, up to the offset; the other bytes are as they were.
+-- The units are at the beginning of a buffer, up to the offset; the other bytes are as they were.
 pub record HasUnits (units old now : List ℕ) (offset : ℕ) : Type 0 where
   pub sized : offset ≡ 2 * length units
   pub within : offset ≤ length old

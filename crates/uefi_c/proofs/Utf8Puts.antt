@@ -7,7 +7,7 @@ use Rattle.std.proofs.lemmas.List.{length-drop}
 use Rattle.uefi_base.specs.Buffer.{put_at, put_prefix}
 use Rattle.uefi_base.proofs.Parts.{put_more}
 
--- The text stands at the beginning of a buffer, up to the offset; the other bytes are as they were.
+-- The text is at the beginning of a buffer, up to the offset; the other bytes are as they were.
 pub record HasText (text old now : List ℕ) (offset : ℕ) : Type 0 where
   pub sized : length text ≡ offset
   pub within : length text ≤ length old

@@ -3,7 +3,7 @@ use Rattle.std.specs.Prelude.{ℕ, ◌≡◌, ◌+◌, ◌++◌, List, length, d
 use Rattle.std.specs.List.{AllByRecursion, flat_map}
 use Rattle.uefi_base.specs.Prefix.{IsPrefix}
 
--- The encoding stands in the bytes from the offset `start` on, and ends at `end`.
+-- The encoding is in the bytes from the offset `start` on, and ends at `end`.
 pub record Stands (encoding bytes : List ℕ) (start end : ℕ) : Type 0 where
   pub begins : IsPrefix encoding (drop start bytes)
   pub ends : end ≡ start + length encoding

@@ -23,7 +23,7 @@ faults_seen seen = record {
   daylight = seen.daylight;
 }
 
--- The time stands in the first sixteen bytes, whatever their padding is, and has no fault.
+-- The time is in the first sixteen bytes, whatever their padding is, and has no fault.
 abbrev pub HasTime : List ℕ → TimeFields → Type 0
 HasTime bytes seen = (time : TimeFields) × StandsIn time bytes × (seen ≡ without_pads time) × (reading_faults time ≡ no_fault)
 

@@ -26,7 +26,7 @@ pub fn guid_of_file_info() -> Guid
     guid_of::<FileInfo<'_>>()
 }
 
-/// Returns whether the file is a directory whose record stands in the written bytes, or `None` if
+/// Returns whether the file is a directory whose record is in the written bytes, or `None` if
 /// there is no record.
 pub fn is_directory_in(buffer: &[u8], written: usize) -> Option<bool>
     ensures found { (name : List ℕ) →
@@ -39,7 +39,7 @@ pub fn is_directory_in(buffer: &[u8], written: usize) -> Option<bool>
     Some(info.is_directory())
 }
 
-/// Returns the sixteen bytes of the time at which a file was created, as they stand in its record.
+/// Returns the sixteen bytes of the time at which a file was created, as its record has them.
 pub fn creation_bytes(buffer: &[u8], written: usize) -> Option<[u8; 16]>
     ensures bytes { IfSome result (λ bytes. bytes ≡ slice_range buffer.now 24 40) }
     ensures found { (name : List ℕ) →
@@ -53,7 +53,7 @@ pub fn creation_bytes(buffer: &[u8], written: usize) -> Option<[u8; 16]>
     Some(info.create_time().to_bytes())
 }
 
-/// Returns how many units the name has of the file whose record stands in the written bytes, or
+/// Returns how many units the name has of the file whose record is in the written bytes, or
 /// `None` if there is no record.
 pub fn name_length(buffer: &[u8], written: usize) -> Option<usize>
     ensures found { (name : List ℕ) →

@@ -10,7 +10,7 @@ unfoldable pub are_entries : List ℕ → ℕ → Bool
 are_entries table default =
     agree_below (λ c. eqb (get_or table c default) (unwrap_or (hex_digit c) 255)) (λ _. true) 256
 
--- What stands in a table that passes the test.
+-- What a table that passes the test contains.
 entry_at : (table : List ℕ) (default c : ℕ) → are_entries table default ≡ true → c < 256
     → get_or table c default ≡ unwrap_or (hex_digit c) 255
 unfolding are_entries

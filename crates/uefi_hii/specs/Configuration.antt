@@ -9,7 +9,7 @@ use Rattle.uefi_hii.specs.Hex.{hex}
 use Rattle.uefi_hii.specs.Pairs.{Pair}
 use Rattle.uefi_hii.specs.Values.{number, guid, name}
 
--- An element: where its bytes stand in the block of the configuration, how many they are, the bytes, and the pairs that follow them.
+-- An element: where its bytes are in the block of the configuration, how many they are, the bytes, and the pairs that follow them.
 pub record Element : Type 0 where
   pub offset : ℕ
   pub width : ℕ

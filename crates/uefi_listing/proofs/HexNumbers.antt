@@ -99,7 +99,7 @@ filled_more number rest start text more filled =
 drop-set_before : (text : List ℕ) (i j y : ℕ) → i + 1 ≡ j → i < length text → drop i (set text i y) ≡ y ∷ drop j text
 drop-set_before text i j y next within = drop-set text i y within ∙ ap (λ (n : ℕ). y ∷ drop n text) next
 
--- What stands at the end: the first digit, and `0x` before it.
+-- What is at the end: the first digit, and `0x` before it.
 abbrev ended_whole : ℕ → ℕ → List ℕ → List ℕ
 ended_whole rest start text = set (set (set text (start - 1) (digit_glyph false rest)) (start - 2) 120) (start - 3) 48
 

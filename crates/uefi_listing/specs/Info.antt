@@ -41,13 +41,13 @@ unfoldable pub refused_info_line : Option ℕ → List ℕ
 refused_info_line None = codes "refused BAD_BUFFER_SIZE\n"
 refused_info_line (Some size) = codes "refused BUFFER_TOO_SMALL(" ++ decimal size ++ codes ")\n"
 
--- The text says why no record stands in what was written.
+-- The text says why there is no record in what was written.
 abbrev pub RefusesInfo : Verdict → List ℕ → Type 0
 RefusesInfo without_name text = text ≡ refused_info_line None
 RefusesInfo (too_small size) text = text ≡ refused_info_line (Some size)
 RefusesInfo (accepted name) text = ⊥
 
--- The text lists the record, with its name, that stands in the first bytes, those that were written.
+-- The text lists the record, with its name, that is in the first bytes, those that were written.
 abbrev pub InfoListing : ℕ → List ℕ → List ℕ → Outcome → Type 0
 InfoListing written bytes text Listed =
     (name : List ℕ) × (file_info_verdict (take written bytes) (length bytes) ≡ accepted name) × (text ≡ info_lines (size_in bytes) (file_fields bytes) name)

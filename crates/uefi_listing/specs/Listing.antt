@@ -1,4 +1,4 @@
--- The listing that a command makes of bytes. What each command lists and refuses stands in a file of its own.
+-- The listing that a command makes of bytes. What each command lists and refuses is in a file of its own.
 use Rattle.std.specs.Prelude.{ℕ, List}
 use Rattle.uefi_tcg.specs.v2.Header.{after_header, after_event}
 use Rattle.uefi_listing.specs.declared.command.Command.{Command}

@@ -41,7 +41,7 @@ pub record ListsTime (bytes text : List ℕ) (time : TimeFields) : Type 0 where
   pub faultless : reading_faults time ≡ no_fault
   pub line : text ≡ time_line time
 
--- If no time without a fault stands in the bytes, the text says why.
+-- If there is no time without a fault in the bytes, the text says why.
 abbrev pub TimeListing : List ℕ → List ℕ → Outcome → Type 0
 TimeListing bytes text Listed = (time : TimeFields) × ListsTime bytes text time
 TimeListing bytes text Refused = (refusal : TimeByteConversionError) × RefusesTime bytes refusal × (text ≡ refused_time_line refusal)

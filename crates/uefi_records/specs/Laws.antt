@@ -13,7 +13,7 @@ use Rattle.uefi_records.specs.file.FileSystemInfo.{file_system_info_bytes, file_
 use Rattle.uefi_records.specs.file.FileSystemInfo.{file_system_info_verdict, label_offset, lone_label_offset}
 use Rattle.uefi_records.specs.file.FileSystemInfo.{volume_label_bytes, volume_label_size, volume_label_verdict}
 
--- At most one time stands in bytes.
+-- At most one time is in bytes.
 abbrev pub OneTime : Type 0
 OneTime = (one other : TimeFields) (bytes : List ℕ) → StandsIn one bytes → StandsIn other bytes → one ≡ other
 

@@ -3,7 +3,7 @@
 ghost use Rattle.uefi_records.specs.Laws.{OneTime, TimesReadBack, EqualFiles, ReadsBack, WrittenAlone};
 ghost use Rattle.uefi_records.specs.rows.Records.{RowsHold};
 
-/// States that at most one time stands in bytes: sixteen bytes determine all its fields.
+/// States that at most one time is in bytes: sixteen bytes determine all its fields.
 pub fn one_time()
     ensures { OneTime }
 {}

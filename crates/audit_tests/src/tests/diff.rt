@@ -33,7 +33,7 @@ const ROWS: [Row; 26] = [
         new: "",
         lines: "compared: sha1\n",
     },
-    // An event stands twice in the new log.
+    // An event is in the new log twice.
     Row {
         old: "0100000008000000aaaaaaaaaaaaaaaaaaaaaaaaaaaaaaaaaaaaaaaa00000000",
         new: "0100000008000000aaaaaaaaaaaaaaaaaaaaaaaaaaaaaaaaaaaaaaaa00000000010000\

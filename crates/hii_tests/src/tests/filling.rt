@@ -41,7 +41,7 @@ fn a_buffer_is_filled_with_the_bytes_of_a_text(rt: HostRuntime) -> Result<(), Fa
 /// How many characters the longest text has.
 const LONGEST: usize = 100;
 
-/// Digits of both cases, so that no two bytes that stand next to each other are equal.
+/// Digits of both cases, so that no two bytes next to each other are equal.
 const DIGITS: [u8; 22] = *b"0123456789abcdefABCDEF";
 
 /// Returns a text of this many digits, of which the one at the index is another character.

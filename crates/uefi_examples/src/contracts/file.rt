@@ -4,7 +4,7 @@ ghost use Rattle.uefi_records.specs.file.Verdict.{accepted};
 
 use uefi_records::FileInfo;
 
-/// Returns the size of the file whose record stands in the written bytes of a buffer.
+/// Returns the size of the file whose record is in the written bytes of a buffer.
 pub fn file_size_in(buffer: &[u8], written: usize) -> Option<u64>
     ensures size { IfSome result (λ size. size ≡ (file_fields buffer.now).file_size) }
     ensures record { IsSome result → (name : List ℕ)

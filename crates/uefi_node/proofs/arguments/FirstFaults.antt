@@ -18,7 +18,7 @@ some_given test value passes = rw passes refl
 pub no_value : {A : Type 0} (value : Option A) → value ≡ None → is_some value ≡ true → ⊥
 no_value value none some = false≢true (rw none at some)
 
--- The wrong byte stands in the text.
+-- The wrong byte is in the text.
 pub fault_at : {A : Type 0} (value : List ℕ → Option A) (text more : List ℕ) (offset : ℕ) → offset < length text → is_some (value (take offset text ++ more)) ≡ true → ((rest : List ℕ) → value (take (offset + 1) text ++ rest) ≡ None) → IsFirstFault value text offset
 fault_at value text more offset within some none = record {
   none = rw (take-append-drop (offset + 1) text) at (none (drop (offset + 1) text));

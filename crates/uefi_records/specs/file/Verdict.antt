@@ -1,4 +1,4 @@
--- Whether a record stands in the bytes that firmware wrote to a buffer (UEFI 2.10, 13.5
+-- Whether a record is in the bytes that firmware wrote to a buffer (UEFI 2.10, 13.5
 -- "EFI_FILE_PROTOCOL.GetInfo()"; Appendix D).
 use Rattle.std.specs.Prelude.{ℕ, ◌≡◌, ◌+◌, Option, Some, None, Result, Ok, Err, List, take, nat_le, if◌then◌else◌}
 use Rattle.uefi_base.specs.declared.status.Error.{Error}

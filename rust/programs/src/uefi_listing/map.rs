@@ -9,7 +9,7 @@ use uefi_formats::mem::memory_map::{MemoryDescriptor, MemoryMap, MemoryMapMeta, 
 
 /// Appends the lines of a memory map: for each descriptor `entry TYPE PHYS VIRT PAGES ATTRIBUTES`,
 /// type and page count in decimal, the others as `0x` and hex; `sorted yes` or `sorted no`, as the
-/// descriptors stand in the order of their addresses or not; last `entries N`, their count.
+/// descriptors are in the order of their addresses or not; last `entries N`, their count.
 ///
 /// # Errors
 ///

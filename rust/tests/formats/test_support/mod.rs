@@ -21,7 +21,7 @@
 //! A check, such as [`same`], returns an error that names its row and shows both values, and a test
 //! returns it by `?`.
 //!
-//! For tests alone. The loops and the checks stand here and not in the tests, since they are proved
+//! For tests alone. The loops and the checks are here and not in the tests, since they are proved
 //! once so: a table costs its test one step.
 
 use crate::support::fallible::*;

@@ -15,7 +15,7 @@ struct Row {
 }
 
 const ROWS: [Row; 17] = [
-    // The same events; those of other PCRs stand between them.
+    // The same events; those of other PCRs are between them.
     Row {
         old: "0100000008000000aaaaaaaaaaaaaaaaaaaaaaaaaaaaaaaaaaaaaaaa00000000 \
               0300000008000000aaaaaaaaaaaaaaaaaaaaaaaaaaaaaaaaaaaaaaaa00000000 \
@@ -43,7 +43,7 @@ const ROWS: [Row; 17] = [
                 \"log\":\"new.log\",\"offset\":32,\"pcr\":1,\"type\":{\"name\":\"EV_SEPARATOR\",\
                 \"number\":4}},\"old\":null,\"pcr\":1}\n",
     },
-    // An event that the log has before stands twice in it.
+    // An event that the log has before is in it twice.
     Row {
         old: "0100000008000000aaaaaaaaaaaaaaaaaaaaaaaaaaaaaaaaaaaaaaaa00000000",
         new: "0100000008000000aaaaaaaaaaaaaaaaaaaaaaaaaaaaaaaaaaaaaaaa00000000 \

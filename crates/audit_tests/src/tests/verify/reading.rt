@@ -78,7 +78,7 @@ const TEXTS: [[&str; 2]; 42] = [
          aaaaaaaaaaaaaaaaaaaaaaaaaaaaaaaaaaaaaaaa\n  sha3_512:\n",
         "sha1 0 aaaaaaaaaaaaaaaaaaaaaaaaaaaaaaaaaaaaaaaa. sha3_384. sha3_512. ",
     ],
-    // A PCR stands twice in it.
+    // A PCR is in it twice.
     [
         "  sha3_256:\n    0 : 0xccccccccccccccccccccccccccccccccccccccccccccccc\
          ccccccccccccccccc\n    0 : 0xccccccccccccccccccccccccccccccccccccccccc\
@@ -117,7 +117,7 @@ const TEXTS: [[&str; 2]; 42] = [
         "sha256 7 ccccccccccccccccccccccccccccccccccccccccccccccccccccccccccccc\
          ccc. sha1 7 aaaaaaaaaaaaaaaaaaaaaaaaaaaaaaaaaaaaaaaa. ",
     ],
-    // A PCR stands twice.
+    // A PCR is there twice.
     [
         "  sha1:\n    7 : 0xaaaaaaaaaaaaaaaaaaaaaaaaaaaaaaaaaaaaaaaa\n    7 : 0\
          xaaaaaaaaaaaaaaaaaaaaaaaaaaaaaaaaaaaaaaaa\n",

@@ -179,7 +179,7 @@ fn facts<M: MemoryMap>(map: &M) -> Facts {
     )
 }
 
-/// Returns whether these descriptors stand at their indices, and no other after them.
+/// Returns whether these descriptors are at their indices, and no other after them.
 fn has_entries<M: MemoryMap>(map: &M, entries: &[[u64; 6]]) -> bool {
     let mut indices = entries.iter().enumerate();
     indices.all(|(i, entry)| map.get(i).map(|found| fields(&found)) == Some(*entry))

@@ -4,7 +4,7 @@ use std::test::Fail;
 use test_support::each_gives;
 use uefi_map::{MemoryMapError, MemoryMapMeta, MemoryMapOwned, MemoryMapRef, MemoryMapRefMut};
 
-/// A byte, how often it stands in the buffer, the bytes of the map, and those of its stride.
+/// A byte, how often the buffer has it, the bytes of the map, and those of its stride.
 type Row = (u8, usize, usize, usize);
 
 /// Buffers that are no map of these sizes.

@@ -40,7 +40,7 @@ fn write_file(storage: &mut [u8]) -> Option<(u64, Units)> {
     Some((info.size(), units(info.file_name())))
 }
 
-/// Checks such a record, and what stands in its storage then.
+/// Checks such a record, and what its storage contains then.
 fn check_file(alloc: Global, storage: &mut [u8], after: &[&str]) -> Result<(), Fail> {
     let written = write_file(storage);
     let after = joined_bytes(alloc, after)?;
@@ -144,7 +144,7 @@ fn write_label(storage: &mut [u8]) -> Option<Units> {
     Some(units(label.volume_label()))
 }
 
-/// Checks that label, and what stands in its storage then.
+/// Checks that label, and what its storage contains then.
 fn check_label(alloc: Global, storage: &mut [u8], after: &str) -> Result<(), Fail> {
     let written = write_label(storage);
     let after = bytes(alloc, after)?;

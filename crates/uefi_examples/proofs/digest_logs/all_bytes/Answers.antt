@@ -9,7 +9,7 @@ use Rattle.uefi_tcg.specs.v2.Laws.{OneLog}
 use Rattle.uefi_tcg.specs.v2.Log.{IsLog}
 use Rattle.uefi_examples.proofs.digest_logs.all_bytes.Goals as goal
 
--- The encodings of a log's events, joined, stand in the bytes from the end of its header on.
+-- The encodings of a log's events, joined, are in the bytes from the end of its header on.
 joined_stand : OneLog → (bytes : List ℕ) (last_entry : ℕ) (found : Option HeaderEvent) (log : List Event)
     → IsLog after_header bytes last_entry found log → (header : Header) → HasHeader bytes last_entry header
     → IsPrefix (concat (map event_bytes log)) (drop (events_start header) bytes)

@@ -4,7 +4,7 @@ use Rattle.uefi_records.specs.Laws.{TimesReadBack}
 use Rattle.uefi_records.specs.time.Fields.{StandsIn, TimeFields, time_in, without_pads}
 use Rattle.uefi_examples.proofs.time.first_time.Goals as goal
 
--- A time that stands in bytes is the one that is read there.
+-- A time that bytes contain is the one that is read there.
 stands_alone : TimesReadBack → (time : TimeFields) (bytes : List ℕ) → StandsIn time bytes → time ≡ time_in bytes
 stands_alone law time bytes stands = sym (ap time_in stands.1.1 ∙ law.written time stands.1.0 stands.0)
 

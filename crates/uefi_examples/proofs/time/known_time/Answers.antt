@@ -3,7 +3,7 @@ use Rattle.std.proofs.lemmas.Result.{IfOk-weaker}
 use Rattle.uefi_records.specs.time.Fields.{without_pads}
 use Rattle.uefi_examples.proofs.time.known_time.Goals as goal
 
--- The time that is read stands in the bytes, as the known one does, and at most one time does.
+-- The time that is read is in the bytes, as the known one does, and at most one time does.
 pub returns-clause-same : goal.returns-clause-same
 returns-clause-same c =
     IfOk-weaker c.try_from.result _ _ (λ read found. found.2

@@ -225,7 +225,7 @@ const ONE_EVENT: &str =
 #[test]
 fn events_begin_where_the_header_ends() -> Result<(), Fail> {
     const ROWS: [Row<'_>; 4] = [
-        // The first event stands in the one that has the header.
+        // The first event is inside the one that has the header.
         (Command::Log2(Some(81)), LONG_HEADER_EVENT, TWO_EVENTS),
         (Command::Log2(Some(97)), LONG_HEADER_EVENT, TWO_EVENTS),
         (Command::Log2(Some(96)), LONG_HEADER_EVENT, ONE_EVENT),

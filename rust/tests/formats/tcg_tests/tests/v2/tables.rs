@@ -45,7 +45,7 @@ const FIRST: &str = "0400 1400  0b00 2000  0400 0100  0900 0000 \
 /// Rows of SHA-1 with the size 2, and of SHA-384; then a row without its last byte.
 const OTHERS: &str = "0400 0200  0c00 3000  0f00 05";
 
-/// How many rows of `FIRST` stand before those of `OTHERS`, how many rows there are, and the sizes
+/// How many rows of `FIRST` are before those of `OTHERS`, how many rows there are, and the sizes
 /// of SHA-1, SHA-256, SHA-384 and the algorithms 0xe and 0xf.
 const SIZES: [(usize, usize, [Option<u16>; 5]); 7] = [
     (0, 2, [Some(2), None, Some(48), None, None]),
