@@ -9,4 +9,5 @@ pub mod BankReplays
 pub mod Quotes
 pub mod WasRead
 pub mod ReadLogs
+pub mod Texts
 pub mod private

@@ -1,8 +1,9 @@
-ghost use Rattle.std.specs.Prelude.{◌≡◌, map, option_map, slice_get, Err, MatchResult};
+ghost use Rattle.std.specs.Prelude.{◌≡◌, map, option_map, slice_get, Err, MatchResult, Some};
 ghost use Rattle.std.specs.Option.{option_and_then};
 ghost use Rattle.std.specs.Result.{result_map_both};
 ghost use Rattle.pcr_replay.specs.BankReplays.{bank_outcomes_of};
 ghost use Rattle.pcr_replay.specs.Quotes.{is_quoted, outcomes_of_algorithm, pcrs_in, quote_digest, quoted_value, quoted_values};
+ghost use Rattle.pcr_replay.specs.Texts.{no_quote_digest_text};
 ghost use Rattle.pcr_replay.specs.Views.{outcome_of, value_of};
 ghost use Rattle.pcr_replay.specs.private.Quoting.{TakesValues};
 ghost use Rattle.tpm_quote.specs.Views.{quote_of, selection_of};
@@ -13,6 +14,8 @@ use crate::bank_store::BankStore;
 use crate::fault::Undetermined;
 use crate::hasher::Hasher;
 use crate::value::PcrValue;
+use std::error::Error;
+use std::fmt;
 use tpm_quote::{PcrSelection, Quote};
 use uefi_tcg::{AlgorithmId, PcrIndex};
 
@@ -24,6 +27,28 @@ pub enum NoQuoteDigest {
     /// A PCR is selected that is undetermined.
     Undetermined(AlgorithmId, PcrIndex, Undetermined),
 }
+
+/// Writes why, such as `no bank of algorithm 0xb`.
+impl fmt::Display for NoQuoteDigest {
+    ghost output = { λ why. Some (no_quote_digest_text why) };
+
+    fn fmt<W: fmt::Write>(&self, f: &mut fmt::Formatter<W>) -> fmt::Result {
+        match self {
+            NoQuoteDigest::NoBank(algorithm) => {
+                write!(f, "no bank of algorithm 0x{:x}", algorithm.0)
+            }
+            NoQuoteDigest::Undetermined(algorithm, pcr, at) => {
+                let (pcr, algorithm) = (pcr.0, algorithm.0);
+                write!(
+                    f,
+                    "PCR {pcr} of algorithm 0x{algorithm:x} is undetermined: {at}"
+                )
+            }
+        }
+    }
+}
+
+impl Error for NoQuoteDigest {}
 
 /// Returns the digest that a TPM whose PCRs hold this puts into a quote (TPM 2.0 Library, Part 2,
 /// `TPMS_QUOTE_INFO`): the hash of the values of the selected PCRs, in the quote's order, and those

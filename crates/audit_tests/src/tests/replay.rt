@@ -6,3 +6,4 @@ mod machine_log;
 pub(crate) mod quotes;
 mod read_once;
 mod starts;
+mod texts;

@@ -10,12 +10,12 @@ use Rattle.pcr_replay.specs.declared.fault.Undetermined.{Undetermined}
 use Rattle.uefi_audits.specs.declared.start.KnownStart.{KnownStart}
 use Rattle.uefi_audits.specs.declared.facts.LogFacts.{LogFacts}
 use Rattle.pcr_replay.specs.Replay.{Outcome}
+use Rattle.pcr_replay.specs.Texts.{fault_text}
 use Rattle.audit_text.specs.words.Numbers.{hex_text}
 use Rattle.pcr_replay.specs.BankReplays.{BankOutcomes}
 use Rattle.audit_text.specs.json.Line.{line_of}
 use Rattle.uefi_audits.specs.Naming.{bank_name, bank_of}
 use Rattle.uefi_audits.specs.Numbered.{numbered}
-use Rattle.audit_text.specs.words.Faults.{fault_text}
 
 -- A PCR: its value in hex, or `null` if it's undetermined.
 unfoldable pub outcome_json : Outcome → Data

@@ -5,11 +5,11 @@ use Rattle.serde_json.specs.Data.{Data, null, boolean, number, unsigned, string,
 use Rattle.serde_json.specs.View.{items_of}
 use Rattle.pcr_replay.specs.declared.fault.Undetermined.{Undetermined}
 use Rattle.pcr_replay.specs.Replay.{Outcome}
+use Rattle.pcr_replay.specs.Texts.{fault_text}
 use Rattle.pcr_replay.specs.Views.{value_of}
 use Rattle.pcr_replay.specs.BankReplays.{BankOutcomes}
 use Rattle.audit_text.specs.json.Line.{line_of}
 use Rattle.uefi_audits.specs.Naming.{bank_name}
-use Rattle.audit_text.specs.words.Faults.{fault_text}
 use Rattle.uefi_audits.specs.declared.verify.held.HeldPcr.{HeldPcr}
 use Rattle.uefi_audits.specs.verify.Verdict.{Comparison, agrees, is_agreement, led_to}
 

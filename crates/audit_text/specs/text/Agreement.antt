@@ -16,7 +16,7 @@ unfoldable pub goes_on : NamedPcr → Option NamedPcr → Bool
 goes_on named None = false
 goes_on named (Some after) = is_next (Some named) after
 
--- What stands before a PCR that begins a range: the name of its bank, unless the one before is of that bank.
+-- What is before a PCR that begins a range: the name of its bank, unless the one before is of that bank.
 unfoldable pub opening : Option NamedPcr → NamedPcr → List ℕ
 opening None named = bank_name named.bank ++ codes ": "
 opening (Some before) named =

@@ -5,17 +5,16 @@ use Rattle.pcr_replay.specs.declared.bank.Bank.{Bank}
 use Rattle.pcr_replay.specs.declared.fault.Undetermined.{Undetermined}
 use Rattle.pcr_replay.specs.Replay.{Outcome}
 use Rattle.pcr_replay.specs.BankReplays.{BankOutcomes}
+use Rattle.pcr_replay.specs.Texts.{undetermined_text as event_text}
 use Rattle.uefi_audits.specs.Naming.{bank_name}
 use Rattle.uefi_audits.specs.Numbered.{numbered}
 use Rattle.audit_text.specs.words.Shown.{shown_name}
-use Rattle.audit_text.specs.words.Faults.{fault_text}
 
 -- The file's name, the bank, the PCR, and the first event by which it is undetermined.
 unfoldable pub undetermined_line : List ℕ → Bank → ℕ → Undetermined → List ℕ
 undetermined_line name bank number at =
     shown_name name ++ codes ": " ++ bank_name bank ++ codes ": PCR " ++ decimal number
-    ++ codes " is undetermined: event " ++ decimal at.index ++ codes " at offset " ++ decimal at.offset
-    ++ codes " " ++ fault_text at.fault ++ codes "\n"
+    ++ codes " is undetermined: " ++ event_text at ++ codes "\n"
 
 -- That line, if the PCR has no value.
 unfoldable pub undetermined_text : List ℕ → Bank → ℕ → Outcome → List ℕ

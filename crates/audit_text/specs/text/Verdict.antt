@@ -5,10 +5,10 @@ use Rattle.std.specs.Fmt.{decimal}
 use Rattle.hex.specs.Hex.{encode_upper}
 use Rattle.pcr_replay.specs.declared.fault.Undetermined.{Undetermined}
 use Rattle.pcr_replay.specs.Replay.{Outcome}
+use Rattle.pcr_replay.specs.Texts.{undetermined_text as event_text}
 use Rattle.pcr_replay.specs.Views.{value_of}
 use Rattle.uefi_audits.specs.Naming.{bank_name}
 use Rattle.audit_text.specs.text.Agreement.{agree_line}
-use Rattle.audit_text.specs.words.Faults.{fault_text}
 use Rattle.audit_text.specs.words.Shown.{shown_name}
 use Rattle.uefi_audits.specs.declared.verify.held.HeldPcr.{HeldPcr}
 use Rattle.uefi_audits.specs.verify.Named.{name_of}
@@ -24,8 +24,7 @@ unfoldable pub value_text : ℕ → ℕ → List ℕ → List ℕ
 value_text pcr locality value = codes ", the log leads to 0x" ++ (encode_upper value ++ (start_text pcr locality ++ codes "\n"))
 
 unfoldable pub undetermined_text : Undetermined → List ℕ
-undetermined_text at =
-    codes ", undetermined: event " ++ (decimal at.index ++ (codes " at offset " ++ (decimal at.offset ++ (codes " " ++ (fault_text at.fault ++ codes "\n")))))
+undetermined_text at = codes ", undetermined: " ++ (event_text at ++ codes "\n")
 
 -- What a log leads to in a PCR: one of these, or nothing, since there is no such PCR.
 unfoldable pub outcome_text : ℕ → ℕ → Option Outcome → List ℕ

@@ -8,7 +8,6 @@ ghost use Rattle.audit_text.specs.json.Replay.{bank_json, banks_json, if_undeter
 ghost use Rattle.uefi_audits.specs.Numbered.{numbered};
 
 use crate::json::event::hex_json;
-use crate::words::fault_text;
 use pcr_replay::{BankPcrs, PcrValue, Pcrs, Undetermined};
 use serde_json::{Map, Value, json, put};
 use std::alloc::{AllocError, Global};
@@ -121,7 +120,7 @@ fn undetermined_json(alloc: Global, pcr: usize, at: &Undetermined) -> Result<Val
     ensures { IfOk result (λ value. view value ≡ undetermined_json pcr at.now) }
 {
     let (index, offset) = (at.index, at.offset);
-    let reason = fault_text(at.fault);
+    let reason = format!(in alloc; "{}", at.fault)?;
     json!(in alloc; {
         "index": index,
         "offset": offset,

@@ -9,7 +9,6 @@ ghost use Rattle.uefi_audits.specs.verify.Verdict.{comparison_of};
 
 use crate::json::event::hex_json;
 use crate::json::line::line_of;
-use crate::words::fault_text;
 use pcr_replay::{BankPcrs, PcrValue, Undetermined};
 use serde_json::{Map, Value, json, put};
 use std::alloc::{AllocError, Global};
@@ -193,6 +192,6 @@ fn event_json(alloc: Global, at: &Undetermined) -> Result<Value, AllocError>
     ensures { IfOk result (λ value. view value ≡ event_json at.now) }
 {
     let (index, offset) = (at.index, at.offset);
-    let reason = fault_text(at.fault);
+    let reason = format!(in alloc; "{}", at.fault)?;
     json!(in alloc; {"index": index, "offset": offset, "reason": reason})
 }

@@ -89,7 +89,7 @@ fn goes_on(named: &NamedPcr, after: Option<&NamedPcr>) -> bool
     }
 }
 
-/// Appends what stands before a PCR that begins a range: the name of its bank, unless the one before
+/// Appends what is before a PCR that begins a range: the name of its bank, unless the one before
 /// it is of that bank.
 #[tactic(auto, unfolding(crate::specs::text::Agreement::opening))]
 fn push_opening<A: Allocator>(

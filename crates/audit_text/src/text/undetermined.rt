@@ -3,10 +3,9 @@ ghost use Rattle.uefi_base.specs.Appending.{AppendsText};
 ghost use Rattle.pcr_replay.specs.Views.{outcome_of, outcomes_of};
 ghost use Rattle.pcr_replay.specs.BankReplays.{bank_outcomes_of};
 ghost use Rattle.uefi_audits.specs.Numbered.{numbered};
-ghost use Rattle.audit_text.specs.words.Faults.{fault_text};
 ghost use Rattle.audit_text.specs.text.Undetermined.{undetermined_line, undetermined_lines, undetermined_text};
 
-use crate::words::{ShownName, fault_text};
+use crate::words::ShownName;
 use pcr_replay::{Bank, BankPcrs, PcrValue, Pcrs, Undetermined};
 use std::alloc::{AllocError, Allocator};
 use uefi_audits::naming::bank_name;
@@ -78,10 +77,6 @@ pub(super) fn push_line<A: Allocator>(
     ensures { OnOk result (AppendsText told.old told.new
         (undetermined_line name.now bank number at.now)) }
 {
-    let (name, bank, fault) = (ShownName(name), bank_name(bank), fault_text(at.fault));
-    let (index, offset) = (at.index, at.offset);
-    writeln!(
-        told,
-        "{name}: {bank}: PCR {number} is undetermined: event {index} at offset {offset} {fault}"
-    )
+    let (name, bank) = (ShownName(name), bank_name(bank));
+    writeln!(told, "{name}: {bank}: PCR {number} is undetermined: {at}")
 }

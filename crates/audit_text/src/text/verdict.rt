@@ -6,7 +6,7 @@ ghost use Rattle.audit_text.specs.text.Verdict.{held_text, line_of, outcome_text
 ghost use Rattle.uefi_audits.specs.verify.Verdict.{comparison_of};
 
 use crate::text::agreement::push_agreement;
-use crate::words::{ShownName, fault_text};
+use crate::words::ShownName;
 use pcr_replay::{PcrValue, Undetermined};
 use std::alloc::{AllocError, Allocator};
 use uefi_audits::naming::bank_name;
@@ -129,15 +129,12 @@ fn push_value<A: Allocator + Copy>(
 }
 
 /// Appends the event by which a PCR is undetermined.
+#[tactic(auto, unfolding(crate::specs::text::Verdict::undetermined_text))]
 fn push_undetermined<A: Allocator>(
     text: &mut String<A>,
     at: &Undetermined,
 ) -> Result<(), AllocError>
     ensures { OnOk result (AppendsText text.old text.new (undetermined_text at.now)) }
 {
-    let (index, offset, fault) = (at.index, at.offset, fault_text(at.fault));
-    writeln!(
-        text,
-        ", undetermined: event {index} at offset {offset} {fault}"
-    )
+    writeln!(text, ", undetermined: {at}")
 }

@@ -3,10 +3,9 @@
 //! Words that text and JSON share.
 //!
 //! [`push_said`] appends in a few words what the data of an event say. A [`ShownName`] displays a
-//! name so that nothing in it is hidden, and [`ShownBytes`] one that isn't UTF-8. [`fault_text`] is what is wrong with an event by which a
-//! PCR is undetermined, and [`push_number`] appends the number of an algorithm.
+//! name so that nothing in it is hidden, and [`ShownBytes`] one that isn't UTF-8. [`push_number`]
+//! appends the number of an algorithm.
 
-pub use self::faults::fault_text;
 pub(crate) use self::forms::form_name;
 pub use self::numbers::push_number;
 pub(crate) use self::path::path_text;
@@ -16,7 +15,6 @@ pub(crate) use self::shown::is_control;
 pub use self::shown::{ShownBytes, ShownName};
 pub(crate) use self::types::push_type;
 
-mod faults;
 mod forms;
 pub(crate) mod names;
 mod numbers;

@@ -6,6 +6,8 @@ use crate::formats::pcr_replay::bank_store::BankStore;
 use crate::formats::pcr_replay::fault::Undetermined;
 use crate::formats::pcr_replay::hasher::Hasher;
 use crate::formats::pcr_replay::value::PcrValue;
+use core::error::Error;
+use core::fmt;
 use crate::formats::tpm_quote::{PcrSelection, Quote};
 use crate::formats::uefi_tcg::{AlgorithmId, PcrIndex};
 
@@ -18,6 +20,26 @@ pub enum NoQuoteDigest {
     /// A PCR is selected that is undetermined.
     Undetermined(AlgorithmId, PcrIndex, Undetermined),
 }
+
+/// Writes why, such as `no bank of algorithm 0xb`.
+impl fmt::Display for NoQuoteDigest {
+    fn fmt(&self, f: &mut fmt::Formatter<'_>) -> fmt::Result {
+        match self {
+            NoQuoteDigest::NoBank(algorithm) => {
+                write!(f, "no bank of algorithm 0x{:x}", algorithm.0)
+            }
+            NoQuoteDigest::Undetermined(algorithm, pcr, at) => {
+                let (pcr, algorithm) = (pcr.0, algorithm.0);
+                write!(
+                    f,
+                    "PCR {pcr} of algorithm 0x{algorithm:x} is undetermined: {at}"
+                )
+            }
+        }
+    }
+}
+
+impl Error for NoQuoteDigest {}
 
 /// Returns the digest that a TPM whose PCRs hold this puts into a quote (TPM 2.0 Library, Part 2,
 /// `TPMS_QUOTE_INFO`): the hash of the values of the selected PCRs, in the quote's order, and those

@@ -3,7 +3,6 @@
 use crate::support::fallible::*;
 
 use crate::audit_text::json::event::hex_json;
-use crate::audit_text::words::fault_text;
 use uefi_formats::pcr::{BankPcrs, PcrValue, Pcrs, Undetermined};
 use crate::serde_json::{Map, Value, json, put};
 use crate::support::alloc::AllocError;
@@ -88,7 +87,7 @@ fn push_if_undetermined(
 /// Returns the event by which a PCR is undetermined: its index, its offset, and why.
 fn undetermined_json(pcr: usize, at: &Undetermined) -> Result<Value, AllocError> {
     let (index, offset) = (at.index, at.offset);
-    let reason = fault_text(at.fault);
+    let reason = fallible_format!("{}", at.fault)?;
     json!({
         "index": index,
         "offset": offset,

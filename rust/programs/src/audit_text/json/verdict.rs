@@ -4,7 +4,6 @@ use crate::support::fallible::*;
 
 use crate::audit_text::json::event::hex_json;
 use crate::audit_text::json::line::line_of;
-use crate::audit_text::words::fault_text;
 use uefi_formats::pcr::{BankPcrs, PcrValue, Undetermined};
 use crate::serde_json::{Map, Value, json, put};
 use crate::support::alloc::AllocError;
@@ -146,6 +145,6 @@ fn undetermined_by(
 /// Returns the event by which a PCR is undetermined: its index, its offset, and why.
 fn event_json(at: &Undetermined) -> Result<Value, AllocError> {
     let (index, offset) = (at.index, at.offset);
-    let reason = fault_text(at.fault);
+    let reason = fallible_format!("{}", at.fault)?;
     json!({"index": index, "offset": offset, "reason": reason})
 }

@@ -1,6 +1,6 @@
 // @generated from proved source. It is not edited.
 
-use crate::audit_text::words::{ShownName, fault_text};
+use crate::audit_text::words::ShownName;
 use uefi_formats::pcr::{Bank, BankPcrs, PcrValue, Pcrs, Undetermined};
 use crate::support::alloc::AllocError;
 use crate::uefi_audits::naming::bank_name;
@@ -58,9 +58,6 @@ pub(super) fn push_line(
     number: usize,
     at: &Undetermined,
 ) -> Result<(), AllocError> {
-    let (name, bank, fault) = (ShownName(name), bank_name(bank), fault_text(at.fault));
-    let (index, offset) = (at.index, at.offset);
-    fallible_writeln!(told,
-        "{name}: {bank}: PCR {number} is undetermined: event {index} at offset {offset} {fault}"
-    )
+    let (name, bank) = (ShownName(name), bank_name(bank));
+    fallible_writeln!(told, "{name}: {bank}: PCR {number} is undetermined: {at}")
 }

@@ -1,7 +1,7 @@
 // @generated from proved source. It is not edited.
 
 use crate::audit_text::text::agreement::push_agreement;
-use crate::audit_text::words::{ShownName, fault_text};
+use crate::audit_text::words::ShownName;
 use uefi_formats::pcr::{PcrValue, Undetermined};
 use crate::support::alloc::AllocError;
 use crate::uefi_audits::naming::bank_name;
@@ -101,8 +101,5 @@ fn push_undetermined(
     text: &mut String,
     at: &Undetermined,
 ) -> Result<(), AllocError> {
-    let (index, offset, fault) = (at.index, at.offset, fault_text(at.fault));
-    fallible_writeln!(text,
-        ", undetermined: event {index} at offset {offset} {fault}"
-    )
+    fallible_writeln!(text, ", undetermined: {at}")
 }

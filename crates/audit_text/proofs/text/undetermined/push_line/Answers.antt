@@ -4,4 +4,4 @@ use Rattle.audit_text.proofs.text.undetermined.push_line.Goals as goal
 
 pub returns : goal.returns
 unfolding undetermined_line
-returns g c = simp append_assoc (simp (c.bank_name-bank.ensures, c.fault_text-fault.ensures) at c.writeln.ensures.bytes)
+returns g c = simp append_assoc (simp c.bank_name-bank.ensures at c.writeln.ensures.bytes)

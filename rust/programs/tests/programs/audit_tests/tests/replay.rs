@@ -8,3 +8,4 @@ mod machine_log;
 pub(crate) mod quotes;
 mod read_once;
 mod starts;
+mod texts;
