@@ -29,8 +29,8 @@ pub(crate) trait NodeValue<'a>: Sized {
 
     /// Returns the value that data of the type's length have, or `None` if they haven't its form.
     fn from_data(data: &'a [u8]) -> Option<Self>
-        requires { HasLength layout data.now }
-        ensures { TakesValue layout data.now result };
+        requires { HasLength layout «data».now }
+        ensures { TakesValue layout «data».now result };
 }
 
 /// Returns the value that a node is, or why it is none.
