@@ -128,10 +128,9 @@ class Inside:
 
 
 def work_of(number):
-    """Returns the crate that a process of `rt ci` works on, and whether on its proof, its tests or its edits; None for another process."""
+    """Returns the crate that a process of `rt ci` works on, and whether on its proof or its tests; None for another process."""
     try:
         words = pathlib.Path(f"/proc/{number}/cmdline").read_text(errors="replace").split("\0")[:-1]
-        folder = os.path.basename(os.readlink(f"/proc/{number}/cwd"))
     except OSError:
         return None
     # The program of a crate's tests, and what runs it.
@@ -140,8 +139,6 @@ def work_of(number):
     if "--crate-name" not in words:
         return None
     name = words[words.index("--crate-name") + 1]
-    if folder.startswith("rt-edit"):
-        return name, "edits"
     return name, "tests" if f"out/{name}_tests.o" in words else "proof"
 
 
