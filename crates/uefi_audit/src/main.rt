@@ -29,6 +29,8 @@ mod report;
 mod request;
 mod starts;
 mod task;
+#[cfg(test)]
+mod tests;
 mod verification;
 
 fn main(rt: HostRuntime) -> ExitCode {
