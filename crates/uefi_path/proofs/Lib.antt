@@ -4,6 +4,7 @@ pub mod Counts
 pub mod Cuts
 pub mod Decide
 pub mod Descriptions
+pub mod Finalizing
 pub mod LoadOptions
 pub mod Nodes
 pub mod OptionParts

@@ -1,6 +1,7 @@
 -- What contracts see of builders.
 use Rattle.std.specs.Prelude.{◌≡◌, ℕ, List, length}
-use Rattle.std.specs.Borrow.{MutBor}
+use Rattle.std.specs.Borrow.{Fml, MutBor}
+use Rattle.uefi_base.specs.Buffer.{EndsAs}
 use Rattle.uefi_path.specs.Node.{Node, joined}
 use Rattle.uefi_path.specs.declared.build.builder.DevicePathBuilder.{DevicePathBuilder}
 use Rattle.uefi_path.specs.declared.build.vec_builder.DevicePathVecBuilder.{DevicePathVecBuilder}
@@ -20,6 +21,10 @@ builder_bytes builder = builder.buffer.now
 -- The builder writes to what the reference borrows.
 abbrev pub WritesTo : MutBor (List ℕ) → DevicePathBuilder → Type 0
 WritesTo buffer builder = builder.buffer.ghost_name ≡ buffer.ghost_name
+
+-- What holds of the builder's buffer at the end of its loan, if a view has borrowed it until then.
+abbrev pub BuiltEndsAs : DevicePathBuilder → (List ℕ → Type 0) → Fml
+BuiltEndsAs builder Holds = EndsAs builder.buffer Holds
 
 -- Both builders write to what one reference borrows.
 abbrev pub WriteToTheSame : DevicePathBuilder → DevicePathBuilder → Type 0

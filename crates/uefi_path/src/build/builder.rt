@@ -1,9 +1,11 @@
-ghost use Rattle.std.specs.Prelude.{◌≡◌, ◌+◌, ◌≤◌, [], ◌∷◌, ◌++◌, length, take, IfOk, IfErr, OnOk, OnErr};
+ghost use Rattle.std.specs.Prelude.{◌≡◌, ◌↔◌, ◌+◌, ◌≤◌, Err, [], ◌∷◌, ◌++◌, length, take, IsOk, IfOk, IfErr, OnOk, OnErr, MatchResult};
+ghost use Rattle.std.specs.Borrow.{sem};
 ghost use Rattle.uefi_base.specs.Buffer.{put_at};
 ghost use Rattle.uefi_path.specs.Header.{header_length};
 ghost use Rattle.uefi_path.specs.Node.{Fits, encoding, joined, IsEndEntire, end_entire};
+ghost use Rattle.uefi_path.specs.Views.{path_nodes};
 ghost use Rattle.uefi_path.specs.build.Pushing.{HasBufferFault, IsTooShortFor};
-ghost use Rattle.uefi_path.specs.private.Encoding.{EncodesBefore};
+ghost use Rattle.uefi_path.specs.private.Encoding.{EncodesBefore, EncodesPath, IsEncodingOfNodes};
 ghost use Rattle.uefi_path.specs.private.OnePath.{EncodesBefore-prop};
 
 use crate::append::end_entire_bytes;
@@ -48,8 +50,7 @@ pub struct DevicePathBuilder<'a> {
 }
 
 impl<'a> DevicePathBuilder<'a> {
-    ghost use Rattle.uefi_path.specs.Views.{path_nodes};
-    ghost use Rattle.uefi_path.specs.build.Views.{built_nodes, builder_bytes, built_length, WritesTo, WriteToTheSame};
+    ghost use Rattle.uefi_path.specs.build.Views.{built_nodes, builder_bytes, built_length, BuiltEndsAs, WritesTo, WriteToTheSame};
 
     /// Returns a builder of a path in the buffer, without a node.
     pub fn with_buf(buffer: &'a mut [u8]) -> DevicePathBuilder<'a>
@@ -115,13 +116,19 @@ impl<'a> DevicePathBuilder<'a> {
         Ok(())
     }
 
-    /// Writes the end-entire node after the nodes that were pushed, and returns the path.
+    /// Writes the end-entire node after the nodes that were pushed, and returns the path. The bytes
+    /// that follow stay as they were.
+    ///
+    /// [`DevicePathBuilder::write_end`] does the same for a caller that goes on with the buffer.
     ///
     /// # Errors
     ///
     /// [`BuildError::BufferTooSmall`] with the length of the path if the buffer is shorter. Every
     /// byte of the buffer is then unchanged.
     pub fn finalize(self) -> Result<DevicePath<'a>, BuildError>
+        ensures* after { sem 𝓛 (BuiltEndsAs self.entry (λ after. MatchResult result
+            (λ _. after ≡ put_at (built_length self.entry) (encoding end_entire) (builder_bytes self.entry))
+            (λ _. after ≡ builder_bytes self.entry))) }
         ensures nodes { IfOk result (λ path. path_nodes path
             ≡ built_nodes self.entry ++ end_entire ∷ []) }
         ensures room { OnOk result (built_length self.entry + header_length ≤ length (builder_bytes self.entry)) }
@@ -129,9 +136,8 @@ impl<'a> DevicePathBuilder<'a> {
             (length (builder_bytes self.entry))) }
     {
         let DevicePathBuilder { buffer, end } = self;
-        let length = push_end_at(buffer, end)?;
-        let (path, _) = buffer.split_at(length);
-        Ok(DevicePath::new_unchecked(path))
+        let written = push_end_at(buffer, end);
+        path_in(buffer, written)
     }
 
     /// Writes the end-entire node after the nodes that were pushed, and returns the length of the
@@ -192,4 +198,19 @@ fn push_end_at(buffer: &mut [u8], offset: usize) -> Result<usize, BuildError>
     }
     put(buffer, offset, &end_entire_bytes());
     Ok(end)
+}
+
+/// Returns the path that was written to the start of the bytes, if it was.
+fn path_in<'a>(
+    bytes: &'a [u8],
+    written: Result<usize, BuildError>,
+) -> Result<DevicePath<'a>, BuildError>
+    requires { IfOk written (λ end. (end ≤ length bytes.now) × EncodesPath (take end bytes.now)) }
+    ensures path { MatchResult written
+        (λ end. IfOk result (λ path. IsEncodingOfNodes IsEndEntire (take end bytes.now) (path_nodes path)))
+        (λ error. result ≡ Err error) }
+    ensures ok { IsOk result ↔ IsOk written }
+{
+    let end = written?;
+    Ok(DevicePath::new_unchecked(&bytes[..end]))
 }
