@@ -10,5 +10,7 @@ pub mod Nodes
 pub mod OptionParts
 pub mod OptionWritten
 pub mod Passing
+pub mod Pushing
+pub mod Refused
 pub mod Rows
 pub mod Steps

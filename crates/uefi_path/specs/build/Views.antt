@@ -1,9 +1,10 @@
 -- What contracts see of builders.
-use Rattle.std.specs.Prelude.{◌≡◌, ℕ, List, length}
-use Rattle.std.specs.Borrow.{Fml, MutBor}
+use Rattle.std.specs.Prelude.{◌≡◌, ℕ, List, Result, length}
+use Rattle.std.specs.Borrow.{Fml, MutBor, RestsIfErr, Array, u8 as byte}
 use Rattle.uefi_base.specs.Buffer.{EndsAs}
 use Rattle.uefi_path.specs.Node.{Node, joined}
 use Rattle.uefi_path.specs.declared.build.builder.DevicePathBuilder.{DevicePathBuilder}
+use Rattle.uefi_path.specs.declared.build.error.BuildError.{BuildError}
 use Rattle.uefi_path.specs.declared.build.vec_builder.DevicePathVecBuilder.{DevicePathVecBuilder}
 
 -- The nodes that were pushed, in order.
@@ -25,6 +26,11 @@ WritesTo buffer builder = builder.buffer.ghost_name ≡ buffer.ghost_name
 -- What holds of the builder's buffer at the end of its loan, if a view has borrowed it until then.
 abbrev pub BuiltEndsAs : DevicePathBuilder → (List ℕ → Type 0) → Fml
 BuiltEndsAs builder Holds = EndsAs builder.buffer Holds
+
+-- The builder's buffer ends as the returned builder leaves it, and as it was where there is none.
+abbrev pub StaysIfRefused : DevicePathBuilder → Result DevicePathBuilder BuildError → Fml
+StaysIfRefused builder result = RestsIfErr (Array byte 0) builder.buffer (λ other. other.buffer.ghost_name) result
+    (λ last. last ≡ builder.buffer.now)
 
 -- Both builders write to what one reference borrows.
 abbrev pub WriteToTheSame : DevicePathBuilder → DevicePathBuilder → Type 0

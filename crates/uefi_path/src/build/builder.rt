@@ -1,11 +1,11 @@
-ghost use Rattle.std.specs.Prelude.{◌≡◌, ◌↔◌, ◌+◌, ◌≤◌, Err, [], ◌∷◌, ◌++◌, length, take, IsOk, IfOk, IfErr, OnOk, OnErr, MatchResult};
+ghost use Rattle.std.specs.Prelude.{◌≡◌, ◌↔◌, ◌+◌, ◌≤◌, ⊤, Err, [], ◌∷◌, ◌++◌, length, take, IsOk, IsErr, IsTrue, IfOk, IfErr, OnOk, OnErr, MatchResult};
 ghost use Rattle.std.specs.Borrow.{sem};
 ghost use Rattle.uefi_base.specs.Buffer.{put_at};
 ghost use Rattle.uefi_path.specs.Header.{header_length};
 ghost use Rattle.uefi_path.specs.Node.{Fits, encoding, joined, IsEndEntire, end_entire};
 ghost use Rattle.uefi_path.specs.Views.{path_nodes};
 ghost use Rattle.uefi_path.specs.build.Pushing.{HasBufferFault, IsTooShortFor};
-ghost use Rattle.uefi_path.specs.private.Encoding.{EncodesBefore, EncodesPath, IsEncodingOfNodes};
+ghost use Rattle.uefi_path.specs.private.Encoding.{EncodesBefore, EncodesPath, IsEncodingBefore, IsEncodingOfNodes};
 ghost use Rattle.uefi_path.specs.private.OnePath.{EncodesBefore-prop};
 
 use crate::append::end_entire_bytes;
@@ -50,7 +50,7 @@ pub struct DevicePathBuilder<'a> {
 }
 
 impl<'a> DevicePathBuilder<'a> {
-    ghost use Rattle.uefi_path.specs.build.Views.{built_nodes, builder_bytes, built_length, BuiltEndsAs, WritesTo, WriteToTheSame};
+    ghost use Rattle.uefi_path.specs.build.Views.{built_nodes, builder_bytes, built_length, BuiltEndsAs, StaysIfRefused, WritesTo, WriteToTheSame};
 
     /// Returns a builder of a path in the buffer, without a node.
     pub fn with_buf(buffer: &'a mut [u8]) -> DevicePathBuilder<'a>
@@ -74,8 +74,10 @@ impl<'a> DevicePathBuilder<'a> {
     /// - [`BuildError::BufferTooSmall`] with the length of all nodes, including this one, if the
     ///   buffer is shorter.
     ///
-    /// The builder is gone then. [`DevicePathBuilder::push_node`] keeps it.
-    pub fn push<N: BuildNode>(mut self, node: &N) -> Result<DevicePathBuilder<'a>, BuildError>
+    /// The builder is gone then. [`DevicePathBuilder::push_node`] keeps it. A caller whose own proof
+    /// needs the bytes of the buffer calls that.
+    pub fn push<N: BuildNode>(self, node: &N) -> Result<DevicePathBuilder<'a>, BuildError>
+        ensures* unchanged_if_refused { sem 𝓛 (StaysIfRefused self.entry result) }
         ensures valid { OnOk result (N.is_valid node.now × Fits (N.node node.now)) }
         ensures accepted { OnOk result (¬ IsEndEntire (N.node node.now)) }
         ensures nodes { IfOk result (λ builder. built_nodes builder
@@ -87,8 +89,38 @@ impl<'a> DevicePathBuilder<'a> {
         ensures refused { IfErr result (HasBufferFault (N.is_valid node.now) (N.node node.now)
             (built_length self.entry) (length (builder_bytes self.entry))) }
     {
-        self.push_node(node)?;
-        Ok(self)
+        let DevicePathBuilder { buffer, end } = self;
+        let written = push_at(buffer, end, node);
+        if is_written(written) {
+            return DevicePathBuilder::from_written(buffer, written);
+        }
+        DevicePathBuilder::not_written(written)
+    }
+
+    /// Returns the builder of the path whose next node was written.
+    fn from_written(
+        buffer: &'a mut [u8],
+        written: Result<usize, BuildError>,
+    ) -> Result<DevicePathBuilder<'a>, BuildError>
+        requires ok { IsOk written }
+        requires nodes { IfOk written (λ end. (end ≤ length buffer.old) × EncodesBefore (take end buffer.old)) }
+        ensures ok { IsOk result }
+        ensures nodes { MatchResult written
+            (λ end. IfOk result (λ builder. IsEncodingBefore (take end buffer.entry.now) (built_nodes builder)))
+            (λ _. ⊤) }
+        ensures bytes { IfOk result (λ builder. builder_bytes builder ≡ buffer.entry.now) }
+        ensures same_buffer { IfOk result (WritesTo buffer.entry) }
+    {
+        let end = written?;
+        Ok(DevicePathBuilder { buffer, end })
+    }
+
+    /// Returns the error of a node that wasn't written.
+    fn not_written(written: Result<usize, BuildError>) -> Result<DevicePathBuilder<'a>, BuildError>
+        requires { IsErr written }
+        ensures { MatchResult written (λ _. ⊤) (λ error. result ≡ Err error) }
+    {
+        Err(written.unwrap_err())
     }
 
     /// Writes the node after those that were pushed before.
@@ -181,6 +213,13 @@ fn push_at<N: BuildNode>(buffer: &mut [u8], offset: usize, node: &N) -> Result<u
         Err(BuildError::BufferTooSmall(size)) => Err(BuildError::BufferTooSmall(offset + size)),
         Err(error) => Err(error),
     }
+}
+
+/// Returns whether a node was written.
+fn is_written(written: Result<usize, BuildError>) -> bool
+    ensures { IsTrue result ↔ IsOk written }
+{
+    written.is_ok()
 }
 
 /// Writes the end-entire node at the offset, and returns the offset of its end.
