@@ -1,13 +1,12 @@
 -- A node that was pushed into its builder's buffer, or refused.
-use Rattle.std.proofs.Common.{◌≡◌, ℕ, ◌+◌, ◌≤◌, List, [], ◌∷◌, ◌++◌, Bool, true, false, length, take, refl, sym, ◌∙◌, ap, subst, arith}
+use Rattle.std.proofs.Common.{◌≡◌, ℕ, ◌+◌, ◌≤◌, List, [], ◌∷◌, ◌++◌, Bool, true, false, length, take, refl, sym, ◌∙◌, ap, subst}
 use Rattle.std.specs.Prelude.{⊤, Result, Ok, Err, IsOk, IsErr, IsTrue, IfOk, IfErr, OnOk, OnErr, MatchResult, ◌↔◌}
 use mathlib.Core.Bool.{not}
 use lib.Dec.{T}
-use denote.Ref.{MutBor}
 use Rattle.uefi_base.specs.Buffer.{put_at}
-use Rattle.uefi_path.specs.Node.{Node, Fits, encoding, joined, IsEndEntire}
+use Rattle.uefi_path.specs.Node.{Node, Fits, encoding, IsEndEntire}
 use Rattle.uefi_path.specs.build.Pushing.{HasBufferFault}
-use Rattle.uefi_path.specs.build.Views.{built_nodes, builder_bytes, built_length, WritesTo, WriteToTheSame}
+use Rattle.uefi_path.specs.build.Views.{built_nodes, builder_bytes, built_length, WriteToTheSame}
 use Rattle.uefi_path.specs.private.Encoding.{EncodesBefore, IsEncodingBefore}
 use Rattle.uefi_path.specs.declared.build.builder.DevicePathBuilder.{DevicePathBuilder}
 use Rattle.uefi_path.specs.declared.build.error.BuildError.{BuildError}

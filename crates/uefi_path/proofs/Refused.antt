@@ -1,5 +1,5 @@
 -- What a builder's buffer ends as, once a node was pushed or refused.
-use Rattle.std.proofs.Common.{◌≡◌, ℕ, List, [], Bool, true, false, refl, sym, subst}
+use Rattle.std.proofs.Common.{◌≡◌, ℕ, List, [], true, false, refl, sym, subst}
 use Rattle.std.specs.Prelude.{⊤, ◌∷◌, Result, Ok, Err, IsOk, IfOk, OnErr}
 use Rattle.std.specs.Borrow.{RestsIfErr, MutBor, GName, Array, u8 as byte}
 use mathlib.Core.Option as maybe

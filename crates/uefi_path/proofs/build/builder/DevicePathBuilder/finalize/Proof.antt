@@ -1,6 +1,6 @@
 -- The builder is taken apart; its buffer is lent to `push_end_at`, comes back, and is then shared with the path until its
 -- loan ends.
-use Rattle.uefi_base.proofs.WalkNames.{◌≡◌, refl, ℕ, List, [], ◌∷◌, length, full_share, ftrue, flft, id⊢, named, w64}
+use Rattle.uefi_base.proofs.WalkNames.{◌≡◌, refl, ℕ, List, [], ◌∷◌, full_share, ftrue, flft, id⊢, named, w64}
 use Rattle.uefi_base.proofs.WalkNames.{tables, ‵, ◌⊛◌, ◌$◌, ◌∵◌, !, qed, done, move, keep, split, fsplit, fjoin}
 use Rattle.uefi_base.proofs.WalkNames.{suffices, drop, whole, sub, agg, enter, addr, from, fld, hop, stop, and_then}
 use Rattle.uefi_base.proofs.WalkNames.{no_more, returns, alloc_all, pass_all, free_all, look_at, look_in_at, get, get_in}
@@ -8,12 +8,10 @@ use Rattle.uefi_base.proofs.WalkNames.{sets, lands_as, u8, usize, no, plain, nam
 use Rattle.uefi_base.proofs.WalkNames.{mut_slice_Tells, lasts, triple_of, framed, Stays, walk_of, stay_dropped, ends_at}
 use Rattle.uefi_base.proofs.WalkNames.{Result_row, Result_laws, MatchResult, proved, as_bor, peeks, Is, shows, uint_vals}
 use Rattle.uefi_base.proofs.WalkNames.{owns, nothing}
-use types.Kit.{fpick, feq_l, rewrite, updating, now as at_once}
+use types.Kit.{fpick, rewrite, updating, now as at_once}
 use types.Run.{of_opd}
 use base.Fml.{Fml}
 use denote.Plain.{uint_Tells}
-use denote.Laws.{all_Typed}
-use denote.Triple.Walked.{AllGo}
 use Rattle.uefi_base.specs.Buffer.{put_at}
 use Rattle.uefi_base.proofs.WriterWalk.{lends_to, shares_with, typed, finishes}
 use Rattle.uefi_path.specs.Node.{encoding, end_entire}

@@ -1,6 +1,6 @@
 -- The builder is taken apart; its buffer is lent to `push_at`, and comes back. Then it goes into the new builder, or is
 -- shared, and let go, for all the time that it has left.
-use Rattle.uefi_base.proofs.WalkNames.{◌≡◌, refl, ℕ, List, [], ◌∷◌, length, full_share, ftrue, flft, emp, id⊢, named}
+use Rattle.uefi_base.proofs.WalkNames.{◌≡◌, refl, ℕ, List, [], ◌∷◌, full_share, ftrue, flft, emp, id⊢, named}
 use Rattle.uefi_base.proofs.WalkNames.{w64, fact, fact_i, tables, ‵, raw, ◌⊛◌, some, later, ◌$◌, ◌∵◌, !, qed, done}
 use Rattle.uefi_base.proofs.WalkNames.{move, keep, drop, use0, use1, use2, split, join, fsplit, fjoin, pick, await}
 use Rattle.uefi_base.proofs.WalkNames.{suffices, whole, sub, agg, enter, addr, from, fld, hop, stop, and_then, no_more}
@@ -22,7 +22,7 @@ use Rattle.std.proofs.VecSteps.Shapes.{after}
 use denote.Builtin.{RefOf}
 use denote.Param.{param, bounded}
 use denote.Plain.{uint_Tells}
-use denote.Ref.{shr_vals, shr_Tells, shr_Lawful}
+use denote.Ref.{shr_vals, shr_Tells}
 use denote.Steps.{only}
 use Rattle.uefi_base.proofs.Sharing.{shares_all, Ended}
 use Rattle.uefi_base.proofs.WriterWalk.{Facts, Gone, all_gone, all_said, lends_to, typed}
