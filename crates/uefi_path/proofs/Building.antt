@@ -7,6 +7,8 @@ use Rattle.uefi_base.specs.Buffer.{put_at, put_prefix}
 use Rattle.uefi_path.specs.Node.{Node, Fits, encoding, joined, IsEndEntire, end_entire}
 use Rattle.uefi_path.specs.Laws.{IsBuiltPath}
 use Rattle.uefi_path.specs.Path.{AreBefore, IsPath}
+use Rattle.uefi_path.specs.build.Views.{built_nodes, builder_bytes, built_length}
+use Rattle.uefi_path.specs.declared.build.builder.DevicePathBuilder.{DevicePathBuilder}
 use Rattle.uefi_path.specs.private.Encoding.{IsEncodingBefore, EncodesBefore, IsEncodingOfNodes}
 use Rattle.uefi_path.specs.private.OnePath.{joined-append, one_path, same_nodes_before}
 use Rattle.uefi_path.proofs.Appending.{AreEndedBy-append, IsEncodingOfNodes-append, path_of_end}
@@ -26,6 +28,22 @@ take-put_at offset end part bytes within stated = grind (arith, common_steps)
 take-before_put_at : (offset : ℕ) (part bytes : List ℕ) → offset ≤ length bytes
     → take offset (put_at offset part bytes) ≡ take offset bytes
 take-before_put_at offset part bytes within = grind (arith, common_steps)
+
+-- A part that is written at an offset ends within the bytes.
+pub length-put_at : (offset end : ℕ) (part bytes : List ℕ) → offset ≤ length bytes → end ≡ offset + length part
+    → end ≤ length (put_at offset part bytes)
+length-put_at offset end part bytes within stated = grind (arith, common_steps)
+
+-- The first bytes encode the nodes, so they are as many.
+pub encoded_length : (bytes : List ℕ) (end : ℕ) (nodes : List Node) → end ≤ length bytes
+    → IsEncodingBefore (take end bytes) nodes → end ≡ length (joined nodes)
+encoded_length bytes end nodes within encodes =
+    let encoded : take end bytes ≡ joined nodes = encodes.encoded in grind (arith, common_steps)
+
+-- A builder's nodes end where its next node begins.
+pub end_is : (builder : DevicePathBuilder) → builder.end ≡ built_length builder
+end_is builder =
+    encoded_length (builder_bytes builder) builder.end (built_nodes builder) builder.within builder.nodes.1
 
 -- One more node after the others.
 AreBefore-push : (P : Node → Type 0) (nodes : List Node) (n : Node) → AreBefore P nodes → Fits n → ¬ P n

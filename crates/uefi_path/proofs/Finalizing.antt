@@ -1,10 +1,6 @@
 -- A path that was ended in its builder's buffer, and the view of it.
-use Rattle.std.proofs.Common.{◌≡◌, ℕ, ◌+◌, ◌≤◌, List, [], ◌∷◌, ◌++◌, length, take, refl, sym, ◌∙◌, ap, subst, arith}
+use Rattle.std.proofs.Common.{◌≡◌, ℕ, ◌+◌, ◌≤◌, List, [], ◌∷◌, ◌++◌, length, take, refl, sym, ◌∙◌, ap, subst}
 use Rattle.std.specs.Prelude.{Result, Ok, Err, IsOk, IfOk, IfErr, OnOk, OnErr, MatchResult, ◌↔◌}
-use Rattle.std.proofs.lemmas.Grind.{common_steps}
-use denote.RattleType.{RattleType}
-use Rattle.uefi_base.proofs.WalkNames.{usize, Laws, of_field, u64-field, u64-laws, copy_shared, u64-copy}
-use Rattle.uefi_base.proofs.WalkNames.{Result_row, Result_laws}
 use Rattle.uefi_base.specs.Buffer.{put_at}
 use Rattle.uefi_path.specs.Header.{header_length}
 use Rattle.uefi_path.specs.Node.{Node, encoding, joined, IsEndEntire, end_entire}
@@ -16,38 +12,7 @@ use Rattle.uefi_path.specs.private.OnePath.{nodes_encoded_once}
 use Rattle.uefi_path.specs.declared.build.builder.DevicePathBuilder.{DevicePathBuilder}
 use Rattle.uefi_path.specs.declared.build.error.BuildError.{BuildError}
 use Rattle.uefi_path.specs.declared.path.DevicePath.{DevicePath}
-use Rattle.uefi_path.specs.contracts.build.error.BuildError.{the_row as Error_row}
-use Rattle.uefi_path.proofs.build.error.BuildError.TheLaws.{the_row_laws as Error_laws, the_row_copy as Error_copy}
-use Rattle.std.proofs.result.Result.TheLaws.{the_row_copy as Result_copy}
-use denote.Param.Laws.{IsCopy, of_copyable}
-use Rattle.uefi_path.proofs.Building.{finished}
-
--- The laws of a length, or the error of a builder.
-abbrev pub Written_row : RattleType
-Written_row = Result_row usize Error_row
-
-abbrev pub Written_laws : Laws Written_row
-Written_laws = Result_laws usize Error_row
-    (of_field u64-field u64-laws refl (copy_shared u64-field u64-copy)) Error_laws
-
-abbrev pub Written_copy : IsCopy Written_row
-Written_copy = Result_copy usize Error_row
-    (of_field u64-field u64-laws refl (copy_shared u64-field u64-copy)) Error_laws
-    (of_copyable u64-field u64-copy) Error_copy
-
--- The first bytes encode the nodes, so they are as many.
-pub encoded_length : (bytes : List ℕ) (end : ℕ) (nodes : List Node) → end ≤ length bytes
-    → IsEncodingBefore (take end bytes) nodes → end ≡ length (joined nodes)
-encoded_length bytes end nodes within encodes =
-    let encoded : take end bytes ≡ joined nodes = encodes.encoded in grind (arith, common_steps)
-
-pub end_is : (builder : DevicePathBuilder) → builder.end ≡ built_length builder
-end_is builder = encoded_length (builder_bytes builder) builder.end (built_nodes builder) builder.within builder.nodes.1
-
--- A part that is written at an offset ends within the bytes.
-pub length-put_at : (offset end : ℕ) (part bytes : List ℕ) → offset ≤ length bytes → end ≡ offset + length part
-    → end ≤ length (put_at offset part bytes)
-length-put_at offset end part bytes within stated = grind (arith, common_steps)
+use Rattle.uefi_path.proofs.Building.{finished, end_is, length-put_at}
 
 module _ (builder : DevicePathBuilder) (new : List ℕ) where
   -- What `push_end_at` ensures.
@@ -92,14 +57,16 @@ module _ (builder : DevicePathBuilder) (new : List ℕ) where
         (length (builder_bytes builder)))
 
   pub finalized : (written : Result ℕ BuildError) (made : Result DevicePath BuildError) → WroteEnd written
-      → MatchResult written (λ end. IfOk made (λ path. IsEncodingOfNodes IsEndEntire (take end new) (path_nodes path)))
+      → MatchResult written
+      (λ end. IfOk made (λ path. IsEncodingOfNodes IsEndEntire (take end new) (path_nodes path)))
       (λ error. made ≡ Err error)
       → IsOk made ↔ IsOk written → Finalized made
   finalized (Ok end) (Ok path) wrote seen ok = record {
     after = wrote.put ∙ ap (λ n. put_at n (encoding end_entire) (builder_bytes builder)) (end_is builder);
-    nodes = nodes_encoded_once IsEndEntire (take end new) (path_nodes path) (built_nodes builder ++ end_entire ∷ []) seen
-        (encodes_path end wrote);
-    room = subst (λ n. n ≤ length (builder_bytes builder)) (wrote.end ∙ ap (λ n. n + header_length) (end_is builder)) wrote.room;
+    nodes = nodes_encoded_once IsEndEntire (take end new) (path_nodes path) (built_nodes builder ++ end_entire ∷ [])
+        seen (encodes_path end wrote);
+    room = subst (λ n. n ≤ length (builder_bytes builder))
+        (wrote.end ∙ ap (λ n. n + header_length) (end_is builder)) wrote.room;
     refused = tt;
   }
   finalized (Ok end) (Err error) wrote seen ok = let none = ok.1 refl in cc
@@ -109,7 +76,7 @@ module _ (builder : DevicePathBuilder) (new : List ℕ) where
         after = wrote.unchanged;
         nodes = tt;
         room = tt;
-        refused = subst (λ n. IsTooShortFor (n + header_length) (length (builder_bytes builder)) other) (end_is builder)
-            (subst (IsTooShortFor (builder.end + header_length) (length (builder_bytes builder))) (sym same)
+        refused = subst (λ n. IsTooShortFor (n + header_length) (length (builder_bytes builder)) other)
+            (end_is builder) (subst (IsTooShortFor (builder.end + header_length) (length (builder_bytes builder))) (sym same)
             wrote.refused);
       }

@@ -1,4 +1,5 @@
 pub mod Appending
+pub mod BuilderLaws
 pub mod Building
 pub mod Counts
 pub mod Cuts

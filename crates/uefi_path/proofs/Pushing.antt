@@ -1,5 +1,6 @@
 -- A node that was pushed into its builder's buffer, or refused.
-use Rattle.std.proofs.Common.{◌≡◌, ℕ, ◌+◌, ◌≤◌, List, [], ◌∷◌, ◌++◌, Bool, true, false, length, take, refl, sym, ◌∙◌, ap, subst}
+use Rattle.std.proofs.Common.{◌≡◌, ℕ, ◌+◌, ◌≤◌, List, [], ◌∷◌, ◌++◌, Bool, true, false, length}
+use Rattle.std.proofs.Common.{take, refl, sym, ◌∙◌, ap, subst}
 use Rattle.std.specs.Prelude.{⊤, Result, Ok, Err, IsOk, IsErr, IsTrue, IfOk, IfErr, OnOk, OnErr, MatchResult, ◌↔◌}
 use mathlib.Core.Bool.{not}
 use lib.Dec.{T}
@@ -10,8 +11,7 @@ use Rattle.uefi_path.specs.build.Views.{built_nodes, builder_bytes, built_length
 use Rattle.uefi_path.specs.private.Encoding.{EncodesBefore, IsEncodingBefore}
 use Rattle.uefi_path.specs.declared.build.builder.DevicePathBuilder.{DevicePathBuilder}
 use Rattle.uefi_path.specs.declared.build.error.BuildError.{BuildError}
-use Rattle.uefi_path.proofs.Building.{pushed, these_nodes}
-use Rattle.uefi_path.proofs.Finalizing.{encoded_length, end_is, length-put_at}
+use Rattle.uefi_path.proofs.Building.{pushed, these_nodes, encoded_length, end_is, length-put_at}
 
 -- A test that holds is true, and one that doesn't isn't.
 pub is_true : (test : Bool) → T test → test ≡ true
@@ -97,7 +97,8 @@ module _ (builder : DevicePathBuilder) (node : Node) (Valid : Type 0) (new : Lis
   pub accepts : (written : Result ℕ BuildError) (made : Result DevicePathBuilder BuildError) → WroteNode written
       → IsOk written → IsOk made
       → MatchResult written (λ end. IfOk made (λ other. IsEncodingBefore (take end new) (built_nodes other))) (λ _. ⊤)
-      → IfOk made (λ other. builder_bytes other ≡ new) → IfOk made (WriteToTheSame builder) → Pushed builder node Valid made
+      → IfOk made (λ other. builder_bytes other ≡ new) → IfOk made (WriteToTheSame builder)
+      → Pushed builder node Valid made
   accepts (Ok end) (Ok other) wrote is ok encodes bytes same =
       let nodes = built end other wrote encodes in record {
         valid = wrote.valid;

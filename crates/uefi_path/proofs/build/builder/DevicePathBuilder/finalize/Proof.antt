@@ -1,5 +1,5 @@
--- The builder is taken apart; its buffer is lent to `push_end_at`, comes back, and is then shared with the path until its
--- loan ends.
+-- The builder is taken apart. Its buffer is lent to `push_end_at`, comes back, and is then shared with the path until
+-- its loan ends.
 use Rattle.uefi_base.proofs.WalkNames.{◌≡◌, refl, ℕ, List, [], ◌∷◌, full_share, ftrue, flft, id⊢, named, w64}
 use Rattle.uefi_base.proofs.WalkNames.{tables, ‵, ◌⊛◌, ◌$◌, ◌∵◌, !, qed, done, move, keep, split, fsplit, fjoin}
 use Rattle.uefi_base.proofs.WalkNames.{suffices, drop, whole, sub, agg, enter, addr, from, fld, hop, stop, and_then}
@@ -16,9 +16,11 @@ use Rattle.uefi_base.specs.Buffer.{put_at}
 use Rattle.uefi_base.proofs.WriterWalk.{lends_to, shares_with, typed, finishes}
 use Rattle.uefi_path.specs.Node.{encoding, end_entire}
 use Rattle.uefi_path.specs.build.Views.{built_length, builder_bytes}
-use Rattle.uefi_path.proofs.Finalizing.{Written_row, Written_laws, WroteEnd, wrote_end, path_seen, Finalized, finalized}
+use Rattle.uefi_path.proofs.Finalizing.{WroteEnd, wrote_end, path_seen, Finalized, finalized}
+use Rattle.uefi_path.proofs.BuilderLaws.{Written_row, Written_laws}
 use Rattle.uefi_path.specs.contracts.build.builder.DevicePathBuilder.{the_row as Builder_row}
-use Rattle.uefi_path.proofs.build.builder.DevicePathBuilder.TheLaws.{the_row_laws as Builder_laws, the_told as Builder_told}
+use Rattle.uefi_path.proofs.build.builder.DevicePathBuilder.TheLaws.{the_row_laws as Builder_laws}
+use Rattle.uefi_path.proofs.build.builder.DevicePathBuilder.TheLaws.{the_told as Builder_told}
 use Rattle.uefi_path.specs.contracts.path.DevicePath.{the_row as Path_row}
 use Rattle.uefi_path.proofs.path.DevicePath.TheLaws.{the_row_laws as Path_laws}
 use Rattle.uefi_path.specs.contracts.build.error.BuildError.{the_row as Error_row}
@@ -53,19 +55,26 @@ finalize_spec 𝓤 𝓛 𝓜 𝓡 wired =
     let others = ‵ (owns (usize ∷ []) (builder.end, tt) (offset, tt)) in
     let Rp = Path_row (named_lft 1 0 tt κs) in let Re = Result_row Rp Error_row in
     let z : ℕ → ℕ → G.Ghost = λ α δ.
-    (((α ∷ [], tt), (full_share, tt), tt, (record r { ghost_name = δ }, (builder.end, tt)), (mut_slice_vals r, (offset, tt))), tt) in
+    (((α ∷ [], tt), (full_share, tt), tt, (record r { ghost_name = δ }, (builder.end, tt)),
+    (mut_slice_vals r, (offset, tt))), tt) in
     let left : ℕ → ℕ → List ℕ × (Unit {0} × Unit {0}) → Fml = λ α δ ws. lasts g.ended (z α δ).0.0 (z α δ).0.3 ws in
     let fits = are.0.1.1.0.0.1.0 in
     qed 𝓛 (((‵ (flft κ q) ⊛ ‵ ftrue) ⊛ ‵ (Row.own_val builder vs) ⊛ ‵ ftrue) ∷ ‵ ftrue ∷ []) ∵
-    split ! $ split ! $ move ! (2 ∷ []) $ split ! $ keep ! (0 ∷ 2 ∷ 3 ∷ []) $ fpick ! (λ vss. fsplit ! $ drop ! $ fsplit ! $
+    split ! $ split ! $ move ! (2 ∷ []) $ split ! $ keep ! (0 ∷ 2 ∷ 3 ∷ []) $
+    fpick ! (λ vss. fsplit ! $ drop ! $ fsplit ! $
     peeks ! Slice (Is Slice) (shows 𝓛 Slice) r vss.0 (λ is-buffer.
-    rewrite ! 0 (λ us. ‵ (Slice.own_val r us)) (mut_slice_Tells (named 0) κ u8 r vss.0 is-buffer) refl $ move ! (1 ∷ []) $ fsplit ! $
+    rewrite ! 0 (λ us. ‵ (Slice.own_val r us)) (mut_slice_Tells (named 0) κ u8 r vss.0 is-buffer) refl $
+    move ! (1 ∷ []) $ fsplit ! $
     peeks ! usize (Is usize) (shows 𝓛 usize) builder.end vss.1.0 (λ is-end.
-    rewrite ! 0 (λ us. ‵ (usize.own_val builder.end us)) (uint_Tells w64 builder.end vss.1.0 is-end) refl $ fjoin ! $ move ! (1 ∷ 2 ∷ 3 ∷ 0 ∷ []) $
+    rewrite ! 0 (λ us. ‵ (usize.own_val builder.end us)) (uint_Tells w64 builder.end vss.1.0 is-end) refl $
+    fjoin ! $ move ! (1 ∷ 2 ∷ 3 ∷ 0 ∷ []) $
     -- [the buffer; its token; the other tokens; the offset]
-    enter ! _ _ _ _ _ $ alloc_all ! (λ l. pass_all ! refl (((Builder_laws (named_lft 1 0 tt κs)).lawful 𝓛).typed builder _ are.0) $
-    sets ! (of_opd ! (get_in ! (fld ! refl (stop !)) (sub ! 0 refl (whole !)))) refl (tt, (tt, (record { fits = fits }, tt))) $
-    sets ! (of_opd ! (get_in ! (fld ! refl (stop !)) (sub ! 1 refl (whole !)))) refl (tt, record { fits = are.0.1.1.1.0.1 }) $
+    enter ! _ _ _ _ _ $ alloc_all ! (λ l.
+    pass_all ! refl (((Builder_laws (named_lft 1 0 tt κs)).lawful 𝓛).typed builder _ are.0) $
+    sets ! (of_opd ! (get_in ! (fld ! refl (stop !)) (sub ! 0 refl (whole !)))) refl
+    (tt, (tt, (record { fits = fits }, tt))) $
+    sets ! (of_opd ! (get_in ! (fld ! refl (stop !)) (sub ! 1 refl (whole !)))) refl
+    (tt, record { fits = are.0.1.1.1.0.1 }) $
     sets ! (addr ! (from ! (fld ! refl (hop ! (look_in_at ! 2 (sub ! 0 refl (whole !))) (stop !))))) refl (tt, tt) $
     sets ! (agg ! (and_then ! (get ! refl)
     (and_then ! (get_in ! (fld ! refl (stop !)) (sub ! 1 refl (whole !))) (no_more !)))) refl

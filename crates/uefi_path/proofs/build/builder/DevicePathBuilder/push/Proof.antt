@@ -1,5 +1,5 @@
--- The builder is taken apart; its buffer is lent to `push_at`, and comes back. Then it goes into the new builder, or is
--- shared, and let go, for all the time that it has left.
+-- The builder is taken apart. Its buffer is lent to `push_at`, and comes back. Then it goes into the new builder; or
+-- it is shared, and let go, for all the time that it has left.
 use Rattle.uefi_base.proofs.WalkNames.{◌≡◌, refl, ℕ, List, [], ◌∷◌, full_share, ftrue, flft, emp, id⊢, named}
 use Rattle.uefi_base.proofs.WalkNames.{w64, fact, fact_i, tables, ‵, raw, ◌⊛◌, some, later, ◌$◌, ◌∵◌, !, qed, done}
 use Rattle.uefi_base.proofs.WalkNames.{move, keep, drop, use0, use1, use2, split, join, fsplit, fjoin, pick, await}
@@ -27,13 +27,15 @@ use denote.Steps.{only}
 use Rattle.uefi_base.proofs.Sharing.{shares_all, Ended}
 use Rattle.uefi_base.proofs.WriterWalk.{Facts, Gone, all_gone, all_said, lends_to, typed}
 use Rattle.uefi_path.specs.build.Views.{StaysIfRefused}
-use Rattle.uefi_path.proofs.Finalizing.{Written_row, Written_laws, Written_copy}
-use Rattle.uefi_path.proofs.Pushing.{WroteNode, wrote_node, nodes_seen, Pushed, accepts, refuses, is_true, is_err, is_none}
+use Rattle.uefi_path.proofs.BuilderLaws.{Written_row, Written_laws, Written_copy}
+use Rattle.uefi_path.proofs.Pushing.{WroteNode, wrote_node, nodes_seen, Pushed, accepts, refuses}
+use Rattle.uefi_path.proofs.Pushing.{is_true, is_err, is_none}
 use Rattle.uefi_path.proofs.Refused.{rests_in, rests_as}
 use Rattle.uefi_path.specs.declared.build.builder.DevicePathBuilder.{DevicePathBuilder}
 use Rattle.uefi_path.specs.declared.build.error.BuildError.{BuildError}
 use Rattle.uefi_path.specs.contracts.build.builder.DevicePathBuilder.{the_row as Builder_row}
-use Rattle.uefi_path.proofs.build.builder.DevicePathBuilder.TheLaws.{the_row_laws as Builder_laws, the_told as Builder_told}
+use Rattle.uefi_path.proofs.build.builder.DevicePathBuilder.TheLaws.{the_row_laws as Builder_laws}
+use Rattle.uefi_path.proofs.build.builder.DevicePathBuilder.TheLaws.{the_told as Builder_told}
 use Rattle.uefi_path.specs.contracts.build.error.BuildError.{the_row as Error_row}
 use Rattle.uefi_path.proofs.build.error.BuildError.TheLaws.{the_row_laws as Error_laws}
 use Rattle.uefi_path.specs.contracts.build.builder.DevicePathBuilder.push as f
@@ -81,7 +83,8 @@ push_spec 𝓤 𝓛 𝓜 𝓡 wired N laws ghosts dict met =
     let node = ghosts.node a.1.0.now in let Valid = ghosts.is_valid a.1.0.now in
     let Re = Result_row Row Error_row in
     let z : ℕ → ℕ → G.Ghost = λ α δ. (
-      ((α ∷ [], κs.1), (full_share, qs.1), bounds, (record r { ghost_name = δ }, (builder.end, a.1)), (mut_slice_vals r, (offset, (shr_vals a.1.0, tt)))),
+      ((α ∷ [], κs.1), (full_share, qs.1), bounds, (record r { ghost_name = δ }, (builder.end, a.1)),
+          (mut_slice_vals r, (offset, (shr_vals a.1.0, tt)))),
       tt,
     ) in
     let left : ℕ → ℕ → List ℕ × (Unit {0} × (Unit {0} × Unit {0})) → Fml = λ α δ ws.
@@ -95,22 +98,26 @@ push_spec 𝓤 𝓛 𝓜 𝓡 wired N laws ghosts dict met =
     suffices ! _ (ends_at 𝓛 ended stayed c y v e ((tt, tt), (tt, tt)) (tt, (tt, tt))) $
     use0 𝓛 (Gone 𝓤 2) (all_gone 𝓛 2) $ join ! $ move ! (1 ∷ 2 ∷ []) $ join ! $ join ! $
     use0 𝓛 (Facts 𝓤 (_ ∷ _ ∷ _ ∷ _ ∷ _ ∷ _ ∷ _ ∷ [])) (all_said 𝓛 (_ ∷ _ ∷ _ ∷ _ ∷ _ ∷ _ ∷ _ ∷ [])
-    (known.valid, (known.accepted, (known.nodes, (known.bytes, (known.room, (known.same_buffer, (known.refused, tt)))))))) $
+    (known.valid, (known.accepted, (known.nodes, (known.bytes, (known.room,
+    (known.same_buffer, (known.refused, tt)))))))) $
     move ! (2 ∷ 0 ∷ []) $ join ! $ move ! (1 ∷ 0 ∷ []) $ join ! $ by ! (id⊢ 𝓤 _) in
     qed 𝓛 (((‵ (flft κ q) ⊛ tokens) ⊛ ‵ (Row.own_val builder vs) ⊛ ‵ (owns (Node_row ∷ []) a.1 (shr_vals a.1.0, tt)))
     ∷ (raw (fact 𝓤 (κs.1.1.0 ⊑ N.lives)) ⊛ ‵ ftrue) ∷ []) ∵
     move ! (1 ∷ []) $ split ! $ heard ! _ (λ lives. drop ! $ split ! $ split ! $ move ! (2 ∷ []) $ split ! $
     fpick ! (λ vss. fsplit ! $ drop ! $ fsplit ! $
     peeks ! Slice (Is Slice) (shows 𝓛 Slice) r vss.0 (λ is-buffer.
-    rewrite ! 0 (λ us. ‵ (Slice.own_val r us)) (mut_slice_Tells (named 0) κ u8 r vss.0 is-buffer) refl $ move ! (1 ∷ []) $ fsplit ! $
+    rewrite ! 0 (λ us. ‵ (Slice.own_val r us)) (mut_slice_Tells (named 0) κ u8 r vss.0 is-buffer) refl $
+    move ! (1 ∷ []) $ fsplit ! $
     peeks ! usize (Is usize) (shows 𝓛 usize) builder.end vss.1.0 (λ is-end.
     rewrite ! 0 (λ us. ‵ (usize.own_val builder.end us)) (uint_Tells w64 builder.end vss.1.0 is-end) refl $
     move ! (1 ∷ []) $ drop ! $ move ! (0 ∷ 2 ∷ []) $ fjoin ! $ move ! (1 ∷ 2 ∷ 3 ∷ 0 ∷ []) $
     -- [the buffer; its token; the other tokens; the other arguments]
     enter ! _ _ _ _ _ $ alloc_all ! (λ l. pass_all ! refl
     ((((Builder_laws (named_lft 3 0 tt κs)).lawful 𝓛).typed builder _ are.0).0, ((tt, tt), tt)) $
-    sets ! (of_opd ! (get_in ! (fld ! refl (stop !)) (sub ! 0 refl (whole !)))) refl (tt, (tt, (record { fits = fits }, tt))) $
-    sets ! (of_opd ! (get_in ! (fld ! refl (stop !)) (sub ! 1 refl (whole !)))) refl (tt, record { fits = are.0.1.1.1.0.1 }) $
+    sets ! (of_opd ! (get_in ! (fld ! refl (stop !)) (sub ! 0 refl (whole !)))) refl
+    (tt, (tt, (record { fits = fits }, tt))) $
+    sets ! (of_opd ! (get_in ! (fld ! refl (stop !)) (sub ! 1 refl (whole !)))) refl
+    (tt, record { fits = are.0.1.1.1.0.1 }) $
     sets ! (addr ! (from ! (fld ! refl (hop ! (look_in_at ! 3 (sub ! 0 refl (whole !))) (stop !))))) refl (tt, tt) $
     sets ! (agg ! (and_then ! (get ! refl)
     (and_then ! (get_in ! (fld ! refl (stop !)) (sub ! 1 refl (whole !))) (no_more !)))) refl
@@ -119,9 +126,11 @@ push_spec 𝓤 𝓛 𝓜 𝓡 wired N laws ghosts dict met =
     (λ w ws. _ ∷ _ ∷ _ ∷ _ ∷ _ ∷ _ ∷ _ ∷ []) (λ w ys. WroteNode builder node Valid ys w) G
     (g-thm.met 𝓤 𝓛 𝓜 𝓡 (code.calls-uefi_path::build::builder::push_at 𝓡.env wired) N laws ghosts dict met) z
     (λ α δ. id⊢ 𝓤 _)
-    (λ α δ. and_then ! (get ! refl) (and_then ! (get ! refl) (and_then ! (get ! refl) (no_more !)))) (λ α δ v. id⊢ 𝓤 _)
+    (λ α δ. and_then ! (get ! refl) (and_then ! (get ! refl) (and_then ! (get ! refl) (no_more !))))
+    (λ α δ v. id⊢ 𝓤 _)
     (λ α δ ws. qed 𝓛 (‵ (left α δ ws) ∷ []) ∵ fsplit ! $ fsplit ! $ fsplit ! $ keep ! (0 ∷ []) $ done !)
-    (λ w ws t. wrote_node builder node Valid ws.0 t.0 t.1.0 t.1.1.0 t.1.1.1.0 t.1.1.1.1.0 t.1.1.1.1.1.0 t.1.1.1.1.1.1.0)
+    (λ w ws t. wrote_node builder node Valid ws.0 t.0 t.1.0 t.1.1.0 t.1.1.1.0 t.1.1.1.1.0 t.1.1.1.1.1.0
+    t.1.1.1.1.1.1.0)
     (λ v w ys wrote. typed 𝓛 κ q r Written_row Written_laws w v (λ t. lands_as ! refl refl t.0 $
     -- [the written length; the buffer; its token; the other tokens]
     use1 𝓛 (‵ (Written_row.own_val w (v ∷ [])) ⊛ ‵ (Written_row.own_val w (v ∷ [])))
@@ -133,7 +142,8 @@ push_spec 𝓤 𝓛 𝓜 𝓡 wired N laws ghosts dict met =
     calls_at ! 𝓣 S (s-thm.met 𝓤 𝓛 𝓜 𝓡 (code.calls-uefi_path::build::builder::is_written 𝓡.env wired)) zs
     (and_then ! (get ! refl) (no_more !)) (λ u.
     use1 𝓛 (later (some (λ (b : Bool). (‵ ftrue ⊛ ‵ (bool.own_val b (u ∷ []))) ⊛ some
-    (λ (ws : Unit {0} × Unit {0}). ‵ (lasts s.ended zs.0.0 zs.0.3 ws) ⊛ raw (fact 𝓤 (IsTrue b ↔ IsOk w)))))) (id⊢ 𝓤 _) $
+    (λ (ws : Unit {0} × Unit {0}). ‵ (lasts s.ended zs.0.0 zs.0.3 ws) ⊛ raw (fact 𝓤 (IsTrue b ↔ IsOk w))))))
+    (id⊢ 𝓤 _) $
     await ! tt $ pick ! (λ b. split ! $ split ! $ drop ! $ peeks ! bool (Is bool) (shows 𝓛 bool) b (u ∷ [])
     (λ is-b. drop ! $ pick ! (λ _. split ! $ drop ! $ heard ! _ (λ judged.
     lands_as ! (ap only (bool_Tells b (u ∷ []) is-b)) refl (tt, tt) $
@@ -147,8 +157,8 @@ push_spec 𝓤 𝓛 𝓜 𝓡 wired N laws ghosts dict met =
     let K = triple_of 𝓛 h.signature (h.spec 𝓛 𝓜.mem 𝓡.returns) in
     let zh : K.Ghost =
     (((κ, tt), (q, tt), tt, (record r { now = ys }, (w, tt)), (mut_slice_vals r, (v ∷ [], tt))), tt) in
-    nothing ! $ move ! (1 ∷ 0 ∷ []) $ join ! $ move ! (1 ∷ 0 ∷ []) $ join ! $ nothing ! $ move ! (2 ∷ 0 ∷ []) $ join ! $
-    join ! $ use0 𝓛 (Facts 𝓤 (_ ∷ _ ∷ [])) (all_said 𝓛 (_ ∷ _ ∷ [])
+    nothing ! $ move ! (1 ∷ 0 ∷ []) $ join ! $ move ! (1 ∷ 0 ∷ []) $ join ! $ nothing ! $ move ! (2 ∷ 0 ∷ []) $
+    join ! $ join ! $ use0 𝓛 (Facts 𝓤 (_ ∷ _ ∷ [])) (all_said 𝓛 (_ ∷ _ ∷ [])
     (is_ok, (nodes_seen builder node Valid ys w wrote, tt))) $
     move ! (1 ∷ 0 ∷ []) $ use2 𝓛 (raw (K.pre zh)) (id⊢ 𝓤 _) $
     calls_at ! 𝓣 K (h-thm.met 𝓤 𝓛 𝓜 𝓡
@@ -169,16 +179,18 @@ push_spec 𝓤 𝓛 𝓜 𝓡 wired N laws ghosts dict met =
     (λ not_so. skips ! $ exec ! 𝓑.C 𝓑.Λ (env function.locals l) (after 7 function.body) (at_ret _ (W.post y)) $
     let failed : IsErr w = is_err w b judged not_so in
     move ! (1 ∷ 2 ∷ []) $
-    use2 𝓛 (later (‵ ((ShrSlice (named 0) κ u8).own_val (record { ref_ptr = r.ref_ptr; now = ys }) (mut_slice_vals r)) ⊛ ‵
-    (Ended 𝓛 r.ghost_name ys) ⊛ ‵ (flft κ q)))
-    (shares_all 𝓛 (named 0) (named 0) κ q (record r { now = ys }) (mut_slice_vals r)) $ await ! tt $ split ! $ drop ! $ split ! $
+    use2 𝓛 (later (‵ ((ShrSlice (named 0) κ u8).own_val (record { ref_ptr = r.ref_ptr; now = ys }) (mut_slice_vals r))
+    ⊛ ‵ (Ended 𝓛 r.ghost_name ys) ⊛ ‵ (flft κ q)))
+    (shares_all 𝓛 (named 0) (named 0) κ q (record r { now = ys }) (mut_slice_vals r)) $
+    await ! tt $ split ! $ drop ! $ split ! $
     -- [how the buffer ends; its token; the written length; the other tokens]
     let F = triple_of 𝓛 n.signature (n.spec 𝓛 𝓜.mem 𝓡.returns) in
     let zn : F.Ghost = (((κ, tt), (q, tt), tt, (w, tt), (v ∷ [], tt)), tt) in
     nothing ! $ move ! (3 ∷ 0 ∷ []) $ join ! $ nothing ! $ move ! (3 ∷ 0 ∷ []) $ join ! $ join ! $
     use0 𝓛 (raw (fact 𝓤 (IsErr w))) (fact_i 𝓤 _ (emp 𝓤) failed) $ move ! (1 ∷ 0 ∷ []) $
     use2 𝓛 (raw (F.pre zn)) (id⊢ 𝓤 _) $
-    calls_at ! 𝓣 F (n-thm.met 𝓤 𝓛 𝓜 𝓡 (code.calls-uefi_path::build::builder::DevicePathBuilder::not_written 𝓡.env wired)) zn
+    calls_at ! 𝓣 F (n-thm.met 𝓤 𝓛 𝓜 𝓡
+    (code.calls-uefi_path::build::builder::DevicePathBuilder::not_written 𝓡.env wired)) zn
     (and_then ! (get ! refl) (no_more !)) (λ v'.
     use1 𝓛 (later (some (λ (e : Result DevicePathBuilder BuildError).
     ((‵ (flft κ q) ⊛ ‵ ftrue) ⊛ ‵ (Re.own_val e (v' ∷ []))) ⊛ some
