@@ -3,11 +3,11 @@ use Rattle.std.proofs.Common.{◌≡◌, ℕ, ◌+◌, ◌≤◌, List, [], ◌�
 use Rattle.std.specs.Prelude.{Result, Ok, Err, IsOk, IfOk, IfErr, OnOk, OnErr, MatchResult, ◌↔◌}
 use Rattle.uefi_base.specs.Buffer.{put_at}
 use Rattle.uefi_path.specs.Header.{header_length}
-use Rattle.uefi_path.specs.Node.{Node, encoding, joined, IsEndEntire, end_entire}
+use Rattle.uefi_path.specs.Node.{encoding, IsEndEntire, end_entire}
 use Rattle.uefi_path.specs.Views.{path_nodes}
 use Rattle.uefi_path.specs.build.Pushing.{IsTooShortFor}
 use Rattle.uefi_path.specs.build.Views.{built_nodes, builder_bytes, built_length}
-use Rattle.uefi_path.specs.private.Encoding.{EncodesPath, IsEncodingBefore, IsEncodingOfNodes}
+use Rattle.uefi_path.specs.private.Encoding.{EncodesPath, IsEncodingOfNodes}
 use Rattle.uefi_path.specs.private.OnePath.{nodes_encoded_once}
 use Rattle.uefi_path.specs.declared.build.builder.DevicePathBuilder.{DevicePathBuilder}
 use Rattle.uefi_path.specs.declared.build.error.BuildError.{BuildError}
