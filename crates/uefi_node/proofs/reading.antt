@@ -22,6 +22,8 @@ pub mod PathReads
 pub mod NodeReads
 pub mod OnePath
 pub mod TextPaths
+pub mod TextWriter
+pub mod TextWritten
 pub mod RepeatedValues
 pub mod Listed
 pub mod Vendors

@@ -1,6 +1,9 @@
-ghost use Rattle.std.specs.Prelude.{List, ◌≡◌, length, IfOk, OnErr, IfErr};
-ghost use Rattle.uefi_base.specs.Buffer.{put_prefix};
+ghost use Rattle.std.specs.Prelude.{List, ◌≡◌, ◌≤◌, Err, length, take, IfOk, OnErr, IfErr, MatchResult};
+ghost use Rattle.std.specs.Borrow.{sem};
+ghost use Rattle.uefi_base.specs.Buffer.{put_prefix, EndsAs};
 ghost use Rattle.uefi_path.specs.Node.{Node, joined};
+ghost use Rattle.uefi_path.specs.Path.{HasPath};
+ghost use Rattle.uefi_path.specs.Reading.{ReadsPath};
 ghost use Rattle.uefi_path.specs.Views.{path_nodes, boxed_nodes};
 ghost use Rattle.uefi_node.specs.parse.Paths.{IsTextOf};
 ghost use Rattle.uefi_node.specs.parse.Errors.{HasBufferFault, HasMemoryFault, NeedsLength, WritesText};
@@ -16,7 +19,9 @@ use uefi_path::{BoxedDevicePath, DevicePath};
 const END_ENTIRE: [u8; 4] = [0x7f, 0xff, 4, 0];
 
 /// Reads the text of a path, writes the path to the start of the buffer, and returns its length in
-/// bytes. The bytes after it stay. [`from_text`] does the same, and returns a view of the path.
+/// bytes. The bytes that follow stay as they were.
+///
+/// [`from_text`] does the same, and returns a view of the path.
 ///
 /// # Errors
 ///
@@ -34,9 +39,12 @@ pub fn write_from_text(buffer: &mut [u8], text: &str) -> Result<usize, FromTextE
     Ok(needed)
 }
 
-/// Reads the text of a path, such as `PciRoot(0x0)/Pci(0x2,0x0)`, and writes the path to the start
-/// of a buffer (UEFI 2.10, 10.6.1). The text is the one that [`to_text`](crate::to_text) writes of
-/// the path with both flags false, or one of its other spellings.
+/// Reads the text of a path, such as `PciRoot(0x0)/Pci(0x2,0x0)`, writes the path to the start of a
+/// buffer, and returns a view of it (UEFI 2.10, 10.6.1). The bytes that follow stay as they were. The
+/// text is the one that [`to_text`](crate::to_text) writes of the path with both flags false, or one
+/// of its other spellings.
+///
+/// [`write_from_text`] does the same for a caller that goes on with the buffer.
 ///
 /// # Errors
 ///
@@ -46,11 +54,28 @@ pub fn write_from_text(buffer: &mut [u8], text: &str) -> Result<usize, FromTextE
 ///   [`FromTextError::TooLong`] if the text is that of no path.
 /// - [`FromTextError::Buffer`] with the length of the path if the buffer is shorter.
 pub fn from_text<'a>(buffer: &'a mut [u8], text: &str) -> Result<DevicePath<'a>, FromTextError>
+    ensures* after { sem 𝓛 (EndsAs buffer.entry (λ after. MatchResult result
+        (λ path. after ≡ put_prefix (joined (path_nodes path)) buffer.old)
+        (λ _. after ≡ buffer.old))) }
     ensures path { IfOk result (λ path. IsTextOf (path_nodes path) text.now) }
     ensures refused { IfErr result (HasBufferFault text.now (length buffer.old)) }
 {
-    let length = write_from_text(buffer, text)?;
-    let (path, _) = buffer.split_at(length);
+    let written = write_from_text(buffer, text);
+    path_from_written(buffer, written)
+}
+
+/// Returns the view of the path that was written to the start of the bytes, if one was.
+fn path_from_written<'a>(
+    bytes: &'a [u8],
+    written: Result<usize, FromTextError>,
+) -> Result<DevicePath<'a>, FromTextError>
+    requires { IfOk written
+        (λ n. (n ≤ length bytes.now) × HasPath (take n bytes.now)) }
+    ensures path { IfOk written (λ n. ReadsPath path_nodes (take n bytes.now) result) }
+    ensures error { IfErr written (λ error. result ≡ Err error) }
+{
+    let length = written?;
+    let (path, _) = bytes.split_at(length);
     match DevicePath::try_from(path) {
         Ok(path) => Ok(path),
         Err(_) => unreachable!(),
