@@ -4,6 +4,7 @@
 ghost use Rattle.uefi_node.specs.parse.Laws.{TextReadsBack, OnePathOfText};
 ghost use Rattle.uefi_node.specs.Laws.{FaithfulTypes, OneSignature, OneWayToSplit};
 ghost use Rattle.uefi_node.specs.rows.Nodes.{RowsHold};
+ghost use Rattle.uefi_node.specs.rows.Numbers.{NumbersHold};
 
 /// States for each type of nodes that a node is that of one value at most, and that reading the
 /// node of a value returns the value.
@@ -24,9 +25,12 @@ pub fn one_way_to_split()
 {}
 
 /// States that the layouts hold on worked rows: for each type of fixed length a node and its bytes.
+/// Each constant of a field's type, such as [`Parity::ODD`](crate::messaging::Parity::ODD), has the
+/// standard's number.
 #[tactic(auto, using(crate::proofs::Rows::rows_hold))]
 pub fn worked_rows()
-    ensures { RowsHold }
+    ensures nodes { RowsHold }
+    ensures numbers { NumbersHold }
 {}
 
 /// States that the text of a path, with both flags false, is that of the path: so reading it gives
