@@ -16,7 +16,9 @@ use crate::formats::uefi_path::DevicePath;
 const END_ENTIRE: [u8; 4] = [0x7f, 0xff, 4, 0];
 
 /// Reads the text of a path, writes the path to the start of the buffer, and returns its length in
-/// bytes. The bytes after it stay. [`from_text`] does the same, and returns a view of the path.
+/// bytes. The bytes that follow stay as they were.
+///
+/// [`from_text`] does the same, and returns a view of the path.
 ///
 /// # Errors
 ///
@@ -31,9 +33,12 @@ pub fn write_from_text(buffer: &mut [u8], text: &str) -> Result<usize, FromTextE
     Ok(needed)
 }
 
-/// Reads the text of a path, such as `PciRoot(0x0)/Pci(0x2,0x0)`, and writes the path to the start
-/// of a buffer (UEFI 2.10, 10.6.1). The text is the one that [`to_text`](crate::formats::uefi_node::to_text) writes of
-/// the path with both flags false, or one of its other spellings.
+/// Reads the text of a path, such as `PciRoot(0x0)/Pci(0x2,0x0)`, writes the path to the start of a
+/// buffer, and returns a view of it (UEFI 2.10, 10.6.1). The bytes that follow stay as they were. The
+/// text is the one that [`to_text`](crate::formats::uefi_node::to_text) writes of the path with both flags false, or one
+/// of its other spellings.
+///
+/// [`write_from_text`] does the same for a caller that goes on with the buffer.
 ///
 /// # Errors
 ///
@@ -44,8 +49,18 @@ pub fn write_from_text(buffer: &mut [u8], text: &str) -> Result<usize, FromTextE
 /// - [`FromTextError::Buffer`] with the length of the path if the buffer is shorter.
 #[inline]
 pub fn from_text<'a>(buffer: &'a mut [u8], text: &str) -> Result<DevicePath<'a>, FromTextError> {
-    let length = write_from_text(buffer, text)?;
-    let (path, _) = buffer.split_at(length);
+    let written = write_from_text(buffer, text);
+    path_from_written(buffer, written)
+}
+
+/// Returns the view of the path that was written to the start of the bytes, if one was.
+#[inline]
+fn path_from_written<'a>(
+    bytes: &'a [u8],
+    written: Result<usize, FromTextError>,
+) -> Result<DevicePath<'a>, FromTextError> {
+    let length = written?;
+    let (path, _) = bytes.split_at(length);
     match DevicePath::try_from(path) {
         Ok(path) => Ok(path),
         Err(_) => unreachable!(),
