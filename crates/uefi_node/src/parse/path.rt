@@ -69,8 +69,7 @@ fn path_from_written<'a>(
     bytes: &'a [u8],
     written: Result<usize, FromTextError>,
 ) -> Result<DevicePath<'a>, FromTextError>
-    requires { IfOk written
-        (λ n. (n ≤ length bytes.now) × HasPath (take n bytes.now)) }
+    requires { IfOk written (λ n. (n ≤ length bytes.now) × HasPath (take n bytes.now)) }
     ensures path { IfOk written (λ n. ReadsPath path_nodes (take n bytes.now) result) }
     ensures error { IfErr written (λ error. result ≡ Err error) }
 {
