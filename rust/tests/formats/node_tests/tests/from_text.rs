@@ -204,6 +204,11 @@ fn a_path_is_written_at_the_start_of_a_buffer() -> Result<(), Fail> {
         path.as_bytes(),
         b"\x01\x01\x06\x00\x00\x02\x7f\xff\x04\x00",
     )?;
+    same_bytes(
+        "its buffer",
+        &buffer,
+        b"\x01\x01\x06\x00\x00\x02\x7f\xff\x04\x00\xee\xee",
+    )?;
     let mut buffer = [0xee; 12];
     same(
         "the length",
@@ -220,6 +225,9 @@ fn a_path_is_written_at_the_start_of_a_buffer() -> Result<(), Fail> {
 #[test]
 fn a_buffer_that_is_too_short_is_unchanged() -> Result<(), Fail> {
     let mut buffer = [0xee; 9];
+    let error = from_text(&mut buffer, "Pci(0x2,0x0)").err();
+    same("the error", &error, &Some(FromTextError::Buffer(10)))?;
+    same_bytes("the buffer", &buffer, &[0xee; 9])?;
     let short = Err(FromTextError::Buffer(10));
     same(
         "the error",
