@@ -3,7 +3,7 @@ use Rattle.std.proofs.Common.{rules, ℕ, List, [], ◌∷◌, refl, arith}
 use Rattle.uefi_path.specs.Node.{IsEndEntire}
 use Rattle.uefi_path.specs.Path.{HasPath}
 use Rattle.uefi_path.specs.rows.Paths.{node, TwoInstances}
-use Rattle.uefi_path.specs.rows.Paths.{AnyEnd, EndWithData, NoPath, Nodes, TypeNumbers, RowsHold}
+use Rattle.uefi_path.specs.rows.Paths.{AnyEnd, EndWithData, NoPath, Nodes, TypeNumbers, SubTypeNumbers, RowsHold}
 use Rattle.uefi_path.proofs.Decide.{StatesNode, node_states}
 use Rattle.uefi_path.proofs.Passing.{HasNodes-after}
 use Rattle.uefi_path.proofs.Steps.{HasNodes-node}
@@ -48,5 +48,8 @@ nodes = record {
 type_numbers : TypeNumbers
 type_numbers = assumption
 
+sub_type_numbers : SubTypeNumbers
+sub_type_numbers = assumption
+
 pub rows_hold : RowsHold
-rows_hold = (two_instances, any_end, end_with_data, no_path, nodes, type_numbers)
+rows_hold = (two_instances, any_end, end_with_data, no_path, nodes, type_numbers, sub_type_numbers)

@@ -3,6 +3,7 @@
 use Rattle.std.specs.Prelude.{◌≡◌, ℕ, List, [], ◌∷◌, ◌++◌}
 use Rattle.uefi_path.specs.declared.device_type.TheConstants.DeviceType.{HARDWARE, ACPI, MESSAGING, MEDIA, BIOS_BOOT_SPEC, END}
 use Rattle.uefi_path.specs.declared.device_type.TheConstants.DeviceSubType.{END_INSTANCE, END_ENTIRE}
+use Rattle.uefi_path.specs.declared.device_type.TheConstants.DeviceSubType as SubType
 use Rattle.uefi_path.specs.Node.{Node, Fits, encoding, joined, end_entire, HasNode}
 use Rattle.uefi_base.specs.Prefix.{IsPrefix}
 use Rattle.uefi_path.specs.Path.{IsPath, HasPath, AreInstances, all_but_last}
@@ -80,6 +81,34 @@ pub record TypeNumbers : Type 0 where
       × (END.0 ≡ 0x7f)
   pub sub_types : (END_INSTANCE.0 ≡ 1) × (END_ENTIRE.0 ≡ 0xff)
 
+-- The numbers of the subtypes of each other type (UEFI 2.10, 10.3.2 to 10.3.6).
+pub record SubTypeNumbers : Type 0 where
+  pub hardware : (SubType.HARDWARE_PCI.0 ≡ 1) × (SubType.HARDWARE_PCCARD.0 ≡ 2)
+      × (SubType.HARDWARE_MEMORY_MAPPED.0 ≡ 3) × (SubType.HARDWARE_VENDOR.0 ≡ 4)
+      × (SubType.HARDWARE_CONTROLLER.0 ≡ 5) × (SubType.HARDWARE_BMC.0 ≡ 6)
+  pub acpi : (SubType.ACPI.0 ≡ 1) × (SubType.ACPI_EXPANDED.0 ≡ 2) × (SubType.ACPI_ADR.0 ≡ 3)
+      × (SubType.ACPI_NVDIMM.0 ≡ 4)
+  pub messaging : (SubType.MESSAGING_ATAPI.0 ≡ 1) × (SubType.MESSAGING_SCSI.0 ≡ 2)
+      × (SubType.MESSAGING_FIBRE_CHANNEL.0 ≡ 3) × (SubType.MESSAGING_1394.0 ≡ 4) × (SubType.MESSAGING_USB.0 ≡ 5)
+      × (SubType.MESSAGING_I2O.0 ≡ 6) × (SubType.MESSAGING_INFINIBAND.0 ≡ 9)
+      × (SubType.MESSAGING_VENDOR.0 ≡ 0x0a) × (SubType.MESSAGING_MAC_ADDRESS.0 ≡ 0x0b)
+      × (SubType.MESSAGING_IPV4.0 ≡ 0x0c) × (SubType.MESSAGING_IPV6.0 ≡ 0x0d)
+      × (SubType.MESSAGING_UART.0 ≡ 0x0e) × (SubType.MESSAGING_USB_CLASS.0 ≡ 0x0f)
+      × (SubType.MESSAGING_USB_WWID.0 ≡ 0x10) × (SubType.MESSAGING_DEVICE_LOGICAL_UNIT.0 ≡ 0x11)
+      × (SubType.MESSAGING_SATA.0 ≡ 0x12) × (SubType.MESSAGING_ISCSI.0 ≡ 0x13)
+      × (SubType.MESSAGING_VLAN.0 ≡ 0x14) × (SubType.MESSAGING_FIBRE_CHANNEL_EX.0 ≡ 0x15)
+      × (SubType.MESSAGING_SCSI_SAS_EX.0 ≡ 0x16) × (SubType.MESSAGING_NVME_NAMESPACE.0 ≡ 0x17)
+      × (SubType.MESSAGING_URI.0 ≡ 0x18) × (SubType.MESSAGING_UFS.0 ≡ 0x19) × (SubType.MESSAGING_SD.0 ≡ 0x1a)
+      × (SubType.MESSAGING_BLUETOOTH.0 ≡ 0x1b) × (SubType.MESSAGING_WIFI.0 ≡ 0x1c)
+      × (SubType.MESSAGING_EMMC.0 ≡ 0x1d) × (SubType.MESSAGING_BLUETOOTH_LE.0 ≡ 0x1e)
+      × (SubType.MESSAGING_DNS.0 ≡ 0x1f) × (SubType.MESSAGING_NVDIMM_NAMESPACE.0 ≡ 0x20)
+      × (SubType.MESSAGING_REST_SERVICE.0 ≡ 0x21) × (SubType.MESSAGING_NVME_OF_NAMESPACE.0 ≡ 0x22)
+  pub media : (SubType.MEDIA_HARD_DRIVE.0 ≡ 1) × (SubType.MEDIA_CD_ROM.0 ≡ 2) × (SubType.MEDIA_VENDOR.0 ≡ 3)
+      × (SubType.MEDIA_FILE_PATH.0 ≡ 4) × (SubType.MEDIA_PROTOCOL.0 ≡ 5)
+      × (SubType.MEDIA_PIWG_FIRMWARE_FILE.0 ≡ 6) × (SubType.MEDIA_PIWG_FIRMWARE_VOLUME.0 ≡ 7)
+      × (SubType.MEDIA_RELATIVE_OFFSET_RANGE.0 ≡ 8) × (SubType.MEDIA_RAM_DISK.0 ≡ 9)
+  pub bios_boot : (SubType.BIOS_BOOT_SPECIFICATION.0 ≡ 1)
+
 -- All rows hold.
 abbrev pub RowsHold : Type 0
-RowsHold = TwoInstances × AnyEnd × EndWithData × NoPath × Nodes × TypeNumbers
+RowsHold = TwoInstances × AnyEnd × EndWithData × NoPath × Nodes × TypeNumbers × SubTypeNumbers
