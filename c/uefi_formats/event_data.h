@@ -139,8 +139,9 @@ UEFI_CALL UEFI_NODISCARD UEFI_NONNULL UefiStatus
 uefi_signature(UefiBytes bytes, UefiSignature *out);
 
 /* The next signature of a list, whose signatures and signature_size these are
- * (EFI_SIGNATURE_DATA); UEFI_END at the end of the bytes; UEFI_CUT;
- * UEFI_BAD_SIGNATURE_SIZE. The signatures of a list that was read are whole. */
+ * (EFI_SIGNATURE_DATA). UEFI_BAD_SIGNATURE_SIZE if the size is below 16, also at
+ * the end; else UEFI_END at the end of the bytes; else UEFI_CUT. The signatures
+ * of a list that was read are whole. */
 UEFI_CALL UEFI_NODISCARD UEFI_NONNULL UefiStatus
 uefi_signature_next(UefiBytes signatures, uint32_t signature_size, size_t *offset, UefiSignature *out);
 

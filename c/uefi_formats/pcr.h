@@ -45,7 +45,7 @@ typedef struct {
  *
  * The other fields have no meaning. */
 typedef struct {
-    size_t size;   /* of the value in bytes */
+    size_t size;   /* of the value in bytes, at most 64 */
     size_t index;  /* of the event in the log, from 0 on; the header's isn't counted */
     size_t offset; /* at which that event starts */
     UefiStatus status;

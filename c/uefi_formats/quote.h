@@ -71,7 +71,7 @@ uefi_quote_next_selection(UefiBytes message, size_t *cursor, UefiPcrSelection *o
  * `algorithm`; with a fault of UefiPcr, `algorithm`, `pcr_index`, `index` and
  * `offset`. The other fields have no meaning. */
 typedef struct {
-    size_t size;        /* of the digest in bytes */
+    size_t size;        /* of the digest in bytes, at most 64 */
     size_t index;       /* of the event in the log by which the PCR is undetermined, from 0 on */
     size_t offset;      /* at which that event starts */
     UefiStatus status;

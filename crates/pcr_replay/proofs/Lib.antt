@@ -1,3 +1,4 @@
+pub mod Below
 pub mod Digests
 pub mod Stepping
 pub mod Starting

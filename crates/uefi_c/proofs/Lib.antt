@@ -15,6 +15,7 @@ pub mod GptEntries
 pub mod QuoteRead
 pub mod QuoteSets
 pub mod QuoteBanks
+pub mod SetPcrs
 pub mod WorkspaceBanks
 pub mod SelectionSteps
 pub mod WalkSteps

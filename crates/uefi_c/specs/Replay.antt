@@ -1,5 +1,5 @@
 -- Logs and PCRs (`pcr_replay`) of plain numbers.
-use Rattle.std.specs.Prelude.{ℕ, ◌≡◌, ◌==◌, ◌⊎◌, List, [], ◌∷◌, Ok, Err, nat_lt, length, take, if◌then◌else◌}
+use Rattle.std.specs.Prelude.{ℕ, ◌≡◌, ◌≤◌, ◌==◌, ◌⊎◌, List, [], ◌∷◌, Ok, Err, nat_lt, length, take, if◌then◌else◌}
 use Rattle.std.specs.Borrow.{Bor}
 use Rattle.pcr_replay.specs.declared.fault.Fault.{Fault}
 use Rattle.pcr_replay.specs.declared.fault.Fault.TheVariants.{NoDigest, TwoDigests, OtherLength, UnknownLocality, OtherLocality, LateLocality}
@@ -32,6 +32,11 @@ IsPcrFault status =
 
 abbrev pub IsPcrStatus : ℕ → Type 0
 IsPcrStatus status = (status ≡ ok) ⊎ IsPcrFault status
+
+-- A PCR that was given has one of these statuses, and its value has room in 64 bytes.
+pub record IsPcr (seen : UefiPcr) : Type 0 where
+  pub status : IsPcrStatus seen.status
+  pub size : seen.size ≤ 64
 
 -- The fault of one of them.
 abbrev pub fault_of : ℕ → Fault

@@ -1,4 +1,4 @@
-ghost use Rattle.std.specs.Prelude.{◌≡◌, ◌&&◌, Some, IfSome};
+ghost use Rattle.std.specs.Prelude.{◌≡◌, ◌≤◌, ◌&&◌, Some, IfSome};
 ghost use Rattle.std.specs.Result.{result_map_both};
 ghost use Rattle.pcr_replay.specs.Quotes.{digest_at, is_quoted};
 ghost use Rattle.pcr_replay.specs.Replay.{is_active};
@@ -71,6 +71,7 @@ pub extern "C" fn uefi_quote_digest(
         ≡ digest_at bank contents.entries quote (start_given locality contents.entries) }
     ensures status { HasHash message.now hash → result ≡ out.new.status }
     ensures known { HasHash message.now hash → IsDigestStatus result }
+    ensures size { HasHash message.now hash → out.new.size ≤ 64 }
     ensures no_quote { (HasQuote message.now → ⊥) → (error : QuoteError)
         × (result ≡ status_of error) × HasFault message.now error }
     ensures no_hash { HasQuote message.now → (HasHash message.now hash → ⊥) → result ≡ no_hash }
@@ -136,6 +137,7 @@ fn is_compared(quote: &Quote<'_>, log: &Log<'_>, bank: Bank) -> bool
 fn seen(digest: &Result<PcrValue, NoQuoteDigest>) -> UefiQuoteDigest
     ensures digest { digest_seen result ≡ result_map_both value_of (λ why. why) digest.now }
     ensures known { IsDigestStatus result.status }
+    ensures size { result.size ≤ 64 }
 {
     let mut value = [0; ROOM];
     let none = UefiQuoteDigest {

@@ -1,6 +1,6 @@
-ghost use Rattle.std.specs.Prelude.{◌≡◌};
+ghost use Rattle.std.specs.Prelude.{◌≡◌, slice_get, IfSome};
 ghost use Rattle.pcr_replay.specs.Views.{outcome_of};
-ghost use Rattle.uefi_c.specs.Replay.{fault_of, outcome_seen};
+ghost use Rattle.uefi_c.specs.Replay.{IsPcr, fault_of, outcome_seen};
 ghost use Rattle.uefi_c.specs.Workspace.{bank_seen};
 
 use crate::replay::{ROOM, UefiPcr, seen};
@@ -37,6 +37,8 @@ pub struct UefiBank {
 
 impl BankStore for UefiBank {
     ghost holds = { bank_seen };
+
+    ghost is_set = { λ held pcr. IfSome (slice_get held.pcrs pcr) IsPcr };
 
     fn bank(&self) -> Bank {
         match Bank::of(AlgorithmId(self.algorithm)) {

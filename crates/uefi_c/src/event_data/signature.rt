@@ -145,7 +145,7 @@ pub extern "C" fn uefi_signature<'a>(bytes: &'a [u8], out: &mut UefiSignature<'a
 }
 
 /// Reads the signature of a size at the offset of a list's signatures, and moves the offset to its
-/// end.
+/// end. The size is tested first: one that has no room for the owner is bad also at the end.
 #[unsafe(no_mangle)]
 pub extern "C" fn uefi_signature_next<'a>(
     signatures: &'a [u8],
@@ -160,6 +160,7 @@ pub extern "C" fn uefi_signature_next<'a>(
     ensures ended { result ≡ ended → length signatures.now ≤ offset.old }
     ensures cut { result ≡ cut → offset.old < length signatures.now }
     ensures bad_size { result ≡ bad_signature_size → signature_size < 16 }
+    ensures good_size { result ≢ bad_signature_size → 16 ≤ signature_size }
     ensures none { result ≢ ok → (signature : Signature) → HasSize signature_size signature
         → IsPrefix (signature_bytes signature) (drop offset.old signatures.now) → ⊥ }
     ensures offset_unchanged { result ≢ ok → offset.new ≡ offset.old }
@@ -182,6 +183,7 @@ fn no_signature(length: usize, size: u32, offset: usize) -> UefiStatus
     ensures ended { result ≡ ended → length ≤ offset }
     ensures cut { result ≡ cut → offset < length }
     ensures bad_size { result ≡ bad_signature_size → size < 16 }
+    ensures good_size { result ≢ bad_signature_size → 16 ≤ size }
 {
     if size < OWNER_LENGTH {
         return status::BAD_SIGNATURE_SIZE;

@@ -24,7 +24,7 @@ loop-index-preserved c =
             w.replay_into.new.store
             (omega (arith, now.invariant.few, now.invariant.room, c.loop-index-test.true)) c.loop-index-test.true
             (sym (c.is_compared.ensures contents has) ∙ w.if-is_compared.true)
-            (w.replay_into.ensures contents has)
+            (w.replay_into.ensures.outcomes contents has)
             (now.invariant.replayed contents has)
             );
         few = omega (arith, w.count-is, now.invariant.few);

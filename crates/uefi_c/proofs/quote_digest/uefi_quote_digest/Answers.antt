@@ -18,6 +18,10 @@ pub returns-in-Err-clause-known : goal.returns-in-Err-clause-known
 returns-in-Err-clause-known c = λ has.
     absurd (none_read c.args.message.now c.try_from.result c.in-Err.error c.try_from.ensures c.in-Err.is (has.0, has.1))
 
+pub returns-in-Err-clause-size : goal.returns-in-Err-clause-size
+returns-in-Err-clause-size c = λ has.
+    absurd (none_read c.args.message.now c.try_from.result c.in-Err.error c.try_from.ensures c.in-Err.is (has.0, has.1))
+
 pub returns-in-Err-clause-no_hash : goal.returns-in-Err-clause-no_hash
 returns-in-Err-clause-no_hash c = λ has none.
     absurd (none_read c.args.message.now c.try_from.result c.in-Err.error c.try_from.ensures c.in-Err.is has)
@@ -36,6 +40,12 @@ returns-in_default-clause-status c = λ has.
 
 pub returns-in_default-clause-known : goal.returns-in_default-clause-known
 returns-in_default-clause-known c = λ has.
+    let same = one_read c.args.message.now c.try_from.result c.in-Ok.quote c.try_from.ensures c.in-Ok.is has.0 has.1 in
+    absurd (c.in_default.not-Some has.2.0
+    (c.hash_of.ensures.only has.2.0 (subst (λ it. IsHash c.args.hash it has.2.0) (sym same) has.2.1)))
+
+pub returns-in_default-clause-size : goal.returns-in_default-clause-size
+returns-in_default-clause-size c = λ has.
     let same = one_read c.args.message.now c.try_from.result c.in-Ok.quote c.try_from.ensures c.in-Ok.is has.0 has.1 in
     absurd (c.in_default.not-Some has.2.0
     (c.hash_of.ensures.only has.2.0 (subst (λ it. IsHash c.args.hash it has.2.0) (sym same) has.2.1)))

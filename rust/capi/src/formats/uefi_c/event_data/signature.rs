@@ -118,7 +118,7 @@ pub extern "C" fn uefi_signature<'a>(bytes: Bytes<'a>, out: &mut MaybeUninit<Uef
 }
 
 /// Reads the signature of a size at the offset of a list's signatures, and moves the offset to its
-/// end.
+/// end. The size is tested first: one that has no room for the owner is bad also at the end.
 #[unsafe(no_mangle)]
 pub extern "C" fn uefi_signature_next<'a>(
     signatures: Bytes<'a>,
