@@ -8,6 +8,8 @@ use Rattle.tpm_quote.specs.Texts.{quote_error_text}
 use Rattle.pcr_replay.specs.Banks.{bank_of_size}
 use Rattle.pcr_replay.specs.declared.bank.Bank.{Bank}
 use Rattle.uefi_audits.specs.verify.Quote.{Received}
+use Rattle.uefi_audits.specs.verify.Selection.{Selects}
+use Rattle.uefi_audits.specs.declared.verify.selection.PcrSelection.{PcrSelection}
 use Rattle.uefi_audit.specs.declared.failure.Status.{Status}
 use Rattle.uefi_audit.specs.declared.failure.Status.TheVariants.{Unjudged, Unread}
 use Rattle.uefi_audit.specs.declared.quote.NotReceived.{NotReceived}
@@ -19,6 +21,12 @@ abbrev pub IsNonce : Option (List ℕ) → Option (List ℕ) → Type 0
 IsNonce None nonce = nonce ≡ None
 IsNonce (Some digits) None = ⊥
 IsNonce (Some digits) (Some bytes) = decode_of digits ≡ Ok bytes
+
+-- The PCRs that `--pcrs` asks for: those that its text names, and all without it.
+abbrev pub AsksFor : Option (List ℕ) → Option PcrSelection → Type 0
+AsksFor None selection = selection ≡ None
+AsksFor (Some text) None = ⊥
+AsksFor (Some text) (Some selection) = Selects text selection
 
 -- A nonce is stated, or any will do.
 abbrev pub is_nonce_stated : AskedQuote → Option (List ℕ) → Bool

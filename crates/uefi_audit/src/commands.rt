@@ -3,7 +3,7 @@ ghost use Rattle.std.specs.Option.{option_map};
 ghost use Rattle.std.specs.Result.{result_map_both};
 ghost use Rattle.std.specs.Io.KnownBytes.{Appends};
 ghost use Rattle.uefi_audit.specs.Ends.{is_output};
-ghost use Rattle.uefi_audit.specs.Quote.{IsNonce, Receives, status_without};
+ghost use Rattle.uefi_audit.specs.Quote.{AsksFor, IsNonce, Receives, status_without};
 ghost use Rattle.uefi_audits.specs.verify.Quote.{received_of};
 
 use crate::comparison::{Compared, difference_report};
@@ -161,6 +161,8 @@ fn quote_input<R: Files + Input + Eprint + AllocGlobal>(
         (option_map (λ bytes. bytes.items) input.nonce))) }
     ensures held { IfOk result (λ read. IfSome read (λ input. input.held.items ≡ []
         → asked.now.registers ≡ None)) }
+    ensures selection { IfOk result (λ read. IfSome read (λ input. AsksFor
+        (option_map (λ text. text.now) asked.now.pcrs) input.selection)) }
 {
     let selection = selection_of(rt, asked.pcrs)?;
     let nonce = nonce_of(rt, quote.nonce)?;
@@ -271,7 +273,9 @@ fn tell_not_received<R: Eprint>(rt: &R, path: &str, why: NotReceived) -> Status
 }
 
 /// Returns the PCRs that `--pcrs` selects, or `None` without it.
-fn selection_of<R: Eprint>(rt: &R, pcrs: Option<&str>) -> Result<Option<PcrSelection>, Failure> {
+fn selection_of<R: Eprint>(rt: &R, pcrs: Option<&str>) -> Result<Option<PcrSelection>, Failure>
+    ensures { IfOk result (AsksFor (option_map (λ text. text.now) pcrs.entry)) }
+{
     let Some(text) = pcrs else {
         return Ok(None);
     };

@@ -1,30 +1,31 @@
 -- How the events of two logs differ, by PCRs. An event is compared with its counterpart: by PCR, type, data, and the digests of
 -- some algorithms. Its index and its offset aren't compared.
-use Rattle.std.specs.Prelude.{ℕ, zero, suc, ◌≡◌, ◌≢◌, ◌⊎◌, ◌<◌, ◌==◌}
+use Rattle.std.specs.Prelude.{ℕ, zero, suc, ◌≡◌, ◌≢◌, ◌⊎◌, ◌<◌}
 use Rattle.std.specs.Prelude.{List, [], ◌∷◌, ◌++◌, map, slice_get, Option, None, Some, option_map, option_to_list}
-use Rattle.std.specs.List.{filter_map, find}
+use Rattle.std.specs.List.{filter_map}
 use Rattle.uefi_tcg.specs.v2.Event.{Digest, Event}
+use Rattle.pcr_replay.specs.Replay.{digests_by}
 use Rattle.pcr_replay.specs.declared.read_log.ReadLog.{ReadLog}
 use Rattle.uefi_audits.specs.diff.Counterparts.{ArePaired, Paired, data_key, name_key}
 use Rattle.uefi_audits.specs.diff.Numbered.{AreNumberedIn, Numbered, of_pcr}
 
--- The first digest of an algorithm.
-abbrev pub digest_in : List Digest → ℕ → Option (List ℕ)
-digest_in digests algorithm = option_map (λ digest. digest.bytes) (find (λ digest. digest.algorithm == algorithm) digests)
+-- The digests of an algorithm, in order.
+abbrev pub digests_in : List Digest → ℕ → List (List ℕ)
+digests_in digests algorithm = digests_by algorithm digests
 
 -- An event as it is compared: its PCR, its type, its data, and its digests of these algorithms.
 pub record Compared : Type 0 where
   pub pcr_index : ℕ
   pub event_type : ℕ
   pub event_data : List ℕ
-  pub digests : List (Option (List ℕ))
+  pub digests : List (List (List ℕ))
 
 abbrev pub compared_event : List ℕ → Event → Compared
 compared_event algorithms event = record {
   pcr_index = event.pcr_index;
   event_type = event.event_type;
   event_data = event.event_data;
-  digests = map (digest_in event.digests) algorithms;
+  digests = map (digests_in event.digests) algorithms;
 }
 
 abbrev pub compared : List ℕ → Numbered → Compared

@@ -1,12 +1,13 @@
-ghost use Rattle.std.specs.Prelude.{◌≡◌, ◌↔◌, map, IsTrue, option_map};
-ghost use Rattle.uefi_tcg.specs.LogViews.{event_of};
-ghost use Rattle.uefi_audits.specs.diff.Differences.{compared_event, digest_in};
+ghost use Rattle.std.specs.Prelude.{◌≡◌, ◌↔◌, [], ◌∷◌, map, IsTrue, MatchOption};
+ghost use Rattle.uefi_tcg.specs.LogViews.{digests_left, event_of};
+ghost use Rattle.pcr_replay.specs.Replay.{digests_by};
+ghost use Rattle.uefi_audits.specs.diff.Differences.{compared_event, digests_in};
 ghost use Rattle.uefi_audits.specs.diff.Views.{numbers_of};
 
-use uefi_tcg::{AlgorithmId, LogEvent};
+use uefi_tcg::{AlgorithmId, LogEvent, LogEventDigests};
 
 /// Returns whether two events are the same, as far as these algorithms tell: they are of one PCR
-/// and one type, have the same data, and have the same digest of each algorithm, or none.
+/// and one type, have the same data, and have the same digests of each algorithm, in order.
 pub fn is_same_event(algorithms: &[AlgorithmId], one: &LogEvent<'_>, other: &LogEvent<'_>) -> bool
     ensures { IsTrue result ↔ (compared_event (numbers_of algorithms.now) (event_of one.now)
         ≡ compared_event (numbers_of algorithms.now) (event_of other.now)) }
@@ -17,33 +18,41 @@ pub fn is_same_event(algorithms: &[AlgorithmId], one: &LogEvent<'_>, other: &Log
         && have_same_digests(algorithms, one, other)
 }
 
-/// Returns whether two events have the same digest of each algorithm, or none.
+/// Returns whether two events have the same digests of each algorithm, in order.
 fn have_same_digests(algorithms: &[AlgorithmId], one: &LogEvent<'_>, other: &LogEvent<'_>) -> bool
-    ensures { IsTrue result ↔ (map (digest_in (event_of one.now).digests) (numbers_of algorithms.now)
-        ≡ map (digest_in (event_of other.now).digests) (numbers_of algorithms.now)) }
+    ensures { IsTrue result ↔ (map (digests_in (event_of one.now).digests) (numbers_of algorithms.now)
+        ≡ map (digests_in (event_of other.now).digests) (numbers_of algorithms.now)) }
 {
     for algorithm in algorithms {
-        if !has_same_digest(*algorithm, one, other) {
+        if !has_same_digests(*algorithm, one, other) {
             return false;
         }
     }
     true
 }
 
-/// Returns whether two events have the same digest of an algorithm, or none.
-fn has_same_digest(algorithm: AlgorithmId, one: &LogEvent<'_>, other: &LogEvent<'_>) -> bool
-    ensures { IsTrue result ↔ (digest_in (event_of one.now).digests algorithm.0
-        ≡ digest_in (event_of other.now).digests algorithm.0) }
+/// Returns whether two events have the same digests of an algorithm, in order.
+fn has_same_digests(algorithm: AlgorithmId, one: &LogEvent<'_>, other: &LogEvent<'_>) -> bool
+    ensures { IsTrue result ↔ (digests_in (event_of one.now).digests algorithm.0
+        ≡ digests_in (event_of other.now).digests algorithm.0) }
 {
-    digest_of(one, algorithm) == digest_of(other, algorithm)
+    let mut ones = one.digests();
+    let mut others = other.digests();
+    while let Some(digest) = next_digest(&mut ones, algorithm) {
+        if next_digest(&mut others, algorithm) != Some(digest) {
+            return false;
+        }
+    }
+    next_digest(&mut others, algorithm).is_none()
 }
 
-/// Returns the first digest that an event has of an algorithm; `None` if it has none.
-fn digest_of<'a>(event: &LogEvent<'a>, algorithm: AlgorithmId) -> Option<&'a [u8]>
-    ensures { option_map (λ digest. digest.now) result
-        ≡ digest_in (event_of event.now).digests algorithm.0 }
+/// Returns the next digest of an algorithm, and passes over those of others.
+fn next_digest<'a>(digests: &mut LogEventDigests<'a>, algorithm: AlgorithmId) -> Option<&'a [u8]>
+    ensures { MatchOption result (digests_by algorithm.0 (digests_left digests.old) ≡ [])
+        (λ digest. digests_by algorithm.0 (digests_left digests.old)
+        ≡ digest.now ∷ digests_by algorithm.0 (digests_left digests.new)) }
 {
-    for (id, digest) in event.digests() {
+    while let Some((id, digest)) = digests.next() {
         if id == algorithm {
             return Some(digest);
         }

@@ -1,9 +1,9 @@
 // @generated from proved source. It is not edited.
 
-use uefi_formats::proto::tcg::{AlgorithmId, LogEvent};
+use uefi_formats::proto::tcg::{AlgorithmId, LogEvent, LogEventDigests};
 
 /// Returns whether two events are the same, as far as these algorithms tell: they are of one PCR
-/// and one type, have the same data, and have the same digest of each algorithm, or none.
+/// and one type, have the same data, and have the same digests of each algorithm, in order.
 pub fn is_same_event(algorithms: &[AlgorithmId], one: &LogEvent<'_>, other: &LogEvent<'_>) -> bool {
     one.pcr_index() == other.pcr_index()
         && one.event_type() == other.event_type()
@@ -11,24 +11,31 @@ pub fn is_same_event(algorithms: &[AlgorithmId], one: &LogEvent<'_>, other: &Log
         && have_same_digests(algorithms, one, other)
 }
 
-/// Returns whether two events have the same digest of each algorithm, or none.
+/// Returns whether two events have the same digests of each algorithm, in order.
 fn have_same_digests(algorithms: &[AlgorithmId], one: &LogEvent<'_>, other: &LogEvent<'_>) -> bool {
     for algorithm in algorithms {
-        if !has_same_digest(*algorithm, one, other) {
+        if !has_same_digests(*algorithm, one, other) {
             return false;
         }
     }
     true
 }
 
-/// Returns whether two events have the same digest of an algorithm, or none.
-fn has_same_digest(algorithm: AlgorithmId, one: &LogEvent<'_>, other: &LogEvent<'_>) -> bool {
-    digest_of(one, algorithm) == digest_of(other, algorithm)
+/// Returns whether two events have the same digests of an algorithm, in order.
+fn has_same_digests(algorithm: AlgorithmId, one: &LogEvent<'_>, other: &LogEvent<'_>) -> bool {
+    let mut ones = one.digests();
+    let mut others = other.digests();
+    while let Some(digest) = next_digest(&mut ones, algorithm) {
+        if next_digest(&mut others, algorithm) != Some(digest) {
+            return false;
+        }
+    }
+    next_digest(&mut others, algorithm).is_none()
 }
 
-/// Returns the first digest that an event has of an algorithm; `None` if it has none.
-fn digest_of<'a>(event: &LogEvent<'a>, algorithm: AlgorithmId) -> Option<&'a [u8]> {
-    for (id, digest) in event.digests() {
+/// Returns the next digest of an algorithm, and passes over those of others.
+fn next_digest<'a>(digests: &mut LogEventDigests<'a>, algorithm: AlgorithmId) -> Option<&'a [u8]> {
+    while let Some((id, digest)) = digests.next() {
         if id == algorithm {
             return Some(digest);
         }
