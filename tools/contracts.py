@@ -145,7 +145,7 @@ class Block:
 
 
 class Function:
-    """A function, which begins at an offset: its clauses, and the types and variables in its signature."""
+    """A function, which begins at an offset: its clauses, and the types, variables and buffers in its signature."""
 
     def __init__(self, block, text, start):
         self.block, self.crate = block, block.crate
@@ -154,10 +154,16 @@ class Function:
         self.path = f"{block.path}::{self.name}"
         self.has_requires = any(kind == "requires" for kind, _ in clauses)
         self.texts = [it for _, it in clauses]
+        self.ensured = [it for kind, it in clauses if kind == "ensures"]
         is_named_public = re.search(r"\bpub\s+(?:(?:const|unsafe|extern)\s+)*$", text[max(0, start - 40) : start])
         self.is_public = block.is_public or bool(is_named_public)
         self.types = {*re.findall(r"\b[A-Z]\w+", signature), block.owner} - {None}
         self.variables = {*re.findall(r"\b(\w+)\s*:", signature), *re.findall(r"\b[A-Z]\b", signature)}
+        self.buffers = re.findall(r"\b(\w+)\s*:\s*&\s*(?:'\w+\s+)?mut\s+\[u8\]", signature)
+
+    def unsaid_buffers(self):
+        """The buffers of which no clause says what they hold afterwards, or who holds them."""
+        return [it for it in self.buffers if not any(re.search(rf"\b{it}\.(new|entry)\b", text) for text in self.ensured)]
 
 
 def after(text, start, brackets="{}"):
@@ -338,6 +344,10 @@ class Repository:
     def believed_files(self):
         """The files of definitions that stand outside `specs/private/`."""
         return [it for it in self.files.values() if not it.is_private and crates.is_for_users(it.crate)]
+
+    def writers(self):
+        """The public functions that take a caller's buffer. The clauses of a trait's method are the trait's."""
+        return [it for it in self.public() if it.buffers and not it.block.trait]
 
     def public(self):
         return [it for crate in self.crates if crates.is_for_users(crate)

@@ -84,9 +84,29 @@ impl<'a> DevicePathBuilder<'a> {
     ///
     /// The builder is gone then. [`DevicePathBuilder::push_node`] keeps it.
     #[inline]
-    pub fn push<N: BuildNode>(mut self, node: &N) -> Result<DevicePathBuilder<'a>, BuildError> {
-        self.push_node(node)?;
-        Ok(self)
+    pub fn push<N: BuildNode>(self, node: &N) -> Result<DevicePathBuilder<'a>, BuildError> {
+        let DevicePathBuilder { buffer, end } = self;
+        let written = push_at(buffer, end, node);
+        if is_written(written) {
+            return DevicePathBuilder::from_written(buffer, written);
+        }
+        DevicePathBuilder::not_written(written)
+    }
+
+    /// Returns the builder of the path whose next node was written.
+    #[inline]
+    fn from_written(
+        buffer: &'a mut [u8],
+        written: Result<usize, BuildError>,
+    ) -> Result<DevicePathBuilder<'a>, BuildError> {
+        let end = written?;
+        Ok(DevicePathBuilder { buffer, end })
+    }
+
+    /// Returns the error of a node that wasn't written.
+    #[inline]
+    fn not_written(written: Result<usize, BuildError>) -> Result<DevicePathBuilder<'a>, BuildError> {
+        Err(written.unwrap_err())
     }
 
     /// Writes the node after those that were pushed before.
@@ -102,7 +122,10 @@ impl<'a> DevicePathBuilder<'a> {
         Ok(())
     }
 
-    /// Writes the end-entire node after the nodes that were pushed, and returns the path.
+    /// Writes the end-entire node after the nodes that were pushed, and returns the path. The bytes
+    /// that follow stay as they were.
+    ///
+    /// [`DevicePathBuilder::write_end`] does the same for a caller that goes on with the buffer.
     ///
     /// # Errors
     ///
@@ -111,9 +134,8 @@ impl<'a> DevicePathBuilder<'a> {
     #[inline]
     pub fn finalize(self) -> Result<DevicePath<'a>, BuildError> {
         let DevicePathBuilder { buffer, end } = self;
-        let length = push_end_at(buffer, end)?;
-        let (path, _) = buffer.split_at(length);
-        Ok(DevicePath::new_unchecked(path))
+        let written = push_end_at(buffer, end);
+        path_in(buffer, written)
     }
 
     /// Writes the end-entire node after the nodes that were pushed, and returns the length of the
@@ -143,6 +165,12 @@ fn push_at<N: BuildNode>(buffer: &mut [u8], offset: usize, node: &N) -> Result<u
     }
 }
 
+/// Returns whether a node was written.
+#[inline]
+fn is_written(written: Result<usize, BuildError>) -> bool {
+    written.is_ok()
+}
+
 /// Writes the end-entire node at the offset, and returns the offset of its end.
 #[inline]
 fn push_end_at(buffer: &mut [u8], offset: usize) -> Result<usize, BuildError> {
@@ -152,4 +180,14 @@ fn push_end_at(buffer: &mut [u8], offset: usize) -> Result<usize, BuildError> {
     }
     put(buffer, offset, &end_entire_bytes());
     Ok(end)
+}
+
+/// Returns the path that was written to the start of the bytes, if it was.
+#[inline]
+fn path_in<'a>(
+    bytes: &'a [u8],
+    written: Result<usize, BuildError>,
+) -> Result<DevicePath<'a>, BuildError> {
+    let end = written?;
+    Ok(DevicePath::new_unchecked(&bytes[..end]))
 }
