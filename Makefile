@@ -7,7 +7,7 @@ PROGRAMS = uefi_list uefi_audit
 TO = $(DESTDIR)$(PREFIX)
 MADE = out/install
 TESTS = $(or $(shell python3 tools/crates.py tests '$(CRATE)'),$(error name a crate of crates.txt: make $@ CRATE=uefi_path))
-.PHONY: all check test try install fuzz plant bench rust help $(PROGRAMS:%=build-%)
+.PHONY: all check test try edits install fuzz plant bench rust help $(PROGRAMS:%=build-%)
 
 all: $(PROGRAMS:%=build-%)  ## both programs, proved and built
 
@@ -22,6 +22,9 @@ test:  ## CRATE=uefi_path: the tests of a crate, proved and run
 
 try:  ## CRATE=uefi_path: the same, run without a proof
 	@for it in $(TESTS); do (cd crates/$$it && rt try --test) || exit; done
+
+edits:  ## CRATE=uefi_path: mistakes in a crate, which the prover has to refuse
+	@tests/edits/run --all $(CRATE)
 
 install: all  ## PREFIX=/usr/local DESTDIR=: programs, manual pages, completions, the library for C
 	@rm -rf $(MADE) && mkdir -p $(MADE)/bin
