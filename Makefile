@@ -35,10 +35,10 @@ install: all  ## PREFIX=/usr/local DESTDIR=: programs, manual pages, completions
 	mkdir -p '$(TO)' && cp -R $(MADE)/. '$(TO)' && rm -rf $(MADE)
 
 fuzz:  ## SECONDS=600: mutated inputs, by the programs and by plain Rust
-	@tests/fuzz $(SECONDS)
+	@tests/outside/fuzz $(SECONDS)
 
 plant:  ## CRATE=: mutants of each function of a crate, or of all crates
-	@tests/plant $(CRATE)
+	@tests/outside/plant $(CRATE)
 
 bench:  ## bench/RESULTS.md: the readers beside plain Rust
 	@bench/run

@@ -1,5 +1,5 @@
-/* Readers in plain C, which test each bound: what the library for C is compared with (`tests/c_fuzz`,
- * `tests/firmware`). */
+/* Readers in plain C, which test each bound: what the library for C is compared with (`tests/outside/c_fuzz`,
+ * `tests/outside/firmware`). */
 #ifndef PLAIN_H
 #define PLAIN_H
 

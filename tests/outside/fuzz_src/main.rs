@@ -11,15 +11,15 @@ mod audit;
 mod commands;
 mod formats;
 mod input;
-#[path = "../../bench/src/listings.rs"]
+#[path = "../../../bench/src/listings.rs"]
 mod listings;
 mod mutate;
 mod program;
 #[allow(dead_code, reason = "the bench makes its inputs with them too")]
-#[path = "../../bench/src/random.rs"]
+#[path = "../../../bench/src/random.rs"]
 mod random;
 #[allow(dead_code, reason = "the bench makes its inputs with them too")]
-#[path = "../../bench/src/readers/mod.rs"]
+#[path = "../../../bench/src/readers/mod.rs"]
 mod readers;
 
 use commands::{COMMANDS, Command, Program};

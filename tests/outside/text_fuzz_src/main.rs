@@ -15,7 +15,7 @@ mod kind;
 mod limits;
 mod mutate;
 #[allow(dead_code, reason = "the bench makes its inputs with them too")]
-#[path = "../../bench/src/random.rs"]
+#[path = "../../../bench/src/random.rs"]
 mod random;
 mod reader;
 mod spell;
