@@ -17,10 +17,10 @@ $(PROGRAMS:%=build-%): build-%:
 check:  ## the one test command: every proof and test from scratch
 	@./check
 
-test:  ## CRATE=uefi_path: the tests of a crate, proved and run
-	@for it in $(TESTS); do (cd crates/$$it && rt test) || exit; done
+test:  ## what needs no toolchain: the packages' tests, the programs by cargo, pages. CRATE=uefi_path: a crate's tests, proved
+	@$(if $(CRATE),for it in $(TESTS); do (cd crates/$$it && rt test) || exit; done,rust/checks/cargo_tests.py && tools/pages)
 
-try:  ## CRATE=uefi_path: the same, run without a proof
+try:  ## CRATE=uefi_path: a crate's tests, run without a proof
 	@for it in $(TESTS); do (cd crates/$$it && rt try --test) || exit; done
 
 edits:  ## CRATE=uefi_path: mistakes in a crate, which the prover has to refuse
