@@ -6,7 +6,7 @@ import tempfile
 
 from telling import TOP, tells
 
-SOURCE = f"{TOP}/tests/c_interface_src/calls.c"
+SOURCE = f"{TOP}/tests/c_interface/calls.c"
 FLAGS = "-std=gnu11 -Wall -Wextra -Werror -O2 -ffreestanding -fno-stack-protector -fno-builtin -fshort-wchar -nostdinc"
 TOOLCHAIN = f"{TOP}/tools/toolchain.py"
 # clang for Windows writes ELF where it is asked to, so that its programs run here. The first has Microsoft's extensions,
@@ -34,7 +34,7 @@ def folders(include, efi, words):
     """The folders of headers: the library's, those of the tests, and gnu-efi's where they are; or Linux's."""
     systems = [f"{TOP}/tests/c_headers", *([efi, f"{efi}/x86_64"] if efi else [])]
     if set(KERNEL) <= set(words):
-        systems = [f"{TOP}/tests/c_interface_src/kernel"]
+        systems = [f"{TOP}/tests/c_interface/kernel"]
     return ["-I", include, *(f"-isystem{it}" for it in systems)]
 
 

@@ -8,7 +8,7 @@ import tempfile
 
 from telling import TOP, tells
 
-SOURCE = f"{TOP}/tests/c_interface_src/one_call.c"
+SOURCE = f"{TOP}/tests/c_interface/one_call.c"
 TOOLCHAIN = f"{TOP}/tools/toolchain.py"
 FLAGS = f"-std=c11 -Wall -Wextra -Werror -O2 -ffreestanding -fno-stack-protector -mno-red-zone -nostdinc -isystem {TOP}/tests/c_headers".split()
 EFI, LINUX = ["--target=x86_64-unknown-windows"], ["--target=x86_64-linux-gnu", "-DLINUX"]
