@@ -57,7 +57,7 @@ def tests_of(lines, name):
     """Returns the crate of a library's tests, the crates of tests that use it if none has its name, or else the crate itself; nothing for an unknown one."""
     own = f"{name.removeprefix('uefi_')}_tests"
     users = [it for it in lines if it.endswith("_tests") and name in lines[it].uses]
-    return ([own] if own in users else users or [name]) if name in lines else []
+    return ([own] if own in lines else users or [name]) if name in lines else []
 
 
 if __name__ == "__main__":
