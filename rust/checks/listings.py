@@ -7,7 +7,7 @@ from concurrent.futures import ThreadPoolExecutor
 
 TOP = os.path.dirname(os.path.dirname(os.path.dirname(os.path.realpath(__file__))))
 sys.path[:0] = [f"{TOP}/tests", f"{TOP}/tools"]
-from golden import cases
+from case_table import cases
 from telling import tells
 
 # The program without the script that builds it first.
