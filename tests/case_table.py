@@ -111,8 +111,10 @@ class Shared:
             made = self.joined(self.lines[word])
         elif word.startswith("samples/"):
             made = (TOP / word).read_bytes()
-        else:
+        elif re.fullmatch("([0-9a-f]{2})+", word):
             made = bytes.fromhex(word)
+        else:
+            raise ValueError(f"{word} is neither hex nor the name of shared bytes")
         return made * int(found["count"] or 1)
 
     def line(self, line):

@@ -1,11 +1,12 @@
 """Golden cases: runs programs, and compares what they end with with the tables of cases (`tests/case_table.py`)."""
 import difflib
 import os
+import shlex
 import subprocess
 import sys
 import tempfile
 
-from case_table import ANY, cases, end_lines
+from case_table import ANY, cases, end_lines, shown
 from telling import TEST, TOP, counted
 
 # A run that takes more seconds hangs.
@@ -43,7 +44,8 @@ def tells_end(case, found):
     if is_end(found, case.end()):
         print(f"{TEST}: {case.name}: as expected", flush=True)
         return True
-    print(f"{TEST}: {case.name}: not as expected", flush=True)
+    args = shlex.join(shown(it) for it in case.args)
+    print(f"{TEST}: {case.name}: not as expected\n$ {args}", flush=True)
     lines = end_lines(case.end()), end_lines(found)
     print("\n".join(difflib.unified_diff(*lines, f"{case.name}: wanted", "found", lineterm="")), flush=True)
     return False
@@ -62,6 +64,8 @@ def run(program, folder, *checks):
     # The first call proves and builds the program where that isn't done yet.
     subprocess.run([program, "--version"], capture_output=True, check=False)
     found, names = cases(folder), case_names()
+    if unknown := [it for it in names if it not in found]:
+        sys.exit(f"{TEST}: there is no case {unknown[0]}")
     outcomes = [is_as_expected(program, found[it]) for it in names or found]
     with tempfile.TemporaryDirectory(prefix="golden-") as room:
         os.chdir(room)
