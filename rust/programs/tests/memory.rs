@@ -4,6 +4,8 @@
 //! The test calls itself as the program, with an allocator that counts the requests from the start of the program's `main`
 //! function on. Excepted is what Rust makes before it: for its handler of stack overflows the name of the thread and a node
 //! of a map, and a stack for signals.
+//!
+//! The calls are golden cases, which `tests/case_table.py` reads: this needs python3.
 
 use std::alloc::{GlobalAlloc, Layout, System};
 use std::fs::{self, File};

@@ -1,8 +1,8 @@
 // @generated from proved source. It is not edited.
 
 //! Tests of the libraries `pcr_replay`, `uefi_audits` and `audit_text` over their public names: the
-//! types of events, errors, allocations that fail, and what `uefi_audit` doesn't print. What it prints
-//! is in the tables of `tests/audit/cases`.
+//! PCRs that logs lead to, the types of events, errors, allocations that fail, and what `uefi_audit`
+//! doesn't print. What it prints is in the tables of `tests/audit/cases`.
 
 #[cfg(test)]
 mod tests;

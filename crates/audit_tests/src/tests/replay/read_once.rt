@@ -1,5 +1,5 @@
 use pcr_replay::entries::{has_measured, is_active, replay, restarted, start_of, startup_locality};
-use pcr_replay::{Bank, Pcrs, ReadLog, Start};
+use pcr_replay::{Bank, Pcrs, ReadLog, ReadLogError, Start};
 use std::alloc::Global;
 use std::test::Fail;
 use test_support::samples::MACHINE_LOG;
@@ -63,6 +63,22 @@ fn what_was_read_leads_to_what_the_log_does(rt: HostRuntime) -> Result<(), Fail>
     check(rt.alloc(), Log::new(log.as_slice(), LastEntry::Unknown))?;
     check(rt.alloc(), Log::new(&[], LastEntry::Empty))?;
     check(rt.alloc(), Log::new(&[0; 40], LastEntry::Unknown))
+}
+
+#[test]
+fn a_log_with_more_rows_than_are_allowed_is_not_read(rt: HostRuntime) -> Result<(), Fail> {
+    let bytes = bytes(rt.alloc(), MACHINE_LOG)?;
+    let log = Log::new(bytes.as_slice(), LastEntry::Unknown);
+    let Ok(read) = ReadLog::with_most_rows(rt.alloc(), log, 4) else {
+        return Err(Fail::new("the log isn't read"));
+    };
+    holds("the header", read.header().is_some())?;
+    holds("the end", read.end() == bytes.len())?;
+    let error = ReadLog::with_most_rows(rt.alloc(), log, 3).err();
+    holds(
+        "three rows",
+        error == Some(ReadLogError::TooManyAlgorithms(4)),
+    )
 }
 
 /// Returns how many events a log has, if no request is refused.

@@ -1,4 +1,4 @@
-use crate::tests::replay::quotes::SHA256_LOG;
+use crate::tests::replay::quotes::{SHA256_LOG, SHA384_PCR_14};
 use audit_text::json::push_quote_json;
 use audit_text::text::{push_no_digest, push_other_nonce, push_quote, push_quote_verdict};
 use pcr_replay::{Bank, ReadLog};
@@ -14,12 +14,6 @@ const OTHER_DIGEST: &str = "ff54434780180022000bde213066bcb2e45af5c1ef49eddb9df8
      703f33f24bde3600000000000000000614000000010000000001201910230016363600\
      000001000b038100000020bdfd4926ecd611ee6fa67ceac3045f32b8e9c5b3b5fbebcf\
      dbbaed1082f8ea53";
-
-/// A quote of PCR 14 of SHA-384, which nothing extended.
-const SHA384_PCR_14: &str =
-    "ff54434780180022000b32536abaa9d80c180585b5fcd633c102aaa8a5914c4d2ba8e48e88dc477b \
-     4fae000000000000000006a6000000010000000001201910230016363600000001000c0300400000 \
-     2017b0761f87b081d5cf10757ccc89f12be355c70e2e29df288b65b30710dcbcd1";
 
 /// What is said of a quote `a.quote` of a bank of which the log `a.log` has no digest. `uefi_audit
 /// verify` refuses it before.

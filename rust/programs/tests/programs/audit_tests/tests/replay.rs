@@ -1,7 +1,11 @@
 // @generated from proved source. It is not edited.
 
-//! Quotes of the PCRs that a log leads to, a log that is read once, and errors.
+//! The PCRs that a log leads to, how PCR 0 starts, and where a log ends.
 
+mod banks;
+mod logs;
+mod machine_log;
 pub(crate) mod quotes;
 mod read_once;
+mod starts;
 mod texts;

@@ -1,7 +1,7 @@
 // @generated from proved source. It is not edited.
 
 use crate::pcr_replay::entries::{has_measured, is_active, replay, restarted, start_of, startup_locality};
-use crate::pcr_replay::{Bank, Pcrs, ReadLog, Start};
+use crate::pcr_replay::{Bank, Pcrs, ReadLog, ReadLogError, Start};
 use crate::support::test::Fail;
 use crate::test_support::samples::MACHINE_LOG;
 use crate::test_support::{Refusing, bytes, holds, takes_memory};
@@ -64,6 +64,22 @@ fn what_was_read_leads_to_what_the_log_does() -> Result<(), Fail> {
     check(Log::new(log.as_slice(), LastEntry::Unknown))?;
     check(Log::new(&[], LastEntry::Empty))?;
     check(Log::new(&[0; 40], LastEntry::Unknown))
+}
+
+#[test]
+fn a_log_with_more_rows_than_are_allowed_is_not_read() -> Result<(), Fail> {
+    let bytes = bytes(MACHINE_LOG)?;
+    let log = Log::new(bytes.as_slice(), LastEntry::Unknown);
+    let Ok(read) = ReadLog::with_most_rows(log, 4) else {
+        return Err(Fail::new("the log isn't read"));
+    };
+    holds("the header", read.header().is_some())?;
+    holds("the end", read.end() == bytes.len())?;
+    let error = ReadLog::with_most_rows(log, 3).err();
+    holds(
+        "three rows",
+        error == Some(ReadLogError::TooManyAlgorithms(4)),
+    )
 }
 
 /// Returns how many events a log has, if no request is refused.
