@@ -50,9 +50,11 @@ import sys
 from pathlib import Path
 
 TOP = Path(__file__).resolve().parent.parent
+# A text, or hex or a name, perhaps so many times.
 PIECE = re.compile(r'(?:(?P<wide>u?)"(?P<text>(?:[^"\\]|\\.)*)"|(?P<word>[^\s"*]+))(?:\*(?P<count>\d+))?(?:\s+|$)')
 ESCAPE = re.compile(rb'\\(?:x([0-9a-f]{2})|(.)|$)')
 ESCAPED = {b"\\": b"\\", b'"': b'"', b"n": b"\n"}
+# A stream that may have any text but none.
 ANY = b"*\n"
 
 
@@ -69,11 +71,11 @@ def line_bytes(text):
 
 def shown(stream):
     """The text of a stream with escapes: of each backslash, of each byte that doesn't print, and of a line's last space."""
-    def escape(found):
-        return "".join(f"\\x{byte:02x}" for byte in found[0].encode(errors="surrogateescape"))
+    def escape(character):
+        return "".join(f"\\x{byte:02x}" for byte in character.encode(errors="surrogateescape"))
 
     text = stream.decode(errors="surrogateescape").replace("\\", "\\\\")
-    text = "".join(c if c.isprintable() or c == "\n" else escape([c]) for c in text)
+    text = "".join(it if it.isprintable() or it == "\n" else escape(it) for it in text)
     return re.sub(" $", r"\\x20", text, flags=re.M)
 
 
