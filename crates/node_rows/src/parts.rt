@@ -93,9 +93,7 @@ fn comes_back(signature: &PartitionSignature) -> bool {
 
 /// Returns the signature with a type and bytes, if it is valid and comes back from them.
 pub(crate) fn signature(input: &[u8]) -> Result<PartitionSignature, &'static str> {
-    let Some((signature_type, bytes)) = type_and_bytes(input) else {
-        return Err("no type and bytes");
-    };
+    let (signature_type, bytes) = type_and_bytes(input).ok_or("no type and bytes")?;
     let signature = PartitionSignature::new(signature_type, bytes);
     if !signature.is_valid() || !comes_back(&signature) {
         return Err("it isn't valid");

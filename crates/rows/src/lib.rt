@@ -24,11 +24,13 @@
 #![tactic(auto)]
 
 pub use self::program::answered;
+pub use self::sets::Sets;
 pub use self::table::{Judged, each_row};
-pub use self::texts::{hex_digits, hex_row, quoted};
+pub use self::texts::{hex_digits, hex_pair_row, hex_row, quoted};
 
 mod names;
 mod program;
+mod sets;
 mod shown;
 mod table;
 #[cfg(test)]

@@ -1,5 +1,5 @@
 use crate::table::each_row;
-use crate::texts::{hex_digits, hex_row, quoted};
+use crate::texts::{hex_digits, hex_pair_row, hex_row, quoted};
 use std::alloc::{AllocError, Global};
 use std::test::Fail;
 use test_support::{Refusing, bytes, holds, same, same_text};
@@ -17,6 +17,7 @@ fn answer(alloc: Global, heap: &Refusing<Global>, call: &str, input: &str) -> Op
         "name" => format!(in alloc; "Number(7)").ok(),
         "list" => list(alloc, heap, input),
         "length" => hex_row(alloc, input, |bytes| bytes.len()),
+        "lengths" => hex_pair_row(alloc, input, |one, other| (one.len(), other.len())),
         "quoted" => quoted(alloc, input).ok(),
         "hex" => hex_digits(alloc, bytes(alloc, input).ok()?.as_slice()).ok(),
         "goes on" if Vec::from_slice(heap, b"a").is_err() => Some(String::new(alloc)),
@@ -35,6 +36,9 @@ list |  | b\"\" | by hand
 list |  | [] | by hand
 length | 0102 | 0x2 | by hand
 length | 0 | the input is no hex | by hand
+lengths | 01 ; 02 03 | (1, 2) | by hand
+lengths |  ; | the input is no pair | by hand
+lengths | 01 ; 0 | the input is no hex | by hand
 quoted | a \"0x1f\" b | \"a \\\"0x1f\\\" b\" | by hand
 hex | 7fff0400 | x\"7fff 0400\" | by hand
 name | Number::SEVEN | Number(0x7) | by hand
@@ -72,7 +76,7 @@ fn a_row_is_as_wanted_in_each_form(rt: HostRuntime) -> Result<(), Fail> {
         &|heap, call, input| { answer(rt.alloc(), heap, call, input) },
     )?;
     same_text("faults", judged.faults.as_str(), "")?;
-    same("rows, failed", &(judged.rows, judged.failed), &(11, 0))
+    same("rows, failed", &(judged.rows, judged.failed), &(14, 0))
 }
 
 /// Returns what is printed of rows.

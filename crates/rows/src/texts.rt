@@ -20,6 +20,25 @@ where
     }
 }
 
+/// Answers a row whose input is bytes as hex, ` ; ` and more bytes, as [`hex_row`] does.
+pub fn hex_pair_row<T: fmt::Debug + Drop, F>(alloc: Global, input: &str, call: F) -> Option<String>
+where
+    F: Fn(&[u8], &[u8]) -> T,
+    requires { F.IsAlwaysCallable call }
+{
+    let Some((one, other)) = input.split_once(" ; ") else {
+        return format!(in alloc; "the input is no pair").ok();
+    };
+    match (bytes(alloc, one), bytes(alloc, other)) {
+        (Ok(one), Ok(other)) => {
+            let found = call(one.as_slice(), other.as_slice());
+            format!(in alloc; "{found:?}").ok()
+        }
+        (Err(FromHexError::OutOfMemory), _) | (_, Err(FromHexError::OutOfMemory)) => None,
+        _ => format!(in alloc; "the input is no hex").ok(),
+    }
+}
+
 /// Returns a text in quotes, as `Debug` prints it.
 ///
 /// # Errors

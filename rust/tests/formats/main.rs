@@ -40,7 +40,8 @@ mod panics;
 mod path_tests;
 #[allow(dead_code)]
 mod quote_tests;
-mod records_tests;
+#[allow(dead_code, unused_imports)]
+mod records_rows;
 // Rows of other crates call the rest.
 #[allow(dead_code, unused_imports)]
 mod rows;

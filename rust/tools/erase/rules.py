@@ -52,7 +52,7 @@ TESTS = rules([(before.replace("ALLOC", alloc), after) for alloc in ("alloc", "r
 ]] + [
     ("vec![in rt.alloc(); $$item; $$count]", "Vec::fallible_from_elem($$item, $$count)"),
     ("let alloc = rt.alloc();", ""), (".clone()", ".fallible_clone()"), ("|heap|", "||"), ("|alloc, $name|", "|$name|"),
-    ("|heap, $call, $input|", "|$call, $input|"),
+    ("|heap, $call, $input|", "|$call, $input|"), ("|_heap, $call, $input|", "|$call, $input|"),
 ])
 # The program that answers rows of files is a test, which has their texts.
 MAIN = rules([

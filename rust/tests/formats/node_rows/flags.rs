@@ -1,19 +1,7 @@
 // @generated from proved source. It is not edited.
 
+use crate::rows::Sets;
 use crate::uefi_node::messaging::{InfinibandResourceFlags, IscsiLoginOptions};
-
-/// What the calls of two sets return, as bits.
-#[derive(Clone, Copy, Debug)]
-pub(crate) struct Sets {
-    from_bits: Option<u32>,
-    is_empty: bool,
-    is_all: bool,
-    not: u32,
-    intersects: bool,
-    contains: bool,
-    union: [u32; 3],
-    difference: [u32; 2],
-}
 
 /// Returns what the calls of two sets of resources return: the bits of each are four bytes.
 pub(crate) fn infiniband_flags(input: &[u8]) -> Option<Sets> {
@@ -26,19 +14,18 @@ pub(crate) fn infiniband_flags(input: &[u8]) -> Option<Sets> {
     let (mut inserted, mut removed) = (set, set);
     inserted.insert(other);
     removed.remove(other);
+    let union = [set.union(other), set | other, inserted];
+    let difference = [set.difference(other), removed];
     Some(Sets {
-        from_bits: InfinibandResourceFlags::from_bits(bits).map(|set| set.bits()),
+        from_bits: InfinibandResourceFlags::from_bits(bits).map(|set| u64::from(set.bits())),
         is_empty: set.is_empty(),
         is_all: set.is_all(),
-        not: (!set).bits(),
+        not: u64::from((!set).bits()),
         intersects: set.intersects(other),
         contains: set.contains(other),
-        union: [
-            set.union(other).bits(),
-            (set | other).bits(),
-            inserted.bits(),
-        ],
-        difference: [set.difference(other).bits(), removed.bits()],
+        union: union.map(|set| u64::from(set.bits())),
+        difference: difference.map(|set| u64::from(set.bits())),
+        is_less: set < other,
     })
 }
 
@@ -56,13 +43,14 @@ pub(crate) fn iscsi_flags(input: &[u8]) -> Option<Sets> {
     let union = [set.union(other), set | other, inserted];
     let difference = [set.difference(other), removed];
     Some(Sets {
-        from_bits: IscsiLoginOptions::from_bits(bits).map(|set| u32::from(set.bits())),
+        from_bits: IscsiLoginOptions::from_bits(bits).map(|set| u64::from(set.bits())),
         is_empty: set.is_empty(),
         is_all: set.is_all(),
-        not: u32::from((!set).bits()),
+        not: u64::from((!set).bits()),
         intersects: set.intersects(other),
         contains: set.contains(other),
-        union: union.map(|set| u32::from(set.bits())),
-        difference: difference.map(|set| u32::from(set.bits())),
+        union: union.map(|set| u64::from(set.bits())),
+        difference: difference.map(|set| u64::from(set.bits())),
+        is_less: set < other,
     })
 }

@@ -3,7 +3,7 @@
 use crate::support::fallible::*;
 
 use crate::rows::table::each_row;
-use crate::rows::texts::{hex_digits, hex_row, quoted};
+use crate::rows::texts::{hex_digits, hex_pair_row, hex_row, quoted};
 use crate::support::alloc::AllocError;
 use crate::support::test::Fail;
 use crate::test_support::{Refusing, bytes, holds, same, same_text};
@@ -21,6 +21,7 @@ fn answer(call: &str, input: &str) -> Option<String> {
         "name" => fallible_format!("Number(7)").ok(),
         "list" => list(input),
         "length" => hex_row(input, |bytes| bytes.len()),
+        "lengths" => hex_pair_row(input, |one, other| (one.len(), other.len())),
         "quoted" => quoted(input).ok(),
         "hex" => hex_digits(bytes(input).ok()?.as_slice()).ok(),
         "goes on" if Vec::fallible_from_slice(b"a").is_err() => Some(String::new()),
@@ -39,6 +40,9 @@ list |  | b\"\" | by hand
 list |  | [] | by hand
 length | 0102 | 0x2 | by hand
 length | 0 | the input is no hex | by hand
+lengths | 01 ; 02 03 | (1, 2) | by hand
+lengths |  ; | the input is no pair | by hand
+lengths | 01 ; 0 | the input is no hex | by hand
 quoted | a \"0x1f\" b | \"a \\\"0x1f\\\" b\" | by hand
 hex | 7fff0400 | x\"7fff 0400\" | by hand
 name | Number::SEVEN | Number(0x7) | by hand
@@ -75,7 +79,7 @@ fn a_row_is_as_wanted_in_each_form() -> Result<(), Fail> {
         &|call, input| { answer(call, input) },
     )?;
     same_text("faults", judged.faults.as_str(), "")?;
-    same("rows, failed", &(judged.rows, judged.failed), &(11, 0))
+    same("rows, failed", &(judged.rows, judged.failed), &(14, 0))
 }
 
 /// Returns what is printed of rows.

@@ -23,6 +23,24 @@ where
     }
 }
 
+/// Answers a row whose input is bytes as hex, ` ; ` and more bytes, as [`hex_row`] does.
+pub fn hex_pair_row<T: fmt::Debug, F>(input: &str, call: F) -> Option<String>
+where
+    F: Fn(&[u8], &[u8]) -> T,
+{
+    let Some((one, other)) = input.split_once(" ; ") else {
+        return fallible_format!("the input is no pair").ok();
+    };
+    match (bytes(one), bytes(other)) {
+        (Ok(one), Ok(other)) => {
+            let found = call(one.as_slice(), other.as_slice());
+            fallible_format!("{found:?}").ok()
+        }
+        (Err(FromHexError::OutOfMemory), _) | (_, Err(FromHexError::OutOfMemory)) => None,
+        _ => fallible_format!("the input is no hex").ok(),
+    }
+}
+
 /// Returns a text in quotes, as `Debug` prints it.
 ///
 /// # Errors
