@@ -6,7 +6,6 @@ SECONDS = 600
 PROGRAMS = uefi_list uefi_audit
 TO = $(DESTDIR)$(PREFIX)
 MADE = out/install
-TESTS = $(or $(shell python3 tools/crates.py tests '$(CRATE)'),$(error name a crate of crates.txt: make $@ CRATE=uefi_path))
 .PHONY: all check test try install fuzz plant bench rust help $(PROGRAMS:%=build-%)
 
 all: $(PROGRAMS:%=build-%)  ## both programs, proved and built
@@ -17,11 +16,11 @@ $(PROGRAMS:%=build-%): build-%:
 check:  ## the one test command: every proof and test from scratch
 	@./check
 
-test:  ## CRATE=uefi_path: the tests of a crate, proved and run
-	@for it in $(TESTS); do (cd crates/$$it && rt test) || exit; done
+test:  ## CRATE=uefi_path: the tests and rows of a crate, proved and run
+	@tools/run_tests prove '$(CRATE)'
 
 try:  ## CRATE=uefi_path: the same, run without a proof
-	@for it in $(TESTS); do (cd crates/$$it && rt try --test) || exit; done
+	@tools/run_tests try '$(CRATE)'
 
 install: all  ## PREFIX=/usr/local DESTDIR=: programs, manual pages, completions, the library for C
 	@rm -rf $(MADE) && mkdir -p $(MADE)/bin
