@@ -37,6 +37,8 @@ mod mutated_quotes;
 mod node_rows;
 mod node_tests;
 mod panics;
+#[allow(dead_code, unused_imports)]
+mod path_rows;
 mod path_tests;
 #[allow(dead_code)]
 mod quote_tests;
