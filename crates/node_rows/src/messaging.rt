@@ -44,27 +44,38 @@ pub(crate) fn messaging<'a>(
         MessagingUsbWwid(value) => usb_wwid(alloc, node, &value),
         MessagingUsbClass(value) => shown(alloc, node, "MessagingUsbClass", &value),
         MessagingI2o(value) => shown(alloc, node, "MessagingI2o", &value),
+        MessagingUart(value) => shown(alloc, node, "MessagingUart", &value),
+        MessagingSasEx(value) => shown(alloc, node, "MessagingSasEx", &value),
+        MessagingNvmeNamespace(value) => shown(alloc, node, "MessagingNvmeNamespace", &value),
+        MessagingUfs(value) => shown(alloc, node, "MessagingUfs", &value),
+        MessagingSd(value) => shown(alloc, node, "MessagingSd", &value),
+        MessagingEmmc(value) => shown(alloc, node, "MessagingEmmc", &value),
+        MessagingNvdimmNamespace(value) => shown(alloc, node, "MessagingNvdimmNamespace", &value),
+        MessagingNvmeOfNamespace(value) => shown(alloc, node, "MessagingNvmeOfNamespace", &value),
+        _ => network(alloc, node, value),
+    }
+}
+
+/// The same of a connection of a network, or of a vendor.
+fn network<'a>(
+    alloc: Global,
+    node: DevicePathNode<'a>,
+    value: DevicePathNodeEnum<'a>,
+) -> Option<String> {
+    match value {
         MessagingMacAddress(value) => shown(alloc, node, "MessagingMacAddress", &value),
         MessagingIpv4(value) => shown(alloc, node, "MessagingIpv4", &value),
         MessagingIpv6(value) => shown(alloc, node, "MessagingIpv6", &value),
         MessagingVlan(value) => shown(alloc, node, "MessagingVlan", &value),
         MessagingInfiniband(value) => shown(alloc, node, "MessagingInfiniband", &value),
-        MessagingUart(value) => shown(alloc, node, "MessagingUart", &value),
         MessagingVendor(value) => shown(alloc, node, "MessagingVendor", &value),
-        MessagingSasEx(value) => shown(alloc, node, "MessagingSasEx", &value),
         MessagingIscsi(value) => shown(alloc, node, "MessagingIscsi", &value),
-        MessagingNvmeNamespace(value) => shown(alloc, node, "MessagingNvmeNamespace", &value),
         MessagingUri(value) => shown(alloc, node, "MessagingUri", &value),
-        MessagingUfs(value) => shown(alloc, node, "MessagingUfs", &value),
-        MessagingSd(value) => shown(alloc, node, "MessagingSd", &value),
         MessagingBluetooth(value) => shown(alloc, node, "MessagingBluetooth", &value),
         MessagingWifi(value) => shown(alloc, node, "MessagingWifi", &value),
-        MessagingEmmc(value) => shown(alloc, node, "MessagingEmmc", &value),
         MessagingBluetoothLe(value) => shown(alloc, node, "MessagingBluetoothLe", &value),
         MessagingDns(value) => shown(alloc, node, "MessagingDns", &value),
-        MessagingNvdimmNamespace(value) => shown(alloc, node, "MessagingNvdimmNamespace", &value),
         MessagingRestService(value) => shown(alloc, node, "MessagingRestService", &value),
-        MessagingNvmeOfNamespace(value) => shown(alloc, node, "MessagingNvmeOfNamespace", &value),
         _ => format!(in alloc; "no type").ok(),
     }
 }

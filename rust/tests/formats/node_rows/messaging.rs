@@ -44,27 +44,37 @@ pub(crate) fn messaging<'a>(
         MessagingUsbWwid(value) => usb_wwid(node, &value),
         MessagingUsbClass(value) => shown(node, "MessagingUsbClass", &value),
         MessagingI2o(value) => shown(node, "MessagingI2o", &value),
+        MessagingUart(value) => shown(node, "MessagingUart", &value),
+        MessagingSasEx(value) => shown(node, "MessagingSasEx", &value),
+        MessagingNvmeNamespace(value) => shown(node, "MessagingNvmeNamespace", &value),
+        MessagingUfs(value) => shown(node, "MessagingUfs", &value),
+        MessagingSd(value) => shown(node, "MessagingSd", &value),
+        MessagingEmmc(value) => shown(node, "MessagingEmmc", &value),
+        MessagingNvdimmNamespace(value) => shown(node, "MessagingNvdimmNamespace", &value),
+        MessagingNvmeOfNamespace(value) => shown(node, "MessagingNvmeOfNamespace", &value),
+        _ => network(node, value),
+    }
+}
+
+/// The same of a connection of a network, or of a vendor.
+fn network<'a>(
+    node: DevicePathNode<'a>,
+    value: DevicePathNodeEnum<'a>,
+) -> Option<String> {
+    match value {
         MessagingMacAddress(value) => shown(node, "MessagingMacAddress", &value),
         MessagingIpv4(value) => shown(node, "MessagingIpv4", &value),
         MessagingIpv6(value) => shown(node, "MessagingIpv6", &value),
         MessagingVlan(value) => shown(node, "MessagingVlan", &value),
         MessagingInfiniband(value) => shown(node, "MessagingInfiniband", &value),
-        MessagingUart(value) => shown(node, "MessagingUart", &value),
         MessagingVendor(value) => shown(node, "MessagingVendor", &value),
-        MessagingSasEx(value) => shown(node, "MessagingSasEx", &value),
         MessagingIscsi(value) => shown(node, "MessagingIscsi", &value),
-        MessagingNvmeNamespace(value) => shown(node, "MessagingNvmeNamespace", &value),
         MessagingUri(value) => shown(node, "MessagingUri", &value),
-        MessagingUfs(value) => shown(node, "MessagingUfs", &value),
-        MessagingSd(value) => shown(node, "MessagingSd", &value),
         MessagingBluetooth(value) => shown(node, "MessagingBluetooth", &value),
         MessagingWifi(value) => shown(node, "MessagingWifi", &value),
-        MessagingEmmc(value) => shown(node, "MessagingEmmc", &value),
         MessagingBluetoothLe(value) => shown(node, "MessagingBluetoothLe", &value),
         MessagingDns(value) => shown(node, "MessagingDns", &value),
-        MessagingNvdimmNamespace(value) => shown(node, "MessagingNvdimmNamespace", &value),
         MessagingRestService(value) => shown(node, "MessagingRestService", &value),
-        MessagingNvmeOfNamespace(value) => shown(node, "MessagingNvmeOfNamespace", &value),
         _ => fallible_format!("no type").ok(),
     }
 }

@@ -27,7 +27,9 @@ fn written_and_buffer(input: &str) -> Option<(usize, Vec<u8>)> {
     };
     let mut buffer = bytes(sample(name)).ok()?;
     buffer.truncate(length.parse::<usize>().ok()?);
-    Some((written.parse::<usize>().ok()?, buffer))
+    // The greatest number has more bits than some processors' lengths.
+    let written = written.parse::<u64>().ok()?;
+    Some((usize::try_from(written).unwrap_or(usize::MAX), buffer))
 }
 
 /// Returns the units of a name.
