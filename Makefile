@@ -6,8 +6,7 @@ SECONDS = 600
 PROGRAMS = uefi_list uefi_audit
 TO = $(DESTDIR)$(PREFIX)
 MADE = out/install
-TESTS = $(or $(shell python3 tools/crates.py tests '$(CRATE)'),$(error name a crate of crates.txt: make $@ CRATE=uefi_path))
-.PHONY: all check test try install fuzz plant bench rust help $(PROGRAMS:%=build-%)
+.PHONY: all check test try edits install fuzz plant bench rust help $(PROGRAMS:%=build-%)
 
 all: $(PROGRAMS:%=build-%)  ## both programs, proved and built
 
@@ -17,11 +16,14 @@ $(PROGRAMS:%=build-%): build-%:
 check:  ## the one test command: every proof and test from scratch
 	@./check
 
-test:  ## CRATE=uefi_path: the tests of a crate, proved and run
-	@for it in $(TESTS); do (cd crates/$$it && rt test) || exit; done
+test:  ## what needs no toolchain: the packages' tests, the programs by cargo, pages. CRATE=uefi_path: a crate's tests and rows, proved
+	@$(if $(CRATE),tools/run_tests prove '$(CRATE)',rust/checks/cargo_tests.py && tools/pages)
 
-try:  ## CRATE=uefi_path: the same, run without a proof
-	@for it in $(TESTS); do (cd crates/$$it && rt try --test) || exit; done
+try:  ## CRATE=uefi_path: a crate's tests and rows, run without a proof
+	@tools/run_tests try '$(CRATE)'
+
+edits:  ## CRATE=uefi_path: mistakes in a crate, which the prover has to refuse
+	@tests/edits/run --all $(CRATE)
 
 install: all  ## PREFIX=/usr/local DESTDIR=: programs, manual pages, completions, the library for C
 	@rm -rf $(MADE) && mkdir -p $(MADE)/bin
@@ -32,10 +34,10 @@ install: all  ## PREFIX=/usr/local DESTDIR=: programs, manual pages, completions
 	mkdir -p '$(TO)' && cp -R $(MADE)/. '$(TO)' && rm -rf $(MADE)
 
 fuzz:  ## SECONDS=600: mutated inputs, by the programs and by plain Rust
-	@tests/fuzz $(SECONDS)
+	@tests/outside/fuzz $(SECONDS)
 
 plant:  ## CRATE=: mutants of each function of a crate, or of all crates
-	@tests/plant $(CRATE)
+	@tests/outside/plant $(CRATE)
 
 bench:  ## bench/RESULTS.md: the readers beside plain Rust
 	@bench/run

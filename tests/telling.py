@@ -1,10 +1,15 @@
-"""What the tests share: a line for each outcome, and the counts at the end."""
+"""What the tests share: a line for each outcome, the counts at the end, and copies of a crate. It finds the modules of `tools`."""
 import os
+import shutil
 import subprocess
 import sys
+from pathlib import Path
+
+TOP = os.path.dirname(os.path.dirname(os.path.realpath(__file__)))
+sys.path.insert(0, f"{TOP}/tools")
+import crates
 
 # The test, by its path in the repository without `tests/` and `run`.
-TOP = os.path.dirname(os.path.dirname(os.path.realpath(__file__)))
 TEST = os.path.relpath(os.path.realpath(sys.argv[0]), TOP).removeprefix("tests/").removesuffix("/run")
 # So much of what came out is printed where it is not as expected.
 SHOWN = 2000
@@ -23,6 +28,15 @@ def call(folder, *words):
     how = {"stdin": subprocess.DEVNULL, "stdout": subprocess.PIPE, "stderr": subprocess.STDOUT, "text": True}
     ran = subprocess.run(words, cwd=folder, check=False, **how)
     return ran.returncode == 0, ran.stdout
+
+
+def copy_crate(room, name):
+    """Copies a crate and the libraries below it, with what was proved of them, into an empty folder."""
+    known = crates.read()
+    names = [*crates.below(known, name), name]
+    for it in names:
+        shutil.copytree(f"{TOP}/crates/{it}", f"{room}/crates/{it}")
+    Path(f"{room}/crates.txt").write_text("".join(f"{known[it].text}\n" for it in names))
 
 
 def counted(outcomes):

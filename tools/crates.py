@@ -1,10 +1,6 @@
-"""The lines of a `crates.txt`. Each names a crate, its kind, and the libraries that it uses.
-
-`python3 tools/crates.py tests NAME` prints the crates that test a crate.
-"""
+"""The lines of a `crates.txt`. Each names a crate, its kind, and the libraries that it uses."""
 import glob
 import os
-import sys
 import typing
 
 TOP = os.path.dirname(os.path.dirname(os.path.realpath(__file__)))
@@ -40,9 +36,14 @@ def below(lines, name):
     return found
 
 
+def is_of_tests(name):
+    """Whether a crate is one of tests, which are functions or rows, or for them alone."""
+    return name.endswith(("_tests", "_rows")) or name.startswith("test_") or name == "rows"
+
+
 def is_for_users(name):
     """Whether a crate is no crate of tests, examples or measures."""
-    return not name.endswith(("_tests", "_examples", "_bench")) and not name.startswith("test_")
+    return not is_of_tests(name) and not name.endswith(("_examples", "_bench"))
 
 
 def sources(name):
@@ -54,13 +55,11 @@ def sources(name):
 
 
 def tests_of(lines, name):
-    """Returns the crate of a library's tests, the crates of tests that use it if none has its name, or else the crate itself; nothing for an unknown one."""
-    own = f"{name.removeprefix('uefi_')}_tests"
-    users = [it for it in lines if it.endswith("_tests") and name in lines[it].uses]
-    return ([own] if own in users else users or [name]) if name in lines else []
-
-
-if __name__ == "__main__":
-    if sys.argv[1:2] != ["tests"] or len(sys.argv) != 3:
-        sys.exit(__doc__)
-    print(*tests_of(read(), sys.argv[2]))
+    """Returns the crates that test a crate, in order: itself if it has tests, else those of its tests and of its rows, else those that use it; nothing for an unknown one."""
+    if name not in lines:
+        return []
+    tests = [it for it in lines if it.endswith(("_tests", "_rows"))]
+    own = [it for it in tests if it.rpartition("_")[0] == name.removeprefix("uefi_")]
+    users = [it for it in tests if name in lines[it].uses]
+    has_tests = os.path.isfile(f"{TOP}/crates/{name}/src/tests.rt")
+    return [name] if has_tests else own or users or [name]

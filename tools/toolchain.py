@@ -5,6 +5,7 @@
 `inside` says so in one line and returns None, and each caller goes on by these commands.
 
   tools/toolchain.py at_once           prints how many proofs `rt ci` is to run at a time, by the variable RT_JOBS
+  tools/toolchain.py clear             removes the built libraries, unless all are of their present sources
   tools/toolchain.py keep              marks the libraries that `rt ci` proved, so that `rt` doesn't prove them again
   tools/toolchain.py TOOL ARGUMENT..   runs a tool of LLVM, as `clang`, `ld.lld` or `llvm-objdump`
 """
@@ -16,7 +17,6 @@ import re
 import shutil
 import subprocess
 import sys
-import tempfile
 
 sys.dont_write_bytecode = True
 sys.path.insert(0, os.path.dirname(os.path.realpath(__file__)))
@@ -24,7 +24,7 @@ import crates
 from proving import at_once
 
 # What is used of the module beside `rt`, and of its class for a crate.
-NEEDED = ("Crate", "KEPT", "KIT", "RATTLE", "guarded", "lock")
+NEEDED = ("Crate", "KEPT", "RATTLE", "guarded", "lock")
 NEEDED_OF_A_CRATE = ("below", "has_kept", "is_built", "makes_rlib", "stamp", "words")
 NEEDED_FIELDS = ("deps", "folder", "name", "rlib")
 # The system's tools that take the place of LLVM's; of `llvm-NAME` that is NAME.
@@ -98,20 +98,16 @@ class Inside:
             mark_as_built(library, stamp)
         return status, lines
 
-    def prove_archives(self, name, archives, options, run):
-        """Proves a static library over proved ones, and has each backend write its archive, by a function that runs words in the crate's folder. Returns the last status and lines."""
-        crate = self.crates[name]
-        with self.locked([*crate.below(), crate]), tempfile.TemporaryDirectory() as room:
-            words, checked = [*crate.words(["--jobs", "1"], keeps=False), *options], f"{room}/checked"
-            status, lines = run(self.command("check", *words, "--progress", "-o", checked))
-            for option in ("--logic-built", "--jobs"):
-                at = words.index(option)
-                del words[at : at + 2]
-            words += ["--crate-checked", checked, "--toolchain", f"{self.module.KIT}/toolchain"]
-            for backend, path in archives.items():
-                if status == 0:
-                    status, lines = run(self.command("build", *words, "--backend", backend, "-o", path))
-        return status, lines
+    def clear(self):
+        """Removes the built libraries, unless all are of their present sources.
+
+        `rt ci` puts back a library that was there before it ran, in place of the one that it proves. One of other
+        sources would be proved again, and so would those above it: they fit only the libraries that they were built over.
+        """
+        libraries = [it for it in self.crates.values() if it.makes_rlib()]
+        if not all(it.is_built() for it in libraries):
+            for it in libraries:
+                shutil.rmtree(os.path.dirname(it.rlib), ignore_errors=True)
 
     def keep(self):
         """Marks each library that is newer than its sources and than all below it, where all below is marked by the same call.
@@ -205,6 +201,10 @@ def main(words):
         sys.exit(__doc__)
     if words == ["at_once"]:
         print(at_once())
+        return 0
+    if words == ["clear"]:
+        if made := inside("what was built stays, and may be proved again"):
+            made.clear()
         return 0
     if words != ["keep"]:
         return run_tool(*words).returncode

@@ -7,7 +7,7 @@ from concurrent.futures import ThreadPoolExecutor
 
 TOP = os.path.dirname(os.path.dirname(os.path.dirname(os.path.realpath(__file__))))
 sys.path[:0] = [f"{TOP}/tests", f"{TOP}/tools"]
-from golden import cases
+from case_table import cases
 from telling import tells
 
 # The program without the script that builds it first.
@@ -73,5 +73,6 @@ def ends_well(name, command, folder, target, **more):
     environment = {**os.environ, "CARGO_TARGET_DIR": target, "CARGO_NET_OFFLINE": "true", **more}
     ran = subprocess.run(command, cwd=folder, env=environment, stdout=subprocess.PIPE, stderr=subprocess.STDOUT, text=True, check=False)
     if ran.returncode:
-        print(ran.stdout[-3000:])
+        lines = [line for line in ran.stdout.splitlines() if not line.endswith(": as expected")]
+        print("\n".join(lines)[-3000:])
     return tells(name, ran.returncode, 0), ran.stdout

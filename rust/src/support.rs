@@ -8,5 +8,6 @@ pub(crate) mod debug;
 #[allow(dead_code)]
 pub(crate) mod fallible;
 pub(crate) mod sealed;
+pub(crate) mod shown;
 pub(crate) mod signed;
 pub(crate) mod simd;

@@ -1,5 +1,5 @@
 //! Plain readers of the formats: std alone, written for the comparison with the proved ones, in the
-//! manner of the Rust crate. The bench measures them, and the fuzzing run (`tests/fuzz`) compares
+//! manner of the Rust crate. The bench measures them, and the fuzzing run (`tests/outside/fuzz`) compares
 //! what they find.
 
 pub mod config;

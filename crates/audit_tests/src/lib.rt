@@ -1,6 +1,6 @@
 //! Tests of the libraries `pcr_replay`, `uefi_audits` and `audit_text` over their public names: the
-//! log of a real firmware, with the values and the lines that another program prints for it, worked
-//! logs of both versions, and the names of types and algorithms.
+//! PCRs that logs lead to, the types of events, errors, allocations that fail, and what `uefi_audit`
+//! doesn't print. What it prints is in the tables of `tests/audit/cases`.
 #![tactic(auto)]
 
 #[cfg(test)]

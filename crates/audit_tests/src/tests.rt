@@ -1,8 +1,5 @@
 mod check;
-mod content;
 mod diff;
-mod events;
-mod json;
 mod replay;
 mod text;
 mod types;

@@ -29,8 +29,6 @@ mod report;
 mod request;
 mod starts;
 mod task;
-#[cfg(test)]
-mod tests;
 mod verification;
 
 fn main(rt: HostRuntime) -> ExitCode {

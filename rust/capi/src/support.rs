@@ -12,6 +12,8 @@ pub(crate) mod debug;
 pub(crate) mod fallible;
 #[path = "../../src/support/sealed.rs"]
 pub(crate) mod sealed;
+#[path = "../../src/support/shown.rs"]
+pub(crate) mod shown;
 #[path = "../../src/support/signed.rs"]
 pub(crate) mod signed;
 #[path = "../../src/support/simd.rs"]

@@ -4,6 +4,8 @@
 //! The test calls itself as the program, with an allocator that counts the requests from the start of the program's `main`
 //! function on. Excepted is what Rust makes before it: for its handler of stack overflows the name of the thread and a node
 //! of a map, and a stack for signals.
+//!
+//! The calls are golden cases, which `tests/case_table.py` reads: this needs python3.
 
 use std::alloc::{GlobalAlloc, Layout, System};
 use std::fs::{self, File};
@@ -86,40 +88,26 @@ fn top() -> PathBuf {
     Path::new(env!("CARGO_MANIFEST_DIR")).join("../..")
 }
 
-/// Returns a case, with its files in a folder of its own.
-fn case_of(program: &'static str, name: &str) -> Case {
-    let tests = top().join("tests").join(if program == "uefi_audit" { "audit" } else { "program" });
-    let case = tests.join("cases").join(name);
-    let folder = Path::new(env!("CARGO_TARGET_TMPDIR")).join("memory").join(name);
-    copy(&case.join("data"), &folder);
-    for sample in text(&case.join("samples")).lines() {
-        fs::copy(top().join("samples").join(sample), folder.join(sample)).unwrap();
-    }
-    let words = text(&case.join("args")).lines().map(str::to_owned).collect();
-    let input = case.join("stdin");
-    Case { program, name: name.to_owned(), words, folder, input: if input.is_file() { input } else { "/dev/null".into() } }
-}
-
-/// Returns the text of a file, an empty one if it isn't there.
-fn text(path: &Path) -> String {
-    fs::read_to_string(path).unwrap_or_default()
-}
-
-/// Copies what is in a folder, if it is there.
-fn copy(from: &Path, to: &Path) {
-    fs::create_dir_all(to).unwrap();
-    for entry in fs::read_dir(from).into_iter().flatten() {
-        let path = entry.unwrap().path();
-        let copied = to.join(path.file_name().unwrap());
-        if path.is_dir() {
-            copy(&path, &copied);
-        } else {
-            fs::copy(&path, copied).unwrap();
-        }
-    }
+/// Returns cases of a program, each with its files in a folder of its own, as the script writes them that reads their
+/// tables.
+fn cases_of(program: &'static str, names: &[&str]) -> Vec<Case> {
+    let tests = top().join("tests");
+    let tables = tests.join(if program == "uefi_audit" { "audit" } else { "program" }).join("cases");
+    let room = Path::new(env!("CARGO_TARGET_TMPDIR")).join("memory").join(program);
+    let mut script = Command::new("python3");
+    script.arg(tests.join("case_table.py")).args([&tables, &room]).args(names);
+    assert!(script.status().unwrap().success(), "{script:?}");
+    names.iter().map(|name| Case::new(program, name, &room.join(name))).collect()
 }
 
 impl Case {
+    /// Returns a case that a folder has.
+    fn new(program: &'static str, name: &str, room: &Path) -> Case {
+        let words = fs::read_to_string(room.join("words")).unwrap();
+        let words = words.split_terminator('\0').map(str::to_owned).collect();
+        Case { program, name: name.to_owned(), words, folder: room.join("files"), input: room.join("stdin") }
+    }
+
     /// Runs the program, and refuses requests.
     fn run(&self, refused: &str) -> Output {
         let mut command = Command::new(env::current_exe().unwrap());
@@ -170,7 +158,7 @@ fn main() -> ExitCode {
     if let Ok(program) = env::var(PROGRAM) {
         return run_as(&program);
     }
-    let cases = CASES.iter().flat_map(|(program, names)| names.iter().map(|name| case_of(program, name)));
+    let cases = CASES.iter().flat_map(|(program, names)| cases_of(program, names));
     let faults: Vec<String> = cases.flat_map(|case| case.faults()).collect();
     faults.iter().for_each(|fault| println!("{fault}"));
     println!("{} ends not as expected", faults.len());

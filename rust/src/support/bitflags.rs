@@ -62,10 +62,8 @@ macro_rules! items {
 
         impl core::fmt::Debug for $name {
             fn fmt(&self, f: &mut core::fmt::Formatter<'_>) -> core::fmt::Result {
-                let flags = [$(($name::$flag, stringify!($flag))),*].into_iter();
-                let names = flags.filter(|(flag, _)| self.0 & flag.0 == flag.0).map(|(_, name)| name);
-                let unnamed = u64::from(self.0 & !$name::NAMED);
-                crate::support::debug::write_flags(f, stringify!($name), names, unnamed)
+                let flags = [$((stringify!($flag), u64::from($name::$flag.0))),*];
+                crate::support::shown::write_flags(f, stringify!($name), &flags, u64::from(self.0))
             }
         }
 

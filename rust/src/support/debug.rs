@@ -1,31 +1,14 @@
-//! Short `Debug`: bytes in hex, of a view its length and how many items it has, flags by name.
+//! Short `Debug`: of a view its length and how many items it has, of a text its first characters.
 
 use crate::formats::pcr_replay::{PcrValue, Pcrs};
-use crate::formats::uefi_base::{CStr16, Guid, UnalignedSlice};
+use crate::formats::uefi_base::{CStr16, UnalignedSlice};
 use crate::formats::uefi_map::{MemoryMap, MemoryMapRef, MemoryMapRefMut};
 use crate::formats::uefi_path::{DevicePath, DevicePathInstance, DevicePathNode};
 use crate::formats::uefi_records::{FileInfo, FileSystemInfo, FileSystemVolumeLabel};
 use crate::formats::uefi_tcg::{AlgorithmId, Log, v1, v2};
 use core::fmt::{self, Debug, Formatter, Write};
 
-/// How many bytes or characters are shown.
-const SHOWN: usize = 64;
-
-/// Bytes in hex; of more than [`SHOWN`] the first, and how many there are.
-pub(crate) struct Bytes<'a>(pub(crate) &'a [u8]);
-
-impl Debug for Bytes<'_> {
-    fn fmt(&self, f: &mut Formatter<'_>) -> fmt::Result {
-        f.write_char('[')?;
-        for byte in self.0.iter().take(SHOWN) {
-            write!(f, "{byte:02x}")?;
-        }
-        if self.0.len() > SHOWN {
-            write!(f, ".. of {} bytes", self.0.len())?;
-        }
-        f.write_char(']')
-    }
-}
+pub(crate) use super::shown::{Bytes, SHOWN};
 
 /// A text in quotation marks; of more than [`SHOWN`] characters the first, and two points.
 struct Text<I>(I);
@@ -37,31 +20,6 @@ impl<I: Iterator<Item = char> + Clone> Debug for Text<I> {
             f.write_char(character)?;
         }
         f.write_str(if self.0.clone().nth(SHOWN).is_some() { "..\"" } else { "\"" })
-    }
-}
-
-/// A set of flags by their names, and in hex the bits without one.
-pub(crate) fn write_flags(
-    f: &mut Formatter<'_>,
-    set: &str,
-    names: impl Iterator<Item = &'static str>,
-    unnamed: u64,
-) -> fmt::Result {
-    write!(f, "{set}(")?;
-    let mut before = "";
-    for name in names {
-        write!(f, "{before}{name}")?;
-        before = " | ";
-    }
-    if unnamed != 0 || before.is_empty() {
-        write!(f, "{before}{unnamed:#x}")?;
-    }
-    f.write_char(')')
-}
-
-impl Debug for Guid {
-    fn fmt(&self, f: &mut Formatter<'_>) -> fmt::Result {
-        write!(f, "Guid({self})")
     }
 }
 

@@ -49,5 +49,10 @@ pub fn decode(digits: &[u8]) -> Result<Vec<u8>, FromHexError> {
         let c = char::from(digits[index]);
         c.to_digit(16).ok_or(FromHexError::InvalidHexCharacter { c, index })
     };
-    (0..digits.len() / 2).map(|pair| Ok((value(2 * pair)? * 16 + value(2 * pair + 1)?) as u8)).collect()
+    let mut bytes = Vec::new();
+    bytes.try_reserve_exact(digits.len() / 2).map_err(|_| FromHexError::OutOfMemory)?;
+    for index in (0..digits.len()).step_by(2) {
+        bytes.push((value(index)? * 16 + value(index + 1)?) as u8);
+    }
+    Ok(bytes)
 }

@@ -32,12 +32,21 @@ mod macros;
 mod map_tests;
 mod memory;
 mod mutated_quotes;
+// An allocator is no argument here, and `Debug` reads the fields of what it prints.
+#[allow(dead_code, unused_imports)]
+mod node_rows;
 mod node_tests;
 mod panics;
+#[allow(dead_code, unused_imports)]
+mod path_rows;
 mod path_tests;
 #[allow(dead_code)]
 mod quote_tests;
-mod records_tests;
+#[allow(dead_code, unused_imports)]
+mod records_rows;
+// Rows of other crates call the rest.
+#[allow(dead_code, unused_imports)]
+mod rows;
 mod sizes;
 mod sm3_tests;
 mod support;

@@ -17,4 +17,5 @@ pub(crate) mod simd;
 mod own_fallible;
 
 pub mod fallible;
+pub(crate) mod shown;
 pub mod test;

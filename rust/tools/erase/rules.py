@@ -52,10 +52,16 @@ TESTS = rules([(before.replace("ALLOC", alloc), after) for alloc in ("alloc", "r
 ]] + [
     ("vec![in rt.alloc(); $$item; $$count]", "Vec::fallible_from_elem($$item, $$count)"),
     ("let alloc = rt.alloc();", ""), (".clone()", ".fallible_clone()"), ("|heap|", "||"), ("|alloc, $name|", "|$name|"),
+    ("|heap, $call, $input|", "|$call, $input|"), ("|_heap, $call, $input|", "|$call, $input|"),
+])
+# The program that answers rows of files is a test, which has their texts.
+MAIN = rules([
+    ("use std::process::ExitCode;", ""),
+    ("fn main(rt: HostRuntime) -> Result<ExitCode, Fail>", "#[test]\nfn each_row_is_as_wanted() -> Result<(), Fail>"),
 ])
 # Elements that go, of lists of parameters, arguments and fields: allocators, their types, writers' types, handles.
 ALLOCATOR = re.compile(
-    r'&?(alloc|heap)|&?rt\.alloc\(\)|self\.alloc|(alloc|heap): ?&?(A|Global|Refusing(<Global>)?)|&?Refusing<Global>'
+    r'&?(alloc|heap)|&?rt\.alloc\(\)|self\.alloc|(alloc|heap): ?&?(A|Global|Refusing(<Global>)?)|&?Refusing<Global>|&Refusing'
     r'|A(: ?Allocator)?( ?\+ ?(Copy|Clone))?( = Global)?|Allocator|Global|_?rt: ?HostRuntime|W: ?fmt::Write')
 # The imports of which nothing is left then.
 EMPTY = rules([("use std::alloc::{};", ""), ("use std::alloc::Allocator;", ""), ("use std::alloc::Global;", ""),
@@ -64,7 +70,7 @@ EMPTY = rules([("use std::alloc::{};", ""), ("use std::alloc::Allocator;", ""), 
 CORE, SUPPORT, STD = {'cell', 'cmp', 'error', 'fmt', 'iter', 'mem', 'ops', 'str'}, {'alloc', 'simd', 'test'}, {'io'}
 # All that may be left.
 ATTRIBUTES = {'allow', 'cfg', 'derive', 'inline', 'must_use', 'non_exhaustive', 'repr', 'test'}
-MACROS = {'assert', 'bitflag_items', 'fallible_format', 'fallible_write', 'fallible_writeln', 'format_args', 'matches',
+MACROS = {'assert', 'bitflag_items', 'fallible_format', 'fallible_write', 'fallible_writeln', 'format_args', 'include_str', 'matches',
           'unreachable', 'write', 'writeln'}
 # Names of which none may be left.
 NO_RULE = {'A', 'Allocator', 'Drop', 'Global', 'HostRuntime', 'Model', 'alloc', 'ghost', 'laws', 'rt', 'unsafe'}

@@ -1,8 +1,8 @@
 """Writes what is left in Rust: without allocators, over `core`, in the modules of this package."""
 import re
 
-from rules import ALLOCATOR, ATTRIBUTES, CORE, EMPTY, MACROS, NO_RULE, RUST, STD, SUPPORT, TESTS
-from tokens import OPEN, lex, rewrite
+from rules import ALLOCATOR, ATTRIBUTES, CORE, EMPTY, MACROS, MAIN, NO_RULE, RUST, STD, SUPPORT, TESTS
+from tokens import OPEN, Rule, lex, rewrite
 
 
 class Forms:
@@ -35,6 +35,12 @@ def to_rust(source, modules, root, tests, more=None):
     attributes(source, more.inline and not tests)
     specified(source)
     check(source, more)
+
+
+def main_to_test(source, files):
+    """Makes a test of the `main` of a program that answers the rows of files."""
+    texts = ''.join(f'\n        ("{name}", include_str!("{name}")),' for name in files)
+    rewrite(source, [*MAIN, Rule('answered(&rt,', f'answered(&[{texts}\n    ],')])
 
 
 def labels(source):

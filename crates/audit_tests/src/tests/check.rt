@@ -1,4 +1,3 @@
 //! What the digests of events are the hash of.
 
 mod lines;
-mod logs;

@@ -1,5 +1,3 @@
-//! The lines of text of what logs lead to.
+//! How names are displayed.
 
-mod banks;
 mod names;
-mod told;

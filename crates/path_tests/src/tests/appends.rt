@@ -1,123 +1,12 @@
-use std::alloc::{Allocator, Global};
+use std::alloc::Allocator;
 use std::test::Fail;
 use test_support::samples::TWO_INSTANCES;
-use test_support::{bytes, each_makes, same, same_bytes, takes_memory};
-use uefi_path::build::BuildError;
-use uefi_path::{BoxedDevicePath, DevicePath, DevicePathInstance, DevicePathNode};
-
-fn nodes(alloc: Global, input: &[u8]) -> Result<Vec<u8>, Fail> {
-    let path = DevicePath::try_from(input)?;
-    Ok(Vec::from_slice(alloc, path.nodes())?)
-}
-
-#[test]
-fn a_path_has_the_bytes_before_its_end(rt: HostRuntime) -> Result<(), Fail> {
-    const ROWS: [[&str; 2]; 4] = [
-        [
-            TWO_INSTANCES,
-            "a0b0 0600 0a0b  a1b1 0800 14151617  7f01 0400  a2b2 0600 1e1f  a3b3 0800 28292a2b",
-        ],
-        ["7f02 0400  7fff 0400", "7f02 0400"],
-        ["0101 0600 001f  7fff 0600 aabb  cc", "0101 0600 001f"],
-        ["7fff 0400", ""],
-    ];
-    each_makes(rt.alloc(), &ROWS, nodes)
-}
-
-/// Returns the bytes of a box.
-fn boxed_bytes<A: Allocator>(alloc: Global, boxed: &BoxedDevicePath<A>) -> Result<Vec<u8>, Fail> {
-    Ok(Vec::from_slice(alloc, boxed.as_path().as_bytes())?)
-}
-
-/// Returns the path that the bytes begin with, and the bytes after it.
-fn path_and_rest<'a>(input: &'a [u8]) -> Option<(DevicePath<'a>, &'a [u8])> {
-    let path = DevicePath::try_from(input).ok()?;
-    Some((path, input.strip_prefix(path.as_bytes())?))
-}
-
-/// Appends the path that follows the first one.
-fn append_path(alloc: Global, input: &[u8]) -> Result<Vec<u8>, Fail> {
-    let (path, rest) = path_and_rest(input).ok_or("a path")?;
-    let other = DevicePath::try_from(rest)?;
-    boxed_bytes(alloc, &path.append_path(alloc, &other)?)
-}
-
-#[test]
-fn a_path_is_appended_to_a_path(rt: HostRuntime) -> Result<(), Fail> {
-    const ROWS: [[&str; 2]; 3] = [
-        [
-            "0101 0600 001f  7fff 0400  a0b0 0600 0a0b  7f01 0400  a2b2 0600 1e1f  7fff 0400",
-            "0101 0600 001f  a0b0 0600 0a0b  7f01 0400  a2b2 0600 1e1f  7fff 0400",
-        ],
-        ["7fff 0600 aabb  7fff 0600 ccdd", "7fff 0600 ccdd"],
-        [
-            "0101 0600 001f  7fff 0400  7fff 0400",
-            "0101 0600 001f  7fff 0400",
-        ],
-    ];
-    each_makes(rt.alloc(), &ROWS, append_path)
-}
-
-/// Appends the node that follows the path.
-fn append_node(alloc: Global, input: &[u8]) -> Result<Vec<u8>, Fail> {
-    let (path, rest) = path_and_rest(input).ok_or("a path")?;
-    let node = DevicePathNode::try_from(rest)?;
-    let boxed = path.append_node(alloc, &node).ok().ok_or("a path")?;
-    boxed_bytes(alloc, &boxed)
-}
-
-#[test]
-fn a_node_is_appended_to_a_path(rt: HostRuntime) -> Result<(), Fail> {
-    const ROWS: [[&str; 2]; 3] = [
-        [
-            "0101 0600 001f  7fff 0400  a0b0 0600 0a0b",
-            "0101 0600 001f  a0b0 0600 0a0b  7fff 0400",
-        ],
-        [
-            "7fff 0600 aabb  0101 0600 001f",
-            "0101 0600 001f  7fff 0400",
-        ],
-        ["7fff 0400  7f01 0400", "7f01 0400  7fff 0400"],
-    ];
-    each_makes(rt.alloc(), &ROWS, append_node)
-}
-
-#[test]
-fn an_end_entire_node_is_not_appended(rt: HostRuntime) -> Result<(), Fail> {
-    let input = bytes(rt.alloc(), TWO_INSTANCES)?;
-    let path = DevicePath::try_from(input.as_slice())?;
-    let end = bytes(rt.alloc(), "7fff 0600 aabb")?;
-    let node = DevicePathNode::try_from(end.as_slice())?;
-    let refused = path.append_node(rt.alloc(), &node).err();
-    same("an end-entire node", &refused, &Some(BuildError::EndEntire))
-}
+use test_support::{bytes, same_bytes, takes_memory};
+use uefi_path::{DevicePath, DevicePathInstance, DevicePathNode};
 
 /// Returns the first instance of the path that the bytes begin with.
 fn first_instance<'a>(input: &'a [u8]) -> Option<DevicePathInstance<'a>> {
     DevicePath::try_from(input).ok()?.instance_iter().next()
-}
-
-/// Appends the first instance of the path that follows the first one.
-fn append_instance(alloc: Global, input: &[u8]) -> Result<Vec<u8>, Fail> {
-    let (path, rest) = path_and_rest(input).ok_or("a path")?;
-    let instance = first_instance(rest).ok_or("an instance")?;
-    boxed_bytes(alloc, &path.append_instance(alloc, &instance)?)
-}
-
-#[test]
-fn an_instance_is_appended_to_a_path(rt: HostRuntime) -> Result<(), Fail> {
-    const ROWS: [[&str; 2]; 3] = [
-        [
-            "0101 0600 001f  7fff 0400  a0b0 0600 0a0b  7f01 0400  a2b2 0600 1e1f  7fff 0400",
-            "0101 0600 001f  7f01 0400  a0b0 0600 0a0b  7fff 0400",
-        ],
-        [
-            "0101 0600 001f  7fff 0600 aabb  a0b0 0600 0a0b  7fff 0600 ccdd",
-            "0101 0600 001f  7f01 0400  a0b0 0600 0a0b  7fff 0400",
-        ],
-        ["7fff 0400  7f02 0400  7fff 0400", "7f01 0400  7fff 0400"],
-    ];
-    each_makes(rt.alloc(), &ROWS, append_instance)
 }
 
 /// Returns the lengths of what the appends give; or `None` if memory ran out.

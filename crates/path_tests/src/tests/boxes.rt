@@ -1,8 +1,8 @@
 use std::alloc::Allocator;
 use std::test::Fail;
 use test_support::samples::TWO_INSTANCES;
-use test_support::{bytes, joined_bytes, same, same_bytes, takes_memory};
-use uefi_path::{BoxedDevicePath, ByteConversionError, DevicePath, DevicePathInstance};
+use test_support::{bytes, same, takes_memory};
+use uefi_path::{DevicePath, DevicePathInstance};
 
 /// Returns whether the path in a box is the path, and its length; or `None` if memory ran out.
 fn box_path<A: Allocator>(alloc: A, path: &DevicePath<'_>) -> Option<(bool, usize)> {
@@ -28,25 +28,6 @@ fn a_path_stays_as_it_is_boxed(rt: HostRuntime) -> Result<(), Fail> {
         path.node_iter().count(),
     );
     same("the path", &stays, &(true, 5))
-}
-
-#[test]
-fn a_box_keeps_the_path_that_bytes_begin_with(rt: HostRuntime) -> Result<(), Fail> {
-    let alone = bytes(rt.alloc(), TWO_INSTANCES)?;
-    let input = joined_bytes(rt.alloc(), &[TWO_INSTANCES, "7fff 0400"])?;
-    let boxed = BoxedDevicePath::try_from(input)?;
-    same_bytes("the path", boxed.as_path().as_bytes(), alone.as_slice())
-}
-
-#[test]
-fn bytes_without_a_path_are_not_boxed(rt: HostRuntime) -> Result<(), Fail> {
-    let cut = bytes(rt.alloc(), "7fff 0500")?;
-    let refused = BoxedDevicePath::try_from(cut).err();
-    same(
-        "no path",
-        &refused,
-        &Some(ByteConversionError::InvalidLength),
-    )
 }
 
 /// Returns whether the instance in a box is the instance, and its length; or `None` if memory ran

@@ -4,9 +4,9 @@ ghost use Rattle.uefi_path.specs.Node.{Node};
 use std::alloc::{Allocator, Global};
 use std::test::Fail;
 use test_support::samples::{CON_OUT, TWO_INSTANCES};
-use test_support::{bytes, each_makes, holds, same, same_bytes, takes_memory};
+use test_support::{bytes, holds, same, same_bytes, takes_memory};
 use uefi_path::build::{BuildError, BuildNode, DevicePathBuilder, DevicePathVecBuilder};
-use uefi_path::{BoxedDevicePath, DevicePath, DevicePathNode, DeviceSubType, DeviceType};
+use uefi_path::{BoxedDevicePath, DevicePath, DeviceSubType, DeviceType};
 
 /// Builds a path of the nodes of another one in the buffer.
 fn build_in<'a>(buffer: &'a mut [u8], path: &DevicePath<'_>) -> Result<DevicePath<'a>, BuildError> {
@@ -27,39 +27,6 @@ fn build_boxed<A: Allocator>(
         builder = builder.push(&node)?;
     }
     builder.finalize()
-}
-
-/// Bytes that begin with a path, and the path that is built of its nodes.
-const REBUILT: [[&str; 2]; 4] = [
-    [TWO_INSTANCES, TWO_INSTANCES],
-    [CON_OUT, CON_OUT],
-    ["7f02 0400  7fff 0400  cc", "7f02 0400  7fff 0400"],
-    ["7fff 0600 aabb", "7fff 0400"],
-];
-
-/// Returns the path that is built of the nodes of the path that the bytes begin with.
-fn rebuilt(alloc: Global, input: &[u8]) -> Result<Vec<u8>, Fail> {
-    let mut buffer = vec![in alloc; 0xeeu8; 200]?;
-    let path = DevicePath::try_from(input)?;
-    let built = build_in(&mut buffer, &path).ok().ok_or("a path")?;
-    Ok(Vec::from_slice(alloc, built.as_bytes())?)
-}
-
-#[test]
-fn a_path_is_built_in_a_buffer(rt: HostRuntime) -> Result<(), Fail> {
-    each_makes(rt.alloc(), &REBUILT, rebuilt)
-}
-
-/// Returns the path that is built in a vector.
-fn rebuilt_boxed(alloc: Global, input: &[u8]) -> Result<Vec<u8>, Fail> {
-    let path = DevicePath::try_from(input)?;
-    let built = build_boxed(alloc, &path).ok().ok_or("a path")?;
-    Ok(Vec::from_slice(alloc, built.as_path().as_bytes())?)
-}
-
-#[test]
-fn a_path_is_built_in_a_vector(rt: HostRuntime) -> Result<(), Fail> {
-    each_makes(rt.alloc(), &REBUILT, rebuilt_boxed)
 }
 
 /// Returns the length of the path that is built in a vector; or `None` if memory ran out.
@@ -107,30 +74,6 @@ fn a_buffer_that_is_too_short_keeps_its_bytes(rt: HostRuntime) -> Result<(), Fai
         for size in *written..*needed {
             stays_after(rt.alloc(), &path, size, *written, *needed)?;
         }
-    }
-    Ok(())
-}
-
-/// Returns the nodes in bytes, each as the error of a builder without room and of one in a vector.
-fn errors(alloc: Global, input: &[u8]) -> Result<(Option<BuildError>, Option<BuildError>), Fail> {
-    let node = DevicePathNode::try_from(input)?;
-    let mut none: [u8; 0] = [];
-    let in_buffer = DevicePathBuilder::with_buf(&mut none).push(&node).err();
-    let in_vector = DevicePathVecBuilder::new(alloc).push(&node).err();
-    Ok((in_buffer, in_vector))
-}
-
-#[test]
-fn an_end_entire_node_is_not_pushed(rt: HostRuntime) -> Result<(), Fail> {
-    let refused = Some(BuildError::EndEntire);
-    let rows = [
-        ("7fff 0400", (refused, refused)),
-        ("7fff 0600 aabb", (refused, refused)),
-        ("7f01 0400", (Some(BuildError::BufferTooSmall(4)), None)),
-    ];
-    for (row, expected) in rows {
-        let input = bytes(rt.alloc(), row)?;
-        same(row, &errors(rt.alloc(), input.as_slice())?, &expected)?;
     }
     Ok(())
 }

@@ -1,7 +1,7 @@
 // @generated from proved source. It is not edited.
 
-//! Tests of the library `uefi_node` over its public names: a row for each type of nodes, refused
-//! nodes and values, and a path of a real boot entry.
+//! Tests of the library `uefi_node` over its public names that are no rows: values that no node
+//! has, paths that are built, and allocations that fail. Its rows are in `crates/node_rows/data`.
 
 #[cfg(test)]
 mod tests;

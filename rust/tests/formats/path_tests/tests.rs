@@ -3,8 +3,4 @@
 mod appends;
 mod boxes;
 mod builders;
-mod load_options;
-mod names;
-mod paths;
-mod values;
 mod written_options;

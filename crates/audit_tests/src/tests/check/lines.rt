@@ -1,10 +1,8 @@
-use audit_text::json::push_check_json;
-use audit_text::text::push_check;
 use pcr_replay::ReadLog;
-use std::alloc::{AllocError, Allocator, Global};
+use std::alloc::{Allocator, Global};
 use std::test::Fail;
-use test_support::{bytes, same_text, takes_memory};
-use uefi_audits::check::{CheckResult, Form, TypeCounts, check_entries};
+use test_support::{bytes, takes_memory};
+use uefi_audits::check::check_entries;
 use uefi_tcg::{LastEntry, Log, LogEntry};
 
 /// A separator that matches and one that doesn't, a command of GRUB, a file of GRUB by its name, a
@@ -19,95 +17,6 @@ const LOG: &str =
     677275622e63666700080000000d0000000100000004000a04b971b03da607ce6c455184037b660c \
     a89f780400000061000000010000001100008001000000040095cb0bfd2977c761298d9624e4b4d4 \
     c72a39974a00000000";
-
-const LINES: &str =
-    "LOG: event 1 at offset 107 (EV_SEPARATOR, PCR 0) matches in none of the forms of its type
-EV_SEPARATOR: 1 match (1 data), 1 don't match, 0 not in the log
-EV_IPL: 2 match (1 command, 1 narrowed), 0 don't match, 1 not in the log
-0x80000011: 0 match, 0 don't match, 1 not in the log
-";
-
-const JSON_LINES: &str = "{\"index\":1,\"log\":\"LOG\",\"matches\":false,\"offset\":107,\"pcr\":\
-     0,\"type\":{\"name\":\"EV_SEPARATOR\",\"number\":4}}\n{\"checked\"\
-     :[{\"forms\":{\"data\":1},\"matched\":1,\"matches_none\":1,\"not_in_lo\
-     g\":0,\"type\":{\"name\":\"EV_SEPARATOR\",\"number\":4}},{\"forms\":{\"\
-     command\":1,\"narrowed\":1},\"matched\":2,\"matches_none\":0,\"not_in_\
-     log\":1,\"type\":{\"name\":\"EV_IPL\",\"number\":13}},{\"forms\":{},\"\
-     matched\":0,\"matches_none\":0,\"not_in_log\":1,\"type\":{\"number\":2\
-     147483665}}],\"log\":\"LOG\"}\n";
-
-/// Returns the lines of what is found of a log's events.
-fn lines(alloc: Global, input: &[u8]) -> Result<String, Fail> {
-    let read = ReadLog::new(alloc, Log::new(input, LastEntry::Unknown))?;
-    let found = check_entries(alloc, read.entries())?;
-    let mut text = String::new(alloc);
-    push_check(&mut text, "LOG", &found)?;
-    Ok(text)
-}
-
-/// Returns the same in JSON.
-fn json_lines(alloc: Global, input: &[u8]) -> Result<String, Fail> {
-    let read = ReadLog::new(alloc, Log::new(input, LastEntry::Unknown))?;
-    let found = check_entries(alloc, read.entries())?;
-    let mut text = String::new(alloc);
-    push_check_json(&mut text, alloc, "LOG", &found)?;
-    Ok(text)
-}
-
-#[test]
-fn an_event_that_matches_in_no_form_has_a_line(rt: HostRuntime) -> Result<(), Fail> {
-    let input = bytes(rt.alloc(), LOG)?;
-    let found = lines(rt.alloc(), input.as_slice())?;
-    same_text("the lines", found.as_str(), LINES)
-}
-
-#[test]
-fn an_event_that_matches_in_no_form_has_an_object(rt: HostRuntime) -> Result<(), Fail> {
-    let input = bytes(rt.alloc(), LOG)?;
-    let found = json_lines(rt.alloc(), input.as_slice())?;
-    same_text("the lines of JSON", found.as_str(), JSON_LINES)
-}
-
-/// Returns the index and the offset of each mismatch, and the counts of each type, in words.
-fn found_words(alloc: Global, found: &CheckResult<'_>) -> Result<String, Fail> {
-    let mut words = String::new(alloc);
-    for mismatch in found.mismatches.as_slice() {
-        let (index, offset) = (mismatch.index, mismatch.entry.offset);
-        write!(words, "{index} at {offset};")?;
-    }
-    for counts in found.types.as_slice() {
-        push_counts(&mut words, counts)?;
-    }
-    Ok(words)
-}
-
-/// Appends the counts of a type.
-fn push_counts(words: &mut String, counts: &TypeCounts) -> Result<(), AllocError> {
-    let (number, matches) = (counts.event_type.0, counts.matches);
-    let (data, narrowed) = (
-        counts.matching_in(Form::Data),
-        counts.matching_in(Form::Narrowed),
-    );
-    let (none, outside) = (counts.matches_none, counts.not_in_log);
-    write!(
-        words,
-        " {number:x}: {matches} {data} {narrowed} {none} {outside};"
-    )
-}
-
-#[test]
-fn events_are_counted_by_type(rt: HostRuntime) -> Result<(), Fail> {
-    let input = bytes(rt.alloc(), LOG)?;
-    let log = Log::new(input.as_slice(), LastEntry::Unknown);
-    let read = ReadLog::new(rt.alloc(), log)?;
-    let found = check_entries(rt.alloc(), read.entries())?;
-    let words = found_words(rt.alloc(), &found)?;
-    same_text(
-        "the log",
-        words.as_str(),
-        "1 at 107; 4: 1 1 0 1 0; d: 2 0 1 0 1; 80000011: 0 0 0 0 1;",
-    )
-}
 
 /// Returns how many mismatches and how many types are found, if memory suffices.
 fn found_counts<A: Allocator + Copy>(heap: A, entries: &[LogEntry<'_>]) -> Option<(usize, usize)> {

@@ -57,8 +57,13 @@ fn check_bank(
     holds("the PCRs at locality 3", are_same(&found, &wanted))
 }
 
+/// A log of an event of PCR 24, which extends none.
+const OTHER_PCR: &str = "18000000 08000000 aaaaaaaaaaaaaaaaaaaaaaaaaaaaaaaaaaaaaaaa 00000000";
+
 #[test]
 fn what_was_read_leads_to_what_the_log_does(rt: HostRuntime) -> Result<(), Fail> {
+    let other = bytes(rt.alloc(), OTHER_PCR)?;
+    check(rt.alloc(), Log::new(other.as_slice(), LastEntry::Unknown))?;
     let log = bytes(rt.alloc(), MACHINE_LOG)?;
     check(rt.alloc(), Log::new(log.as_slice(), LastEntry::Unknown))?;
     check(rt.alloc(), Log::new(&[], LastEntry::Empty))?;

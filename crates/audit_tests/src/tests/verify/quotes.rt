@@ -1,10 +1,6 @@
-use crate::tests::replay::quotes::{
-    ALL_PCRS, PCRS_0_AND_7, PCRS_0_TO_7, SHA256_LOG, SHA384_PCR_14,
-};
+use crate::tests::replay::quotes::{SHA256_LOG, SHA384_PCR_14};
 use audit_text::json::push_quote_json;
-use audit_text::text::{
-    push_no_digest, push_no_pcr, push_other_nonce, push_quote, push_quote_verdict,
-};
+use audit_text::text::{push_no_digest, push_other_nonce, push_quote, push_quote_verdict};
 use pcr_replay::{Bank, ReadLog};
 use std::alloc::Global;
 use std::test::Fail;
@@ -13,120 +9,24 @@ use tpm_quote::Quote;
 use uefi_audits::verify::{QuoteVerdict, ReceivedQuote, covered_pcrs};
 use uefi_tcg::{LastEntry, Log};
 
-/// A quote of a file `a.quote`, the nonce that it was asked for with, and what is said of a log
-/// `a.log` that leads to the PCRs of the software TPM in the bank of SHA-256.
-struct Row {
-    quote: &'static str,
-    nonce: Option<&'static str>,
-    said: &'static str,
-}
-
 /// The quote of PCR 0 and 7 with another digest.
 const OTHER_DIGEST: &str = "ff54434780180022000bde213066bcb2e45af5c1ef49eddb9df8b8141685d4d94a654f\
      703f33f24bde3600000000000000000614000000010000000001201910230016363600\
      000001000b038100000020bdfd4926ecd611ee6fa67ceac3045f32b8e9c5b3b5fbebcf\
      dbbaed1082f8ea53";
 
-const ROWS: [Row; 7] = [
-    // The nonce is the one that was asked for.
-    Row {
-        quote: PCRS_0_TO_7,
-        nonce: Some("0123456789abcdef"),
-        said: "a.quote: hash sha256, nonce 0x0123456789abcdef, clock 1488 ms, s\
-               afe, reset count 1, restart count 0\na.log: agrees: sha256: 0-7 \
-               (PCR 0 starts at locality 0)\n",
-    },
-    // There is no nonce, and any will do.
-    Row {
-        quote: PCRS_0_AND_7,
-        nonce: None,
-        said: "a.quote: hash sha256, no nonce, clock 1556 ms, safe, reset count \
-               1, restart count 0\na.log: agrees: sha256: 0, 7 (PCR 0 starts at \
-               locality 0)\n",
-    },
-    // All PCRs.
-    Row {
-        quote: ALL_PCRS,
-        nonce: None,
-        said: "a.quote: hash sha256, nonce 0xcafe, clock 1664 ms, safe, reset c\
-               ount 1, restart count 0\na.log: agrees: sha256: 0-23 (PCR 0 star\
-               ts at locality 0)\n",
-    },
-    // Another nonce.
-    Row {
-        quote: PCRS_0_TO_7,
-        nonce: Some("0123"),
-        said: "a.quote: has nonce 0x0123456789abcdef, not nonce 0x0123\na.quote\
-               : hash sha256, nonce 0x0123456789abcdef, clock 1488 ms, safe, re\
-               set count 1, restart count 0\na.log: agrees: sha256: 0-7 (PCR 0 \
-               starts at locality 0)\n",
-    },
-    // No nonce, though one was asked for.
-    Row {
-        quote: PCRS_0_AND_7,
-        nonce: Some("00"),
-        said: "a.quote: has no nonce, not nonce 0x00\na.quote: hash sha256, no \
-               nonce, clock 1556 ms, safe, reset count 1, restart count 0\na.lo\
-               g: agrees: sha256: 0, 7 (PCR 0 starts at locality 0)\n",
-    },
-    // Another digest.
-    Row {
-        quote: OTHER_DIGEST,
-        nonce: None,
-        said: "a.quote: hash sha256, no nonce, clock 1556 ms, safe, reset count \
-               1, restart count 0\na.log: differs: sha256: 0, 7: the quote has \
-               the digest 0xbdfd4926ecd611ee6fa67ceac3045f32b8e9c5b3b5fbebcfdbb\
-               aed1082f8ea53, the log leads to 0xbdfd4926ecd611ee6fa67ceac3045f\
-               32b8e9c5b3b5fbebcfdbbaed1082f8ea52 (PCR 0 starts at locality 0)\
-               \n",
-    },
-    // A bank of which the log has no digest.
-    Row {
-        quote: SHA384_PCR_14,
-        nonce: None,
-        said: "a.quote: hash sha256, no nonce, clock 1702 ms, safe, reset count \
-               1, restart count 0\na.log: no event has a digest of the bank sha\
-               384\n",
-    },
-];
+/// What is said of a quote `a.quote` of a bank of which the log `a.log` has no digest. `uefi_audit
+/// verify` refuses it before.
+const LINES: &str = "a.quote: hash sha256, no nonce, clock 1702 ms, safe, reset count \
+    1, restart count 0\na.log: no event has a digest of the bank sha384\n";
 
-const JSON_ROWS: [Row; 3] = [
-    // It agrees.
-    Row {
-        quote: PCRS_0_TO_7,
-        nonce: Some("0123456789abcdef"),
-        said: "{\"locality\":0,\"log\":\"a.log\",\"quote\":{\"agrees\":true,\"b\
-               anks\":[{\"algorithm\":\"sha256\",\"pcrs\":[0,1,2,3,4,5,6,7]}],\
-               \"clock\":{\"clock\":1488,\"reset_count\":1,\"restart_count\":0,\
-               \"safe\":true},\"digest\":\"312f22ee6b7daa0fcf66bf9e9b6c3e0d3b74\
-               6c3aaa69ecf213b00cd7e68ce446\",\"hash\":\"sha256\",\"leads_to\":\
-               \"312f22ee6b7daa0fcf66bf9e9b6c3e0d3b746c3aaa69ecf213b00cd7e68ce4\
-               46\",\"nonce\":\"0123456789abcdef\",\"nonce_agrees\":true}}\n",
-    },
-    // Another digest, and another nonce.
-    Row {
-        quote: OTHER_DIGEST,
-        nonce: Some("00"),
-        said: "{\"locality\":0,\"log\":\"a.log\",\"quote\":{\"agrees\":false,\"\
-               banks\":[{\"algorithm\":\"sha256\",\"pcrs\":[0,7]}],\"clock\":{\
-               \"clock\":1556,\"reset_count\":1,\"restart_count\":0,\"safe\":tr\
-               ue},\"digest\":\"bdfd4926ecd611ee6fa67ceac3045f32b8e9c5b3b5fbebc\
-               fdbbaed1082f8ea53\",\"hash\":\"sha256\",\"leads_to\":\"bdfd4926e\
-               cd611ee6fa67ceac3045f32b8e9c5b3b5fbebcfdbbaed1082f8ea52\",\"nonc\
-               e\":\"\",\"nonce_agrees\":false}}\n",
-    },
-    // The log leads to no digest.
-    Row {
-        quote: SHA384_PCR_14,
-        nonce: None,
-        said: "{\"locality\":0,\"log\":\"a.log\",\"quote\":{\"agrees\":false,\"\
-               banks\":[{\"algorithm\":\"sha384\",\"pcrs\":[14]}],\"clock\":{\"\
-               clock\":1702,\"reset_count\":1,\"restart_count\":0,\"safe\":true\
-               },\"digest\":\"17b0761f87b081d5cf10757ccc89f12be355c70e2e29df288\
-               b65b30710dcbcd1\",\"hash\":\"sha256\",\"leads_to\":null,\"nonce\
-               \":\"\",\"nonce_agrees\":null}}\n",
-    },
-];
+/// The same in JSON.
+const JSON_LINE: &str = "{\"locality\":0,\"log\":\"a.log\",\"quote\":{\"agrees\":false,\"\
+    banks\":[{\"algorithm\":\"sha384\",\"pcrs\":[14]}],\"clock\":{\"\
+    clock\":1702,\"reset_count\":1,\"restart_count\":0,\"safe\":true\
+    },\"digest\":\"17b0761f87b081d5cf10757ccc89f12be355c70e2e29df288\
+    b65b30710dcbcd1\",\"hash\":\"sha256\",\"leads_to\":null,\"nonce\
+    \":\"\",\"nonce_agrees\":null}}\n";
 
 /// Returns the verdict on a quote, after the log.
 fn verdict(alloc: Global, received: &ReceivedQuote<'_>) -> Result<QuoteVerdict, Fail> {
@@ -136,62 +36,27 @@ fn verdict(alloc: Global, received: &ReceivedQuote<'_>) -> Result<QuoteVerdict, 
     Ok(QuoteVerdict::new(alloc, read.entries(), quote, hash, None)?)
 }
 
-/// Returns what is said of a quote.
-fn said(alloc: Global, received: &ReceivedQuote<'_>) -> Result<String, Fail> {
-    let verdict = verdict(alloc, received)?;
+#[test]
+fn a_quote_of_a_bank_that_no_event_extends_has_no_digest(rt: HostRuntime) -> Result<(), Fail> {
+    let alloc = rt.alloc();
+    let message = bytes(alloc, SHA384_PCR_14)?;
+    let received = ReceivedQuote {
+        quote: Quote::try_from(message.as_slice())?,
+        hash: Bank::Sha256,
+        nonce: None,
+    };
+    let verdict = verdict(alloc, &received)?;
     let mut text = String::new(alloc);
-    push_other_nonce(&mut text, alloc, "a.quote", received)?;
-    push_quote(&mut text, alloc, "a.quote", received)?;
+    push_other_nonce(&mut text, alloc, "a.quote", &received)?;
+    push_quote(&mut text, alloc, "a.quote", &received)?;
     push_quote_verdict(&mut text, alloc, "a.log", &received.quote, &verdict)?;
     if let Err(why) = verdict.digest {
         push_no_digest(&mut text, "a.log", why)?;
     }
-    Ok(text)
-}
-
-/// Returns the line of JSON of a quote.
-fn json(alloc: Global, received: &ReceivedQuote<'_>) -> Result<String, Fail> {
-    let verdict = verdict(alloc, received)?;
+    same_text("its lines", text.as_str(), LINES)?;
     let mut line = String::new(alloc);
-    push_quote_json(&mut line, alloc, "a.log", received, &verdict)?;
-    Ok(line)
-}
-
-/// Checks what a function says of the quote of each row.
-fn each_says<F>(alloc: Global, rows: &[Row], say: F) -> Result<(), Fail>
-where
-    F: Fn(Global, &ReceivedQuote<'_>) -> Result<String, Fail>,
-    requires { F.IsAlwaysCallable say }
-{
-    for row in rows {
-        let message = bytes(alloc, row.quote)?;
-        let nonce = bytes(alloc, row.nonce.unwrap_or(""))?;
-        let received = ReceivedQuote {
-            quote: Quote::try_from(message.as_slice())?,
-            hash: Bank::Sha256,
-            nonce: row.nonce.map(|_| nonce.as_slice()),
-        };
-        let found = say(alloc, &received)?;
-        same_text(row.said, found.as_str(), row.said)?;
-    }
-    Ok(())
-}
-
-#[test]
-fn a_quote_and_whether_a_log_leads_to_its_digest_are_said(rt: HostRuntime) -> Result<(), Fail> {
-    each_says(rt.alloc(), &ROWS, said)
-}
-
-#[test]
-fn json_has_the_same(rt: HostRuntime) -> Result<(), Fail> {
-    each_says(rt.alloc(), &JSON_ROWS, json)
-}
-
-#[test]
-fn a_quote_of_no_pcr_is_named(rt: HostRuntime) -> Result<(), Fail> {
-    let mut messages = String::new(rt.alloc());
-    push_no_pcr(&mut messages, "a.quote")?;
-    same_text("none", messages.as_str(), "a.quote: covers no PCR\n")
+    push_quote_json(&mut line, alloc, "a.log", &received, &verdict)?;
+    same_text("its line of JSON", line.as_str(), JSON_LINE)
 }
 
 /// Returns how many PCRs a quote covers, after its lines, if no request is refused.

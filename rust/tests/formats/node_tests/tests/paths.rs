@@ -2,13 +2,10 @@
 
 use crate::support::fallible::*;
 
-use crate::node_tests::tests::checks::units;
 use crate::support::alloc::AllocError;
 use crate::support::test::Fail;
-use crate::test_support::{bytes, holds, same, same_bytes, takes_memory};
-use crate::uefi_base::Guid;
-use crate::uefi_node::DevicePathNodeEnum::*;
-use crate::uefi_node::DevicePathNodeExt;
+use crate::test_support::{bytes, same_bytes, takes_memory};
+use crate::uefi_base::{Guid, UnalignedSlice};
 use crate::uefi_node::media::{FilePath, HardDrive, PartitionFormat, PartitionSignature};
 use crate::uefi_path::build::{BuildError, DevicePathBuilder, DevicePathVecBuilder};
 use crate::uefi_path::{BoxedDevicePath, DevicePath};
@@ -61,8 +58,11 @@ fn unit_bytes(text: &str) -> Result<Vec<u8>, AllocError> {
 
 /// Returns the file whose units the bytes are, or `None` if half a unit is left.
 fn file<'a>(name: &'a [u8]) -> Option<FilePath<'a>> {
+    if name.len() % 2 != 0 {
+        return None;
+    }
     Some(FilePath {
-        path_name: units(name)?,
+        path_name: UnalignedSlice::new(name),
     })
 }
 
@@ -94,22 +94,6 @@ fn the_path_of_a_boot_entry_is_built() -> Result<(), Fail> {
     builds(MBR_PATH, MBR)
 }
 
-#[test]
-fn the_path_of_a_boot_entry_is_read() -> Result<(), Fail> {
-    let input = bytes(GPT_PATH)?;
-    let name = unit_bytes(FILE)?;
-    let file = file(&name).ok_or("a file")?;
-    let mut nodes = DevicePath::try_from(input.as_slice())?.node_iter();
-    let partition = nodes.next().ok_or("a partition")?;
-    holds(
-        "a partition",
-        partition.as_enum() == Ok(MediaHardDrive(GPT)),
-    )?;
-    let path = nodes.next().ok_or("a file")?;
-    holds("a file", path.as_enum() == Ok(MediaFilePath(file)))?;
-    holds("the end", nodes.next().is_none())
-}
-
 /// Builds the path of a file in a partition in a vector.
 fn build_boxed(
     partition: HardDrive,
@@ -135,18 +119,4 @@ fn a_vector_has_the_path_or_memory_was_refused() -> Result<(), Fail> {
     let expected = bytes(MBR_PATH)?;
     same_bytes("the path", built.as_path().as_bytes(), &expected)?;
     takes_memory(&94, || built_length(MBR, file))
-}
-
-#[test]
-fn a_value_without_a_node_ends_no_path() -> Result<(), Fail> {
-    let unknown = HardDrive {
-        partition_signature: PartitionSignature::Unknown {
-            signature_type: 2,
-            signature: [0; 16],
-        },
-        ..GPT
-    };
-    let file = file(b"a\0").ok_or("a file")?;
-    let built = build_boxed(unknown, file).err();
-    same("the error", &built, &Some(BuildError::Form))
 }

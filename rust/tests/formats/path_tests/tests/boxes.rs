@@ -2,8 +2,8 @@
 
 use crate::support::test::Fail;
 use crate::test_support::samples::TWO_INSTANCES;
-use crate::test_support::{bytes, joined_bytes, same, same_bytes, takes_memory};
-use crate::uefi_path::{BoxedDevicePath, ByteConversionError, DevicePath, DevicePathInstance};
+use crate::test_support::{bytes, same, takes_memory};
+use crate::uefi_path::{DevicePath, DevicePathInstance};
 
 /// Returns whether the path in a box is the path, and its length; or `None` if memory ran out.
 fn box_path(path: &DevicePath<'_>) -> Option<(bool, usize)> {
@@ -29,25 +29,6 @@ fn a_path_stays_as_it_is_boxed() -> Result<(), Fail> {
         path.node_iter().count(),
     );
     same("the path", &stays, &(true, 5))
-}
-
-#[test]
-fn a_box_keeps_the_path_that_bytes_begin_with() -> Result<(), Fail> {
-    let alone = bytes(TWO_INSTANCES)?;
-    let input = joined_bytes(&[TWO_INSTANCES, "7fff 0400"])?;
-    let boxed = BoxedDevicePath::try_from(input)?;
-    same_bytes("the path", boxed.as_path().as_bytes(), alone.as_slice())
-}
-
-#[test]
-fn bytes_without_a_path_are_not_boxed() -> Result<(), Fail> {
-    let cut = bytes("7fff 0500")?;
-    let refused = BoxedDevicePath::try_from(cut).err();
-    same(
-        "no path",
-        &refused,
-        &Some(ByteConversionError::InvalidLength),
-    )
 }
 
 /// Returns whether the instance in a box is the instance, and its length; or `None` if memory ran

@@ -1,44 +1,24 @@
 // @generated from proved source. It is not edited.
 
-use crate::support::fallible::*;
-
-use crate::path_tests::tests::load_options::{DISK, SHELL, SMALLEST, TWO_PATHS, UI_APP, UNNAMED_BIT};
 use crate::support::test::Fail;
-use crate::test_support::{
-    bytes, each_gives_in, each_makes, holds, same, same_bytes, takes_memory, without_request,
-};
+use crate::test_support::{bytes, holds, same, same_bytes, takes_memory, without_request};
 use crate::uefi_base::{CString16, Error, Status, UnalignedSlice};
 use crate::uefi_path::{
-    BoxedLoadOption, LoadOption, LoadOptionAttributes, LoadOptionDescription, LoadOptionParts, write_load_option,
+    BoxedLoadOption, LoadOption, LoadOptionAttributes, LoadOptionDescription, LoadOptionParts,
+    write_load_option,
 };
 
-/// An option with half of a surrogate pair in its description, which is no UCS-2 text.
-const SURROGATE: &str = "01000000 0400  00d8 0000  7fff 0400";
+/// `Boot0001` of an OVMF firmware, a disk of QEMU.
+const DISK: &str = "01000000 2000 \
+    5500 4500 4600 4900 2000 5100 4500 4d00 5500 2000 4800 4100 5200 4400 4400 4900 5300 4b00 2000 \
+    5100 4d00 3000 3000 3000 3000 3100 2000 0000 \
+    0201 0c00 d041030a00000000  0101 0600 021f  0312 0a00 0000ffff0000  7fff 0400 \
+    4eac0881119f594d850ee21a522c59b2";
 
-/// Returns the bytes of the option that is written from the parts of the one that the bytes are.
-fn written_again(input: &[u8]) -> Result<Vec<u8>, Fail> {
-    let Ok(option) = LoadOption::try_from(input) else {
-        return Err(Fail::new("no load option"));
-    };
-    let Ok(boxed) = LoadOption::new_in_box(&option.parts()) else {
-        return Err(Fail::new("it isn't written"));
-    };
-    Ok(Vec::fallible_from_slice(boxed.as_bytes())?)
-}
+/// Options without a description, and with other bytes after its path in the file path list.
+const SMALLEST: &str = "00000000 0400  0000  7fff 0400";
 
-#[test]
-fn an_option_that_was_read_is_written_with_the_same_bytes() -> Result<(), Fail> {
-    const ROWS: [[&str; 2]; 7] = [
-        [UI_APP, UI_APP],
-        [DISK, DISK],
-        [SHELL, SHELL],
-        [SMALLEST, SMALLEST],
-        [TWO_PATHS, TWO_PATHS],
-        [UNNAMED_BIT, UNNAMED_BIT],
-        [SURROGATE, SURROGATE],
-    ];
-    each_makes(&ROWS, written_again)
-}
+const TWO_PATHS: &str = "03000000 0a00  4100 0000  7fff 0600 aabb  7f01 0400  cc";
 
 /// The path of the disk, and its optional data.
 const DISK_PATH: &str =
@@ -95,88 +75,6 @@ fn a_view_has_the_parts_that_were_written() -> Result<(), Fail> {
     same_bytes("data", option.optional_data(), read.optional_data())?;
     holds("the buffer", buffer.starts_with(row.as_slice()))?;
     holds("the bytes that follow", buffer.ends_with(&[0xff; 3]))
-}
-
-/// A description, a file path list, and the length of a buffer.
-type Request = (&'static str, &'static str, usize);
-
-/// Returns the length of the option that is written from these parts and a byte of data to a buffer
-/// with that length, or the error; and whether each byte of the buffer stayed. `None` if memory ran
-/// out.
-fn write(
-    request: &Request,
-) -> Option<(Result<usize, (Status, Option<usize>)>, bool)> {
-    let (description, list, room) = *request;
-    let units = bytes(description).ok()?;
-    if units.len() % 2 != 0 {
-        return None;
-    }
-    let path = bytes(list).ok()?;
-    let parts = disk_parts(
-        LoadOptionDescription::Units(UnalignedSlice::new(units.as_slice())),
-        path.as_slice(),
-        &[0xdd],
-    );
-    let mut buffer = Vec::fallible_from_elem(0xff, room).ok()?;
-    let written = write_load_option(buffer.as_mut_slice(), &parts);
-    let stays = buffer.iter().all(|byte| *byte == 0xff);
-    let result = match written {
-        Ok(size) => Ok(size),
-        Err(error) => Err((error.status(), *error.data())),
-    };
-    Some((result, stays))
-}
-
-#[test]
-fn parts_of_no_option_and_short_buffers_have_errors() -> Result<(), Fail> {
-    let invalid = Some((Err((Status::INVALID_PARAMETER, None)), true));
-    let rows = [
-        (("4100 0000", "7fff 0400", 15), Some((Ok(15), false))),
-        (
-            ("4100 0000", "7fff 0400", 14),
-            Some((Err((Status::BUFFER_TOO_SMALL, Some(15))), true)),
-        ),
-        (
-            ("0000", "7fff 0400 7f01 0400", 0),
-            Some((Err((Status::BUFFER_TOO_SMALL, Some(17))), true)),
-        ),
-        (("", "7fff 0400", 20), invalid),
-        (("4100", "7fff 0400", 20), invalid),
-        (("0000 0000", "7fff 0400", 20), invalid),
-        (("0000 4100", "7fff 0400", 20), invalid),
-        (("0000 4100 0000", "7fff 0400", 20), invalid),
-        (("4100 0000", "", 20), invalid),
-        (("4100 0000", "7fff 04", 20), invalid),
-        (("4100 0000", "7f01 0400", 20), invalid),
-        (("4100 0000", "0102 0300  7fff 0400", 20), invalid),
-        (("4100", "7fff 0400", 0), invalid),
-        (("4100 0000", "", 0), invalid),
-    ];
-    each_gives_in(&rows, write)
-}
-
-/// Returns the length of the option with a file path list of this length, or the status of the
-/// error; `None` if memory ran out.
-fn write_long(length: &usize) -> Option<Result<usize, Status>> {
-    let mut list = bytes("7fff 0400").ok()?;
-    list.fallible_resize(*length, 0).ok()?;
-    let units = LoadOptionDescription::Units(UnalignedSlice::new(&[0, 0]));
-    let parts = disk_parts(units, list.as_slice(), &[]);
-    let mut buffer = Vec::fallible_from_elem(0, 70000).ok()?;
-    Some(match write_load_option(buffer.as_mut_slice(), &parts) {
-        Ok(size) => Ok(size),
-        Err(error) => Err(error.status()),
-    })
-}
-
-#[test]
-fn a_file_path_list_has_fewer_than_65536_bytes() -> Result<(), Fail> {
-    let rows = [
-        (65535, Some(Ok(65543))),
-        (65536, Some(Err(Status::INVALID_PARAMETER))),
-        (65540, Some(Err(Status::INVALID_PARAMETER))),
-    ];
-    each_gives_in(&rows, write_long)
 }
 
 #[test]

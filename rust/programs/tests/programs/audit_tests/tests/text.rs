@@ -1,7 +1,5 @@
 // @generated from proved source. It is not edited.
 
-//! The lines of text of what logs lead to.
+//! How names are displayed.
 
-mod banks;
 mod names;
-mod told;

@@ -58,8 +58,13 @@ fn check_bank(
     holds("the PCRs at locality 3", are_same(&found, &wanted))
 }
 
+/// A log of an event of PCR 24, which extends none.
+const OTHER_PCR: &str = "18000000 08000000 aaaaaaaaaaaaaaaaaaaaaaaaaaaaaaaaaaaaaaaa 00000000";
+
 #[test]
 fn what_was_read_leads_to_what_the_log_does() -> Result<(), Fail> {
+    let other = bytes(OTHER_PCR)?;
+    check(Log::new(other.as_slice(), LastEntry::Unknown))?;
     let log = bytes(MACHINE_LOG)?;
     check(Log::new(log.as_slice(), LastEntry::Unknown))?;
     check(Log::new(&[], LastEntry::Empty))?;

@@ -54,9 +54,16 @@ finalize_spec 𝓤 𝓛 𝓜 𝓡 wired =
     let offset = uint_vals w64 builder.end in
     let others = ‵ (owns (usize ∷ []) (builder.end, tt) (offset, tt)) in
     let Rp = Path_row (named_lft 1 0 tt κs) in let Re = Result_row Rp Error_row in
-    let z : ℕ → ℕ → G.Ghost = λ α δ.
-    (((α ∷ [], tt), (full_share, tt), tt, (record r { ghost_name = δ }, (builder.end, tt)),
-    (mut_slice_vals r, (offset, tt))), tt) in
+    let z : ℕ → ℕ → G.Ghost = λ α δ. (
+      (
+        (α ∷ [], tt),
+        (full_share, tt),
+        tt,
+        (record r { ghost_name = δ }, (builder.end, tt)),
+        (mut_slice_vals r, (offset, tt)),
+      ),
+      tt,
+    ) in
     let left : ℕ → ℕ → List ℕ × (Unit {0} × Unit {0}) → Fml = λ α δ ws. lasts g.ended (z α δ).0.0 (z α δ).0.3 ws in
     let fits = are.0.1.1.0.0.1.0 in
     qed 𝓛 (((‵ (flft κ q) ⊛ ‵ ftrue) ⊛ ‵ (Row.own_val builder vs) ⊛ ‵ ftrue) ∷ ‵ ftrue ∷ []) ∵

@@ -83,8 +83,13 @@ push_spec 𝓤 𝓛 𝓜 𝓡 wired N laws ghosts dict met =
     let node = ghosts.node a.1.0.now in let Valid = ghosts.is_valid a.1.0.now in
     let Re = Result_row Row Error_row in
     let z : ℕ → ℕ → G.Ghost = λ α δ. (
-      ((α ∷ [], κs.1), (full_share, qs.1), bounds, (record r { ghost_name = δ }, (builder.end, a.1)),
-          (mut_slice_vals r, (offset, (shr_vals a.1.0, tt)))),
+      (
+        (α ∷ [], κs.1),
+        (full_share, qs.1),
+        bounds,
+        (record r { ghost_name = δ }, (builder.end, a.1)),
+        (mut_slice_vals r, (offset, (shr_vals a.1.0, tt))),
+      ),
       tt,
     ) in
     let left : ℕ → ℕ → List ℕ × (Unit {0} × (Unit {0} × Unit {0})) → Fml = λ α δ ws.
@@ -97,9 +102,22 @@ push_spec 𝓤 𝓛 𝓜 𝓡 wired N laws ghosts dict met =
     → Sq 𝓛 (‵ (Re.own_val e (v ∷ [])) ∷ ‵ (flft κ q) ∷ tokens ∷ ‵ (rests e) ∷ []) (prop (W.post y v)) = λ v e known.
     suffices ! _ (ends_at 𝓛 ended stayed c y v e ((tt, tt), (tt, tt)) (tt, (tt, tt))) $
     use0 𝓛 (Gone 𝓤 2) (all_gone 𝓛 2) $ join ! $ move ! (1 ∷ 2 ∷ []) $ join ! $ join ! $
-    use0 𝓛 (Facts 𝓤 (_ ∷ _ ∷ _ ∷ _ ∷ _ ∷ _ ∷ _ ∷ [])) (all_said 𝓛 (_ ∷ _ ∷ _ ∷ _ ∷ _ ∷ _ ∷ _ ∷ [])
-    (known.valid, (known.accepted, (known.nodes, (known.bytes, (known.room,
-    (known.same_buffer, (known.refused, tt)))))))) $
+    use0 𝓛 (Facts 𝓤 (_ ∷ _ ∷ _ ∷ _ ∷ _ ∷ _ ∷ _ ∷ [])) (all_said 𝓛 (_ ∷ _ ∷ _ ∷ _ ∷ _ ∷ _ ∷ _ ∷ []) (
+      known.valid,
+      (
+        known.accepted,
+        (
+          known.nodes,
+          (
+            known.bytes,
+            (
+              known.room,
+              (known.same_buffer, (known.refused, tt)),
+            ),
+          ),
+        ),
+      ),
+    )) $
     move ! (2 ∷ 0 ∷ []) $ join ! $ move ! (1 ∷ 0 ∷ []) $ join ! $ by ! (id⊢ 𝓤 _) in
     qed 𝓛 (((‵ (flft κ q) ⊛ tokens) ⊛ ‵ (Row.own_val builder vs) ⊛ ‵ (owns (Node_row ∷ []) a.1 (shr_vals a.1.0, tt)))
     ∷ (raw (fact 𝓤 (κs.1.1.0 ⊑ N.lives)) ⊛ ‵ ftrue) ∷ []) ∵

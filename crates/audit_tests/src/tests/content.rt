@@ -1,3 +1,0 @@
-//! What data say.
-
-mod said;

@@ -1,9 +1,0 @@
-//! The lines of events.
-
-mod blocks;
-mod contents;
-mod logs;
-mod machine_log;
-mod names;
-mod paths;
-mod values;

@@ -1,3 +1,0 @@
-//! The lines of JSON of what logs lead to.
-
-mod replay;

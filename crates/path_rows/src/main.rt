@@ -1,0 +1,23 @@
+//! The rows of the folder `data`, answered by the library `uefi_path`.
+#![tactic(auto)]
+
+use crate::answer::answer;
+use rows::answered;
+use std::process::ExitCode;
+use std::test::Fail;
+
+mod answer;
+mod appending;
+mod attributes;
+mod nodes;
+mod options;
+mod paths;
+mod samples;
+mod writing;
+
+fn main(rt: HostRuntime) -> Result<ExitCode, Fail> {
+    answered(
+        &rt,
+        |heap, call, input| answer(rt.alloc(), heap, call, input),
+    )
+}

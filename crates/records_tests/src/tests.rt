@@ -1,3 +1,0 @@
-mod file;
-mod flags;
-mod time;

@@ -1,6 +1,0 @@
-//! The records of files and volumes.
-
-mod names;
-mod reading;
-mod searching;
-mod writing;

@@ -1,4 +1,0 @@
-//! Times.
-
-pub(crate) mod making;
-mod reading;

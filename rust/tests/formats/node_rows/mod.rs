@@ -1,0 +1,27 @@
+// @generated from proved source. It is not edited.
+
+//! The rows of the folder `data`, answered by the library `uefi_node`.
+
+use crate::node_rows::answer::answer;
+use crate::rows::answered;
+use crate::support::test::Fail;
+
+mod answer;
+mod flags;
+mod messaging;
+mod names;
+mod nodes;
+mod parts;
+mod texts;
+
+#[test]
+fn each_row_is_as_wanted() -> Result<(), Fail> {
+    answered(&[
+        ("nodes.rows", include_str!("nodes.rows")),
+        ("refused.rows", include_str!("refused.rows")),
+        ("texts.rows", include_str!("texts.rows")),
+        ("from_text.rows", include_str!("from_text.rows")),
+    ],
+        |call, input| answer(call, input),
+    )
+}

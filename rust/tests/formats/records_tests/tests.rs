@@ -1,5 +1,0 @@
-// @generated from proved source. It is not edited.
-
-mod file;
-mod flags;
-mod time;

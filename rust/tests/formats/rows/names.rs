@@ -1,0 +1,52 @@
+// @generated from proved source. It is not edited.
+
+use crate::support::fallible::*;
+
+use crate::support::alloc::AllocError;
+
+/// The names that rows of a file have, each with the value that it stands for.
+#[derive(Debug)]
+pub(crate) struct Names<'a> {
+    values: Vec<(&'a str, &'a str)>,
+}
+
+impl<'a> Names<'a> {
+    /// Returns no names.
+    pub(crate) fn new() -> Names<'a> {
+        Names {
+            values: Vec::new(),
+        }
+    }
+
+    /// Adds a name.
+    pub(crate) fn add(&mut self, name: &'a str, value: &'a str) -> Result<(), AllocError> {
+        self.values.fallible_push((name, value))?;
+        Ok(())
+    }
+
+    /// Returns what a word stands for, if it is a name, and else the word.
+    fn value_of<'b>(&self, word: &'b str) -> &'b str
+    where
+        'a: 'b,
+    {
+        let found = self.values.iter().find(|(name, _)| *name == word);
+        found.map_or(word, |(_, value)| *value)
+    }
+
+    /// Returns a text with each name in it replaced by the value that it stands for.
+    pub(crate) fn replaced(&self, text: &str) -> Result<String, AllocError> {
+        let mut whole = String::new();
+        let mut word = String::new();
+        for character in text.chars() {
+            if character.is_ascii_alphanumeric() || character == '_' || character == ':' {
+                word.fallible_push(character)?;
+                continue;
+            }
+            whole.fallible_push_str(self.value_of(word.as_str()))?;
+            whole.fallible_push(character)?;
+            word.clear();
+        }
+        whole.fallible_push_str(self.value_of(word.as_str()))?;
+        Ok(whole)
+    }
+}
