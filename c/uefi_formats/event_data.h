@@ -70,13 +70,13 @@ UEFI_CALL UEFI_NODISCARD UEFI_NONNULL UefiStatus
 uefi_blob2(UefiBytes event_data, UefiBlob *out);
 
 typedef struct {
-    UefiBytes text; /* without the NUL: ASCII, or units of two bytes, little-endian */
-    bool is_utf16;  /* surrogates needn't be pairs */
+    UefiBytes text; /* without the NUL: UTF-8, or units of two bytes, little-endian */
+    bool is_utf16;  /* units of Latin text: tabs, line ends, U+0020-7E, U+00A0-17F */
     bool has_nul;   /* a NUL follows the text */
 } UefiEventText;
 
-/* The text that the data are (10.4.1 EV_IPL): ASCII, or else UTF-16, without a
- * NUL but at its end. */
+/* The text that the data are (10.4.1 EV_IPL): UTF-8, or else UTF-16, without a
+ * NUL but at its end. UEFI_OTHER_DATA if they are no text. */
 UEFI_CALL UEFI_NODISCARD UEFI_NONNULL UefiStatus
 uefi_event_text(UefiBytes event_data, UefiEventText *out);
 

@@ -15,20 +15,31 @@ extern "C" {
  *
  *     static UefiWorkspace workspace;
  *     UefiQuote quote;
+ *     UefiPcrSelection selection;
  *     UefiQuoteDigest found;
+ *     uint32_t lacking = 0xff; // PCR 0 to 7
+ *     size_t cursor = 0;
  *     UefiStatus status = uefi_quote(message, &quote);
  *     if (status != UEFI_OK)
  *         return no_quote(status);
+ *     while (uefi_quote_next_selection(message, &cursor, &selection) == UEFI_OK)
+ *         if (selection.algorithm == UEFI_TPM_ALG_SHA256)
+ *             lacking &= ~selection.pcrs;
  *     status = uefi_quote_digest(message, UEFI_HASH_OF_SIZE, log, last_entry, UEFI_LOCALITY_OF_LOG,
  *                                &workspace, &found);
- *     bool agrees = status == UEFI_OK && found.size == quote.pcr_digest.n
- *         && !memcmp(found.value, quote.pcr_digest.at, found.size);
+ *     bool agrees = !lacking && is_same(quote.extra_data, nonce) && status == UEFI_OK
+ *         && is_same(quote.pcr_digest, uefi_bytes(found.value, found.size));
  *
- * Nothing here verifies a signature. Agreement says something of a machine
- * only if the signature over `message` is that of a key which you know to be
- * its TPM's, and if `extra_data` is the nonce that you sent. A quote that
- * selects no PCR is agreed to by any log, so look at the selections too: what
- * isn't selected may be anything. Ask uefi_log_read about the log before.
+ * Nothing here verifies a signature, or knows your nonce and which PCRs you need.
+ * Agreement says something of a machine only if you ask for each of these:
+ *
+ *   - The signature over `message` is that of a key which you know to be its
+ *     TPM's, and which is restricted: another key signs any message.
+ *   - `extra_data` is the nonce that you sent, of one byte at least.
+ *   - Each PCR that you need is selected, in a bank that firmware extends. What
+ *     isn't selected may be anything, software may extend another bank by
+ *     what a log says, and any log agrees with a quote that selects no PCR.
+ *   - uefi_log_read says that the log is whole.
  *
  * A TPM that is sound writes a few selections. For a message of N bytes
  * uefi_quote_digest takes about N steps for the quote and up to 6 × N hashes of

@@ -1,6 +1,7 @@
-"""What `c/examples/quote.c` has to print: quotes, logs, and whether a log leads to a quote's digest.
+"""What `c/examples/quote.c` has to print: quotes, logs, and whether a quote is what was asked for and a log leads to it.
 
-The quotes are those of a software TPM whose PCRs were extended as the logs say, by keys that hash by SHA-256.
+The quotes are those of a software TPM whose PCRs were extended as the logs say, by keys that hash by SHA-256. It was sent
+no nonce for two of them.
 """
 from pathlib import Path
 
@@ -27,19 +28,42 @@ QUOTES = [
     "0006cc000000010000000001201910230016363600000003000d03000080000403000100000b0300020000205b517952cbe9"
     "c4c147bc3f3434f9d82409e76d09ea58905aefe7fb5415912d9a",
 ]
+# What is put into a quote without a nonce, and the offset at which.
+NONCE, NONCE_AT = "a5", 42
 # The banks and the PCRs of each, its clock and its nonce, as they are printed.
 SHA1, SHA256, SHA384, SHA512 = (f"TPM_ALG_{it}" for it in ("SHA1", "SHA256", "SHA384", "SHA512"))
 SHOWN = [
     ([f"{SHA256} 0 1 2 3 4 5 6 7"], 1488, "0123456789abcdef"),
-    ([f"{SHA256} 0 7"], 1556, ""),
+    ([f"{SHA256} 0 7"], 1556, NONCE),
     ([f"{SHA1} 0 1", f"{SHA256} 0 7 10 16 23"], 1612, "00112233445566778899aabbccddeeff" * 2),
     ([f"{SHA256} {' '.join(map(str, range(24)))}"], 1664, "cafe"),
-    ([f"{SHA384} 14"], 1702, ""),
+    ([f"{SHA384} 14"], 1702, NONCE),
     ([f"{SHA512} 23", f"{SHA1} 8", f"{SHA256} 9"], 1740, "ff"),
 ]
 EXTENDED = {0: {4: b"\x33" * 20, 11: b"\x11" * 32}, 7: {11: b"\x22" * 32}}
 SIZES = {4: 20, 11: 32}
-AGREES, ANOTHER = "the log agrees", "the nonce is another"
+AGREES, ANOTHER, NOT_COVERED = "the log agrees", "the nonce is another", "not covered:"
+# For a quote, what is asked of it and what isn't covered.
+ASKED = [
+    (0, "sha256", "7", ""),
+    (0, "sha256", "0,7,3", ""),
+    (0, "sha256", "8", f"{SHA256} 8"),
+    (0, "sha256", "23,0,7,9", f"{SHA256} 9 23"),
+    (0, "sha1", "0", f"{SHA1} 0"),
+    (0, "sm3_256", "0,1", "TPM_ALG_SM3_256 0 1"),
+    (2, "sha1", "0,1", ""),
+    (2, "sha1", "7", f"{SHA1} 7"),
+    (2, "sha256", "1", f"{SHA256} 1"),
+    (2, "sha256", "0,7,10,16,23", ""),
+    (3, "sha256", "0,1,2,3,4,5,6,7,8,9,10,11,12,13,14,15,16,17,18,19,20,21,22,23", ""),
+    (5, "sha512", "8", f"{SHA512} 8"),
+]
+# Arguments that are no bank, no PCRs and no nonce.
+WRONG = [
+    *((bank, "0", "01") for bank in ("", "sha", "SHA256", "sha3_256", "11")),
+    *(("sha256", pcrs, "01") for pcrs in ("", ",", "0,", ",0", "0,,1", "24", "0,4294967296", "18446744073709551616", "0-7", "-1", "+1", " 1", "0x1", "1 ")),
+    *(("sha256", "0", nonce) for nonce in ("", "1", "012", "0g", "g0", "+1", "0x01", "01 ", "not hex", "00" * 1025)),
+]
 
 
 def little(number, size):
@@ -81,42 +105,82 @@ def shown(index, verdict):
     return 0 if verdict == AGREES else 1, "".join(f"{it}\n" for it in lines).encode()
 
 
+def with_nonce(quote):
+    """A quote with a nonce, where the TPM was sent none."""
+    empty = quote[NONCE_AT : NONCE_AT + 2] == bytes(2)
+    return quote[:NONCE_AT] + b"\0\1" + bytes.fromhex(NONCE) + quote[NONCE_AT + 2 :] if empty else quote
+
+
+def first_asked(index):
+    """The first bank of a quote with its PCRs, and its nonce, as arguments."""
+    bank, *pcrs = SHOWN[index][0][0].split()
+    return [bank.removeprefix("TPM_ALG_").lower(), ",".join(pcrs), SHOWN[index][2]]
+
+
+def written(room, name, content):
+    Path(f"{room}/{name}").write_bytes(content)
+    return f"{room}/{name}"
+
+
 def rows(room):
     """The arguments of each run, and what it has to end with."""
-    for index, quote in enumerate(QUOTES):
-        Path(f"{room}/quote{index}").write_bytes(bytes.fromhex(quote))
-    for name, log in LOGS.items():
-        Path(f"{room}/{name}.log").write_bytes(log)
-    quote = lambda index: f"{room}/quote{index}"
-    log = lambda name: f"{room}/{name}.log"
+    quotes = [written(room, f"quote{index}", with_nonce(bytes.fromhex(it))) for index, it in enumerate(QUOTES)]
+    logs = {name: written(room, f"{name}.log", log) for name, log in LOGS.items()}
     for name, verdicts in VERDICTS.items():
         for index, verdict in enumerate(verdicts):
-            yield [quote(index), log(name)], shown(index, verdict)
-            yield [quote(index), log(name), SHOWN[index][2]], shown(index, verdict)
-    yield [quote(2), log("lacking")], shown(2, UNDETERMINED)
-    for nonce in ("", "0123456789abcd", "0123456789abcdee", "0123456789abcdef00", "not hex"):
-        yield [quote(0), log("both"), nonce], shown(0, ANOTHER)
-    # A digest of another value, and of a length that no hash function has.
-    whole = bytes.fromhex(QUOTES[0])
-    Path(f"{room}/other").write_bytes(whole[:-1] + b"\0")
-    yield [f"{room}/other", log("both")], shown(0, f"the log leads to {QUOTES[0][-64:]}")
-    Path(f"{room}/short").write_bytes(whole[:-34] + b"\0\1\0")
-    yield [f"{room}/short", log("both")], shown(0, f"no digest: {c_statuses.NO_HASH}")
-    # A quote of no PCR, to which any log leads: its digest is SHA-256 of no bytes.
-    of_none = "e3b0c44298fc1c149afbf4c8996fb92427ae41e4649b934ca495991b7852b855"
-    Path(f"{room}/of-none").write_bytes(whole[:-44] + bytes(4) + b"\0\x20" + bytes.fromhex(of_none))
-    for name in LOGS:
-        status, lines = shown(0, AGREES)
-        yield [f"{room}/of-none", log(name)], (status, lines.split(b"\n", 1)[1])
-    for number, (text, message) in enumerate(zip(c_statuses.OF_QUOTES, faults(whole), strict=True)):
-        Path(f"{room}/fault{number}").write_bytes(message)
-        yield [f"{room}/fault{number}", log("both")], (2, f"no quote: {text}\n".encode())
+            yield [quotes[index], logs[name], *first_asked(index)], shown(index, verdict)
+    yield [quotes[2], logs["lacking"], *first_asked(2)], shown(2, UNDETERMINED)
+    yield from of_arguments(room, quotes, logs)
+    yield from of_quotes(room, logs)
     # A log of the same events, cut inside the last one, and none.
     start = len(LOGS["sha256"]) - 50
     for name, content, why in ("cut", LOGS["sha256"][:-1], f"{start}: {c_statuses.LEFT_OVER}"), ("none", b"", f"0: {c_statuses.NO_EVENT}"):
-        Path(f"{room}/{name}.log").write_bytes(content)
-        yield [quote(0), log(name)], (2, f"no whole log, at {why}\n".encode())
-    yield [f"{room}/missing", log("both")], (2, b"")
+        log = written(room, f"{name}.log", content)
+        yield [quotes[0], log, *first_asked(0)], (2, f"no whole log, at {why}\n".encode())
+
+
+def of_arguments(room, quotes, logs):
+    """Runs over what is asked of a quote, and over arguments that are wrong or missing."""
+    for index, bank, pcrs, lacking in ASKED:
+        verdict = f"{NOT_COVERED} {lacking}" if lacking else AGREES
+        yield [quotes[index], logs["both"], bank, pcrs, SHOWN[index][2]], shown(index, verdict)
+    bank, pcrs, nonce = first_asked(0)
+    yield [quotes[0], logs["both"], bank, pcrs, nonce.upper()], shown(0, AGREES)
+    for other in ("00", nonce[:-2], f"{nonce}00", f"{nonce[:-1]}e"):
+        yield [quotes[0], logs["both"], bank, pcrs, other], shown(0, ANOTHER)
+    # The nonce is told before the PCRs.
+    yield [quotes[0], logs["both"], "sha1", "23", "00"], shown(0, ANOTHER)
+    for wrong in WRONG:
+        yield [quotes[0], logs["both"], *wrong], (2, b"")
+    whole = [quotes[0], logs["both"], bank, pcrs, nonce]
+    for given in (*(whole[:count] for count in range(5)), [*whole, nonce], [f"{room}/missing", *whole[1:]]):
+        yield given, (2, b"")
+
+
+def of_quotes(room, logs):
+    """Runs over quotes that no TPM made, of the bytes of those that one did."""
+    asked, whole = first_asked(0), bytes.fromhex(QUOTES[0])
+    # As the TPM made it, without a nonce.
+    status, lines = shown(1, ANOTHER)
+    without = written(room, "without", bytes.fromhex(QUOTES[1]))
+    yield [without, logs["both"], *first_asked(1)], (status, lines.replace(b"nonce a5", b"nonce "))
+    # A bank in two selections: its PCRs are those of both.
+    quote = with_nonce(bytes.fromhex(QUOTES[1]))
+    split = written(room, "split", quote[:-44] + bytes.fromhex("00000002 000b03010000 000b03800000") + quote[-34:])
+    lines = shown(1, AGREES)[1].replace(b" 0 7\n", b" 0\nbank TPM_ALG_SHA256 7\n")
+    yield [split, logs["both"], *first_asked(1)], (0, lines)
+    # A digest of another value, and of a length that no hash function has.
+    other, short = written(room, "other", whole[:-1] + b"\0"), written(room, "short", whole[:-34] + b"\0\1\0")
+    yield [other, logs["both"], *asked], shown(0, f"the log leads to {QUOTES[0][-64:]}")
+    yield [short, logs["both"], *asked], shown(0, f"no digest: {c_statuses.NO_HASH}")
+    # A quote of no PCR, to which any log leads: its digest is SHA-256 of no bytes.
+    of_none = "e3b0c44298fc1c149afbf4c8996fb92427ae41e4649b934ca495991b7852b855"
+    of_none = written(room, "of-none", whole[:-44] + bytes(4) + b"\0\x20" + bytes.fromhex(of_none))
+    status, lines = shown(0, f"{NOT_COVERED} {SHOWN[0][0][0]}")
+    for log in logs.values():
+        yield [of_none, log, *asked], (status, lines.split(b"\n", 1)[1])
+    for number, (text, message) in enumerate(zip(c_statuses.OF_QUOTES, faults(whole), strict=True)):
+        yield [written(room, f"fault{number}", message), logs["both"], *asked], (2, f"no quote: {text}\n".encode())
 
 
 def faults(whole):

@@ -210,6 +210,8 @@ static int event_texts(void) {
         return 21;
     if (uefi_event_text(uefi_bytes("\x80", 1), &text) != UEFI_OTHER_DATA || text.text.n != 4)
         return 22;
+    if (uefi_event_text(uefi_bytes("\xc3\xbc", 3), &text) != UEFI_OK || text.is_utf16 || !text.has_nul || text.text.n != 2)
+        return 22;
     if (uefi_event_crtm_version(uefi_bytes("a\0b\0\0", 6), &version) != UEFI_OK || version.form != UEFI_CRTM_VERSION_UCS2)
         return 23;
     if (version.text.text.n != 4 || !version.text.is_utf16 || !version.text.has_nul)

@@ -1,6 +1,7 @@
 pub mod NoFloatsInContent
 pub mod NoFloats
 pub mod NoFloatsInReplay
+pub mod NoFloatsInCoverage
 pub mod NoFloatsInVerdict
 pub mod NoFloatsInQuote
 pub mod NoFloatsInDiff

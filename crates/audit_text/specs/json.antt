@@ -7,7 +7,10 @@ pub mod Content
 pub mod Event
 pub mod Events
 pub mod Replay
+pub mod Coverage
+pub mod Unjudged
 pub mod Verdict
 pub mod Quote
 pub mod Diff
+pub mod OutOfPlace
 pub mod Check

@@ -9,6 +9,7 @@ pub mod Verdict
 pub mod Missing
 pub mod Quote
 pub mod Differences
+pub mod OutOfPlace
 pub mod Check
 pub mod EventParts
 pub mod EventContents

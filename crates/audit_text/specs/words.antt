@@ -6,6 +6,7 @@ pub mod Path
 pub mod Said
 pub mod Types
 pub mod Forms
+pub mod Rules
 pub mod Printed
 pub mod Signatures
 pub mod Tags

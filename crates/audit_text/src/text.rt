@@ -44,6 +44,7 @@ mod header_fault;
 mod ignored;
 mod judgement;
 mod missing;
+mod out_of_place;
 mod quote;
 mod start;
 mod trailing;

@@ -7,8 +7,9 @@
 pub(crate) use self::forms::form_name;
 pub use self::numbers::push_number;
 pub(crate) use self::path::path_text;
-pub(crate) use self::said::push_bytes;
+pub(crate) use self::rules::rule_name;
 pub use self::said::push_said;
+pub(crate) use self::said::{push_bytes, push_more};
 pub(crate) use self::shown::is_control;
 pub use self::shown::{ShownBytes, ShownName};
 pub(crate) use self::types::push_type;
@@ -18,6 +19,7 @@ pub(crate) mod names;
 mod numbers;
 mod path;
 pub(crate) mod printed;
+mod rules;
 mod said;
 mod shown;
 pub(crate) mod signatures;

@@ -92,7 +92,9 @@ pub fn quote_digest_in<B: BankStore>(
     Ok(hasher.finalize())
 }
 
-/// Returns whether a bank has a selection in a quote.
+/// Returns whether a bank has a selection in a quote, which may select no PCR. That a quote covers the
+/// PCRs that matter, in a bank that firmware extends, and that it has the nonce that it was asked for
+/// with, is the caller's to ask: a digest that agrees says nothing of either.
 pub fn is_quoted(quote: &Quote<'_>, bank: Bank) -> bool
     ensures { result ≡ is_quoted (quote_of quote.now) bank }
 {

@@ -8,7 +8,9 @@ use Rattle.clap.specs.declared.parser.matches.Found.{Found}
 use Rattle.pcr_replay.specs.declared.bank.Bank.{Bank}
 use Rattle.uefi_audits.specs.Naming.{bank_name}
 use Rattle.audit_text.specs.words.Shown.{shown_name_bytes}
+use Rattle.uefi_audit.specs.declared.request.AskedCoverage.{AskedCoverage}
 use Rattle.uefi_audit.specs.declared.request.AskedQuote.{AskedQuote}
+use Rattle.uefi_audit.specs.declared.request.Compared.{Compared}
 use Rattle.uefi_audit.specs.declared.request.Format.{Format}
 use Rattle.uefi_audit.specs.declared.request.Format.TheVariants.{Text, Json}
 use Rattle.uefi_tcg.specs.declared.log.LastEntry.{LastEntry}
@@ -97,6 +99,7 @@ pub record AsksItsQuote (found : Found) (asked : AskedQuote) : Type 0 where
   pub file : first_value found (codes "quote") ≡ Some asked.file.now
   pub nonce : first_value found (codes "nonce") ≡ option_map (λ text. text.now) asked.nonce
   pub any_nonce : AsksFlag found (codes "any-nonce") asked.any_nonce
+  pub any_pcrs : AsksFlag found (codes "any-pcrs") asked.any_pcrs
   pub hash : AsksBank found (codes "quote-hash") asked.hash
 
 abbrev pub AsksQuote : Found → Option AskedQuote → Type 0
@@ -112,6 +115,17 @@ pub record AsksVerification (found : Found) (asked : Verification) : Type 0 wher
   pub locality : AsksLocality found asked.locality
   pub format : AsksFormat found asked.format
 
+-- Which PCRs `check` takes as covered.
+pub record AsksCoverage (found : Found) (asked : AskedCoverage) : Type 0 where
+  pub pcrs : first_value found (codes "pcrs") ≡ option_map (λ text. text.now) asked.pcrs
+  pub quote : first_value found (codes "quote") ≡ option_map (λ file. file.now) asked.quote
+
+-- What of two logs `diff` compares.
+pub record AsksCompared (found : Found) (asked : Compared) : Type 0 where
+  pub bank : AsksBank found (codes "bank") asked.bank
+  pub digests_only : AsksFlag found (codes "digests-only") asked.digests_only
+  pub format : AsksFormat found asked.format
+
 -- What the values of a command ask for, by its name.
 abbrev pub Asks : List ℕ → Found → Request → Type 0
 Asks name found (Events logs format) =
@@ -120,10 +134,11 @@ Asks name found (Replay logs bank locality format) =
     (name ≡ codes "replay") × AsksLogs found logs.now × AsksBank found (codes "bank") bank × AsksLocality found locality
     × AsksFormat found format
 Asks name found (Verify asked) = (name ≡ codes "verify") × AsksVerification found asked
-Asks name found (Diff old new bank format) =
+Asks name found (Diff old new asked) =
     (name ≡ codes "diff") × (first_value found (codes "old") ≡ Some old.now)
-    × (first_value found (codes "new") ≡ Some new.now) × AsksBank found (codes "bank") bank × AsksFormat found format
-Asks name found (Check logs format) = (name ≡ codes "check") × AsksLogs found logs.now × AsksFormat found format
+    × (first_value found (codes "new") ≡ Some new.now) × AsksCompared found asked
+Asks name found (Check logs covered format) =
+    (name ≡ codes "check") × AsksLogs found logs.now × AsksCoverage found covered × AsksFormat found format
 
 -- They ask for no request.
 abbrev pub AskForNoRequest : List ℕ → Found → Type 0

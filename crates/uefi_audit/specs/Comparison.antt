@@ -1,9 +1,9 @@
 -- What `diff` prints of two logs.
-use Rattle.std.specs.Prelude.{ℕ, ◌≡◌, ◌==◌, ◌&&◌, ◌++◌, Bool, true, false, List, [], length, if◌then◌else◌}
+use Rattle.std.specs.Prelude.{ℕ, ◌≡◌, ◌==◌, ◌&&◌, ◌||◌, not, ◌++◌, Bool, true, false, List, [], length, if◌then◌else◌}
 use Rattle.uefi_audits.specs.Judgement.{is_read, judgement_of}
 use Rattle.pcr_replay.specs.ReadLogs.{header_in}
 use Rattle.uefi_audits.specs.diff.Algorithms.{compared_algorithms}
-use Rattle.uefi_audits.specs.diff.Differences.{AreDifferences, Difference}
+use Rattle.uefi_audits.specs.diff.Differences.{AreDifferences, Difference, Parts}
 use Rattle.audit_text.specs.ComparedLogs.{Logs}
 use Rattle.audit_text.specs.text.Differences.{difference_lines}
 use Rattle.audit_text.specs.json.Diff.{difference_json_lines}
@@ -13,7 +13,7 @@ use Rattle.uefi_audit.specs.Judged.{judged_status, judgement_messages}
 use Rattle.uefi_audit.specs.Printed.{Printed, one_after_other, printed_of}
 use Rattle.uefi_audit.specs.declared.failure.Status.{Status}
 use Rattle.uefi_audit.specs.declared.failure.Status.TheVariants.{Well, Differs, Unjudged}
-use Rattle.uefi_audit.specs.declared.comparison.Compared.{Compared}
+use Rattle.uefi_audit.specs.declared.request.Compared.{Compared}
 use Rattle.uefi_audit.specs.declared.log_file.LogFile.{LogFile}
 use Rattle.uefi_audit.specs.declared.log_file.Opened.{Opened}
 use Rattle.uefi_audit.specs.declared.log_file.Opened.TheVariants.{Read, Refused}
@@ -36,9 +36,18 @@ compared_status algorithms differences =
     else if length differences == 0 then Well
     else Differs
 
+-- Which parts of events are compared: their data as well, unless digests alone are asked for, and there are some that are
+-- compared.
+abbrev pub compared_parts : Bool → List ℕ → Parts
+compared_parts digests_only algorithms =
+    record { algorithms = algorithms; with_data = not digests_only || length algorithms == 0 }
+
 -- What is printed of how the events of two logs differ, and the status, if both logs are read; and else nothing, and this status.
 abbrev pub algorithms_of : Compared → LogFile → LogFile → List ℕ
 algorithms_of asked old new = compared_algorithms asked.bank (header_in old.read) (header_in new.read)
+
+abbrev pub parts_in : Compared → LogFile → LogFile → Parts
+parts_in asked old new = compared_parts asked.digests_only (algorithms_of asked old new)
 
 abbrev pub logs_in : Compared → LogFile → LogFile → Logs
 logs_in asked old new =
@@ -46,7 +55,7 @@ logs_in asked old new =
 
 unfoldable pub IsCompared : Bool → Status → Compared → LogFile → LogFile → List ℕ → Status → Type 0
 IsCompared true judged asked old new text status =
-    (differences : List Difference) × AreDifferences (algorithms_of asked old new) old.read new.read differences
+    (differences : List Difference) × AreDifferences (parts_in asked old new) old.read new.read differences
     × (text ≡ difference_text asked.format (logs_in asked old new) differences)
     × (status ≡ worse judged (compared_status (algorithms_of asked old new) differences))
 IsCompared false judged asked old new text status = (text ≡ []) × (status ≡ judged)

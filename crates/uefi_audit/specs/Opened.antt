@@ -6,11 +6,12 @@ use Rattle.uefi_tcg.specs.declared.log.Log.{Log}
 use Rattle.uefi_tcg.specs.v2.Header.{Header}
 use Rattle.pcr_replay.specs.ReadLogs.{table_in}
 use Rattle.audit_text.specs.text.Judgement.{many_line}
-use Rattle.uefi_audit.specs.Printed.{Printed, printed_of, unjudged}
+use Rattle.uefi_audit.specs.Printed.{Printed, printed_of, refused_as, unjudged}
 use Rattle.uefi_audit.specs.declared.log_file.LogFile.{LogFile}
 use Rattle.uefi_audit.specs.declared.log_file.Opened.{Opened}
 use Rattle.uefi_audit.specs.declared.log_file.Opened.TheVariants.{Read, Refused}
 use Rattle.uefi_audit.specs.declared.report.Report.{Report}
+use Rattle.uefi_audit.specs.declared.request.Format.{Format}
 use Rattle.uefi_audit.specs.declared.request.Reading.{Reading}
 
 -- The log of these bytes, with the last entry that is asked for.
@@ -38,3 +39,8 @@ IsOpened name bytes reading (Refused report) = WasRefused name bytes reading rep
 unfoldable pub IsReportOf : (LogFile → Printed → Type 0) → Opened → Printed → Type 0
 IsReportOf IsReport (Read file) printed = IsReport file printed
 IsReportOf IsReport (Refused report) printed = printed ≡ printed_of report
+
+-- The same of `verify`.
+unfoldable pub IsVerdictOf : (LogFile → Printed → Type 0) → Format → List ℕ → Opened → Printed → Type 0
+IsVerdictOf IsVerdict format name (Read file) printed = IsVerdict file printed
+IsVerdictOf IsVerdict format name (Refused report) printed = printed ≡ refused_as format name (printed_of report)

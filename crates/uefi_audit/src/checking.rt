@@ -1,7 +1,10 @@
 ghost use Rattle.std.specs.Prelude.{◌≡◌, map, string_bytes, IfOk};
-ghost use Rattle.uefi_audit.specs.CheckReport.{IsCheckReport, IsCheckedIf, found_status, found_text};
+ghost use Rattle.std.specs.Option.{option_map};
+ghost use Rattle.std.specs.Result.{result_map_both};
+ghost use Rattle.uefi_audit.specs.CheckReport.{AreQuoted, IsCheckReport, IsCheckedIf, found_status, found_text, remarks_status};
 ghost use Rattle.uefi_audit.specs.Printed.{printed_of};
 ghost use Rattle.uefi_audits.specs.CheckResult.{mismatch_of};
+ghost use Rattle.uefi_audits.specs.OutOfPlace.{remarks_of};
 
 use crate::failure::Status;
 use crate::log_file::{LogFile, judge, judged_status};
@@ -10,10 +13,14 @@ use crate::request::{Format, Reading};
 use audit_text::json::push_check_json;
 use audit_text::text::push_check;
 use std::alloc::{AllocError, Global};
+use tpm_quote::{Quote, QuoteError};
 use uefi_audits::check::{CheckResult, check_entries};
+use uefi_audits::out_of_place::Remarks;
+use uefi_audits::verify::{NamedPcr, covered_pcrs};
 
 /// Returns what is printed of the events of a log: those whose digests aren't the hash of what their
-/// type measures, and how many of each type match.
+/// type measures, those that are out of place, and how many of each type match. These PCRs are
+/// covered, or all.
 ///
 /// # Errors
 ///
@@ -23,10 +30,11 @@ pub(crate) fn check_report(
     alloc: Global,
     file: &LogFile<'_>,
     reading: Reading,
+    covered: Option<&[NamedPcr]>,
     format: Format,
 ) -> Result<Report, AllocError>
-    ensures { IfOk result (λ report. IsCheckReport reading.allow_left_over file.now format
-        (printed_of report)) }
+    ensures { IfOk result (λ report. IsCheckReport reading.allow_left_over
+        (option_map (λ pcrs. pcrs.now) covered.entry) file.now format (printed_of report)) }
 {
     let (judgement, messages) = judge(alloc, file, reading.allow_left_over)?;
     let status = judged_status(judgement);
@@ -38,7 +46,7 @@ pub(crate) fn check_report(
             status,
         });
     }
-    let found = check_entries(alloc, file.read.entries())?;
+    let found = check_entries(alloc, file.read.entries(), covered)?;
     let text = found_text(alloc, format, file.name, &found)?;
     let status = status.and(found_status(&found));
     Ok(Report {
@@ -46,6 +54,27 @@ pub(crate) fn check_report(
         messages,
         status,
     })
+}
+
+/// Returns the PCRs that the quote in these bytes covers, or why the bytes are none.
+///
+/// # Errors
+///
+/// [`AllocError`] if an allocation fails.
+pub(crate) fn quoted_pcrs(
+    alloc: Global,
+    bytes: &[u8],
+) -> Result<Result<Vec<NamedPcr>, QuoteError>, AllocError>
+    ensures { IfOk result (λ quoted. AreQuoted bytes.now
+        (result_map_both (λ pcrs. pcrs.items) (λ why. why) quoted)) }
+{
+    match Quote::try_from(bytes) {
+        Ok(quote) => {
+            let covered = covered_pcrs(alloc, &quote)?;
+            Ok(Ok(covered))
+        }
+        Err(error) => Ok(Err(error)),
+    }
 }
 
 /// Returns what was found of the events of a log, in a format.
@@ -57,7 +86,8 @@ fn found_text(
     found: &CheckResult<'_>,
 ) -> Result<String, AllocError>
     ensures { IfOk result (λ text. string_bytes text ≡ found_text format name.now
-        (map mismatch_of found.now.mismatches.items) found.now.types.items) }
+        (map mismatch_of found.now.mismatches.items) (remarks_of found.now.remarks)
+        found.now.types.items) }
 {
     let mut text = String::new(alloc);
     match format {
@@ -67,12 +97,25 @@ fn found_text(
     Ok(text)
 }
 
-/// Returns the status of what was found of a log: whether no event is a mismatch.
+/// Returns the status of what was found of a log: whether no event is a mismatch, and no remark counts
+/// against the log.
 fn found_status(found: &CheckResult<'_>) -> Status
-    ensures { result ≡ found_status (map mismatch_of found.now.mismatches.items) }
+    ensures { result ≡ found_status (map mismatch_of found.now.mismatches.items)
+        (remarks_of found.now.remarks) }
 {
     match found.mismatches.as_slice() {
-        [] => Status::Well,
+        [] => remarks_status(&found.remarks),
         _ => Status::Differs,
     }
+}
+
+/// Returns the status of the remarks on a log: whether they count against it.
+#[tactic(auto, unfolding(crate::specs::CheckReport::remarks_status))]
+fn remarks_status(remarks: &Remarks<'_>) -> Status
+    ensures { result ≡ remarks_status (remarks_of remarks.now) }
+{
+    if remarks.are_faults() {
+        return Status::Differs;
+    }
+    Status::Well
 }

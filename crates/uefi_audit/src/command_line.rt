@@ -22,7 +22,7 @@ const COMMANDS: [[&str; 2]; 5] = [
     ],
     [
         "check",
-        "Prints which events have digests that aren't the hash of what their type measures",
+        "Prints which events don't match their digests, or are out of place",
     ],
 ];
 
@@ -110,7 +110,8 @@ fn args_of_verify<'a>(alloc: Global) -> Result<Vec<Arg<'a>>, AllocError> {
         nonce(alloc)?,
         any_nonce(alloc)?,
         quote_hash(alloc)?,
-        pcrs(alloc),
+        pcrs(alloc)?,
+        any_pcrs(alloc)?,
         locality(alloc),
         json(alloc),
         last_entry(alloc),
@@ -141,6 +142,11 @@ fn args_of_diff<'a>(alloc: Global) -> Result<Vec<Arg<'a>>, AllocError> {
             "Compares the digests of this bank alone, not those of all that both logs have"
         )
         .value_parser(BANK_NAMES.as_slice()),
+        flag(
+            alloc,
+            "digests-only",
+            "Pairs and compares events by their digests alone, not by data that no digest covers"
+        ),
         json(alloc),
         last_entry(alloc),
         allow_left_over(alloc),
@@ -152,12 +158,35 @@ fn args_of_diff<'a>(alloc: Global) -> Result<Vec<Arg<'a>>, AllocError> {
 fn args_of_check<'a>(alloc: Global) -> Result<Vec<Arg<'a>>, AllocError> {
     let args = vec![in alloc;
         logs(alloc),
+        covered_pcrs(alloc)?,
+        covering_quote(alloc),
         json(alloc),
         last_entry(alloc),
         allow_left_over(alloc),
         max_rows(alloc),
     ]?;
     Ok(args)
+}
+
+/// Returns the argument for the PCRs that are covered.
+fn covered_pcrs<'a>(alloc: Global) -> Result<Arg<'a>, AllocError> {
+    option(
+        alloc,
+        "pcrs",
+        "PCRS",
+        "Checks the events of these PCRs alone, such as sha256:0-7,14",
+    )
+    .conflicts_with("quote")
+}
+
+/// Returns the argument for the quote that covers PCRs.
+fn covering_quote<'a>(alloc: Global) -> Arg<'a> {
+    option(
+        alloc,
+        "quote",
+        "FILE",
+        "Checks the events of the PCRs alone that this quote covers",
+    )
 }
 
 /// Returns the argument for the bank to replay.
@@ -221,13 +250,24 @@ fn quote_hash<'a>(alloc: Global) -> Result<Arg<'a>, AllocError> {
 }
 
 /// Returns the argument for the PCRs to compare.
-fn pcrs<'a>(alloc: Global) -> Arg<'a> {
+fn pcrs<'a>(alloc: Global) -> Result<Arg<'a>, AllocError> {
     option(
         alloc,
         "pcrs",
         "PCRS",
-        "Compares these PCRs alone, such as 0-7,14 or sha256:0,7; a quote has to cover them",
+        "Compares these PCRs alone, such as sha1:0-7+sha256:0-7,14; a quote has to cover them",
     )
+    .conflicts_with("any-pcrs")
+}
+
+/// Returns the flag for quotes of any PCRs.
+fn any_pcrs<'a>(alloc: Global) -> Result<Arg<'a>, AllocError> {
+    flag(
+        alloc,
+        "any-pcrs",
+        "Accepts a quote of any PCRs, so also of those that the machine can reset",
+    )
+    .requires_arg("quote")
 }
 
 /// Returns the flag for JSON.

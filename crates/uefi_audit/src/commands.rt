@@ -1,27 +1,35 @@
-ghost use Rattle.std.specs.Prelude.{◌≡◌, [], IsTrue, OnOk, IfErr, IfOk, IfSome, None};
+ghost use Rattle.std.specs.Prelude.{◌≡◌, [], List, IsTrue, OnOk, IfErr, IfOk, IfSome, None};
 ghost use Rattle.std.specs.Option.{option_map};
 ghost use Rattle.std.specs.Result.{result_map_both};
 ghost use Rattle.std.specs.Io.KnownBytes.{Appends};
 ghost use Rattle.uefi_audit.specs.Ends.{is_output};
-ghost use Rattle.uefi_audit.specs.Quote.{AsksFor, IsNonce, Receives, status_without};
+ghost use Rattle.uefi_audit.specs.Quote.{AsksFor, IsNonce, Receives, is_coverage_stated, name_banks, status_without};
+ghost use Rattle.uefi_audits.specs.verify.Missing.{asked_pcrs};
 ghost use Rattle.uefi_audits.specs.verify.Quote.{received_of};
+ghost use Rattle.uefi_audits.specs.verify.Selection.{AreSelections};
+ghost use Rattle.uefi_audits.specs.declared.verify.selection.PcrSelection.{PcrSelection};
 
-use crate::comparison::{Compared, difference_report};
+use crate::checking::quoted_pcrs;
+use crate::comparison::difference_report;
 use crate::failure::{Failure, Status};
 use crate::input::{file_bytes, held_pcrs};
 use crate::log_file::{Opened, open_log};
 use crate::quote::{NotReceived, received_quote};
 use crate::quote_check::{QuoteCheck, quote_report};
 use crate::replay::Asked;
-use crate::request::{AskedQuote, Reading, Request, Verification};
+use crate::report::unjudged_text;
+use crate::request::{AskedCoverage, AskedQuote, Compared, Format, Reading, Request, Verification};
 use crate::starts::Starts;
 use crate::task::{Task, task_report};
 use crate::verification::{StatedPcrs, verify_report};
+use audit_text::json::NotJudged;
 use audit_text::words::ShownName;
 use hex::FromHexError;
-use std::io::Write;
+use std::io::{self, Write};
 use std::rt::Files;
-use uefi_audits::verify::{HeldPcr, PcrSelection, ReceivedQuote};
+use uefi_audits::verify::{
+    HeldPcr, NamedPcr, PcrSelection, ReceivedQuote, asked_pcrs, selections_in,
+};
 
 /// Does what the arguments ask for.
 pub(crate) fn perform<R: Files + Input + Print + Eprint + AllocGlobal>(
@@ -47,10 +55,72 @@ pub(crate) fn perform<R: Files + Input + Print + Eprint + AllocGlobal>(
             // `clap` makes sure that one of them is there.
             (None, None) => Err(Failure::Arguments),
         },
-        Request::Diff(old, new, bank, format) => {
-            compare_logs(rt, [old, new], Compared { bank, format }, reading)
+        Request::Diff(old, new, asked) => compare_logs(rt, [old, new], asked, reading),
+        Request::Check(logs, asked, format) => check_logs(rt, logs, asked, format, reading),
+    }
+}
+
+/// Does `check` with each log, over the PCRs that are covered.
+fn check_logs<R: Files + Input + Print + Eprint + AllocGlobal>(
+    rt: &R,
+    logs: &[&str],
+    asked: AskedCoverage<'_>,
+    format: Format,
+    reading: Reading,
+) -> Result<Status, Failure> {
+    let covered = match (asked.pcrs, asked.quote) {
+        (Some(pcrs), _) => named_pcrs(rt, pcrs)?,
+        (None, Some(quote)) => match pcrs_in_quote(rt, quote)? {
+            Ok(covered) => covered,
+            Err(status) => return Ok(status),
+        },
+        (None, None) => return each_log(rt, logs, reading, Task::Check(None, format)),
+    };
+    each_log(
+        rt,
+        logs,
+        reading,
+        Task::Check(Some(covered.as_slice()), format),
+    )
+}
+
+/// Returns the PCRs that `--pcrs` names, each in a bank.
+fn named_pcrs<R: Eprint + AllocGlobal>(rt: &R, pcrs: &str) -> Result<Vec<NamedPcr>, Failure>
+    ensures { IfOk result (λ named. (selections : List PcrSelection)
+        × AreSelections pcrs.now selections × IsTrue (name_banks selections)
+        × (named.items ≡ asked_pcrs selections)) }
+{
+    let selections = selections_of(rt, Some(pcrs))?;
+    if !name_banks(selections.as_slice()) {
+        let _ = eprintln!(rt;
+            "uefi_audit: --pcrs takes a bank for each selection, such as sha256:0-7"
+        );
+        return Err(Failure::Arguments);
+    }
+    let named = asked_pcrs(rt.alloc(), selections.as_slice())?;
+    Ok(named)
+}
+
+/// Returns the PCRs that the quote in a file covers; or the status that follows where there are none,
+/// which standard error is told.
+fn pcrs_in_quote<R: Files + Input + Eprint + AllocGlobal>(
+    rt: &R,
+    file: &str,
+) -> Result<Result<Vec<NamedPcr>, Status>, Failure> {
+    let Some(bytes) = file_bytes(rt, file) else {
+        return Ok(Err(Status::Unread));
+    };
+    let name = ShownName(file);
+    match quoted_pcrs(rt.alloc(), bytes.as_slice())? {
+        Ok(covered) if covered.is_empty() => {
+            let _ = eprintln!(rt; "uefi_audit: {name}: covers no PCR");
+            Ok(Err(Status::Unjudged))
         }
-        Request::Check(logs, format) => each_log(rt, logs, reading, Task::Check(format)),
+        Ok(covered) => Ok(Ok(covered)),
+        Err(error) => {
+            let _ = eprintln!(rt; "uefi_audit: {name}: {error}");
+            Ok(Err(Status::Unread))
+        }
     }
 }
 
@@ -59,7 +129,7 @@ fn each_log<R: Files + Input + Print + Eprint + AllocGlobal>(
     rt: &R,
     logs: &[&str],
     reading: Reading,
-    task: Task,
+    task: Task<'_>,
 ) -> Result<Status, Failure> {
     let mut status = Status::Well;
     let mut starts = Starts::default();
@@ -81,7 +151,7 @@ fn do_task<R: Files + Input + Print + Eprint + AllocGlobal>(
     rt: &R,
     name: &str,
     reading: Reading,
-    task: Task,
+    task: Task<'_>,
     starts: &mut Starts,
 ) -> Result<Status, Failure> {
     let Some(bytes) = file_bytes(rt, name) else {
@@ -120,19 +190,46 @@ fn verify_log<R: Files + Input + Print + Eprint + AllocGlobal>(
     registers: &str,
     reading: Reading,
 ) -> Result<Status, Failure> {
-    let selection = selection_of(rt, asked.pcrs)?;
+    let selections = selections_of(rt, asked.pcrs)?;
     let bytes = file_bytes(rt, asked.log);
     let held = held_pcrs(rt, registers);
     let (Some(bytes), Some(held)) = (bytes, held) else {
-        return Ok(Status::Unread);
+        return print_unjudged(rt, asked, NotJudged::Unread, Status::Unread);
     };
+    if !is_coverage_stated(false, selections.as_slice()) {
+        tell_chosen(rt, registers);
+    }
     let stated = StatedPcrs {
+        log: asked.log,
         file: registers,
         pcrs: held.as_slice(),
-        selection,
+        selections: selections.as_slice(),
+        locality: asked.locality,
+        format: asked.format,
     };
     let log = open_log(rt.alloc(), asked.log, bytes.as_slice(), reading)?;
-    verify_report(rt.alloc(), log, reading, asked, &stated)?.print(rt)
+    verify_report(rt.alloc(), log, reading, &stated)?.print(rt)
+}
+
+/// Tells on standard error that the file with the PCRs chooses the banks: `--pcrs` doesn't name them.
+fn tell_chosen<R: Eprint>(rt: &R, registers: &str) {
+    let name = ShownName(registers);
+    let _ = eprintln!(rt;
+        "uefi_audit: {name} chooses which banks are compared, unless --pcrs names them, as in sha256:0-7"
+    );
+}
+
+/// Prints in JSON why a log isn't judged, and returns this status.
+fn print_unjudged<R: Print + AllocGlobal>(
+    rt: &R,
+    asked: &Verification<'_>,
+    why: NotJudged,
+    status: Status,
+) -> Result<Status, Failure> {
+    let name = asked.log.strip_suffix('\0').unwrap_or(asked.log);
+    let text = unjudged_text(rt.alloc(), name, asked.format, why)?;
+    print_text(&mut io::writer(rt), text.as_str())?;
+    Ok(status)
 }
 
 /// What `verify --quote` is given: the bytes of its files, and what its options state.
@@ -147,7 +244,7 @@ struct QuoteInput {
     /// The PCRs that are compared as well.
     held: Vec<HeldPcr>,
     /// The PCRs that are asked for.
-    selection: Option<PcrSelection>,
+    selections: Vec<PcrSelection>,
 }
 
 /// Reads what `verify --quote` is given; `None` if a file wasn't read, which standard error is told.
@@ -161,10 +258,12 @@ fn quote_input<R: Files + Input + Eprint + AllocGlobal>(
         (option_map (λ bytes. bytes.items) input.nonce))) }
     ensures held { IfOk result (λ read. IfSome read (λ input. input.held.items ≡ []
         → asked.now.registers ≡ None)) }
-    ensures selection { IfOk result (λ read. IfSome read (λ input. AsksFor
-        (option_map (λ text. text.now) asked.now.pcrs) input.selection)) }
+    ensures selections { IfOk result (λ read. IfSome read (λ input. AsksFor
+        (option_map (λ text. text.now) asked.now.pcrs) input.selections.items)) }
+    ensures coverage { IfOk result (λ read. IfSome read (λ input. IsTrue
+        (is_coverage_stated quote.now.any_pcrs input.selections.items))) }
 {
-    let selection = selection_of(rt, asked.pcrs)?;
+    let selections = required_pcrs(rt, asked.pcrs, quote.any_pcrs)?;
     let nonce = nonce_of(rt, quote.nonce)?;
     let log = file_bytes(rt, asked.log);
     let message = file_bytes(rt, quote.file);
@@ -177,7 +276,7 @@ fn quote_input<R: Files + Input + Eprint + AllocGlobal>(
         message,
         nonce,
         held,
-        selection,
+        selections,
     }))
 }
 
@@ -205,23 +304,27 @@ fn verify_quote<'a, R: Files + Input + Print + Eprint + AllocGlobal>(
     reading: Reading,
 ) -> Result<Status, Failure> {
     let Some(input) = quote_input(rt, asked, quote)? else {
-        return Ok(Status::Unread);
+        return print_unjudged(rt, asked, NotJudged::Unread, Status::Unread);
     };
     let input = &input;
     let received = match received_in(quote, input) {
         Ok(received) => received,
-        Err(why) => return Ok(tell_not_received(rt, quote.file, why)),
+        Err(why) => {
+            let status = tell_not_received(rt, quote.file, why);
+            return print_unjudged(rt, asked, why.reason(), status);
+        }
     };
     let check = QuoteCheck {
         file: quote.file,
         received,
         registers: StatedPcrs {
+            log: asked.log,
             file: asked.registers.unwrap_or(""),
             pcrs: input.held.as_slice(),
-            selection: input.selection,
+            selections: input.selections.as_slice(),
+            locality: asked.locality,
+            format: asked.format,
         },
-        locality: asked.locality,
-        format: asked.format,
     };
     let log = open_log(rt.alloc(), asked.log, input.log.as_slice(), reading)?;
     quote_report(rt.alloc(), log, reading, &check)?.print(rt)
@@ -252,14 +355,22 @@ fn nonce_of<R: Eprint + AllocGlobal>(
     let Some(digits) = digits else {
         return Ok(None);
     };
-    match hex::decode(rt.alloc(), digits) {
-        Ok(nonce) => Ok(Some(nonce)),
-        Err(FromHexError::OutOfMemory) => Err(Failure::Memory),
-        Err(_) => {
-            let _ = eprintln!(rt; "uefi_audit: --nonce takes pairs of hex digits");
-            Err(Failure::Arguments)
-        }
+    let nonce = match hex::decode(rt.alloc(), digits) {
+        Ok(nonce) => nonce,
+        Err(FromHexError::OutOfMemory) => return Err(Failure::Memory),
+        Err(_) => return Err(wrong_nonce(rt)),
+    };
+    // A quote that was made without a nonce has an empty one, and may be old.
+    if nonce.is_empty() {
+        return Err(wrong_nonce(rt));
     }
+    Ok(Some(nonce))
+}
+
+/// Tells on standard error what a nonce is, and returns why the program stops.
+fn wrong_nonce<R: Eprint>(rt: &R) -> Failure {
+    let _ = eprintln!(rt; "uefi_audit: --nonce takes pairs of hex digits");
+    Failure::Arguments
 }
 
 /// Tells on standard error why a log isn't compared with a quote, and returns the status that
@@ -272,20 +383,60 @@ fn tell_not_received<R: Eprint>(rt: &R, path: &str, why: NotReceived) -> Status
     why.status()
 }
 
-/// Returns the PCRs that `--pcrs` selects, or `None` without it.
-fn selection_of<R: Eprint>(rt: &R, pcrs: Option<&str>) -> Result<Option<PcrSelection>, Failure>
-    ensures { IfOk result (AsksFor (option_map (λ text. text.now) pcrs.entry)) }
+/// Returns the PCRs that `--pcrs` selects; none without it.
+fn selections_of<R: Eprint + AllocGlobal>(
+    rt: &R,
+    pcrs: Option<&str>,
+) -> Result<Vec<PcrSelection>, Failure>
+    ensures { IfOk result (λ selections.
+        AsksFor (option_map (λ text. text.now) pcrs.entry) selections.items) }
 {
     let Some(text) = pcrs else {
-        return Ok(None);
+        return Ok(Vec::new(rt.alloc()));
     };
-    let Some(selection) = PcrSelection::parse(text) else {
+    let Some(selections) = selections_in(rt.alloc(), text.as_bytes())? else {
         let _ = eprintln!(rt;
             "uefi_audit: --pcrs takes PCRs from 0 to 23, such as 0-7,14 or sha256:0,7"
         );
         return Err(Failure::Arguments);
     };
-    Ok(Some(selection))
+    Ok(selections)
+}
+
+/// Returns the PCRs that a quote has to cover: those that `--pcrs` selects, each in a bank, or none by
+/// `--any-pcrs`.
+fn required_pcrs<R: Eprint + AllocGlobal>(
+    rt: &R,
+    pcrs: Option<&str>,
+    any_pcrs: bool,
+) -> Result<Vec<PcrSelection>, Failure>
+    ensures selections { IfOk result (λ selections.
+        AsksFor (option_map (λ text. text.now) pcrs.entry) selections.items) }
+    ensures stated { IfOk result
+        (λ selections. IsTrue (is_coverage_stated any_pcrs selections.items)) }
+{
+    let selections = selections_of(rt, pcrs)?;
+    if !is_coverage_stated(any_pcrs, selections.as_slice()) {
+        let _ = eprintln!(rt;
+            "uefi_audit: --quote takes --pcrs with a bank for each selection, such as sha256:0-7, or --any-pcrs"
+        );
+        return Err(Failure::Arguments);
+    }
+    Ok(selections)
+}
+
+/// Returns whether it is stated what has to be covered: PCRs, or any; and each selection names a bank.
+fn is_coverage_stated(any_pcrs: bool, selections: &[PcrSelection]) -> bool
+    ensures { result ≡ is_coverage_stated any_pcrs selections.now }
+{
+    (any_pcrs || !selections.is_empty()) && name_banks(selections)
+}
+
+/// Returns whether each selection names a bank.
+fn name_banks(selections: &[PcrSelection]) -> bool
+    ensures { result ≡ name_banks selections.now }
+{
+    selections.iter().all(|it| it.bank().is_some())
 }
 
 /// Writes a text to its end.

@@ -1,31 +1,21 @@
 ghost use Rattle.std.specs.Prelude.{◌≡◌, map, string_bytes, IfOk};
 ghost use Rattle.audit_text.specs.ComparedLogs.{logs_of};
 ghost use Rattle.audit_text.specs.words.Shown.{shown_name};
-ghost use Rattle.uefi_audit.specs.Comparison.{IsCompared, IsComparison, IsDifferenceReport, compared_status, difference_text, side_printed};
+ghost use Rattle.uefi_audit.specs.Comparison.{IsCompared, IsComparison, IsDifferenceReport, compared_parts, compared_status, difference_text, side_printed};
 ghost use Rattle.uefi_audit.specs.Printed.{printed_of};
-ghost use Rattle.uefi_audits.specs.diff.Views.{difference_of, numbers_of};
+ghost use Rattle.uefi_audits.specs.diff.Views.{difference_of, numbers_of, parts_of};
 
 use crate::failure::Status;
 use crate::log_file::{LogFile, Opened, judge, judged_status};
 use crate::report::Report;
-use crate::request::{Format, Reading};
+use crate::request::{Compared, Format, Reading};
 use audit_text::ComparedLogs;
 use audit_text::json::push_differences_json;
 use audit_text::text::push_differences;
 use audit_text::words::ShownName;
-use pcr_replay::Bank;
 use std::alloc::{AllocError, Global};
-use uefi_audits::diff::{PcrDifference, compared_algorithms, differences};
+use uefi_audits::diff::{ComparedParts, PcrDifference, compared_algorithms, differences};
 use uefi_tcg::AlgorithmId;
-
-/// What of two logs is compared, and how the result is printed.
-#[derive(Clone, Copy)]
-pub(crate) struct Compared {
-    /// The bank whose digests are compared; without one, those of all banks that both logs have.
-    pub(crate) bank: Option<Bank>,
-    /// How the result is printed.
-    pub(crate) format: Format,
-}
 
 /// Returns what `diff` prints of two logs. If one of them wasn't read, it is what is said of each.
 ///
@@ -99,7 +89,8 @@ fn comparison_report(
     }
     let algorithms = compared_algorithms(alloc, &old.read, &new.read, asked.bank)?;
     let algorithms = algorithms.as_slice();
-    let found = differences(alloc, algorithms, &old.read, &new.read)?;
+    let parts = parts_of(algorithms, asked.digests_only);
+    let found = differences(alloc, &parts, &old.read, &new.read)?;
     let logs = ComparedLogs {
         old_name: old.name,
         new_name: new.name,
@@ -112,6 +103,17 @@ fn comparison_report(
         messages,
         status,
     })
+}
+
+/// Returns which parts of events are compared: the digests of these algorithms, and the data, unless
+/// digests alone are asked for, and there are some that are compared.
+fn parts_of(algorithms: &[AlgorithmId], digests_only: bool) -> ComparedParts<'_>
+    ensures { parts_of result ≡ compared_parts digests_only (numbers_of algorithms.now) }
+{
+    ComparedParts {
+        algorithms,
+        with_data: !digests_only || algorithms.is_empty(),
+    }
 }
 
 /// Returns the status: whether there are differences, or no digests that are compared.

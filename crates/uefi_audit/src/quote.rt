@@ -2,10 +2,11 @@ ghost use Rattle.std.specs.Prelude.{◌≡◌, Some};
 ghost use Rattle.std.specs.Option.{option_map};
 ghost use Rattle.std.specs.Result.{result_map_both};
 ghost use Rattle.uefi_audits.specs.verify.Quote.{received_of};
-ghost use Rattle.uefi_audit.specs.Quote.{Receives, hash_by, not_received_text, status_without};
+ghost use Rattle.uefi_audit.specs.Quote.{Receives, hash_by, not_received_text, reason_without, status_without};
 
 use crate::failure::Status;
 use crate::request::AskedQuote;
+use audit_text::json::NotJudged;
 use pcr_replay::Bank;
 use std::fmt;
 use tpm_quote::{Quote, QuoteError};
@@ -30,6 +31,17 @@ impl NotReceived {
         match self {
             NotReceived::Malformed(_) => Status::Unread,
             NotReceived::NoNonce | NotReceived::NoHash(_) => Status::Unjudged,
+        }
+    }
+
+    /// Returns the reason that is printed in JSON.
+    pub(crate) fn reason(self) -> NotJudged
+        ensures { result ≡ reason_without self }
+    {
+        match self {
+            NotReceived::Malformed(_) => NotJudged::MalformedQuote,
+            NotReceived::NoNonce => NotJudged::NoNonce,
+            NotReceived::NoHash(_) => NotJudged::UnknownHash,
         }
     }
 }

@@ -1,10 +1,9 @@
 ghost use Rattle.std.specs.Prelude.{◌≡◌, string_bytes, IfOk};
-ghost use Rattle.uefi_audits.specs.verify.Covered.{covered_pcrs};
-ghost use Rattle.uefi_audits.specs.verify.Quote.{quote_judgement_of, received_of};
-ghost use Rattle.uefi_audit.specs.Opened.{IsReportOf};
+ghost use Rattle.uefi_audits.specs.verify.Compared.{judged_pcrs_of, judged_quote_of};
+ghost use Rattle.uefi_audit.specs.Opened.{IsVerdictOf};
 ghost use Rattle.uefi_audit.specs.Printed.{printed_of};
-ghost use Rattle.uefi_audit.specs.QuoteCheck.{QuoteIsMet, by_verdict, quote_checked, quote_printed, quote_status, quote_text, registers_unless_missing, unless_empty, verdict_on, with_registers};
-ghost use Rattle.uefi_audit.specs.Verification.{missing_in};
+ghost use Rattle.uefi_audit.specs.QuoteCheck.{QuoteIsMet, by_digest, checked_by_judgement, differing_text, judged_on, lacking_quote, lacking_text, quote_checked, quote_printed, quote_status, quote_text, reason_of, registers_printed, unless_empty, unless_uncovered, with_registers};
+ghost use Rattle.uefi_audit.specs.Verification.{judged_in};
 ghost use Rattle.uefi_audit.specs.declared.failure.Status.TheVariants.{Well};
 
 use crate::failure::Status;
@@ -12,18 +11,17 @@ use crate::log_file::{LogFile, Opened, judge};
 use crate::replay::has_no_pcr;
 use crate::report::Report;
 use crate::request::{Format, Reading};
-use crate::verification::{StatedPcrs, missing_in, push_uncompared_pcrs, status_of, verdict_text};
-use audit_text::json::push_quote_json;
+use crate::verification::{StatedPcrs, compare, lacking_report, status_of, verdict_text};
+use audit_text::json::{NotJudged, push_quote_json};
 use audit_text::text::{
     push_ignored, push_missing, push_no_digest, push_no_pcr, push_other_nonce, push_quote,
-    push_quote_verdict, push_start,
+    push_quote_verdict, push_start, push_uncompared,
 };
+use pcr_replay::NoQuoteDigest;
 use std::alloc::{AllocError, Global};
 use uefi_audits::ignored::{IgnoredEvent, ignored_events};
 use uefi_audits::judgement::Judgement;
-use uefi_audits::verify::{
-    QuoteVerdict, ReceivedQuote, Verdict, covered_pcrs, missing_pcrs, selected_pcrs,
-};
+use uefi_audits::verify::{ComparedPcrs, ComparedQuote, ReceivedQuote};
 
 /// What `verify --quote` compares a log with, and how.
 #[derive(Clone, Copy)]
@@ -34,10 +32,6 @@ pub(crate) struct QuoteCheck<'a> {
     pub received: ReceivedQuote<'a>,
     /// The PCRs that are compared as well, if there are any, and those that the quote has to cover.
     pub registers: StatedPcrs<'a>,
-    /// The locality at which the TPM was started.
-    pub locality: Option<u8>,
-    /// How the result is printed.
-    pub format: Format,
 }
 
 /// Returns what `verify --quote` prints of a log.
@@ -45,24 +39,26 @@ pub(crate) struct QuoteCheck<'a> {
 /// # Errors
 ///
 /// [`AllocError`] if an allocation fails.
-#[tactic(auto, unfolding(crate::specs::Opened::IsReportOf))]
+#[tactic(auto, unfolding(crate::specs::Opened::IsVerdictOf))]
 pub(crate) fn quote_report(
     alloc: Global,
     log: Opened<'_>,
     reading: Reading,
     check: &QuoteCheck<'_>,
 ) -> Result<Report, AllocError>
-    ensures { IfOk result (λ report. IsReportOf
+    ensures { IfOk result (λ report. IsVerdictOf
         (λ file printed. printed ≡ quote_checked reading.allow_left_over file check.now)
-        log.entry (printed_of report)) }
+        check.now.registers.format check.now.registers.log.now log.entry (printed_of report)) }
 {
+    let registers = &check.registers;
     match log {
-        Opened::Refused(report) => Ok(report),
+        Opened::Refused(report) => report.refused_as(alloc, registers.log, registers.format),
         Opened::Read(file) => checked_report(alloc, &file, reading, check),
     }
 }
 
-/// Returns what is printed of whether a log leads to the digest of a quote. If all is well, it does.
+/// Returns what is printed of whether a log leads to the digest of a quote. If all is well, it does, the
+/// quote has its nonce, and it covers all that is asked for.
 fn checked_report(
     alloc: Global,
     file: &LogFile<'_>,
@@ -75,62 +71,165 @@ fn checked_report(
         → QuoteIsMet file.now check.now) }
 {
     let (judgement, messages) = judge(alloc, file, reading.allow_left_over)?;
+    judged_report(alloc, judgement, messages, file, check)
+}
+
+/// Returns what is printed after these messages of a log with this judgement.
+#[tactic(auto, unfolding(crate::specs::QuoteCheck::checked_by_judgement))]
+fn judged_report(
+    alloc: Global,
+    judgement: Judgement,
+    messages: String,
+    file: &LogFile<'_>,
+    check: &QuoteCheck<'_>,
+) -> Result<Report, AllocError>
+    ensures { IfOk result (λ report. printed_of report
+        ≡ checked_by_judgement judgement (string_bytes messages) file.now check.now) }
+{
+    let (name, format) = (file.name, check.registers.format);
     match judgement {
-        Judgement::Accepted => digest_report(alloc, messages, file, check),
-        _ => Ok(Report::unjudged(alloc, messages)),
+        Judgement::Accepted => accepted_report(alloc, messages, file, check),
+        Judgement::NothingMeasured => {
+            Report::unjudged_as(alloc, messages, name, format, NotJudged::NothingMeasured)
+        }
+        Judgement::LeftOver => {
+            Report::unjudged_as(alloc, messages, name, format, NotJudged::TrailingBytes)
+        }
     }
 }
 
-/// Returns what is printed after these messages, unless the log leads to no digest.
+/// Returns what is printed after these messages of a log that can be judged.
+fn accepted_report(
+    alloc: Global,
+    messages: String,
+    file: &LogFile<'_>,
+    check: &QuoteCheck<'_>,
+) -> Result<Report, AllocError>
+    ensures { IfOk result (λ report. printed_of report
+        ≡ by_digest (string_bytes messages) file.now check.now (judged_on file.now check.now)) }
+{
+    let compared = compare_quote(alloc, file, check)?;
+    digest_report(alloc, messages, file, check, &compared)
+}
+
+/// Returns the verdict on the quote.
+fn compare_quote<'a>(
+    alloc: Global,
+    file: &LogFile<'_>,
+    check: &QuoteCheck<'a>,
+) -> Result<ComparedQuote<'a>, AllocError>
+    ensures { IfOk result
+        (λ compared. judged_quote_of compared ≡ judged_on file.now check.now) }
+{
+    let (entries, registers) = (file.read.entries(), &check.registers);
+    let locality = registers.locality;
+    ComparedQuote::new(
+        alloc,
+        entries,
+        &check.received,
+        registers.selections,
+        locality,
+    )
+}
+
+/// Returns what is printed of a verdict after these messages, unless the log leads to no digest.
 #[tactic(auto, unfolding(crate::specs::QuoteCheck::by_its_digest))]
 fn digest_report(
     alloc: Global,
     messages: String,
     file: &LogFile<'_>,
     check: &QuoteCheck<'_>,
+    compared: &ComparedQuote<'_>,
 ) -> Result<Report, AllocError>
-    ensures { IfOk result (λ report. printed_of report ≡ by_verdict
-        (string_bytes messages) file.now check.now (verdict_on file.now check.now)) }
+    ensures { IfOk result (λ report. printed_of report ≡ by_digest
+        (string_bytes messages) file.now check.now (judged_quote_of compared.now)) }
 {
     let mut messages = messages;
-    let (quote, hash) = (&check.received.quote, check.received.hash);
-    let verdict = QuoteVerdict::new(alloc, file.read.entries(), quote, hash, check.locality)?;
-    match verdict.digest {
-        Ok(_) => covered_report(alloc, messages, file, check, &verdict),
+    match compared.verdict.digest {
+        Ok(_) => covered_report(alloc, messages, file, check, compared),
         Err(why) => {
             push_no_digest(&mut messages, file.name, why)?;
-            Ok(Report::unjudged(alloc, messages))
+            let format = check.registers.format;
+            Report::unjudged_as(alloc, messages, file.name, format, reason_of(why))
         }
     }
 }
 
-/// Returns what is printed after these messages, unless the quote covers no PCR, or not all that are
-/// asked for.
-#[tactic(auto, unfolding(crate::specs::QuoteCheck::unless_empty, crate::specs::QuoteCheck::unless_uncovered))]
+/// Returns why a log that leads to no digest isn't judged.
+fn reason_of(why: NoQuoteDigest) -> NotJudged
+    ensures { result ≡ reason_of why }
+{
+    match why {
+        NoQuoteDigest::NoBank(_) => NotJudged::NoBank,
+        NoQuoteDigest::Undetermined(..) => NotJudged::Undetermined,
+    }
+}
+
+/// Returns what is printed of a verdict after these messages, unless the quote covers no PCR.
+#[tactic(auto, unfolding(crate::specs::QuoteCheck::unless_empty))]
 fn covered_report(
     alloc: Global,
     messages: String,
     file: &LogFile<'_>,
     check: &QuoteCheck<'_>,
-    verdict: &QuoteVerdict,
+    compared: &ComparedQuote<'_>,
 ) -> Result<Report, AllocError>
     ensures { IfOk result (λ report. printed_of report ≡ unless_empty
-        (covered_pcrs (received_of check.now.received).quote) (string_bytes messages) file.now
-        check.now (quote_judgement_of verdict.now)) }
+        (judged_quote_of compared.now).covering.covered (string_bytes messages) file.now check.now
+        (judged_quote_of compared.now)) }
+{
+    if !compared.coverage.covered.is_empty() {
+        return asked_report(alloc, messages, file, check, compared);
+    }
+    let mut messages = messages;
+    push_no_pcr(&mut messages, check.file)?;
+    let format = check.registers.format;
+    Report::unjudged_as(alloc, messages, file.name, format, NotJudged::NoPcr)
+}
+
+/// Returns what is printed of a verdict after these messages, unless the quote doesn't cover PCRs that are
+/// asked for.
+#[tactic(auto, unfolding(crate::specs::QuoteCheck::unless_uncovered))]
+fn asked_report(
+    alloc: Global,
+    messages: String,
+    file: &LogFile<'_>,
+    check: &QuoteCheck<'_>,
+    compared: &ComparedQuote<'_>,
+) -> Result<Report, AllocError>
+    ensures { IfOk result (λ report. printed_of report ≡ unless_uncovered
+        (judged_quote_of compared.now).covering.missing (string_bytes messages) file.now check.now
+        (judged_quote_of compared.now)) }
+{
+    if !compared.coverage.missing.is_empty() {
+        return lacking_quote(alloc, messages, file.name, check, compared);
+    }
+    let report = verdict_report(alloc, messages, file, check, compared)?;
+    with_registers(alloc, file, check, report)
+}
+
+/// Returns what is printed after these messages of a quote that doesn't cover PCRs that are asked for.
+fn lacking_quote(
+    alloc: Global,
+    messages: String,
+    name: &str,
+    check: &QuoteCheck<'_>,
+    compared: &ComparedQuote<'_>,
+) -> Result<Report, AllocError>
+    ensures { IfOk result (λ report. printed_of report ≡ lacking_quote
+        (string_bytes messages) name.now check.now (judged_quote_of compared.now)) }
 {
     let mut messages = messages;
-    let covered = covered_pcrs(alloc, &check.received.quote)?;
-    if covered.is_empty() {
-        push_no_pcr(&mut messages, check.file)?;
-        return Ok(Report::unjudged(alloc, messages));
-    }
-    let missing = missing_pcrs(alloc, covered.as_slice(), &check.registers.selection)?;
-    if !missing.is_empty() {
-        push_missing(&mut messages, check.file, missing.as_slice())?;
-        return Ok(Report::unjudged(alloc, messages));
-    }
-    let report = verdict_report(alloc, messages, file, check, verdict)?;
-    with_registers(alloc, file, check, report)
+    push_missing(
+        &mut messages,
+        check.file,
+        compared.coverage.missing.as_slice(),
+    )?;
+    Ok(Report {
+        text: lacking_text(alloc, name, compared, check.registers.format)?,
+        messages,
+        status: Status::Unjudged,
+    })
 }
 
 /// Returns what is printed after these messages of the verdict on a quote.
@@ -139,22 +238,24 @@ fn verdict_report(
     messages: String,
     file: &LogFile<'_>,
     check: &QuoteCheck<'_>,
-    verdict: &QuoteVerdict,
+    compared: &ComparedQuote<'_>,
 ) -> Result<Report, AllocError>
     ensures { IfOk result (λ report. printed_of report ≡ quote_printed (string_bytes messages)
-        file.now check.now (covered_pcrs (received_of check.now.received).quote)
-        (quote_judgement_of verdict.now)) }
+        file.now check.now (judged_quote_of compared.now)) }
 {
     let mut messages = messages;
-    let covered = covered_pcrs(alloc, &check.received.quote)?;
     let ignored = ignored_events(alloc, file.read.entries())?;
-    push_start(&mut messages, file.name, &verdict.start)?;
+    push_start(&mut messages, file.name, &compared.verdict.start)?;
     push_ignored(&mut messages, file.name, ignored.as_slice())?;
-    push_uncompared_pcrs(&mut messages, alloc, file, covered.as_slice())?;
+    push_uncompared(
+        &mut messages,
+        file.name,
+        compared.coverage.extended.as_slice(),
+    )?;
     Ok(Report {
-        text: quote_text(alloc, file.name, check, verdict)?,
+        text: quote_text(alloc, file.name, check, compared)?,
         messages,
-        status: quote_status(&check.received, verdict, ignored.as_slice()),
+        status: quote_status(compared, ignored.as_slice()),
     })
 }
 
@@ -164,35 +265,49 @@ fn quote_text(
     alloc: Global,
     name: &str,
     check: &QuoteCheck<'_>,
-    verdict: &QuoteVerdict,
+    compared: &ComparedQuote<'_>,
 ) -> Result<String, AllocError>
-    ensures { IfOk result (λ text. string_bytes text ≡ quote_text check.now.format name.now
-        check.now.file.now (received_of check.now.received) (quote_judgement_of verdict.now)) }
+    ensures { IfOk result (λ text. string_bytes text ≡ quote_text check.now.registers.format
+        name.now check.now.file.now (judged_quote_of compared.now)) }
 {
     let mut text = String::new(alloc);
-    let received = &check.received;
-    match check.format {
+    let received = &compared.verdict.received;
+    match check.registers.format {
         Format::Text => {
             push_other_nonce(&mut text, alloc, check.file, received)?;
             push_quote(&mut text, alloc, check.file, received)?;
-            push_quote_verdict(&mut text, alloc, name, &received.quote, verdict)?;
+            push_quote_verdict(&mut text, alloc, name, &compared.verdict)?;
         }
-        Format::Json => push_quote_json(&mut text, alloc, name, received, verdict)?,
+        Format::Json => push_quote_json(&mut text, alloc, name, compared)?,
+    }
+    Ok(text)
+}
+
+/// Returns what is printed of a quote that doesn't cover PCRs that are asked for: its line of JSON.
+#[tactic(auto, unfolding(crate::specs::QuoteCheck::lacking_text))]
+fn lacking_text(
+    alloc: Global,
+    name: &str,
+    compared: &ComparedQuote<'_>,
+    format: Format,
+) -> Result<String, AllocError>
+    ensures { IfOk result (λ text. string_bytes text
+        ≡ lacking_text format name.now (judged_quote_of compared.now)) }
+{
+    let mut text = String::new(alloc);
+    match format {
+        Format::Text => {}
+        Format::Json => push_quote_json(&mut text, alloc, name, compared)?,
     }
     Ok(text)
 }
 
 /// Returns the status of a verdict on a quote: it differs if its digest or its nonce does, or one of
 /// the events without effect should have extended a PCR that no TPM has.
-fn quote_status(
-    received: &ReceivedQuote<'_>,
-    verdict: &QuoteVerdict,
-    ignored: &[IgnoredEvent],
-) -> Status
-    ensures { result ≡ quote_status (received_of received.now) (quote_judgement_of verdict.now)
-        ignored.now }
+fn quote_status(compared: &ComparedQuote<'_>, ignored: &[IgnoredEvent]) -> Status
+    ensures { result ≡ quote_status (judged_quote_of compared.now) ignored.now }
 {
-    if has_no_pcr(ignored) || !(verdict.agrees && received.has_its_nonce()) {
+    if has_no_pcr(ignored) || !compared.verdict.agrees() {
         return Status::Differs;
     }
     Status::Well
@@ -212,33 +327,58 @@ fn with_registers(
     if check.registers.pcrs.is_empty() {
         return Ok(quote);
     }
-    quote.and(&registers_report(alloc, file, check, &check.registers)?)
+    quote.and(&registers_report(alloc, file, &check.registers)?)
 }
 
-/// Returns what is printed of PCRs that are compared beside a quote, unless some that are asked for
-/// are missing.
-#[tactic(auto, unfolding(crate::specs::QuoteCheck::registers_unless_missing))]
+/// Returns what is printed of PCRs that are compared beside a quote.
 fn registers_report(
     alloc: Global,
     file: &LogFile<'_>,
-    check: &QuoteCheck<'_>,
     stated: &StatedPcrs<'_>,
 ) -> Result<Report, AllocError>
-    ensures { IfOk result (λ report. printed_of report ≡ registers_unless_missing
-        (missing_in stated.now) file.now check.now stated.now) }
+    ensures { IfOk result (λ report. printed_of report
+        ≡ registers_printed file.now stated.now (judged_in file.now stated.now)) }
 {
-    let mut messages = String::new(alloc);
-    let missing = missing_in(alloc, stated)?;
-    if !missing.is_empty() {
-        push_missing(&mut messages, stated.file, missing.as_slice())?;
-        return Ok(Report::unjudged(alloc, messages));
+    let compared = compare(alloc, file, stated)?;
+    registers_verdict(alloc, file, stated, &compared)
+}
+
+/// Returns what is printed of the verdict on them, unless some that are asked for are missing.
+#[tactic(auto, unfolding(crate::specs::QuoteCheck::registers_unless_missing))]
+fn registers_verdict(
+    alloc: Global,
+    file: &LogFile<'_>,
+    stated: &StatedPcrs<'_>,
+    compared: &ComparedPcrs,
+) -> Result<Report, AllocError>
+    ensures { IfOk result (λ report. printed_of report
+        ≡ registers_printed file.now stated.now (judged_pcrs_of compared.now)) }
+{
+    let messages = String::new(alloc);
+    if !compared.coverage.missing.is_empty() {
+        return lacking_report(alloc, messages, file.name, stated, compared);
     }
-    let held = selected_pcrs(alloc, stated.pcrs, &stated.selection)?;
-    let held = held.as_slice();
-    let verdict = Verdict::new(alloc, file.read.entries(), held, check.locality)?;
     Ok(Report {
-        text: verdict_text(alloc, file.name, held, &verdict, check.format)?,
+        text: differing_text(alloc, file.name, compared, stated.format)?,
         messages,
-        status: status_of(&verdict, &[]),
+        status: status_of(&compared.verdict, &[]),
     })
+}
+
+/// Returns the verdict on PCRs that are compared beside a quote in a format; nothing if they agree, since
+/// the verdict is the quote's.
+#[tactic(auto, unfolding(crate::specs::QuoteCheck::differing_text))]
+fn differing_text(
+    alloc: Global,
+    name: &str,
+    compared: &ComparedPcrs,
+    format: Format,
+) -> Result<String, AllocError>
+    ensures { IfOk result (λ text. string_bytes text
+        ≡ differing_text format name.now (judged_pcrs_of compared.now)) }
+{
+    if compared.agrees() {
+        return Ok(String::new(alloc));
+    }
+    verdict_text(alloc, name, compared, format)
 }

@@ -1,5 +1,10 @@
+ghost use Rattle.std.specs.Prelude.{◌≡◌, IfOk, string_bytes};
+ghost use Rattle.uefi_audit.specs.Printed.{unjudged_text};
+
 use crate::commands::print_text;
 use crate::failure::{Failure, Status};
+use crate::request::Format;
+use audit_text::json::{NotJudged, push_unjudged_json};
 use std::alloc::{AllocError, Global};
 use std::io;
 
@@ -16,7 +21,7 @@ pub(crate) struct Report {
 
 impl Report {
     ghost use Rattle.std.specs.Prelude.{◌≡◌, IfOk, string_bytes};
-    ghost use Rattle.uefi_audit.specs.Printed.{one_after_other, printed_of, unjudged};
+    ghost use Rattle.uefi_audit.specs.Printed.{one_after_other, printed_of, refused_as, unjudged, unjudged_as};
 
     /// Returns the report of what can't be judged: these messages, and nothing that is printed.
     pub(crate) fn unjudged(alloc: Global, messages: String) -> Report
@@ -27,6 +32,51 @@ impl Report {
             messages,
             status: Status::Unjudged,
         }
+    }
+
+    /// Returns the report of a log that `verify` doesn't judge: these messages, and in JSON a line that
+    /// says why.
+    ///
+    /// # Errors
+    ///
+    /// [`AllocError`] if an allocation fails.
+    pub(crate) fn unjudged_as(
+        alloc: Global,
+        messages: String,
+        name: &str,
+        format: Format,
+        why: NotJudged,
+    ) -> Result<Report, AllocError>
+        ensures { IfOk result (λ report. printed_of report
+            ≡ unjudged_as format name.now why (string_bytes messages)) }
+    {
+        Ok(Report {
+            text: unjudged_text(alloc, name, format, why)?,
+            messages,
+            status: Status::Unjudged,
+        })
+    }
+
+    /// Returns this report of a log that wasn't read as `verify` prints it: in JSON with a line that says
+    /// why.
+    ///
+    /// # Errors
+    ///
+    /// [`AllocError`] if an allocation fails.
+    pub(crate) fn refused_as(
+        self,
+        alloc: Global,
+        name: &str,
+        format: Format,
+    ) -> Result<Report, AllocError>
+        ensures { IfOk result
+            (λ report. printed_of report ≡ refused_as format name.now (printed_of self)) }
+    {
+        Ok(Report {
+            text: unjudged_text(alloc, name, format, NotJudged::ManyAlgorithms)?,
+            messages: self.messages,
+            status: self.status,
+        })
     }
 
     /// Returns this report with what another one says after it. The worse status counts.
@@ -55,6 +105,28 @@ impl Report {
         print_text(&mut io::writer(rt), self.text.as_str())?;
         Ok(self.status)
     }
+}
+
+/// Returns what `verify` prints of a log that it doesn't judge: a line in JSON.
+///
+/// # Errors
+///
+/// [`AllocError`] if an allocation fails.
+#[tactic(auto, unfolding(crate::specs::Printed::unjudged_text))]
+pub(crate) fn unjudged_text(
+    alloc: Global,
+    name: &str,
+    format: Format,
+    why: NotJudged,
+) -> Result<String, AllocError>
+    ensures { IfOk result (λ text. string_bytes text ≡ unjudged_text format name.now why) }
+{
+    let mut text = String::new(alloc);
+    match format {
+        Format::Text => {}
+        Format::Json => push_unjudged_json(&mut text, alloc, name, why)?,
+    }
+    Ok(text)
 }
 
 /// Writes text to standard error.

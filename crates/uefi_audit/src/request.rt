@@ -3,7 +3,8 @@ ghost use Rattle.clap.specs.Words.{found_of, one_text};
 ghost use Rattle.pcr_replay.specs.declared.bank.Bank.{Bank};
 ghost use Rattle.uefi_tcg.specs.declared.log.LastEntry.{LastEntry};
 ghost use Rattle.uefi_audit.specs.declared.request.AskedQuote.{AskedQuote};
-ghost use Rattle.uefi_audit.specs.CommandLine.{Asks, AsksBank, AsksFormat, AsksLastEntry, AsksLocality, AsksMaxRows, AsksQuote, AsksReading, AskForNoRequest, AskForNothing, IsDecimal, NamesMaxRows};
+ghost use Rattle.uefi_audit.specs.declared.request.Compared.{Compared};
+ghost use Rattle.uefi_audit.specs.CommandLine.{Asks, AsksBank, AsksCompared, AsksFormat, AsksLastEntry, AsksLocality, AsksMaxRows, AsksQuote, AsksReading, AskForNoRequest, AskForNothing, IsDecimal, NamesMaxRows};
 
 use clap::ArgMatches;
 use pcr_replay::Bank;
@@ -19,10 +20,21 @@ pub(crate) enum Request<'m, 'a> {
     Replay(&'m [&'a str], Option<Bank>, Option<u8>, Format),
     /// `verify LOG --registers FILE|--quote FILE ..`: whether they are those of a TPM.
     Verify(Verification<'a>),
-    /// `diff OLD NEW [--bank B] [--json]`: how the events of the two logs differ.
-    Diff(&'a str, &'a str, Option<Bank>, Format),
-    /// `check LOG.. [--json]`: whether each event's digests are the hash of what its type measures.
-    Check(&'m [&'a str], Format),
+    /// `diff OLD NEW [--bank B] [--digests-only] [--json]`: how the events of the two logs differ.
+    Diff(&'a str, &'a str, Compared),
+    /// `check LOG.. [--pcrs PCRS|--quote FILE] [--json]`: whether each event's digests are the hash of
+    /// what its type measures.
+    Check(&'m [&'a str], AskedCoverage<'a>, Format),
+}
+
+/// Which PCRs are known to hold what the events of a log extended: all if neither is named. `clap` makes
+/// sure that one of them isn't.
+#[derive(Clone, Copy)]
+pub(crate) struct AskedCoverage<'a> {
+    /// These, each in a bank (`--pcrs`).
+    pub pcrs: Option<&'a str>,
+    /// Those that the quote in this file covers (`--quote`).
+    pub quote: Option<&'a str>,
 }
 
 /// What `verify` compares.
@@ -34,7 +46,7 @@ pub(crate) struct Verification<'a> {
     pub registers: Option<&'a str>,
     /// The quote of the TPM (`--quote`).
     pub quote: Option<AskedQuote<'a>>,
-    /// Which PCRs are compared (`--pcrs`); all without it.
+    /// Which PCRs are compared, and have to be covered (`--pcrs`); all without it.
     pub pcrs: Option<&'a str>,
     /// The locality at which the TPM was started (`--locality`).
     pub locality: Option<u8>,
@@ -51,8 +63,21 @@ pub(crate) struct AskedQuote<'a> {
     pub nonce: Option<&'a str>,
     /// Whether it may have any nonce (`--any-nonce`).
     pub any_nonce: bool,
+    /// Whether it may cover any PCRs (`--any-pcrs`).
+    pub any_pcrs: bool,
     /// The hash function of its digest (`--quote-hash`); without it, the digest's length says it.
     pub hash: Option<Bank>,
+}
+
+/// What of two logs is compared, and how the result is printed.
+#[derive(Clone, Copy)]
+pub(crate) struct Compared {
+    /// The bank whose digests are compared; without one, those of all banks that both logs have.
+    pub bank: Option<Bank>,
+    /// Whether events are paired and compared by their digests alone (`--digests-only`).
+    pub digests_only: bool,
+    /// How the result is printed.
+    pub format: Format,
 }
 
 /// How a result is printed.
@@ -167,6 +192,7 @@ fn quote_of<'a>(matches: &ArgMatches<'a>) -> Option<Option<AskedQuote<'a>>>
         file,
         nonce: matches.get_str("nonce"),
         any_nonce: matches.get_flag("any-nonce"),
+        any_pcrs: matches.get_flag("any-pcrs"),
         hash,
     }))
 }
@@ -178,8 +204,22 @@ fn diff_of<'m, 'a>(matches: &'m ArgMatches<'a>) -> Option<Request<'m, 'a>>
 {
     let old = matches.get_str("old")?;
     let new = matches.get_str("new")?;
+    let asked = compared_of(matches)?;
+    Some(Request::Diff(old, new, asked))
+}
+
+/// Returns what of two logs the matches of `diff` ask for; `None` if they name no bank.
+fn compared_of(matches: &ArgMatches<'_>) -> Option<Compared>
+    ensures { MatchOption result
+        ((asked : Compared) → AsksCompared (found_of matches.now) asked → ⊥)
+        (AsksCompared (found_of matches.now)) }
+{
     let bank = bank_of(matches, "bank")?;
-    Some(Request::Diff(old, new, bank, format_of(matches)))
+    Some(Compared {
+        bank,
+        digests_only: matches.get_flag("digests-only"),
+        format: format_of(matches),
+    })
 }
 
 /// Returns what the matches of `check` ask for.
@@ -188,7 +228,11 @@ fn check_of<'m, 'a>(matches: &'m ArgMatches<'a>) -> Option<Request<'m, 'a>>
     ensures nothing { IfNone result (AskForNoRequest (codes "check") (found_of matches.now)) }
 {
     let logs = matches.get_strs("logs")?;
-    Some(Request::Check(logs, format_of(matches)))
+    let covered = AskedCoverage {
+        pcrs: matches.get_str("pcrs"),
+        quote: matches.get_str("quote"),
+    };
+    Some(Request::Check(logs, covered, format_of(matches)))
 }
 
 /// Returns the locality that a command's matches ask for, if they ask for one.

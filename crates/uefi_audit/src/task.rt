@@ -10,16 +10,17 @@ use crate::replay::{Asked, replay_report};
 use crate::report::Report;
 use crate::request::{Format, Reading};
 use std::alloc::{AllocError, Global};
+use uefi_audits::verify::NamedPcr;
 
 /// What is done with each of many logs.
 #[derive(Clone, Copy)]
-pub(crate) enum Task {
+pub(crate) enum Task<'a> {
     /// Its events are printed.
     Events(Format),
     /// The PCRs that it leads to are.
     Replay(Asked),
-    /// The events whose digests match nothing are.
-    Check(Format),
+    /// The events whose digests match nothing are. These PCRs are covered, or all.
+    Check(Option<&'a [NamedPcr]>, Format),
 }
 
 /// Returns what a task prints of a log.
@@ -32,9 +33,9 @@ pub(crate) fn task_report(
     alloc: Global,
     log: Opened<'_>,
     reading: Reading,
-    task: Task,
+    task: Task<'_>,
 ) -> Result<Report, AllocError>
-    ensures { IfOk result (λ report. IsReportOf (IsTaskReport task reading.allow_left_over)
+    ensures { IfOk result (λ report. IsReportOf (IsTaskReport task.entry reading.allow_left_over)
         log.entry (printed_of report)) }
 {
     match log {
@@ -49,14 +50,14 @@ fn read_report(
     alloc: Global,
     file: &LogFile<'_>,
     reading: Reading,
-    task: Task,
+    task: Task<'_>,
 ) -> Result<Report, AllocError>
-    ensures { IfOk result (λ report. IsTaskReport task reading.allow_left_over file.now
+    ensures { IfOk result (λ report. IsTaskReport task.entry reading.allow_left_over file.now
         (printed_of report)) }
 {
     match task {
         Task::Events(format) => events_report(alloc, file, reading, format),
         Task::Replay(asked) => replay_report(alloc, file, reading, asked),
-        Task::Check(format) => check_report(alloc, file, reading, format),
+        Task::Check(covered, format) => check_report(alloc, file, reading, covered, format),
     }
 }

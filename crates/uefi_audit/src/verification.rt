@@ -3,19 +3,19 @@ ghost use Rattle.uefi_base.specs.Appending.{AppendsText};
 ghost use Rattle.pcr_replay.specs.ReadLogs.{entries_in};
 ghost use Rattle.uefi_audits.specs.LogReplay.{inactive_banks};
 ghost use Rattle.uefi_audits.specs.verify.Banks.{held_banks};
-ghost use Rattle.uefi_audits.specs.verify.Uncompared.{uncompared_pcrs};
+ghost use Rattle.uefi_audits.specs.verify.Compared.{judged_pcrs_of};
 ghost use Rattle.uefi_audits.specs.verify.Verdict.{comparison_of};
-ghost use Rattle.audit_text.specs.text.Remarks.{inactive_line, uncompared_line};
-ghost use Rattle.uefi_audit.specs.Opened.{IsReportOf};
+ghost use Rattle.audit_text.specs.text.Remarks.{inactive_line};
+ghost use Rattle.uefi_audit.specs.Opened.{IsVerdictOf};
 ghost use Rattle.uefi_audit.specs.Printed.{printed_of};
-ghost use Rattle.uefi_audit.specs.Verification.{by_judgement, compared, missing_in, unless_missing, verdict_status, verdict_text, verification};
+ghost use Rattle.uefi_audit.specs.Verification.{by_judgement, compared, judged_in, lacking, lacking_text, verdict_status, verdict_text, verification, with_verdict};
 
 use crate::failure::Status;
 use crate::log_file::{LogFile, Opened, judge};
 use crate::replay::has_no_pcr;
 use crate::report::Report;
-use crate::request::{Format, Reading, Verification};
-use audit_text::json::push_verdict_json;
+use crate::request::{Format, Reading};
+use audit_text::json::{NotJudged, push_verdict_json};
 use audit_text::text::{
     push_ignored, push_inactive, push_missing, push_start, push_uncompared, push_verdict,
 };
@@ -23,20 +23,23 @@ use std::alloc::{AllocError, Global};
 use uefi_audits::ignored::{IgnoredEvent, ignored_events};
 use uefi_audits::judgement::Judgement;
 use uefi_audits::log_replay::inactive_banks;
-use uefi_audits::verify::{
-    HeldPcr, NamedPcr, PcrSelection, Verdict, held_banks, missing_pcrs, named_pcrs, selected_pcrs,
-    uncompared_pcrs,
-};
+use uefi_audits::verify::{ComparedPcrs, HeldPcr, PcrSelection, Verdict, held_banks};
 
-/// The PCRs that a TPM is said to have held, and which of them are asked for.
+/// The PCRs that a TPM is said to have held, and how `verify` compares a log with them.
 #[derive(Clone, Copy)]
 pub(crate) struct StatedPcrs<'a> {
-    /// The name of their file.
+    /// The name of the log.
+    pub log: &'a str,
+    /// The name of the PCRs' file.
     pub file: &'a str,
     /// The PCRs.
     pub pcrs: &'a [HeldPcr],
     /// Those that are asked for; all without a selection.
-    pub selection: Option<PcrSelection>,
+    pub selections: &'a [PcrSelection],
+    /// The locality at which the TPM was started.
+    pub locality: Option<u8>,
+    /// How the result is printed.
+    pub format: Format,
 }
 
 /// Returns what `verify` prints of a log.
@@ -44,21 +47,20 @@ pub(crate) struct StatedPcrs<'a> {
 /// # Errors
 ///
 /// [`AllocError`] if an allocation fails.
-#[tactic(auto, unfolding(crate::specs::Opened::IsReportOf))]
+#[tactic(auto, unfolding(crate::specs::Opened::IsVerdictOf))]
 pub(crate) fn verify_report(
     alloc: Global,
     log: Opened<'_>,
     reading: Reading,
-    asked: &Verification<'_>,
     stated: &StatedPcrs<'_>,
 ) -> Result<Report, AllocError>
-    ensures { IfOk result (λ report. IsReportOf
-        (λ file printed. printed ≡ verification reading.allow_left_over file asked.now stated.now)
-        log.entry (printed_of report)) }
+    ensures { IfOk result (λ report. IsVerdictOf
+        (λ file printed. printed ≡ verification reading.allow_left_over file stated.now)
+        stated.now.format stated.now.log.now log.entry (printed_of report)) }
 {
     match log {
-        Opened::Refused(report) => Ok(report),
-        Opened::Read(file) => verification_report(alloc, &file, reading, asked, stated),
+        Opened::Refused(report) => report.refused_as(alloc, stated.log, stated.format),
+        Opened::Read(file) => verification_report(alloc, &file, reading, stated),
     }
 }
 
@@ -71,77 +73,141 @@ pub(crate) fn verification_report(
     alloc: Global,
     file: &LogFile<'_>,
     reading: Reading,
-    asked: &Verification<'_>,
     stated: &StatedPcrs<'_>,
 ) -> Result<Report, AllocError>
     ensures { IfOk result (λ report. printed_of report
-        ≡ verification reading.allow_left_over file.now asked.now stated.now) }
+        ≡ verification reading.allow_left_over file.now stated.now) }
 {
     let (judgement, messages) = judge(alloc, file, reading.allow_left_over)?;
+    judged_report(alloc, judgement, messages, file, stated)
+}
+
+/// Returns what is printed after these messages of a log with this judgement.
+#[tactic(auto, unfolding(crate::specs::Verification::by_judgement))]
+fn judged_report(
+    alloc: Global,
+    judgement: Judgement,
+    messages: String,
+    file: &LogFile<'_>,
+    stated: &StatedPcrs<'_>,
+) -> Result<Report, AllocError>
+    ensures { IfOk result (λ report. printed_of report
+        ≡ by_judgement judgement (string_bytes messages) file.now stated.now) }
+{
+    let (name, format) = (file.name, stated.format);
     match judgement {
-        Judgement::Accepted => stated_report(alloc, messages, file, asked, stated),
-        _ => Ok(Report::unjudged(alloc, messages)),
+        Judgement::Accepted => stated_report(alloc, messages, file, stated),
+        Judgement::NothingMeasured => {
+            Report::unjudged_as(alloc, messages, name, format, NotJudged::NothingMeasured)
+        }
+        Judgement::LeftOver => {
+            Report::unjudged_as(alloc, messages, name, format, NotJudged::TrailingBytes)
+        }
     }
 }
 
-/// Returns what is printed after these messages, unless PCRs that are asked for are missing.
-#[tactic(auto, unfolding(crate::specs::Verification::unless_missing))]
+/// Returns what is printed after these messages of a log that can be judged.
 fn stated_report(
     alloc: Global,
     messages: String,
     file: &LogFile<'_>,
-    asked: &Verification<'_>,
     stated: &StatedPcrs<'_>,
 ) -> Result<Report, AllocError>
     ensures { IfOk result (λ report. printed_of report
-        ≡ unless_missing (missing_in stated.now)
-        (string_bytes messages) file.now asked.now stated.now) }
+        ≡ compared (string_bytes messages) file.now stated.now (judged_in file.now stated.now)) }
+{
+    let compared = compare(alloc, file, stated)?;
+    compared_report(alloc, messages, file, stated, &compared)
+}
+
+/// Returns the verdict on the PCRs that are selected.
+///
+/// # Errors
+///
+/// [`AllocError`] if an allocation fails.
+pub(crate) fn compare(
+    alloc: Global,
+    file: &LogFile<'_>,
+    stated: &StatedPcrs<'_>,
+) -> Result<ComparedPcrs, AllocError>
+    ensures { IfOk result
+        (λ compared. judged_pcrs_of compared ≡ judged_in file.now stated.now) }
+{
+    let (entries, selections) = (file.read.entries(), stated.selections);
+    ComparedPcrs::new(alloc, entries, stated.pcrs, selections, stated.locality)
+}
+
+/// Returns what is printed of a verdict after these messages, unless PCRs that are asked for are missing.
+#[tactic(auto, unfolding(crate::specs::Verification::unless_missing))]
+fn compared_report(
+    alloc: Global,
+    messages: String,
+    file: &LogFile<'_>,
+    stated: &StatedPcrs<'_>,
+    found: &ComparedPcrs,
+) -> Result<Report, AllocError>
+    ensures { IfOk result (λ report. printed_of report ≡ compared
+        (string_bytes messages) file.now stated.now (judged_pcrs_of found.now)) }
+{
+    if !found.coverage.missing.is_empty() {
+        return lacking_report(alloc, messages, file.name, stated, found);
+    }
+    verdict_report(alloc, messages, file, stated, found)
+}
+
+/// Returns what is printed after these messages of PCRs of which some that are asked for are missing.
+///
+/// # Errors
+///
+/// [`AllocError`] if an allocation fails.
+pub(crate) fn lacking_report(
+    alloc: Global,
+    messages: String,
+    name: &str,
+    stated: &StatedPcrs<'_>,
+    compared: &ComparedPcrs,
+) -> Result<Report, AllocError>
+    ensures { IfOk result (λ report. printed_of report ≡ lacking
+        (string_bytes messages) name.now stated.now (judged_pcrs_of compared.now)) }
 {
     let mut messages = messages;
-    let missing = missing_in(alloc, stated)?;
-    if !missing.is_empty() {
-        push_missing(&mut messages, stated.file, missing.as_slice())?;
-        return Ok(Report::unjudged(alloc, messages));
-    }
-    let held = selected_pcrs(alloc, stated.pcrs, &stated.selection)?;
-    verdict_report(alloc, messages, file, asked, held.as_slice())
+    push_missing(
+        &mut messages,
+        stated.file,
+        compared.coverage.missing.as_slice(),
+    )?;
+    Ok(Report {
+        text: lacking_text(alloc, name, compared, stated.format)?,
+        messages,
+        status: Status::Unjudged,
+    })
 }
 
-/// Returns the PCRs that are asked for and not stated.
-pub(crate) fn missing_in(
-    alloc: Global,
-    stated: &StatedPcrs<'_>,
-) -> Result<Vec<NamedPcr>, AllocError>
-    ensures { IfOk result (λ missing. missing.items ≡ missing_in stated.now) }
-{
-    let named = named_pcrs(alloc, stated.pcrs)?;
-    missing_pcrs(alloc, named.as_slice(), &stated.selection)
-}
-
-/// Returns what is printed after these messages of whether a log leads to these PCRs.
+/// Returns what is printed of a verdict after these messages.
 fn verdict_report(
     alloc: Global,
     messages: String,
     file: &LogFile<'_>,
-    asked: &Verification<'_>,
-    held: &[HeldPcr],
+    stated: &StatedPcrs<'_>,
+    compared: &ComparedPcrs,
 ) -> Result<Report, AllocError>
-    ensures { IfOk result (λ report. printed_of report
-        ≡ compared (string_bytes messages) file.now asked.now held.now) }
+    ensures { IfOk result (λ report. printed_of report ≡ with_verdict
+        (string_bytes messages) file.now stated.now (judged_pcrs_of compared.now)) }
 {
     let mut messages = messages;
-    let entries = file.read.entries();
-    let verdict = Verdict::new(alloc, entries, held, asked.locality)?;
-    let ignored = ignored_events(alloc, entries)?;
-    push_start(&mut messages, file.name, &verdict.start)?;
-    push_inactive_banks(&mut messages, alloc, file, held)?;
+    let ignored = ignored_events(alloc, file.read.entries())?;
+    push_start(&mut messages, file.name, &compared.verdict.start)?;
+    push_inactive_banks(&mut messages, alloc, file, compared.held.as_slice())?;
     push_ignored(&mut messages, file.name, ignored.as_slice())?;
-    let compared = named_pcrs(alloc, held)?;
-    push_uncompared_pcrs(&mut messages, alloc, file, compared.as_slice())?;
+    push_uncompared(
+        &mut messages,
+        file.name,
+        compared.coverage.extended.as_slice(),
+    )?;
     Ok(Report {
-        text: verdict_text(alloc, file.name, held, &verdict, asked.format)?,
+        text: verdict_text(alloc, file.name, compared, stated.format)?,
         messages,
-        status: status_of(&verdict, ignored.as_slice()),
+        status: status_of(&compared.verdict, ignored.as_slice()),
     })
 }
 
@@ -161,36 +227,42 @@ fn push_inactive_banks(
     push_inactive(messages, file.name, inactive.as_slice())
 }
 
-/// Appends the PCRs that events extend and that aren't compared.
-pub(crate) fn push_uncompared_pcrs(
-    messages: &mut String,
-    alloc: Global,
-    file: &LogFile<'_>,
-    compared: &[NamedPcr],
-) -> Result<(), AllocError>
-    ensures { OnOk result (AppendsText messages.old messages.new (uncompared_line
-        file.now.name.now (uncompared_pcrs (entries_in file.now.read) compared.now))) }
-{
-    let uncompared = uncompared_pcrs(alloc, file.read.entries(), compared)?;
-    push_uncompared(messages, file.name, uncompared.as_slice())
-}
-
 /// Returns a verdict in a format.
 #[tactic(auto, unfolding(crate::specs::Verification::verdict_text))]
 pub(crate) fn verdict_text(
     alloc: Global,
     name: &str,
-    held: &[HeldPcr],
-    verdict: &Verdict,
+    compared: &ComparedPcrs,
     format: Format,
 ) -> Result<String, AllocError>
     ensures { IfOk result (λ text. string_bytes text
-        ≡ verdict_text format name.now (comparison_of verdict.now) held.now) }
+        ≡ verdict_text format name.now (judged_pcrs_of compared.now)) }
 {
+    let (held, verdict) = (compared.held.as_slice(), &compared.verdict);
     let mut text = String::new(alloc);
     match format {
         Format::Text => push_verdict(&mut text, alloc, name, held, verdict)?,
-        Format::Json => push_verdict_json(&mut text, alloc, name, held, verdict)?,
+        Format::Json => push_verdict_json(&mut text, alloc, name, compared)?,
+    }
+    Ok(text)
+}
+
+/// Returns what is printed of a verdict on PCRs of which some that are asked for are missing: its line of
+/// JSON.
+#[tactic(auto, unfolding(crate::specs::Verification::lacking_text))]
+fn lacking_text(
+    alloc: Global,
+    name: &str,
+    compared: &ComparedPcrs,
+    format: Format,
+) -> Result<String, AllocError>
+    ensures { IfOk result (λ text. string_bytes text
+        ≡ lacking_text format name.now (judged_pcrs_of compared.now)) }
+{
+    let mut text = String::new(alloc);
+    match format {
+        Format::Text => {}
+        Format::Json => push_verdict_json(&mut text, alloc, name, compared)?,
     }
     Ok(text)
 }

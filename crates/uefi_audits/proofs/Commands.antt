@@ -4,8 +4,9 @@ use Rattle.std.specs.Prelude.{Bool, true, false, not, is_some, ◌≢◌, ◌==�
 use Rattle.std.specs.List.{Contains}
 use Rattle.std.proofs.lemmas.List.{append_cancel_left, append_cancel_right}
 use Rattle.std.proofs.lemmas.Bool.{true≢false}
+use Rattle.uefi_tcg.specs.content.Text.{prompts}
 use Rattle.uefi_tcg.specs.v2.Event.{Event}
-use Rattle.uefi_audits.specs.Check.{IsCommand, MayNameFile, prompts}
+use Rattle.uefi_audits.specs.Check.{IsCommand, MayNameFile}
 
 -- What follows a prompt is a command.
 pub after_prompt : (bytes text prompt command : List ℕ) → Contains prompts prompt → bytes ≡ text ++ 0 ∷ []

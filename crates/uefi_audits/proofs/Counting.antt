@@ -20,7 +20,8 @@ use Rattle.uefi_audits.specs.declared.check.counts.TypeCounts.{TypeCounts}
 use Rattle.uefi_audits.specs.declared.check.form.Form.{Form}
 use Rattle.uefi_audits.specs.declared.check.form.Form.TheVariants.{Data, VariableValue, WithoutNul, WithNul, Command, Narrowed}
 use Rattle.uefi_audits.specs.declared.check.result.CheckedEntry.{CheckedEntry}
-use Rattle.uefi_audits.specs.CheckResult.{AreCounts, Finding, counts_in, form_index, how_many, is_match, is_match_at, is_match_in, is_mismatch, is_outside, type_of}
+use Rattle.uefi_audits.specs.CheckResult.{AreCounts, counts_in, form_index, how_many, is_match_at, is_match_in, type_of}
+use Rattle.uefi_audits.specs.Findings.{Finding, is_match, is_mismatch, is_outside, is_uncovered}
 use Rattle.uefi_audits.proofs.FirstOnes.{all_taken}
 use Rattle.uefi_audits.specs.private.Counting.{CountsOneMore, HasRoom, counted, counts_at, finding_of, no_counts}
 
@@ -36,20 +37,20 @@ abbrev pub CountsSoFar : BTreeMap ℕ TypeCounts → List Finding → Type 0
 CountsSoFar types findings = (number : ℕ) → get nat_cmp types number ≡ counts_if_any findings number
 
 -- Of how many events something is said, with one more event.
-more : (is_said : Checked → Bool) (number : ℕ) (findings : List Finding) (it : Finding)
+more : (is_said : Option Checked → Bool) (number : ℕ) (findings : List Finding) (it : Finding)
     → how_many is_said number (findings ++ it ∷ [])
     ≡ how_many is_said number findings + cond ((number == type_of it) && is_said it.checked) 1 0
 unfolding how_many
 more is_said number findings it =
     sum_by_push (λ (it : Finding). cond ((number == type_of it) && is_said it.checked) 1 0) findings it
 
-of_type : (is_said : Checked → Bool) (number : ℕ) (findings : List Finding) (it : Finding) → (number == type_of it) ≡ true
+of_type : (is_said : Option Checked → Bool) (number : ℕ) (findings : List Finding) (it : Finding) → (number == type_of it) ≡ true
     → how_many is_said number findings + cond (is_said it.checked) 1 0 ≡ how_many is_said number (findings ++ it ∷ [])
 of_type is_said number findings it same =
     sym (more is_said number findings it
     ∙ ap (λ same. how_many is_said number findings + cond (same && is_said it.checked) 1 0) same)
 
-of_other : (is_said : Checked → Bool) (number : ℕ) (findings : List Finding) (it : Finding) → (number == type_of it) ≡ false
+of_other : (is_said : Option Checked → Bool) (number : ℕ) (findings : List Finding) (it : Finding) → (number == type_of it) ≡ false
     → how_many is_said number findings ≡ how_many is_said number (findings ++ it ∷ [])
 of_other is_said number findings it other =
     sym (more is_said number findings it
@@ -57,51 +58,55 @@ of_other is_said number findings it other =
     ∙ add-zero (how_many is_said number findings))
 
 -- The counts of a type by themselves, and with what one more event adds to each.
-abbrev counts_with : ℕ → (ℕ → ℕ) → ℕ → ℕ → ℕ → TypeCounts
-counts_with number by_form matches none outside = record {
+abbrev counts_with : ℕ → (ℕ → ℕ) → ℕ → ℕ → ℕ → ℕ → TypeCounts
+counts_with number by_form matches none outside uncovered = record {
   event_type = record { 0 = number };
   matches = matches;
   by_form = by_form 0 ∷ by_form 1 ∷ by_form 2 ∷ by_form 3 ∷ by_form 4 ∷ by_form 5 ∷ [];
   matches_none = none;
   not_in_log = outside;
+  not_covered = uncovered;
 }
 
-added : (checked : Checked) (number matches none outside : ℕ) (by_form : ℕ → ℕ)
-    → counted checked (counts_with number by_form matches none outside)
+added : (checked : Option Checked) (number matches none outside uncovered : ℕ) (by_form : ℕ → ℕ)
+    → counted checked (counts_with number by_form matches none outside uncovered)
     ≡ counts_with number (λ index. by_form index + cond (is_match_at index checked) 1 0) (matches + cond (is_match checked) 1 0)
     (none + cond (is_mismatch checked) 1 0) (outside + cond (is_outside checked) 1 0)
-added (Matches Data) number matches none outside by_form = simp add-zero
-added (Matches VariableValue) number matches none outside by_form = simp add-zero
-added (Matches WithoutNul) number matches none outside by_form = simp add-zero
-added (Matches WithNul) number matches none outside by_form = simp add-zero
-added (Matches Command) number matches none outside by_form = simp add-zero
-added (Matches Narrowed) number matches none outside by_form = simp add-zero
-added MatchesNone number matches none outside by_form = simp add-zero
-added NotInLog number matches none outside by_form = simp add-zero
+    (uncovered + cond (is_uncovered checked) 1 0)
+added (Some (Matches Data)) number matches none outside uncovered by_form = simp add-zero
+added (Some (Matches VariableValue)) number matches none outside uncovered by_form = simp add-zero
+added (Some (Matches WithoutNul)) number matches none outside uncovered by_form = simp add-zero
+added (Some (Matches WithNul)) number matches none outside uncovered by_form = simp add-zero
+added (Some (Matches Command)) number matches none outside uncovered by_form = simp add-zero
+added (Some (Matches Narrowed)) number matches none outside uncovered by_form = simp add-zero
+added (Some MatchesNone) number matches none outside uncovered by_form = simp add-zero
+added (Some NotInLog) number matches none outside uncovered by_form = simp add-zero
+added None number matches none outside uncovered by_form = simp add-zero
 
 -- The counts of a type with one more event of it, and with one of another type.
 with_one : (findings : List Finding) (number : ℕ) (it : Finding) → (number == type_of it) ≡ true
     → counted it.checked (counts_in findings number) ≡ counts_in (findings ++ it ∷ []) number
 with_one findings number it same =
     added it.checked number (how_many is_match number findings) (how_many is_mismatch number findings)
-    (how_many is_outside number findings) (λ index. how_many (is_match_at index) number findings)
+    (how_many is_outside number findings) (how_many is_uncovered number findings)
+    (λ index. how_many (is_match_at index) number findings)
     ∙ (λ i. counts_with number (λ index. of_type (is_match_at index) number findings it same i)
     (of_type is_match number findings it same i) (of_type is_mismatch number findings it same i)
-    (of_type is_outside number findings it same i))
+    (of_type is_outside number findings it same i) (of_type is_uncovered number findings it same i))
 
 with_other : (findings : List Finding) (number : ℕ) (it : Finding) → (number == type_of it) ≡ false
     → counts_in findings number ≡ counts_in (findings ++ it ∷ []) number
 with_other findings number it other = λ i.
     counts_with number (λ index. of_other (is_match_at index) number findings it other i)
     (of_other is_match number findings it other i) (of_other is_mismatch number findings it other i)
-    (of_other is_outside number findings it other i)
+    (of_other is_outside number findings it other i) (of_other is_uncovered number findings it other i)
 
 -- Without an event of a type nothing is said of any.
 either_false : (one other : Bool) → (one || other) ≡ false → (one ≡ false) × (other ≡ false)
 either_false true other none = absurd (true≢false none)
 either_false false other none = (refl, none)
 
-none_said : (is_said : Checked → Bool) (number : ℕ) (findings : List Finding) → has_type number findings ≡ false
+none_said : (is_said : Option Checked → Bool) (number : ℕ) (findings : List Finding) → has_type number findings ≡ false
     → how_many is_said number findings ≡ 0
 unfolding how_many
 none_said is_said number [] none = refl
@@ -114,7 +119,7 @@ none_counted : (findings : List Finding) (number : ℕ) → has_type number find
 none_counted findings number none = λ i.
     counts_with number (λ index. sym (none_said (is_match_at index) number findings none) i)
     (sym (none_said is_match number findings none) i) (sym (none_said is_mismatch number findings none) i)
-    (sym (none_said is_outside number findings none) i)
+    (sym (none_said is_outside number findings none) i) (sym (none_said is_uncovered number findings none) i)
 
 -- The counts of a type so far.
 so_far : (types : BTreeMap ℕ TypeCounts) (findings : List Finding) (number : ℕ) → CountsSoFar types findings
@@ -128,7 +133,7 @@ so_far types findings number are =
     by_any false is = none_counted findings number is
 
 -- There is room for one more, while there are fewer events than a slice may have.
-fits : (is_said : Checked → Bool) (number : ℕ) (findings : List Finding) → length findings + 1 < 2 ^ 64
+fits : (is_said : Option Checked → Bool) (number : ℕ) (findings : List Finding) → length findings + 1 < 2 ^ 64
     → how_many is_said number findings + 1 < 2 ^ 64
 unfolding how_many
 fits is_said number findings short =
@@ -140,6 +145,7 @@ room findings number short = record {
   by_form = by_form;
   matches_none = fits is_mismatch number findings short;
   not_in_log = fits is_outside number findings short;
+  not_covered = fits is_uncovered number findings short;
 }
   where
     by_form : (form : Form) → slice_index (counts_in findings number).by_form (form_index form) + 1 < 2 ^ 64

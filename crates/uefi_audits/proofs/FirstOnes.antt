@@ -66,6 +66,14 @@ range_more count =
     sym (map-id (range_with_len 0 (count + 1))) ∙ map-range_with_len_more (λ number. number) 0 count count (omega arith)
     ∙ ap (λ numbers. numbers ++ count ∷ []) (map-id (range_with_len 0 count))
 
+-- What it gives for one more number, joined.
+pub one_number_joined : {A : Type 0} (f : ℕ → List A) (count : ℕ) (found new : List A)
+    → found ≡ flat_map f (range_with_len 0 count) → new ≡ found ++ f count → new ≡ flat_map f (range_with_len 0 (count + 1))
+one_number_joined f count found new is more =
+    more ∙ ap (λ it. it ++ f count) is
+    ∙ sym (ap (flat_map f) (range_more count) ∙ flat_map-append f (range_with_len 0 count) (count ∷ [])
+    ∙ ap (λ it. flat_map f (range_with_len 0 count) ++ it) (append-nil (f count)))
+
 -- What a function gives for one more number, if it passes.
 passing_more : {A : Type 0} (f : ℕ → A) (passes : ℕ → Bool) (count : ℕ)
     → map f (filter passes (range_with_len 0 (count + 1)))

@@ -7,3 +7,4 @@ pub mod Numbered
 pub mod Findings
 pub mod Counting
 pub mod OneChecked
+pub mod OutOfPlace

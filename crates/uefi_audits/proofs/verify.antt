@@ -4,6 +4,7 @@ pub mod PcrLines
 pub mod BankNames
 pub mod Cuts
 pub mod Selections
+pub mod SelectionLists
 pub mod Agreement
 pub mod Verdicts
 pub mod QuoteVerdicts

@@ -1,6 +1,7 @@
 -- What the digests of an event are the hash of, by the event's type (TCG PC Client Platform Firmware Profile 1.06, 10.4.1; for `EV_IPL` what GRUB, shim and systemd-stub measure).
-use Rattle.std.specs.Prelude.{ℕ, ◌≡◌, ◌⊎◌, ◌==◌, ◌||◌, ◌&&◌, not, Bool, true, List, [], ◌∷◌, ◌++◌, codes, flat_map, Some, if◌then◌else◌}
+use Rattle.std.specs.Prelude.{ℕ, ◌≡◌, ◌⊎◌, ◌==◌, ◌||◌, ◌&&◌, not, Bool, true, List, [], ◌∷◌, ◌++◌, flat_map, Some, if◌then◌else◌}
 use Rattle.std.specs.List.{All, Contains, list_all, list_any}
+use Rattle.uefi_tcg.specs.content.Text.{prompts}
 use Rattle.uefi_tcg.specs.content.Variable.{Variable, ReadsVariable}
 use Rattle.uefi_tcg.specs.declared.event_type.TheConstants.EventType.{SEPARATOR, ACTION, EVENT_TAG, CRTM_VERSION, PLATFORM_CONFIG_FLAGS, TABLE_OF_DEVICES, IPL, OMIT_BOOT_DEVICE_EVENTS}
 use Rattle.uefi_tcg.specs.declared.event_type.TheConstants.EventType.{EFI_VARIABLE_DRIVER_CONFIG, EFI_VARIABLE_BOOT, EFI_GPT_EVENT, EFI_ACTION, EFI_VARIABLE_BOOT2, EFI_GPT_EVENT2, EFI_VARIABLE_AUTHORITY}
@@ -47,10 +48,7 @@ forms_of event_type =
     else if measures_text event_type then Data ∷ WithoutNul ∷ WithNul ∷ Command ∷ Narrowed ∷ []
     else []
 
--- What GRUB writes before a command, and before the command line of a kernel or of a module. It measures what follows, without the closing NUL.
-abbrev pub prompts : List (List ℕ)
-prompts = codes "grub_cmd: " ∷ codes "kernel_cmdline: " ∷ codes "module_cmdline: " ∷ []
-
+-- What GRUB measures: what follows what it writes before it, without the closing NUL.
 abbrev pub IsCommand : List ℕ → List ℕ → Type 0
 IsCommand bytes command = (prompt : List ℕ) × Contains prompts prompt × (bytes ≡ (prompt ++ command) ++ 0 ∷ [])
 

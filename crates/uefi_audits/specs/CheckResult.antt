@@ -1,10 +1,11 @@
--- What is found of the events of a log: those that match in none of the forms of their types, and how many events of each type match.
-use Rattle.std.specs.Prelude.{ℕ, ◌≡◌, ◌==◌, ◌&&◌, ◌↔◌, Bool, true, false, List, [], ◌∷◌, map, if◌then◌else◌}
-use Rattle.std.specs.List.{All, Contains, count_by}
+-- What is found of the events of a log: those that match in none of the forms of their types, those that are out of place, and how many events of each type match.
+use Rattle.std.specs.Prelude.{ℕ, ◌≡◌, ◌==◌, ◌&&◌, ◌↔◌, Bool, true, false, List, [], ◌∷◌, map, Option, None, Some, if◌then◌else◌}
+use Rattle.std.specs.List.{Contains, count_by}
 use Rattle.std.specs.List.Sorted.{IsStrictlyIncreasing}
 use Rattle.uefi_tcg.specs.Entries.{Entry}
 use Rattle.uefi_tcg.specs.LogViews.{entry_of}
-use Rattle.uefi_audits.specs.Check.{IsChecked}
+use Rattle.uefi_audits.specs.Findings.{AreFindings, Finding, is_match, is_mismatch, is_outside, is_uncovered}
+use Rattle.uefi_audits.specs.OutOfPlace.{remarks_in, remarks_of}
 use Rattle.uefi_audits.specs.Numbered.{numbered}
 use Rattle.uefi_audits.specs.declared.check.Checked.{Checked}
 use Rattle.uefi_audits.specs.declared.check.Checked.TheVariants.{Matches, MatchesNone, NotInLog}
@@ -13,32 +14,7 @@ use Rattle.uefi_audits.specs.declared.check.form.Form.TheVariants.{Data, Variabl
 use Rattle.uefi_audits.specs.declared.check.counts.TypeCounts.{TypeCounts}
 use Rattle.uefi_audits.specs.declared.check.result.CheckResult.{CheckResult}
 use Rattle.uefi_audits.specs.declared.check.result.Mismatch.{Mismatch}
-
--- An event of a log, and what is said of it.
-pub record Finding : Type 0 where
-  pub entry : Entry
-  pub checked : Checked
-
--- What is said of each event of a log, in order.
-pub record AreFindings (entries : List Entry) (findings : List Finding) : Type 0 where
-  pub of_each : map (λ it. it.entry) findings ≡ entries
-  pub each_is : All (λ it. IsChecked it.entry.event it.checked) findings
-
--- What is said of an event, by the kind.
-abbrev pub is_match : Checked → Bool
-is_match (Matches form) = true
-is_match MatchesNone = false
-is_match NotInLog = false
-
-abbrev pub is_mismatch : Checked → Bool
-is_mismatch (Matches form) = false
-is_mismatch MatchesNone = true
-is_mismatch NotInLog = false
-
-abbrev pub is_outside : Checked → Bool
-is_outside (Matches form) = false
-is_outside MatchesNone = false
-is_outside NotInLog = true
+use Rattle.uefi_audits.specs.declared.verify.named.NamedPcr.{NamedPcr}
 
 -- The forms in order, and the index of each.
 abbrev pub all_forms : List Form
@@ -53,12 +29,13 @@ form_index Command = 4
 form_index Narrowed = 5
 
 -- A match in the form with this index.
-abbrev pub is_match_at : ℕ → Checked → Bool
-is_match_at index (Matches form) = form_index form == index
-is_match_at index MatchesNone = false
-is_match_at index NotInLog = false
+abbrev pub is_match_at : ℕ → Option Checked → Bool
+is_match_at index (Some (Matches form)) = form_index form == index
+is_match_at index (Some MatchesNone) = false
+is_match_at index (Some NotInLog) = false
+is_match_at index None = false
 
-abbrev pub is_match_in : Form → Checked → Bool
+abbrev pub is_match_in : Form → Option Checked → Bool
 is_match_in form = is_match_at (form_index form)
 
 -- An event that matches in none of the forms of its type, with its index in the log.
@@ -78,7 +55,7 @@ abbrev pub type_of : Finding → ℕ
 type_of it = it.entry.event.event_type
 
 -- Of how many events of a type this is said.
-unfoldable pub how_many : (Checked → Bool) → ℕ → List Finding → ℕ
+unfoldable pub how_many : (Option Checked → Bool) → ℕ → List Finding → ℕ
 how_many is_said number findings = count_by (λ it. (number == type_of it) && is_said it.checked) findings
 
 -- The counts of a type.
@@ -89,6 +66,7 @@ counts_in findings number = record {
   by_form = map (λ form. how_many (is_match_in form) number findings) all_forms;
   matches_none = how_many is_mismatch number findings;
   not_in_log = how_many is_outside number findings;
+  not_covered = how_many is_uncovered number findings;
 }
 
 -- The counts of each type of which there is an event, in the order of the types' numbers.
@@ -102,9 +80,11 @@ pub record AreCounts (findings : List Finding) (counts : List TypeCounts) : Type
 abbrev pub mismatch_of : Mismatch → Mismatched
 mismatch_of found = record { index = found.index; entry = entry_of found.entry }
 
--- What is found of the events of a log.
-pub record IsCheckResult {A : Type 0} (entries : List Entry) (result : CheckResult A) : Type 0 where
+-- What is found of the events of a log, where these PCRs are covered.
+pub record IsCheckResult {A : Type 0} (covered : Option (List NamedPcr)) (entries : List Entry) (result : CheckResult A)
+    : Type 0 where
   pub findings : List Finding
-  pub found : AreFindings entries findings
+  pub found : AreFindings covered entries findings
   pub mismatches : map mismatch_of result.mismatches.items ≡ mismatches_in findings
+  pub remarks : remarks_of result.remarks ≡ remarks_in findings
   pub types : AreCounts findings result.types.items

@@ -15,4 +15,7 @@ pub mod Ignored
 pub mod Start
 pub mod Facts
 pub mod LogReplay
+pub mod Findings
+pub mod TypesByPcr
+pub mod OutOfPlace
 pub mod CheckResult

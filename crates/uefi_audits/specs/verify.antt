@@ -4,6 +4,8 @@ pub mod Named
 pub mod Selection
 pub mod Missing
 pub mod Uncompared
+pub mod Coverage
 pub mod Verdict
-pub mod Quote
 pub mod Covered
+pub mod Quote
+pub mod Compared

@@ -10,7 +10,7 @@ ghost use Rattle.uefi_tcg.specs.LogViews.{event_of};
 ghost use Rattle.uefi_tcg.specs.declared.uintn_size.UintnSize.{UintnSize};
 ghost use Rattle.uefi_tcg.specs.v2.Views.{header_of};
 ghost use Rattle.uefi_audits.specs.content.Content.{BlobContent, ImageContent, NoActionContent, PostCodeContent, Says, are_printed, form_of, is_printed, label_content, separator_content, text_content};
-ghost use Rattle.uefi_audits.specs.content.Content.{OfCrtmVersion, OfDescribedBlob, OfGpt, OfImage, OfLoaderText};
+ghost use Rattle.uefi_audits.specs.content.Content.{OfDescribedBlob, OfGpt, OfImage};
 ghost use Rattle.uefi_audits.specs.content.Header.{ReadsHeader};
 ghost use Rattle.uefi_audits.specs.content.Views.{content_of};
 
@@ -36,7 +36,7 @@ mod variable;
 pub enum EventContent<'a> {
     /// Nothing that is read.
     Unread,
-    /// A text: what was done, for instance.
+    /// A text that names what was measured.
     Text(&'a str),
     /// The number of a separator.
     Separator(u32),
@@ -44,7 +44,7 @@ pub enum EventContent<'a> {
     Locality(u8),
     /// The header of a log.
     Header(EventLogHeader<'a>),
-    /// What a boot loader says of what it measured.
+    /// What a boot loader says of what it measured, or firmware of what it did.
     LoaderText(EventText<'a>),
     /// The version of the static root of trust for measurement.
     CrtmVersion(CrtmVersion<'a>),
@@ -86,10 +86,10 @@ pub fn read_content<'a>(event: &LogEvent<'a>, uintn_size: UintnSize) -> EventCon
         EventType::ACTION
         | EventType::OMIT_BOOT_DEVICE_EVENTS
         | EventType::EFI_ACTION
-        | EventType::EFI_HCRTM_EVENT => text_content(bytes),
+        | EventType::EFI_HCRTM_EVENT
+        | EventType::IPL => EventContent::LoaderText(EventText::read(bytes)),
         EventType::EVENT_TAG => EventContent::Tagged(TaggedData::new(bytes)),
-        EventType::CRTM_VERSION => crtm_version_content(bytes),
-        EventType::IPL => loader_text_content(bytes),
+        EventType::CRTM_VERSION => EventContent::CrtmVersion(CrtmVersion::read(bytes)),
         EventType::POST_CODE2 | EventType::EFI_PLATFORM_FIRMWARE_BLOB2 => {
             described_blob_content(bytes)
         }
@@ -201,28 +201,6 @@ fn described_blob_content(bytes: &[u8]) -> EventContent<'_>
 {
     match PlatformFirmwareBlob2::read(bytes) {
         Some(blob) => EventContent::DescribedBlob(blob),
-        None => EventContent::Unread,
-    }
-}
-
-/// Returns the boot loader's text that data are.
-#[tactic(auto, unfolding(crate::specs::content::Content::Says))]
-fn loader_text_content(bytes: &[u8]) -> EventContent<'_>
-    ensures { (size : UintnSize) → Says size OfLoaderText bytes.now (content_of result) }
-{
-    match EventText::read(bytes) {
-        Some(text) => EventContent::LoaderText(text),
-        None => EventContent::Unread,
-    }
-}
-
-/// Returns the version that data are.
-#[tactic(auto, unfolding(crate::specs::content::Content::Says))]
-fn crtm_version_content(bytes: &[u8]) -> EventContent<'_>
-    ensures { (size : UintnSize) → Says size OfCrtmVersion bytes.now (content_of result) }
-{
-    match CrtmVersion::read(bytes) {
-        Some(version) => EventContent::CrtmVersion(version),
         None => EventContent::Unread,
     }
 }

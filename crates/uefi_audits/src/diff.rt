@@ -6,7 +6,7 @@
 //! logs have, and [`is_same_event`] compares two events.
 
 pub use self::algorithms::compared_algorithms;
-pub use self::compared::is_same_event;
+pub use self::compared::{ComparedParts, is_same_event};
 pub use self::difference::{EventChange, PcrDifference, differences};
 pub use self::names::{EventName, command_name, has_uncovered_name};
 pub use self::pcr::{ABOVE, NumberedEntry, numbered_entries};

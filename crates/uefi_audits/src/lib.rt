@@ -2,7 +2,8 @@
 //!
 //! Begin with [`replay::replay_banks`], which returns the PCRs that a log leads to, by banks.
 //! [`verify`] reads the PCRs that a TPM held and compares them with those. [`check`] compares the
-//! digests of an event with the hash of what its type measures, and [`diff`] the events of two logs.
+//! digests of an event with the hash of what its type measures, [`out_of_place`] finds events where their
+//! types aren't, and [`diff`] compares the events of two logs.
 //! [`content`] reads what the data of an event say. The crate `audit_text` shows all of it.
 //!
 //! The contracts say what each result is, by the one list of events that a log has (`specs/`).
@@ -20,6 +21,7 @@ pub mod judgement;
 pub mod laws;
 pub mod log_replay;
 pub mod naming;
+pub mod out_of_place;
 pub mod replay;
 pub mod start;
 pub mod trailing;

@@ -1,5 +1,6 @@
 //! Each allocation of one call of each command is refused in turn, alone and with all after it: no program aborts. It ends
-//! with status 3 and a message of memory, and has printed no line but those of a whole run.
+//! with status 3 and a message of memory, and has printed no line but those of a whole run, or in JSON that a file
+//! wasn't read.
 //!
 //! The test calls itself as the program, with an allocator that counts the requests from the start of the program's `main`
 //! function on. Excepted is what Rust makes before it: for its handler of stack overflows the name of the thread and a node
@@ -13,6 +14,9 @@ use std::path::{Path, PathBuf};
 use std::process::{Command, ExitCode, Output};
 use std::sync::atomic::{AtomicBool, AtomicUsize, Ordering::Relaxed};
 use std::{env, ptr};
+
+/// What the JSON of `verify` has where a file wasn't read.
+const UNREAD: &[u8] = br#""failed":["unread"]"#;
 
 /// The variable with the program that the test is called as.
 const PROGRAM: &str = "UEFI_TOOLS_PROGRAM";
@@ -122,7 +126,11 @@ impl Case {
         let last = told.lines().last().unwrap_or("");
         let says_memory = last.ends_with(": memory") || last.ends_with(": out of memory") || last == "uefi_list: file";
         let mut lines = whole.stdout.split_inclusive(|byte| *byte == b'\n');
-        let is_part = end.stdout.split_inclusive(|byte| *byte == b'\n').all(|line| lines.any(|other| other == line));
+        let is_unread = |line: &[u8]| line.windows(UNREAD.len()).any(|part| part == UNREAD);
+        let is_part = end
+            .stdout
+            .split_inclusive(|byte| *byte == b'\n')
+            .all(|line| is_unread(line) || lines.any(|other| other == line));
         let is_expected = end.status.code() == Some(3) && says_memory && is_part;
         let shown = String::from_utf8_lossy(&end.stdout);
         (!is_expected).then(|| format!("{} {} {refused}: {}\n{shown}{told}", self.program, self.name, end.status))

@@ -48,7 +48,7 @@ RUST = rules([
 # What only tests do. `heap` is an allocator that refuses: here the test program's own does.
 TESTS = rules([(before.replace("ALLOC", alloc), after) for alloc in ("alloc", "rt.alloc()") for before, after in [
     (".to_string(ALLOC)", ".to_string().text()"), (".replace(ALLOC, $next", ".fallible_replace($next"),
-    (".repeat(ALLOC, $next", ".fallible_repeat($next"), ("format!(in ALLOC; $next", "fallible_format!($next"),
+    ("format!(in ALLOC; $next", "fallible_format!($next"),
 ]] + [
     ("vec![in rt.alloc(); $$item; $$count]", "Vec::fallible_from_elem($$item, $$count)"),
     ("let alloc = rt.alloc();", ""), (".clone()", ".fallible_clone()"), ("|heap|", "||"), ("|alloc, $name|", "|$name|"),
@@ -67,7 +67,7 @@ ALLOCATOR = re.compile(
 EMPTY = rules([("use std::alloc::{};", ""), ("use std::alloc::Allocator;", ""), ("use std::alloc::Global;", ""),
                ("use std::alloc::{AllocError};", "use std::alloc::AllocError;")])
 # The modules of std that are in core, in this package's support, and in std.
-CORE, SUPPORT, STD = {'cell', 'cmp', 'error', 'fmt', 'iter', 'mem', 'ops', 'str'}, {'alloc', 'simd', 'test'}, {'io'}
+CORE, SUPPORT, STD = {'cell', 'cmp', 'error', 'fmt', 'iter', 'mem', 'ops', 'slice', 'str'}, {'alloc', 'simd', 'test'}, {'io'}
 # All that may be left.
 ATTRIBUTES = {'allow', 'cfg', 'derive', 'inline', 'must_use', 'non_exhaustive', 'repr', 'test'}
 MACROS = {'assert', 'bitflag_items', 'fallible_format', 'fallible_write', 'fallible_writeln', 'format_args', 'include_str', 'matches',

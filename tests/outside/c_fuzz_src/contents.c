@@ -1,21 +1,41 @@
 /* Texts of events, signature lists and partition tables. */
 #include "fuzz.h"
 
-/* Whether items of a width are a text: none is zero but the last, which may be; and of one byte all are ASCII. */
-static bool is_text(const uint8_t *b, size_t n, size_t width, bool *has_nul) {
-    *has_nul = false;
-    for (size_t i = 0; i + width <= n; i += width) {
-        bool zero = width == 1 ? !b[i] : !u16_at(b + i);
-        if ((zero && i + width < n) || (width == 1 && b[i] > 0x7f)) return false;
-        *has_nul = zero;
+/* How many bytes the character of UTF-8 with which bytes begin has; none, if they begin with none or with the NUL. */
+static size_t utf8_length(const uint8_t *b, size_t n) {
+    if (b[0] < 0x80) return b[0] ? 1 : 0;
+    size_t length = b[0] >= 0xc2 && b[0] <= 0xdf ? 2 : b[0] >= 0xe0 && b[0] <= 0xef ? 3 : b[0] >= 0xf0 && b[0] <= 0xf4 ? 4 : 0;
+    if (!length || length > n) return 0;
+    uint32_t c = b[0] & (0xff >> (length + 1));
+    for (size_t i = 1; i < length; i++) {
+        if ((b[i] & 0xc0) != 0x80) return 0;
+        c = c << 6 | (b[i] & 0x3f);
     }
-    return n % width == 0;
+    bool shorter = (length == 3 && c < 0x800) || (length == 4 && c < 0x10000);
+    return shorter || (c >= 0xd800 && c <= 0xdfff) || c > 0x10ffff ? 0 : length;
+}
+
+/* Whether firmware writes a unit of UTF-16: it is a tab, ends a line, or is a character that prints, up to Latin Extended-A. */
+static bool is_latin(uint16_t unit) {
+    return unit == 9 || unit == 10 || unit == 13 || (unit >= 0x20 && unit <= 0x7e) || (unit >= 0xa0 && unit <= 0x17f);
+}
+
+/* Whether items of a width are a text, UTF-8 or such units, with a zero item at the end or without one. */
+static bool is_text(const uint8_t *b, size_t n, size_t width, bool *has_nul) {
+    *has_nul = n >= width && !b[n - 1] && !b[n - width];
+    if (n % width) return false;
+    size_t end = n - (*has_nul ? width : 0);
+    for (size_t i = 0, step = width; i < end; i += step) {
+        if (width == 2 && !is_latin(u16_at(b + i))) return false;
+        if (width == 1 && !(step = utf8_length(b + i, end - i))) return false;
+    }
+    return true;
 }
 
 static UefiStatus plain_event_text(UefiBytes bytes, UefiEventText *out) {
-    bool has_nul, ascii = is_text(bytes.at, bytes.n, 1, &has_nul);
-    if (!ascii && !is_text(bytes.at, bytes.n, 2, &has_nul)) return UEFI_OTHER_DATA;
-    *out = (UefiEventText){slice(bytes.at, bytes.n - (has_nul ? ascii ? 1 : 2 : 0)), !ascii, has_nul};
+    bool has_nul, utf8 = is_text(bytes.at, bytes.n, 1, &has_nul);
+    if (!utf8 && !is_text(bytes.at, bytes.n, 2, &has_nul)) return UEFI_OTHER_DATA;
+    *out = (UefiEventText){slice(bytes.at, bytes.n - (has_nul ? utf8 ? 1 : 2 : 0)), !utf8, has_nul};
     return UEFI_OK;
 }
 

@@ -31,14 +31,14 @@ def nonces(machine, name, log):
     """Other nonces than a quote's, none, and one that isn't hex."""
     quoted, other = reference(machine, name, log), NONCE[::-1]
     first = f"{quoted.file}: has nonce 0x{NONCE.hex()}, not nonce 0x{other.hex()}\n"
-    found = machine.verify(name, quoted.file, "--nonce", other.hex())
+    found = machine.verify(name, quoted.file, "--any-pcrs", "--nonce", other.hex())
     yield tells(f"{name}: another nonce", (found[0], found[1].startswith(first)), (1, True))
     for what, asked in (("a prefix of the nonce", NONCE[:-1]), ("a longer nonce", NONCE + b"\0")):
-        ending = machine.verify(name, quoted.file, "--nonce", asked.hex())
+        ending = machine.verify(name, quoted.file, "--any-pcrs", "--nonce", asked.hex())
         yield ends_with(f"{name}: {what}", ending, 1, f"{quoted.file}: has nonce 0x{NONCE.hex()}, not ")
-    yield ends_with(f"{name}: no nonce asked for", machine.verify(name, quoted.file), 4, "--any-nonce")
-    for text in ("0g", "123", "0x00"):
-        yield ends_with(f"{name}: the nonce {text}", machine.verify(name, quoted.file, "--nonce", text), 2, "--nonce")
+    yield ends_with(f"{name}: no nonce asked for", machine.verify(name, quoted.file, "--any-pcrs"), 4, "--any-nonce")
+    for text in ("", "0g", "123", "0x00"):
+        yield ends_with(f"{name}: the nonce {text}", machine.verify(name, quoted.file, "--any-pcrs", "--nonce", text), 2, "--nonce")
 
 
 def extended_once_more(machine, name, log):
@@ -93,7 +93,7 @@ def signatures(machine, name, log):
     for pcr in (1, 7):
         changed = written(machine, "relabelled", message[:at] + bytes([message[at] ^ 1 << pcr]) + message[at + 1 :])
         yield tells(f"{name}: relabelled, PCR {pcr}: openssl", tpm.is_signed(quoted.key, changed, signature), False)
-        ending = machine.verify(name, changed, "--nonce", NONCE.hex())
+        ending = machine.verify(name, changed, "--any-pcrs", "--nonce", NONCE.hex())
         yield ends_with(f"{name}: relabelled, PCR {pcr}", ending, 1, f"{name}: differs: ")
 
 
@@ -103,7 +103,7 @@ def messages(machine, name, log):
     message = machine.path(quoted.file).read_bytes()
     for length in range(len(message)):
         file = written(machine, "cut", message[:length])
-        ending = machine.verify(name, file, "--any-nonce")
+        ending = machine.verify(name, file, "--any-nonce", "--any-pcrs")
         yield ends_with(f"{name}: cut at {length}", ending, 3, file, "too few bytes")
     handle, how = quoted.key.handle, ["-g", "sha256", "-f", "plain"]
     tpm.tool("tpm2_certify", "-C", handle, "-c", handle, *how, "-o", "certified", "-s", "certified.signature")
@@ -117,8 +117,8 @@ def messages(machine, name, log):
         (f"{quoted.file}.signature", "no TPM_GENERATED_VALUE"),
         ("longer", "bytes after the quote"),
     ]:
-        yield ends_with(f"{name}: {file}", machine.verify(name, file, "--any-nonce"), 3, file, reason)
-    yield ends_with(f"{name}: no file", machine.verify(name, "missing", "--any-nonce"), 3, "missing")
+        yield ends_with(f"{name}: {file}", machine.verify(name, file, "--any-nonce", "--any-pcrs"), 3, file, reason)
+    yield ends_with(f"{name}: no file", machine.verify(name, "missing", "--any-nonce", "--any-pcrs"), 3, "missing")
 
 
 def hashes(machine, name, log):

@@ -4,6 +4,7 @@ import json
 from collections import namedtuple
 from pathlib import Path
 
+from event_log import NUMBERS, measured
 from golden import end_of
 from telling import tells
 
@@ -58,8 +59,9 @@ class Machine:
         return self.run("verify", log, "--quote", file, *words)
 
     def judge(self, log, quoted, *words):
-        """What the program ends with, asked for the nonce that a quote has."""
+        """What the program ends with, asked for the nonce that a quote has, and for any PCRs if no others are asked for."""
         asked = ["--nonce", quoted.nonce.hex()] if quoted.nonce else ["--any-nonce"]
+        asked += [] if "--pcrs" in words else ["--any-pcrs"]
         return self.verify(log, quoted.file, *asked, *words)
 
     def fields(self, quoted):
@@ -92,9 +94,17 @@ class Machine:
         found, digest = self.fields(quoted), self.digest(quoted)
         counts = {"reset_count": int(found["resetCount"]), "restart_count": int(found["restartCount"])}
         clock = {"clock": int(found["clock"]), **counts, "safe": found["safe"] == "1"}
-        banks = [{"algorithm": bank, "pcrs": pcrs} for bank, pcrs in quoted.selections]
+        banks = [{"algorithm": bank, "pcrs": list(pcrs)} for bank, pcrs in quoted.selections]
         nonce = {"nonce": found["extraData"], "nonce_agrees": True if quoted.nonce else None}
-        digests = {"digest": digest, "hash": quoted.key.hash, "leads_to": digest}
-        quote = {"agrees": True, "banks": banks, "clock": clock, **digests, **nonce}
-        line = {"locality": locality, "log": log, "quote": quote}
+        digests = {"digest": digest, "digest_agrees": True, "hash": quoted.key.hash, "leads_to": digest}
+        verdict = {"agrees": True, "failed": [], "locality": locality, "log": log, **self.coverage(log, quoted)}
+        line = {**verdict, "quote": {"banks": banks, "clock": clock, **digests, **nonce}}
         return json.dumps(line, sort_keys=True, separators=(",", ":")) + "\n"
+
+    def coverage(self, log, quoted):
+        """The PCRs that a quote covers, by banks, and those that a log's events extend and that it doesn't cover."""
+        of_banks = {bank: [pcr for it, pcrs in quoted.selections if it == bank for pcr in pcrs] for bank in NUMBERS}
+        every = {pcr for pcrs in of_banks.values() for pcr in pcrs}
+        extended = sorted({it.pcr for it in measured(self.path(log).read_bytes())} - every)
+        covered = [{"bank": bank, "pcrs": pcrs} for bank, pcrs in of_banks.items() if pcrs]
+        return {"covered": covered, "not_covered": [{"bank": None, "pcrs": extended}] if extended else []}

@@ -47,8 +47,8 @@ def free_port():
 
 
 class SoftwareTpm:
-    def __init__(self, room, environment):
-        """Starts swtpm with an empty state in a folder, and makes the keys."""
+    def __init__(self, room, environment, keys=tuple(KEYS)):
+        """Starts swtpm with an empty state in a folder, and makes these keys."""
         self.room, self.port = room, free_port()
         self.environment = {**environment, "TPM2TOOLS_TCTI": f"swtpm:host=127.0.0.1,port={self.port}"}
         os.makedirs(f"{room}/state")
@@ -59,7 +59,7 @@ class SoftwareTpm:
             self.process = subprocess.Popen(words, env=self.environment, stdout=log, stderr=log)
         try:
             self.wait()
-            self.keys = {name: self.make_key(name, FIRST_HANDLE + index) for index, name in enumerate(KEYS)}
+            self.keys = {name: self.make_key(name, FIRST_HANDLE + index) for index, name in enumerate(keys)}
         except BaseException:
             self.stop()
             raise
@@ -149,6 +149,10 @@ class SoftwareTpm:
         events = [it for it in event_log.measured(log) if it.pcr in reached]
         start = event_log.stated_locality(log) if locality is None else locality
         self.restart(start if 0 in reached else 0, [it.data for it in events if it.kind == HCRTM], shutdown)
+        self.extend(events)
+
+    def extend(self, events):
+        """Extends the PCRs as events say, but for an H-CRTM's."""
         words = []
         for event in events:
             if event.pcr in LAUNCH_PCRS:

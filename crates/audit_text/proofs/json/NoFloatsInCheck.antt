@@ -9,15 +9,26 @@ use Rattle.serde_json.specs.Data.{Data, Members, member, no_members, number, put
 use Rattle.serde_json.specs.View.{items_of}
 use Rattle.serde_json.specs.Written.{has_float, items_have_float, members_have_float}
 use Rattle.uefi_audits.specs.CheckResult.{Mismatched, all_forms, form_index}
+use Rattle.uefi_audits.specs.OutOfPlace.{Misplaced}
 use Rattle.uefi_audits.specs.declared.check.counts.TypeCounts.{TypeCounts}
 use Rattle.uefi_audits.specs.declared.check.form.Form.{Form}
 use Rattle.audit_text.specs.json.Check.{counts_json, mismatch_json, types_json, with_form}
+use Rattle.audit_text.specs.json.OutOfPlace.{misplaced_json, unseparated_json}
 use Rattle.audit_text.specs.words.Forms.{form_name}
 use Rattle.audit_text.proofs.json.NoFloats.{event_type}
 
 pub mismatch : (log : List ℕ) (it : Mismatched) → has_float (mismatch_json log it) ≡ false
 unfolding mismatch_json
 mismatch log it = rw (event_type it.entry.event.event_type) refl
+
+-- The remarks on the places of events.
+pub of_misplaced : (log : List ℕ) (it : Misplaced) → has_float (misplaced_json log it) ≡ false
+unfolding misplaced_json
+of_misplaced log it = rw (event_type it.entry.event.event_type) refl
+
+pub of_unseparated : (log : List ℕ) (pcr : ℕ) → has_float (unseparated_json log pcr) ≡ false
+unfolding unseparated_json
+of_unseparated log pcr = refl
 
 -- One more member.
 neither : (one other : Bool) → (one || other) ≡ false → (one ≡ false) × (other ≡ false)

@@ -1,7 +1,7 @@
 -- No number of what data say is a float.
 use Rattle.std.proofs.Common.{◌≡◌, ℕ, List, [], ◌∷◌, map, refl, Bool, false, true, cond, Option, Some, None}
 use Rattle.std.specs.Prelude.{codes, length, nat_le}
-use Rattle.serde_json.specs.Data.{Data, Members, number, unsigned, string, object, member, no_members}
+use Rattle.serde_json.specs.Data.{Data, Members, number, unsigned, string, object, member, no_members, put}
 use Rattle.serde_json.specs.View.{items_of}
 use Rattle.serde_json.specs.Written.{has_float, items_have_float}
 use Rattle.uefi_path.specs.LoadOption.{LoadOption}
@@ -11,6 +11,7 @@ use Rattle.uefi_tcg.specs.content.Gpt.{Entry}
 use Rattle.uefi_tcg.specs.content.Image.{Image}
 use Rattle.uefi_tcg.specs.content.Signature.{Signature, SignatureList}
 use Rattle.uefi_tcg.specs.content.Tagged.{Tagged}
+use Rattle.uefi_tcg.specs.content.Text.{text_in}
 use Rattle.uefi_tcg.specs.content.Variable.{Variable}
 use Rattle.uefi_audits.specs.content.Content.{Content, unread, text, separator, locality, header, loader_text}
 use Rattle.uefi_audits.specs.content.Content.{crtm_version, blob, described_blob, tagged, gpt, variable, image}
@@ -23,6 +24,7 @@ use Rattle.audit_text.specs.json.Parts.{node_json, nodes_json, path_json, with_p
 use Rattle.audit_text.specs.words.Printed.{printed_text}
 use Rattle.audit_text.specs.words.Tags.{tag_name}
 use Rattle.audit_text.specs.words.Signatures.{longest_hash}
+use Rattle.audit_text.specs.words.Texts.{event_text}
 use Rattle.audit_text.specs.json.Values.{boot_option_json, certificate_json, hash_json, list_json, number_json, signature_json, value_json, variable_json, with_value}
 
 named : (name : Option (List ℕ)) (n : ℕ) → has_float (name_or_number name n) ≡ false
@@ -145,18 +147,16 @@ unfolding variable_json
 variable_has read value = with_its_value value read.payload _ _ _
 
 -- What firmware says of itself.
-tagged_members : (name text : Option (List ℕ)) (bytes : List ℕ) (id : ℕ)
-    → has_float (object (with_printed (codes "text") text (with_name name
+tagged_members : (name : Option (List ℕ)) (said bytes : List ℕ) (id : ℕ)
+    → has_float (object (put (codes "text") (string said) (with_name name
     (member (codes "data") (string bytes) (member (codes "id") (number (unsigned id)) no_members))))) ≡ false
-tagged_members (Some name) (Some said) bytes id = refl
-tagged_members (Some name) None bytes id = refl
-tagged_members None (Some said) bytes id = refl
-tagged_members None None bytes id = refl
+tagged_members (Some name) said bytes id = refl
+tagged_members None said bytes id = refl
 
 tagged_each : (events : List Tagged) → items_have_float (items_of (map tagged_json events)) ≡ false
 unfolding tagged_json
 tagged_each [] = refl
-tagged_each (e ∷ es) = rw (tagged_members (tag_name e.id) (printed_text e.payload) _ e.id) (tagged_each es)
+tagged_each (e ∷ es) = rw (tagged_members (tag_name e.id) (event_text (text_in e.payload)) _ e.id) (tagged_each es)
 
 tagged_has : (events : List Tagged) (rest : List ℕ) → has_float (tagged_events_json events rest) ≡ false
 unfolding tagged_events_json

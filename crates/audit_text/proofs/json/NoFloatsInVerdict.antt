@@ -1,5 +1,5 @@
 -- No number of a verdict's JSON is a float.
-use Rattle.std.proofs.Common.{◌≡◌, ℕ, List, [], ◌∷◌, refl}
+use Rattle.std.proofs.Common.{◌≡◌, ℕ, List, [], ◌∷◌, refl, codes}
 use Rattle.std.specs.Prelude.{Bool, true, false, cond, flat_map, Option, None, Some, Ok, Err}
 use Rattle.serde_json.specs.Data.{Data}
 use Rattle.serde_json.specs.View.{items_of}
@@ -7,9 +7,13 @@ use Rattle.serde_json.specs.Written.{has_float, items_have_float}
 use Rattle.pcr_replay.specs.Replay.{Outcome}
 use Rattle.pcr_replay.specs.BankReplays.{BankOutcomes}
 use Rattle.uefi_audits.specs.declared.verify.held.HeldPcr.{HeldPcr}
-use Rattle.audit_text.specs.json.Verdict.{disagreeing_json, event_json, if_disagreeing, led_json, pcr_json, undetermined_by, verdict_json, verdict_object}
-use Rattle.uefi_audits.specs.verify.Verdict.{Comparison, agrees, led_to}
+use Rattle.audit_text.specs.json.Coverage.{unless}
+use Rattle.audit_text.specs.json.Verdict.{disagreeing_json, event_json, failed_json, if_disagreeing, led_json, pcr_json, undetermined_by, verdict_json, verdict_object}
+use Rattle.uefi_audits.specs.verify.Compared.{PcrsJudged}
+use Rattle.uefi_audits.specs.verify.Coverage.{is_whole}
+use Rattle.uefi_audits.specs.verify.Verdict.{agrees, is_agreement, led_to}
 use Rattle.audit_text.proofs.json.NoFloats.{joined}
+use Rattle.audit_text.proofs.json.NoFloatsInCoverage.{covered, not_covered, unless_none}
 
 led : (outcome : Option Outcome) → has_float (led_json outcome) ≡ false
 unfolding led_json
@@ -47,7 +51,14 @@ all : (replays : List BankOutcomes) (held : List HeldPcr) → has_float (disagre
 unfolding disagreeing_json
 all replays held = each replays held
 
-pub no_float : (name : List ℕ) (comparison : Comparison) (held : List HeldPcr)
-    → has_float (verdict_json name comparison held) ≡ false
+failed : (judged : PcrsJudged) → has_float (failed_json judged) ≡ false
+unfolding failed_json
+failed judged =
+    joined (unless (is_agreement judged.comparison) (codes "pcrs")) (unless (is_whole judged.covering) (codes "coverage"))
+    (unless_none (is_agreement judged.comparison) (codes "pcrs")) (unless_none (is_whole judged.covering) (codes "coverage"))
+
+pub no_float : (name : List ℕ) (judged : PcrsJudged) → has_float (verdict_json name judged) ≡ false
 unfolding verdict_object
-no_float name comparison held = rw (all comparison.replays held) refl
+no_float name judged =
+    rw (covered judged.covering.covered) (rw (all judged.comparison.replays judged.held) (rw (failed judged)
+    (rw (not_covered judged.covering) refl)))

@@ -4,10 +4,12 @@ use Rattle.std.specs.List.{fold}
 use Rattle.serde_json.specs.Data.{Data, Members, boolean, number, unsigned, string, array, object, member, no_members, put}
 use Rattle.serde_json.specs.View.{items_of}
 use Rattle.uefi_audits.specs.CheckResult.{Mismatched, all_forms, form_index}
+use Rattle.uefi_audits.specs.OutOfPlace.{Remarked}
 use Rattle.uefi_audits.specs.declared.check.counts.TypeCounts.{TypeCounts}
 use Rattle.uefi_audits.specs.declared.check.form.Form.{Form}
 use Rattle.audit_text.specs.json.Event.{type_json}
 use Rattle.audit_text.specs.json.Line.{line_of}
+use Rattle.audit_text.specs.json.OutOfPlace.{remark_lines}
 use Rattle.audit_text.specs.words.Forms.{form_name}
 
 -- An event that matches in none of the forms of its type.
@@ -35,8 +37,9 @@ counts_json counts =
     object (member (codes "forms") (object (forms_members counts.by_form all_forms))
     (member (codes "matched") (number (unsigned counts.matches))
     (member (codes "matches_none") (number (unsigned counts.matches_none))
+    (member (codes "not_covered") (number (unsigned counts.not_covered))
     (member (codes "not_in_log") (number (unsigned counts.not_in_log))
-    (member (codes "type") (type_json counts.event_type.0) no_members)))))
+    (member (codes "type") (type_json counts.event_type.0) no_members))))))
 
 -- Those of each type.
 unfoldable pub types_json : List ℕ → List TypeCounts → Data
@@ -51,6 +54,7 @@ mismatch_line log it = line_of (mismatch_json log it) ++ codes "\n"
 abbrev pub types_line : List ℕ → List TypeCounts → List ℕ
 types_line log types = line_of (types_json log types) ++ codes "\n"
 
--- The lines of a log of this name: first the events, then the types.
-unfoldable pub check_lines : List ℕ → List Mismatched → List TypeCounts → List ℕ
-check_lines log mismatches types = flat_map (mismatch_line log) mismatches ++ types_line log types
+-- The lines of a log of this name: first the events that don't match, then the remarks on their places, and the types.
+unfoldable pub check_lines : List ℕ → List Mismatched → Remarked → List TypeCounts → List ℕ
+check_lines log mismatches remarks types =
+    flat_map (mismatch_line log) mismatches ++ (remark_lines log remarks ++ types_line log types)

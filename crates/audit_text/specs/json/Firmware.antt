@@ -8,12 +8,12 @@ use Rattle.uefi_base.specs.GuidText.{guid_text}
 use Rattle.uefi_tcg.specs.content.Blob.{Blob, DescribedBlob}
 use Rattle.uefi_tcg.specs.content.Gpt.{Entry, GptData}
 use Rattle.uefi_tcg.specs.content.Tagged.{Tagged}
+use Rattle.uefi_tcg.specs.content.Text.{text_in}
 use Rattle.uefi_tcg.specs.v2.Header.{Header}
 use Rattle.audit_text.specs.json.Algorithm.{algorithm_json}
-use Rattle.audit_text.specs.json.Parts.{with_printed, with_rest}
-use Rattle.audit_text.specs.words.Printed.{printed_text}
+use Rattle.audit_text.specs.json.Parts.{with_rest}
 use Rattle.audit_text.specs.words.Tags.{tag_name}
-use Rattle.audit_text.specs.words.Texts.{before_nul, unit_text}
+use Rattle.audit_text.specs.words.Texts.{before_nul, event_text, unit_text}
 
 -- A blob: its address and its length.
 unfoldable pub blob_json : Blob → Data
@@ -33,10 +33,10 @@ abbrev pub with_name : Option (List ℕ) → Members → Members
 with_name (Some name) members = put (codes "name") (string name) members
 with_name None members = members
 
--- A tagged event: its data in hex and its number, the name of its tag, if it has one, and the text that its data are, if all of it prints. All of them, and the bytes after them.
+-- A tagged event: its data in hex and its number, the name of its tag, if it has one, and the text that its data are. All of them, and the bytes after them.
 unfoldable pub tagged_json : Tagged → Data
 tagged_json event =
-    object (with_printed (codes "text") (printed_text event.payload) (with_name (tag_name event.id)
+    object (put (codes "text") (string (event_text (text_in event.payload))) (with_name (tag_name event.id)
     (member (codes "data") (string (encode_lower event.payload))
     (member (codes "id") (number (unsigned event.id)) no_members))))
 

@@ -11,7 +11,10 @@ use Rattle.pcr_replay.specs.BankReplays.{BankOutcomes}
 use Rattle.audit_text.specs.json.Line.{line_of}
 use Rattle.uefi_audits.specs.Naming.{bank_name}
 use Rattle.uefi_audits.specs.declared.verify.held.HeldPcr.{HeldPcr}
-use Rattle.uefi_audits.specs.verify.Verdict.{Comparison, agrees, is_agreement, led_to}
+use Rattle.uefi_audits.specs.verify.Compared.{PcrsJudged, pcrs_agree}
+use Rattle.uefi_audits.specs.verify.Coverage.{is_whole}
+use Rattle.uefi_audits.specs.verify.Verdict.{agrees, is_agreement, led_to}
+use Rattle.audit_text.specs.json.Coverage.{covered_json, not_covered_json, unless}
 
 -- What the log leads to in a PCR, in hex; `null` if it leads to no value.
 unfoldable pub led_json : Option Outcome → Data
@@ -50,18 +53,26 @@ if_disagreeing replays held =
 unfoldable pub disagreeing_json : List BankOutcomes → List HeldPcr → Data
 disagreeing_json replays held = array (items_of (flat_map (if_disagreeing replays) held))
 
--- The object: whether all PCRs agree, how many they are, those that don't, the locality at which PCR 0 starts, and the name of the log.
-unfoldable pub verdict_object : List ℕ → Comparison → List HeldPcr → Data → Data
-verdict_object name comparison held disagreeing =
-    object (member (codes "agree") (boolean (is_agreement comparison))
-    (member (codes "count") (number (unsigned (length held)))
-    (member (codes "disagreeing") disagreeing
-    (member (codes "locality") (number (unsigned comparison.start.start.locality))
-    (member (codes "log") (string name) no_members)))))
+-- What doesn't agree: a PCR, or what is compared.
+unfoldable pub failed_json : PcrsJudged → Data
+failed_json judged =
+    array (items_of (unless (is_agreement judged.comparison) (codes "pcrs") ++ unless (is_whole judged.covering) (codes "coverage")))
 
-abbrev pub verdict_json : List ℕ → Comparison → List HeldPcr → Data
-verdict_json name comparison held = verdict_object name comparison held (disagreeing_json comparison.replays held)
+-- The object: whether all agrees, how many PCRs are compared, which, those that don't agree, what fails, the locality at which PCR 0 starts, the name of the log, and the PCRs that aren't compared.
+unfoldable pub verdict_object : List ℕ → PcrsJudged → Data → Data
+verdict_object name judged disagreeing =
+    object (member (codes "agrees") (boolean (pcrs_agree judged))
+    (member (codes "count") (number (unsigned (length judged.held)))
+    (member (codes "covered") (covered_json judged.covering.covered)
+    (member (codes "disagreeing") disagreeing
+    (member (codes "failed") (failed_json judged)
+    (member (codes "locality") (number (unsigned judged.comparison.start.start.locality))
+    (member (codes "log") (string name)
+    (member (codes "not_covered") (not_covered_json judged.covering) no_members))))))))
+
+abbrev pub verdict_json : List ℕ → PcrsJudged → Data
+verdict_json name judged = verdict_object name judged (disagreeing_json judged.comparison.replays judged.held)
 
 -- Its line.
-abbrev pub verdict_line : List ℕ → Comparison → List HeldPcr → List ℕ
-verdict_line name comparison held = line_of (verdict_json name comparison held) ++ codes "\n"
+abbrev pub verdict_line : List ℕ → PcrsJudged → List ℕ
+verdict_line name judged = line_of (verdict_json name judged) ++ codes "\n"

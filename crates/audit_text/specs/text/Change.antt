@@ -1,9 +1,10 @@
 -- What changed between an event of a log and its counterpart in another log, in words on one line.
-use Rattle.std.specs.Prelude.{ℕ, ◌==◌, ◌&&◌, ◌||◌, not, Bool, true, false, List, [], ◌∷◌, ◌++◌, length, map, flat_map, codes, Option, Some, None, if◌then◌else◌}
+use Rattle.std.specs.Prelude.{ℕ, ◌==◌, ◌&&◌, ◌||◌, not, Bool, true, false, List, [], ◌∷◌, ◌++◌, length, map, flat_map, codes, Option, Some, None, option_map, if◌then◌else◌}
 use Rattle.std.specs.List.{filter}
 use Rattle.std.specs.Str.{bytes_eq}
 use Rattle.hex.specs.Hex.{encode_lower}
 use Rattle.uefi_tcg.specs.content.Tagged.{Tagged}
+use Rattle.uefi_tcg.specs.content.Text.{text_in}
 use Rattle.uefi_tcg.specs.v2.Event.{Digest, Event}
 use Rattle.uefi_audits.specs.Check.{forms_of}
 use Rattle.uefi_audits.specs.content.Content.{Content, unread, text, loader_text, crtm_version, tagged, variable}
@@ -13,7 +14,8 @@ use Rattle.audit_text.specs.text.ChangeParts.{byte_change, joined, line_change, 
 use Rattle.audit_text.specs.text.EventContents.{content_lines}
 use Rattle.audit_text.specs.text.EventParts.{algorithm_text}
 use Rattle.audit_text.specs.words.Printed.{printed_text}
-use Rattle.audit_text.specs.words.Texts.{event_text, version_text}
+use Rattle.audit_text.specs.words.Shown.{shown_name}
+use Rattle.audit_text.specs.words.Texts.{shown_event, shown_version}
 
 -- An event of a log, and its data.
 abbrev pub event_in : Numbered → Event
@@ -22,23 +24,23 @@ event_in found = found.entry.event
 abbrev pub data_of : Numbered → List ℕ
 data_of found = (event_in found).event_data
 
--- The text of a tagged event that is the only one, with no bytes after it.
+-- The text of a tagged event that is the only one, with no bytes after it, as it is shown.
 unfoldable pub tagged_text : List Tagged → List ℕ → Option (List ℕ)
 tagged_text [] rest = None
-tagged_text (one ∷ []) rest = if length rest == 0 then printed_text one.payload else None
+tagged_text (one ∷ []) rest = if length rest == 0 then Some (shown_event (text_in one.payload)) else None
 tagged_text (one ∷ another ∷ others) rest = None
 
--- The value of a variable, if it isn't read; and the text or the version that data are.
+-- The value of a variable, if it isn't read; and the text or the version that data are, as it is shown.
 abbrev pub plain_value : Content → Option (List ℕ)
 plain_value (variable it values.unread) = Some it.payload
 plain_value other = None
 
-abbrev pub text_in : Content → Option (List ℕ)
-text_in (text said) = Some said
-text_in (loader_text it) = Some (event_text it)
-text_in (crtm_version it) = Some (version_text it)
-text_in (tagged events rest) = tagged_text events rest
-text_in other = None
+abbrev pub words_in : Content → Option (List ℕ)
+words_in (text said) = Some (shown_name said)
+words_in (loader_text it) = Some (shown_event it)
+words_in (crtm_version it) = Some (shown_version it)
+words_in (tagged events rest) = tagged_text events rest
+words_in other = None
 
 abbrev pub is_unread : Content → Bool
 is_unread unread = true
@@ -51,7 +53,8 @@ if_both between old new other = other
 
 -- What changed between texts that print, from the first word that differs, or between bytes.
 unfoldable pub print_change : List ℕ → List ℕ → List ℕ
-print_change old new = if_both word_change (printed_text old) (printed_text new) (byte_change old new)
+print_change old new =
+    if_both word_change (option_map shown_name (printed_text old)) (option_map shown_name (printed_text new)) (byte_change old new)
 
 -- A value that is 0 or 1 in one byte is said so; of another one what changed in its text or its bytes.
 unfoldable pub value_change : List ℕ → List ℕ → List ℕ
@@ -71,7 +74,7 @@ block_change old new =
 
 -- What changed in texts, or else in the lines; and in values that aren't read, or else in those.
 unfoldable pub read_change : Numbered → Numbered → List ℕ
-read_change old new = if_both word_change (text_in old.content) (text_in new.content) (block_change old new)
+read_change old new = if_both word_change (words_in old.content) (words_in new.content) (block_change old new)
 
 unfoldable pub said_change : Numbered → Numbered → List ℕ
 said_change old new = if_both value_change (plain_value old.content) (plain_value new.content) (read_change old new)

@@ -1,11 +1,11 @@
 -- Parts of what changed between two events: bytes, lines, and the words of a text.
-use Rattle.std.specs.Prelude.{ℕ, ◌==◌, ◌&&◌, ◌||◌, not, Bool, List, [], ◌++◌, take, drop, length, map, nat_eq, nat_le, codes, if◌then◌else◌}
+use Rattle.std.specs.Prelude.{ℕ, ◌==◌, ◌-◌, ◌&&◌, ◌||◌, not, Bool, List, [], ◌++◌, take, drop, length, map, nat_eq, codes, if◌then◌else◌}
 use Rattle.std.specs.Fmt.{decimal}
 use Rattle.std.specs.List.{common_prefix_len, filter, join_by, list_any, slice_split}
 use Rattle.std.specs.Str.{bytes_eq, trim_start}
 use Rattle.std.specs.Str.Lines.{lines}
 use Rattle.hex.specs.Hex.{encode_lower}
-use Rattle.audit_text.specs.words.Shown.{shown_name}
+use Rattle.audit_text.specs.words.Said.{more}
 
 -- Texts with a separator between each two.
 abbrev pub joined : List ℕ → List (List ℕ) → List ℕ
@@ -20,9 +20,9 @@ unfoldable pub change_between : List ℕ → List ℕ → List ℕ
 change_between old new =
     if length old == 0 && length new == 0 then [] else side_text old ++ (codes " -> " ++ side_text new)
 
--- Bytes in hex: all, if they are at most 32, or the first 32 and `..`.
+-- Bytes in hex: the first 32, and how many there are more.
 unfoldable pub first_bytes : List ℕ → List ℕ
-first_bytes bytes = if nat_le (length bytes) 32 then encode_lower bytes else encode_lower (take 32 bytes) ++ codes ".."
+first_bytes bytes = encode_lower (take 32 bytes) ++ more (length bytes - 32)
 
 -- The bytes from an index, and those from the first that differs. If none does, nothing is said.
 unfoldable pub bytes_from : ℕ → List ℕ → List ℕ → List ℕ
@@ -49,7 +49,7 @@ only_text others lines = joined (codes "; ") (lines_only others lines)
 unfoldable pub line_change : List ℕ → List ℕ → List ℕ
 line_change old new = change_between (only_text (lines_of new) (lines_of old)) (only_text (lines_of old) (lines_of new))
 
--- The words of a text, which spaces separate; those from an index, after `.. ` for the words before them; and those from the
+-- The words of a text as it is shown, which spaces separate; those from an index, after `.. ` for the words before them; and those from the
 -- first that differs.
 abbrev pub words_of : List ℕ → List (List ℕ)
 words_of text = slice_split (λ byte. byte == 0x20) text
@@ -57,11 +57,11 @@ words_of text = slice_split (λ byte. byte == 0x20) text
 unfoldable pub after_dots : ℕ → List ℕ → List ℕ
 after_dots count rest = if count == 0 || length rest == 0 then rest else codes ".. " ++ rest
 
-unfoldable pub shown_from : ℕ → List (List ℕ) → List ℕ
-shown_from index words = shown_name (joined (codes " ") (drop index words))
+unfoldable pub joined_words : ℕ → List (List ℕ) → List ℕ
+joined_words index words = joined (codes " ") (drop index words)
 
 unfoldable pub words_from : ℕ → List (List ℕ) → List ℕ
-words_from index words = after_dots index (shown_from index words)
+words_from index words = after_dots index (joined_words index words)
 
 unfoldable pub words_between : ℕ → List (List ℕ) → List (List ℕ) → List ℕ
 words_between index old new = change_between (words_from index old) (words_from index new)

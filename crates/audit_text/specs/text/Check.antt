@@ -2,8 +2,10 @@
 use Rattle.std.specs.Prelude.{ℕ, ◌==◌, List, [], ◌∷◌, ◌++◌, codes, flat_map, slice_index, if◌then◌else◌}
 use Rattle.std.specs.Fmt.{decimal}
 use Rattle.uefi_audits.specs.CheckResult.{Mismatched, all_forms, form_index}
+use Rattle.uefi_audits.specs.OutOfPlace.{Remarked}
 use Rattle.uefi_audits.specs.declared.check.counts.TypeCounts.{TypeCounts}
 use Rattle.uefi_audits.specs.declared.check.form.Form.{Form}
+use Rattle.audit_text.specs.text.OutOfPlace.{remark_lines}
 use Rattle.audit_text.specs.words.Forms.{form_name}
 use Rattle.audit_text.specs.words.Shown.{shown_name}
 use Rattle.audit_text.specs.words.Types.{type_text}
@@ -27,13 +29,19 @@ unfoldable pub in_parentheses : List (List ℕ) → List ℕ
 in_parentheses [] = []
 in_parentheses (first ∷ others) = codes " (" ++ (first ++ (flat_map (λ other. codes ", " ++ other) others ++ codes ")"))
 
--- The line of a type: how many of its events match and in which forms, and how many don't.
+-- The end of a type's line: how many of its events aren't covered, if any isn't.
+unfoldable pub uncovered_text : ℕ → List ℕ
+uncovered_text count = if count == 0 then codes "\n" else codes ", " ++ (decimal count ++ codes " not covered\n")
+
+-- The line of a type: how many of its events match and in which forms, how many don't, and how many aren't covered.
 unfoldable pub counts_line : TypeCounts → List ℕ
 counts_line counts =
     type_text counts.event_type.0 ++ (codes ": " ++ (decimal counts.matches ++ (codes " match"
     ++ (in_parentheses (form_texts counts.by_form all_forms) ++ (codes ", " ++ (decimal counts.matches_none
-    ++ (codes " don't match, " ++ (decimal counts.not_in_log ++ codes " not in the log\n"))))))))
+    ++ (codes " don't match, " ++ (decimal counts.not_in_log ++ (codes " not in the log"
+    ++ uncovered_text counts.not_covered)))))))))
 
--- The lines of a log of this name: first the events, then the types.
-unfoldable pub check_text : List ℕ → List Mismatched → List TypeCounts → List ℕ
-check_text name mismatches types = flat_map (mismatch_line name) mismatches ++ flat_map counts_line types
+-- The lines of a log of this name: first the events that don't match, then the remarks on their places, and the types.
+unfoldable pub check_text : List ℕ → List Mismatched → Remarked → List TypeCounts → List ℕ
+check_text name mismatches remarks types =
+    flat_map (mismatch_line name) mismatches ++ (remark_lines name remarks ++ flat_map counts_line types)

@@ -12,24 +12,24 @@ use Rattle.uefi_tcg.specs.content.Gpt.{Entry, GptData}
 use Rattle.uefi_tcg.specs.content.Image.{Image}
 use Rattle.uefi_tcg.specs.content.Signature.{Signature, SignatureList}
 use Rattle.uefi_tcg.specs.content.Tagged.{Tagged}
+use Rattle.uefi_tcg.specs.content.Text.{text_in}
 use Rattle.uefi_tcg.specs.content.Variable.{Variable}
 use Rattle.uefi_tcg.specs.v2.Header.{Header}
 use Rattle.uefi_audits.specs.content.Content.{Content, unread, text, separator, locality, header, loader_text, crtm_version, blob, described_blob, tagged, gpt, variable, image}
 use Rattle.uefi_audits.specs.content.Value as values
 use Rattle.audit_text.specs.text.EventParts.{algorithm_text, bytes_lines}
 use Rattle.audit_text.specs.words.Path.{path_text}
-use Rattle.audit_text.specs.words.Printed.{printed_text}
 use Rattle.audit_text.specs.words.Shown.{shown_name}
 use Rattle.audit_text.specs.words.Signatures.{longest_hash, signature_type_name}
 use Rattle.audit_text.specs.words.Tags.{tag_text}
-use Rattle.audit_text.specs.words.Texts.{before_nul, event_text, unit_text, version_text}
+use Rattle.audit_text.specs.words.Texts.{before_nul, shown_event, shown_version, unit_text}
 
--- A text, and a version.
+-- A text, and a version, as they are shown.
 unfoldable pub text_line : List ℕ → List ℕ
-text_line said = codes "  text " ++ (shown_name said ++ codes "\n")
+text_line shown = codes "  text " ++ (shown ++ codes "\n")
 
 unfoldable pub version_line : List ℕ → List ℕ
-version_line said = codes "  version " ++ (shown_name said ++ codes "\n")
+version_line shown = codes "  version " ++ (shown ++ codes "\n")
 
 -- A header: its fields, a line for each algorithm with the size of its digests, and the vendor's bytes.
 unfoldable pub header_line : Header → List ℕ
@@ -52,14 +52,12 @@ described_line it =
     codes "  blob at 0x" ++ (digits 16 false it.blob.base ++ (codes ", " ++ (decimal it.blob.size ++ (codes " bytes: "
     ++ (shown_name (flat_map encode_utf8 it.description) ++ codes "\n")))))
 
--- Tagged events, each with the name of its tag, if it has one, the number, and the text that its data are, or the data; and the bytes after them.
-unfoldable pub tagged_data : Option (List ℕ) → List ℕ → List ℕ
-tagged_data (Some printed) bytes = codes ": " ++ (shown_name printed ++ codes "\n")
-tagged_data None bytes = codes " " ++ (encode_lower bytes ++ codes "\n")
+-- Tagged events, each with the name of its tag, if it has one, the number, and the text that its data are; and the bytes after them.
+unfoldable pub tagged_data : List ℕ → List ℕ
+tagged_data bytes = codes ": " ++ (shown_event (text_in bytes) ++ codes "\n")
 
 unfoldable pub tagged_line : Tagged → List ℕ
-tagged_line it =
-    codes "  tagged event " ++ (tag_text it.id ++ tagged_data (printed_text it.payload) it.payload)
+tagged_line it = codes "  tagged event " ++ (tag_text it.id ++ tagged_data it.payload)
 
 unfoldable pub tagged_lines : List Tagged → List ℕ → List ℕ
 tagged_lines events rest = flat_map tagged_line events ++ bytes_lines (codes "trailing bytes") rest
@@ -157,12 +155,12 @@ image_lines it nodes = image_line it ++ (path_lines it.device_path nodes ++ byte
 -- What data say; the data, if they aren't read.
 unfoldable pub content_lines : List ℕ → Content → List ℕ
 content_lines bytes unread = bytes_lines (codes "data") bytes
-content_lines bytes (text said) = text_line said
+content_lines bytes (text said) = text_line (shown_name said)
 content_lines bytes (separator n) = codes "  separator 0x" ++ (digits 16 false n ++ codes "\n")
 content_lines bytes (locality n) = codes "  started at locality " ++ (decimal n ++ codes "\n")
 content_lines bytes (header it) = header_lines it
-content_lines bytes (loader_text it) = text_line (event_text it)
-content_lines bytes (crtm_version it) = version_line (version_text it)
+content_lines bytes (loader_text it) = text_line (shown_event it)
+content_lines bytes (crtm_version it) = version_line (shown_version it)
 content_lines bytes (blob it) = blob_line it
 content_lines bytes (described_blob it) = described_line it
 content_lines bytes (tagged events rest) = tagged_lines events rest

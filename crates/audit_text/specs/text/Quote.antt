@@ -9,8 +9,9 @@ use Rattle.pcr_replay.specs.declared.fault.Undetermined.{Undetermined}
 use Rattle.pcr_replay.specs.declared.quote.NoQuoteDigest.{NoQuoteDigest}
 use Rattle.pcr_replay.specs.declared.quote.NoQuoteDigest.TheVariants as why
 use Rattle.uefi_audits.specs.Naming.{bank_name, bank_of}
+use Rattle.uefi_audits.specs.declared.verify.named.NamedPcr.{NamedPcr}
 use Rattle.uefi_audits.specs.verify.Covered.{covered_pcrs}
-use Rattle.uefi_audits.specs.verify.Quote.{QuoteJudgement, Received}
+use Rattle.uefi_audits.specs.verify.Quote.{QuoteJudgement, Received, is_met}
 use Rattle.audit_text.specs.text.Agreement.{agree_line, ranges_after}
 use Rattle.audit_text.specs.text.Remarks.{inactive_line, unsupported_line}
 use Rattle.audit_text.specs.text.Undetermined.{undetermined_line}
@@ -59,15 +60,23 @@ unfoldable pub differ_line : List ℕ → Quote → List ℕ → ℕ → List �
 differ_line name quote found locality =
     shown_name name ++ (codes ": differs: " ++ (ranges_after None (covered_pcrs quote) ++ digests_text quote.pcr_digest found locality))
 
--- The line of a verdict; none if the log leads to no digest.
-unfoldable pub by_digest : List ℕ → Quote → QuoteJudgement → Result (List ℕ) NoQuoteDigest → List ℕ
-by_digest name quote judgement (Err why) = []
-by_digest name quote judgement (Ok found) =
-    if judgement.agrees then agree_line name (covered_pcrs quote) judgement.start.start.locality
-    else differ_line name quote found judgement.start.start.locality
+-- The line of a quote that differs in its nonce alone: the PCRs that it covers, to which the log leads.
+unfoldable pub nonce_differs_line : List ℕ → List NamedPcr → ℕ → List ℕ
+nonce_differs_line name pcrs locality =
+    shown_name name ++ (codes ": differs: the nonce, not " ++ (ranges_after None pcrs
+    ++ (codes " (PCR 0 starts at locality " ++ (decimal locality ++ codes ")\n"))))
 
-abbrev pub quote_verdict_line : List ℕ → Quote → QuoteJudgement → List ℕ
-quote_verdict_line name quote judgement = by_digest name quote judgement judgement.digest
+-- The line of a verdict; none if the log leads to no digest.
+unfoldable pub by_digest : List ℕ → QuoteJudgement → Result (List ℕ) NoQuoteDigest → List ℕ
+by_digest name judgement (Err why) = []
+by_digest name judgement (Ok found) =
+    if is_met judgement then agree_line name (covered_pcrs judgement.received.quote) judgement.start.start.locality
+    else if judgement.digest_agrees
+    then nonce_differs_line name (covered_pcrs judgement.received.quote) judgement.start.start.locality
+    else differ_line name judgement.received.quote found judgement.start.start.locality
+
+abbrev pub quote_verdict_line : List ℕ → QuoteJudgement → List ℕ
+quote_verdict_line name judgement = by_digest name judgement judgement.digest
 
 -- Why a log leads to no digest: a bank can't be replayed, or no event has a digest of it, or a PCR is undetermined.
 unfoldable pub no_bank_line : List ℕ → Option Bank → ℕ → List ℕ

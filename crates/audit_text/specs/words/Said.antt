@@ -1,46 +1,57 @@
 -- What data say, in a few words on one line.
-use Rattle.std.specs.Prelude.{ℕ, ◌==◌, List, [], ◌∷◌, ◌++◌, take, length, codes, encode_utf8, Option, Some, None, false, if◌then◌else◌}
+use Rattle.std.specs.Prelude.{ℕ, ◌==◌, ◌-◌, List, [], ◌∷◌, ◌++◌, take, length, codes, encode_utf8, Option, Some, None, false, if◌then◌else◌}
 use Rattle.std.specs.List.{flat_map}
 use Rattle.std.specs.Fmt.{decimal, digits}
+use Rattle.std.specs.Str.{chars}
 use Rattle.uefi_base.specs.GuidText.{guid_text, hex_byte}
 use Rattle.uefi_path.specs.Node.{Node}
 use Rattle.uefi_tcg.specs.content.Blob.{Blob}
 use Rattle.uefi_tcg.specs.content.CrtmVersion.{CrtmVersion, ucs2, guid, other}
 use Rattle.uefi_tcg.specs.content.Image.{Image}
 use Rattle.uefi_tcg.specs.content.Tagged.{Tagged}
-use Rattle.uefi_tcg.specs.content.Text.{EventText, ascii, utf16}
+use Rattle.uefi_tcg.specs.content.Text as texts
+use Rattle.uefi_tcg.specs.content.Text.{EventText, utf8, utf16}
 use Rattle.uefi_audits.specs.content.Content.{Content, unread, text, separator, locality, header, loader_text, crtm_version, blob, described_blob, tagged, gpt, variable, image}
 use Rattle.audit_text.specs.words.Path.{path_text}
 use Rattle.audit_text.specs.words.Texts.{unit_text}
-use Rattle.audit_text.specs.words.Shown.{shown_name}
+use Rattle.audit_text.specs.words.Shown.{shown_name, shown_name_bytes}
 use Rattle.audit_text.specs.words.Tags.{tag_text}
 
 -- The most characters of a text or of a name that are shown.
 abbrev pub shown_length : ℕ
-shown_length = 80
+shown_length = 1000
 
--- The first characters, each a byte or a unit, as those of a file's name are shown.
-abbrev pub shown_byte : ℕ → List ℕ
-shown_byte byte = shown_name (encode_utf8 byte)
+-- How many more there are, if there are any.
+unfoldable pub more : ℕ → List ℕ
+more left = if left == 0 then [] else codes "..(" ++ (decimal left ++ codes " more)")
 
-abbrev pub shown_unit : ℕ → List ℕ
-shown_unit unit = shown_name (unit_text unit)
+-- The first characters of a text, each as those of a file's name are shown, and how many there are more; those of units; and
+-- the first of bytes that are no text, and of bytes in hex.
+abbrev pub shown_one : ℕ → List ℕ
+shown_one character = shown_name (encode_utf8 character)
 
-abbrev pub shown_bytes : List ℕ → List ℕ
-shown_bytes bytes = flat_map shown_byte (take shown_length bytes)
+unfoldable pub shown_text : List ℕ → List ℕ
+shown_text it = flat_map shown_one (take shown_length (chars it)) ++ more (length (chars it) - shown_length)
 
 abbrev pub shown_units : List ℕ → List ℕ
-shown_units units = flat_map shown_unit (take shown_length units)
+shown_units units = shown_text (flat_map unit_text units)
+
+unfoldable pub shown_bytes : List ℕ → List ℕ
+shown_bytes bytes = shown_name_bytes (take shown_length bytes) ++ more (length bytes - shown_length)
+
+unfoldable pub shown_hex : List ℕ → List ℕ
+shown_hex bytes = flat_map hex_byte (take shown_length bytes) ++ more (length bytes - shown_length)
 
 -- The text of an event, and a version.
-unfoldable pub event_text : EventText → List ℕ
-event_text (ascii it) = shown_bytes it.characters
-event_text (utf16 it) = shown_units it.characters
+unfoldable pub event_words : EventText → List ℕ
+event_words (utf8 it) = shown_text it.characters
+event_words (utf16 it) = shown_units it.characters
+event_words (texts.other bytes) = shown_bytes bytes
 
-unfoldable pub version_text : CrtmVersion → List ℕ
-version_text (ucs2 units) = shown_units units
-version_text (guid bytes) = guid_text bytes
-version_text (other it) = event_text it
+unfoldable pub version_words : CrtmVersion → List ℕ
+version_words (ucs2 units) = shown_units units
+version_words (guid bytes) = guid_text bytes
+version_words (other it) = event_words it
 
 -- Where a blob is.
 unfoldable pub blob_text : Blob → List ℕ
@@ -49,7 +60,7 @@ blob_text it = codes "blob at 0x" ++ digits 16 false it.base
 -- A device path, by its nodes; the first of its bytes in hex, if they are no path.
 unfoldable pub path_words : List ℕ → Option (List Node) → List ℕ
 path_words bytes (Some nodes) = path_text nodes
-path_words bytes None = flat_map hex_byte (take shown_length bytes)
+path_words bytes None = shown_hex bytes
 
 -- An image, by its device path, if it has one.
 unfoldable pub image_text : Image → Option (List Node) → List ℕ
@@ -68,8 +79,8 @@ said (text bytes) = shown_bytes bytes
 said (separator n) = codes "separator " ++ decimal n
 said (locality n) = codes "locality " ++ decimal n
 said (header it) = codes "header"
-said (loader_text it) = event_text it
-said (crtm_version it) = version_text it
+said (loader_text it) = event_words it
+said (crtm_version it) = version_words it
 said (blob it) = blob_text it
 said (described_blob it) = codes "blob " ++ shown_bytes it.description
 said (tagged events rest) = tagged_words events

@@ -5,8 +5,10 @@ ghost use Rattle.serde_json.specs.Data.{object};
 ghost use Rattle.serde_json.specs.View.{members_view, view};
 ghost use Rattle.uefi_base.specs.Appending.{AppendsText};
 ghost use Rattle.uefi_audits.specs.CheckResult.{all_forms, mismatch_of};
+ghost use Rattle.uefi_audits.specs.OutOfPlace.{remarks_of};
 ghost use Rattle.audit_text.specs.json.Check.{check_lines, counts_json, forms_members, mismatch_json, mismatch_line, types_json, types_line, with_form};
 
+use super::out_of_place::push_remarks;
 use crate::json::{line_of, type_json};
 use crate::words::form_name;
 use serde_json::{Map, Value, put};
@@ -14,7 +16,8 @@ use std::alloc::{AllocError, Global};
 use uefi_audits::check::{CheckResult, Form, Mismatch, TypeCounts};
 
 /// Appends what was found of the events of a log as JSON: a line with an object for each event that
-/// matches in none of its type's forms, and then a line with one for the types of the events.
+/// matches in none of its type's forms, for each that is out of place, and for each PCR without a
+/// separator, and then a line with one for the types of the events.
 ///
 /// | key of an event | value |
 /// |---|---|
@@ -25,6 +28,11 @@ use uefi_audits::check::{CheckResult, Form, Mismatch, TypeCounts};
 /// | `pcr` | the index of its PCR |
 /// | `type` | an object with `name`, if the type has one, and `number` |
 ///
+/// An event that is out of place has `out_of_place` in place of `matches`: `second separator`,
+/// `separator of another value`, `type of other PCRs`, `after the separator`, or `other than its data
+/// was measured`. A PCR without a separator has `log`, `out_of_place`, which is `no separator`, and
+/// `pcr`.
+///
 /// The last line's object has the log's name as `log`, and as `checked` an array with an object for
 /// each type of the events, in the order of the types' numbers.
 ///
@@ -33,6 +41,7 @@ use uefi_audits::check::{CheckResult, Form, Mismatch, TypeCounts};
 /// | `forms` | an object with how many match in each form in which any matches |
 /// | `matched` | how many match |
 /// | `matches_none` | how many match in none of the type's forms |
+/// | `not_covered` | how many aren't covered |
 /// | `not_in_log` | of how many the log doesn't have what was measured |
 /// | `type` | an object with `name`, if the type has one, and `number` |
 ///
@@ -47,9 +56,11 @@ pub fn push_check_json(
     found: &CheckResult<'_>,
 ) -> Result<(), AllocError>
     ensures { OnOk result (AppendsText text.old text.new (check_lines log.now
-        (map mismatch_of found.now.mismatches.items) found.now.types.items)) }
+        (map mismatch_of found.now.mismatches.items) (remarks_of found.now.remarks)
+        found.now.types.items)) }
 {
     push_mismatches(text, alloc, log, found.mismatches.as_slice())?;
+    push_remarks(text, alloc, log, &found.remarks)?;
     push_types(text, alloc, log, found.types.as_slice())
 }
 
@@ -154,7 +165,8 @@ fn counts_json(alloc: Global, counts: &TypeCounts) -> Result<Value, AllocError>
     let (matches, none) = (counts.matches, counts.matches_none);
     put(&mut members, alloc, "matched", Value::from(matches))?;
     put(&mut members, alloc, "matches_none", Value::from(none))?;
-    let outside = counts.not_in_log;
+    let (uncovered, outside) = (counts.not_covered, counts.not_in_log);
+    put(&mut members, alloc, "not_covered", Value::from(uncovered))?;
     put(&mut members, alloc, "not_in_log", Value::from(outside))?;
     let event_type = type_json(alloc, counts.event_type)?;
     put(&mut members, alloc, "type", event_type)?;

@@ -5,9 +5,12 @@ ghost use Rattle.uefi_base.specs.Appending.{AppendsText};
 ghost use Rattle.tpm_quote.specs.PcrSelection.{selected_pcrs};
 ghost use Rattle.tpm_quote.specs.Views.{clock_info_of, quote_of, selection_of};
 ghost use Rattle.pcr_replay.specs.Views.{value_of};
+ghost use Rattle.uefi_audits.specs.verify.Compared.{judged_quote_of};
 ghost use Rattle.uefi_audits.specs.verify.Quote.{has_its_nonce, quote_judgement_of, received_of};
-ghost use Rattle.audit_text.specs.json.Quote.{banks_json, clock_json, digest_json, line_object, nonce_agrees_json, pcr_number, quote_line, quote_object, selection_json};
+ghost use Rattle.audit_text.specs.json.Coverage.{pcr_number};
+ghost use Rattle.audit_text.specs.json.Quote.{banks_json, clock_json, digest_json, failed_json, line_object, nonce_agrees_json, quote_line, quote_object, selection_json};
 
+use crate::json::coverage::{covered_json, not_covered_json, push_unless};
 use crate::json::digests::algorithm_json;
 use crate::json::event::hex_json;
 use crate::json::line::line_of;
@@ -16,23 +19,26 @@ use serde_json::{Map, Value, json, put};
 use std::alloc::{AllocError, Global};
 use tpm_quote::{ClockInfo, PcrSelection, Quote};
 use uefi_audits::naming::bank_name;
-use uefi_audits::verify::{QuoteVerdict, ReceivedQuote};
+use uefi_audits::verify::{ComparedQuote, QuoteVerdict, ReceivedQuote};
 
-/// Appends whether a log leads to the digest of a quote as one line of JSON: an object, and a line
-/// break.
+/// Appends whether a log agrees with a quote as one line of JSON: an object, and a line break.
 ///
 /// | key | value |
 /// |---|---|
+/// | `agrees` | whether nothing failed |
+/// | `covered` | the PCRs that the quote covers, an object for each bank: `bank`, `pcrs` |
+/// | `failed` | what failed: `digest` if the log doesn't lead to the quote's, `nonce` if it is another one, `coverage` if PCRs that are asked for aren't covered, or none is |
 /// | `locality` | the locality at which PCR 0 starts |
 /// | `log` | what was given: the log's name |
+/// | `not_covered` | such objects of the PCRs that are asked for and not covered; and with the bank `null` one of those that events extend and of which no bank is covered |
 /// | `quote` | the quote |
 ///
 /// | key of the quote | value |
 /// |---|---|
-/// | `agrees` | whether the log leads to its digest |
 /// | `banks` | for each selection: `algorithm` (a name, or a number), `pcrs` |
 /// | `clock` | the TPM's clock: `clock` in milliseconds, `reset_count`, `restart_count`, `safe` |
 /// | `digest` | its digest, in hex |
+/// | `digest_agrees` | whether the log leads to it |
 /// | `hash` | the hash function of its digest |
 /// | `leads_to` | the digest to which the log leads, in hex; `null` if it leads to none |
 /// | `nonce` | its nonce, in hex |
@@ -45,51 +51,84 @@ pub fn push_quote_json(
     text: &mut String,
     alloc: Global,
     name: &str,
-    received: &ReceivedQuote<'_>,
-    verdict: &QuoteVerdict,
+    compared: &ComparedQuote<'_>,
 ) -> Result<(), AllocError>
-    ensures { OnOk result (AppendsText text.old text.new (quote_line name.now
-        (received_of received.now) (quote_judgement_of verdict.now))) }
+    ensures { OnOk result (AppendsText text.old text.new
+        (quote_line name.now (judged_quote_of compared.now))) }
 {
-    let banks = banks_json(alloc, &received.quote)?;
-    let quote = quote_json(alloc, received, verdict, banks)?;
-    let value = object_json(alloc, name, verdict.start.start.locality, quote)?;
+    let banks = banks_json(alloc, &compared.verdict.received.quote)?;
+    let quote = quote_json(alloc, &compared.verdict, banks)?;
+    let value = object_json(alloc, name, compared, quote)?;
     let line = line_of(alloc, &value)?;
     writeln!(text, "{line}")
 }
 
 /// Returns the object of a log.
 #[tactic(auto, unfolding(crate::specs::json::Quote::line_object))]
-fn object_json(alloc: Global, name: &str, locality: u8, quote: Value) -> Result<Value, AllocError>
-    ensures { IfOk result (λ value. view value ≡ line_object name.now locality (view quote)) }
+fn object_json(
+    alloc: Global,
+    name: &str,
+    compared: &ComparedQuote<'_>,
+    quote: Value,
+) -> Result<Value, AllocError>
+    ensures { IfOk result (λ value. view value
+        ≡ line_object name.now (judged_quote_of compared.now) (view quote)) }
 {
     let mut members = Map::new(alloc);
-    put(&mut members, alloc, "locality", Value::from(locality))?;
+    put(
+        &mut members,
+        alloc,
+        "agrees",
+        Value::Bool(compared.agrees()),
+    )?;
+    let covered = covered_json(alloc, compared.coverage.covered.as_slice())?;
+    put(&mut members, alloc, "covered", covered)?;
+    let failed = failed_json(alloc, compared)?;
+    put(&mut members, alloc, "failed", failed)?;
+    let locality = Value::from(compared.verdict.start.start.locality);
+    put(&mut members, alloc, "locality", locality)?;
     let log = Value::try_from_str(alloc, name)?;
     put(&mut members, alloc, "log", log)?;
+    let not_covered = not_covered_json(alloc, &compared.coverage)?;
+    put(&mut members, alloc, "not_covered", not_covered)?;
     put(&mut members, alloc, "quote", quote)?;
     Ok(Value::Object(members))
 }
 
+/// Returns what of a quote doesn't agree.
+#[tactic(auto, unfolding(crate::specs::json::Quote::failed_json))]
+fn failed_json(alloc: Global, compared: &ComparedQuote<'_>) -> Result<Value, AllocError>
+    ensures { IfOk result (λ value. view value ≡ failed_json (judged_quote_of compared.now)) }
+{
+    let verdict = &compared.verdict;
+    let mut failed = Vec::new(alloc);
+    push_unless(&mut failed, alloc, verdict.digest_agrees, "digest")?;
+    push_unless(
+        &mut failed,
+        alloc,
+        verdict.received.has_its_nonce(),
+        "nonce",
+    )?;
+    push_unless(&mut failed, alloc, compared.coverage.is_whole(), "coverage")?;
+    Ok(Value::Array(failed))
+}
+
 /// Returns the object of a quote.
 #[tactic(auto, unfolding(crate::specs::json::Quote::quote_object))]
-fn quote_json(
-    alloc: Global,
-    received: &ReceivedQuote<'_>,
-    verdict: &QuoteVerdict,
-    banks: Value,
-) -> Result<Value, AllocError>
-    ensures { IfOk result (λ value. view value ≡ quote_object (received_of received.now)
-        (quote_judgement_of verdict.now) (view banks)) }
+fn quote_json(alloc: Global, verdict: &QuoteVerdict<'_>, banks: Value) -> Result<Value, AllocError>
+    ensures { IfOk result (λ value. view value
+        ≡ quote_object (quote_judgement_of verdict.now) (view banks)) }
 {
+    let received = &verdict.received;
     let quote = &received.quote;
     let mut members = Map::new(alloc);
-    put(&mut members, alloc, "agrees", Value::Bool(verdict.agrees))?;
     put(&mut members, alloc, "banks", banks)?;
     let clock = clock_json(alloc, quote.clock_info())?;
     put(&mut members, alloc, "clock", clock)?;
     let digest = hex_json(alloc, quote.pcr_digest())?;
     put(&mut members, alloc, "digest", digest)?;
+    let digest_agrees = Value::Bool(verdict.digest_agrees);
+    put(&mut members, alloc, "digest_agrees", digest_agrees)?;
     let hash = Value::try_from_str(alloc, bank_name(received.hash))?;
     put(&mut members, alloc, "hash", hash)?;
     let leads_to = digest_json(alloc, &verdict.digest)?;

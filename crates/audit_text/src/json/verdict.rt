@@ -4,26 +4,30 @@ ghost use Rattle.serde_json.specs.View.{view};
 ghost use Rattle.uefi_base.specs.Appending.{AppendsText};
 ghost use Rattle.pcr_replay.specs.Views.{outcome_of};
 ghost use Rattle.pcr_replay.specs.BankReplays.{bank_outcomes_of};
-ghost use Rattle.audit_text.specs.json.Verdict.{disagreeing_json, event_json, if_disagreeing, led_json, pcr_json, undetermined_by, verdict_line, verdict_object};
-ghost use Rattle.uefi_audits.specs.verify.Verdict.{comparison_of};
+ghost use Rattle.audit_text.specs.json.Verdict.{disagreeing_json, event_json, failed_json, if_disagreeing, led_json, pcr_json, undetermined_by, verdict_line, verdict_object};
+ghost use Rattle.uefi_audits.specs.verify.Compared.{judged_pcrs_of};
 
+use crate::json::coverage::{covered_json, not_covered_json, push_unless};
 use crate::json::event::hex_json;
 use crate::json::line::line_of;
 use pcr_replay::{BankPcrs, PcrValue, Undetermined};
 use serde_json::{Map, Value, json, put};
 use std::alloc::{AllocError, Global};
 use uefi_audits::naming::bank_name;
-use uefi_audits::verify::{HeldPcr, Verdict, agrees, led_to};
+use uefi_audits::verify::{ComparedPcrs, HeldPcr, agrees, led_to};
 
 /// Appends whether a log leads to these PCRs as one line of JSON: an object, and a line break.
 ///
 /// | key | value |
 /// |---|---|
-/// | `agree` | whether all PCRs hold what the log leads to |
-/// | `count` | how many PCRs these are |
-/// | `disagreeing` | an object for each PCR that doesn't, in order |
+/// | `agrees` | whether nothing failed |
+/// | `count` | how many PCRs are compared |
+/// | `covered` | which PCRs are compared, an object for each bank: `bank`, `pcrs` |
+/// | `disagreeing` | an object for each PCR that doesn't hold what the log leads to, in order |
+/// | `failed` | what failed: `pcrs` if such a PCR is there, `coverage` if PCRs that are asked for aren't stated, or none is compared |
 /// | `locality` | the locality at which PCR 0 starts |
 /// | `log` | what was given: the log's name |
+/// | `not_covered` | such objects of the PCRs that are asked for and not stated; and with the bank `null` one of those that events extend and of which no bank is compared |
 ///
 /// | key of a PCR | value |
 /// |---|---|
@@ -42,14 +46,14 @@ pub fn push_verdict_json(
     text: &mut String,
     alloc: Global,
     name: &str,
-    held: &[HeldPcr],
-    verdict: &Verdict,
+    compared: &ComparedPcrs,
 ) -> Result<(), AllocError>
     ensures { OnOk result (AppendsText text.old text.new
-        (verdict_line name.now (comparison_of verdict.now) held.now)) }
+        (verdict_line name.now (judged_pcrs_of compared.now))) }
 {
-    let disagreeing = disagreeing_json(alloc, held, verdict.replays.as_slice())?;
-    let value = verdict_json(alloc, name, held, verdict, disagreeing)?;
+    let held = compared.held.as_slice();
+    let disagreeing = disagreeing_json(alloc, held, compared.verdict.replays.as_slice())?;
+    let value = verdict_json(alloc, name, compared, disagreeing)?;
     let line = line_of(alloc, &value)?;
     writeln!(text, "{line}")
 }
@@ -59,27 +63,48 @@ pub fn push_verdict_json(
 fn verdict_json(
     alloc: Global,
     name: &str,
-    held: &[HeldPcr],
-    verdict: &Verdict,
+    compared: &ComparedPcrs,
     disagreeing: Value,
 ) -> Result<Value, AllocError>
     ensures { IfOk result (λ value. view value
-        ≡ verdict_object name.now (comparison_of verdict.now) held.now (view disagreeing)) }
+        ≡ verdict_object name.now (judged_pcrs_of compared.now) (view disagreeing)) }
 {
     let mut members = Map::new(alloc);
     put(
         &mut members,
         alloc,
-        "agree",
-        Value::Bool(verdict.is_agreement()),
+        "agrees",
+        Value::Bool(compared.agrees()),
     )?;
-    put(&mut members, alloc, "count", Value::from(held.len()))?;
+    put(
+        &mut members,
+        alloc,
+        "count",
+        Value::from(compared.held.len()),
+    )?;
+    let covered = covered_json(alloc, compared.coverage.covered.as_slice())?;
+    put(&mut members, alloc, "covered", covered)?;
     put(&mut members, alloc, "disagreeing", disagreeing)?;
-    let locality = Value::from(verdict.start.start.locality);
+    let failed = failed_json(alloc, compared)?;
+    put(&mut members, alloc, "failed", failed)?;
+    let locality = Value::from(compared.verdict.start.start.locality);
     put(&mut members, alloc, "locality", locality)?;
     let log = Value::try_from_str(alloc, name)?;
     put(&mut members, alloc, "log", log)?;
+    let not_covered = not_covered_json(alloc, &compared.coverage)?;
+    put(&mut members, alloc, "not_covered", not_covered)?;
     Ok(Value::Object(members))
+}
+
+/// Returns what of PCRs doesn't agree.
+#[tactic(auto, unfolding(crate::specs::json::Verdict::failed_json))]
+fn failed_json(alloc: Global, compared: &ComparedPcrs) -> Result<Value, AllocError>
+    ensures { IfOk result (λ value. view value ≡ failed_json (judged_pcrs_of compared.now)) }
+{
+    let mut failed = Vec::new(alloc);
+    push_unless(&mut failed, alloc, compared.verdict.is_agreement(), "pcrs")?;
+    push_unless(&mut failed, alloc, compared.coverage.is_whole(), "coverage")?;
+    Ok(Value::Array(failed))
 }
 
 /// Returns the PCRs that don't agree.

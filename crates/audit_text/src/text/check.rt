@@ -3,24 +3,29 @@
 ghost use Rattle.std.specs.Prelude.{◌≡◌, ◌++◌, flat_map, map, IfOk, OnOk};
 ghost use Rattle.uefi_base.specs.Appending.{AppendsText};
 ghost use Rattle.uefi_audits.specs.CheckResult.{all_forms, mismatch_of};
-ghost use Rattle.audit_text.specs.text.Check.{check_text, counts_line, form_texts, if_any, in_parentheses, mismatch_line};
+ghost use Rattle.uefi_audits.specs.OutOfPlace.{remarks_of};
+ghost use Rattle.audit_text.specs.text.Check.{check_text, counts_line, form_texts, if_any, in_parentheses, mismatch_line, uncovered_text};
 ghost use Rattle.audit_text.specs.private.Forms.{AppendsNext};
 
+use super::out_of_place::push_remarks;
 use crate::words::{ShownName, form_name, push_type};
 use std::alloc::{AllocError, Allocator};
 use uefi_audits::check::{CheckResult, Form, Mismatch, TypeCounts};
 
 /// Appends what was found of the events of a log: a line for each that matches in none of its type's
-/// forms, and then one for each type of the events, in the order of the types' numbers. The name is
-/// that of the log's file.
+/// forms, for each that is out of place, and for the PCRs without a separator, and then one for each
+/// type of the events, in the order of the types' numbers. The name is that of the log's file.
 ///
 /// ```text
 /// NAME: event 5 at offset 266 (EV_SEPARATOR, PCR 0) matches in none of the forms of its type
+/// NAME: event 9 at offset 702 (EV_SEPARATOR, PCR 4) is out of place: second separator
+/// NAME: PCR 5, 6 without a separator
 /// EV_SEPARATOR: 7 match (7 data), 1 don't match, 0 not in the log
 /// EV_IPL: 3 match (2 command, 1 narrowed), 0 don't match, 4 not in the log
 /// ```
 ///
-/// A type without a name is its number, as `0x80000011`.
+/// A type without a name is its number, as `0x80000011`. Where not all events of a type are covered,
+/// `, 2 not covered` ends its line.
 ///
 /// # Errors
 ///
@@ -32,9 +37,11 @@ pub fn push_check<A: Allocator>(
     found: &CheckResult<'_, A>,
 ) -> Result<(), AllocError>
     ensures { OnOk result (AppendsText text.old text.new (check_text name.now
-        (map mismatch_of found.now.mismatches.items) found.now.types.items)) }
+        (map mismatch_of found.now.mismatches.items) (remarks_of found.now.remarks)
+        found.now.types.items)) }
 {
     push_mismatches(text, name, found.mismatches.as_slice())?;
+    push_remarks(text, name, &found.remarks)?;
     push_types(text, found.types.as_slice())
 }
 
@@ -94,7 +101,19 @@ fn push_counts<A: Allocator>(text: &mut String<A>, counts: &TypeCounts) -> Resul
     write!(text, ": {matches} match")?;
     push_forms(text, counts)?;
     let (none, outside) = (counts.matches_none, counts.not_in_log);
-    writeln!(text, ", {none} don't match, {outside} not in the log")
+    write!(text, ", {none} don't match, {outside} not in the log")?;
+    push_uncovered(text, counts.not_covered)
+}
+
+/// Appends the end of a type's line: how many of its events aren't covered, if any isn't.
+#[tactic(auto, unfolding(crate::specs::text::Check::uncovered_text))]
+fn push_uncovered<A: Allocator>(text: &mut String<A>, count: u64) -> Result<(), AllocError>
+    ensures { OnOk result (AppendsText text.old text.new (uncovered_text count)) }
+{
+    if count == 0 {
+        return text.push_str("\n");
+    }
+    writeln!(text, ", {count} not covered")
 }
 
 /// Appends in parentheses how many events match in each form, if any matches.

@@ -1,9 +1,9 @@
 ghost use Rattle.std.specs.Prelude.{◌≡◌, OnOk};
 ghost use Rattle.uefi_base.specs.Appending.{AppendsText};
-ghost use Rattle.tpm_quote.specs.Views.{clock_info_of, quote_of};
+ghost use Rattle.tpm_quote.specs.Views.{clock_info_of};
 ghost use Rattle.uefi_audits.specs.Naming.{bank_of};
 ghost use Rattle.uefi_audits.specs.verify.Quote.{quote_judgement_of, received_of};
-ghost use Rattle.audit_text.specs.text.Quote.{by_digest, clock_text, differ_line, digests_text, nonce_text, nonces_line, no_bank_line, no_digest_line, no_pcr_line, no_value_line, other_nonce_line, quote_line, quote_verdict_line, safe_text, unless_asked};
+ghost use Rattle.audit_text.specs.text.Quote.{by_digest, clock_text, differ_line, digests_text, nonce_differs_line, nonce_text, nonces_line, no_bank_line, no_digest_line, no_pcr_line, no_value_line, other_nonce_line, quote_line, quote_verdict_line, safe_text, unless_asked};
 
 use crate::text::agreement::{push_agreement, push_ranges};
 use crate::text::undetermined::push_line;
@@ -11,9 +11,9 @@ use crate::text::unreplayed::{push_inactive, push_unsupported};
 use crate::words::ShownName;
 use pcr_replay::{NoQuoteDigest, Undetermined};
 use std::alloc::{AllocError, Allocator};
-use tpm_quote::{ClockInfo, Quote};
+use tpm_quote::ClockInfo;
 use uefi_audits::naming::{bank_name, bank_of};
-use uefi_audits::verify::{QuoteVerdict, ReceivedQuote, covered_pcrs};
+use uefi_audits::verify::{NamedPcr, QuoteVerdict, ReceivedQuote, covered_pcrs};
 use uefi_tcg::{AlgorithmId, PcrIndex};
 
 /// Appends the line of a quote's nonce, if it isn't the one that the quote was asked for with. The
@@ -124,7 +124,8 @@ fn safe_text(safe: bool) -> &'static str
 }
 
 /// Appends the line of a verdict on a quote: the PCRs that it covers, and if the log doesn't lead to
-/// them, both digests. Nothing, if the log leads to no digest. The line begins with `name`, the log's.
+/// them, both digests. It says that all agrees only if the nonce does, too. Nothing, if the log leads to
+/// no digest. The line begins with `name`, the log's.
 ///
 /// # Errors
 ///
@@ -134,24 +135,44 @@ pub fn push_quote_verdict<A: Allocator + Copy>(
     text: &mut String<A>,
     alloc: A,
     name: &str,
-    quote: &Quote<'_>,
-    verdict: &QuoteVerdict,
+    verdict: &QuoteVerdict<'_>,
 ) -> Result<(), AllocError>
-    ensures { OnOk result (AppendsText text.old text.new (quote_verdict_line name.now
-        (quote_of quote.now) (quote_judgement_of verdict.now))) }
+    ensures { OnOk result (AppendsText text.old text.new
+        (quote_verdict_line name.now (quote_judgement_of verdict.now))) }
 {
     let Ok(found) = &verdict.digest else {
         return Ok(());
     };
+    let quote = &verdict.received.quote;
     let covered = covered_pcrs(alloc, quote)?;
     let locality = verdict.start.start.locality;
-    if verdict.agrees {
+    if verdict.agrees() {
         return push_agreement(text, name, covered.as_slice(), locality);
+    }
+    if verdict.digest_agrees {
+        return push_nonce_differs(text, name, covered.as_slice(), locality);
     }
     let name = ShownName(name);
     write!(text, "{name}: differs: ")?;
     push_ranges(text, covered.as_slice())?;
     push_digests(text, alloc, quote.pcr_digest(), found.as_bytes(), locality)
+}
+
+/// Appends the line of a quote that differs in its nonce alone: the log leads to the PCRs that it covers.
+#[tactic(auto, unfolding(crate::specs::text::Quote::nonce_differs_line))]
+fn push_nonce_differs<A: Allocator>(
+    text: &mut String<A>,
+    name: &str,
+    pcrs: &[NamedPcr],
+    locality: u8,
+) -> Result<(), AllocError>
+    ensures { OnOk result (AppendsText text.old text.new
+        (nonce_differs_line name.now pcrs.now locality)) }
+{
+    let name = ShownName(name);
+    write!(text, "{name}: differs: the nonce, not ")?;
+    push_ranges(text, pcrs)?;
+    writeln!(text, " (PCR 0 starts at locality {locality})")
 }
 
 /// Appends the digest of a quote, and that of the PCRs to which a log leads.

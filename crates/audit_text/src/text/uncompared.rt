@@ -44,7 +44,10 @@ fn push_line<A: Allocator>(
 
 /// Appends further PCRs, each after a comma.
 #[tactic(auto, unfolding(crate::specs::text::Remarks::other_pcrs))]
-fn push_others<A: Allocator>(messages: &mut String<A>, pcrs: &[u32]) -> Result<(), AllocError>
+pub(super) fn push_others<A: Allocator>(
+    messages: &mut String<A>,
+    pcrs: &[u32],
+) -> Result<(), AllocError>
     ensures { OnOk result (AppendsText messages.old messages.new (other_pcrs pcrs.now)) }
 {
     for pcr in pcrs {

@@ -1,18 +1,19 @@
-ghost use Rattle.std.specs.Prelude.{◌++◌, codes, encode_utf8, take, OnOk, option_map};
+ghost use Rattle.std.specs.Prelude.{◌≡◌, ◌++◌, codes, encode_utf8, IfOk, OnOk, option_map};
 ghost use Rattle.std.specs.List.{flat_map};
+ghost use Rattle.std.specs.Str.{chars};
 ghost use Rattle.uefi_base.specs.Appending.{AppendsText};
 ghost use Rattle.uefi_base.specs.GuidText.{hex_byte};
 ghost use Rattle.uefi_base.specs.Views.{slice_units};
 ghost use Rattle.uefi_path.specs.Views.{path_nodes};
 ghost use Rattle.uefi_tcg.specs.content.Views.{blob_of, image_of, text_of, variable_of, version_of};
-ghost use Rattle.audit_text.specs.words.Said.{blob_text, event_text, image_text, path_words, said, shown_bytes, shown_length, shown_units, tagged_words, version_text};
+ghost use Rattle.audit_text.specs.words.Said.{blob_text, event_words, image_text, more, path_words, said, shown_bytes, shown_hex, shown_one, shown_text, shown_units, tagged_words, version_words};
 ghost use Rattle.uefi_audits.specs.content.Views.{content_of};
 ghost use Rattle.audit_text.specs.words.Shown.{shown_name};
 
 use crate::words::tags::push_tag;
-use crate::words::texts::character;
-use crate::words::{ShownName, path_text};
-use std::alloc::AllocError;
+use crate::words::texts::name_text;
+use crate::words::{ShownBytes, ShownName, path_text};
+use std::alloc::{AllocError, Global};
 use uefi_audits::content::{EventContent, TaggedData};
 use uefi_base::UnalignedSlice;
 use uefi_path::DevicePath;
@@ -21,7 +22,7 @@ use uefi_tcg::content::{
 };
 
 /// The most characters of a text or of a name that are shown.
-const SHOWN_LENGTH: usize = 80;
+const SHOWN_LENGTH: usize = 1000;
 
 /// Appends in a few words what data say; nothing if they aren't read.
 ///
@@ -43,15 +44,20 @@ const SHOWN_LENGTH: usize = 80;
 /// | a variable | `variable` and its name |
 /// | an image | `image` and its device path, if it has one |
 ///
-/// A text, a description or a name is shown as [`ShownName`] displays it, at most 80 characters of
-/// it. A device path is shown whole, as [`uefi_node::to_text`] returns it. If the bytes are no path,
-/// they are in hex, at most 80 of them.
+/// A text, a description or a name is shown as [`ShownName`] or [`ShownBytes`] displays it. Of more
+/// than 1,000 characters the first are shown, and how many there are more: `..(23 more)`. A device
+/// path is shown whole, as [`uefi_node::to_text`] returns it. If the bytes are no path, they are in
+/// hex, in the same way.
 ///
 /// # Errors
 ///
 /// [`AllocError`] if an allocation fails. The text may have grown then.
 #[tactic(auto, unfolding(crate::specs::words::Said::said))]
-pub fn push_said(text: &mut String, content: &EventContent<'_>) -> Result<(), AllocError>
+pub fn push_said(
+    text: &mut String,
+    alloc: Global,
+    content: &EventContent<'_>,
+) -> Result<(), AllocError>
     ensures { OnOk result (AppendsText text.old text.new (said (content_of content.now))) }
 {
     match content {
@@ -60,8 +66,8 @@ pub fn push_said(text: &mut String, content: &EventContent<'_>) -> Result<(), Al
         EventContent::Separator(number) => write!(text, "separator {number}"),
         EventContent::Locality(number) => write!(text, "locality {number}"),
         EventContent::Header(_) => text.push_str("header"),
-        EventContent::LoaderText(said) => push_event_text(text, said),
-        EventContent::CrtmVersion(version) => push_version(text, version),
+        EventContent::LoaderText(said) => push_event(text, alloc, said),
+        EventContent::CrtmVersion(version) => push_version(text, alloc, version),
         EventContent::Blob(blob) => push_blob(text, blob),
         EventContent::DescribedBlob(described) => {
             text.push_str("blob ")?;
@@ -76,18 +82,58 @@ pub fn push_said(text: &mut String, content: &EventContent<'_>) -> Result<(), Al
         | EventContent::BootOption(variable, _)
         | EventContent::BootOrder(variable, _)
         | EventContent::SignatureLists(variable, _)
-        | EventContent::Signature(variable, _) => push_variable(text, variable),
+        | EventContent::Signature(variable, _) => push_variable(text, alloc, variable),
         EventContent::Image(image, path) => push_image(text, image, path),
     }
 }
 
-/// Appends the first bytes, each as the character of its number.
+/// Appends the first bytes of what is no text, and how many there are more.
+#[tactic(auto, unfolding(crate::specs::words::Said::shown_bytes))]
 pub(crate) fn push_bytes(text: &mut String, bytes: &[u8]) -> Result<(), AllocError>
     ensures { OnOk result (AppendsText text.old text.new (shown_bytes bytes.now)) }
 {
-    let (shown, _) = bytes.split_at(SHOWN_LENGTH.min(bytes.len()));
-    for byte in shown {
-        push_character(text, char::from(*byte))?;
+    let (first, rest) = bytes.split_at(SHOWN_LENGTH.min(bytes.len()));
+    let first = ShownBytes(first);
+    write!(text, "{first}")?;
+    push_more(text, rest.len())
+}
+
+/// Appends how many characters, or bytes, a text has that aren't shown, if it has any.
+#[tactic(auto, unfolding(crate::specs::words::Said::more))]
+pub(crate) fn push_more(text: &mut String, left: usize) -> Result<(), AllocError>
+    ensures { OnOk result (AppendsText text.old text.new (more left)) }
+{
+    if left == 0 {
+        return Ok(());
+    }
+    write!(text, "..({left} more)")
+}
+
+/// Appends the first characters of a text, and how many there are more.
+#[tactic(auto, unfolding(crate::specs::words::Said::shown_text))]
+fn push_text(text: &mut String, alloc: Global, said: &str) -> Result<(), AllocError>
+    ensures { OnOk result (AppendsText text.old text.new (shown_text said.now)) }
+{
+    let characters = characters_of(alloc, said)?;
+    let all = characters.as_slice();
+    let (first, rest) = all.split_at(SHOWN_LENGTH.min(all.len()));
+    push_characters(text, first)?;
+    push_more(text, rest.len())
+}
+
+/// Returns the characters of a text.
+fn characters_of(alloc: Global, text: &str) -> Result<Vec<char>, AllocError>
+    ensures { IfOk result (λ found. found.items ≡ chars text.now) }
+{
+    text.chars().collect(alloc)
+}
+
+/// Appends characters as those of a file's name are shown.
+fn push_characters(text: &mut String, characters: &[char]) -> Result<(), AllocError>
+    ensures { OnOk result (AppendsText text.old text.new (flat_map shown_one characters.now)) }
+{
+    for character in characters {
+        push_character(text, *character)?;
     }
     Ok(())
 }
@@ -101,40 +147,43 @@ fn push_character(text: &mut String, character: char) -> Result<(), AllocError>
     write!(text, "{shown}")
 }
 
-/// Appends the first units.
-#[tactic(auto, using(crate::proofs::words::FirstItems::is_there))]
-fn push_units(text: &mut String, units: &UnalignedSlice<'_>) -> Result<(), AllocError>
+/// Appends the first units as text.
+fn push_units(
+    text: &mut String,
+    alloc: Global,
+    units: &UnalignedSlice<'_>,
+) -> Result<(), AllocError>
     ensures { OnOk result (AppendsText text.old text.new (shown_units (slice_units units.now))) }
 {
-    for index in 0..SHOWN_LENGTH.min(units.len()) {
-        let Some(unit) = units.get(index) else {
-            return Ok(());
-        };
-        push_character(text, character(unit))?;
-    }
-    Ok(())
+    let said = name_text(alloc, units)?;
+    push_text(text, alloc, said.as_str())
 }
 
 /// Appends the text of an event.
-#[tactic(auto, unfolding(crate::specs::words::Said::event_text))]
-fn push_event_text(text: &mut String, said: &EventText<'_>) -> Result<(), AllocError>
-    ensures { OnOk result (AppendsText text.old text.new (event_text (text_of said.now))) }
+#[tactic(auto, unfolding(crate::specs::words::Said::event_words))]
+fn push_event(text: &mut String, alloc: Global, said: &EventText<'_>) -> Result<(), AllocError>
+    ensures { OnOk result (AppendsText text.old text.new (event_words (text_of said.now))) }
 {
     match said {
-        EventText::Ascii { text: said, .. } => push_bytes(text, said),
-        EventText::Utf16 { units, .. } => push_units(text, units),
+        EventText::Utf8 { text: said, .. } => push_text(text, alloc, said),
+        EventText::Utf16 { units, .. } => push_units(text, alloc, units),
+        EventText::Other(bytes) => push_bytes(text, bytes),
     }
 }
 
 /// Appends a version.
-#[tactic(auto, unfolding(crate::specs::words::Said::version_text))]
-fn push_version(text: &mut String, version: &CrtmVersion<'_>) -> Result<(), AllocError>
-    ensures { OnOk result (AppendsText text.old text.new (version_text (version_of version.now))) }
+#[tactic(auto, unfolding(crate::specs::words::Said::version_words))]
+fn push_version(
+    text: &mut String,
+    alloc: Global,
+    version: &CrtmVersion<'_>,
+) -> Result<(), AllocError>
+    ensures { OnOk result (AppendsText text.old text.new (version_words (version_of version.now))) }
 {
     match version {
-        CrtmVersion::Ucs2(units) => push_units(text, units),
+        CrtmVersion::Ucs2(units) => push_units(text, alloc, units),
         CrtmVersion::Guid(guid) => write!(text, "{guid}"),
-        CrtmVersion::Other(said) => push_event_text(text, said),
+        CrtmVersion::Other(said) => push_event(text, alloc, said),
     }
 }
 
@@ -162,12 +211,16 @@ fn push_tagged(text: &mut String, tagged: &TaggedData<'_>) -> Result<(), AllocEr
 }
 
 /// Appends `variable` and the name of a variable.
-fn push_variable(text: &mut String, variable: &VariableData<'_>) -> Result<(), AllocError>
+fn push_variable(
+    text: &mut String,
+    alloc: Global,
+    variable: &VariableData<'_>,
+) -> Result<(), AllocError>
     ensures { OnOk result (AppendsText text.old text.new
         (codes "variable " ++ shown_units (variable_of variable.now).name)) }
 {
     text.push_str("variable ")?;
-    push_units(text, &variable.name)
+    push_units(text, alloc, &variable.name)
 }
 
 /// Appends `image` and its device path, if it has one.
@@ -206,13 +259,21 @@ fn push_path(
     }
 }
 
-/// Appends the first bytes in hex.
+/// Appends the first bytes in hex, and how many there are more.
+#[tactic(auto, unfolding(crate::specs::words::Said::shown_hex))]
 fn push_hex(text: &mut String, bytes: &[u8]) -> Result<(), AllocError>
-    ensures { OnOk result (AppendsText text.old text.new
-        (flat_map hex_byte (take shown_length bytes.now))) }
+    ensures { OnOk result (AppendsText text.old text.new (shown_hex bytes.now)) }
 {
-    let (shown, _) = bytes.split_at(SHOWN_LENGTH.min(bytes.len()));
-    for byte in shown {
+    let (first, rest) = bytes.split_at(SHOWN_LENGTH.min(bytes.len()));
+    push_hex_bytes(text, first)?;
+    push_more(text, rest.len())
+}
+
+/// Appends bytes in hex.
+fn push_hex_bytes(text: &mut String, bytes: &[u8]) -> Result<(), AllocError>
+    ensures { OnOk result (AppendsText text.old text.new (flat_map hex_byte bytes.now)) }
+{
+    for byte in bytes {
         push_hex_byte(text, *byte)?;
     }
     Ok(())

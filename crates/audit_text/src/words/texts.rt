@@ -3,8 +3,10 @@ ghost use Rattle.std.specs.List.{flat_map};
 ghost use Rattle.uefi_base.specs.Views.{slice_units};
 ghost use Rattle.uefi_path.specs.LoadOptionViews.{load_option_of};
 ghost use Rattle.uefi_tcg.specs.content.Views.{text_of, version_of};
-ghost use Rattle.audit_text.specs.words.Texts.{before_nul, event_text, unit_text, version_text};
+ghost use Rattle.audit_text.specs.words.Shown.{shown_name, shown_name_bytes};
+ghost use Rattle.audit_text.specs.words.Texts.{before_nul, event_text, shown_event, shown_version, unit_text, version_text};
 
+use crate::words::{ShownBytes, ShownName};
 use std::alloc::{AllocError, Global};
 use uefi_base::UnalignedSlice;
 use uefi_path::LoadOption;
@@ -62,14 +64,52 @@ pub(crate) fn byte_text(alloc: Global, bytes: &[u8]) -> Result<String, AllocErro
     Ok(text)
 }
 
-/// Returns the text of an event.
+/// Returns a text on one line, with nothing in it hidden, as [`ShownName`] displays it.
+pub(crate) fn shown(alloc: Global, text: &str) -> Result<String, AllocError>
+    ensures { IfOk result (λ shown. string_bytes shown ≡ shown_name text.now) }
+{
+    let shown = ShownName(text);
+    format!(in alloc; "{shown}")
+}
+
+/// Returns bytes that are no text as [`ShownBytes`] displays them.
+fn shown_bytes(alloc: Global, bytes: &[u8]) -> Result<String, AllocError>
+    ensures { IfOk result (λ shown. string_bytes shown ≡ shown_name_bytes bytes.now) }
+{
+    let shown = ShownBytes(bytes);
+    format!(in alloc; "{shown}")
+}
+
+/// Returns the text of units on one line, with nothing in it hidden.
+fn shown_units(alloc: Global, units: &UnalignedSlice<'_>) -> Result<String, AllocError>
+    ensures { IfOk result (λ text. string_bytes text
+        ≡ shown_name (flat_map unit_text (slice_units units.now))) }
+{
+    let text = name_text(alloc, units)?;
+    shown(alloc, text.as_str())
+}
+
+/// Returns the text of an event; bytes that are no text as they are shown.
 #[tactic(auto, unfolding(crate::specs::words::Texts::event_text))]
 pub(crate) fn event_text(alloc: Global, text: &EventText<'_>) -> Result<String, AllocError>
     ensures { IfOk result (λ shown. string_bytes shown ≡ event_text (text_of text.now)) }
 {
     match text {
-        EventText::Ascii { text, .. } => byte_text(alloc, text),
+        EventText::Utf8 { text, .. } => String::from_str(alloc, text),
         EventText::Utf16 { units, .. } => name_text(alloc, units),
+        EventText::Other(bytes) => shown_bytes(alloc, bytes),
+    }
+}
+
+/// Returns the text of an event on one line, with nothing in it hidden.
+#[tactic(auto, unfolding(crate::specs::words::Texts::shown_event))]
+pub(crate) fn shown_event(alloc: Global, text: &EventText<'_>) -> Result<String, AllocError>
+    ensures { IfOk result (λ shown. string_bytes shown ≡ shown_event (text_of text.now)) }
+{
+    match text {
+        EventText::Utf8 { text, .. } => shown(alloc, text),
+        EventText::Utf16 { units, .. } => shown_units(alloc, units),
+        EventText::Other(bytes) => shown_bytes(alloc, bytes),
     }
 }
 
@@ -82,6 +122,18 @@ pub(crate) fn version_text(alloc: Global, version: &CrtmVersion<'_>) -> Result<S
         CrtmVersion::Ucs2(units) => name_text(alloc, units),
         CrtmVersion::Guid(guid) => guid.to_string(alloc),
         CrtmVersion::Other(text) => event_text(alloc, text),
+    }
+}
+
+/// Returns the text of a version on one line, with nothing in it hidden.
+#[tactic(auto, unfolding(crate::specs::words::Texts::shown_version))]
+pub(crate) fn shown_version(alloc: Global, version: &CrtmVersion<'_>) -> Result<String, AllocError>
+    ensures { IfOk result (λ shown. string_bytes shown ≡ shown_version (version_of version.now)) }
+{
+    match version {
+        CrtmVersion::Ucs2(units) => shown_units(alloc, units),
+        CrtmVersion::Guid(guid) => guid.to_string(alloc),
+        CrtmVersion::Other(text) => shown_event(alloc, text),
     }
 }
 

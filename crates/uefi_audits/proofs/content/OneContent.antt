@@ -4,22 +4,20 @@ use Rattle.uefi_path.specs.Laws.{OneFront}
 use Rattle.uefi_path.specs.Node.{joined}
 use Rattle.uefi_path.specs.Path.{IsPath}
 use Rattle.uefi_tcg.specs.content.Blob.{IsBlob, IsDescribedBlob, blob_bytes, described_bytes}
-use Rattle.uefi_tcg.specs.content.CrtmVersion.{IsCrtmVersion, crtm_version_bytes}
 use Rattle.uefi_tcg.specs.content.Gpt.{IsGptData, OneGptData, gpt_bytes}
 use Rattle.uefi_tcg.specs.content.Image.{Image, IsImage, image_bytes}
 use Rattle.uefi_tcg.specs.content.Laws.{OneEncoded, OneValue}
 use Rattle.uefi_tcg.specs.content.Reading.{Reads}
-use Rattle.uefi_tcg.specs.content.Text.{IsEventText, text_bytes}
 use Rattle.uefi_tcg.specs.content.Variable.{IsVariable, Variable, variable_bytes}
 use Rattle.uefi_tcg.specs.v2.Header.{Header}
 use Rattle.uefi_tcg.proofs.content.OneValue.{one_read}
 use Rattle.uefi_tcg.proofs.v2.HeaderBytes.{one_prefix_header}
 use Rattle.pcr_replay.specs.Start.{locality_in}
 use Rattle.uefi_audits.specs.content.Content.{BlobContent, Content, ImageContent, NoActionContent, PostCodeContent, Says, VariableContent}
-use Rattle.uefi_audits.specs.content.Content.{are_printed, blob, crtm_version, described_blob, gpt, header, image, loader_text, or_unread, tagged, variable}
+use Rattle.uefi_audits.specs.content.Content.{are_printed, blob, described_blob, gpt, header, image, or_unread, tagged, variable}
 use Rattle.uefi_audits.specs.content.Header.{ReadsHeader}
 use Rattle.uefi_audits.specs.content.Path.{ReadsNodes}
-use Rattle.uefi_audits.specs.content.Content.{OfNoAction, OfSeparator, OfText, OfPostCode, OfBlob, OfDescribedBlob, OfLoaderText, OfCrtmVersion, OfTagged, OfGpt, OfVariable, OfAuthority, OfImage, Other}
+use Rattle.uefi_audits.specs.content.Content.{OfNoAction, OfSeparator, OfText, OfPostCode, OfBlob, OfDescribedBlob, OfCrtmVersion, OfTagged, OfGpt, OfVariable, OfAuthority, OfImage, Other}
 use Rattle.uefi_audits.specs.content.Value.{SaysValue, ValueForm, authority_form, value_form}
 use Rattle.uefi_audits.specs.Laws.{OneContent}
 use Rattle.uefi_audits.proofs.content.OneValue.{OneOfEach, one_value}
@@ -103,10 +101,7 @@ one_content laws size OfPostCode bytes a b says other = post_code laws.readers (
 one_content laws size OfBlob bytes a b says other = one_blob laws.readers bytes a b says other
 one_content laws size OfDescribedBlob bytes a b says other =
     one_found IsDescribedBlob described_bytes described_blob laws.readers.described_blob bytes a b says other
-one_content laws size OfLoaderText bytes a b says other =
-    one_found IsEventText text_bytes loader_text laws.readers.text bytes a b says other
-one_content laws size OfCrtmVersion bytes a b says other =
-    one_found IsCrtmVersion crtm_version_bytes crtm_version laws.readers.crtm_version bytes a b says other
+one_content laws size OfCrtmVersion bytes a b says other = says ∙ sym other
 one_content laws size OfTagged bytes a b (events, rest, are, is) (others, left, also, that) =
     let both = laws.readers.tagged bytes events others rest left are also in
     is ∙ (λ i. tagged (both.0 i) (both.1 i)) ∙ sym that

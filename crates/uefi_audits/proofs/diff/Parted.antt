@@ -7,7 +7,7 @@ use Rattle.std.proofs.lemmas.List.{map-append, map_more}
 use Rattle.std.proofs.lemmas.List.Elements.{filter_map-append}
 use Rattle.uefi_audits.specs.declared.diff.changed.EventPair.{EventPair}
 use Rattle.uefi_audits.specs.declared.diff.difference.EventChange.{EventChange}
-use Rattle.uefi_audits.specs.diff.Differences.{AreChanged, AreSame, Change, if_alone}
+use Rattle.uefi_audits.specs.diff.Differences.{AreChanged, AreSame, Change, if_alone, Parts}
 use Rattle.uefi_audits.specs.diff.Views.{change_of}
 use Rattle.uefi_audits.specs.declared.diff.pcr.NumberedEntry.{NumberedEntry}
 use Rattle.uefi_audits.specs.private.diff.Ranks.{numbered_at, pair_of}
@@ -40,42 +40,42 @@ none_kept view shown keep all found index item within here before is =
     kept_none is = simp is refl
 
 -- Those of some pairs and those of more.
-both : (algorithms : List ℕ) (pairs more changed also : List Change) → AreChanged algorithms pairs changed
-    → AreChanged algorithms more also → AreChanged algorithms (pairs ++ more) (changed ++ also)
-both algorithms [] more changed also none second = subst (λ t. AreChanged algorithms more (t ++ also)) (sym none) second
-both algorithms (pair ∷ pairs) more changed also (rest, inl same, first) second =
-    (rest ++ also, inl (same.0, ap (λ t. t ++ also) same.1), both algorithms pairs more rest also first second)
-both algorithms (pair ∷ pairs) more changed also (rest, inr differ, first) second =
-    (rest ++ also, inr (differ.0, ap (λ t. t ++ also) differ.1), both algorithms pairs more rest also first second)
+both : (parts : Parts) (pairs more changed also : List Change) → AreChanged parts pairs changed
+    → AreChanged parts more also → AreChanged parts (pairs ++ more) (changed ++ also)
+both parts [] more changed also none second = subst (λ t. AreChanged parts more (t ++ also)) (sym none) second
+both parts (pair ∷ pairs) more changed also (rest, inl same, first) second =
+    (rest ++ also, inl (same.0, ap (λ t. t ++ also) same.1), both parts pairs more rest also first second)
+both parts (pair ∷ pairs) more changed also (rest, inr differ, first) second =
+    (rest ++ also, inr (differ.0, ap (λ t. t ++ also) differ.1), both parts pairs more rest also first second)
 
 -- One more pair, whose events are the same or aren't.
-more : (algorithms : List ℕ) (all : List EventPair) (found new : List EventChange) (index : ℕ) (item : EventPair) (also : List Change)
+more : (parts : Parts) (all : List EventPair) (found new : List EventChange) (index : ℕ) (item : EventPair) (also : List Change)
     → index < length all → item ≡ get_or all index item
-    → AreChanged algorithms (map pair_of (take index all)) (map change_of found)
-    → AreChanged algorithms (pair_of item ∷ []) also → map change_of new ≡ map change_of found ++ also
-    → AreChanged algorithms (map pair_of (take (index + 1) all)) (map change_of new)
-more algorithms all found new index item also within here before one grown =
-    subst (λ them. AreChanged algorithms them (map change_of new))
+    → AreChanged parts (map pair_of (take index all)) (map change_of found)
+    → AreChanged parts (pair_of item ∷ []) also → map change_of new ≡ map change_of found ++ also
+    → AreChanged parts (map pair_of (take (index + 1) all)) (map change_of new)
+more parts all found new index item also within here before one grown =
+    subst (λ them. AreChanged parts them (map change_of new))
     (ap (λ (it : EventPair). map pair_of (take index all) ++ pair_of it ∷ []) here ∙ sym (map_more pair_of all index item within))
-    (subst (AreChanged algorithms (map pair_of (take index all) ++ pair_of item ∷ [])) (sym grown)
-    (both algorithms (map pair_of (take index all)) (pair_of item ∷ []) (map change_of found) also before one))
+    (subst (AreChanged parts (map pair_of (take index all) ++ pair_of item ∷ [])) (sym grown)
+    (both parts (map pair_of (take index all)) (pair_of item ∷ []) (map change_of found) also before one))
 
-pub one_differs : (algorithms : List ℕ) (all : List EventPair) (found new : List EventChange) (index : ℕ) (item : EventPair)
+pub one_differs : (parts : Parts) (all : List EventPair) (found new : List EventChange) (index : ℕ) (item : EventPair)
     (copied : EventChange) → index < length all → item ≡ get_or all index item
-    → AreChanged algorithms (map pair_of (take index all)) (map change_of found)
-    → (AreSame algorithms (pair_of item) → ⊥) → change_of copied ≡ pair_of item → new ≡ found ++ copied ∷ []
-    → AreChanged algorithms (map pair_of (take (index + 1) all)) (map change_of new)
-one_differs algorithms all found new index item copied within here before differ is pushed =
-    more algorithms all found new index item (pair_of item ∷ []) within here before ([], inr (differ, refl), refl)
+    → AreChanged parts (map pair_of (take index all)) (map change_of found)
+    → (AreSame parts (pair_of item) → ⊥) → change_of copied ≡ pair_of item → new ≡ found ++ copied ∷ []
+    → AreChanged parts (map pair_of (take (index + 1) all)) (map change_of new)
+one_differs parts all found new index item copied within here before differ is pushed =
+    more parts all found new index item (pair_of item ∷ []) within here before ([], inr (differ, refl), refl)
     (ap (map change_of) pushed ∙ map-append change_of found (copied ∷ [])
     ∙ ap (λ (it : Change). map change_of found ++ it ∷ []) is)
 
-pub one_same : (algorithms : List ℕ) (all : List EventPair) (found : List EventChange) (index : ℕ) (item : EventPair)
+pub one_same : (parts : Parts) (all : List EventPair) (found : List EventChange) (index : ℕ) (item : EventPair)
     → index < length all → item ≡ get_or all index item
-    → AreChanged algorithms (map pair_of (take index all)) (map change_of found) → AreSame algorithms (pair_of item)
-    → AreChanged algorithms (map pair_of (take (index + 1) all)) (map change_of found)
-one_same algorithms all found index item within here before same =
-    more algorithms all found found index item [] within here before ([], inl (same, refl), refl)
+    → AreChanged parts (map pair_of (take index all)) (map change_of found) → AreSame parts (pair_of item)
+    → AreChanged parts (map pair_of (take (index + 1) all)) (map change_of found)
+one_same parts all found index item within here before same =
+    more parts all found found index item [] within here before ([], inl (same, refl), refl)
     (sym (append-nil (map change_of found)))
 
 -- Pairs, and the pairs of events with their counterparts.

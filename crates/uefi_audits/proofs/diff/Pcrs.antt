@@ -9,7 +9,7 @@ use Rattle.std.proofs.lemmas.List.{map_more}
 use Rattle.std.proofs.lemmas.List.Elements.{filter-append}
 use Rattle.std.proofs.lemmas.Option.{slice_get-map, slice_get_past, slice_get_read}
 use Rattle.uefi_tcg.specs.LogViews.{entry_of, event_of}
-use Rattle.uefi_audits.specs.diff.Differences.{all_compared, compared, compared_at, compared_event}
+use Rattle.uefi_audits.specs.diff.Differences.{all_compared, compared, compared_at, compared_event, Parts}
 use Rattle.uefi_audits.specs.diff.Numbered.{Numbered, is_of, of_pcr}
 use Rattle.uefi_audits.specs.diff.Views.{numbered_of}
 use Rattle.uefi_audits.specs.declared.diff.pcr.NumberedEntry.{NumberedEntry}
@@ -74,30 +74,30 @@ got_is all at (Some found) test is =
     sym (slice_get_read all (length all) at found.now refl (ltb-true at (length all) (sym test)) is)
 
 -- The event at a place of a slice.
-event_there : (algorithms : List ℕ) (all : List (Bor NumberedEntry)) (at : ℕ)
-    → option_map (λ found. compared_event algorithms (event_of found.now.entry.event)) (slice_get all at)
-    ≡ compared_at algorithms (map numbered_at all) at
-event_there algorithms all at =
-    sym (map_twice (compared algorithms) numbered_at (slice_get all at))
-    ∙ ap (option_map (compared algorithms)) (sym (slice_get-map numbered_at all at))
+event_there : (parts : Parts) (all : List (Bor NumberedEntry)) (at : ℕ)
+    → option_map (λ found. compared_event parts (event_of found.now.entry.event)) (slice_get all at)
+    ≡ compared_at parts (map numbered_at all) at
+event_there parts all at =
+    sym (map_twice (compared parts) numbered_at (slice_get all at))
+    ∙ ap (option_map (compared parts)) (sym (slice_get-map numbered_at all at))
 
-pub event_got : (algorithms : List ℕ) (all : List (Bor NumberedEntry)) (at : ℕ) (got : Option (Bor (Bor NumberedEntry)))
+pub event_got : (parts : Parts) (all : List (Bor NumberedEntry)) (at : ℕ) (got : Option (Bor (Bor NumberedEntry)))
     (copied : Option (Bor NumberedEntry)) → copied ≡ option_copied got → is_some got ≡ nat_lt at (length all)
     → IfSome got (λ found. found.now ≡ get_or all at found.now)
-    → option_map (λ found. compared_event algorithms (event_of found.now.entry.event)) copied
-    ≡ compared_at algorithms (map numbered_at all) at
-event_got algorithms all at got copied is test lookup =
-    ap (option_map (λ (found : Bor NumberedEntry). compared_event algorithms (event_of found.now.entry.event)))
-    (is ∙ got_is all at got test lookup) ∙ event_there algorithms all at
+    → option_map (λ found. compared_event parts (event_of found.now.entry.event)) copied
+    ≡ compared_at parts (map numbered_at all) at
+event_got parts all at got copied is test lookup =
+    ap (option_map (λ (found : Bor NumberedEntry). compared_event parts (event_of found.now.entry.event)))
+    (is ∙ got_is all at got test lookup) ∙ event_there parts all at
 
 -- Lists with the same events at all places have the same events.
-pub all_same : (algorithms : List ℕ) (old new : List Numbered)
-    → ((k : ℕ) → k < max (length old) (length new) → compared_at algorithms old k ≡ compared_at algorithms new k)
-    → all_compared algorithms old ≡ all_compared algorithms new
-all_same algorithms [] [] same = refl
-all_same algorithms [] (b ∷ more) same = let here = same 0 (omega arith) in cc
-all_same algorithms (a ∷ more) [] same = let here = same 0 (omega arith) in cc
-all_same algorithms (a ∷ ones) (b ∷ others) same =
+pub all_same : (parts : Parts) (old new : List Numbered)
+    → ((k : ℕ) → k < max (length old) (length new) → compared_at parts old k ≡ compared_at parts new k)
+    → all_compared parts old ≡ all_compared parts new
+all_same parts [] [] same = refl
+all_same parts [] (b ∷ more) same = let here = same 0 (omega arith) in cc
+all_same parts (a ∷ more) [] same = let here = same 0 (omega arith) in cc
+all_same parts (a ∷ ones) (b ∷ others) same =
     let here = same 0 (omega arith) in
-    let head : compared algorithms a ≡ compared algorithms b = cc in
-    ap₂ (λ x xs. x ∷ xs) head (all_same algorithms ones others (λ k below. same (suc k) (omega arith)))
+    let head : compared parts a ≡ compared parts b = cc in
+    ap₂ (λ x xs. x ∷ xs) head (all_same parts ones others (λ k below. same (suc k) (omega arith)))

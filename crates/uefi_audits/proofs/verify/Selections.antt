@@ -169,18 +169,14 @@ no_items text name items cut none (Some bank) ranges is =
     (sym (cuts_agree 58 text name items (bank_name bank) is.0 cut is.1).1) is.2)
 
 -- Without a result there is none.
-pub of_all_if : {A : Type 0} (text bytes : List ℕ) (found : Option A) (P : A → Type 0) → bytes ≡ text → Lacks 58 bytes
-    → MatchOption found ((ranges : List Range) → AreItems bytes ranges → ⊥) P
+pub of_all_if : {A : Type 0} (text : List ℕ) (found : Option A) (P : A → Type 0) → Lacks 58 text
+    → MatchOption found ((ranges : List Range) → AreItems text ranges → ⊥) P
     → IfNone found ((bank : Option Bank) (ranges : List Range) → IsSelection text bank ranges → ⊥)
-of_all_if text bytes None P same lacks none =
-    subst (λ (t : List ℕ). (bank : Option Bank) (ranges : List Range) → IsSelection t bank ranges → ⊥) same
-    (of_all bytes lacks none)
-of_all_if text bytes (Some found) P same lacks is = tt
+of_all_if text None P lacks none = of_all text lacks none
+of_all_if text (Some found) P lacks is = tt
 
-pub no_items_if : {A : Type 0} (text bytes name items : List ℕ) (found : Option A) (P : A → Type 0) → bytes ≡ text
-    → IsCut 58 bytes name items → MatchOption found ((ranges : List Range) → AreItems items ranges → ⊥) P
+pub no_items_if : {A : Type 0} (text name items : List ℕ) (found : Option A) (P : A → Type 0) → IsCut 58 text name items
+    → MatchOption found ((ranges : List Range) → AreItems items ranges → ⊥) P
     → IfNone found ((bank : Option Bank) (ranges : List Range) → IsSelection text bank ranges → ⊥)
-no_items_if text bytes name items None P same cut none =
-    subst (λ (t : List ℕ). (bank : Option Bank) (ranges : List Range) → IsSelection t bank ranges → ⊥) same
-    (no_items bytes name items cut none)
-no_items_if text bytes name items (Some found) P same cut is = tt
+no_items_if text name items None P cut none = no_items text name items cut none
+no_items_if text name items (Some found) P cut is = tt

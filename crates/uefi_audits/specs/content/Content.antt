@@ -5,11 +5,11 @@ use Rattle.uefi_base.specs.LittleEndian.{u32_at}
 use Rattle.uefi_path.specs.Node.{Node}
 use Rattle.pcr_replay.specs.Start.{locality_in}
 use Rattle.uefi_tcg.specs.content.Blob.{Blob, DescribedBlob, ReadsBlob, ReadsDescribedBlob}
-use Rattle.uefi_tcg.specs.content.CrtmVersion.{CrtmVersion, ReadsCrtmVersion}
+use Rattle.uefi_tcg.specs.content.CrtmVersion.{CrtmVersion, version_in}
 use Rattle.uefi_tcg.specs.content.Gpt.{GptData, ReadsGptData}
 use Rattle.uefi_tcg.specs.content.Image.{Image, ReadsImage}
 use Rattle.uefi_tcg.specs.content.Tagged.{Tagged, AreTagged}
-use Rattle.uefi_tcg.specs.content.Text.{EventText, ReadsText}
+use Rattle.uefi_tcg.specs.content.Text.{EventText, text_in}
 use Rattle.uefi_tcg.specs.content.Variable.{Variable, ReadsVariable}
 use Rattle.uefi_tcg.specs.declared.event_type.TheConstants.EventType.{POST_CODE, NO_ACTION, SEPARATOR, ACTION, EVENT_TAG, CRTM_VERSION, IPL, OMIT_BOOT_DEVICE_EVENTS, POST_CODE2}
 use Rattle.uefi_tcg.specs.declared.event_type.TheConstants.EventType.{EFI_VARIABLE_DRIVER_CONFIG, EFI_VARIABLE_BOOT, EFI_BOOT_SERVICES_APPLICATION, EFI_BOOT_SERVICES_DRIVER, EFI_RUNTIME_SERVICES_DRIVER}
@@ -21,7 +21,7 @@ use Rattle.uefi_audits.specs.content.Header.{ReadsHeader}
 use Rattle.uefi_audits.specs.content.Path.{ReadsNodes}
 use Rattle.uefi_audits.specs.content.Value.{Value, ValueForm, SaysValue, authority_form, value_form}
 
--- What data say: a text, the number of a separator, the locality at which the TPM was started, the header of a log, a boot loader's text, the version of the root of trust, a blob of firmware without a description and with one, tagged events and the bytes after them, a partition table, a variable with what its value says, an image with the nodes of its device path; or nothing that is read here.
+-- What data say: a text that names what was measured, the number of a separator, the locality at which the TPM was started, the header of a log, what a boot loader says of what it measured or firmware of what it did, the version of the root of trust, a blob of firmware without a description and with one, tagged events and the bytes after them, a partition table, a variable with what its value says, an image with the nodes of its device path; or nothing that is read here.
 pub data Content : Type 0 where
   unread : Content
   text : List ℕ → Content
@@ -37,7 +37,7 @@ pub data Content : Type 0 where
   variable : Variable → Value → Content
   image : Image → Option (List Node) → Content
 
--- The forms of data that are read: that of an event which extends nothing, a separator, a text, what firmware measured as it started the platform, a blob without a description and with one, a boot loader's text, a version, tagged events, a partition table, a variable, one with the signature by which an image was allowed, an image; and any other form.
+-- The forms of data that are read: that of an event which extends nothing, a separator, what firmware did or a boot loader measured, what firmware measured as it started the platform, a blob without a description and with one, a version, tagged events, a partition table, a variable, one with the signature by which an image was allowed, an image; and any other form.
 pub data Form : Type 0 where
   OfNoAction : Form
   OfSeparator : Form
@@ -45,7 +45,6 @@ pub data Form : Type 0 where
   OfPostCode : Form
   OfBlob : Form
   OfDescribedBlob : Form
-  OfLoaderText : Form
   OfCrtmVersion : Form
   OfTagged : Form
   OfGpt : Form
@@ -60,10 +59,9 @@ form_of event_type =
     if event_type == POST_CODE.0 then OfPostCode
     else if event_type == NO_ACTION.0 then OfNoAction
     else if event_type == SEPARATOR.0 then OfSeparator
-    else if is_one_of (ACTION.0 ∷ OMIT_BOOT_DEVICE_EVENTS.0 ∷ EFI_ACTION.0 ∷ EFI_HCRTM_EVENT.0 ∷ []) event_type then OfText
+    else if is_one_of (ACTION.0 ∷ OMIT_BOOT_DEVICE_EVENTS.0 ∷ EFI_ACTION.0 ∷ EFI_HCRTM_EVENT.0 ∷ IPL.0 ∷ []) event_type then OfText
     else if event_type == EVENT_TAG.0 then OfTagged
     else if event_type == CRTM_VERSION.0 then OfCrtmVersion
-    else if event_type == IPL.0 then OfLoaderText
     else if is_one_of (POST_CODE2.0 ∷ EFI_PLATFORM_FIRMWARE_BLOB2.0 ∷ []) event_type then OfDescribedBlob
     else if is_one_of (EFI_VARIABLE_DRIVER_CONFIG.0 ∷ EFI_VARIABLE_BOOT.0 ∷ EFI_VARIABLE_BOOT2.0 ∷ []) event_type then OfVariable
     else if is_one_of (EFI_BOOT_SERVICES_APPLICATION.0 ∷ EFI_BOOT_SERVICES_DRIVER.0 ∷ EFI_RUNTIME_SERVICES_DRIVER.0 ∷ []) event_type then OfImage
@@ -127,15 +125,12 @@ ImageContent None content = content ≡ unread
 unfoldable pub Says : UintnSize → Form → List ℕ → Content → Type 0
 Says size OfNoAction bytes content = NoActionContent (locality_in bytes) bytes content
 Says size OfSeparator bytes content = content ≡ separator_content bytes
-Says size OfText bytes content = content ≡ text_content bytes
+Says size OfText bytes content = content ≡ loader_text (text_in bytes)
 Says size OfPostCode bytes content = PostCodeContent (are_printed bytes) bytes content
 Says size OfBlob bytes content = BlobContent bytes content
 Says size OfDescribedBlob bytes content =
     (found : Option DescribedBlob) × ReadsDescribedBlob bytes found × (content ≡ or_unread described_blob found)
-Says size OfLoaderText bytes content =
-    (found : Option EventText) × ReadsText bytes found × (content ≡ or_unread loader_text found)
-Says size OfCrtmVersion bytes content =
-    (found : Option CrtmVersion) × ReadsCrtmVersion bytes found × (content ≡ or_unread crtm_version found)
+Says size OfCrtmVersion bytes content = content ≡ crtm_version (version_in bytes)
 Says size OfTagged bytes content =
     (events : List Tagged) × (rest : List ℕ) × AreTagged bytes events rest × (content ≡ tagged events rest)
 Says size OfGpt bytes content = (found : Option GptData) × ReadsGptData size bytes found × (content ≡ or_unread gpt found)

@@ -7,6 +7,7 @@ use Rattle.std.specs.Cmp.Lexicographic.{slice_cmp}
 use Rattle.std.specs.declared.cmp.Ordering.{Ordering}
 use Rattle.uefi_tcg.specs.content.Variable.{Variable}
 use Rattle.uefi_tcg.specs.v2.Event.{Event}
+use Rattle.pcr_replay.specs.Replay.{digests_by}
 use Rattle.uefi_audits.specs.Check.{are_hashes}
 use Rattle.uefi_audits.specs.content.Content.{Content, loader_text, tagged, variable, image}
 use Rattle.uefi_audits.specs.diff.Numbered.{Numbered, pcr_of, type_of}
@@ -78,6 +79,19 @@ keyed_by pcr kind name =
 
 abbrev pub name_key : Numbered → Key
 name_key found = keyed_by (pcr_of found) (type_of found) (name_in found.content found.entry.event.event_data)
+
+-- By its first digest of an algorithm, which is the name.
+abbrev pub first_or_none : List (List ℕ) → List ℕ
+first_or_none [] = []
+first_or_none (digest ∷ digests) = digest
+
+abbrev pub first_digest : Option ℕ → Event → List ℕ
+first_digest None event = []
+first_digest (Some algorithm) event = first_or_none (digests_by algorithm event.digests)
+
+abbrev pub digest_key : Option ℕ → Numbered → Key
+digest_key algorithm found =
+    keyed_by (pcr_of found) (type_of found) (named [] (first_digest algorithm found.entry.event))
 
 -- The order of keys. Two keys are one if they are equal in it.
 unfoldable pub key_cmp : Key → Key → Ordering

@@ -1,11 +1,13 @@
 -- What values stand for: words that contracts name them by.
 use Rattle.std.specs.Prelude.{ℕ, List, map, option_map}
+use Rattle.std.specs.Borrow.{Bor}
 use Rattle.uefi_tcg.specs.LogViews.{entry_of}
 use Rattle.uefi_tcg.specs.declared.algorithm_id.AlgorithmId.{AlgorithmId}
 use Rattle.uefi_audits.specs.content.Views.{content_of}
 use Rattle.uefi_audits.specs.diff.Counterparts.{Name}
-use Rattle.uefi_audits.specs.diff.Differences.{Change, Difference}
+use Rattle.uefi_audits.specs.diff.Differences.{Change, Difference, Parts}
 use Rattle.uefi_audits.specs.diff.Numbered.{Numbered}
+use Rattle.uefi_audits.specs.declared.diff.compared.ComparedParts.{ComparedParts}
 use Rattle.uefi_audits.specs.declared.diff.difference.EventChange.{EventChange}
 use Rattle.uefi_audits.specs.declared.diff.difference.PcrDifference.{PcrDifference}
 use Rattle.uefi_audits.specs.declared.diff.names.EventName.{EventName}
@@ -14,6 +16,10 @@ use Rattle.uefi_audits.specs.declared.diff.pcr.NumberedEntry.{NumberedEntry}
 -- The numbers of algorithms.
 abbrev pub numbers_of : List AlgorithmId → List ℕ
 numbers_of algorithms = map (λ algorithm. algorithm.0) algorithms
+
+-- Which parts of events are compared.
+abbrev pub parts_of : ComparedParts → Parts
+parts_of parts = record { algorithms = numbers_of parts.algorithms.now; with_data = parts.with_data }
 
 -- An entry with its index and what its data say.
 abbrev pub numbered_of : NumberedEntry → Numbered

@@ -1,6 +1,6 @@
 -- Whether a log leads to the digest in a quote.
-use Rattle.std.specs.Prelude.{ℕ, ◌≡◌, Bool, true, false, List, Option, None, Some, Result, Ok, Err, if◌then◌else◌}
-use Rattle.std.specs.List.{Any}
+use Rattle.std.specs.Prelude.{ℕ, ◌≡◌, ◌&&◌, Bool, true, false, List, Option, None, Some, Result, Ok, Err, if◌then◌else◌}
+use Rattle.std.specs.List.{Any, list_all}
 use Rattle.std.specs.Option.{option_map}
 use Rattle.std.specs.Result.{result_map_both}
 use Rattle.std.specs.Str.{bytes_eq}
@@ -15,6 +15,7 @@ use Rattle.uefi_audits.specs.Start.{assumed_start, is_stated, known_start}
 use Rattle.uefi_audits.specs.declared.start.KnownStart.{KnownStart}
 use Rattle.uefi_audits.specs.declared.verify.quote.QuoteVerdict.{QuoteVerdict}
 use Rattle.uefi_audits.specs.declared.verify.quote.ReceivedQuote.{ReceivedQuote}
+use Rattle.uefi_audits.specs.verify.Covered.{is_covered}
 use Rattle.uefi_audits.specs.verify.Verdict.{starts}
 
 -- A quote, the hash function of its digest, and the nonce that it was asked for with; it may have any if none is there.
@@ -38,31 +39,40 @@ is_digest digest (Err why) = false
 
 -- What a quote is compared with: how PCR 0 starts, the digest, and whether it is that of the quote.
 pub record QuoteJudgement : Type 0 where
+  pub received : Received
   pub start : KnownStart
   pub digest : Result (List ℕ) NoQuoteDigest
-  pub agrees : Bool
+  pub digest_agrees : Bool
 
-abbrev pub judged_at : Bank → List Entry → Quote → KnownStart → QuoteJudgement
-judged_at hash entries quote start = record {
+abbrev pub judged_at : List Entry → Received → KnownStart → QuoteJudgement
+judged_at entries received start = record {
+  received = received;
   start = start;
-  digest = digest_at hash entries quote start.start;
-  agrees = is_digest quote.pcr_digest (digest_at hash entries quote start.start);
+  digest = digest_at received.hash entries received.quote start.start;
+  digest_agrees = is_digest received.quote.pcr_digest (digest_at received.hash entries received.quote start.start);
 }
 
--- Of two, the one that agrees, and the first if neither or both do.
+-- The digests agree, and the quote has the nonce that it was asked for with; and it covers each of these PCRs.
+abbrev pub is_met : QuoteJudgement → Bool
+is_met judgement = judgement.digest_agrees && has_its_nonce judgement.received
+
+abbrev pub covers : QuoteJudgement → Bank → List ℕ → Bool
+covers judgement bank pcrs = list_all (is_covered judgement.received.quote bank) pcrs
+
+-- Of two, the one whose digest agrees, and the first if neither or both do.
 abbrev pub agreeing : QuoteJudgement → QuoteJudgement → QuoteJudgement
-agreeing one other = if one.agrees then one else if other.agrees then other else one
+agreeing one other = if one.digest_agrees then one else if other.digest_agrees then other else one
 
 -- The verdict on a quote, by the locality that the caller states, if any, and the events of a log. If none is stated, starts at
 -- 0, 3 and 4 are tried.
-abbrev pub tried : Bank → List Entry → Quote → QuoteJudgement
-tried hash entries quote =
-    agreeing (agreeing (judged_at hash entries quote (assumed_start 0)) (judged_at hash entries quote (assumed_start 3)))
-    (judged_at hash entries quote (assumed_start 4))
+abbrev pub tried : List Entry → Received → QuoteJudgement
+tried entries received =
+    agreeing (agreeing (judged_at entries received (assumed_start 0)) (judged_at entries received (assumed_start 3)))
+    (judged_at entries received (assumed_start 4))
 
-unfoldable pub quote_verdict : Option ℕ → Bank → List Entry → Quote → QuoteJudgement
-quote_verdict locality hash entries quote =
-    if is_stated locality entries then judged_at hash entries quote (known_start locality entries) else tried hash entries quote
+unfoldable pub quote_verdict : Option ℕ → List Entry → Received → QuoteJudgement
+quote_verdict locality entries received =
+    if is_stated locality entries then judged_at entries received (known_start locality entries) else tried entries received
 
 -- What values of the code stand for.
 abbrev pub received_of : ReceivedQuote → Received
@@ -74,12 +84,13 @@ received_of received = record {
 
 abbrev pub quote_judgement_of : QuoteVerdict → QuoteJudgement
 quote_judgement_of verdict = record {
+  received = received_of verdict.received;
   start = verdict.start;
   digest = result_map_both value_of (λ why. why) verdict.digest;
-  agrees = verdict.agrees;
+  digest_agrees = verdict.digest_agrees;
 }
 
 -- At one of the starts that are tried, the digest in the quote is that of the PCRs that the log leads to.
-abbrev pub QuoteAgrees : Option ℕ → Bank → List Entry → Quote → Type 0
-QuoteAgrees locality hash entries quote =
-    Any (λ start. digest_at hash entries quote start ≡ Ok quote.pcr_digest) (starts locality entries)
+abbrev pub QuoteAgrees : Option ℕ → List Entry → Received → Type 0
+QuoteAgrees locality entries received =
+    Any (λ start. digest_at received.hash entries received.quote start ≡ Ok received.quote.pcr_digest) (starts locality entries)

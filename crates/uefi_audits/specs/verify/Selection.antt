@@ -1,6 +1,6 @@
--- Which PCRs the option `--pcrs` selects: `0-7,14` in all banks, `sha256:0,7` in one.
-use Rattle.std.specs.Prelude.{ℕ, ◌≡◌, ◌⊎◌, ◌-◌, ◌≤◌, ◌<◌, ◌&&◌, nat_le, Bool, true, false, if◌then◌else◌}
-use Rattle.std.specs.Prelude.{List, [], ◌∷◌, ◌++◌, slice_index_or, Option, None, Some}
+-- Which PCRs the option `--pcrs` selects: `0-7,14` in all banks, `sha256:0,7` in one, `sha1:0+sha256:0,7` in two.
+use Rattle.std.specs.Prelude.{ℕ, ◌≡◌, ◌==◌, ◌⊎◌, ◌-◌, ◌≤◌, ◌<◌, ◌&&◌, ◌||◌, nat_le, Bool, true, false, if◌then◌else◌}
+use Rattle.std.specs.Prelude.{List, [], ◌∷◌, ◌++◌, length, slice_index_or, Option, None, Some}
 use Rattle.std.specs.List.{list_any}
 use Rattle.pcr_replay.specs.declared.bank.Bank.{Bank}
 use Rattle.pcr_replay.specs.Replay.{pcr_count}
@@ -66,10 +66,12 @@ is_named ranges pcr = list_any (is_in pcr) ranges
 abbrev pub selects : PcrSelection → Bank → ℕ → Bool
 selects selection bank pcr = is_of_bank selection.bank bank && slice_index_or selection.pcrs pcr false
 
--- It selects a PCR that a TPM held. Without a selection each is selected.
-abbrev pub is_selected : Option PcrSelection → HeldPcr → Bool
-is_selected None held = true
-is_selected (Some selection) held = selects selection held.bank held.pcr
+-- One of them selects a PCR that a TPM held. Without selections each is selected.
+abbrev pub one_selects : List PcrSelection → HeldPcr → Bool
+one_selects selections held = list_any (λ selection. selects selection held.bank held.pcr) selections
+
+abbrev pub is_selected : List PcrSelection → HeldPcr → Bool
+is_selected selections held = (length selections == 0) || one_selects selections held
 
 -- It selects those that the text names.
 pub record Selects (text : List ℕ) (selection : PcrSelection) : Type 0 where
@@ -77,3 +79,11 @@ pub record Selects (text : List ℕ) (selection : PcrSelection) : Type 0 where
   pub ranges : List Range
   pub is_selection : IsSelection text bank ranges
   pub selected : (of : Bank) (pcr : ℕ) → selects selection of pcr ≡ (is_of_bank bank of && is_named ranges pcr)
+
+-- Selections, of which there is one at least, are joined by plus signs.
+abbrev pub AreSelections : List ℕ → List PcrSelection → Type 0
+AreSelections text [] = ⊥
+AreSelections text (selection ∷ []) = Lacks 43 text × Selects text selection
+AreSelections text (selection ∷ other ∷ selections) =
+    (front : List ℕ) × (back : List ℕ) × IsCut 43 text front back × Selects front selection
+    × AreSelections back (other ∷ selections)

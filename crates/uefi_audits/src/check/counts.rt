@@ -12,7 +12,7 @@ use std::alloc::{AllocError, Allocator};
 use std::collections::BTreeMap;
 use uefi_tcg::EventType;
 
-/// How many events of a type match, and in which forms, and how many don't.
+/// How many events of a type match, and in which forms, how many don't, and how many aren't covered.
 #[derive(Clone, Copy, PartialEq, Eq, Debug)]
 pub struct TypeCounts {
     /// The type.
@@ -25,6 +25,8 @@ pub struct TypeCounts {
     pub matches_none: u64,
     /// Of how many the log doesn't have what was measured.
     pub not_in_log: u64,
+    /// How many aren't covered.
+    pub not_covered: u64,
 }
 
 impl TypeCounts {
@@ -38,21 +40,23 @@ impl TypeCounts {
             by_form: [0; 6],
             matches_none: 0,
             not_in_log: 0,
+            not_covered: 0,
         }
     }
 
-    /// Counts one more event.
-    fn add(&mut self, checked: Checked)
+    /// Counts one more event, by what its digests say; `None` if it isn't covered.
+    fn add(&mut self, checked: Option<Checked>)
         requires { HasRoom self.old }
         ensures { self.new ≡ counted checked self.old }
     {
         match checked {
-            Checked::Matches(form) => {
+            Some(Checked::Matches(form)) => {
                 self.matches += 1;
                 self.by_form[form.index()] += 1;
             }
-            Checked::MatchesNone => self.matches_none += 1,
-            Checked::NotInLog => self.not_in_log += 1,
+            Some(Checked::MatchesNone) => self.matches_none += 1,
+            Some(Checked::NotInLog) => self.not_in_log += 1,
+            None => self.not_covered += 1,
         }
     }
 
@@ -94,7 +98,7 @@ fn in_order<A: Allocator>(
 fn count<A: Allocator + Copy>(
     types: &mut BTreeMap<u32, TypeCounts, A>,
     event_type: EventType,
-    checked: Checked,
+    checked: Option<Checked>,
 ) -> Result<(), AllocError>
     requires { HasRoom (counts_at types.old event_type.0) }
     ensures { OnOk result (CountsOneMore types.old types.new event_type.0 checked) }

@@ -1,14 +1,13 @@
-ghost use Rattle.std.specs.Prelude.{◌≡◌, map, IfOk};
-ghost use Rattle.uefi_audits.specs.diff.Differences.{AreChanged, changes_in};
-ghost use Rattle.uefi_audits.specs.diff.Views.{change_of, numbers_of};
+ghost use Rattle.std.specs.Prelude.{◌≡◌, ◌↔◌, map, IfOk, IsTrue};
+ghost use Rattle.uefi_audits.specs.diff.Differences.{AreChanged, AreSame, changes_in};
+ghost use Rattle.uefi_audits.specs.diff.Views.{change_of, parts_of};
 ghost use Rattle.uefi_audits.specs.private.diff.Ranks.{pair_of, paired_of};
 
-use crate::diff::compared::is_same_event;
+use crate::diff::compared::{ComparedParts, is_same_event};
 use crate::diff::counterparts::PairedEvent;
 use crate::diff::difference::EventChange;
 use crate::diff::pcr::NumberedEntry;
 use std::alloc::{AllocError, Global};
-use uefi_tcg::AlgorithmId;
 
 /// An event of the old log and its counterpart in the new one.
 #[derive(Clone, Copy)]
@@ -20,6 +19,14 @@ pub(crate) struct EventPair<'e, 'a> {
 }
 
 impl<'e, 'a> EventPair<'e, 'a> {
+    /// Returns whether the events are the same, as far as these parts tell.
+    fn is_same(&self, alloc: Global, parts: &ComparedParts<'_>) -> Result<bool, AllocError>
+        ensures { IfOk result (λ same. IsTrue same
+            ↔ AreSame (parts_of parts.now) (pair_of self.now)) }
+    {
+        is_same_event(alloc, parts, &self.old.entry.event, &self.new.entry.event)
+    }
+
     /// Returns the pair with copies of its events.
     pub(crate) fn copied(&self) -> EventChange<'a>
         ensures { change_of result ≡ pair_of self.now }
@@ -52,15 +59,15 @@ pub(crate) fn changes_in<'e, 'a>(
 /// Returns the pairs whose events aren't the same, in order.
 pub(crate) fn changed<'a>(
     alloc: Global,
-    algorithms: &[AlgorithmId],
+    parts: &ComparedParts<'_>,
     pairs: &[EventPair<'_, 'a>],
 ) -> Result<Vec<EventChange<'a>>, AllocError>
-    ensures { IfOk result (λ found. AreChanged (numbers_of algorithms.now)
+    ensures { IfOk result (λ found. AreChanged (parts_of parts.now)
         (map pair_of pairs.now) (map change_of found.items)) }
 {
     let mut found = Vec::new(alloc);
     for pair in pairs {
-        if !is_same_event(algorithms, &pair.old.entry.event, &pair.new.entry.event) {
+        if !pair.is_same(alloc, parts)? {
             found.push(pair.copied())?;
         }
     }

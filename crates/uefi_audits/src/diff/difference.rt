@@ -1,18 +1,18 @@
 ghost use Rattle.std.specs.Prelude.{◌≡◌, ◌++◌, map, option_map, IfOk};
-ghost use Rattle.uefi_audits.specs.diff.Counterparts.{ArePaired, data_key, name_key};
+ghost use Rattle.uefi_audits.specs.diff.Counterparts.{ArePaired};
 ghost use Rattle.uefi_audits.specs.diff.Differences.{AreChanged, AreCounterpartsOf, AreDifferences, DifferBelow, IsDifference, alone_in, changes_in};
 ghost use Rattle.uefi_audits.specs.diff.Numbered.{of_pcr};
-ghost use Rattle.uefi_audits.specs.diff.Views.{change_of, difference_of, numbered_of, numbers_of};
+ghost use Rattle.uefi_audits.specs.diff.Views.{change_of, difference_of, numbered_of, parts_of};
 ghost use Rattle.uefi_audits.specs.private.diff.Ranks.{counterparts_of, numbered_at, pair_of, paired_of};
 
 use crate::diff::changed::{EventPair, changed, changes_in};
+use crate::diff::compared::ComparedParts;
 use crate::diff::counterparts::{PairedEvent, alone, counterparts};
 use crate::diff::event_key::KeyedBy;
 use crate::diff::moved::first_moved;
 use crate::diff::pcr::{COMPARED, NumberedEntry, entries_of, first_difference, numbered_entries};
 use pcr_replay::ReadLog;
 use std::alloc::{AllocError, Global};
-use uefi_tcg::AlgorithmId;
 
 /// How the events of a PCR differ between two logs.
 #[derive(Drop)]
@@ -26,8 +26,8 @@ pub struct PcrDifference<'a> {
     pub only_old: Vec<NumberedEntry<'a>>,
     /// The events of the new log that have no counterpart, in order.
     pub only_new: Vec<NumberedEntry<'a>>,
-    /// The first event with the same data in both logs that comes in the new log before one which
-    /// it follows in the old log; `None` if there is none.
+    /// The first event with the same data in both logs, or the same digest if data aren't compared,
+    /// that comes in the new log before one which it follows in the old log; `None` if there is none.
     pub moved: Option<EventChange<'a>>,
 }
 
@@ -60,9 +60,11 @@ pub(crate) struct Counterparts<'e, 'a> {
 /// the counterpart of the first one with the same data in the other log, the second of the second,
 /// and so on. Of the events that are left, those are counterparts in the same way whose data have
 /// the same name: that and the GUID of a variable, the device path of an image, the first word of a
-/// command of GRUB, the number of a tag, or none. Two counterparts are the same if they have the
-/// same data, and the same digest of each of `algorithms`, or none
-/// ([`is_same_event`](crate::diff::is_same_event)).
+/// command of GRUB, the number of a tag, or none. Two counterparts are the same if the compared
+/// parts are ([`is_same_event`](crate::diff::is_same_event)).
+///
+/// If data aren't compared, events are counterparts in the same way if they have the same first
+/// digest of the first algorithm, or none, and no others are.
 ///
 /// The time is in proportion to n log n.
 ///
@@ -71,31 +73,31 @@ pub(crate) struct Counterparts<'e, 'a> {
 /// [`AllocError`] if an allocation fails.
 pub fn differences<'a>(
     alloc: Global,
-    algorithms: &[AlgorithmId],
+    parts: &ComparedParts<'_>,
     old: &ReadLog<'a>,
     new: &ReadLog<'a>,
 ) -> Result<Vec<PcrDifference<'a>>, AllocError>
-    ensures { IfOk result (λ found. AreDifferences (numbers_of algorithms.now) old.now new.now
+    ensures { IfOk result (λ found. AreDifferences (parts_of parts.now) old.now new.now
         (map difference_of found.items)) }
 {
     let olds = numbered_entries(alloc, old)?;
     let news = numbered_entries(alloc, new)?;
-    differences_of(alloc, algorithms, olds.as_slice(), news.as_slice())
+    differences_of(alloc, parts, olds.as_slice(), news.as_slice())
 }
 
 /// Returns how these events of two logs differ, PCR by PCR.
 fn differences_of<'a>(
     alloc: Global,
-    algorithms: &[AlgorithmId],
+    parts: &ComparedParts<'_>,
     olds: &[NumberedEntry<'a>],
     news: &[NumberedEntry<'a>],
 ) -> Result<Vec<PcrDifference<'a>>, AllocError>
-    ensures { IfOk result (λ found. DifferBelow (numbers_of algorithms.now) 25
+    ensures { IfOk result (λ found. DifferBelow (parts_of parts.now) 25
         (map numbered_of olds.now) (map numbered_of news.now) (map difference_of found.items)) }
 {
     let mut found = Vec::new(alloc);
     for pcr in 0..COMPARED {
-        if let Some(difference) = pcr_difference(alloc, algorithms, olds, news, pcr)? {
+        if let Some(difference) = pcr_difference(alloc, parts, olds, news, pcr)? {
             found.push(difference)?;
         }
     }
@@ -105,44 +107,39 @@ fn differences_of<'a>(
 /// Returns how the events of a PCR differ; `None` if they don't.
 fn pcr_difference<'a>(
     alloc: Global,
-    algorithms: &[AlgorithmId],
+    parts: &ComparedParts<'_>,
     olds: &[NumberedEntry<'a>],
     news: &[NumberedEntry<'a>],
     pcr: u32,
 ) -> Result<Option<PcrDifference<'a>>, AllocError>
-    ensures { IfOk result (λ found. IsDifference (numbers_of algorithms.now) pcr
+    ensures { IfOk result (λ found. IsDifference (parts_of parts.now) pcr
         (of_pcr pcr (map numbered_of olds.now)) (of_pcr pcr (map numbered_of news.now))
         (option_map difference_of found)) }
 {
     let olds = entries_of(alloc, olds, pcr)?;
     let news = entries_of(alloc, news, pcr)?;
-    difference_in(alloc, algorithms, olds.as_slice(), news.as_slice(), pcr)
+    difference_in(alloc, parts, olds.as_slice(), news.as_slice(), pcr)
 }
 
 /// Returns how these events, which are all of a PCR, differ; `None` if they don't.
 fn difference_in<'a>(
     alloc: Global,
-    algorithms: &[AlgorithmId],
+    parts: &ComparedParts<'_>,
     olds: &[&NumberedEntry<'a>],
     news: &[&NumberedEntry<'a>],
     pcr: u32,
 ) -> Result<Option<PcrDifference<'a>>, AllocError>
-    ensures { IfOk result (λ found. IsDifference (numbers_of algorithms.now) pcr
+    ensures { IfOk result (λ found. IsDifference (parts_of parts.now) pcr
         (map numbered_at olds.now) (map numbered_at news.now) (option_map difference_of found)) }
 {
-    if first_difference(algorithms, olds, news).is_none() {
+    if first_difference(alloc, parts, olds, news)?.is_none() {
         return Ok(None);
     }
-    let all = counterparts_of(alloc, olds, news)?;
+    let all = counterparts_of(alloc, parts, olds, news)?;
     let pairs = changes_in(alloc, all.of_old.as_slice())?;
     Ok(Some(PcrDifference {
         pcr,
-        changed: changed_in(
-            alloc,
-            algorithms,
-            pairs.as_slice(),
-            all.left_of_old.as_slice(),
-        )?,
+        changed: changed_in(alloc, parts, pairs.as_slice(), all.left_of_old.as_slice())?,
         only_old: alone_copied(alloc, all.left_of_old.as_slice())?,
         only_new: alone_copied(alloc, all.left_of_new.as_slice())?,
         moved: first_moved(pairs.as_slice()),
@@ -152,19 +149,21 @@ fn difference_in<'a>(
 /// Returns the events of a PCR with their counterparts.
 fn counterparts_of<'e, 'a>(
     alloc: Global,
+    parts: &ComparedParts<'_>,
     olds: &[&'e NumberedEntry<'a>],
     news: &[&'e NumberedEntry<'a>],
 ) -> Result<Counterparts<'e, 'a>, AllocError>
-    ensures { IfOk result (λ all. AreCounterpartsOf (map numbered_at olds.now)
+    ensures { IfOk result (λ all. AreCounterpartsOf (parts_of parts.now) (map numbered_at olds.now)
         (map numbered_at news.now) (counterparts_of all)) }
 {
-    let of_old = counterparts(alloc, olds, news, KeyedBy::Data)?;
-    let of_new = counterparts(alloc, news, olds, KeyedBy::Data)?;
+    let (first, second) = (KeyedBy::first(parts), KeyedBy::second(parts));
+    let of_old = counterparts(alloc, olds, news, first)?;
+    let of_new = counterparts(alloc, news, olds, first)?;
     let olds = alone(alloc, of_old.as_slice())?;
     let news = alone(alloc, of_new.as_slice())?;
     let (olds, news) = (olds.as_slice(), news.as_slice());
-    let left_of_old = counterparts(alloc, olds, news, KeyedBy::Name)?;
-    let left_of_new = counterparts(alloc, news, olds, KeyedBy::Name)?;
+    let left_of_old = counterparts(alloc, olds, news, second)?;
+    let left_of_new = counterparts(alloc, news, olds, second)?;
     Ok(Counterparts {
         of_old,
         of_new,
@@ -202,11 +201,11 @@ fn copies<'a>(
 /// Returns the pairs whose events aren't the same: of these, and of events with their counterparts.
 fn changed_in<'e, 'a>(
     alloc: Global,
-    algorithms: &[AlgorithmId],
+    parts: &ComparedParts<'_>,
     pairs: &[EventPair<'e, 'a>],
     left: &[PairedEvent<'e, 'a>],
 ) -> Result<Vec<EventChange<'a>>, AllocError>
-    ensures { IfOk result (λ found. AreChanged (numbers_of algorithms.now)
+    ensures { IfOk result (λ found. AreChanged (parts_of parts.now)
         (map pair_of pairs.now ++ changes_in (map paired_of left.now))
         (map change_of found.items)) }
 {
@@ -214,5 +213,5 @@ fn changed_in<'e, 'a>(
     all.extend_from_slice(pairs)?;
     let left = changes_in(alloc, left)?;
     all.extend_from_slice(left.as_slice())?;
-    changed(alloc, algorithms, all.as_slice())
+    changed(alloc, parts, all.as_slice())
 }

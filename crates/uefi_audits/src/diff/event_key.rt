@@ -1,21 +1,55 @@
-ghost use Rattle.std.specs.Prelude.{◌≡◌, refl, Some};
+ghost use Rattle.std.specs.Prelude.{◌≡◌, option_map, refl, Some};
+ghost use Rattle.uefi_tcg.specs.LogViews.{event_of};
+ghost use Rattle.pcr_replay.specs.Replay.{digests_by};
 ghost use Rattle.std.specs.Ordering.{eq_by_cmp};
 ghost use Rattle.std.specs.Cmp.{eq_by_cmp_equiv, on_equiv, on_per, on_po, on_total, partial_equiv_from_equiv, po};
-ghost use Rattle.uefi_audits.specs.diff.Counterparts.{data_key, key_cmp, name_key};
+ghost use Rattle.uefi_audits.specs.diff.Counterparts.{data_key, digest_key, first_digest, first_or_none, key_cmp, name_key};
 ghost use Rattle.uefi_audits.specs.diff.Views.{numbered_of};
 ghost use Rattle.uefi_audits.specs.private.diff.Keys.{key_cmp_total, keyed, ranked_cmp, ranked_cmp_total, ranked_of};
 
+use crate::diff::compared::ComparedParts;
 use crate::diff::names::name_in;
 use crate::diff::pcr::NumberedEntry;
 use std::cmp::Ordering;
+use uefi_tcg::{AlgorithmId, LogEvent};
 
 /// By what an event is sought among those of another log, beside its PCR and its type.
-#[derive(Clone, Copy, PartialEq, Eq, Debug)]
+#[derive(Clone, Copy)]
 pub(crate) enum KeyedBy {
     /// By its data.
     Data,
     /// By the name that its data have.
     Name,
+    /// By its first digest of an algorithm.
+    Digest(Option<AlgorithmId>),
+}
+
+impl KeyedBy {
+    ghost use Rattle.uefi_audits.specs.diff.Differences.{first_key, second_key};
+    ghost use Rattle.uefi_audits.specs.diff.Views.{parts_of};
+    ghost use Rattle.uefi_audits.specs.private.diff.Keys.{key_by};
+
+    /// Returns by what events are sought first, if these parts are compared.
+    pub(crate) fn first(parts: &ComparedParts<'_>) -> KeyedBy
+        ensures { key_by result ≡ first_key (parts_of parts.now) }
+    {
+        if parts.with_data {
+            KeyedBy::Data
+        } else {
+            KeyedBy::Digest(parts.algorithms.first().copied())
+        }
+    }
+
+    /// Returns by what those are sought that are left then.
+    pub(crate) fn second(parts: &ComparedParts<'_>) -> KeyedBy
+        ensures { key_by result ≡ second_key (parts_of parts.now) }
+    {
+        if parts.with_data {
+            KeyedBy::Name
+        } else {
+            KeyedBy::first(parts)
+        }
+    }
 }
 
 /// What an event is sought by among those of another log.
@@ -37,6 +71,7 @@ impl<'a> EventKey<'a> {
         match by {
             KeyedBy::Data => EventKey::of_data(found),
             KeyedBy::Name => EventKey::of_name(found),
+            KeyedBy::Digest(algorithm) => EventKey::of_digest(found, algorithm),
         }
     }
 
@@ -66,6 +101,44 @@ impl<'a> EventKey<'a> {
             name: name.name,
         }
     }
+
+    /// Returns the key of an event by its first digest of an algorithm.
+    fn of_digest(found: &NumberedEntry<'a>, algorithm: Option<AlgorithmId>) -> EventKey<'a>
+        ensures { keyed result
+            ≡ digest_key (option_map (λ id. id.0) algorithm) (numbered_of found.now) }
+    {
+        let event = &found.entry.event;
+        EventKey {
+            pcr_index: event.pcr_index().0,
+            event_type: event.event_type().0,
+            namespace: &[],
+            name: digest_by(algorithm, event),
+        }
+    }
+}
+
+/// Returns an event's first digest of an algorithm; nothing if it has none, or if there is none.
+fn digest_by<'a>(algorithm: Option<AlgorithmId>, event: &LogEvent<'a>) -> &'a [u8]
+    ensures { result.now
+        ≡ first_digest (option_map (λ id. id.0) algorithm) (event_of event.now) }
+{
+    match algorithm {
+        Some(algorithm) => first_digest(algorithm, event),
+        None => &[],
+    }
+}
+
+/// Returns an event's first digest of an algorithm; nothing if it has none.
+fn first_digest<'a>(algorithm: AlgorithmId, event: &LogEvent<'a>) -> &'a [u8]
+    ensures { result.now ≡ first_or_none (digests_by algorithm.0 (event_of event.now).digests) }
+{
+    let mut digests = event.digests();
+    while let Some((id, digest)) = digests.next() {
+        if id == algorithm {
+            return digest;
+        }
+    }
+    &[]
 }
 
 impl<'a> PartialEq for EventKey<'a> {

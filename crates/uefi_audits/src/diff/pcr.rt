@@ -2,14 +2,14 @@ ghost use Rattle.std.specs.Prelude.{◌≡◌, ◌↔◌, map, IfOk, IsTrue, Mat
 ghost use Rattle.uefi_tcg.specs.LogViews.{entry_of, event_of};
 ghost use Rattle.uefi_audits.specs.diff.Differences.{DifferAt, all_compared, compared_event};
 ghost use Rattle.uefi_audits.specs.diff.Numbered.{AreNumberedIn, is_of, of_pcr};
-ghost use Rattle.uefi_audits.specs.diff.Views.{numbered_of, numbers_of};
+ghost use Rattle.uefi_audits.specs.diff.Views.{numbered_of, parts_of};
 ghost use Rattle.uefi_audits.specs.private.diff.Ranks.{numbered_at};
 
 use crate::content::{EventContent, read_content};
-use crate::diff::compared::is_same_event;
+use crate::diff::compared::{ComparedParts, is_same_event};
 use pcr_replay::ReadLog;
 use std::alloc::{AllocError, Global};
-use uefi_tcg::{AlgorithmId, LogEntry};
+use uefi_tcg::LogEntry;
 
 /// How many PCRs are compared: the 24 that a TPM has, and those above as one.
 pub(crate) const COMPARED: u32 = 25;
@@ -80,40 +80,44 @@ fn is_of(pcr: u32, entry: &LogEntry<'_>) -> bool
 
 /// Returns the first place at which the events differ, or one list has an event and the other none.
 pub(crate) fn first_difference(
-    algorithms: &[AlgorithmId],
+    alloc: Global,
+    parts: &ComparedParts<'_>,
     old: &[&NumberedEntry<'_>],
     new: &[&NumberedEntry<'_>],
-) -> Option<usize>
-    ensures { MatchOption result
-        (all_compared (numbers_of algorithms.now) (map numbered_at old.now)
-        ≡ all_compared (numbers_of algorithms.now) (map numbered_at new.now))
-        (DifferAt (numbers_of algorithms.now) (map numbered_at old.now)
-        (map numbered_at new.now)) }
+) -> Result<Option<usize>, AllocError>
+    ensures { IfOk result (λ found. MatchOption found
+        (all_compared (parts_of parts.now) (map numbered_at old.now)
+        ≡ all_compared (parts_of parts.now) (map numbered_at new.now))
+        (DifferAt (parts_of parts.now) (map numbered_at old.now)
+        (map numbered_at new.now))) }
 {
     for at in 0..old.len().max(new.len()) {
-        if !is_same_or_none(algorithms, old.get(at).copied(), new.get(at).copied()) {
-            return Some(at);
+        let (one, other) = (old.get(at).copied(), new.get(at).copied());
+        if !is_same_or_none(alloc, parts, one, other)? {
+            return Ok(Some(at));
         }
     }
-    None
+    Ok(None)
 }
 
 /// Returns whether there are two events that are the same, or none.
 fn is_same_or_none(
-    algorithms: &[AlgorithmId],
+    alloc: Global,
+    parts: &ComparedParts<'_>,
     one: Option<&NumberedEntry<'_>>,
     other: Option<&NumberedEntry<'_>>,
-) -> bool
-    ensures { IsTrue result ↔ (option_map (λ found. compared_event (numbers_of algorithms.now)
+) -> Result<bool, AllocError>
+    ensures { IfOk result (λ same. IsTrue same
+        ↔ (option_map (λ found. compared_event (parts_of parts.now)
         (event_of found.now.entry.event)) one.entry
-        ≡ option_map (λ found. compared_event (numbers_of algorithms.now)
-        (event_of found.now.entry.event)) other.entry) }
+        ≡ option_map (λ found. compared_event (parts_of parts.now)
+        (event_of found.now.entry.event)) other.entry)) }
 {
     match (one, other) {
         (Some(one), Some(other)) => {
-            is_same_event(algorithms, &one.entry.event, &other.entry.event)
+            is_same_event(alloc, parts, &one.entry.event, &other.entry.event)
         }
-        (None, None) => true,
-        _ => false,
+        (None, None) => Ok(true),
+        _ => Ok(false),
     }
 }

@@ -1,9 +1,10 @@
 ghost use Rattle.std.specs.Prelude.{◌≡◌, ◌++◌, IfOk, OnOk};
 ghost use Rattle.tpm_quote.specs.Views.{quote_of, selection_of};
-ghost use Rattle.uefi_audits.specs.verify.Covered.{covered_by, covered_pcrs};
+ghost use Rattle.uefi_audits.specs.verify.Covered.{covered_by, covered_pcrs, is_covered, is_selected_by};
 
 use crate::naming::bank_of;
 use crate::verify::named::NamedPcr;
+use pcr_replay::Bank;
 use std::alloc::{AllocError, Allocator};
 use tpm_quote::{PcrSelection, Quote};
 
@@ -41,4 +42,18 @@ fn push_selected<A: Allocator>(
         covered.push(NamedPcr { bank, pcr: pcr.0 })?;
     }
     Ok(())
+}
+
+/// Returns whether a quote covers a PCR of a bank.
+pub(crate) fn is_covered(quote: &Quote<'_>, bank: Bank, pcr: u32) -> bool
+    ensures { result ≡ is_covered (quote_of quote.now) bank pcr }
+{
+    quote.pcr_selections().any(|it| it.algorithm() == bank.algorithm() && is_selected_by(&it, pcr))
+}
+
+/// Returns whether a selection of a quote selects a PCR.
+fn is_selected_by(selection: &PcrSelection<'_>, pcr: u32) -> bool
+    ensures { result ≡ is_selected_by (selection_of selection.now) pcr }
+{
+    selection.pcrs().any(|it| it.0 == pcr)
 }

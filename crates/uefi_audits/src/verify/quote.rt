@@ -4,10 +4,11 @@ ghost use Rattle.pcr_replay.specs.Quotes.{quoted_banks};
 ghost use Rattle.pcr_replay.specs.Views.{value_of};
 ghost use Rattle.tpm_quote.specs.Views.{quote_of};
 ghost use Rattle.uefi_tcg.specs.LogViews.{entry_of};
-ghost use Rattle.uefi_audits.specs.verify.Quote.{QuoteAgrees, agreeing, has_its_nonce, is_digest, judged_at, quote_judgement_of, quote_verdict, received_of};
+ghost use Rattle.uefi_audits.specs.verify.Quote.{QuoteAgrees, agreeing, covers, has_its_nonce, is_digest, is_met, judged_at, quote_judgement_of, quote_verdict, received_of};
 
 use crate::replay::replay_banks;
 use crate::start::KnownStart;
+use crate::verify::covered::is_covered;
 use pcr_replay::entries::is_active;
 use pcr_replay::{Bank, NoQuoteDigest, PcrValue, is_quoted, quote_digest};
 use std::alloc::{AllocError, Allocator};
@@ -39,18 +40,25 @@ impl<'a> ReceivedQuote<'a> {
 }
 
 /// Whether a log leads to the digest in a quote.
+///
+/// That digest may be of any PCRs: also of none, of those that the machine can reset, or of a bank that
+/// firmware doesn't extend. And a quote may be old. So the caller has to ask
+/// [`covers`](QuoteVerdict::covers) for the PCRs that matter, in a bank that the caller chooses, and has
+/// to state the nonce in [`ReceivedQuote::nonce`].
 #[derive(Clone, Copy)]
-pub struct QuoteVerdict {
+pub struct QuoteVerdict<'a> {
+    /// The quote.
+    pub received: ReceivedQuote<'a>,
     /// How PCR 0 starts.
     pub start: KnownStart,
     /// The digest of the PCRs that the log leads to, or why it leads to none.
     pub digest: Result<PcrValue, NoQuoteDigest>,
     /// Whether it is the digest in the quote.
-    pub agrees: bool,
+    pub digest_agrees: bool,
 }
 
-impl QuoteVerdict {
-    /// Returns the verdict on a quote whose key hashes by this bank's function, after these events.
+impl<'a> QuoteVerdict<'a> {
+    /// Returns the verdict on a quote, after these events.
     ///
     /// PCR 0 starts at `locality`, or without one as the events say. If they say nothing, it starts at
     /// 0, 3 or 4: the first one at which the digests agree, or at 0 if they agree at none.
@@ -61,51 +69,71 @@ impl QuoteVerdict {
     pub fn new<A: Allocator + Copy>(
         alloc: A,
         entries: &[LogEntry<'_>],
-        quote: &Quote<'_>,
-        hash: Bank,
+        received: &ReceivedQuote<'a>,
         locality: Option<u8>,
-    ) -> Result<QuoteVerdict, AllocError>
+    ) -> Result<QuoteVerdict<'a>, AllocError>
         ensures verdict { IfOk result (λ verdict. quote_judgement_of verdict
-            ≡ quote_verdict locality hash (map entry_of entries.now) (quote_of quote.now)) }
-        ensures agreement { IfOk result (λ verdict. IsTrue verdict.agrees
-            ↔ QuoteAgrees locality hash (map entry_of entries.now) (quote_of quote.now)) }
+            ≡ quote_verdict locality (map entry_of entries.now) (received_of received.now)) }
+        ensures agreement { IfOk result (λ verdict. IsTrue verdict.digest_agrees
+            ↔ QuoteAgrees locality (map entry_of entries.now) (received_of received.now)) }
     {
         let start = KnownStart::of(entries, locality);
         if start.is_stated {
-            return QuoteVerdict::at(alloc, entries, quote, hash, start);
+            return QuoteVerdict::at(alloc, entries, received, start);
         }
-        let at_0 = QuoteVerdict::at(alloc, entries, quote, hash, KnownStart::assumed(0))?;
-        let at_3 = QuoteVerdict::at(alloc, entries, quote, hash, KnownStart::assumed(3))?;
-        let at_4 = QuoteVerdict::at(alloc, entries, quote, hash, KnownStart::assumed(4))?;
+        let at_0 = QuoteVerdict::at(alloc, entries, received, KnownStart::assumed(0))?;
+        let at_3 = QuoteVerdict::at(alloc, entries, received, KnownStart::assumed(3))?;
+        let at_4 = QuoteVerdict::at(alloc, entries, received, KnownStart::assumed(4))?;
         Ok(at_0.or(at_3).or(at_4))
+    }
+
+    /// Returns whether the digests agree, and the quote has the nonce that it was asked for with. Any
+    /// nonce will do, if the received quote states none. Of which PCRs the digest is,
+    /// [`covers`](QuoteVerdict::covers) says.
+    pub fn agrees(&self) -> bool
+        ensures { result ≡ is_met (quote_judgement_of self.now) }
+    {
+        self.digest_agrees && self.received.has_its_nonce()
+    }
+
+    /// Returns whether the quote covers each of these PCRs of a bank: a selection of it is of the bank's
+    /// algorithm, and selects the PCR. It covers all of none.
+    pub fn covers(&self, bank: Bank, pcrs: &[u32]) -> bool
+        ensures { result ≡ covers (quote_judgement_of self.now) bank pcrs.now }
+    {
+        let quote = &self.received.quote;
+        pcrs.iter().all(|pcr| is_covered(quote, bank, *pcr))
     }
 
     /// Returns the verdict in a TPM that was started so.
     fn at<A: Allocator + Copy>(
         alloc: A,
         entries: &[LogEntry<'_>],
-        quote: &Quote<'_>,
-        hash: Bank,
+        received: &ReceivedQuote<'a>,
         start: KnownStart,
-    ) -> Result<QuoteVerdict, AllocError>
+    ) -> Result<QuoteVerdict<'a>, AllocError>
         ensures { IfOk result (λ verdict. quote_judgement_of verdict
-            ≡ judged_at hash (map entry_of entries.now) (quote_of quote.now) start) }
+            ≡ judged_at (map entry_of entries.now) (received_of received.now) start) }
     {
+        let quote = &received.quote;
         let banks = quoted_banks(alloc, entries, quote)?;
         let replays = replay_banks(alloc, entries, banks.as_slice(), &start.start)?;
-        let digest = quote_digest(hash, quote, replays.as_slice());
+        let digest = quote_digest(received.hash, quote, replays.as_slice());
+        let digest_agrees = is_digest(quote.pcr_digest(), &digest);
         Ok(QuoteVerdict {
+            received: *received,
             start,
             digest,
-            agrees: is_digest(quote.pcr_digest(), &digest),
+            digest_agrees,
         })
     }
 
-    /// Returns the one of two verdicts that agrees, and the first if neither or both do.
-    fn or(self, other: QuoteVerdict) -> QuoteVerdict
-        ensures { quote_judgement_of result ≡ agreeing (quote_judgement_of self) (quote_judgement_of other) }
+    /// Returns the one of two verdicts whose digest agrees, and the first if neither or both do.
+    fn or(self, other: QuoteVerdict<'a>) -> QuoteVerdict<'a>
+        ensures { quote_judgement_of result
+            ≡ agreeing (quote_judgement_of self.entry) (quote_judgement_of other.entry) }
     {
-        if !self.agrees && other.agrees {
+        if !self.digest_agrees && other.digest_agrees {
             return other;
         }
         self

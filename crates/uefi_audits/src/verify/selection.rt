@@ -2,9 +2,10 @@ ghost use Rattle.std.specs.Prelude.{◌≡◌, ◌≢◌, ◌≤◌, ◌<◌, �
 ghost use Rattle.pcr_replay.specs.Replay.{pcr_count};
 ghost use Rattle.uefi_audits.specs.Naming.{bank_name};
 ghost use Rattle.pcr_replay.specs.declared.bank.Bank.{Bank};
-ghost use Rattle.uefi_audits.specs.verify.Selection.{is_of_bank, is_selected, number_of, selects};
-ghost use Rattle.uefi_audits.specs.verify.Selection.{AreItems, IsItem, IsPcrNumber, IsSelection, Selects};
+ghost use Rattle.uefi_audits.specs.verify.Selection.{is_of_bank, is_selected, number_of, one_selects, selects};
+ghost use Rattle.uefi_audits.specs.verify.Selection.{AreItems, AreSelections, IsItem, IsPcrNumber, IsSelection, Selects};
 ghost use Rattle.uefi_audits.specs.private.verify.Selected.{AreNamed};
+ghost use Rattle.uefi_audits.specs.declared.verify.selection.PcrSelection.{PcrSelection};
 ghost use Rattle.uefi_audits.specs.declared.verify.selection.Range.{Range};
 
 use crate::naming::bank_named;
@@ -16,9 +17,9 @@ use std::alloc::{AllocError, Allocator};
 
 /// Which PCRs are asked for, in one bank or in all.
 ///
-/// It is read from a text such as `0-7,14` or `sha256:0,7`: items separated by commas, after the
-/// name of a bank and a colon or without. An item is the number of a PCR in one decimal digit or
-/// two, 0 to 23, or the first and the last of a range with a `-` between them.
+/// Its text is such as `0-7,14` or `sha256:0,7`: items separated by commas, after the name of a bank
+/// and a colon or without. An item is the number of a PCR in one decimal digit or two, 0 to 23, or the
+/// first and the last of a range with a `-` between them.
 #[derive(Clone, Copy)]
 pub struct PcrSelection {
     bank: Option<Bank>,
@@ -33,24 +34,6 @@ struct Range {
 }
 
 impl PcrSelection {
-    /// Returns the selection that a text names; `None` if it names none: an item is empty or no
-    /// number, is above 23, or is a range that goes down, or no bank that can be replayed has the
-    /// name.
-    pub fn parse(text: &str) -> Option<PcrSelection>
-        ensures selection { IfSome result (Selects text.now) }
-        ensures none { IfNone result
-            ((bank : Option Bank) (ranges : List Range) → IsSelection text.now bank ranges → ⊥) }
-    {
-        let text = text.as_bytes();
-        let Some((name, items)) = split_once(text, b':') else {
-            return selected(None, text);
-        };
-        let Some(bank) = bank_of_name(name) else {
-            return None;
-        };
-        selected(Some(bank), items)
-    }
-
     /// Returns whether a PCR of a bank is selected.
     pub fn is_selected(&self, bank: Bank, pcr: u32) -> bool
         ensures { result ≡ selects self.now bank pcr }
@@ -59,7 +42,7 @@ impl PcrSelection {
     }
 
     /// Returns the one bank of which PCRs are selected, or `None` if they are in all.
-    pub(crate) fn bank(&self) -> Option<Bank>
+    pub fn bank(&self) -> Option<Bank>
         ensures { result ≡ self.now.bank }
     {
         self.bank
@@ -76,7 +59,53 @@ impl PcrSelection {
     }
 }
 
-/// Returns those of these PCRs that are selected. Without a selection each is.
+/// Returns the selections that a text names, in its order: those between its plus signs, such as
+/// `sha1:0-7+sha256:0-7,9`. `None` if one of them is none: an item is empty or no number, is above 23,
+/// or is a range that goes down, or no bank that can be replayed has the name.
+///
+/// # Errors
+///
+/// [`AllocError`] if an allocation fails.
+pub fn selections_in<A: Allocator>(
+    alloc: A,
+    text: &[u8],
+) -> Result<Option<Vec<PcrSelection, A>>, AllocError>
+    ensures { IfOk result (λ read. MatchOption read
+        ((selections : List PcrSelection) → AreSelections text.now selections → ⊥)
+        (λ selections. AreSelections text.now selections.items)) }
+{
+    let mut selections = Vec::new(alloc);
+    let mut rest = text;
+    while let Some((part, after)) = split_once(rest, b'+') {
+        let Some(selection) = selection_in(part) else {
+            return Ok(None);
+        };
+        selections.push(selection)?;
+        rest = after;
+    }
+    let Some(selection) = selection_in(rest) else {
+        return Ok(None);
+    };
+    selections.push(selection)?;
+    Ok(Some(selections))
+}
+
+/// Returns the selection that a text names; `None` if it names none.
+fn selection_in(text: &[u8]) -> Option<PcrSelection>
+    ensures selection { IfSome result (Selects text.now) }
+    ensures none { IfNone result
+        ((bank : Option Bank) (ranges : List Range) → IsSelection text.now bank ranges → ⊥) }
+{
+    let Some((name, items)) = split_once(text, b':') else {
+        return selected(None, text);
+    };
+    let Some(bank) = bank_of_name(name) else {
+        return None;
+    };
+    selected(Some(bank), items)
+}
+
+/// Returns those of these PCRs that one of the selections selects. Without selections each is.
 ///
 /// # Errors
 ///
@@ -84,25 +113,31 @@ impl PcrSelection {
 pub fn selected_pcrs<A: Allocator>(
     alloc: A,
     held: &[HeldPcr],
-    selection: &Option<PcrSelection>,
+    selections: &[PcrSelection],
 ) -> Result<Vec<HeldPcr, A>, AllocError>
     ensures { IfOk result
-        (λ selected. selected.items ≡ filter (is_selected selection.now) held.now) }
+        (λ selected. selected.items ≡ filter (is_selected selections.now) held.now) }
 {
     held.iter()
         .copied()
-        .filter(|pcr| is_selected(selection, pcr))
+        .filter(|pcr| is_selected(selections, pcr))
         .collect(alloc)
 }
 
 /// Returns whether a PCR that a TPM held is selected.
-fn is_selected(selection: &Option<PcrSelection>, held: &HeldPcr) -> bool
-    ensures { result ≡ is_selected selection.now held.now }
+fn is_selected(selections: &[PcrSelection], held: &HeldPcr) -> bool
+    ensures { result ≡ is_selected selections.now held.now }
 {
-    match selection {
-        Some(selection) => selection.is_selected(held.bank, held.pcr),
-        None => true,
-    }
+    selections.is_empty() || one_selects(selections, held)
+}
+
+/// Returns whether one of the selections selects a PCR that a TPM held.
+fn one_selects(selections: &[PcrSelection], held: &HeldPcr) -> bool
+    ensures { result ≡ one_selects selections.now held.now }
+{
+    selections
+        .iter()
+        .any(|it| it.is_selected(held.bank, held.pcr))
 }
 
 /// Returns the bank of this name; `None` if none that can be replayed has it.

@@ -41,7 +41,7 @@ fn is_extended(entries: &[LogEntry<'_>], pcr: u32) -> bool
 }
 
 /// Returns whether an event extends a PCR.
-fn extends(event: &LogEvent<'_>, pcr: u32) -> bool
+pub(crate) fn extends(event: &LogEvent<'_>, pcr: u32) -> bool
     ensures { result ≡ extends pcr (event_of event.now) }
 {
     event.event_type() != EventType::NO_ACTION && event.pcr_index().0 == pcr

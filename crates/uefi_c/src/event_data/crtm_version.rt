@@ -1,6 +1,6 @@
 ghost use Rattle.std.specs.Prelude.{◌≡◌, ◌≤◌, ◌%◌, length, IsTrue, IsFalse, ◌≢◌, [], ◌∷◌};
-ghost use Rattle.uefi_tcg.specs.content.CrtmVersion.{ReadsCrtmVersion};
-ghost use Rattle.uefi_c.specs.EventData.{given, version_seen};
+ghost use Rattle.uefi_tcg.specs.content.CrtmVersion.{version_in};
+ghost use Rattle.uefi_c.specs.EventData.{version_given_by};
 ghost use Rattle.uefi_c.specs.Status.{IsOneOf, ok, other_data};
 
 use super::text::{UefiEventText, seen};
@@ -36,7 +36,8 @@ pub extern "C" fn uefi_event_crtm_version<'a>(
     event_data: &'a [u8],
     out: &mut UefiCrtmVersion<'a>,
 ) -> UefiStatus
-    ensures version { ReadsCrtmVersion event_data.now (given result (version_seen out.new)) }
+    ensures version { version_in event_data.now
+        ≡ version_given_by result out.new event_data.now }
     ensures known { result ≡ ok → out.new.form ≤ 2 }
     ensures string { result ≡ ok → out.new.form ≡ 0
         → IsTrue out.new.text.is_utf16 × IsTrue out.new.text.has_nul }
@@ -48,8 +49,7 @@ pub extern "C" fn uefi_event_crtm_version<'a>(
     ensures unchanged { result ≢ ok → out.new ≡ out.old }
 {
     match CrtmVersion::read(event_data) {
-        None => status::OTHER_DATA,
-        Some(CrtmVersion::Ucs2(units)) => {
+        CrtmVersion::Ucs2(units) => {
             let text = UefiEventText {
                 text: units_at(event_data, 0, units.len()),
                 is_utf16: true,
@@ -58,7 +58,7 @@ pub extern "C" fn uefi_event_crtm_version<'a>(
             *out = UefiCrtmVersion { text, form: UCS2 };
             status::OK
         }
-        Some(CrtmVersion::Guid(_)) => {
+        CrtmVersion::Guid(_) => {
             let text = UefiEventText {
                 text: event_data,
                 is_utf16: false,
@@ -67,11 +67,11 @@ pub extern "C" fn uefi_event_crtm_version<'a>(
             *out = UefiCrtmVersion { text, form: GUID };
             status::OK
         }
-        Some(CrtmVersion::Other(text)) => {
-            *out = UefiCrtmVersion {
-                text: seen(event_data, &text),
-                form: OTHER,
+        CrtmVersion::Other(text) => {
+            let Some(text) = seen(event_data, &text) else {
+                return status::OTHER_DATA;
             };
+            *out = UefiCrtmVersion { text, form: OTHER };
             status::OK
         }
     }

@@ -1,7 +1,7 @@
-ghost use Rattle.std.specs.Prelude.{◌≡◌, ◌%◌, length, IsTrue, ◌≢◌, [], ◌∷◌};
-ghost use Rattle.uefi_tcg.specs.content.Text.{IsEventText, ReadsText, text_bytes};
+ghost use Rattle.std.specs.Prelude.{◌≡◌, ◌==◌, ◌%◌, length, IfSome, IsTrue, MatchOption, ◌≢◌, [], ◌∷◌, if◌then◌else◌};
+ghost use Rattle.uefi_tcg.specs.content.Text.{other, text_in};
 ghost use Rattle.uefi_tcg.specs.content.Views.{text_of};
-ghost use Rattle.uefi_c.specs.EventData.{given, text_seen};
+ghost use Rattle.uefi_c.specs.EventData.{text_given_by, text_seen};
 ghost use Rattle.uefi_c.specs.Status.{IsOneOf, ok, other_data};
 
 use crate::cursor::units_at;
@@ -12,8 +12,8 @@ use uefi_tcg::content::EventText;
 #[derive(Clone, Copy)]
 #[repr(C)]
 pub struct UefiEventText<'a> {
-    /// The bytes of the text, without the NUL: a character of ASCII each, or units of UTF-16, of
-    /// two bytes each, little-endian.
+    /// The bytes of the text, without the NUL: UTF-8, or units of UTF-16, of two bytes each,
+    /// little-endian.
     pub text: &'a [u8],
     /// Whether these are units of UTF-16.
     pub is_utf16: bool,
@@ -27,36 +27,38 @@ pub extern "C" fn uefi_event_text<'a>(
     event_data: &'a [u8],
     out: &mut UefiEventText<'a>,
 ) -> UefiStatus
-    ensures text { ReadsText event_data.now (given result (text_seen out.new)) }
+    ensures text { text_in event_data.now ≡ text_given_by result out.new event_data.now }
     ensures whole_units { result ≡ ok
         → IsTrue out.new.is_utf16 → length out.new.text.now % 2 ≡ 0 }
     ensures known { IsOneOf result (ok ∷ other_data ∷ []) }
     ensures unchanged { result ≢ ok → out.new ≡ out.old }
 {
-    let Some(text) = EventText::read(event_data) else {
+    let Some(text) = seen(event_data, &EventText::read(event_data)) else {
         return status::OTHER_DATA;
     };
-    *out = seen(event_data, &text);
+    *out = text;
     status::OK
 }
 
-/// Returns the text that the bytes are, with its bytes.
-pub(crate) fn seen<'a>(bytes: &'a [u8], text: &EventText<'a>) -> UefiEventText<'a>
-    requires is_text { IsEventText (text_of text.now) }
-    requires encoded { bytes.now ≡ text_bytes (text_of text.now) }
-    ensures text { text_seen result ≡ text_of text.now }
-    ensures whole_units { IsTrue result.is_utf16 → length result.text.now % 2 ≡ 0 }
+/// Returns the text that the bytes are, with its bytes; `None` if they are no text.
+pub(crate) fn seen<'a>(bytes: &'a [u8], text: &EventText<'a>) -> Option<UefiEventText<'a>>
+    requires { text_of text.now ≡ text_in bytes.now }
+    ensures text { MatchOption result (text_in bytes.now ≡ other bytes.now)
+        (λ seen. text_in bytes.now ≡ text_seen seen) }
+    ensures whole_units { IfSome result
+        (λ seen. IsTrue seen.is_utf16 → length seen.text.now % 2 ≡ 0) }
 {
     match text {
-        EventText::Ascii { text, has_nul } => UefiEventText {
-            text,
+        EventText::Utf8 { text, has_nul } => Some(UefiEventText {
+            text: text.as_bytes(),
             is_utf16: false,
             has_nul: *has_nul,
-        },
-        EventText::Utf16 { units, has_nul } => UefiEventText {
+        }),
+        EventText::Utf16 { units, has_nul } => Some(UefiEventText {
             text: units_at(bytes, 0, units.len()),
             is_utf16: true,
             has_nul: *has_nul,
-        },
+        }),
+        EventText::Other(_) => None,
     }
 }

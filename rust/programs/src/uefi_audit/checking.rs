@@ -7,10 +7,14 @@ use crate::uefi_audit::request::{Format, Reading};
 use crate::audit_text::json::push_check_json;
 use crate::audit_text::text::push_check;
 use crate::support::alloc::AllocError;
+use uefi_formats::pcr::{Quote, QuoteError};
 use crate::uefi_audits::check::{CheckResult, check_entries};
+use crate::uefi_audits::out_of_place::Remarks;
+use crate::uefi_audits::verify::{NamedPcr, covered_pcrs};
 
 /// Returns what is printed of the events of a log: those whose digests aren't the hash of what their
-/// type measures, and how many of each type match.
+/// type measures, those that are out of place, and how many of each type match. These PCRs are
+/// covered, or all.
 ///
 /// # Errors
 ///
@@ -18,6 +22,7 @@ use crate::uefi_audits::check::{CheckResult, check_entries};
 pub(crate) fn check_report(
     file: &LogFile<'_>,
     reading: Reading,
+    covered: Option<&[NamedPcr]>,
     format: Format,
 ) -> Result<Report, AllocError> {
     let (judgement, messages) = judge(file, reading.allow_left_over)?;
@@ -30,7 +35,7 @@ pub(crate) fn check_report(
             status,
         });
     }
-    let found = check_entries(file.read.entries())?;
+    let found = check_entries(file.read.entries(), covered)?;
     let text = found_text(format, file.name, &found)?;
     let status = status.and(found_status(&found));
     Ok(Report {
@@ -38,6 +43,23 @@ pub(crate) fn check_report(
         messages,
         status,
     })
+}
+
+/// Returns the PCRs that the quote in these bytes covers, or why the bytes are none.
+///
+/// # Errors
+///
+/// [`AllocError`] if an allocation fails.
+pub(crate) fn quoted_pcrs(
+    bytes: &[u8],
+) -> Result<Result<Vec<NamedPcr>, QuoteError>, AllocError> {
+    match Quote::try_from(bytes) {
+        Ok(quote) => {
+            let covered = covered_pcrs(&quote)?;
+            Ok(Ok(covered))
+        }
+        Err(error) => Ok(Err(error)),
+    }
 }
 
 /// Returns what was found of the events of a log, in a format.
@@ -54,10 +76,19 @@ fn found_text(
     Ok(text)
 }
 
-/// Returns the status of what was found of a log: whether no event is a mismatch.
+/// Returns the status of what was found of a log: whether no event is a mismatch, and no remark counts
+/// against the log.
 fn found_status(found: &CheckResult<'_>) -> Status {
     match found.mismatches.as_slice() {
-        [] => Status::Well,
+        [] => remarks_status(&found.remarks),
         _ => Status::Differs,
     }
+}
+
+/// Returns the status of the remarks on a log: whether they count against it.
+fn remarks_status(remarks: &Remarks<'_>) -> Status {
+    if remarks.are_faults() {
+        return Status::Differs;
+    }
+    Status::Well
 }

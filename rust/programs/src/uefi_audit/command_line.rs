@@ -24,7 +24,7 @@ const COMMANDS: [[&str; 2]; 5] = [
     ],
     [
         "check",
-        "Prints which events have digests that aren't the hash of what their type measures",
+        "Prints which events don't match their digests, or are out of place",
     ],
 ];
 
@@ -104,7 +104,8 @@ fn args_of_verify<'a>() -> Result<Vec<Arg<'a>>, AllocError> {
         nonce()?,
         any_nonce()?,
         quote_hash()?,
-        pcrs(),
+        pcrs()?,
+        any_pcrs()?,
         locality(),
         json(),
         last_entry(),
@@ -130,6 +131,10 @@ fn args_of_diff<'a>() -> Result<Vec<Arg<'a>>, AllocError> {
             "Compares the digests of this bank alone, not those of all that both logs have"
         )
         .value_parser(BANK_NAMES.as_slice()),
+        flag(
+            "digests-only",
+            "Pairs and compares events by their digests alone, not by data that no digest covers"
+        ),
         json(),
         last_entry(),
         allow_left_over(),
@@ -139,11 +144,32 @@ fn args_of_diff<'a>() -> Result<Vec<Arg<'a>>, AllocError> {
 
 fn args_of_check<'a>() -> Result<Vec<Arg<'a>>, AllocError> {
     let args = fallible_vec![logs(),
+        covered_pcrs()?,
+        covering_quote(),
         json(),
         last_entry(),
         allow_left_over(),
         max_rows(),]?;
     Ok(args)
+}
+
+/// Returns the argument for the PCRs that are covered.
+fn covered_pcrs<'a>() -> Result<Arg<'a>, AllocError> {
+    option(
+        "pcrs",
+        "PCRS",
+        "Checks the events of these PCRs alone, such as sha256:0-7,14",
+    )
+    .conflicts_with("quote")
+}
+
+/// Returns the argument for the quote that covers PCRs.
+fn covering_quote<'a>() -> Arg<'a> {
+    option(
+        "quote",
+        "FILE",
+        "Checks the events of the PCRs alone that this quote covers",
+    )
 }
 
 /// Returns the argument for the bank to replay.
@@ -202,12 +228,22 @@ fn quote_hash<'a>() -> Result<Arg<'a>, AllocError> {
 }
 
 /// Returns the argument for the PCRs to compare.
-fn pcrs<'a>() -> Arg<'a> {
+fn pcrs<'a>() -> Result<Arg<'a>, AllocError> {
     option(
         "pcrs",
         "PCRS",
-        "Compares these PCRs alone, such as 0-7,14 or sha256:0,7; a quote has to cover them",
+        "Compares these PCRs alone, such as sha1:0-7+sha256:0-7,14; a quote has to cover them",
     )
+    .conflicts_with("any-pcrs")
+}
+
+/// Returns the flag for quotes of any PCRs.
+fn any_pcrs<'a>() -> Result<Arg<'a>, AllocError> {
+    flag(
+        "any-pcrs",
+        "Accepts a quote of any PCRs, so also of those that the machine can reset",
+    )
+    .requires_arg("quote")
 }
 
 /// Returns the flag for JSON.

@@ -5,24 +5,14 @@ use crate::support::fallible::*;
 use crate::uefi_audit::failure::Status;
 use crate::uefi_audit::log_file::{LogFile, Opened, judge, judged_status};
 use crate::uefi_audit::report::Report;
-use crate::uefi_audit::request::{Format, Reading};
+use crate::uefi_audit::request::{Compared, Format, Reading};
 use crate::audit_text::ComparedLogs;
 use crate::audit_text::json::push_differences_json;
 use crate::audit_text::text::push_differences;
 use crate::audit_text::words::ShownName;
-use uefi_formats::pcr::Bank;
 use crate::support::alloc::AllocError;
-use crate::uefi_audits::diff::{PcrDifference, compared_algorithms, differences};
+use crate::uefi_audits::diff::{ComparedParts, PcrDifference, compared_algorithms, differences};
 use uefi_formats::proto::tcg::AlgorithmId;
-
-/// What of two logs is compared, and how the result is printed.
-#[derive(Clone, Copy, Debug)]
-pub(crate) struct Compared {
-    /// The bank whose digests are compared; without one, those of all banks that both logs have.
-    pub(crate) bank: Option<Bank>,
-    /// How the result is printed.
-    pub(crate) format: Format,
-}
 
 /// Returns what `diff` prints of two logs. If one of them wasn't read, it is what is said of each.
 ///
@@ -82,7 +72,8 @@ fn comparison_report(
     }
     let algorithms = compared_algorithms(&old.read, &new.read, asked.bank)?;
     let algorithms = algorithms.as_slice();
-    let found = differences(algorithms, &old.read, &new.read)?;
+    let parts = parts_of(algorithms, asked.digests_only);
+    let found = differences(&parts, &old.read, &new.read)?;
     let logs = ComparedLogs {
         old_name: old.name,
         new_name: new.name,
@@ -95,6 +86,15 @@ fn comparison_report(
         messages,
         status,
     })
+}
+
+/// Returns which parts of events are compared: the digests of these algorithms, and the data, unless
+/// digests alone are asked for, and there are some that are compared.
+fn parts_of(algorithms: &[AlgorithmId], digests_only: bool) -> ComparedParts<'_> {
+    ComparedParts {
+        algorithms,
+        with_data: !digests_only || algorithms.is_empty(),
+    }
 }
 
 /// Returns the status: whether there are differences, or no digests that are compared.

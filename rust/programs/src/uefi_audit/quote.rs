@@ -2,6 +2,7 @@
 
 use crate::uefi_audit::failure::Status;
 use crate::uefi_audit::request::AskedQuote;
+use crate::audit_text::json::NotJudged;
 use uefi_formats::pcr::Bank;
 use core::fmt;
 use uefi_formats::pcr::{Quote, QuoteError};
@@ -24,6 +25,15 @@ impl NotReceived {
         match self {
             NotReceived::Malformed(_) => Status::Unread,
             NotReceived::NoNonce | NotReceived::NoHash(_) => Status::Unjudged,
+        }
+    }
+
+    /// Returns the reason that is printed in JSON.
+    pub(crate) fn reason(self) -> NotJudged {
+        match self {
+            NotReceived::Malformed(_) => NotJudged::MalformedQuote,
+            NotReceived::NoNonce => NotJudged::NoNonce,
+            NotReceived::NoHash(_) => NotJudged::UnknownHash,
         }
     }
 }

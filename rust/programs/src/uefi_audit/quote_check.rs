@@ -5,18 +5,17 @@ use crate::uefi_audit::log_file::{LogFile, Opened, judge};
 use crate::uefi_audit::replay::has_no_pcr;
 use crate::uefi_audit::report::Report;
 use crate::uefi_audit::request::{Format, Reading};
-use crate::uefi_audit::verification::{StatedPcrs, missing_in, push_uncompared_pcrs, status_of, verdict_text};
-use crate::audit_text::json::push_quote_json;
+use crate::uefi_audit::verification::{StatedPcrs, compare, lacking_report, status_of, verdict_text};
+use crate::audit_text::json::{NotJudged, push_quote_json};
 use crate::audit_text::text::{
     push_ignored, push_missing, push_no_digest, push_no_pcr, push_other_nonce, push_quote,
-    push_quote_verdict, push_start,
+    push_quote_verdict, push_start, push_uncompared,
 };
+use uefi_formats::pcr::NoQuoteDigest;
 use crate::support::alloc::AllocError;
 use crate::uefi_audits::ignored::{IgnoredEvent, ignored_events};
 use crate::uefi_audits::judgement::Judgement;
-use crate::uefi_audits::verify::{
-    QuoteVerdict, ReceivedQuote, Verdict, covered_pcrs, missing_pcrs, selected_pcrs,
-};
+use crate::uefi_audits::verify::{ComparedPcrs, ComparedQuote, ReceivedQuote};
 
 /// What `verify --quote` compares a log with, and how.
 #[derive(Clone, Copy, Debug)]
@@ -27,10 +26,6 @@ pub(crate) struct QuoteCheck<'a> {
     pub received: ReceivedQuote<'a>,
     /// The PCRs that are compared as well, if there are any, and those that the quote has to cover.
     pub registers: StatedPcrs<'a>,
-    /// The locality at which the TPM was started.
-    pub locality: Option<u8>,
-    /// How the result is printed.
-    pub format: Format,
 }
 
 /// Returns what `verify --quote` prints of a log.
@@ -43,64 +38,144 @@ pub(crate) fn quote_report(
     reading: Reading,
     check: &QuoteCheck<'_>,
 ) -> Result<Report, AllocError> {
+    let registers = &check.registers;
     match log {
-        Opened::Refused(report) => Ok(report),
+        Opened::Refused(report) => report.refused_as(registers.log, registers.format),
         Opened::Read(file) => checked_report(&file, reading, check),
     }
 }
 
-/// Returns what is printed of whether a log leads to the digest of a quote. If all is well, it does.
+/// Returns what is printed of whether a log leads to the digest of a quote. If all is well, it does, the
+/// quote has its nonce, and it covers all that is asked for.
 fn checked_report(
     file: &LogFile<'_>,
     reading: Reading,
     check: &QuoteCheck<'_>,
 ) -> Result<Report, AllocError> {
     let (judgement, messages) = judge(file, reading.allow_left_over)?;
-    match judgement {
-        Judgement::Accepted => digest_report(messages, file, check),
-        _ => Ok(Report::unjudged(messages)),
-    }
+    judged_report(judgement, messages, file, check)
 }
 
-/// Returns what is printed after these messages, unless the log leads to no digest.
-fn digest_report(
+/// Returns what is printed after these messages of a log with this judgement.
+fn judged_report(
+    judgement: Judgement,
     messages: String,
     file: &LogFile<'_>,
     check: &QuoteCheck<'_>,
 ) -> Result<Report, AllocError> {
-    let mut messages = messages;
-    let (quote, hash) = (&check.received.quote, check.received.hash);
-    let verdict = QuoteVerdict::new(file.read.entries(), quote, hash, check.locality)?;
-    match verdict.digest {
-        Ok(_) => covered_report(messages, file, check, &verdict),
-        Err(why) => {
-            push_no_digest(&mut messages, file.name, why)?;
-            Ok(Report::unjudged(messages))
+    let (name, format) = (file.name, check.registers.format);
+    match judgement {
+        Judgement::Accepted => accepted_report(messages, file, check),
+        Judgement::NothingMeasured => {
+            Report::unjudged_as(messages, name, format, NotJudged::NothingMeasured)
+        }
+        Judgement::LeftOver => {
+            Report::unjudged_as(messages, name, format, NotJudged::TrailingBytes)
         }
     }
 }
 
-/// Returns what is printed after these messages, unless the quote covers no PCR, or not all that are
-/// asked for.
+/// Returns what is printed after these messages of a log that can be judged.
+fn accepted_report(
+    messages: String,
+    file: &LogFile<'_>,
+    check: &QuoteCheck<'_>,
+) -> Result<Report, AllocError> {
+    let compared = compare_quote(file, check)?;
+    digest_report(messages, file, check, &compared)
+}
+
+/// Returns the verdict on the quote.
+fn compare_quote<'a>(
+    file: &LogFile<'_>,
+    check: &QuoteCheck<'a>,
+) -> Result<ComparedQuote<'a>, AllocError> {
+    let (entries, registers) = (file.read.entries(), &check.registers);
+    let locality = registers.locality;
+    ComparedQuote::new(
+        entries,
+        &check.received,
+        registers.selections,
+        locality,
+    )
+}
+
+/// Returns what is printed of a verdict after these messages, unless the log leads to no digest.
+fn digest_report(
+    messages: String,
+    file: &LogFile<'_>,
+    check: &QuoteCheck<'_>,
+    compared: &ComparedQuote<'_>,
+) -> Result<Report, AllocError> {
+    let mut messages = messages;
+    match compared.verdict.digest {
+        Ok(_) => covered_report(messages, file, check, compared),
+        Err(why) => {
+            push_no_digest(&mut messages, file.name, why)?;
+            let format = check.registers.format;
+            Report::unjudged_as(messages, file.name, format, reason_of(why))
+        }
+    }
+}
+
+/// Returns why a log that leads to no digest isn't judged.
+fn reason_of(why: NoQuoteDigest) -> NotJudged {
+    match why {
+        NoQuoteDigest::NoBank(_) => NotJudged::NoBank,
+        NoQuoteDigest::Undetermined(..) => NotJudged::Undetermined,
+        _ => unreachable!(),
+    }
+}
+
+/// Returns what is printed of a verdict after these messages, unless the quote covers no PCR.
 fn covered_report(
     messages: String,
     file: &LogFile<'_>,
     check: &QuoteCheck<'_>,
-    verdict: &QuoteVerdict,
+    compared: &ComparedQuote<'_>,
+) -> Result<Report, AllocError> {
+    if !compared.coverage.covered.is_empty() {
+        return asked_report(messages, file, check, compared);
+    }
+    let mut messages = messages;
+    push_no_pcr(&mut messages, check.file)?;
+    let format = check.registers.format;
+    Report::unjudged_as(messages, file.name, format, NotJudged::NoPcr)
+}
+
+/// Returns what is printed of a verdict after these messages, unless the quote doesn't cover PCRs that are
+/// asked for.
+fn asked_report(
+    messages: String,
+    file: &LogFile<'_>,
+    check: &QuoteCheck<'_>,
+    compared: &ComparedQuote<'_>,
+) -> Result<Report, AllocError> {
+    if !compared.coverage.missing.is_empty() {
+        return lacking_quote(messages, file.name, check, compared);
+    }
+    let report = verdict_report(messages, file, check, compared)?;
+    with_registers(file, check, report)
+}
+
+/// Returns what is printed after these messages of a quote that doesn't cover PCRs that are asked for.
+fn lacking_quote(
+    messages: String,
+    name: &str,
+    check: &QuoteCheck<'_>,
+    compared: &ComparedQuote<'_>,
 ) -> Result<Report, AllocError> {
     let mut messages = messages;
-    let covered = covered_pcrs(&check.received.quote)?;
-    if covered.is_empty() {
-        push_no_pcr(&mut messages, check.file)?;
-        return Ok(Report::unjudged(messages));
-    }
-    let missing = missing_pcrs(covered.as_slice(), &check.registers.selection)?;
-    if !missing.is_empty() {
-        push_missing(&mut messages, check.file, missing.as_slice())?;
-        return Ok(Report::unjudged(messages));
-    }
-    let report = verdict_report(messages, file, check, verdict)?;
-    with_registers(file, check, report)
+    push_missing(
+        &mut messages,
+        check.file,
+        compared.coverage.missing.as_slice(),
+    )?;
+    Ok(Report {
+        text: lacking_text(name, compared, check.registers.format)?,
+        messages,
+        status: Status::Unjudged,
+    })
 }
 
 /// Returns what is printed after these messages of the verdict on a quote.
@@ -108,18 +183,21 @@ fn verdict_report(
     messages: String,
     file: &LogFile<'_>,
     check: &QuoteCheck<'_>,
-    verdict: &QuoteVerdict,
+    compared: &ComparedQuote<'_>,
 ) -> Result<Report, AllocError> {
     let mut messages = messages;
-    let covered = covered_pcrs(&check.received.quote)?;
     let ignored = ignored_events(file.read.entries())?;
-    push_start(&mut messages, file.name, &verdict.start)?;
+    push_start(&mut messages, file.name, &compared.verdict.start)?;
     push_ignored(&mut messages, file.name, ignored.as_slice())?;
-    push_uncompared_pcrs(&mut messages, file, covered.as_slice())?;
+    push_uncompared(
+        &mut messages,
+        file.name,
+        compared.coverage.extended.as_slice(),
+    )?;
     Ok(Report {
-        text: quote_text(file.name, check, verdict)?,
+        text: quote_text(file.name, check, compared)?,
         messages,
-        status: quote_status(&check.received, verdict, ignored.as_slice()),
+        status: quote_status(compared, ignored.as_slice()),
     })
 }
 
@@ -127,29 +205,39 @@ fn verdict_report(
 fn quote_text(
     name: &str,
     check: &QuoteCheck<'_>,
-    verdict: &QuoteVerdict,
+    compared: &ComparedQuote<'_>,
 ) -> Result<String, AllocError> {
     let mut text = String::new();
-    let received = &check.received;
-    match check.format {
+    let received = &compared.verdict.received;
+    match check.registers.format {
         Format::Text => {
             push_other_nonce(&mut text, check.file, received)?;
             push_quote(&mut text, check.file, received)?;
-            push_quote_verdict(&mut text, name, &received.quote, verdict)?;
+            push_quote_verdict(&mut text, name, &compared.verdict)?;
         }
-        Format::Json => push_quote_json(&mut text, name, received, verdict)?,
+        Format::Json => push_quote_json(&mut text, name, compared)?,
+    }
+    Ok(text)
+}
+
+/// Returns what is printed of a quote that doesn't cover PCRs that are asked for: its line of JSON.
+fn lacking_text(
+    name: &str,
+    compared: &ComparedQuote<'_>,
+    format: Format,
+) -> Result<String, AllocError> {
+    let mut text = String::new();
+    match format {
+        Format::Text => {}
+        Format::Json => push_quote_json(&mut text, name, compared)?,
     }
     Ok(text)
 }
 
 /// Returns the status of a verdict on a quote: it differs if its digest or its nonce does, or one of
 /// the events without effect should have extended a PCR that no TPM has.
-fn quote_status(
-    received: &ReceivedQuote<'_>,
-    verdict: &QuoteVerdict,
-    ignored: &[IgnoredEvent],
-) -> Status {
-    if has_no_pcr(ignored) || !(verdict.agrees && received.has_its_nonce()) {
+fn quote_status(compared: &ComparedQuote<'_>, ignored: &[IgnoredEvent]) -> Status {
+    if has_no_pcr(ignored) || !compared.verdict.agrees() {
         return Status::Differs;
     }
     Status::Well
@@ -164,28 +252,44 @@ fn with_registers(
     if check.registers.pcrs.is_empty() {
         return Ok(quote);
     }
-    quote.and(&registers_report(file, check, &check.registers)?)
+    quote.and(&registers_report(file, &check.registers)?)
 }
 
-/// Returns what is printed of PCRs that are compared beside a quote, unless some that are asked for
-/// are missing.
+/// Returns what is printed of PCRs that are compared beside a quote.
 fn registers_report(
     file: &LogFile<'_>,
-    check: &QuoteCheck<'_>,
     stated: &StatedPcrs<'_>,
 ) -> Result<Report, AllocError> {
-    let mut messages = String::new();
-    let missing = missing_in(stated)?;
-    if !missing.is_empty() {
-        push_missing(&mut messages, stated.file, missing.as_slice())?;
-        return Ok(Report::unjudged(messages));
+    let compared = compare(file, stated)?;
+    registers_verdict(file, stated, &compared)
+}
+
+/// Returns what is printed of the verdict on them, unless some that are asked for are missing.
+fn registers_verdict(
+    file: &LogFile<'_>,
+    stated: &StatedPcrs<'_>,
+    compared: &ComparedPcrs,
+) -> Result<Report, AllocError> {
+    let messages = String::new();
+    if !compared.coverage.missing.is_empty() {
+        return lacking_report(messages, file.name, stated, compared);
     }
-    let held = selected_pcrs(stated.pcrs, &stated.selection)?;
-    let held = held.as_slice();
-    let verdict = Verdict::new(file.read.entries(), held, check.locality)?;
     Ok(Report {
-        text: verdict_text(file.name, held, &verdict, check.format)?,
+        text: differing_text(file.name, compared, stated.format)?,
         messages,
-        status: status_of(&verdict, &[]),
+        status: status_of(&compared.verdict, &[]),
     })
+}
+
+/// Returns the verdict on PCRs that are compared beside a quote in a format; nothing if they agree, since
+/// the verdict is the quote's.
+fn differing_text(
+    name: &str,
+    compared: &ComparedPcrs,
+    format: Format,
+) -> Result<String, AllocError> {
+    if compared.agrees() {
+        return Ok(String::new());
+    }
+    verdict_text(name, compared, format)
 }

@@ -5,6 +5,8 @@ use crate::support::fallible::*;
 
 use crate::uefi_audit::commands::print_text;
 use crate::uefi_audit::failure::{Failure, Status};
+use crate::uefi_audit::request::Format;
+use crate::audit_text::json::{NotJudged, push_unjudged_json};
 use crate::support::alloc::AllocError;
 use crate::host::io;
 
@@ -27,6 +29,43 @@ impl Report {
             messages,
             status: Status::Unjudged,
         }
+    }
+
+    /// Returns the report of a log that `verify` doesn't judge: these messages, and in JSON a line that
+    /// says why.
+    ///
+    /// # Errors
+    ///
+    /// [`AllocError`] if an allocation fails.
+    pub(crate) fn unjudged_as(
+        messages: String,
+        name: &str,
+        format: Format,
+        why: NotJudged,
+    ) -> Result<Report, AllocError> {
+        Ok(Report {
+            text: unjudged_text(name, format, why)?,
+            messages,
+            status: Status::Unjudged,
+        })
+    }
+
+    /// Returns this report of a log that wasn't read as `verify` prints it: in JSON with a line that says
+    /// why.
+    ///
+    /// # Errors
+    ///
+    /// [`AllocError`] if an allocation fails.
+    pub(crate) fn refused_as(
+        self,
+        name: &str,
+        format: Format,
+    ) -> Result<Report, AllocError> {
+        Ok(Report {
+            text: unjudged_text(name, format, NotJudged::ManyAlgorithms)?,
+            messages: self.messages,
+            status: self.status,
+        })
     }
 
     /// Returns this report with what another one says after it. The worse status counts.
@@ -52,6 +91,24 @@ impl Report {
         print_text(&mut io::writer(rt), self.text.as_str())?;
         Ok(self.status)
     }
+}
+
+/// Returns what `verify` prints of a log that it doesn't judge: a line in JSON.
+///
+/// # Errors
+///
+/// [`AllocError`] if an allocation fails.
+pub(crate) fn unjudged_text(
+    name: &str,
+    format: Format,
+    why: NotJudged,
+) -> Result<String, AllocError> {
+    let mut text = String::new();
+    match format {
+        Format::Text => {}
+        Format::Json => push_unjudged_json(&mut text, name, why)?,
+    }
+    Ok(text)
 }
 
 /// Writes text to standard error.

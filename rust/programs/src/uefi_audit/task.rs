@@ -7,16 +7,17 @@ use crate::uefi_audit::replay::{Asked, replay_report};
 use crate::uefi_audit::report::Report;
 use crate::uefi_audit::request::{Format, Reading};
 use crate::support::alloc::AllocError;
+use crate::uefi_audits::verify::NamedPcr;
 
 /// What is done with each of many logs.
 #[derive(Clone, Copy, Debug)]
-pub(crate) enum Task {
+pub(crate) enum Task<'a> {
     /// Its events are printed.
     Events(Format),
     /// The PCRs that it leads to are.
     Replay(Asked),
-    /// The events whose digests match nothing are.
-    Check(Format),
+    /// The events whose digests match nothing are. These PCRs are covered, or all.
+    Check(Option<&'a [NamedPcr]>, Format),
 }
 
 /// Returns what a task prints of a log.
@@ -27,7 +28,7 @@ pub(crate) enum Task {
 pub(crate) fn task_report(
     log: Opened<'_>,
     reading: Reading,
-    task: Task,
+    task: Task<'_>,
 ) -> Result<Report, AllocError> {
     match log {
         Opened::Refused(report) => Ok(report),
@@ -39,11 +40,11 @@ pub(crate) fn task_report(
 fn read_report(
     file: &LogFile<'_>,
     reading: Reading,
-    task: Task,
+    task: Task<'_>,
 ) -> Result<Report, AllocError> {
     match task {
         Task::Events(format) => events_report(file, reading, format),
         Task::Replay(asked) => replay_report(file, reading, asked),
-        Task::Check(format) => check_report(file, reading, format),
+        Task::Check(covered, format) => check_report(file, reading, covered, format),
     }
 }

@@ -4,8 +4,8 @@ use crate::uefi_audit::failure::Status;
 use crate::uefi_audit::log_file::{LogFile, Opened, judge};
 use crate::uefi_audit::replay::has_no_pcr;
 use crate::uefi_audit::report::Report;
-use crate::uefi_audit::request::{Format, Reading, Verification};
-use crate::audit_text::json::push_verdict_json;
+use crate::uefi_audit::request::{Format, Reading};
+use crate::audit_text::json::{NotJudged, push_verdict_json};
 use crate::audit_text::text::{
     push_ignored, push_inactive, push_missing, push_start, push_uncompared, push_verdict,
 };
@@ -13,20 +13,23 @@ use crate::support::alloc::AllocError;
 use crate::uefi_audits::ignored::{IgnoredEvent, ignored_events};
 use crate::uefi_audits::judgement::Judgement;
 use crate::uefi_audits::log_replay::inactive_banks;
-use crate::uefi_audits::verify::{
-    HeldPcr, NamedPcr, PcrSelection, Verdict, held_banks, missing_pcrs, named_pcrs, selected_pcrs,
-    uncompared_pcrs,
-};
+use crate::uefi_audits::verify::{ComparedPcrs, HeldPcr, PcrSelection, Verdict, held_banks};
 
-/// The PCRs that a TPM is said to have held, and which of them are asked for.
+/// The PCRs that a TPM is said to have held, and how `verify` compares a log with them.
 #[derive(Clone, Copy, Debug)]
 pub(crate) struct StatedPcrs<'a> {
-    /// The name of their file.
+    /// The name of the log.
+    pub log: &'a str,
+    /// The name of the PCRs' file.
     pub file: &'a str,
     /// The PCRs.
     pub pcrs: &'a [HeldPcr],
     /// Those that are asked for; all without a selection.
-    pub selection: Option<PcrSelection>,
+    pub selections: &'a [PcrSelection],
+    /// The locality at which the TPM was started.
+    pub locality: Option<u8>,
+    /// How the result is printed.
+    pub format: Format,
 }
 
 /// Returns what `verify` prints of a log.
@@ -37,12 +40,11 @@ pub(crate) struct StatedPcrs<'a> {
 pub(crate) fn verify_report(
     log: Opened<'_>,
     reading: Reading,
-    asked: &Verification<'_>,
     stated: &StatedPcrs<'_>,
 ) -> Result<Report, AllocError> {
     match log {
-        Opened::Refused(report) => Ok(report),
-        Opened::Read(file) => verification_report(&file, reading, asked, stated),
+        Opened::Refused(report) => report.refused_as(stated.log, stated.format),
+        Opened::Read(file) => verification_report(&file, reading, stated),
     }
 }
 
@@ -54,61 +56,112 @@ pub(crate) fn verify_report(
 pub(crate) fn verification_report(
     file: &LogFile<'_>,
     reading: Reading,
-    asked: &Verification<'_>,
     stated: &StatedPcrs<'_>,
 ) -> Result<Report, AllocError> {
     let (judgement, messages) = judge(file, reading.allow_left_over)?;
+    judged_report(judgement, messages, file, stated)
+}
+
+/// Returns what is printed after these messages of a log with this judgement.
+fn judged_report(
+    judgement: Judgement,
+    messages: String,
+    file: &LogFile<'_>,
+    stated: &StatedPcrs<'_>,
+) -> Result<Report, AllocError> {
+    let (name, format) = (file.name, stated.format);
     match judgement {
-        Judgement::Accepted => stated_report(messages, file, asked, stated),
-        _ => Ok(Report::unjudged(messages)),
+        Judgement::Accepted => stated_report(messages, file, stated),
+        Judgement::NothingMeasured => {
+            Report::unjudged_as(messages, name, format, NotJudged::NothingMeasured)
+        }
+        Judgement::LeftOver => {
+            Report::unjudged_as(messages, name, format, NotJudged::TrailingBytes)
+        }
     }
 }
 
-/// Returns what is printed after these messages, unless PCRs that are asked for are missing.
+/// Returns what is printed after these messages of a log that can be judged.
 fn stated_report(
     messages: String,
     file: &LogFile<'_>,
-    asked: &Verification<'_>,
     stated: &StatedPcrs<'_>,
 ) -> Result<Report, AllocError> {
-    let mut messages = messages;
-    let missing = missing_in(stated)?;
-    if !missing.is_empty() {
-        push_missing(&mut messages, stated.file, missing.as_slice())?;
-        return Ok(Report::unjudged(messages));
-    }
-    let held = selected_pcrs(stated.pcrs, &stated.selection)?;
-    verdict_report(messages, file, asked, held.as_slice())
+    let compared = compare(file, stated)?;
+    compared_report(messages, file, stated, &compared)
 }
 
-/// Returns the PCRs that are asked for and not stated.
-pub(crate) fn missing_in(
+/// Returns the verdict on the PCRs that are selected.
+///
+/// # Errors
+///
+/// [`AllocError`] if an allocation fails.
+pub(crate) fn compare(
+    file: &LogFile<'_>,
     stated: &StatedPcrs<'_>,
-) -> Result<Vec<NamedPcr>, AllocError> {
-    let named = named_pcrs(stated.pcrs)?;
-    missing_pcrs(named.as_slice(), &stated.selection)
+) -> Result<ComparedPcrs, AllocError> {
+    let (entries, selections) = (file.read.entries(), stated.selections);
+    ComparedPcrs::new(entries, stated.pcrs, selections, stated.locality)
 }
 
-/// Returns what is printed after these messages of whether a log leads to these PCRs.
+/// Returns what is printed of a verdict after these messages, unless PCRs that are asked for are missing.
+fn compared_report(
+    messages: String,
+    file: &LogFile<'_>,
+    stated: &StatedPcrs<'_>,
+    found: &ComparedPcrs,
+) -> Result<Report, AllocError> {
+    if !found.coverage.missing.is_empty() {
+        return lacking_report(messages, file.name, stated, found);
+    }
+    verdict_report(messages, file, stated, found)
+}
+
+/// Returns what is printed after these messages of PCRs of which some that are asked for are missing.
+///
+/// # Errors
+///
+/// [`AllocError`] if an allocation fails.
+pub(crate) fn lacking_report(
+    messages: String,
+    name: &str,
+    stated: &StatedPcrs<'_>,
+    compared: &ComparedPcrs,
+) -> Result<Report, AllocError> {
+    let mut messages = messages;
+    push_missing(
+        &mut messages,
+        stated.file,
+        compared.coverage.missing.as_slice(),
+    )?;
+    Ok(Report {
+        text: lacking_text(name, compared, stated.format)?,
+        messages,
+        status: Status::Unjudged,
+    })
+}
+
+/// Returns what is printed of a verdict after these messages.
 fn verdict_report(
     messages: String,
     file: &LogFile<'_>,
-    asked: &Verification<'_>,
-    held: &[HeldPcr],
+    stated: &StatedPcrs<'_>,
+    compared: &ComparedPcrs,
 ) -> Result<Report, AllocError> {
     let mut messages = messages;
-    let entries = file.read.entries();
-    let verdict = Verdict::new(entries, held, asked.locality)?;
-    let ignored = ignored_events(entries)?;
-    push_start(&mut messages, file.name, &verdict.start)?;
-    push_inactive_banks(&mut messages, file, held)?;
+    let ignored = ignored_events(file.read.entries())?;
+    push_start(&mut messages, file.name, &compared.verdict.start)?;
+    push_inactive_banks(&mut messages, file, compared.held.as_slice())?;
     push_ignored(&mut messages, file.name, ignored.as_slice())?;
-    let compared = named_pcrs(held)?;
-    push_uncompared_pcrs(&mut messages, file, compared.as_slice())?;
+    push_uncompared(
+        &mut messages,
+        file.name,
+        compared.coverage.extended.as_slice(),
+    )?;
     Ok(Report {
-        text: verdict_text(file.name, held, &verdict, asked.format)?,
+        text: verdict_text(file.name, compared, stated.format)?,
         messages,
-        status: status_of(&verdict, ignored.as_slice()),
+        status: status_of(&compared.verdict, ignored.as_slice()),
     })
 }
 
@@ -123,27 +176,32 @@ fn push_inactive_banks(
     push_inactive(messages, file.name, inactive.as_slice())
 }
 
-/// Appends the PCRs that events extend and that aren't compared.
-pub(crate) fn push_uncompared_pcrs(
-    messages: &mut String,
-    file: &LogFile<'_>,
-    compared: &[NamedPcr],
-) -> Result<(), AllocError> {
-    let uncompared = uncompared_pcrs(file.read.entries(), compared)?;
-    push_uncompared(messages, file.name, uncompared.as_slice())
-}
-
 /// Returns a verdict in a format.
 pub(crate) fn verdict_text(
     name: &str,
-    held: &[HeldPcr],
-    verdict: &Verdict,
+    compared: &ComparedPcrs,
+    format: Format,
+) -> Result<String, AllocError> {
+    let (held, verdict) = (compared.held.as_slice(), &compared.verdict);
+    let mut text = String::new();
+    match format {
+        Format::Text => push_verdict(&mut text, name, held, verdict)?,
+        Format::Json => push_verdict_json(&mut text, name, compared)?,
+    }
+    Ok(text)
+}
+
+/// Returns what is printed of a verdict on PCRs of which some that are asked for are missing: its line of
+/// JSON.
+fn lacking_text(
+    name: &str,
+    compared: &ComparedPcrs,
     format: Format,
 ) -> Result<String, AllocError> {
     let mut text = String::new();
     match format {
-        Format::Text => push_verdict(&mut text, name, held, verdict)?,
-        Format::Json => push_verdict_json(&mut text, name, held, verdict)?,
+        Format::Text => {}
+        Format::Json => push_verdict_json(&mut text, name, compared)?,
     }
     Ok(text)
 }

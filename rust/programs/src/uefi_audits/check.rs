@@ -9,6 +9,7 @@ pub use self::counts::TypeCounts;
 use self::form::may_describe;
 pub use self::form::{Form, forms_of};
 use self::measured::{command_in, narrowed, without_nul};
+pub(crate) use self::result::CheckedEntry;
 pub use self::result::{CheckResult, Mismatch, check_entries};
 use uefi_formats::pcr::{Bank, has_digest, is_hash_of};
 use crate::support::alloc::AllocError;

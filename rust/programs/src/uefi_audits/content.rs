@@ -27,7 +27,7 @@ mod variable;
 pub enum EventContent<'a> {
     /// Nothing that is read.
     Unread,
-    /// A text: what was done, for instance.
+    /// A text that names what was measured.
     Text(&'a str),
     /// The number of a separator.
     Separator(u32),
@@ -35,7 +35,7 @@ pub enum EventContent<'a> {
     Locality(u8),
     /// The header of a log.
     Header(EventLogHeader<'a>),
-    /// What a boot loader says of what it measured.
+    /// What a boot loader says of what it measured, or firmware of what it did.
     LoaderText(EventText<'a>),
     /// The version of the static root of trust for measurement.
     CrtmVersion(CrtmVersion<'a>),
@@ -73,10 +73,10 @@ pub fn read_content<'a>(event: &LogEvent<'a>, uintn_size: UintnSize) -> EventCon
         EventType::ACTION
         | EventType::OMIT_BOOT_DEVICE_EVENTS
         | EventType::EFI_ACTION
-        | EventType::EFI_HCRTM_EVENT => text_content(bytes),
+        | EventType::EFI_HCRTM_EVENT
+        | EventType::IPL => EventContent::LoaderText(EventText::read(bytes)),
         EventType::EVENT_TAG => EventContent::Tagged(TaggedData::new(bytes)),
-        EventType::CRTM_VERSION => crtm_version_content(bytes),
-        EventType::IPL => loader_text_content(bytes),
+        EventType::CRTM_VERSION => EventContent::CrtmVersion(CrtmVersion::read(bytes)),
         EventType::POST_CODE2 | EventType::EFI_PLATFORM_FIRMWARE_BLOB2 => {
             described_blob_content(bytes)
         }
@@ -165,22 +165,6 @@ fn blob_content(bytes: &[u8]) -> EventContent<'_> {
 fn described_blob_content(bytes: &[u8]) -> EventContent<'_> {
     match PlatformFirmwareBlob2::read(bytes) {
         Some(blob) => EventContent::DescribedBlob(blob),
-        None => EventContent::Unread,
-    }
-}
-
-/// Returns the boot loader's text that data are.
-fn loader_text_content(bytes: &[u8]) -> EventContent<'_> {
-    match EventText::read(bytes) {
-        Some(text) => EventContent::LoaderText(text),
-        None => EventContent::Unread,
-    }
-}
-
-/// Returns the version that data are.
-fn crtm_version_content(bytes: &[u8]) -> EventContent<'_> {
-    match CrtmVersion::read(bytes) {
-        Some(version) => EventContent::CrtmVersion(version),
         None => EventContent::Unread,
     }
 }

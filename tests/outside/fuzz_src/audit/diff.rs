@@ -5,12 +5,14 @@ use super::UNJUDGED;
 use super::block::printed_text;
 use super::check::{has_forms, is_hash_of};
 use super::events::{Said, said, shown_algorithm};
-use super::json::{escaped, hex, shown};
-use super::log::{Event, IPL, Log, PCR_COUNT, type_name};
+use super::json::{escaped, hex, more, shown_bytes};
+use super::log::{Event, Log, PCR_COUNT, type_name};
 use crate::program::Ending;
 use std::collections::{HashMap, VecDeque};
 use std::hash::Hash;
 
+/// The types whose data are a text.
+const TEXTS: [u32; 5] = [0x05, 0x0d, 0x12, 0x8000_0007, 0x8000_0010];
 /// How many bytes that differ are shown.
 const SHOWN_BYTES: usize = 32;
 /// What GRUB writes before a command, and before the command line of a kernel or of a module.
@@ -145,7 +147,7 @@ fn first_moved<'a>(pairs: &[Pair<'a>]) -> Option<Pair<'a>> {
 /// The name that data have, after its namespace.
 fn name<'a>(Entry { event, said }: &Entry<'a>) -> [&'a [u8]; 2] {
     match said {
-        Some(_) if event.kind == IPL => command(event.data).unwrap_or_default(),
+        Some(_) if TEXTS.contains(&event.kind) => command(event.data).unwrap_or_default(),
         Some(said) => said.name,
         None => Default::default(),
     }
@@ -220,9 +222,8 @@ fn changed_name(entry @ Entry { event, said }: &Entry<'_>, other: &Entry<'_>) ->
     match said {
         Some(said) if event.data == other.event.data => said.words.clone(),
         Some(Said { key: "variable" | "image" | "tagged_events", words, .. }) => words.clone(),
-        Some(_) if event.kind == IPL => {
-            let [word, first] = name(entry)
-                .map(|bytes| shown(&bytes.iter().copied().map(char::from).collect::<String>()));
+        Some(_) if TEXTS.contains(&event.kind) => {
+            let [word, first] = name(entry).map(shown_bytes);
             if first.is_empty() { word } else { format!("{word}: {first}") }
         }
         _ => String::new(),
@@ -283,18 +284,18 @@ fn value_change(old: &[u8], new: &[u8]) -> Option<String> {
         ([0], [1]) => Some("0 -> 1".to_owned()),
         ([1], [0]) => Some("1 -> 0".to_owned()),
         _ => match (printed_text(old), printed_text(new)) {
-            (Some(old), Some(new)) => word_change(&old, &new),
+            (Some(old), Some(new)) => word_change(&escaped(&old), &escaped(&new)),
             _ => Some(byte_change(old, new)).filter(|_| old != new),
         },
     }
 }
 
-/// The words from the first that differs.
+/// The words of texts on a line, from the first that differs.
 fn word_change(old: &str, new: &str) -> Option<String> {
     let [old, new] = [old, new].map(|text| text.split(' ').collect::<Vec<_>>());
     let same = common(&old, &new);
     let from = |words: &[&str]| {
-        let rest = escaped(&words[same..].join(" "));
+        let rest = words[same..].join(" ");
         if same == 0 || rest.is_empty() { rest } else { format!(".. {rest}") }
     };
     between(&from(&old), &from(&new))
@@ -305,8 +306,7 @@ fn byte_change(old: &[u8], new: &[u8]) -> String {
     let same = common(old, new);
     let from = |bytes: &[u8]| {
         let rest = &bytes[same..];
-        let dots = if rest.len() > SHOWN_BYTES { ".." } else { "" };
-        hex(&rest[..rest.len().min(SHOWN_BYTES)]) + dots
+        hex(&rest[..rest.len().min(SHOWN_BYTES)]) + &more(rest.len(), SHOWN_BYTES)
     };
     format!("from byte {same}: {}", between(&from(old), &from(new)).unwrap_or_default())
 }

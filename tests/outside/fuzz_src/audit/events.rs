@@ -2,7 +2,9 @@
 //! those of the package.
 
 use super::block::{bytes_lines, printed_text};
-use super::json::{LONGEST, array, escaped, hex, hex_text, object, shown, text};
+use super::json::{
+    array, escaped, escaped_bytes, hex, hex_text, object, shown, shown_bytes, shown_hex, text,
+};
 use super::log::{Event, NO_ACTION, kind_name, type_name};
 use super::replay::{BANKS, SHA256};
 use crate::readers::log2::Header;
@@ -26,6 +28,8 @@ const SIGNATURES: [(&str, &str); 7] = [
     ("3c5766e8-269c-4e34-aa14-ed776e85b3b6", "RSA-2048 keys"),
     ("3bd2a492-96c0-4079-b420-fcf98ef103ed", "SHA-256 hashes of X.509 certificates, and times"),
 ];
+/// How many bytes of a signature are shown, at most.
+const LONGEST_HASH: usize = 80;
 /// The names of tags of Linux and systemd.
 const TAGS: [(u64, &str); 7] = [
     (0x8f3b_22ec, "INITRD"),
@@ -79,7 +83,7 @@ pub struct Said<'a> {
     pub words: String,
     /// The lines of an event's block, without their indent.
     pub lines: String,
-    /// The text or the version that the data are.
+    /// The text or the version that the data are, on a line.
     pub text: Option<String>,
     /// The value of a variable, and whether it says nothing that is read.
     pub value: Option<&'a [u8]>,
@@ -114,10 +118,11 @@ pub fn said<'a>(event: &Event<'a>) -> Option<Said<'a>> {
         0x01 => printed(data).or_else(|| blob(None, data)),
         NO_ACTION => event.stated().map(locality).or_else(|| header(data)),
         0x04 => data.try_into().ok().map(|it| separator(u32::from_le_bytes(it))),
-        0x05 | 0x12 | 0x8000_0007 | 0x8000_0010 => printed(data),
+        0x05 | 0x0d | 0x12 | 0x8000_0007 | 0x8000_0010 => {
+            Some(text_said("text", "text", data_text(data)))
+        }
         0x06 => Some(tagged_events(data)),
-        0x08 => version(data).map(|it| text_said("crtm_version", "version", it)),
-        0x0d => any_text(data).map(|it| text_said("text", "text", it)),
+        0x08 => Some(text_said("crtm_version", "version", version(data))),
         0x13 | 0x8000_000a => counted(&mut data, 1).and_then(|it| blob(Some(it), data)),
         0x8000_0001 | 0x8000_0002 | 0x8000_000c | 0x8000_00e0 => variable(event),
         0x8000_0003..=0x8000_0005 => image(data, event.uintn),
@@ -137,34 +142,60 @@ fn locality(number: u8) -> Said<'static> {
     Said::new("locality", number.to_string(), words, line)
 }
 
+/// The text that data are.
+struct DataText {
+    /// As JSON has it.
+    json: String,
+    /// On a line, and the first characters of that.
+    line: String,
+    words: String,
+}
+
+impl DataText {
+    fn new(said: &str) -> Self {
+        DataText { json: text(said), line: escaped(said), words: shown(said) }
+    }
+}
+
 /// A text of a kind.
-fn text_said(key: &'static str, kind: &str, said: String) -> Said<'static> {
-    let line = format!("{kind} {}\n", escaped(&said));
-    let (json, words) = (text(&said), shown(&said));
-    Said { text: Some(said), ..Said::new(key, json, words, line) }
+fn text_said(key: &'static str, kind: &str, said: DataText) -> Said<'static> {
+    let line = format!("{kind} {}\n", said.line);
+    Said { text: Some(said.line), ..Said::new(key, said.json, said.words, line) }
 }
 
 fn printed(data: &[u8]) -> Option<Said<'static>> {
     let is_printed = data.iter().all(|byte| (b' '..=b'~').contains(byte));
-    is_printed.then(|| text_said("text", "text", String::from_utf8_lossy(data).into()))
+    let said = || DataText::new(&String::from_utf8_lossy(data));
+    is_printed.then(|| text_said("text", "text", said()))
 }
 
-/// A text in ASCII, or else in UTF-16, without the NUL that may end it.
-fn any_text(data: &[u8]) -> Option<String> {
-    let ascii = data.strip_suffix(&[0]).unwrap_or(data);
-    let is_ascii = ascii.iter().all(|byte| (1..0x80).contains(byte));
-    let bytes = data.iter().copied().map(u16::from);
-    let units = if is_ascii { bytes.collect() } else { units(data)? };
-    let text = units.strip_suffix(&[0]).unwrap_or(&units);
-    (!text.contains(&0)).then(|| characters(text))
+/// A text in UTF-8, or else in UTF-16, without the NUL that may end it, or else the bytes.
+fn data_text(data: &[u8]) -> DataText {
+    let utf8 = str::from_utf8(data.strip_suffix(&[0]).unwrap_or(data));
+    if let Some(utf8) = utf8.ok().filter(|it| !it.contains('\0')) {
+        return DataText::new(utf8);
+    }
+    match units(data).as_deref() {
+        Some([said @ .., 0] | said) if are_latin(said) => DataText::new(&characters(said)),
+        _ => {
+            let line = escaped_bytes(data);
+            DataText { json: text(&line), line, words: shown_bytes(data) }
+        }
+    }
+}
+
+/// Whether firmware writes such units: tabs, ends of lines, and what prints up to Latin Extended-A.
+fn are_latin(units: &[u16]) -> bool {
+    let is_latin = |it: &u16| matches!(it, 9 | 10 | 13 | 0x20..0x7f | 0xa0..0x180);
+    units.iter().all(is_latin)
 }
 
 /// Units that a NUL ends, or sixteen bytes that are a GUID, or another text.
-fn version(mut data: &[u8]) -> Option<String> {
+fn version(mut data: &[u8]) -> DataText {
     match units(data).as_deref() {
-        Some([version @ .., 0]) if !version.contains(&0) => Some(characters(version)),
-        _ if data.len() == 16 => guid(&mut data),
-        _ => any_text(data),
+        Some([version @ .., 0]) if are_latin(version) => DataText::new(&characters(version)),
+        _ if data.len() == 16 => DataText::new(&guid(&mut data).unwrap_or_default()),
+        _ => data_text(data),
     }
 }
 
@@ -172,7 +203,7 @@ fn version(mut data: &[u8]) -> Option<String> {
 fn blob(description: Option<&[u8]>, mut data: &[u8]) -> Option<Said<'static>> {
     let (address, length) = (number(&mut data, 8)?, number(&mut data, 8)?);
     let described = description.map(|it| it.iter().copied().map(char::from).collect::<String>());
-    let words = described.as_deref().map_or(format!("at {address:#x}"), shown);
+    let words = description.map_or(format!("at {address:#x}"), shown_bytes);
     let after = described.as_deref().map(|it| format!(": {}", escaped(it))).unwrap_or_default();
     let line = format!("blob at {address:#x}, {length} bytes{after}\n");
     let description = described.as_deref().map(text).unwrap_or_default();
@@ -193,7 +224,7 @@ fn tagged_events(data: &[u8]) -> Said<'_> {
     let mut after = data;
     let first = number(&mut after, 4).zip(counted(&mut after, 4));
     let words = first.map_or("no tagged event".to_owned(), |(id, _)| format!("tag {}", tag(id)));
-    let text = first.filter(|_| after.is_empty()).and_then(|(_, data)| printed_text(data));
+    let text = first.filter(|_| after.is_empty()).map(|(_, data)| data_text(data).line);
     Said { name, text, ..Said::new("tagged_events", json, words, lines) }
 }
 
@@ -203,12 +234,10 @@ fn tag(id: u64) -> String {
 }
 
 fn tagged_event(id: u64, data: &[u8]) -> Part {
-    let (name, printed) = (TAGS.iter().find(|it| it.0 == id).map(|it| it.1), printed_text(data));
-    let shown = printed.as_deref().map(|it| format!(": {}", escaped(it)));
-    let said = shown.unwrap_or_else(|| format!(" {}", hex(data)));
-    let line = format!("tagged event {}{said}\n", tag(id));
-    let [name, text] = [name, printed.as_deref()].map(|it| it.map(text).unwrap_or_default());
-    Part(object!(data: hex_text(data), id, name, text), line)
+    let DataText { json, line, .. } = data_text(data);
+    let line = format!("tagged event {}: {line}\n", tag(id));
+    let name = TAGS.iter().find(|it| it.0 == id).map(|it| text(it.1)).unwrap_or_default();
+    Part(object!(data: hex_text(data), id, name, text: json), line)
 }
 
 /// The header that a log of one event with these data has.
@@ -268,7 +297,7 @@ fn image(mut data: &[u8], uintn: usize) -> Option<Said<'_>> {
     let path = shown.as_deref().map_or_else(|| bytes_lines("path", bytes), path_line);
     let lines = numbers + &path + &bytes_lines("trailing bytes", data);
     let text = shown.as_deref().map_or(String::new(), text);
-    let shown = shown.unwrap_or_else(|| hex(&bytes[..bytes.len().min(LONGEST)]));
+    let shown = shown.unwrap_or_else(|| shown_hex(bytes));
     let path = nodes.map_or_else(|| hex_text(bytes), |it| path_json(&it));
     let json = object!(address, length, link_address, path, rest: rest_text(data), text);
     let words = if bytes.is_empty() { "image".to_owned() } else { format!("image {shown}") };
@@ -391,7 +420,7 @@ fn signature_list(data: &mut &[u8]) -> Option<Part> {
 fn signature(mut data: &[u8]) -> Option<Part> {
     let owner = guid(&mut data)?;
     let (first, owner) = (format!("signature of owner {owner}"), text(&owner));
-    if data.len() <= LONGEST {
+    if data.len() <= LONGEST_HASH {
         let json = object!(data: hex_text(data), owner);
         return Some(Part(json, format!("{first}: {}\n", hex(data))));
     }

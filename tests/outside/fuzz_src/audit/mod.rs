@@ -34,9 +34,9 @@ pub const COMMANDS: [(&str, &[&str]); 11] = [
     ("check", &["check", "--allow-left-over"]),
     ("diff", &["diff", "--allow-left-over"]),
     ("whole_diff", &["diff"]),
-    ("quote", &["verify", "--any-nonce", "--allow-left-over"]),
-    ("quote_json", &["verify", "--nonce=00112233", "--json", "--allow-left-over"]),
-    ("quote_nonce", &["verify", "--nonce=00112233", "--allow-left-over"]),
+    ("quote", &["verify", "--any-pcrs", "--any-nonce", "--allow-left-over"]),
+    ("quote_json", &["verify", "--any-pcrs", "--nonce=00112233", "--json", "--allow-left-over"]),
+    ("quote_nonce", &["verify", "--any-pcrs", "--nonce=00112233", "--allow-left-over"]),
 ];
 /// The nonce that quotes are asked for with.
 pub const NONCE: [u8; 4] = [0x00, 0x11, 0x22, 0x33];

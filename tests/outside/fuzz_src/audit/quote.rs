@@ -5,7 +5,7 @@ use super::events::algorithm;
 use super::json::{array, hex, hex_text, text};
 use super::log::{Log, PCR_COUNT};
 use super::replay::{BANKS, Bank, replay, tell_of_ignored, tell_of_start};
-use super::{UNJUDGED, tell};
+use super::{MAX_ROWS, UNJUDGED, tell};
 use crate::program::Ending;
 use std::collections::BTreeSet;
 
@@ -175,13 +175,47 @@ impl<'a> Quote<'a> {
         };
         let nonce_agrees =
             asked.map_or("null".to_owned(), |asked| (asked == self.nonce).to_string());
+        let digest_agrees = found.1 == self.digest;
         let quote = object!(
-            agrees: found.1 == self.digest, banks: array(self.selections.iter().map(bank)), clock,
-            digest: hex_text(self.digest), hash: text(hash.name), leads_to: hex_text(&found.1),
+            banks: array(self.selections.iter().map(bank)), clock, digest: hex_text(self.digest),
+            digest_agrees, hash: text(hash.name), leads_to: hex_text(&found.1),
             nonce: hex_text(self.nonce), nonce_agrees
         );
-        object!(locality: found.0, log: text(log.name), quote) + "\n"
+        let is_other = asked.is_some_and(|asked| asked != self.nonce);
+        let failed = [(!digest_agrees, "digest"), (is_other, "nonce")];
+        let failed: Vec<_> = failed.iter().filter(|it| it.0).map(|it| text(it.1)).collect();
+        let others = self.uncovered(log);
+        let others =
+            (!others.is_empty()).then(|| object!(bank: "null", pcrs: array(&others)));
+        object!(
+            agrees: failed.is_empty(), covered: array(self.covered()), failed: array(&failed),
+            locality: found.0, log: text(log.name), not_covered: array(others), quote
+        ) + "\n"
     }
+
+    /// The selected PCRs by banks, in the order of these.
+    fn covered(&self) -> impl Iterator<Item = String> {
+        let of = |bank: &Bank| -> Vec<u32> {
+            self.selected().filter(|it| it.0 == bank.algorithm).map(|it| it.1).collect()
+        };
+        let banks = BANKS.iter().map(move |bank| (bank.name, of(bank)));
+        let banks = banks.filter(|it| !it.1.is_empty());
+        banks.map(|(name, pcrs)| object!(bank: text(name), pcrs: array(pcrs)))
+    }
+
+    /// The PCRs that events extend and that the quote doesn't cover.
+    fn uncovered(&self, log: &Log<'_>) -> Vec<u32> {
+        let covered: BTreeSet<_> = self.selected().map(|it| it.1).collect();
+        let extended: BTreeSet<_> = log.measured().map(|event| event.pcr).collect();
+        extended.difference(&covered).copied().collect()
+    }
+}
+
+/// The line of JSON of a log that isn't judged.
+fn unjudged_line(log: &Log<'_>, why: &str) -> String {
+    let failed = array([text(why)]);
+    let name = text(log.name);
+    object!(agrees: "null", covered: "null", failed, log: name, not_covered: "null") + "\n"
 }
 
 fn nonce_text(nonce: &[u8]) -> String {
@@ -198,32 +232,41 @@ pub fn ending(
     is_json: bool,
     mut end: Ending,
 ) -> Ending {
-    let failed = |status, why: String| Ending {
+    let unjudged = |why: &str| if is_json { unjudged_line(log, why) } else { String::new() };
+    let failed = |status, reason: &str, why: String| Ending {
         status,
+        output: unjudged(reason).into(),
         message: format!("uefi_audit: {name}: {why}\n").into(),
-        ..Ending::default()
     };
     let quote = match Quote::read(bytes) {
         Ok(quote) => quote,
-        Err(why) => return failed(MALFORMED, why),
+        Err(why) => return failed(MALFORMED, "malformed quote", why),
     };
     let size = quote.digest.len();
     let Some(hash) = BANKS.iter().find(|bank| bank.size == size) else {
         return failed(
             UNJUDGED,
+            "unknown hash",
             format!("no hash function here has digests of {size} bytes (--quote-hash)"),
         );
     };
     if end.status == UNJUDGED {
-        return end;
+        let is_long = log.algorithms.len() > MAX_ROWS;
+        let why = if is_long { "many algorithms" } else { "nothing measured" };
+        return Ending { output: unjudged(why).into(), ..end };
     }
     let found = match quote.judged(log, hash) {
         Ok(found) if quote.selected().next().is_some() => found,
         outcome => {
+            let reason = match &outcome {
+                Ok(_) => "no PCR",
+                Err(why) if why.contains("undetermined") => "undetermined",
+                Err(_) => "no bank",
+            };
             let covers_none = |_| format!("{name}: covers no PCR\n");
             let why = outcome.map_or_else(|why| format!("{}: {why}\n", log.name), covers_none);
             end.message.extend(why.bytes());
-            return Ending { status: UNJUDGED, ..end };
+            return Ending { status: UNJUDGED, output: unjudged(reason).into(), ..end };
         }
     };
     tell_of_start(log, found.0, &mut end);
@@ -238,17 +281,25 @@ pub fn ending(
         let other = asked.filter(|_| !has_its_nonce);
         let other = other
             .map(|it| format!("{name}: has {}, not {}\n", nonce_text(quote.nonce), nonce_text(it)));
-        other.unwrap_or_default() + &quote.line(name, hash) + &verdict(log, &quote, &found)
+        other.unwrap_or_default()
+            + &quote.line(name, hash)
+            + &verdict(log, &quote, &found, has_its_nonce)
     };
     Ending { output: output.into(), ..end }
 }
 
 /// The line that says whether a log leads to the digest of a quote.
-fn verdict(log: &Log<'_>, quote: &Quote<'_>, (locality, found): &(u8, Vec<u8>)) -> String {
+fn verdict(
+    log: &Log<'_>,
+    quote: &Quote<'_>,
+    (locality, found): &(u8, Vec<u8>),
+    has_its_nonce: bool,
+) -> String {
     let (name, listed) = (log.name, quote.listed());
     let start = format!("(PCR 0 starts at locality {locality})");
     if found == quote.digest {
-        return format!("{name}: agrees: {listed} {start}\n");
+        let verdict = if has_its_nonce { "agrees:" } else { "differs: the nonce, not" };
+        return format!("{name}: {verdict} {listed} {start}\n");
     }
     let digests = [quote.digest, found].map(hex);
     let [quoted, found] = digests.map(|digits| format!("0x{digits}"));
@@ -258,9 +309,7 @@ fn verdict(log: &Log<'_>, quote: &Quote<'_>, (locality, found): &(u8, Vec<u8>)) 
 
 /// Tells of the PCRs that events extend and that a quote doesn't cover.
 fn tell_of_uncompared(log: &Log<'_>, quote: &Quote<'_>, end: &mut Ending) {
-    let covered: BTreeSet<_> = quote.selected().map(|it| it.1).collect();
-    let extended: BTreeSet<_> = log.measured().map(|event| event.pcr).collect();
-    let others: Vec<_> = extended.difference(&covered).map(u32::to_string).collect();
+    let others: Vec<_> = quote.uncovered(log).iter().map(u32::to_string).collect();
     if !others.is_empty() {
         tell(end, log, 0, &format!("not compared: PCR {}, which events extend", others.join(", ")));
     }

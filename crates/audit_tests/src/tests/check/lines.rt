@@ -20,7 +20,7 @@ const LOG: &str =
 
 /// Returns how many mismatches and how many types are found, if memory suffices.
 fn found_counts<A: Allocator + Copy>(heap: A, entries: &[LogEntry<'_>]) -> Option<(usize, usize)> {
-    let found = check_entries(heap, entries).ok()?;
+    let found = check_entries(heap, entries, None).ok()?;
     Some((found.mismatches.len(), found.types.len()))
 }
 

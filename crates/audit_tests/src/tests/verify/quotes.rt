@@ -4,9 +4,9 @@ use audit_text::text::{push_no_digest, push_other_nonce, push_quote, push_quote_
 use pcr_replay::{Bank, ReadLog};
 use std::alloc::Global;
 use std::test::Fail;
-use test_support::{Refusing, bytes, same_text, takes_memory};
+use test_support::{Refusing, bytes, holds, same_text, takes_memory};
 use tpm_quote::Quote;
-use uefi_audits::verify::{QuoteVerdict, ReceivedQuote, covered_pcrs};
+use uefi_audits::verify::{ComparedQuote, ReceivedQuote};
 use uefi_tcg::{LastEntry, Log};
 
 /// The quote of PCR 0 and 7 with another digest.
@@ -21,19 +21,20 @@ const LINES: &str = "a.quote: hash sha256, no nonce, clock 1702 ms, safe, reset 
     1, restart count 0\na.log: no event has a digest of the bank sha384\n";
 
 /// The same in JSON.
-const JSON_LINE: &str = "{\"locality\":0,\"log\":\"a.log\",\"quote\":{\"agrees\":false,\"\
-    banks\":[{\"algorithm\":\"sha384\",\"pcrs\":[14]}],\"clock\":{\"\
-    clock\":1702,\"reset_count\":1,\"restart_count\":0,\"safe\":true\
-    },\"digest\":\"17b0761f87b081d5cf10757ccc89f12be355c70e2e29df288\
-    b65b30710dcbcd1\",\"hash\":\"sha256\",\"leads_to\":null,\"nonce\
-    \":\"\",\"nonce_agrees\":null}}\n";
+const JSON_LINE: &str =
+    "{\"agrees\":false,\"covered\":[{\"bank\":\"sha384\",\"pcrs\":[14]}],\"failed\
+    \":[\"digest\"],\"locality\":0,\"log\":\"a.log\",\"not_covered\":[{\"bank\":\
+    null,\"pcrs\":[0,7]}],\"quote\":{\"banks\":[{\"algorithm\":\"sha384\",\"pcrs\
+    \":[14]}],\"clock\":{\"clock\":1702,\"reset_count\":1,\"restart_count\":0,\"\
+    safe\":true},\"digest\":\"17b0761f87b081d5cf10757ccc89f12be355c70e2e29df288\
+    b65b30710dcbcd1\",\"digest_agrees\":false,\"hash\":\"sha256\",\"leads_to\":null\
+    ,\"nonce\":\"\",\"nonce_agrees\":null}}\n";
 
-/// Returns the verdict on a quote, after the log.
-fn verdict(alloc: Global, received: &ReceivedQuote<'_>) -> Result<QuoteVerdict, Fail> {
+/// Returns a quote beside the log.
+fn compared<'a>(alloc: Global, received: &ReceivedQuote<'a>) -> Result<ComparedQuote<'a>, Fail> {
     let log = bytes(alloc, SHA256_LOG)?;
     let read = ReadLog::new(alloc, Log::new(log.as_slice(), LastEntry::Unknown))?;
-    let (quote, hash) = (&received.quote, received.hash);
-    Ok(QuoteVerdict::new(alloc, read.entries(), quote, hash, None)?)
+    Ok(ComparedQuote::new(alloc, read.entries(), received, &[], None)?)
 }
 
 #[test]
@@ -45,17 +46,17 @@ fn a_quote_of_a_bank_that_no_event_extends_has_no_digest(rt: HostRuntime) -> Res
         hash: Bank::Sha256,
         nonce: None,
     };
-    let verdict = verdict(alloc, &received)?;
+    let compared = compared(alloc, &received)?;
     let mut text = String::new(alloc);
     push_other_nonce(&mut text, alloc, "a.quote", &received)?;
     push_quote(&mut text, alloc, "a.quote", &received)?;
-    push_quote_verdict(&mut text, alloc, "a.log", &received.quote, &verdict)?;
-    if let Err(why) = verdict.digest {
+    push_quote_verdict(&mut text, alloc, "a.log", &compared.verdict)?;
+    if let Err(why) = compared.verdict.digest {
         push_no_digest(&mut text, "a.log", why)?;
     }
     same_text("its lines", text.as_str(), LINES)?;
     let mut line = String::new(alloc);
-    push_quote_json(&mut line, alloc, "a.log", &received, &verdict)?;
+    push_quote_json(&mut line, alloc, "a.log", &compared)?;
     same_text("its line of JSON", line.as_str(), JSON_LINE)
 }
 
@@ -65,13 +66,12 @@ fn count(
     read: &ReadLog<'_>,
     received: &ReceivedQuote<'_>,
 ) -> Option<usize> {
-    let (quote, hash) = (&received.quote, received.hash);
-    let verdict = QuoteVerdict::new(heap, read.entries(), quote, hash, None).ok()?;
+    let compared = ComparedQuote::new(heap, read.entries(), received, &[], None).ok()?;
     let mut text = String::new(heap);
     push_other_nonce(&mut text, heap, "a.quote", received).ok()?;
     push_quote(&mut text, heap, "a.quote", received).ok()?;
-    push_quote_verdict(&mut text, heap, "a.log", quote, &verdict).ok()?;
-    Some(covered_pcrs(heap, quote).ok()?.len())
+    push_quote_verdict(&mut text, heap, "a.log", &compared.verdict).ok()?;
+    Some(compared.coverage.covered.len())
 }
 
 #[test]
@@ -85,4 +85,34 @@ fn a_quote_runs_out_of_memory_at_each_request(rt: HostRuntime) -> Result<(), Fai
         nonce: Some(b"other"),
     };
     takes_memory(alloc, &2, |heap| count(heap, &read, &received))
+}
+
+/// The PCRs of a bank, and whether the quote of PCR 0 and 7 of SHA-256 covers them.
+const COVERED: [(Bank, &[u32], bool); 7] = [
+    (Bank::Sha256, &[0, 7], true),
+    (Bank::Sha256, &[7], true),
+    (Bank::Sha256, &[], true),
+    (Bank::Sha256, &[0, 1, 7], false),
+    (Bank::Sha256, &[16], false),
+    (Bank::Sha256, &[24], false),
+    (Bank::Sha1, &[0], false),
+];
+
+#[test]
+fn a_quote_covers_the_pcrs_of_its_banks(rt: HostRuntime) -> Result<(), Fail> {
+    let alloc = rt.alloc();
+    let message = bytes(alloc, OTHER_DIGEST)?;
+    let received = ReceivedQuote {
+        quote: Quote::try_from(message.as_slice())?,
+        hash: Bank::Sha256,
+        nonce: None,
+    };
+    let compared = compared(alloc, &received)?;
+    for (bank, pcrs, is_covered) in &COVERED {
+        holds(
+            "the quote",
+            compared.verdict.covers(*bank, *pcrs) == *is_covered,
+        )?;
+    }
+    holds("another digest", !compared.agrees())
 }

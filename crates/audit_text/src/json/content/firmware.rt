@@ -5,16 +5,16 @@ ghost use Rattle.uefi_tcg.specs.v2.Views.{header_of, table_of};
 ghost use Rattle.audit_text.specs.words.Tags.{tag_name};
 ghost use Rattle.audit_text.specs.json.Firmware.{blob_json, described_json, header_json, size_json, tagged_events_json, tagged_json, with_name};
 
-use crate::json::content::path::{put_printed, put_rest};
+use crate::json::content::path::put_rest;
 use crate::json::digests::algorithm_json;
 use crate::json::event::hex_json;
 use crate::words::tags::tag_name;
-use crate::words::texts::byte_text;
+use crate::words::texts::{byte_text, event_text};
 use serde_json::{Map, Value, put};
 use std::alloc::{AllocError, Global};
 use uefi_audits::content::TaggedData;
 use uefi_tcg::AlgorithmId;
-use uefi_tcg::content::{PlatformFirmwareBlob, PlatformFirmwareBlob2, TaggedEvent};
+use uefi_tcg::content::{EventText, PlatformFirmwareBlob, PlatformFirmwareBlob2, TaggedEvent};
 use uefi_tcg::v2::{AlgorithmDigestSizes, EventLogHeader};
 
 /// Returns a blob: its address and its length.
@@ -88,7 +88,7 @@ fn each_tagged(alloc: Global, tagged: &TaggedData<'_>) -> Result<Vec<Value>, All
 }
 
 /// Returns a tagged event: its data in hex, its number, the name of its tag, if it has one, and the
-/// text that its data are, if all of it prints.
+/// text that its data are.
 #[tactic(auto, unfolding(crate::specs::json::Firmware::tagged_json))]
 fn tagged_json(alloc: Global, event: &TaggedEvent<'_>) -> Result<Value, AllocError>
     ensures { IfOk result (λ value. view value ≡ tagged_json (tagged_of event.now)) }
@@ -98,7 +98,8 @@ fn tagged_json(alloc: Global, event: &TaggedEvent<'_>) -> Result<Value, AllocErr
     put(&mut members, alloc, "data", data)?;
     put(&mut members, alloc, "id", Value::from(event.id))?;
     put_name(&mut members, alloc, event.id)?;
-    put_printed(&mut members, alloc, "text", event.data)?;
+    let text = event_text(alloc, &EventText::read(event.data))?;
+    put(&mut members, alloc, "text", Value::String(text))?;
     Ok(Value::Object(members))
 }
 

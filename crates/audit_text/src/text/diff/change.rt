@@ -33,12 +33,12 @@ mod words;
 /// | data | what is compared |
 /// |---|---|
 /// | a variable whose value isn't read | the value: 0 and 1 in one byte, its words, if all of it prints, or its bytes |
-/// | a text, a version, the only tagged event, if its data are a text | its words, with `..` for those before the first that differs |
+/// | a text, a version, the only tagged event | its words, with `..` for those before the first that differs |
 /// | other data that are read | the lines of an event's block for them, without their indent |
 /// | data that aren't read, or if nothing differs in that | the bytes of the data |
 ///
-/// Bytes are in hex from the first that differs, at most 32 of an event, with `..` for those after
-/// them. If an event has nothing that the other one lacks, its side is `nothing`. The lines are
+/// Bytes are in hex from the first that differs, at most 32 of an event, and how many more there are:
+/// `..(23 more)`. If an event has nothing that the other one lacks, its side is `nothing`. The lines are
 /// those of [`push_event_blocks`](crate::text::push_event_blocks).
 ///
 /// The digests follow if the data don't account for them: the data are the same, or the types of

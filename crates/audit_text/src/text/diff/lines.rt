@@ -189,7 +189,7 @@ fn push_words(text: &mut String, alloc: Global, found: &NumberedEntry<'_>) -> Re
         (covered_words (said (content_of found.now.content)) (cover_text (numbered_of found.now)))) }
 {
     let mut words = String::new(alloc);
-    push_said(&mut words, &found.content)?;
+    push_said(&mut words, alloc, &found.content)?;
     if words.is_empty() {
         return Ok(());
     }
@@ -267,7 +267,7 @@ fn push_name(text: &mut String, alloc: Global, change: &EventChange<'_>) -> Resu
     ensures { OnOk result (AppendsText text.old text.new (name_text (change_of change.now))) }
 {
     let mut words = String::new(alloc);
-    push_label(&mut words, &change.old, &change.new)?;
+    push_label(&mut words, alloc, &change.old, &change.new)?;
     if words.is_empty() {
         return Ok(());
     }
@@ -279,6 +279,7 @@ fn push_name(text: &mut String, alloc: Global, change: &EventChange<'_>) -> Resu
 #[tactic(auto, unfolding(crate::specs::text::Differences::label_words))]
 fn push_label(
     text: &mut String,
+    alloc: Global,
     old: &NumberedEntry<'_>,
     new: &NumberedEntry<'_>,
 ) -> Result<(), AllocError>
@@ -287,9 +288,9 @@ fn push_label(
 {
     let bytes = old.entry.event.event_data();
     if bytes == new.entry.event.event_data() {
-        return push_said(text, &old.content);
+        return push_said(text, alloc, &old.content);
     }
-    push_name_words(text, &old.content, bytes)
+    push_name_words(text, alloc, &old.content, bytes)
 }
 
 /// Appends the name of a variable, the path of an image, a tag, or what GRUB writes before a command
@@ -297,6 +298,7 @@ fn push_label(
 #[tactic(auto, unfolding(crate::specs::text::Differences::name_words))]
 fn push_name_words(
     text: &mut String,
+    alloc: Global,
     content: &EventContent<'_>,
     bytes: &[u8],
 ) -> Result<(), AllocError>
@@ -310,7 +312,7 @@ fn push_name_words(
         | EventContent::SignatureLists(..)
         | EventContent::Signature(..)
         | EventContent::Image(..)
-        | EventContent::Tagged(_) => push_said(text, content),
+        | EventContent::Tagged(_) => push_said(text, alloc, content),
         EventContent::LoaderText(_) => push_command(text, command_name(bytes)),
         _ => Ok(()),
     }

@@ -10,8 +10,7 @@ use crate::text::events::gpt::push_gpt;
 use crate::text::events::hex_lines::push_bytes_lines;
 use crate::text::events::signatures::{push_signature, push_signature_lists};
 use crate::text::events::variable::{push_boot_option, push_boot_order, push_path, push_variable};
-use crate::words::ShownName;
-use crate::words::texts::{event_text, version_text};
+use crate::words::texts::{shown, shown_event, shown_version};
 use std::alloc::{AllocError, Global};
 use uefi_audits::content::EventContent;
 use uefi_path::DevicePath;
@@ -30,16 +29,19 @@ pub(crate) fn push_content(
 {
     match content {
         EventContent::Unread => push_bytes_lines(text, alloc, "data", bytes),
-        EventContent::Text(said) => push_text(text, said),
+        EventContent::Text(said) => {
+            let said = shown(alloc, said)?;
+            push_text(text, said.as_str())
+        }
         EventContent::Separator(number) => writeln!(text, "  separator 0x{number:x}"),
         EventContent::Locality(number) => writeln!(text, "  started at locality {number}"),
         EventContent::Header(header) => push_header(text, alloc, header),
         EventContent::LoaderText(said) => {
-            let said = event_text(alloc, said)?;
+            let said = shown_event(alloc, said)?;
             push_text(text, said.as_str())
         }
         EventContent::CrtmVersion(version) => {
-            let version = version_text(alloc, version)?;
+            let version = shown_version(alloc, version)?;
             push_version(text, version.as_str())
         }
         EventContent::Blob(blob) => push_blob(text, blob),
@@ -70,21 +72,19 @@ pub(crate) fn push_content(
     }
 }
 
-/// Appends the line of a text.
+/// Appends the line of a text, as it is shown.
 #[tactic(auto, unfolding(crate::specs::text::EventContents::text_line))]
 fn push_text(text: &mut String, said: &str) -> Result<(), AllocError>
     ensures { OnOk result (AppendsText text.old text.new (text_line said.now)) }
 {
-    let said = ShownName(said);
     writeln!(text, "  text {said}")
 }
 
-/// Appends the line of a version.
+/// Appends the line of a version, as it is shown.
 #[tactic(auto, unfolding(crate::specs::text::EventContents::version_line))]
 fn push_version(text: &mut String, version: &str) -> Result<(), AllocError>
     ensures { OnOk result (AppendsText text.old text.new (version_line version.now)) }
 {
-    let version = ShownName(version);
     writeln!(text, "  version {version}")
 }
 

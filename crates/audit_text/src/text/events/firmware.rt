@@ -2,19 +2,17 @@ ghost use Rattle.std.specs.Prelude.{flat_map, OnOk};
 ghost use Rattle.uefi_base.specs.Appending.{AppendsText};
 ghost use Rattle.uefi_tcg.specs.content.Views.{blob_of, described_of, tagged_of};
 ghost use Rattle.uefi_tcg.specs.v2.Views.{header_of, table_of};
-ghost use Rattle.audit_text.specs.words.Printed.{printed_text};
 ghost use Rattle.audit_text.specs.text.EventContents.{blob_line, described_line, header_line, header_lines, size_line, tagged_data, tagged_line, tagged_lines};
 
 use crate::text::events::hex_lines::push_bytes_lines;
 use crate::text::events::names::push_algorithm;
 use crate::words::ShownName;
-use crate::words::printed::printed_text;
 use crate::words::tags::push_tag;
-use crate::words::texts::byte_text;
+use crate::words::texts::{byte_text, shown_event};
 use std::alloc::{AllocError, Global};
 use uefi_audits::content::TaggedData;
 use uefi_tcg::AlgorithmId;
-use uefi_tcg::content::{PlatformFirmwareBlob, PlatformFirmwareBlob2, TaggedEvent};
+use uefi_tcg::content::{EventText, PlatformFirmwareBlob, PlatformFirmwareBlob2, TaggedEvent};
 use uefi_tcg::v2::{AlgorithmDigestSizes, EventLogHeader};
 
 /// Appends the lines of a header.
@@ -135,20 +133,11 @@ fn push_tagged_event(
     push_tagged_data(text, alloc, event.data)
 }
 
-/// Appends the text that the data of a tagged event are, if all of it prints, or the data in hex.
+/// Appends the text that the data of a tagged event are.
 #[tactic(auto, unfolding(crate::specs::text::EventContents::tagged_data))]
 fn push_tagged_data(text: &mut String, alloc: Global, bytes: &[u8]) -> Result<(), AllocError>
-    ensures { OnOk result (AppendsText text.old text.new
-        (tagged_data (printed_text bytes.now) bytes.now)) }
+    ensures { OnOk result (AppendsText text.old text.new (tagged_data bytes.now)) }
 {
-    match printed_text(alloc, bytes)? {
-        Some(printed) => {
-            let printed = ShownName(printed.as_str());
-            writeln!(text, ": {printed}")
-        }
-        None => {
-            let digits = hex::encode(alloc, bytes)?;
-            writeln!(text, " {digits}")
-        }
-    }
+    let said = shown_event(alloc, &EventText::read(bytes))?;
+    writeln!(text, ": {said}")
 }

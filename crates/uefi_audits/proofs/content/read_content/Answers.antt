@@ -2,14 +2,6 @@ use Rattle.std.proofs.Common.{rules}
 use Rattle.uefi_audits.specs.content.Content.{Says, form_of}
 use Rattle.uefi_audits.proofs.content.read_content.Goals as goal
 
-pub returns-in-CRTM_VERSION : goal.returns-in-CRTM_VERSION
-unfolding Says form_of
-returns-in-CRTM_VERSION c = let says = c.crtm_version_content.ensures c.args.uintn_size in search rules
-
-pub returns-in-IPL : goal.returns-in-IPL
-unfolding Says form_of
-returns-in-IPL c = let says = c.loader_text_content.ensures c.args.uintn_size in search rules
-
 pub returns-in-POST_CODE2 : goal.returns-in-POST_CODE2
 unfolding Says form_of
 returns-in-POST_CODE2 c = let says = c.described_blob_content.ensures c.args.uintn_size in search rules

@@ -1,14 +1,15 @@
 -- Keys, and keys with ranks, in an order.
-use Rattle.std.specs.Prelude.{ℕ}
+use Rattle.std.specs.Prelude.{ℕ, option_map}
 use Rattle.std.specs.declared.cmp.Ordering.{Ordering}
 use Rattle.std.specs.Ordering.{nat_cmp, on, then_cmp}
 use Rattle.std.specs.Cmp.{IsTotalOrder, nat_cmp_total, on_total, then_total}
 use Rattle.std.specs.Cmp.Lexicographic.{nat_list_cmp_total}
+use Rattle.uefi_tcg.specs.declared.algorithm_id.AlgorithmId.{AlgorithmId}
 use Rattle.uefi_audits.specs.declared.diff.event_key.EventKey.{EventKey}
 use Rattle.uefi_audits.specs.declared.diff.event_key.KeyedBy.{KeyedBy}
-use Rattle.uefi_audits.specs.declared.diff.event_key.KeyedBy.TheVariants.{Data, Name}
+use Rattle.uefi_audits.specs.declared.diff.event_key.KeyedBy.TheVariants.{Data, Name, Digest}
 use Rattle.uefi_audits.specs.declared.diff.event_key.RankedKey.{RankedKey}
-use Rattle.uefi_audits.specs.diff.Counterparts.{Key, data_key, key_cmp, name_key}
+use Rattle.uefi_audits.specs.diff.Counterparts.{Key, data_key, digest_key, key_cmp, name_key}
 use Rattle.uefi_audits.specs.diff.Numbered.{Numbered}
 
 abbrev pub keyed : EventKey → Key
@@ -19,10 +20,11 @@ keyed key = record {
   name = key.name.now;
 }
 
--- The key of an event, by its data or by its name.
+-- The key of an event: by its data, by its name, or by its first digest of an algorithm.
 abbrev pub key_by : KeyedBy → Numbered → Key
 key_by Data = data_key
 key_by Name = name_key
+key_by (Digest algorithm) = digest_key (option_map (λ (id : AlgorithmId). id.0) algorithm)
 
 -- A key, and how many events before an event have it.
 pub record Ranked : Type 0 where

@@ -4,6 +4,7 @@
 
 use crate::support::fallible::*;
 
+use super::out_of_place::push_remarks;
 use crate::audit_text::json::{line_of, type_json};
 use crate::audit_text::words::form_name;
 use crate::serde_json::{Map, Value, put};
@@ -11,7 +12,8 @@ use crate::support::alloc::AllocError;
 use crate::uefi_audits::check::{CheckResult, Form, Mismatch, TypeCounts};
 
 /// Appends what was found of the events of a log as JSON: a line with an object for each event that
-/// matches in none of its type's forms, and then a line with one for the types of the events.
+/// matches in none of its type's forms, for each that is out of place, and for each PCR without a
+/// separator, and then a line with one for the types of the events.
 ///
 /// | key of an event | value |
 /// |---|---|
@@ -22,6 +24,11 @@ use crate::uefi_audits::check::{CheckResult, Form, Mismatch, TypeCounts};
 /// | `pcr` | the index of its PCR |
 /// | `type` | an object with `name`, if the type has one, and `number` |
 ///
+/// An event that is out of place has `out_of_place` in place of `matches`: `second separator`,
+/// `separator of another value`, `type of other PCRs`, `after the separator`, or `other than its data
+/// was measured`. A PCR without a separator has `log`, `out_of_place`, which is `no separator`, and
+/// `pcr`.
+///
 /// The last line's object has the log's name as `log`, and as `checked` an array with an object for
 /// each type of the events, in the order of the types' numbers.
 ///
@@ -30,6 +37,7 @@ use crate::uefi_audits::check::{CheckResult, Form, Mismatch, TypeCounts};
 /// | `forms` | an object with how many match in each form in which any matches |
 /// | `matched` | how many match |
 /// | `matches_none` | how many match in none of the type's forms |
+/// | `not_covered` | how many aren't covered |
 /// | `not_in_log` | of how many the log doesn't have what was measured |
 /// | `type` | an object with `name`, if the type has one, and `number` |
 ///
@@ -42,6 +50,7 @@ pub fn push_check_json(
     found: &CheckResult<'_>,
 ) -> Result<(), AllocError> {
     push_mismatches(text, log, found.mismatches.as_slice())?;
+    push_remarks(text, log, &found.remarks)?;
     push_types(text, log, found.types.as_slice())
 }
 
@@ -123,7 +132,8 @@ fn counts_json(counts: &TypeCounts) -> Result<Value, AllocError> {
     let (matches, none) = (counts.matches, counts.matches_none);
     put(&mut members, "matched", Value::from(matches))?;
     put(&mut members, "matches_none", Value::from(none))?;
-    let outside = counts.not_in_log;
+    let (uncovered, outside) = (counts.not_covered, counts.not_in_log);
+    put(&mut members, "not_covered", Value::from(uncovered))?;
     put(&mut members, "not_in_log", Value::from(outside))?;
     let event_type = type_json(counts.event_type)?;
     put(&mut members, "type", event_type)?;

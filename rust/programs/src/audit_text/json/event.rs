@@ -30,8 +30,7 @@ use uefi_formats::proto::tcg::{EventType, LogEntry, UintnSize};
 /// |---|---|
 /// | `EV_NO_ACTION` | `locality`, if the data are `StartupLocality`, a zero byte and it; `header`, if they begin with the header of a log |
 /// | `EV_SEPARATOR` | `separator`, the number that four bytes of data are |
-/// | `EV_ACTION`, `EV_EFI_ACTION`, `EV_OMIT_BOOT_DEVICE_EVENTS`, `EV_EFI_HCRTM_EVENT` | `text` |
-/// | `EV_IPL` | `text`, in ASCII or UTF-16, without the NUL that may end it |
+/// | `EV_IPL`, `EV_ACTION`, `EV_EFI_ACTION`, `EV_OMIT_BOOT_DEVICE_EVENTS`, `EV_EFI_HCRTM_EVENT` | `text`, without the NUL that may end it |
 /// | `EV_S_CRTM_VERSION` | `crtm_version`: a text, or a GUID |
 /// | `EV_EFI_PLATFORM_FIRMWARE_BLOB` | `blob`, with `address` and `length` |
 /// | `EV_EFI_PLATFORM_FIRMWARE_BLOB2`, `EV_POST_CODE2` | `blob`, with `description` as well |
@@ -42,14 +41,17 @@ use uefi_formats::proto::tcg::{EventType, LogEntry, UintnSize};
 /// | `EV_EFI_BOOT_SERVICES_APPLICATION`, `_DRIVER`, `EV_EFI_RUNTIME_SERVICES_DRIVER` | `image` |
 /// | others | `text`, if all bytes of the data print |
 ///
-/// The text of an action is in characters of ASCII that print. Data are a text if they are two or more such
-/// characters, tabs and ends of lines, of one byte or two each, with a NUL at the end or without one. In
-/// other texts and in names U+FFFD stands for a surrogate. Bytes are in hex, and GUIDs are text.
+/// The text of such an event, and of a tagged event, is UTF-8 or else UTF-16, as
+/// [`EventText`](uefi_formats::proto::tcg::content::EventText) reads it. Of bytes that are neither, each is its character
+/// of ASCII, if that prints, or `\x` and two hex digits; a backslash is too. Other data, as the value of
+/// a variable, are a text if they are two or more characters of ASCII that print, tabs and ends of lines,
+/// of one byte or two each, with a NUL at the end or without one. In names U+FFFD stands for a surrogate.
+/// Bytes are in hex, and GUIDs are text.
 ///
 /// | object | keys |
 /// |---|---|
 /// | `header` | `algorithms`, each with `algorithm` and `size`; `errata`, `major`, `minor`, `platform_class`, `uintn_size`, `vendor_info` |
-/// | `tagged_events` | `events`, each with `data` and `id`, `name`, if the tag has one, and `text`, if the data are one; `rest`, the bytes after them, if there are any |
+/// | `tagged_events` | `events`, each with `data`, `id` and `text`, and `name`, if the tag has one; `rest`, the bytes after them, if there are any |
 /// | `gpt` | `disk_guid`, `first_usable_lba`, `last_usable_lba`; `partitions`, each with `attributes`, `first_lba`, `last_lba`, `name`, `type_guid` and `unique_guid` |
 /// | `variable` | `data`, `guid`, `name`; `value`, if it is read: an object with one of the keys below; else `text`, if the data are one |
 /// | `image` | `address`, `length`, `link_address`; `path`; `rest`, the bytes after it, if there are any; `text`, the path as text, if it is one |

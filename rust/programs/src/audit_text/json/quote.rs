@@ -2,6 +2,7 @@
 
 use crate::support::fallible::*;
 
+use crate::audit_text::json::coverage::{covered_json, not_covered_json, push_unless};
 use crate::audit_text::json::digests::algorithm_json;
 use crate::audit_text::json::event::hex_json;
 use crate::audit_text::json::line::line_of;
@@ -10,23 +11,26 @@ use crate::serde_json::{Map, Value, json, put};
 use crate::support::alloc::AllocError;
 use uefi_formats::pcr::{ClockInfo, PcrSelection, Quote};
 use crate::uefi_audits::naming::bank_name;
-use crate::uefi_audits::verify::{QuoteVerdict, ReceivedQuote};
+use crate::uefi_audits::verify::{ComparedQuote, QuoteVerdict, ReceivedQuote};
 
-/// Appends whether a log leads to the digest of a quote as one line of JSON: an object, and a line
-/// break.
+/// Appends whether a log agrees with a quote as one line of JSON: an object, and a line break.
 ///
 /// | key | value |
 /// |---|---|
+/// | `agrees` | whether nothing failed |
+/// | `covered` | the PCRs that the quote covers, an object for each bank: `bank`, `pcrs` |
+/// | `failed` | what failed: `digest` if the log doesn't lead to the quote's, `nonce` if it is another one, `coverage` if PCRs that are asked for aren't covered, or none is |
 /// | `locality` | the locality at which PCR 0 starts |
 /// | `log` | what was given: the log's name |
+/// | `not_covered` | such objects of the PCRs that are asked for and not covered; and with the bank `null` one of those that events extend and of which no bank is covered |
 /// | `quote` | the quote |
 ///
 /// | key of the quote | value |
 /// |---|---|
-/// | `agrees` | whether the log leads to its digest |
 /// | `banks` | for each selection: `algorithm` (a name, or a number), `pcrs` |
 /// | `clock` | the TPM's clock: `clock` in milliseconds, `reset_count`, `restart_count`, `safe` |
 /// | `digest` | its digest, in hex |
+/// | `digest_agrees` | whether the log leads to it |
 /// | `hash` | the hash function of its digest |
 /// | `leads_to` | the digest to which the log leads, in hex; `null` if it leads to none |
 /// | `nonce` | its nonce, in hex |
@@ -38,40 +42,67 @@ use crate::uefi_audits::verify::{QuoteVerdict, ReceivedQuote};
 pub fn push_quote_json(
     text: &mut String,
     name: &str,
-    received: &ReceivedQuote<'_>,
-    verdict: &QuoteVerdict,
+    compared: &ComparedQuote<'_>,
 ) -> Result<(), AllocError> {
-    let banks = banks_json(&received.quote)?;
-    let quote = quote_json(received, verdict, banks)?;
-    let value = object_json(name, verdict.start.start.locality, quote)?;
+    let banks = banks_json(&compared.verdict.received.quote)?;
+    let quote = quote_json(&compared.verdict, banks)?;
+    let value = object_json(name, compared, quote)?;
     let line = line_of(&value)?;
     fallible_writeln!(text, "{line}")
 }
 
 /// Returns the object of a log.
-fn object_json(name: &str, locality: u8, quote: Value) -> Result<Value, AllocError> {
+fn object_json(
+    name: &str,
+    compared: &ComparedQuote<'_>,
+    quote: Value,
+) -> Result<Value, AllocError> {
     let mut members = Map::new();
-    put(&mut members, "locality", Value::from(locality))?;
+    put(
+        &mut members,
+        "agrees",
+        Value::Bool(compared.agrees()),
+    )?;
+    let covered = covered_json(compared.coverage.covered.as_slice())?;
+    put(&mut members, "covered", covered)?;
+    let failed = failed_json(compared)?;
+    put(&mut members, "failed", failed)?;
+    let locality = Value::from(compared.verdict.start.start.locality);
+    put(&mut members, "locality", locality)?;
     let log = Value::try_from_str(name)?;
     put(&mut members, "log", log)?;
+    let not_covered = not_covered_json(&compared.coverage)?;
+    put(&mut members, "not_covered", not_covered)?;
     put(&mut members, "quote", quote)?;
     Ok(Value::Object(members))
 }
 
+/// Returns what of a quote doesn't agree.
+fn failed_json(compared: &ComparedQuote<'_>) -> Result<Value, AllocError> {
+    let verdict = &compared.verdict;
+    let mut failed = Vec::new();
+    push_unless(&mut failed, verdict.digest_agrees, "digest")?;
+    push_unless(
+        &mut failed,
+        verdict.received.has_its_nonce(),
+        "nonce",
+    )?;
+    push_unless(&mut failed, compared.coverage.is_whole(), "coverage")?;
+    Ok(Value::Array(failed))
+}
+
 /// Returns the object of a quote.
-fn quote_json(
-    received: &ReceivedQuote<'_>,
-    verdict: &QuoteVerdict,
-    banks: Value,
-) -> Result<Value, AllocError> {
+fn quote_json(verdict: &QuoteVerdict<'_>, banks: Value) -> Result<Value, AllocError> {
+    let received = &verdict.received;
     let quote = &received.quote;
     let mut members = Map::new();
-    put(&mut members, "agrees", Value::Bool(verdict.agrees))?;
     put(&mut members, "banks", banks)?;
     let clock = clock_json(quote.clock_info())?;
     put(&mut members, "clock", clock)?;
     let digest = hex_json(quote.pcr_digest())?;
     put(&mut members, "digest", digest)?;
+    let digest_agrees = Value::Bool(verdict.digest_agrees);
+    put(&mut members, "digest_agrees", digest_agrees)?;
     let hash = Value::try_from_str(bank_name(received.hash))?;
     put(&mut members, "hash", hash)?;
     let leads_to = digest_json(&verdict.digest)?;

@@ -2,23 +2,27 @@
 
 use crate::support::fallible::*;
 
+use crate::audit_text::json::coverage::{covered_json, not_covered_json, push_unless};
 use crate::audit_text::json::event::hex_json;
 use crate::audit_text::json::line::line_of;
 use uefi_formats::pcr::{BankPcrs, PcrValue, Undetermined};
 use crate::serde_json::{Map, Value, json, put};
 use crate::support::alloc::AllocError;
 use crate::uefi_audits::naming::bank_name;
-use crate::uefi_audits::verify::{HeldPcr, Verdict, agrees, led_to};
+use crate::uefi_audits::verify::{ComparedPcrs, HeldPcr, agrees, led_to};
 
 /// Appends whether a log leads to these PCRs as one line of JSON: an object, and a line break.
 ///
 /// | key | value |
 /// |---|---|
-/// | `agree` | whether all PCRs hold what the log leads to |
-/// | `count` | how many PCRs these are |
-/// | `disagreeing` | an object for each PCR that doesn't, in order |
+/// | `agrees` | whether nothing failed |
+/// | `count` | how many PCRs are compared |
+/// | `covered` | which PCRs are compared, an object for each bank: `bank`, `pcrs` |
+/// | `disagreeing` | an object for each PCR that doesn't hold what the log leads to, in order |
+/// | `failed` | what failed: `pcrs` if such a PCR is there, `coverage` if PCRs that are asked for aren't stated, or none is compared |
 /// | `locality` | the locality at which PCR 0 starts |
 /// | `log` | what was given: the log's name |
+/// | `not_covered` | such objects of the PCRs that are asked for and not stated; and with the bank `null` one of those that events extend and of which no bank is compared |
 ///
 /// | key of a PCR | value |
 /// |---|---|
@@ -36,11 +40,11 @@ use crate::uefi_audits::verify::{HeldPcr, Verdict, agrees, led_to};
 pub fn push_verdict_json(
     text: &mut String,
     name: &str,
-    held: &[HeldPcr],
-    verdict: &Verdict,
+    compared: &ComparedPcrs,
 ) -> Result<(), AllocError> {
-    let disagreeing = disagreeing_json(held, verdict.replays.as_slice())?;
-    let value = verdict_json(name, held, verdict, disagreeing)?;
+    let held = compared.held.as_slice();
+    let disagreeing = disagreeing_json(held, compared.verdict.replays.as_slice())?;
+    let value = verdict_json(name, compared, disagreeing)?;
     let line = line_of(&value)?;
     fallible_writeln!(text, "{line}")
 }
@@ -48,23 +52,40 @@ pub fn push_verdict_json(
 /// Returns the object of a log.
 fn verdict_json(
     name: &str,
-    held: &[HeldPcr],
-    verdict: &Verdict,
+    compared: &ComparedPcrs,
     disagreeing: Value,
 ) -> Result<Value, AllocError> {
     let mut members = Map::new();
     put(
         &mut members,
-        "agree",
-        Value::Bool(verdict.is_agreement()),
+        "agrees",
+        Value::Bool(compared.agrees()),
     )?;
-    put(&mut members, "count", Value::from(held.len()))?;
+    put(
+        &mut members,
+        "count",
+        Value::from(compared.held.len()),
+    )?;
+    let covered = covered_json(compared.coverage.covered.as_slice())?;
+    put(&mut members, "covered", covered)?;
     put(&mut members, "disagreeing", disagreeing)?;
-    let locality = Value::from(verdict.start.start.locality);
+    let failed = failed_json(compared)?;
+    put(&mut members, "failed", failed)?;
+    let locality = Value::from(compared.verdict.start.start.locality);
     put(&mut members, "locality", locality)?;
     let log = Value::try_from_str(name)?;
     put(&mut members, "log", log)?;
+    let not_covered = not_covered_json(&compared.coverage)?;
+    put(&mut members, "not_covered", not_covered)?;
     Ok(Value::Object(members))
+}
+
+/// Returns what of PCRs doesn't agree.
+fn failed_json(compared: &ComparedPcrs) -> Result<Value, AllocError> {
+    let mut failed = Vec::new();
+    push_unless(&mut failed, compared.verdict.is_agreement(), "pcrs")?;
+    push_unless(&mut failed, compared.coverage.is_whole(), "coverage")?;
+    Ok(Value::Array(failed))
 }
 
 /// Returns the PCRs that don't agree.

@@ -4,16 +4,18 @@
 
 use crate::support::fallible::*;
 
+use super::out_of_place::push_remarks;
 use crate::audit_text::words::{ShownName, form_name, push_type};
 use crate::support::alloc::AllocError;
 use crate::uefi_audits::check::{CheckResult, Form, Mismatch, TypeCounts};
 
 /// Appends what was found of the events of a log: a line for each that matches in none of its type's
-/// forms, and then one for each type of the events, in the order of the types' numbers. The name is
-/// that of the log's file.
+/// forms, for each that is out of place, and for the PCRs without a separator, and then one for each
+/// type of the events, in the order of the types' numbers. The name is that of the log's file.
 ///
 ///
-/// A type without a name is its number, as `0x80000011`.
+/// A type without a name is its number, as `0x80000011`. Where not all events of a type are covered,
+/// `, 2 not covered` ends its line.
 ///
 /// # Errors
 ///
@@ -24,6 +26,7 @@ pub fn push_check(
     found: &CheckResult<'_>,
 ) -> Result<(), AllocError> {
     push_mismatches(text, name, found.mismatches.as_slice())?;
+    push_remarks(text, name, &found.remarks)?;
     push_types(text, found.types.as_slice())
 }
 
@@ -70,7 +73,16 @@ fn push_counts(text: &mut String, counts: &TypeCounts) -> Result<(), AllocError>
     fallible_write!(text, ": {matches} match")?;
     push_forms(text, counts)?;
     let (none, outside) = (counts.matches_none, counts.not_in_log);
-    fallible_writeln!(text, ", {none} don't match, {outside} not in the log")
+    fallible_write!(text, ", {none} don't match, {outside} not in the log")?;
+    push_uncovered(text, counts.not_covered)
+}
+
+/// Appends the end of a type's line: how many of its events aren't covered, if any isn't.
+fn push_uncovered(text: &mut String, count: u64) -> Result<(), AllocError> {
+    if count == 0 {
+        return text.fallible_push_str("\n");
+    }
+    fallible_writeln!(text, ", {count} not covered")
 }
 
 /// Appends in parentheses how many events match in each form, if any matches.

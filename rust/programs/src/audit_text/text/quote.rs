@@ -8,9 +8,9 @@ use crate::audit_text::text::unreplayed::{push_inactive, push_unsupported};
 use crate::audit_text::words::ShownName;
 use uefi_formats::pcr::{NoQuoteDigest, Undetermined};
 use crate::support::alloc::AllocError;
-use uefi_formats::pcr::{ClockInfo, Quote};
+use uefi_formats::pcr::ClockInfo;
 use crate::uefi_audits::naming::{bank_name, bank_of};
-use crate::uefi_audits::verify::{QuoteVerdict, ReceivedQuote, covered_pcrs};
+use crate::uefi_audits::verify::{NamedPcr, QuoteVerdict, ReceivedQuote, covered_pcrs};
 use uefi_formats::proto::tcg::{AlgorithmId, PcrIndex};
 
 /// Appends the line of a quote's nonce, if it isn't the one that the quote was asked for with. The
@@ -96,7 +96,8 @@ fn safe_text(safe: bool) -> &'static str {
 }
 
 /// Appends the line of a verdict on a quote: the PCRs that it covers, and if the log doesn't lead to
-/// them, both digests. Nothing, if the log leads to no digest. The line begins with `name`, the log's.
+/// them, both digests. It says that all agrees only if the nonce does, too. Nothing, if the log leads to
+/// no digest. The line begins with `name`, the log's.
 ///
 /// # Errors
 ///
@@ -104,21 +105,37 @@ fn safe_text(safe: bool) -> &'static str {
 pub fn push_quote_verdict(
     text: &mut String,
     name: &str,
-    quote: &Quote<'_>,
-    verdict: &QuoteVerdict,
+    verdict: &QuoteVerdict<'_>,
 ) -> Result<(), AllocError> {
     let Ok(found) = &verdict.digest else {
         return Ok(());
     };
+    let quote = &verdict.received.quote;
     let covered = covered_pcrs(quote)?;
     let locality = verdict.start.start.locality;
-    if verdict.agrees {
+    if verdict.agrees() {
         return push_agreement(text, name, covered.as_slice(), locality);
+    }
+    if verdict.digest_agrees {
+        return push_nonce_differs(text, name, covered.as_slice(), locality);
     }
     let name = ShownName(name);
     fallible_write!(text, "{name}: differs: ")?;
     push_ranges(text, covered.as_slice())?;
     push_digests(text, quote.pcr_digest(), found.as_bytes(), locality)
+}
+
+/// Appends the line of a quote that differs in its nonce alone: the log leads to the PCRs that it covers.
+fn push_nonce_differs(
+    text: &mut String,
+    name: &str,
+    pcrs: &[NamedPcr],
+    locality: u8,
+) -> Result<(), AllocError> {
+    let name = ShownName(name);
+    fallible_write!(text, "{name}: differs: the nonce, not ")?;
+    push_ranges(text, pcrs)?;
+    fallible_writeln!(text, " (PCR 0 starts at locality {locality})")
 }
 
 /// Appends the digest of a quote, and that of the PCRs to which a log leads.

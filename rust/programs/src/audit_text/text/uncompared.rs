@@ -33,7 +33,10 @@ fn push_line(
 }
 
 /// Appends further PCRs, each after a comma.
-fn push_others(messages: &mut String, pcrs: &[u32]) -> Result<(), AllocError> {
+pub(super) fn push_others(
+    messages: &mut String,
+    pcrs: &[u32],
+) -> Result<(), AllocError> {
     for pcr in pcrs {
         fallible_write!(messages, ", {pcr}")?;
     }

@@ -3,8 +3,8 @@
 use crate::support::fallible::*;
 
 use crate::audit_text::words::tags::push_tag;
-use crate::audit_text::words::texts::character;
-use crate::audit_text::words::{ShownName, path_text};
+use crate::audit_text::words::texts::name_text;
+use crate::audit_text::words::{ShownBytes, ShownName, path_text};
 use crate::support::alloc::AllocError;
 use crate::uefi_audits::content::{EventContent, TaggedData};
 use uefi_formats::UnalignedSlice;
@@ -14,7 +14,7 @@ use uefi_formats::proto::tcg::content::{
 };
 
 /// The most characters of a text or of a name that are shown.
-const SHOWN_LENGTH: usize = 80;
+const SHOWN_LENGTH: usize = 1000;
 
 /// Appends in a few words what data say; nothing if they aren't read.
 ///
@@ -32,21 +32,25 @@ const SHOWN_LENGTH: usize = 80;
 /// | a variable | `variable` and its name |
 /// | an image | `image` and its device path, if it has one |
 ///
-/// A text, a description or a name is shown as [`ShownName`] displays it, at most 80 characters of
-/// it. A device path is shown whole, as [`uefi_formats::proto::device_path::text::to_text`] returns it. If the bytes are no path,
-/// they are in hex, at most 80 of them.
+/// A text, a description or a name is shown as [`ShownName`] or [`ShownBytes`] displays it. Of more
+/// than 1,000 characters the first are shown, and how many there are more: `..(23 more)`. A device
+/// path is shown whole, as [`uefi_formats::proto::device_path::text::to_text`] returns it. If the bytes are no path, they are in
+/// hex, in the same way.
 ///
 /// # Errors
 ///
 /// [`AllocError`] if an allocation fails. The text may have grown then.
-pub fn push_said(text: &mut String, content: &EventContent<'_>) -> Result<(), AllocError> {
+pub fn push_said(
+    text: &mut String,
+    content: &EventContent<'_>,
+) -> Result<(), AllocError> {
     match content {
         EventContent::Unread => Ok(()),
         EventContent::Text(said) => push_bytes(text, said.as_bytes()),
         EventContent::Separator(number) => fallible_write!(text, "separator {number}"),
         EventContent::Locality(number) => fallible_write!(text, "locality {number}"),
         EventContent::Header(_) => text.fallible_push_str("header"),
-        EventContent::LoaderText(said) => push_event_text(text, said),
+        EventContent::LoaderText(said) => push_event(text, said),
         EventContent::CrtmVersion(version) => push_version(text, version),
         EventContent::Blob(blob) => push_blob(text, blob),
         EventContent::DescribedBlob(described) => {
@@ -67,11 +71,40 @@ pub fn push_said(text: &mut String, content: &EventContent<'_>) -> Result<(), Al
     }
 }
 
-/// Appends the first bytes, each as the character of its number.
+/// Appends the first bytes of what is no text, and how many there are more.
 pub(crate) fn push_bytes(text: &mut String, bytes: &[u8]) -> Result<(), AllocError> {
-    let (shown, _) = bytes.split_at(SHOWN_LENGTH.min(bytes.len()));
-    for byte in shown {
-        push_character(text, char::from(*byte))?;
+    let (first, rest) = bytes.split_at(SHOWN_LENGTH.min(bytes.len()));
+    let first = ShownBytes(first);
+    fallible_write!(text, "{first}")?;
+    push_more(text, rest.len())
+}
+
+/// Appends how many characters, or bytes, a text has that aren't shown, if it has any.
+pub(crate) fn push_more(text: &mut String, left: usize) -> Result<(), AllocError> {
+    if left == 0 {
+        return Ok(());
+    }
+    fallible_write!(text, "..({left} more)")
+}
+
+/// Appends the first characters of a text, and how many there are more.
+fn push_text(text: &mut String, said: &str) -> Result<(), AllocError> {
+    let characters = characters_of(said)?;
+    let all = characters.as_slice();
+    let (first, rest) = all.split_at(SHOWN_LENGTH.min(all.len()));
+    push_characters(text, first)?;
+    push_more(text, rest.len())
+}
+
+/// Returns the characters of a text.
+fn characters_of(text: &str) -> Result<Vec<char>, AllocError> {
+    text.chars().fallible_collect()
+}
+
+/// Appends characters as those of a file's name are shown.
+fn push_characters(text: &mut String, characters: &[char]) -> Result<(), AllocError> {
+    for character in characters {
+        push_character(text, *character)?;
     }
     Ok(())
 }
@@ -83,31 +116,33 @@ fn push_character(text: &mut String, character: char) -> Result<(), AllocError> 
     fallible_write!(text, "{shown}")
 }
 
-/// Appends the first units.
-fn push_units(text: &mut String, units: &UnalignedSlice<'_>) -> Result<(), AllocError> {
-    for index in 0..SHOWN_LENGTH.min(units.len()) {
-        let Some(unit) = units.get(index) else {
-            return Ok(());
-        };
-        push_character(text, character(unit))?;
-    }
-    Ok(())
+/// Appends the first units as text.
+fn push_units(
+    text: &mut String,
+    units: &UnalignedSlice<'_>,
+) -> Result<(), AllocError> {
+    let said = name_text(units)?;
+    push_text(text, said.as_str())
 }
 
 /// Appends the text of an event.
-fn push_event_text(text: &mut String, said: &EventText<'_>) -> Result<(), AllocError> {
+fn push_event(text: &mut String, said: &EventText<'_>) -> Result<(), AllocError> {
     match said {
-        EventText::Ascii { text: said, .. } => push_bytes(text, said),
+        EventText::Utf8 { text: said, .. } => push_text(text, said),
         EventText::Utf16 { units, .. } => push_units(text, units),
+        EventText::Other(bytes) => push_bytes(text, bytes),
     }
 }
 
 /// Appends a version.
-fn push_version(text: &mut String, version: &CrtmVersion<'_>) -> Result<(), AllocError> {
+fn push_version(
+    text: &mut String,
+    version: &CrtmVersion<'_>,
+) -> Result<(), AllocError> {
     match version {
         CrtmVersion::Ucs2(units) => push_units(text, units),
         CrtmVersion::Guid(guid) => fallible_write!(text, "{guid}"),
-        CrtmVersion::Other(said) => push_event_text(text, said),
+        CrtmVersion::Other(said) => push_event(text, said),
     }
 }
 
@@ -129,7 +164,10 @@ fn push_tagged(text: &mut String, tagged: &TaggedData<'_>) -> Result<(), AllocEr
 }
 
 /// Appends `variable` and the name of a variable.
-fn push_variable(text: &mut String, variable: &VariableData<'_>) -> Result<(), AllocError> {
+fn push_variable(
+    text: &mut String,
+    variable: &VariableData<'_>,
+) -> Result<(), AllocError> {
     text.fallible_push_str("variable ")?;
     push_units(text, &variable.name)
 }
@@ -162,10 +200,16 @@ fn push_path(
     }
 }
 
-/// Appends the first bytes in hex.
+/// Appends the first bytes in hex, and how many there are more.
 fn push_hex(text: &mut String, bytes: &[u8]) -> Result<(), AllocError> {
-    let (shown, _) = bytes.split_at(SHOWN_LENGTH.min(bytes.len()));
-    for byte in shown {
+    let (first, rest) = bytes.split_at(SHOWN_LENGTH.min(bytes.len()));
+    push_hex_bytes(text, first)?;
+    push_more(text, rest.len())
+}
+
+/// Appends bytes in hex.
+fn push_hex_bytes(text: &mut String, bytes: &[u8]) -> Result<(), AllocError> {
+    for byte in bytes {
         push_hex_byte(text, *byte)?;
     }
     Ok(())

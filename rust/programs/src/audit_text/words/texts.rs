@@ -2,6 +2,7 @@
 
 use crate::support::fallible::*;
 
+use crate::audit_text::words::{ShownBytes, ShownName};
 use crate::support::alloc::AllocError;
 use uefi_formats::UnalignedSlice;
 use uefi_formats::proto::device_path::LoadOption;
@@ -47,11 +48,39 @@ pub(crate) fn byte_text(bytes: &[u8]) -> Result<String, AllocError> {
     Ok(text)
 }
 
-/// Returns the text of an event.
+/// Returns a text on one line, with nothing in it hidden, as [`ShownName`] displays it.
+pub(crate) fn shown(text: &str) -> Result<String, AllocError> {
+    let shown = ShownName(text);
+    fallible_format!("{shown}")
+}
+
+/// Returns bytes that are no text as [`ShownBytes`] displays them.
+fn shown_bytes(bytes: &[u8]) -> Result<String, AllocError> {
+    let shown = ShownBytes(bytes);
+    fallible_format!("{shown}")
+}
+
+/// Returns the text of units on one line, with nothing in it hidden.
+fn shown_units(units: &UnalignedSlice<'_>) -> Result<String, AllocError> {
+    let text = name_text(units)?;
+    shown(text.as_str())
+}
+
+/// Returns the text of an event; bytes that are no text as they are shown.
 pub(crate) fn event_text(text: &EventText<'_>) -> Result<String, AllocError> {
     match text {
-        EventText::Ascii { text, .. } => byte_text(text),
+        EventText::Utf8 { text, .. } => String::fallible_from_str(text),
         EventText::Utf16 { units, .. } => name_text(units),
+        EventText::Other(bytes) => shown_bytes(bytes),
+    }
+}
+
+/// Returns the text of an event on one line, with nothing in it hidden.
+pub(crate) fn shown_event(text: &EventText<'_>) -> Result<String, AllocError> {
+    match text {
+        EventText::Utf8 { text, .. } => shown(text),
+        EventText::Utf16 { units, .. } => shown_units(units),
+        EventText::Other(bytes) => shown_bytes(bytes),
     }
 }
 
@@ -61,6 +90,15 @@ pub(crate) fn version_text(version: &CrtmVersion<'_>) -> Result<String, AllocErr
         CrtmVersion::Ucs2(units) => name_text(units),
         CrtmVersion::Guid(guid) => guid.fallible_to_string(),
         CrtmVersion::Other(text) => event_text(text),
+    }
+}
+
+/// Returns the text of a version on one line, with nothing in it hidden.
+pub(crate) fn shown_version(version: &CrtmVersion<'_>) -> Result<String, AllocError> {
+    match version {
+        CrtmVersion::Ucs2(units) => shown_units(units),
+        CrtmVersion::Guid(guid) => guid.fallible_to_string(),
+        CrtmVersion::Other(text) => shown_event(text),
     }
 }
 

@@ -10,7 +10,7 @@ use crate::support::alloc::AllocError;
 use crate::support::collections::BTreeMap;
 use uefi_formats::proto::tcg::EventType;
 
-/// How many events of a type match, and in which forms, and how many don't.
+/// How many events of a type match, and in which forms, how many don't, and how many aren't covered.
 #[derive(Clone, Copy, PartialEq, Eq, Debug)]
 pub struct TypeCounts {
     /// The type.
@@ -23,6 +23,8 @@ pub struct TypeCounts {
     pub matches_none: u64,
     /// Of how many the log doesn't have what was measured.
     pub not_in_log: u64,
+    /// How many aren't covered.
+    pub not_covered: u64,
 }
 
 impl TypeCounts {
@@ -34,18 +36,20 @@ impl TypeCounts {
             by_form: [0; 6],
             matches_none: 0,
             not_in_log: 0,
+            not_covered: 0,
         }
     }
 
-    /// Counts one more event.
-    fn add(&mut self, checked: Checked) {
+    /// Counts one more event, by what its digests say; `None` if it isn't covered.
+    fn add(&mut self, checked: Option<Checked>) {
         match checked {
-            Checked::Matches(form) => {
+            Some(Checked::Matches(form)) => {
                 self.matches += 1;
                 self.by_form[form.index()] += 1;
             }
-            Checked::MatchesNone => self.matches_none += 1,
-            Checked::NotInLog => self.not_in_log += 1,
+            Some(Checked::MatchesNone) => self.matches_none += 1,
+            Some(Checked::NotInLog) => self.not_in_log += 1,
+            None => self.not_covered += 1,
         }
     }
 
@@ -78,7 +82,7 @@ fn in_order(
 fn count(
     types: &mut BTreeMap<u32, TypeCounts>,
     event_type: EventType,
-    checked: Checked,
+    checked: Option<Checked>,
 ) -> Result<(), AllocError> {
     let number = event_type.0;
     let none = TypeCounts::new(event_type);

@@ -6,8 +6,11 @@ use crate::support::fallible::*;
 
 use crate::uefi_audits::check::counts::{TypeCounts, counts_of};
 use crate::uefi_audits::check::{Checked, check};
+use crate::uefi_audits::out_of_place::{Remarks, remarks_on};
+use crate::uefi_audits::verify::{NamedPcr, extends};
+use uefi_formats::pcr::has_digest;
 use crate::support::alloc::AllocError;
-use uefi_formats::proto::tcg::LogEntry;
+use uefi_formats::proto::tcg::{EventType, LogEntry, LogEvent};
 
 /// An event of a log that matches in none of the forms of its type.
 #[derive(Clone, Copy, Debug)]
@@ -23,6 +26,8 @@ pub struct Mismatch<'a> {
 pub struct CheckResult<'a> {
     /// The events that match in none of the forms of their types, in order.
     pub mismatches: Vec<Mismatch<'a>>,
+    /// The events that are out of place, and the PCRs without a separator.
+    pub remarks: Remarks<'a>,
     /// How many events of each type match, in the order of the types' numbers. A type of which there
     /// is no event isn't among them.
     pub types: Vec<TypeCounts>,
@@ -30,41 +35,91 @@ pub struct CheckResult<'a> {
 
 /// An event of a log, and what its digests say of its data.
 #[derive(Clone, Copy, Debug)]
-pub(super) struct CheckedEntry<'a> {
+pub(crate) struct CheckedEntry<'a> {
     /// The event with its offset.
-    pub(super) entry: LogEntry<'a>,
-    /// What its digests say.
-    pub(super) checked: Checked,
+    pub(crate) entry: LogEntry<'a>,
+    /// What its digests say; `None` if it isn't covered.
+    pub(crate) checked: Option<Checked>,
+}
+
+impl CheckedEntry<'_> {
+    /// Returns the event's PCR.
+    pub(crate) fn pcr(&self) -> u32 {
+        self.entry.event.pcr_index().0
+    }
+
+    /// Returns whether the event has this type.
+    pub(crate) fn has_type(&self, event_type: EventType) -> bool {
+        self.entry.event.event_type() == event_type
+    }
 }
 
 /// Returns what [`check`] finds of the events of a log: those that match in none of the forms of
-/// their types, and how many of each type match.
+/// their types, those that are out of place, and how many of each type match.
+///
+/// Whoever writes a log can give an event of another PCR any data, with their hash as its digest.
+/// So where it is known which PCRs are covered, by a quote or otherwise, an event counts if it
+/// extends one of them, in a bank of which it has a digest; the others are counted as not covered.
+/// Without `covered` each event counts.
 ///
 /// # Errors
 ///
 /// [`AllocError`] if an allocation fails.
 pub fn check_entries<'a>(
     entries: &[LogEntry<'a>],
+    covered: Option<&[NamedPcr]>,
 ) -> Result<CheckResult<'a>, AllocError> {
-    let checked = checked_entries(entries)?;
+    let checked = checked_entries(entries, covered)?;
     let mismatches = mismatches_in(checked.as_slice())?;
+    let remarks = remarks_on(checked.as_slice())?;
     let types = counts_of(checked.as_slice())?;
-    Ok(CheckResult { mismatches, types })
+    Ok(CheckResult {
+        mismatches,
+        remarks,
+        types,
+    })
 }
 
-/// Returns the events, each with what its digests say.
+/// Returns the events, each with what its digests say, if it is covered.
 fn checked_entries<'a>(
     entries: &[LogEntry<'a>],
+    covered: Option<&[NamedPcr]>,
 ) -> Result<Vec<CheckedEntry<'a>>, AllocError> {
     let mut found = Vec::new();
     for entry in entries {
-        let checked = check(&entry.event)?;
+        let checked = checked_if_covered(&entry.event, covered)?;
         found.fallible_push(CheckedEntry {
             entry: *entry,
             checked,
         })?;
     }
     Ok(found)
+}
+
+/// Returns what the digests of an event say, if it is covered.
+fn checked_if_covered(
+    event: &LogEvent<'_>,
+    covered: Option<&[NamedPcr]>,
+) -> Result<Option<Checked>, AllocError> {
+    if !is_covered(event, covered) {
+        return Ok(None);
+    }
+    let checked = check(event)?;
+    Ok(Some(checked))
+}
+
+/// Returns whether an event extends one of these PCRs, in a bank of which it has a digest. Without
+/// PCRs each event is covered.
+fn is_covered(event: &LogEvent<'_>, covered: Option<&[NamedPcr]>) -> bool {
+    match covered {
+        Some(pcrs) => pcrs.iter().any(|it| is_covered_by(event, *it)),
+        None => true,
+    }
+}
+
+/// Returns whether an event extends a PCR, and has a digest of its bank.
+fn is_covered_by(event: &LogEvent<'_>, it: NamedPcr) -> bool {
+    extends(event, it.pcr) && has_digest(it.bank, event)
 }
 
 /// Returns the events that match in none of the forms of their types.
@@ -92,7 +147,7 @@ fn push_if_mismatch<'a>(
     Ok(())
 }
 
-/// Returns whether an event matches in none of the forms of its type.
-fn is_mismatch(checked: Checked) -> bool {
-    matches!(checked, Checked::MatchesNone)
+/// Returns whether an event is covered and matches in none of the forms of its type.
+fn is_mismatch(checked: Option<Checked>) -> bool {
+    matches!(checked, Some(Checked::MatchesNone))
 }

@@ -2,12 +2,11 @@
 
 use crate::support::fallible::*;
 
-use crate::uefi_audits::diff::compared::is_same_event;
+use crate::uefi_audits::diff::compared::{ComparedParts, is_same_event};
 use crate::uefi_audits::diff::counterparts::PairedEvent;
 use crate::uefi_audits::diff::difference::EventChange;
 use crate::uefi_audits::diff::pcr::NumberedEntry;
 use crate::support::alloc::AllocError;
-use uefi_formats::proto::tcg::AlgorithmId;
 
 /// An event of the old log and its counterpart in the new one.
 #[derive(Clone, Copy, Debug)]
@@ -19,6 +18,11 @@ pub(crate) struct EventPair<'e, 'a> {
 }
 
 impl<'e, 'a> EventPair<'e, 'a> {
+    /// Returns whether the events are the same, as far as these parts tell.
+    fn is_same(&self, parts: &ComparedParts<'_>) -> Result<bool, AllocError> {
+        is_same_event(parts, &self.old.entry.event, &self.new.entry.event)
+    }
+
     /// Returns the pair with copies of its events.
     pub(crate) fn copied(&self) -> EventChange<'a> {
         EventChange {
@@ -44,12 +48,12 @@ pub(crate) fn changes_in<'e, 'a>(
 
 /// Returns the pairs whose events aren't the same, in order.
 pub(crate) fn changed<'a>(
-    algorithms: &[AlgorithmId],
+    parts: &ComparedParts<'_>,
     pairs: &[EventPair<'_, 'a>],
 ) -> Result<Vec<EventChange<'a>>, AllocError> {
     let mut found = Vec::new();
     for pair in pairs {
-        if !is_same_event(algorithms, &pair.old.entry.event, &pair.new.entry.event) {
+        if !pair.is_same(parts)? {
             found.fallible_push(pair.copied())?;
         }
     }

@@ -3,13 +3,13 @@
 use crate::support::fallible::*;
 
 use crate::uefi_audits::diff::changed::{EventPair, changed, changes_in};
+use crate::uefi_audits::diff::compared::ComparedParts;
 use crate::uefi_audits::diff::counterparts::{PairedEvent, alone, counterparts};
 use crate::uefi_audits::diff::event_key::KeyedBy;
 use crate::uefi_audits::diff::moved::first_moved;
 use crate::uefi_audits::diff::pcr::{COMPARED, NumberedEntry, entries_of, first_difference, numbered_entries};
 use uefi_formats::pcr::ReadLog;
 use crate::support::alloc::AllocError;
-use uefi_formats::proto::tcg::AlgorithmId;
 
 /// How the events of a PCR differ between two logs.
 #[derive(Debug)]
@@ -23,8 +23,8 @@ pub struct PcrDifference<'a> {
     pub only_old: Vec<NumberedEntry<'a>>,
     /// The events of the new log that have no counterpart, in order.
     pub only_new: Vec<NumberedEntry<'a>>,
-    /// The first event with the same data in both logs that comes in the new log before one which
-    /// it follows in the old log; `None` if there is none.
+    /// The first event with the same data in both logs, or the same digest if data aren't compared,
+    /// that comes in the new log before one which it follows in the old log; `None` if there is none.
     pub moved: Option<EventChange<'a>>,
 }
 
@@ -57,9 +57,11 @@ pub(crate) struct Counterparts<'e, 'a> {
 /// the counterpart of the first one with the same data in the other log, the second of the second,
 /// and so on. Of the events that are left, those are counterparts in the same way whose data have
 /// the same name: that and the GUID of a variable, the device path of an image, the first word of a
-/// command of GRUB, the number of a tag, or none. Two counterparts are the same if they have the
-/// same data, and the same digest of each of `algorithms`, or none
-/// ([`is_same_event`](crate::uefi_audits::diff::is_same_event)).
+/// command of GRUB, the number of a tag, or none. Two counterparts are the same if the compared
+/// parts are ([`is_same_event`](crate::uefi_audits::diff::is_same_event)).
+///
+/// If data aren't compared, events are counterparts in the same way if they have the same first
+/// digest of the first algorithm, or none, and no others are.
 ///
 /// The time is in proportion to n log n.
 ///
@@ -67,24 +69,24 @@ pub(crate) struct Counterparts<'e, 'a> {
 ///
 /// [`AllocError`] if an allocation fails.
 pub fn differences<'a>(
-    algorithms: &[AlgorithmId],
+    parts: &ComparedParts<'_>,
     old: &ReadLog<'a>,
     new: &ReadLog<'a>,
 ) -> Result<Vec<PcrDifference<'a>>, AllocError> {
     let olds = numbered_entries(old)?;
     let news = numbered_entries(new)?;
-    differences_of(algorithms, olds.as_slice(), news.as_slice())
+    differences_of(parts, olds.as_slice(), news.as_slice())
 }
 
 /// Returns how these events of two logs differ, PCR by PCR.
 fn differences_of<'a>(
-    algorithms: &[AlgorithmId],
+    parts: &ComparedParts<'_>,
     olds: &[NumberedEntry<'a>],
     news: &[NumberedEntry<'a>],
 ) -> Result<Vec<PcrDifference<'a>>, AllocError> {
     let mut found = Vec::new();
     for pcr in 0..COMPARED {
-        if let Some(difference) = pcr_difference(algorithms, olds, news, pcr)? {
+        if let Some(difference) = pcr_difference(parts, olds, news, pcr)? {
             found.fallible_push(difference)?;
         }
     }
@@ -93,35 +95,31 @@ fn differences_of<'a>(
 
 /// Returns how the events of a PCR differ; `None` if they don't.
 fn pcr_difference<'a>(
-    algorithms: &[AlgorithmId],
+    parts: &ComparedParts<'_>,
     olds: &[NumberedEntry<'a>],
     news: &[NumberedEntry<'a>],
     pcr: u32,
 ) -> Result<Option<PcrDifference<'a>>, AllocError> {
     let olds = entries_of(olds, pcr)?;
     let news = entries_of(news, pcr)?;
-    difference_in(algorithms, olds.as_slice(), news.as_slice(), pcr)
+    difference_in(parts, olds.as_slice(), news.as_slice(), pcr)
 }
 
 /// Returns how these events, which are all of a PCR, differ; `None` if they don't.
 fn difference_in<'a>(
-    algorithms: &[AlgorithmId],
+    parts: &ComparedParts<'_>,
     olds: &[&NumberedEntry<'a>],
     news: &[&NumberedEntry<'a>],
     pcr: u32,
 ) -> Result<Option<PcrDifference<'a>>, AllocError> {
-    if first_difference(algorithms, olds, news).is_none() {
+    if first_difference(parts, olds, news)?.is_none() {
         return Ok(None);
     }
-    let all = counterparts_of(olds, news)?;
+    let all = counterparts_of(parts, olds, news)?;
     let pairs = changes_in(all.of_old.as_slice())?;
     Ok(Some(PcrDifference {
         pcr,
-        changed: changed_in(
-            algorithms,
-            pairs.as_slice(),
-            all.left_of_old.as_slice(),
-        )?,
+        changed: changed_in(parts, pairs.as_slice(), all.left_of_old.as_slice())?,
         only_old: alone_copied(all.left_of_old.as_slice())?,
         only_new: alone_copied(all.left_of_new.as_slice())?,
         moved: first_moved(pairs.as_slice()),
@@ -130,16 +128,18 @@ fn difference_in<'a>(
 
 /// Returns the events of a PCR with their counterparts.
 fn counterparts_of<'e, 'a>(
+    parts: &ComparedParts<'_>,
     olds: &[&'e NumberedEntry<'a>],
     news: &[&'e NumberedEntry<'a>],
 ) -> Result<Counterparts<'e, 'a>, AllocError> {
-    let of_old = counterparts(olds, news, KeyedBy::Data)?;
-    let of_new = counterparts(news, olds, KeyedBy::Data)?;
+    let (first, second) = (KeyedBy::first(parts), KeyedBy::second(parts));
+    let of_old = counterparts(olds, news, first)?;
+    let of_new = counterparts(news, olds, first)?;
     let olds = alone(of_old.as_slice())?;
     let news = alone(of_new.as_slice())?;
     let (olds, news) = (olds.as_slice(), news.as_slice());
-    let left_of_old = counterparts(olds, news, KeyedBy::Name)?;
-    let left_of_new = counterparts(news, olds, KeyedBy::Name)?;
+    let left_of_old = counterparts(olds, news, second)?;
+    let left_of_new = counterparts(news, olds, second)?;
     Ok(Counterparts {
         of_old,
         of_new,
@@ -169,7 +169,7 @@ fn copies<'a>(
 
 /// Returns the pairs whose events aren't the same: of these, and of events with their counterparts.
 fn changed_in<'e, 'a>(
-    algorithms: &[AlgorithmId],
+    parts: &ComparedParts<'_>,
     pairs: &[EventPair<'e, 'a>],
     left: &[PairedEvent<'e, 'a>],
 ) -> Result<Vec<EventChange<'a>>, AllocError> {
@@ -177,5 +177,5 @@ fn changed_in<'e, 'a>(
     all.fallible_extend_from_slice(pairs)?;
     let left = changes_in(left)?;
     all.fallible_extend_from_slice(left.as_slice())?;
-    changed(algorithms, all.as_slice())
+    changed(parts, all.as_slice())
 }

@@ -1,16 +1,40 @@
 // @generated from proved source. It is not edited.
 
+use crate::uefi_audits::diff::compared::ComparedParts;
 use crate::uefi_audits::diff::names::name_in;
 use crate::uefi_audits::diff::pcr::NumberedEntry;
 use core::cmp::Ordering;
+use uefi_formats::proto::tcg::{AlgorithmId, LogEvent};
 
 /// By what an event is sought among those of another log, beside its PCR and its type.
-#[derive(Clone, Copy, PartialEq, Eq, Debug)]
+#[derive(Clone, Copy, Debug)]
 pub(crate) enum KeyedBy {
     /// By its data.
     Data,
     /// By the name that its data have.
     Name,
+    /// By its first digest of an algorithm.
+    Digest(Option<AlgorithmId>),
+}
+
+impl KeyedBy {
+    /// Returns by what events are sought first, if these parts are compared.
+    pub(crate) fn first(parts: &ComparedParts<'_>) -> KeyedBy {
+        if parts.with_data {
+            KeyedBy::Data
+        } else {
+            KeyedBy::Digest(parts.algorithms.first().copied())
+        }
+    }
+
+    /// Returns by what those are sought that are left then.
+    pub(crate) fn second(parts: &ComparedParts<'_>) -> KeyedBy {
+        if parts.with_data {
+            KeyedBy::Name
+        } else {
+            KeyedBy::first(parts)
+        }
+    }
 }
 
 /// What an event is sought by among those of another log.
@@ -28,6 +52,7 @@ impl<'a> EventKey<'a> {
         match by {
             KeyedBy::Data => EventKey::of_data(found),
             KeyedBy::Name => EventKey::of_name(found),
+            KeyedBy::Digest(algorithm) => EventKey::of_digest(found, algorithm),
         }
     }
 
@@ -53,6 +78,36 @@ impl<'a> EventKey<'a> {
             name: name.name,
         }
     }
+
+    /// Returns the key of an event by its first digest of an algorithm.
+    fn of_digest(found: &NumberedEntry<'a>, algorithm: Option<AlgorithmId>) -> EventKey<'a> {
+        let event = &found.entry.event;
+        EventKey {
+            pcr_index: event.pcr_index().0,
+            event_type: event.event_type().0,
+            namespace: &[],
+            name: digest_by(algorithm, event),
+        }
+    }
+}
+
+/// Returns an event's first digest of an algorithm; nothing if it has none, or if there is none.
+fn digest_by<'a>(algorithm: Option<AlgorithmId>, event: &LogEvent<'a>) -> &'a [u8] {
+    match algorithm {
+        Some(algorithm) => first_digest(algorithm, event),
+        None => &[],
+    }
+}
+
+/// Returns an event's first digest of an algorithm; nothing if it has none.
+fn first_digest<'a>(algorithm: AlgorithmId, event: &LogEvent<'a>) -> &'a [u8] {
+    let mut digests = event.digests();
+    while let Some((id, digest)) = digests.next() {
+        if id == algorithm {
+            return digest;
+        }
+    }
+    &[]
 }
 
 impl<'a> PartialEq for EventKey<'a> {

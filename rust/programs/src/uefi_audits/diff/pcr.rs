@@ -3,10 +3,10 @@
 use crate::support::fallible::*;
 
 use crate::uefi_audits::content::{EventContent, read_content};
-use crate::uefi_audits::diff::compared::is_same_event;
+use crate::uefi_audits::diff::compared::{ComparedParts, is_same_event};
 use uefi_formats::pcr::ReadLog;
 use crate::support::alloc::AllocError;
-use uefi_formats::proto::tcg::{AlgorithmId, LogEntry};
+use uefi_formats::proto::tcg::LogEntry;
 
 /// How many PCRs are compared: the 24 that a TPM has, and those above as one.
 pub(crate) const COMPARED: u32 = 25;
@@ -68,29 +68,30 @@ fn is_of(pcr: u32, entry: &LogEntry<'_>) -> bool {
 
 /// Returns the first place at which the events differ, or one list has an event and the other none.
 pub(crate) fn first_difference(
-    algorithms: &[AlgorithmId],
+    parts: &ComparedParts<'_>,
     old: &[&NumberedEntry<'_>],
     new: &[&NumberedEntry<'_>],
-) -> Option<usize> {
+) -> Result<Option<usize>, AllocError> {
     for at in 0..old.len().max(new.len()) {
-        if !is_same_or_none(algorithms, old.get(at).copied(), new.get(at).copied()) {
-            return Some(at);
+        let (one, other) = (old.get(at).copied(), new.get(at).copied());
+        if !is_same_or_none(parts, one, other)? {
+            return Ok(Some(at));
         }
     }
-    None
+    Ok(None)
 }
 
 /// Returns whether there are two events that are the same, or none.
 fn is_same_or_none(
-    algorithms: &[AlgorithmId],
+    parts: &ComparedParts<'_>,
     one: Option<&NumberedEntry<'_>>,
     other: Option<&NumberedEntry<'_>>,
-) -> bool {
+) -> Result<bool, AllocError> {
     match (one, other) {
         (Some(one), Some(other)) => {
-            is_same_event(algorithms, &one.entry.event, &other.entry.event)
+            is_same_event(parts, &one.entry.event, &other.entry.event)
         }
-        (None, None) => true,
-        _ => false,
+        (None, None) => Ok(true),
+        _ => Ok(false),
     }
 }

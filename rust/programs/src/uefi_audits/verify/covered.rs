@@ -4,6 +4,7 @@ use crate::support::fallible::*;
 
 use crate::uefi_audits::naming::bank_of;
 use crate::uefi_audits::verify::named::NamedPcr;
+use uefi_formats::pcr::Bank;
 use crate::support::alloc::AllocError;
 use uefi_formats::pcr::{PcrSelection, Quote};
 
@@ -34,4 +35,14 @@ fn push_selected(
         covered.fallible_push(NamedPcr { bank, pcr: pcr.0 })?;
     }
     Ok(())
+}
+
+/// Returns whether a quote covers a PCR of a bank.
+pub(crate) fn is_covered(quote: &Quote<'_>, bank: Bank, pcr: u32) -> bool {
+    quote.pcr_selections().any(|it| it.algorithm() == bank.algorithm() && is_selected_by(&it, pcr))
+}
+
+/// Returns whether a selection of a quote selects a PCR.
+fn is_selected_by(selection: &PcrSelection<'_>, pcr: u32) -> bool {
+    selection.pcrs().any(|it| it.0 == pcr)
 }

@@ -11,9 +11,9 @@ use crate::support::alloc::AllocError;
 
 /// Which PCRs are asked for, in one bank or in all.
 ///
-/// It is read from a text such as `0-7,14` or `sha256:0,7`: items separated by commas, after the
-/// name of a bank and a colon or without. An item is the number of a PCR in one decimal digit or
-/// two, 0 to 23, or the first and the last of a range with a `-` between them.
+/// Its text is such as `0-7,14` or `sha256:0,7`: items separated by commas, after the name of a bank
+/// and a colon or without. An item is the number of a PCR in one decimal digit or two, 0 to 23, or the
+/// first and the last of a range with a `-` between them.
 #[derive(Clone, Copy, Debug)]
 pub struct PcrSelection {
     bank: Option<Bank>,
@@ -28,27 +28,13 @@ struct Range {
 }
 
 impl PcrSelection {
-    /// Returns the selection that a text names; `None` if it names none: an item is empty or no
-    /// number, is above 23, or is a range that goes down, or no bank that can be replayed has the
-    /// name.
-    pub fn parse(text: &str) -> Option<PcrSelection> {
-        let text = text.as_bytes();
-        let Some((name, items)) = split_once(text, b':') else {
-            return selected(None, text);
-        };
-        let Some(bank) = bank_of_name(name) else {
-            return None;
-        };
-        selected(Some(bank), items)
-    }
-
     /// Returns whether a PCR of a bank is selected.
     pub fn is_selected(&self, bank: Bank, pcr: u32) -> bool {
         self.is_of(bank) && self.pcrs.get(pcr as usize).copied().unwrap_or(false)
     }
 
     /// Returns the one bank of which PCRs are selected, or `None` if they are in all.
-    pub(crate) fn bank(&self) -> Option<Bank> {
+    pub fn bank(&self) -> Option<Bank> {
         self.bank
     }
 
@@ -61,27 +47,68 @@ impl PcrSelection {
     }
 }
 
-/// Returns those of these PCRs that are selected. Without a selection each is.
+/// Returns the selections that a text names, in its order: those between its plus signs, such as
+/// `sha1:0-7+sha256:0-7,9`. `None` if one of them is none: an item is empty or no number, is above 23,
+/// or is a range that goes down, or no bank that can be replayed has the name.
+///
+/// # Errors
+///
+/// [`AllocError`] if an allocation fails.
+pub fn selections_in(
+    text: &[u8],
+) -> Result<Option<Vec<PcrSelection>>, AllocError> {
+    let mut selections = Vec::new();
+    let mut rest = text;
+    while let Some((part, after)) = split_once(rest, b'+') {
+        let Some(selection) = selection_in(part) else {
+            return Ok(None);
+        };
+        selections.fallible_push(selection)?;
+        rest = after;
+    }
+    let Some(selection) = selection_in(rest) else {
+        return Ok(None);
+    };
+    selections.fallible_push(selection)?;
+    Ok(Some(selections))
+}
+
+/// Returns the selection that a text names; `None` if it names none.
+fn selection_in(text: &[u8]) -> Option<PcrSelection> {
+    let Some((name, items)) = split_once(text, b':') else {
+        return selected(None, text);
+    };
+    let Some(bank) = bank_of_name(name) else {
+        return None;
+    };
+    selected(Some(bank), items)
+}
+
+/// Returns those of these PCRs that one of the selections selects. Without selections each is.
 ///
 /// # Errors
 ///
 /// [`AllocError`] if an allocation fails.
 pub fn selected_pcrs(
     held: &[HeldPcr],
-    selection: &Option<PcrSelection>,
+    selections: &[PcrSelection],
 ) -> Result<Vec<HeldPcr>, AllocError> {
     held.iter()
         .copied()
-        .filter(|pcr| is_selected(selection, pcr))
+        .filter(|pcr| is_selected(selections, pcr))
         .fallible_collect()
 }
 
 /// Returns whether a PCR that a TPM held is selected.
-fn is_selected(selection: &Option<PcrSelection>, held: &HeldPcr) -> bool {
-    match selection {
-        Some(selection) => selection.is_selected(held.bank, held.pcr),
-        None => true,
-    }
+fn is_selected(selections: &[PcrSelection], held: &HeldPcr) -> bool {
+    selections.is_empty() || one_selects(selections, held)
+}
+
+/// Returns whether one of the selections selects a PCR that a TPM held.
+fn one_selects(selections: &[PcrSelection], held: &HeldPcr) -> bool {
+    selections
+        .iter()
+        .any(|it| it.is_selected(held.bank, held.pcr))
 }
 
 /// Returns the bank of this name; `None` if none that can be replayed has it.

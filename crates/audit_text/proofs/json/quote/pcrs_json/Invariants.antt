@@ -1,7 +1,7 @@
 use Rattle.std.proofs.Common.{◌≡◌, ◌++◌, map}
 use Rattle.serde_json.specs.View.{view}
 use Rattle.tpm_quote.specs.Views.{pcrs_left}
-use Rattle.audit_text.specs.json.Quote.{pcr_number}
+use Rattle.audit_text.specs.json.Coverage.{pcr_number}
 use Rattle.audit_text.proofs.json.quote.pcrs_json.Given as goal
 
 -- The values so far and those of the PCRs that are left are all.

@@ -2,7 +2,7 @@ use Rattle.std.proofs.Common.{◌∙◌, ◌++◌, ap, string_bytes}
 use Rattle.std.specs.Prelude.{codes}
 use Rattle.std.proofs.lemmas.Result.{on_ok_weaker}
 use Rattle.serde_json.specs.Written.{has_float}
-use Rattle.uefi_audits.specs.verify.Quote.{quote_judgement_of, received_of}
+use Rattle.uefi_audits.specs.verify.Compared.{judged_quote_of}
 use Rattle.audit_text.specs.json.Line.{line_of}
 use Rattle.audit_text.specs.json.Quote.{line_object, quote_object}
 use Rattle.audit_text.proofs.json.NoFloatsInQuote.{no_float}
@@ -11,10 +11,9 @@ use Rattle.audit_text.proofs.json.quote.push_quote_json.Goals as goal
 pub returns : goal.returns
 returns c =
     let name = c.args.name.now in
-    let received = received_of c.args.received.now in
-    let judgement = quote_judgement_of c.args.verdict.now in
-    let quote = c.in_ok-quote.ensures ∙ ap (quote_object received judgement) c.in_ok-banks.ensures in
-    let object = c.in_ok-value.ensures ∙ ap (line_object name judgement.start.start.locality) quote in
-    let line = c.in_ok-line.ensures (ap has_float object ∙ no_float name received judgement) ∙ ap line_of object in
+    let judged = judged_quote_of c.args.compared.now in
+    let quote = c.in_ok-quote.ensures ∙ ap (quote_object judged.judgement) c.in_ok-banks.ensures in
+    let object = c.in_ok-value.ensures ∙ ap (line_object name judged) quote in
+    let line = c.in_ok-line.ensures (ap has_float object ∙ no_float name judged) ∙ ap line_of object in
     on_ok_weaker c.writeln.result
     (λ more. more ∙ ap (λ t. string_bytes c.args.text.now ++ (t ++ codes "\n")) line) c.writeln.ensures.bytes

@@ -5,4 +5,10 @@ use Rattle.audit_text.proofs.text.check.push_counts.Goals as goal
 pub returns : goal.returns
 unfolding counts_line
 returns g c =
-    simp (c.in_ok-push_forms.ensures, c.in_ok-write.ensures.bytes, c.in_ok-push_type.ensures, append_assoc) at c.writeln.ensures.bytes
+    simp (
+      c.in_ok-write-2.ensures.bytes,
+      c.in_ok-push_forms.ensures,
+      c.in_ok-write.ensures.bytes,
+      c.in_ok-push_type.ensures,
+      append_assoc,
+    ) at c.push_uncovered.ensures

@@ -1,8 +1,12 @@
-use Rattle.audit_text.specs.words.Said.{shown_byte}
-use Rattle.audit_text.proofs.words.FirstItems.{part_shown}
+use Rattle.std.proofs.lemmas.Result.{on_ok_weaker}
+use Rattle.audit_text.specs.words.Said.{shown_bytes}
+use Rattle.audit_text.specs.words.Shown.{shown_name_bytes}
+use Rattle.audit_text.proofs.words.FirstItems.{first_appended}
 use Rattle.audit_text.proofs.words.said.push_bytes.Goals as goal
 
 pub returns : goal.returns
+unfolding shown_bytes
 returns c =
-    part_shown shown_byte c.args.bytes.now _ _ _ c.loop-byte.byte-index c.min.result 80 c.min.ensures c.split_at.ensures.front
-    c.loop-byte-test.false c.loop-byte.invariant
+    on_ok_weaker c.push_more.result
+    (λ others. first_appended c.args.bytes.now _ _ 1000 c.min.result c.min.ensures c.split_at.ensures.front
+    c.split_at.ensures.back shown_name_bytes _ _ _ c.in_ok-write.ensures.bytes others) c.push_more.ensures

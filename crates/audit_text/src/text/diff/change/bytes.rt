@@ -3,6 +3,7 @@ ghost use Rattle.std.specs.List.{common_prefix_len};
 ghost use Rattle.audit_text.specs.text.ChangeParts.{byte_change, bytes_from, first_bytes};
 
 use crate::text::diff::change::sides::change_between;
+use crate::words::push_more;
 use std::alloc::{AllocError, Global};
 
 /// How many bytes of a side are shown.
@@ -49,16 +50,13 @@ fn common_length(old: &[u8], new: &[u8]) -> usize
     shorter
 }
 
-/// Returns bytes in hex; of more than 32 the first ones, and `..`.
+/// Returns the first bytes in hex, and how many there are more.
 #[tactic(auto, unfolding(crate::specs::text::ChangeParts::first_bytes))]
 fn first_bytes(alloc: Global, bytes: &[u8]) -> Result<String, AllocError>
     ensures { IfOk result (λ words. string_bytes words ≡ first_bytes bytes.now) }
 {
-    if bytes.len() <= SHOWN_LENGTH {
-        return hex::encode(alloc, bytes);
-    }
-    let (shown, _) = bytes.split_at(SHOWN_LENGTH);
-    let mut words = hex::encode(alloc, shown)?;
-    words.push_str("..")?;
+    let (first, rest) = bytes.split_at(SHOWN_LENGTH.min(bytes.len()));
+    let mut words = hex::encode(alloc, first)?;
+    push_more(&mut words, rest.len())?;
     Ok(words)
 }

@@ -1,5 +1,7 @@
 ghost use Rattle.std.specs.Prelude.{◌≡◌, IfOk, option_map, string_bytes};
-ghost use Rattle.audit_text.specs.text.Change.{block_change, is_unread, lines_in, plain_value, print_change, read_change, said_change, tagged_text, text_in, value_change};
+ghost use Rattle.audit_text.specs.text.Change.{block_change, is_unread, lines_in, plain_value, print_change, read_change, said_change, tagged_text, value_change, words_in};
+ghost use Rattle.audit_text.specs.words.Printed.{printed_text};
+ghost use Rattle.audit_text.specs.words.Shown.{shown_name};
 ghost use Rattle.uefi_audits.specs.content.Views.{content_of};
 ghost use Rattle.uefi_audits.specs.diff.Views.{numbered_of};
 
@@ -8,10 +10,11 @@ use crate::text::diff::change::lines::line_change;
 use crate::text::diff::change::words::word_change;
 use crate::text::events::content::push_content;
 use crate::words::printed::printed_text;
-use crate::words::texts::{event_text, version_text};
+use crate::words::texts::{shown, shown_event, shown_version};
 use std::alloc::{AllocError, Global};
 use uefi_audits::content::{EventContent, TaggedData};
 use uefi_audits::diff::NumberedEntry;
+use uefi_tcg::content::EventText;
 
 /// Returns what changed in what the data of two events say; nothing if both say the same, or the
 /// data of one aren't read.
@@ -40,8 +43,8 @@ fn read_change(
     ensures { IfOk result
         (λ words. string_bytes words ≡ read_change (numbered_of old.now) (numbered_of new.now)) }
 {
-    let old_text = text_in(alloc, &old.content)?;
-    let new_text = text_in(alloc, &new.content)?;
+    let old_text = words_in(alloc, &old.content)?;
+    let new_text = words_in(alloc, &new.content)?;
     match (&old_text, &new_text) {
         (Some(old), Some(new)) => word_change(alloc, old.as_str(), new.as_str()),
         _ => block_change(alloc, old, new),
@@ -68,11 +71,22 @@ fn value_change(alloc: Global, old: &[u8], new: &[u8]) -> Result<String, AllocEr
 fn print_change(alloc: Global, old: &[u8], new: &[u8]) -> Result<String, AllocError>
     ensures { IfOk result (λ words. string_bytes words ≡ print_change old.now new.now) }
 {
-    let old_text = printed_text(alloc, old)?;
-    let new_text = printed_text(alloc, new)?;
+    let old_text = shown_printed(alloc, old)?;
+    let new_text = shown_printed(alloc, new)?;
     match (&old_text, &new_text) {
         (Some(old), Some(new)) => word_change(alloc, old.as_str(), new.as_str()),
         _ => byte_change(alloc, old, new),
+    }
+}
+
+/// Returns the text that bytes are, if all of it prints, as it is shown.
+fn shown_printed(alloc: Global, bytes: &[u8]) -> Result<Option<String>, AllocError>
+    ensures { IfOk result
+        (λ text. option_map string_bytes text ≡ option_map shown_name (printed_text bytes.now)) }
+{
+    match printed_text(alloc, bytes)? {
+        Some(text) => Ok(Some(shown(alloc, text.as_str())?)),
+        None => Ok(None),
     }
 }
 
@@ -119,21 +133,21 @@ fn plain_value<'a>(content: &EventContent<'a>) -> Option<&'a [u8]>
     }
 }
 
-/// Returns the text or the version that data are.
-fn text_in(alloc: Global, content: &EventContent<'_>) -> Result<Option<String>, AllocError>
+/// Returns the text or the version that data are, as it is shown.
+fn words_in(alloc: Global, content: &EventContent<'_>) -> Result<Option<String>, AllocError>
     ensures { IfOk result
-        (λ text. option_map string_bytes text ≡ text_in (content_of content.now)) }
+        (λ text. option_map string_bytes text ≡ words_in (content_of content.now)) }
 {
     match content {
-        EventContent::Text(said) => Ok(Some(String::from_str(alloc, said)?)),
-        EventContent::LoaderText(said) => Ok(Some(event_text(alloc, said)?)),
-        EventContent::CrtmVersion(version) => Ok(Some(version_text(alloc, version)?)),
+        EventContent::Text(said) => Ok(Some(shown(alloc, said)?)),
+        EventContent::LoaderText(said) => Ok(Some(shown_event(alloc, said)?)),
+        EventContent::CrtmVersion(version) => Ok(Some(shown_version(alloc, version)?)),
         EventContent::Tagged(tagged) => tagged_text(alloc, tagged),
         _ => Ok(None),
     }
 }
 
-/// Returns the text of a tagged event that is the only one, with no bytes after it.
+/// Returns the text of a tagged event that is the only one, with no bytes after it, as it is shown.
 #[tactic(auto, unfolding(crate::specs::text::Change::tagged_text))]
 fn tagged_text(alloc: Global, tagged: &TaggedData<'_>) -> Result<Option<String>, AllocError>
     ensures { IfOk result (λ text. option_map string_bytes text
@@ -141,7 +155,9 @@ fn tagged_text(alloc: Global, tagged: &TaggedData<'_>) -> Result<Option<String>,
 {
     let mut events = tagged.iter();
     match (events.next(), events.next()) {
-        (Some(one), None) if tagged.rest().is_empty() => printed_text(alloc, one.data),
+        (Some(one), None) if tagged.rest().is_empty() => {
+            Ok(Some(shown_event(alloc, &EventText::read(one.data))?))
+        }
         _ => Ok(None),
     }
 }

@@ -1,13 +1,13 @@
 ghost use Rattle.std.specs.Prelude.{◌≡◌, ◌≤◌, IfOk, length, map, string_bytes};
 ghost use Rattle.std.specs.List.{common_prefix_len};
 ghost use Rattle.std.specs.Str.{bytes_eq};
-ghost use Rattle.audit_text.specs.text.ChangeParts.{shown_from, word_change, words_between, words_from, words_of};
+ghost use Rattle.audit_text.specs.text.ChangeParts.{joined_words, word_change, words_between, words_from, words_of};
 
 use crate::text::diff::change::sides::change_between;
-use crate::words::ShownName;
 use std::alloc::{AllocError, Global};
 
-/// Returns the words of two texts from the first that differs; nothing if none does.
+/// Returns the words of two texts, as they are shown, from the first that differs; nothing if none
+/// does.
 #[tactic(auto, unfolding(crate::specs::text::ChangeParts::word_change))]
 pub(crate) fn word_change(alloc: Global, old: &str, new: &str) -> Result<String, AllocError>
     ensures { IfOk result (λ words. string_bytes words ≡ word_change old.now new.now) }
@@ -66,22 +66,20 @@ fn words_from(alloc: Global, index: usize, words: &[&str]) -> Result<String, All
     ensures { IfOk result (λ text. string_bytes text
         ≡ words_from index (map (λ word. word.now) words.now)) }
 {
-    let rest = shown_from(alloc, index, words)?;
+    let rest = joined_words(alloc, index, words)?;
     if index == 0 || rest.is_empty() {
         return Ok(rest);
     }
     format!(in alloc; ".. {rest}")
 }
 
-/// Returns the words from an index as they are shown.
-#[tactic(auto, unfolding(crate::specs::text::ChangeParts::shown_from))]
-fn shown_from(alloc: Global, index: usize, words: &[&str]) -> Result<String, AllocError>
+/// Returns the words from an index, with spaces between them.
+#[tactic(auto, unfolding(crate::specs::text::ChangeParts::joined_words))]
+fn joined_words(alloc: Global, index: usize, words: &[&str]) -> Result<String, AllocError>
     requires { index ≤ length words.now }
     ensures { IfOk result (λ text. string_bytes text
-        ≡ shown_from index (map (λ word. word.now) words.now)) }
+        ≡ joined_words index (map (λ word. word.now) words.now)) }
 {
     let (_, rest) = words.split_at(index);
-    let rest = rest.join(alloc, " ")?;
-    let shown = ShownName(rest.as_str());
-    format!(in alloc; "{shown}")
+    rest.join(alloc, " ")
 }

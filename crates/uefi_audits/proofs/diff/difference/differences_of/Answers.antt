@@ -1,5 +1,5 @@
 use Rattle.std.proofs.Common.{◌≡◌, [], ap, arith, map, rules}
-use Rattle.uefi_audits.specs.diff.Views.{difference_of, numbered_of, numbers_of}
+use Rattle.uefi_audits.specs.diff.Views.{difference_of, numbered_of, parts_of}
 use Rattle.uefi_audits.proofs.diff.Below.{none_below, one_differs, one_same}
 use Rattle.uefi_audits.proofs.diff.difference.differences_of.Goals as goal
 use Rattle.uefi_audits.proofs.diff.difference.differences_of.Goals.{in-Some+in_ok-push, in_default}
@@ -13,16 +13,16 @@ loop-pcr-init c =
 
 pub loop-pcr-preserved : goal.loop-pcr-preserved
 loop-pcr-preserved c =
-    let algorithms = numbers_of c.args.algorithms.now in
+    let parts = parts_of c.args.parts.now in
     let olds = map numbered_of c.args.olds.now in
     let news = map numbered_of c.args.news.now in
     let pcr = c.loop-pcr.pcr in
     let before = c.loop-pcr.invariant.below in record {
       below = elim c.match-branch-2.branch [
-        | in-Some+in_ok-push w ↦ one_differs algorithms olds news pcr c.loop-pcr.found.items c.match-branch-2.found.items _
+        | in-Some+in_ok-push w ↦ one_differs parts olds news pcr c.loop-pcr.found.items c.match-branch-2.found.items _
             w.in-Some.difference before c.in_ok-difference.ensures w.in-Some.is (search rules)
         | in_default w ↦ rw w.found-is
-            (one_same algorithms olds news pcr c.loop-pcr.found.items _ before c.in_ok-difference.ensures w.in_default.is)
+            (one_same parts olds news pcr c.loop-pcr.found.items _ before c.in_ok-difference.ensures w.in_default.is)
       ];
       within = omega arith;
     }

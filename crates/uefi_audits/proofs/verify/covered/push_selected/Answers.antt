@@ -1,5 +1,4 @@
 use Rattle.std.proofs.Common.{◌≡◌, ◌∙◌, ◌++◌, ◌∷◌, [], ℕ, List, ap, append_assoc, append-nil, map, rules, subst, sym}
-use Rattle.tpm_quote.specs.PcrSelection.{selected_pcrs}
 use Rattle.tpm_quote.specs.Views.{pcr_of, pcrs_left, selection_of}
 use Rattle.uefi_audits.specs.declared.verify.named.NamedPcr.{NamedPcr}
 use Rattle.uefi_audits.specs.verify.Covered.{covered_by, named_in}

@@ -6,4 +6,4 @@ use Rattle.uefi_audits.proofs.verify.missing.missing_pcrs.Given as goal
 
 -- Those of the banks so far are missing.
 abbrev pub invariant-loop-bank : goal.invariant-loop-bank
-invariant-loop-bank g l = l.missing.items ≡ flat_map (missing_of l.selection l.stated) (take l.bank-index all_banks)
+invariant-loop-bank g l = l.missing.items ≡ flat_map (missing_of l.selections l.stated) (take l.bank-index all_banks)

@@ -10,7 +10,7 @@ use Rattle.uefi_audits.proofs.verify.missing.push_missing.Goals.{then-is_missing
 pub loop-pcr-preserved : goal.loop-pcr-preserved
 loop-pcr-preserved g c =
     let missing : ℕ → NamedPcr = λ pcr. record { bank = c.args.bank; pcr = pcr } in
-    let passes = is_missing c.args.selection.now c.args.stated.now c.args.bank in
+    let passes = is_missing c.args.selections.now c.args.stated.now c.args.bank in
     elim c.if-is_missing.branch [
       | then-is_missing+in_ok-push w ↦ rw w.missing-is (number_passes missing passes c.loop-pcr.pcr
           c.args.missing.now.items c.loop-pcr.missing.items _ c.loop-pcr.invariant
@@ -25,4 +25,4 @@ returns g c =
     let all : c.loop-pcr.pcr ≡ pcr_count = omega (arith, c.loop-pcr-test.false) in
     c.loop-pcr.invariant ∙ ap (λ count. c.args.missing.now.items
     ++ map (λ pcr. record { bank = c.args.bank; pcr = pcr })
-    (filter (is_missing c.args.selection.now c.args.stated.now c.args.bank) (range_with_len 0 count))) all
+    (filter (is_missing c.args.selections.now c.args.stated.now c.args.bank) (range_with_len 0 count))) all

@@ -6,4 +6,4 @@ use Rattle.uefi_audits.proofs.verify.missing.push_missing.Given as goal
 -- Those of the PCRs so far were appended.
 abbrev pub invariant-loop-pcr : goal.invariant-loop-pcr
 invariant-loop-pcr g l = l.missing.items ≡ l.initial.missing.items
-    ++ map (λ pcr. record { bank = l.bank; pcr = pcr }) (filter (is_missing l.selection l.stated l.bank) (range_with_len 0 l.pcr))
+    ++ map (λ pcr. record { bank = l.bank; pcr = pcr }) (filter (is_missing l.selections l.stated l.bank) (range_with_len 0 l.pcr))

@@ -38,8 +38,7 @@ pub extern "C" fn uefi_event_crtm_version<'a>(
 ) -> UefiStatus {
     let event_data = event_data.as_slice();
     match CrtmVersion::read(event_data) {
-        None => status::OTHER_DATA,
-        Some(CrtmVersion::Ucs2(units)) => {
+        CrtmVersion::Ucs2(units) => {
             let text = UefiEventText {
                 text: Bytes::new(units_at(event_data, 0, units.len())),
                 is_utf16: true,
@@ -48,7 +47,7 @@ pub extern "C" fn uefi_event_crtm_version<'a>(
             out.write(UefiCrtmVersion { text, form: UCS2 });
             status::OK
         }
-        Some(CrtmVersion::Guid(_)) => {
+        CrtmVersion::Guid(_) => {
             let text = UefiEventText {
                 text: Bytes::new(event_data),
                 is_utf16: false,
@@ -57,11 +56,11 @@ pub extern "C" fn uefi_event_crtm_version<'a>(
             out.write(UefiCrtmVersion { text, form: GUID });
             status::OK
         }
-        Some(CrtmVersion::Other(text)) => {
-            out.write(UefiCrtmVersion {
-                text: seen(event_data, &text),
-                form: OTHER,
-            });
+        CrtmVersion::Other(text) => {
+            let Some(text) = seen(event_data, &text) else {
+                return status::OTHER_DATA;
+            };
+            out.write(UefiCrtmVersion { text, form: OTHER });
             status::OK
         }
     }

@@ -11,8 +11,8 @@ use crate::formats::uefi_tcg::content::EventText;
 #[derive(Clone, Copy, Debug)]
 #[repr(C)]
 pub struct UefiEventText<'a> {
-    /// The bytes of the text, without the NUL: a character of ASCII each, or units of UTF-16, of
-    /// two bytes each, little-endian.
+    /// The bytes of the text, without the NUL: UTF-8, or units of UTF-16, of two bytes each,
+    /// little-endian.
     pub text: Bytes<'a>,
     /// Whether these are units of UTF-16.
     pub is_utf16: bool,
@@ -27,26 +27,27 @@ pub extern "C" fn uefi_event_text<'a>(
     out: &mut MaybeUninit<UefiEventText<'a>>,
 ) -> UefiStatus {
     let event_data = event_data.as_slice();
-    let Some(text) = EventText::read(event_data) else {
+    let Some(text) = seen(event_data, &EventText::read(event_data)) else {
         return status::OTHER_DATA;
     };
-    out.write(seen(event_data, &text));
+    out.write(text);
     status::OK
 }
 
-/// Returns the text that the bytes are, with its bytes.
+/// Returns the text that the bytes are, with its bytes; `None` if they are no text.
 #[inline]
-pub(crate) fn seen<'a>(bytes: &'a [u8], text: &EventText<'a>) -> UefiEventText<'a> {
+pub(crate) fn seen<'a>(bytes: &'a [u8], text: &EventText<'a>) -> Option<UefiEventText<'a>> {
     match text {
-        EventText::Ascii { text, has_nul } => UefiEventText {
-            text: Bytes::new(text),
+        EventText::Utf8 { text, has_nul } => Some(UefiEventText {
+            text: Bytes::new(text.as_bytes()),
             is_utf16: false,
             has_nul: *has_nul,
-        },
-        EventText::Utf16 { units, has_nul } => UefiEventText {
+        }),
+        EventText::Utf16 { units, has_nul } => Some(UefiEventText {
             text: Bytes::new(units_at(bytes, 0, units.len())),
             is_utf16: true,
             has_nul: *has_nul,
-        },
+        }),
+        EventText::Other(_) => None,
     }
 }

@@ -2,16 +2,18 @@
 
 use crate::support::fallible::*;
 
-use crate::audit_text::json::content::path::{put_printed, put_rest};
+use crate::audit_text::json::content::path::put_rest;
 use crate::audit_text::json::digests::algorithm_json;
 use crate::audit_text::json::event::hex_json;
 use crate::audit_text::words::tags::tag_name;
-use crate::audit_text::words::texts::byte_text;
+use crate::audit_text::words::texts::{byte_text, event_text};
 use crate::serde_json::{Map, Value, put};
 use crate::support::alloc::AllocError;
 use crate::uefi_audits::content::TaggedData;
 use uefi_formats::proto::tcg::AlgorithmId;
-use uefi_formats::proto::tcg::content::{PlatformFirmwareBlob, PlatformFirmwareBlob2, TaggedEvent};
+use uefi_formats::proto::tcg::content::{
+    EventText, PlatformFirmwareBlob, PlatformFirmwareBlob2, TaggedEvent,
+};
 use uefi_formats::proto::tcg::v2::{AlgorithmDigestSizes, EventLogHeader};
 
 /// Returns a blob: its address and its length.
@@ -68,14 +70,15 @@ fn each_tagged(tagged: &TaggedData<'_>) -> Result<Vec<Value>, AllocError> {
 }
 
 /// Returns a tagged event: its data in hex, its number, the name of its tag, if it has one, and the
-/// text that its data are, if all of it prints.
+/// text that its data are.
 fn tagged_json(event: &TaggedEvent<'_>) -> Result<Value, AllocError> {
     let mut members = Map::new();
     let data = hex_json(event.data)?;
     put(&mut members, "data", data)?;
     put(&mut members, "id", Value::from(event.id))?;
     put_name(&mut members, event.id)?;
-    put_printed(&mut members, "text", event.data)?;
+    let text = event_text(&EventText::read(event.data))?;
+    put(&mut members, "text", Value::String(text))?;
     Ok(Value::Object(members))
 }
 

@@ -5,8 +5,7 @@ use crate::audit_text::text::events::gpt::push_gpt;
 use crate::audit_text::text::events::hex_lines::push_bytes_lines;
 use crate::audit_text::text::events::signatures::{push_signature, push_signature_lists};
 use crate::audit_text::text::events::variable::{push_boot_option, push_boot_order, push_path, push_variable};
-use crate::audit_text::words::ShownName;
-use crate::audit_text::words::texts::{event_text, version_text};
+use crate::audit_text::words::texts::{shown, shown_event, shown_version};
 use crate::support::alloc::AllocError;
 use crate::uefi_audits::content::EventContent;
 use uefi_formats::proto::device_path::DevicePath;
@@ -20,16 +19,19 @@ pub(crate) fn push_content(
 ) -> Result<(), AllocError> {
     match content {
         EventContent::Unread => push_bytes_lines(text, "data", bytes),
-        EventContent::Text(said) => push_text(text, said),
+        EventContent::Text(said) => {
+            let said = shown(said)?;
+            push_text(text, said.as_str())
+        }
         EventContent::Separator(number) => fallible_writeln!(text, "  separator 0x{number:x}"),
         EventContent::Locality(number) => fallible_writeln!(text, "  started at locality {number}"),
         EventContent::Header(header) => push_header(text, header),
         EventContent::LoaderText(said) => {
-            let said = event_text(said)?;
+            let said = shown_event(said)?;
             push_text(text, said.as_str())
         }
         EventContent::CrtmVersion(version) => {
-            let version = version_text(version)?;
+            let version = shown_version(version)?;
             push_version(text, version.as_str())
         }
         EventContent::Blob(blob) => push_blob(text, blob),
@@ -60,15 +62,13 @@ pub(crate) fn push_content(
     }
 }
 
-/// Appends the line of a text.
+/// Appends the line of a text, as it is shown.
 fn push_text(text: &mut String, said: &str) -> Result<(), AllocError> {
-    let said = ShownName(said);
     fallible_writeln!(text, "  text {said}")
 }
 
-/// Appends the line of a version.
+/// Appends the line of a version, as it is shown.
 fn push_version(text: &mut String, version: &str) -> Result<(), AllocError> {
-    let version = ShownName(version);
     fallible_writeln!(text, "  version {version}")
 }
 

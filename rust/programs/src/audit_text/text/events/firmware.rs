@@ -5,13 +5,14 @@ use crate::support::fallible::*;
 use crate::audit_text::text::events::hex_lines::push_bytes_lines;
 use crate::audit_text::text::events::names::push_algorithm;
 use crate::audit_text::words::ShownName;
-use crate::audit_text::words::printed::printed_text;
 use crate::audit_text::words::tags::push_tag;
-use crate::audit_text::words::texts::byte_text;
+use crate::audit_text::words::texts::{byte_text, shown_event};
 use crate::support::alloc::AllocError;
 use crate::uefi_audits::content::TaggedData;
 use uefi_formats::proto::tcg::AlgorithmId;
-use uefi_formats::proto::tcg::content::{PlatformFirmwareBlob, PlatformFirmwareBlob2, TaggedEvent};
+use uefi_formats::proto::tcg::content::{
+    EventText, PlatformFirmwareBlob, PlatformFirmwareBlob2, TaggedEvent,
+};
 use uefi_formats::proto::tcg::v2::{AlgorithmDigestSizes, EventLogHeader};
 
 /// Appends the lines of a header.
@@ -98,16 +99,8 @@ fn push_tagged_event(
     push_tagged_data(text, event.data)
 }
 
-/// Appends the text that the data of a tagged event are, if all of it prints, or the data in hex.
+/// Appends the text that the data of a tagged event are.
 fn push_tagged_data(text: &mut String, bytes: &[u8]) -> Result<(), AllocError> {
-    match printed_text(bytes)? {
-        Some(printed) => {
-            let printed = ShownName(printed.as_str());
-            fallible_writeln!(text, ": {printed}")
-        }
-        None => {
-            let digits = crate::hex::encode(bytes)?;
-            fallible_writeln!(text, " {digits}")
-        }
-    }
+    let said = shown_event(&EventText::read(bytes))?;
+    fallible_writeln!(text, ": {said}")
 }

@@ -315,10 +315,11 @@ fn samples(data: Data) -> &'static [(&'static str, Kind)] {
         Data::PostCode => &[(PRINTED, Kind::Text), (UNPRINTED, Kind::Blob)],
         Data::NoAction => &[(LOCALITY, Kind::Locality), (FOUR_BYTES, Kind::Unread)],
         Data::Separator => &[(FOUR_BYTES, Kind::Separator)],
-        Data::Text => &[(PRINTED, Kind::Text), (UNPRINTED, Kind::Unread)],
         Data::Tagged => &[(PRINTED, Kind::Tagged)],
         Data::CrtmVersion => &[(PRINTED, Kind::CrtmVersion)],
-        Data::LoaderText => &[(PRINTED, Kind::LoaderText)],
+        Data::Text | Data::LoaderText => {
+            &[(PRINTED, Kind::LoaderText), (UNPRINTED, Kind::LoaderText)]
+        }
         Data::DescribedBlob => &[(DESCRIBED_BLOB, Kind::DescribedBlob)],
         Data::Variable => &[(VARIABLE, Kind::Variable)],
         Data::Image => &[(IMAGE, Kind::Image)],

@@ -1,8 +1,7 @@
 // @generated from proved source. It is not edited.
 
-use crate::support::fallible::*;
-
 use crate::audit_text::text::diff::change::sides::change_between;
+use crate::audit_text::words::push_more;
 use crate::support::alloc::AllocError;
 
 /// How many bytes of a side are shown.
@@ -37,13 +36,10 @@ fn common_length(old: &[u8], new: &[u8]) -> usize {
     shorter
 }
 
-/// Returns bytes in hex; of more than 32 the first ones, and `..`.
+/// Returns the first bytes in hex, and how many there are more.
 fn first_bytes(bytes: &[u8]) -> Result<String, AllocError> {
-    if bytes.len() <= SHOWN_LENGTH {
-        return crate::hex::encode(bytes);
-    }
-    let (shown, _) = bytes.split_at(SHOWN_LENGTH);
-    let mut words = crate::hex::encode(shown)?;
-    words.fallible_push_str("..")?;
+    let (first, rest) = bytes.split_at(SHOWN_LENGTH.min(bytes.len()));
+    let mut words = crate::hex::encode(first)?;
+    push_more(&mut words, rest.len())?;
     Ok(words)
 }

@@ -7,10 +7,11 @@ use crate::audit_text::text::diff::change::lines::line_change;
 use crate::audit_text::text::diff::change::words::word_change;
 use crate::audit_text::text::events::content::push_content;
 use crate::audit_text::words::printed::printed_text;
-use crate::audit_text::words::texts::{event_text, version_text};
+use crate::audit_text::words::texts::{shown, shown_event, shown_version};
 use crate::support::alloc::AllocError;
 use crate::uefi_audits::content::{EventContent, TaggedData};
 use crate::uefi_audits::diff::NumberedEntry;
+use uefi_formats::proto::tcg::content::EventText;
 
 /// Returns what changed in what the data of two events say; nothing if both say the same, or the
 /// data of one aren't read.
@@ -29,8 +30,8 @@ fn read_change(
     old: &NumberedEntry<'_>,
     new: &NumberedEntry<'_>,
 ) -> Result<String, AllocError> {
-    let old_text = text_in(&old.content)?;
-    let new_text = text_in(&new.content)?;
+    let old_text = words_in(&old.content)?;
+    let new_text = words_in(&new.content)?;
     match (&old_text, &new_text) {
         (Some(old), Some(new)) => word_change(old.as_str(), new.as_str()),
         _ => block_change(old, new),
@@ -51,11 +52,19 @@ fn value_change(old: &[u8], new: &[u8]) -> Result<String, AllocError> {
 
 /// Returns what changed in the texts that bytes are, if all of both prints; else in the bytes.
 fn print_change(old: &[u8], new: &[u8]) -> Result<String, AllocError> {
-    let old_text = printed_text(old)?;
-    let new_text = printed_text(new)?;
+    let old_text = shown_printed(old)?;
+    let new_text = shown_printed(new)?;
     match (&old_text, &new_text) {
         (Some(old), Some(new)) => word_change(old.as_str(), new.as_str()),
         _ => byte_change(old, new),
+    }
+}
+
+/// Returns the text that bytes are, if all of it prints, as it is shown.
+fn shown_printed(bytes: &[u8]) -> Result<Option<String>, AllocError> {
+    match printed_text(bytes)? {
+        Some(text) => Ok(Some(shown(text.as_str())?)),
+        None => Ok(None),
     }
 }
 
@@ -92,22 +101,24 @@ fn plain_value<'a>(content: &EventContent<'a>) -> Option<&'a [u8]> {
     }
 }
 
-/// Returns the text or the version that data are.
-fn text_in(content: &EventContent<'_>) -> Result<Option<String>, AllocError> {
+/// Returns the text or the version that data are, as it is shown.
+fn words_in(content: &EventContent<'_>) -> Result<Option<String>, AllocError> {
     match content {
-        EventContent::Text(said) => Ok(Some(String::fallible_from_str(said)?)),
-        EventContent::LoaderText(said) => Ok(Some(event_text(said)?)),
-        EventContent::CrtmVersion(version) => Ok(Some(version_text(version)?)),
+        EventContent::Text(said) => Ok(Some(shown(said)?)),
+        EventContent::LoaderText(said) => Ok(Some(shown_event(said)?)),
+        EventContent::CrtmVersion(version) => Ok(Some(shown_version(version)?)),
         EventContent::Tagged(tagged) => tagged_text(tagged),
         _ => Ok(None),
     }
 }
 
-/// Returns the text of a tagged event that is the only one, with no bytes after it.
+/// Returns the text of a tagged event that is the only one, with no bytes after it, as it is shown.
 fn tagged_text(tagged: &TaggedData<'_>) -> Result<Option<String>, AllocError> {
     let mut events = tagged.iter();
     match (events.next(), events.next()) {
-        (Some(one), None) if tagged.rest().is_empty() => printed_text(one.data),
+        (Some(one), None) if tagged.rest().is_empty() => {
+            Ok(Some(shown_event(&EventText::read(one.data))?))
+        }
         _ => Ok(None),
     }
 }

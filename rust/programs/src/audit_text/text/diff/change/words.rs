@@ -3,10 +3,10 @@
 use crate::support::fallible::*;
 
 use crate::audit_text::text::diff::change::sides::change_between;
-use crate::audit_text::words::ShownName;
 use crate::support::alloc::AllocError;
 
-/// Returns the words of two texts from the first that differs; nothing if none does.
+/// Returns the words of two texts, as they are shown, from the first that differs; nothing if none
+/// does.
 pub(crate) fn word_change(old: &str, new: &str) -> Result<String, AllocError> {
     let old = words_of(old)?;
     let new = words_of(new)?;
@@ -43,17 +43,15 @@ fn common_count(old: &[&str], new: &[&str]) -> usize {
 
 /// Returns the words from an index, after `.. ` for those before them.
 fn words_from(index: usize, words: &[&str]) -> Result<String, AllocError> {
-    let rest = shown_from(index, words)?;
+    let rest = joined_words(index, words)?;
     if index == 0 || rest.is_empty() {
         return Ok(rest);
     }
     fallible_format!(".. {rest}")
 }
 
-/// Returns the words from an index as they are shown.
-fn shown_from(index: usize, words: &[&str]) -> Result<String, AllocError> {
+/// Returns the words from an index, with spaces between them.
+fn joined_words(index: usize, words: &[&str]) -> Result<String, AllocError> {
     let (_, rest) = words.split_at(index);
-    let rest = rest.fallible_join(" ")?;
-    let shown = ShownName(rest.as_str());
-    fallible_format!("{shown}")
+    rest.fallible_join(" ")
 }

@@ -21,7 +21,7 @@ const LOG: &str =
 
 /// Returns how many mismatches and how many types are found, if memory suffices.
 fn found_counts(entries: &[LogEntry<'_>]) -> Option<(usize, usize)> {
-    let found = check_entries(entries).ok()?;
+    let found = check_entries(entries, None).ok()?;
     Some((found.mismatches.len(), found.types.len()))
 }
 

@@ -4,7 +4,7 @@ use crate::audit_text::json::push_verdict_json;
 use crate::pcr_replay::ReadLog;
 use crate::support::test::Fail;
 use crate::test_support::{bytes, holds, same_text};
-use crate::uefi_audits::verify::Verdict;
+use crate::uefi_audits::verify::ComparedPcrs;
 use crate::uefi_tcg::{LastEntry, Log};
 
 /// A log of PCRs 0 and 1.
@@ -12,16 +12,18 @@ const LOG: &str = "0000000008000000aaaaaaaaaaaaaaaaaaaaaaaaaaaaaaaaaaaaaaaa00000
     0008000000bbbbbbbbbbbbbbbbbbbbbbbbbbbbbbbbbbbbbbbb00000000";
 
 /// Its line where no PCR was held, which `uefi_audit verify` refuses before.
-const LINE: &str = "{\"agree\":true,\"count\":0,\"disagreeing\":[],\"locality\":0,\"log\":\
-    \"a.log\"}\n";
+const LINE: &str = "{\"agrees\":false,\"count\":0,\"covered\":[],\"disagreeing\":[],\"failed\":[\
+    \"coverage\"],\"locality\":0,\"log\":\"a.log\",\"not_covered\":[{\"bank\":\
+    null,\"pcrs\":[0,1]}]}\n";
 
 #[test]
-fn a_log_agrees_with_no_pcrs() -> Result<(), Fail> {
+fn a_log_agrees_with_no_pcrs_alone() -> Result<(), Fail> {
     let log = bytes(LOG)?;
     let read = ReadLog::new(Log::new(log.as_slice(), LastEntry::Unknown))?;
-    let verdict = Verdict::new(read.entries(), &[], Some(0))?;
+    let compared = ComparedPcrs::new(read.entries(), &[], &[], Some(0))?;
     let mut text = String::new();
-    push_verdict_json(&mut text, "a.log", &[], &verdict)?;
+    push_verdict_json(&mut text, "a.log", &compared)?;
     same_text("no PCR", text.as_str(), LINE)?;
-    holds("the verdict", verdict.is_agreement())
+    holds("the verdict", compared.verdict.is_agreement())?;
+    holds("the coverage", !compared.agrees())
 }

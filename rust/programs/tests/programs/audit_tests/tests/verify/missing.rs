@@ -4,7 +4,7 @@ use crate::audit_text::text::push_missing;
 use crate::support::test::Fail;
 use crate::test_support::{Refusing, takes_memory};
 use crate::uefi_audits::verify::{
-    HeldPcr, PcrSelection, held_in_text, missing_pcrs, named_pcrs, selected_pcrs,
+    HeldPcr, PcrSelection, held_in_text, missing_pcrs, named_pcrs, selected_pcrs, selections_in,
 };
 
 /// The PCRs 0 and 1 of SHA-1, and PCR 0 of SHA-256.
@@ -12,18 +12,19 @@ const HELD: &str = "  sha1:\n    0 : 0xaaaaaaaaaaaaaaaaaaaaaaaaaaaaaaaaaaaaaaaa\
      xbbbbbbbbbbbbbbbbbbbbbbbbbbbbbbbbbbbbbbbb\n  sha256:\n    0 : 0xcccccc\
      cccccccccccccccccccccccccccccccccccccccccccccccccccccccccc\n";
 
-/// Returns the selection that a text names, if there is a text.
-fn selection(text: Option<&str>) -> Option<PcrSelection> {
-    PcrSelection::parse(text?)
+/// Returns how many selections a text names, if no request is refused.
+fn count_selections(text: &str) -> Option<usize> {
+    let selections = selections_in(text.as_bytes()).ok()?;
+    Some(selections?.len())
 }
 
 /// Returns how many PCRs are missing, after their lines, if no request is refused.
 fn count_missing(
     held: &[HeldPcr],
-    selection: &Option<PcrSelection>,
+    selections: &[PcrSelection],
 ) -> Option<usize> {
     let stated = named_pcrs(held).ok()?;
-    let missing = missing_pcrs(stated.as_slice(), selection).ok()?;
+    let missing = missing_pcrs(stated.as_slice(), selections).ok()?;
     let mut messages = String::new();
     push_missing(&mut messages, "pcrs", missing.as_slice()).ok()?;
     Some(missing.len())
@@ -32,9 +33,9 @@ fn count_missing(
 /// Returns how many PCRs are selected, if no request is refused.
 fn count_selected(
     held: &[HeldPcr],
-    selection: &Option<PcrSelection>,
+    selections: &[PcrSelection],
 ) -> Option<usize> {
-    Some(selected_pcrs(held, selection).ok()?.len())
+    Some(selected_pcrs(held, selections).ok()?.len())
 }
 
 #[test]
@@ -43,7 +44,11 @@ fn a_selection_runs_out_of_memory_at_each_request() -> Result<(), Fail> {
         return Err(Fail::new("the held PCRs can't be read"));
     };
     let pcrs = held.pcrs.as_slice();
-    let selection = selection(Some("1-2"));
-    takes_memory(&3, || count_missing(pcrs, &selection))?;
-    takes_memory(&1, || count_selected(pcrs, &selection))
+    let Some(selections) = selections_in(b"1-2")? else {
+        return Err(Fail::new("the selections can't be read"));
+    };
+    let selections = selections.as_slice();
+    takes_memory(&3, || count_missing(pcrs, selections))?;
+    takes_memory(&1, || count_selected(pcrs, selections))?;
+    takes_memory(&2, || count_selections("sha1:0+sha256:1"))
 }

@@ -5,9 +5,9 @@ use crate::audit_text::json::push_quote_json;
 use crate::audit_text::text::{push_no_digest, push_other_nonce, push_quote, push_quote_verdict};
 use crate::pcr_replay::{Bank, ReadLog};
 use crate::support::test::Fail;
-use crate::test_support::{Refusing, bytes, same_text, takes_memory};
+use crate::test_support::{Refusing, bytes, holds, same_text, takes_memory};
 use crate::tpm_quote::Quote;
-use crate::uefi_audits::verify::{QuoteVerdict, ReceivedQuote, covered_pcrs};
+use crate::uefi_audits::verify::{ComparedQuote, ReceivedQuote};
 use crate::uefi_tcg::{LastEntry, Log};
 
 /// The quote of PCR 0 and 7 with another digest.
@@ -22,19 +22,20 @@ const LINES: &str = "a.quote: hash sha256, no nonce, clock 1702 ms, safe, reset 
     1, restart count 0\na.log: no event has a digest of the bank sha384\n";
 
 /// The same in JSON.
-const JSON_LINE: &str = "{\"locality\":0,\"log\":\"a.log\",\"quote\":{\"agrees\":false,\"\
-    banks\":[{\"algorithm\":\"sha384\",\"pcrs\":[14]}],\"clock\":{\"\
-    clock\":1702,\"reset_count\":1,\"restart_count\":0,\"safe\":true\
-    },\"digest\":\"17b0761f87b081d5cf10757ccc89f12be355c70e2e29df288\
-    b65b30710dcbcd1\",\"hash\":\"sha256\",\"leads_to\":null,\"nonce\
-    \":\"\",\"nonce_agrees\":null}}\n";
+const JSON_LINE: &str =
+    "{\"agrees\":false,\"covered\":[{\"bank\":\"sha384\",\"pcrs\":[14]}],\"failed\
+    \":[\"digest\"],\"locality\":0,\"log\":\"a.log\",\"not_covered\":[{\"bank\":\
+    null,\"pcrs\":[0,7]}],\"quote\":{\"banks\":[{\"algorithm\":\"sha384\",\"pcrs\
+    \":[14]}],\"clock\":{\"clock\":1702,\"reset_count\":1,\"restart_count\":0,\"\
+    safe\":true},\"digest\":\"17b0761f87b081d5cf10757ccc89f12be355c70e2e29df288\
+    b65b30710dcbcd1\",\"digest_agrees\":false,\"hash\":\"sha256\",\"leads_to\":null\
+    ,\"nonce\":\"\",\"nonce_agrees\":null}}\n";
 
-/// Returns the verdict on a quote, after the log.
-fn verdict(received: &ReceivedQuote<'_>) -> Result<QuoteVerdict, Fail> {
+/// Returns a quote beside the log.
+fn compared<'a>(received: &ReceivedQuote<'a>) -> Result<ComparedQuote<'a>, Fail> {
     let log = bytes(SHA256_LOG)?;
     let read = ReadLog::new(Log::new(log.as_slice(), LastEntry::Unknown))?;
-    let (quote, hash) = (&received.quote, received.hash);
-    Ok(QuoteVerdict::new(read.entries(), quote, hash, None)?)
+    Ok(ComparedQuote::new(read.entries(), received, &[], None)?)
 }
 
 #[test]
@@ -45,17 +46,17 @@ fn a_quote_of_a_bank_that_no_event_extends_has_no_digest() -> Result<(), Fail> {
         hash: Bank::Sha256,
         nonce: None,
     };
-    let verdict = verdict(&received)?;
+    let compared = compared(&received)?;
     let mut text = String::new();
     push_other_nonce(&mut text, "a.quote", &received)?;
     push_quote(&mut text, "a.quote", &received)?;
-    push_quote_verdict(&mut text, "a.log", &received.quote, &verdict)?;
-    if let Err(why) = verdict.digest {
+    push_quote_verdict(&mut text, "a.log", &compared.verdict)?;
+    if let Err(why) = compared.verdict.digest {
         push_no_digest(&mut text, "a.log", why)?;
     }
     same_text("its lines", text.as_str(), LINES)?;
     let mut line = String::new();
-    push_quote_json(&mut line, "a.log", &received, &verdict)?;
+    push_quote_json(&mut line, "a.log", &compared)?;
     same_text("its line of JSON", line.as_str(), JSON_LINE)
 }
 
@@ -64,13 +65,12 @@ fn count(
     read: &ReadLog<'_>,
     received: &ReceivedQuote<'_>,
 ) -> Option<usize> {
-    let (quote, hash) = (&received.quote, received.hash);
-    let verdict = QuoteVerdict::new(read.entries(), quote, hash, None).ok()?;
+    let compared = ComparedQuote::new(read.entries(), received, &[], None).ok()?;
     let mut text = String::new();
     push_other_nonce(&mut text, "a.quote", received).ok()?;
     push_quote(&mut text, "a.quote", received).ok()?;
-    push_quote_verdict(&mut text, "a.log", quote, &verdict).ok()?;
-    Some(covered_pcrs(quote).ok()?.len())
+    push_quote_verdict(&mut text, "a.log", &compared.verdict).ok()?;
+    Some(compared.coverage.covered.len())
 }
 
 #[test]
@@ -83,4 +83,33 @@ fn a_quote_runs_out_of_memory_at_each_request() -> Result<(), Fail> {
         nonce: Some(b"other"),
     };
     takes_memory(&2, || count(&read, &received))
+}
+
+/// The PCRs of a bank, and whether the quote of PCR 0 and 7 of SHA-256 covers them.
+const COVERED: [(Bank, &[u32], bool); 7] = [
+    (Bank::Sha256, &[0, 7], true),
+    (Bank::Sha256, &[7], true),
+    (Bank::Sha256, &[], true),
+    (Bank::Sha256, &[0, 1, 7], false),
+    (Bank::Sha256, &[16], false),
+    (Bank::Sha256, &[24], false),
+    (Bank::Sha1, &[0], false),
+];
+
+#[test]
+fn a_quote_covers_the_pcrs_of_its_banks() -> Result<(), Fail> {
+    let message = bytes(OTHER_DIGEST)?;
+    let received = ReceivedQuote {
+        quote: Quote::try_from(message.as_slice())?,
+        hash: Bank::Sha256,
+        nonce: None,
+    };
+    let compared = compared(&received)?;
+    for (bank, pcrs, is_covered) in &COVERED {
+        holds(
+            "the quote",
+            compared.verdict.covers(*bank, *pcrs) == *is_covered,
+        )?;
+    }
+    holds("another digest", !compared.agrees())
 }

@@ -1,0 +1,120 @@
+//! The remarks on the places of a log's events, as JSON.
+
+ghost use Rattle.std.specs.Prelude.{◌≡◌, flat_map, map, IfOk, OnOk};
+ghost use Rattle.serde_json.specs.View.{view};
+ghost use Rattle.uefi_base.specs.Appending.{AppendsText};
+ghost use Rattle.uefi_audits.specs.OutOfPlace.{misplaced_of, remarks_of};
+ghost use Rattle.audit_text.specs.json.OutOfPlace.{misplaced_json, misplaced_line, remark_lines, unseparated_json, unseparated_line};
+
+use crate::json::{line_of, type_json};
+use crate::words::rule_name;
+use serde_json::{Map, Value, put};
+use std::alloc::{AllocError, Global};
+use uefi_audits::out_of_place::{OutOfPlace, Remarks};
+
+/// Appends the remarks: a line for each event that is out of place, and one for each PCR without a
+/// separator.
+#[tactic(auto, unfolding(crate::specs::json::OutOfPlace::remark_lines))]
+pub(super) fn push_remarks(
+    text: &mut String,
+    alloc: Global,
+    log: &str,
+    remarks: &Remarks<'_>,
+) -> Result<(), AllocError>
+    ensures { OnOk result (AppendsText text.old text.new
+        (remark_lines log.now (remarks_of remarks.now))) }
+{
+    push_events(text, alloc, log, remarks.events.as_slice())?;
+    push_unseparated(text, alloc, log, remarks.unseparated.as_slice())
+}
+
+/// Appends a line for each event that is out of place.
+fn push_events(
+    text: &mut String,
+    alloc: Global,
+    log: &str,
+    events: &[OutOfPlace<'_>],
+) -> Result<(), AllocError>
+    ensures { OnOk result (AppendsText text.old text.new
+        (flat_map (misplaced_line log.now) (map misplaced_of events.now))) }
+{
+    for event in events {
+        push_event(text, alloc, log, event)?;
+    }
+    Ok(())
+}
+
+/// Appends the line of an event that is out of place.
+fn push_event(
+    text: &mut String,
+    alloc: Global,
+    log: &str,
+    found: &OutOfPlace<'_>,
+) -> Result<(), AllocError>
+    ensures { OnOk result
+        (AppendsText text.old text.new (misplaced_line log.now (misplaced_of found.now))) }
+{
+    let value = misplaced_json(alloc, log, found)?;
+    let line = line_of(alloc, &value)?;
+    writeln!(text, "{line}")
+}
+
+/// Returns an event that is out of place.
+#[tactic(auto, unfolding(crate::specs::json::OutOfPlace::misplaced_json))]
+fn misplaced_json(alloc: Global, log: &str, found: &OutOfPlace<'_>) -> Result<Value, AllocError>
+    ensures { IfOk result
+        (λ value. view value ≡ misplaced_json log.now (misplaced_of found.now)) }
+{
+    let entry = &found.entry;
+    let mut members = Map::new(alloc);
+    put(&mut members, alloc, "index", Value::from(found.index))?;
+    let log = Value::try_from_str(alloc, log)?;
+    put(&mut members, alloc, "log", log)?;
+    put(&mut members, alloc, "offset", Value::from(entry.offset))?;
+    let rule = Value::try_from_str(alloc, rule_name(found.rule))?;
+    put(&mut members, alloc, "out_of_place", rule)?;
+    let pcr = entry.event.pcr_index().0;
+    put(&mut members, alloc, "pcr", Value::from(pcr))?;
+    let event_type = type_json(alloc, entry.event.event_type())?;
+    put(&mut members, alloc, "type", event_type)?;
+    Ok(Value::Object(members))
+}
+
+/// Appends a line for each PCR without a separator.
+fn push_unseparated(
+    text: &mut String,
+    alloc: Global,
+    log: &str,
+    pcrs: &[u32],
+) -> Result<(), AllocError>
+    ensures { OnOk result
+        (AppendsText text.old text.new (flat_map (unseparated_line log.now) pcrs.now)) }
+{
+    for pcr in pcrs {
+        push_pcr(text, alloc, log, *pcr)?;
+    }
+    Ok(())
+}
+
+/// Appends the line of a PCR without a separator.
+fn push_pcr(text: &mut String, alloc: Global, log: &str, pcr: u32) -> Result<(), AllocError>
+    ensures { OnOk result (AppendsText text.old text.new (unseparated_line log.now pcr)) }
+{
+    let value = unseparated_json(alloc, log, pcr)?;
+    let line = line_of(alloc, &value)?;
+    writeln!(text, "{line}")
+}
+
+/// Returns a PCR without a separator.
+#[tactic(auto, unfolding(crate::specs::json::OutOfPlace::unseparated_json))]
+fn unseparated_json(alloc: Global, log: &str, pcr: u32) -> Result<Value, AllocError>
+    ensures { IfOk result (λ value. view value ≡ unseparated_json log.now pcr) }
+{
+    let mut members = Map::new(alloc);
+    let log = Value::try_from_str(alloc, log)?;
+    put(&mut members, alloc, "log", log)?;
+    let rule = Value::try_from_str(alloc, "no separator")?;
+    put(&mut members, alloc, "out_of_place", rule)?;
+    put(&mut members, alloc, "pcr", Value::from(pcr))?;
+    Ok(Value::Object(members))
+}

@@ -1,0 +1,17 @@
+ghost use Rattle.std.specs.Prelude.{◌≡◌};
+ghost use Rattle.audit_text.specs.words.Rules.{rule_name};
+
+use uefi_audits::out_of_place::Rule;
+
+/// Returns what an event is that breaks a rule for its place.
+pub(crate) fn rule_name(rule: Rule) -> &'static str
+    ensures { result.now ≡ rule_name rule }
+{
+    match rule {
+        Rule::SecondSeparator => "second separator",
+        Rule::SeparatorValue => "separator of another value",
+        Rule::OtherType => "type of other PCRs",
+        Rule::AfterSeparator => "after the separator",
+        Rule::Unlogged => "other than its data was measured",
+    }
+}
