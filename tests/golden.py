@@ -11,6 +11,10 @@ from telling import TEST, TOP, counted
 
 # A run that takes more seconds hangs.
 SECONDS = 600
+# For each program, a call that prints nothing on standard error.
+QUIET = {"uefi_list": ["path", "/dev/null"], "uefi_audit": ["--version"]}
+# The exit status of a program that can't be proved or built.
+UNBUILT = 5
 
 
 def program_named(name):
@@ -61,11 +65,15 @@ def is_as_expected(program, case):
 def run(program, folder, *checks):
     """Tries a folder's cases and then the checks, in an empty folder; or the cases that the command line names. Prints
     the counts, and returns the exit status."""
-    # The first call proves and builds the program where that isn't done yet.
-    subprocess.run([program, "--version"], capture_output=True, check=False)
     found, names = cases(folder), case_names()
     if unknown := [it for it in names if it not in found]:
         sys.exit(f"{TEST}: there is no case {unknown[0]}")
+    if not os.path.exists(program):
+        sys.exit(f"{TEST}: there is no program {program}")
+    # The first call proves and builds the program where that isn't done yet, and says on standard error how far it is.
+    words = [program, *QUIET[os.path.basename(program)]]
+    if subprocess.run(words, stdout=subprocess.DEVNULL, check=False).returncode == UNBUILT:
+        sys.exit(f"{TEST}: {program} can't be built")
     outcomes = [is_as_expected(program, found[it]) for it in names or found]
     with tempfile.TemporaryDirectory(prefix="golden-") as room:
         os.chdir(room)

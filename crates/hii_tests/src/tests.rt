@@ -1,5 +1,2 @@
-mod configurations;
-mod filling;
 mod memory;
 mod samples;
-mod values;

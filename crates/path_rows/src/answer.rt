@@ -1,4 +1,7 @@
-use crate::appending::{append_instance, append_node, append_path, boxed, pushed, rebuilt};
+use crate::appending::{
+    append_instance, append_node, append_path, boxed, instance_to_boxed, path_to_boxed, pushed,
+    rebuilt,
+};
 use crate::attributes::{attributes, named};
 use crate::nodes::{
     equal_headers, equal_views, header, is_less, loaded_image, node, node_text, type_debug,
@@ -30,6 +33,8 @@ pub(crate) fn answer(
         "append_node" => append_node(alloc, heap, input),
         "append_instance" => append_instance(alloc, heap, input),
         "boxed" => boxed(alloc, heap, sample(input)),
+        "path_to_boxed" => path_to_boxed(alloc, heap, sample(input)),
+        "instance_to_boxed" => instance_to_boxed(alloc, heap, sample(input)),
         "rebuilt" => rebuilt(alloc, heap, sample(input)),
         "pushed" => pushed(alloc, heap, input),
         _ => of_nodes(alloc, heap, call, input),

@@ -58,6 +58,25 @@ pub(crate) fn boxed(alloc: Global, heap: &Refusing<Global>, input: &str) -> Opti
     }
 }
 
+/// Returns a copy of the path that the bytes begin with, in a box.
+pub(crate) fn path_to_boxed(alloc: Global, heap: &Refusing<Global>, input: &str) -> Option<String> {
+    let input = bytes(alloc, input).ok()?;
+    let path = DevicePath::try_from(input.as_slice()).ok()?;
+    boxed_digits(alloc, &path.to_boxed(heap).ok()?)
+}
+
+/// Returns a copy of the first instance of the path that the bytes begin with, in a box.
+pub(crate) fn instance_to_boxed(
+    alloc: Global,
+    heap: &Refusing<Global>,
+    input: &str,
+) -> Option<String> {
+    let input = bytes(alloc, input).ok()?;
+    let path = DevicePath::try_from(input.as_slice()).ok()?;
+    let boxed = path.instance_iter().next()?.to_boxed(heap).ok()?;
+    hex_digits(alloc, boxed.as_instance().as_bytes()).ok()
+}
+
 /// Builds a path of the nodes of another one in the buffer.
 fn build_in<'a>(buffer: &'a mut [u8], path: &DevicePath<'_>) -> Result<DevicePath<'a>, BuildError> {
     let mut builder = DevicePathBuilder::with_buf(buffer);

@@ -1,10 +1,7 @@
 mod capabilities;
-mod content;
 mod iterators;
 mod log;
 mod machine_log;
-mod names;
 mod texts;
-mod uintn_size;
 mod v1;
 mod v2;

@@ -15,7 +15,7 @@
 //! [`without_request`] shows that a call asks for no memory at all.
 //!
 //! Its proof says that it is as safe as the allocator below it. Which requests it refuses no
-//! contract says, since none can say what a cell holds: the tests `requests` of `base_tests` do.
+//! contract says, since none can say what a cell holds: the tests of this crate do.
 
 use std::alloc::{AllocError, Allocator, Global};
 use std::cell::Cell;

@@ -4,52 +4,6 @@ use std::alloc::Global;
 use std::fmt::Debug;
 use std::test::Fail;
 
-/// Checks what a function gives for the input of each row.
-///
-/// # Errors
-///
-/// A failure that names the input and shows both values, at the first row where they differ.
-pub fn each_gives<I, T, F>(rows: &[(I, T)], of: F) -> Result<(), Fail>
-where
-    I: Debug,
-    T: PartialEq + Debug + Drop,
-    F: Fn(&I) -> T,
-    requires { F.IsAlwaysCallable of }
-{
-    for (input, expected) in rows {
-        let found = of(input);
-        if found != *expected {
-            return Err(Fail::new(format_args!(
-                "{input:?}: found {found:?}, expected {expected:?}"
-            )));
-        }
-    }
-    Ok(())
-}
-
-/// Checks what a function that allocates gives for the input of each row.
-///
-/// # Errors
-///
-/// A failure that names the input and shows both values, at the first row where they differ.
-pub fn each_gives_in<I, T, F>(alloc: Global, rows: &[(I, T)], of: F) -> Result<(), Fail>
-where
-    I: Debug,
-    T: PartialEq + Debug + Drop,
-    F: Fn(Global, &I) -> T,
-    requires { F.IsAlwaysCallable of }
-{
-    for (input, expected) in rows {
-        let found = of(alloc, input);
-        if found != *expected {
-            return Err(Fail::new(format_args!(
-                "{input:?}: found {found:?}, expected {expected:?}"
-            )));
-        }
-    }
-    Ok(())
-}
-
 /// Checks what a function gives for the bytes of each row, which has them as hex.
 ///
 /// # Errors

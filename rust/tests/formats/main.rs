@@ -20,16 +20,17 @@ mod text;
 #[allow(dead_code, unused_imports)]
 mod audit_tests;
 #[allow(dead_code, unused_imports)]
-mod base_tests;
+mod base_rows;
 mod conversions;
 mod debug;
 mod equality;
 mod formats;
 mod hex;
-#[allow(dead_code)]
-mod hii_tests;
+#[allow(dead_code, unused_imports)]
+mod hii_rows;
 mod macros;
-mod map_tests;
+#[allow(dead_code, unused_imports)]
+mod map_rows;
 mod memory;
 mod mutated_quotes;
 // An allocator is no argument here, and `Debug` reads the fields of what it prints.
@@ -50,6 +51,8 @@ mod rows;
 mod sizes;
 mod sm3_tests;
 mod support;
+#[allow(dead_code, unused_imports)]
+mod tcg_rows;
 mod tcg_tests;
 // A sample is for the tests of the programs.
 #[allow(dead_code)]

@@ -1,6 +1,9 @@
 // @generated from proved source. It is not edited.
 
-use crate::path_rows::appending::{append_instance, append_node, append_path, boxed, pushed, rebuilt};
+use crate::path_rows::appending::{
+    append_instance, append_node, append_path, boxed, instance_to_boxed, path_to_boxed, pushed,
+    rebuilt,
+};
 use crate::path_rows::attributes::{attributes, named};
 use crate::path_rows::nodes::{
     equal_headers, equal_views, header, is_less, loaded_image, node, node_text, type_debug,
@@ -29,6 +32,8 @@ pub(crate) fn answer(
         "append_node" => append_node(input),
         "append_instance" => append_instance(input),
         "boxed" => boxed(sample(input)),
+        "path_to_boxed" => path_to_boxed(sample(input)),
+        "instance_to_boxed" => instance_to_boxed(sample(input)),
         "rebuilt" => rebuilt(sample(input)),
         "pushed" => pushed(input),
         _ => of_nodes(call, input),

@@ -59,6 +59,23 @@ pub(crate) fn boxed(input: &str) -> Option<String> {
     }
 }
 
+/// Returns a copy of the path that the bytes begin with, in a box.
+pub(crate) fn path_to_boxed(input: &str) -> Option<String> {
+    let input = bytes(input).ok()?;
+    let path = DevicePath::try_from(input.as_slice()).ok()?;
+    boxed_digits(&path.to_boxed().ok()?)
+}
+
+/// Returns a copy of the first instance of the path that the bytes begin with, in a box.
+pub(crate) fn instance_to_boxed(
+    input: &str,
+) -> Option<String> {
+    let input = bytes(input).ok()?;
+    let path = DevicePath::try_from(input.as_slice()).ok()?;
+    let boxed = path.instance_iter().next()?.to_boxed().ok()?;
+    hex_digits(boxed.as_instance().as_bytes()).ok()
+}
+
 /// Builds a path of the nodes of another one in the buffer.
 fn build_in<'a>(buffer: &'a mut [u8], path: &DevicePath<'_>) -> Result<DevicePath<'a>, BuildError> {
     let mut builder = DevicePathBuilder::with_buf(buffer);

@@ -20,29 +20,19 @@ impl Text for Result<String, AllocError> {
     }
 }
 
-/// Calls of texts and slices which may run out of memory.
+/// A call of texts which may run out of memory.
 pub trait FallibleReplace {
     fn fallible_replace(&self, from: char, to: &str) -> Result<String, AllocError>;
 }
 
 impl FallibleReplace for str {
     fn fallible_replace(&self, from: char, to: &str) -> Result<String, AllocError> {
-        Ok(self.replace(from, to))
-    }
-}
-
-pub trait FallibleRepeat<T> {
-    fn fallible_repeat(&self, count: usize) -> Result<Vec<T>, AllocError>;
-}
-
-impl<T: Copy> FallibleRepeat<T> for [T] {
-    fn fallible_repeat(&self, count: usize) -> Result<Vec<T>, AllocError> {
-        let mut items = Vec::new();
-        items.try_reserve_exact(count * self.len())?;
-        for _ in 0..count {
-            items.extend_from_slice(self);
+        let mut text = String::new();
+        text.try_reserve_exact(self.len() + self.matches(from).count() * to.len())?;
+        for character in self.chars() {
+            if character == from { text.push_str(to) } else { text.push(character) }
         }
-        Ok(items)
+        Ok(text)
     }
 }
 

@@ -1,7 +1,8 @@
 // @generated from proved source. It is not edited.
 
-//! Tests of the library `uefi_tcg` over its public names: worked rows, the log of a real firmware
-//! cut at every byte and asked for every last entry, and each request for memory refused.
+//! Tests of the library `uefi_tcg` over its public names: the log of a real firmware cut at every
+//! byte and asked for every last entry, and each request for memory refused. The rows of names and of
+//! what the data of events say are in `crates/tcg_rows/data`.
 
 #[cfg(test)]
 mod tests;

@@ -1,6 +1,6 @@
-use std::alloc::Allocator;
+use std::alloc::{Allocator, Global};
 use std::test::Fail;
-use test_support::{bytes, holds, same, same_bytes, takes_memory};
+use test_support::{bytes, each_makes, holds, same, same_bytes, takes_memory};
 use uefi_base::{Align, Error, Status};
 use uefi_tcg::v1::{EventLog, PcrEvent, Sha1Digest, write_event};
 use uefi_tcg::{EventType, PcrIndex};
@@ -75,6 +75,31 @@ fn an_event_in_a_box_is_the_one_in_a_buffer(rt: HostRuntime) -> Result<(), Fail>
         &Some(true),
     )?;
     takes_memory(rt.alloc(), &true, |heap| box_event(heap, &written))
+}
+
+/// Returns the bytes of the event in a box that has this data.
+fn boxed_bytes(alloc: Global, event_data: &[u8]) -> Result<Vec<u8>, Fail> {
+    let Ok(boxed) = PcrEvent::new_in_box(alloc, PCR, EventType::IPL, DIGEST, event_data) else {
+        return Err(Fail::from("the event is short enough"));
+    };
+    let copy = Vec::from_slice(alloc, boxed.as_event().as_bytes())?;
+    Ok(copy)
+}
+
+#[test]
+fn an_event_in_a_box_has_all_its_data_or_none(rt: HostRuntime) -> Result<(), Fail> {
+    const ROWS: [[&str; 2]; 3] = [
+        [
+            "",
+            "04000000 0d000000 000102030405060708090a0b0c0d0e0f10111213 00000000",
+        ],
+        [
+            "2a",
+            "04000000 0d000000 000102030405060708090a0b0c0d0e0f10111213 01000000 2a",
+        ],
+        ["14151617", EVENT],
+    ];
+    each_makes(rt.alloc(), &ROWS, boxed_bytes)
 }
 
 /// Returns the event of a log that has no other.

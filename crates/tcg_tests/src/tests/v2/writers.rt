@@ -1,6 +1,6 @@
-use std::alloc::Allocator;
+use std::alloc::{Allocator, Global};
 use std::test::Fail;
-use test_support::{bytes, holds, same, same_bytes, takes_memory};
+use test_support::{bytes, each_makes, holds, same, same_bytes, takes_memory};
 use uefi_base::{Align, Error, Status};
 use uefi_tcg::v2::{PcrEventInputs, write_event_inputs};
 use uefi_tcg::{EventType, PcrIndex};
@@ -75,6 +75,25 @@ fn inputs_in_a_box_are_the_ones_in_a_buffer(rt: HostRuntime) -> Result<(), Fail>
         &Some(true),
     )?;
     takes_memory(rt.alloc(), &true, |heap| box_inputs(heap, &written))
+}
+
+/// Returns the bytes of the inputs in a box that have this data.
+fn boxed_bytes(alloc: Global, event_data: &[u8]) -> Result<Vec<u8>, Fail> {
+    let Ok(boxed) = PcrEventInputs::new_in_box(alloc, PCR, EventType::IPL, event_data) else {
+        return Err(Fail::from("the inputs are short enough"));
+    };
+    let copy = Vec::from_slice(alloc, boxed.as_inputs().as_bytes())?;
+    Ok(copy)
+}
+
+#[test]
+fn inputs_in_a_box_have_all_their_data_or_none(rt: HostRuntime) -> Result<(), Fail> {
+    const ROWS: [[&str; 2]; 3] = [
+        ["", "12000000 0e000000 0100 04000000 0d000000"],
+        ["2a", "13000000 0e000000 0100 04000000 0d000000 2a"],
+        ["12131415", INPUTS],
+    ];
+    each_makes(rt.alloc(), &ROWS, boxed_bytes)
 }
 
 #[test]

@@ -1,7 +1,9 @@
 // @generated from proved source. It is not edited.
 
+use crate::support::fallible::*;
+
 use crate::support::test::Fail;
-use crate::test_support::{bytes, holds, same, same_bytes, takes_memory};
+use crate::test_support::{bytes, each_makes, holds, same, same_bytes, takes_memory};
 use crate::uefi_base::{Error, Status};
 use crate::uefi_tcg::v1::{EventLog, PcrEvent, Sha1Digest, write_event};
 use crate::uefi_tcg::{EventType, PcrIndex};
@@ -76,6 +78,31 @@ fn an_event_in_a_box_is_the_one_in_a_buffer() -> Result<(), Fail> {
         &Some(true),
     )?;
     takes_memory(&true, || box_event(&written))
+}
+
+/// Returns the bytes of the event in a box that has this data.
+fn boxed_bytes(event_data: &[u8]) -> Result<Vec<u8>, Fail> {
+    let Ok(boxed) = PcrEvent::new_in_box(PCR, EventType::IPL, DIGEST, event_data) else {
+        return Err(Fail::from("the event is short enough"));
+    };
+    let copy = Vec::fallible_from_slice(boxed.as_event().as_bytes())?;
+    Ok(copy)
+}
+
+#[test]
+fn an_event_in_a_box_has_all_its_data_or_none() -> Result<(), Fail> {
+    const ROWS: [[&str; 2]; 3] = [
+        [
+            "",
+            "04000000 0d000000 000102030405060708090a0b0c0d0e0f10111213 00000000",
+        ],
+        [
+            "2a",
+            "04000000 0d000000 000102030405060708090a0b0c0d0e0f10111213 01000000 2a",
+        ],
+        ["14151617", EVENT],
+    ];
+    each_makes(&ROWS, boxed_bytes)
 }
 
 /// Returns the event of a log that has no other.

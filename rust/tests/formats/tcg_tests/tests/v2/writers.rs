@@ -1,7 +1,9 @@
 // @generated from proved source. It is not edited.
 
+use crate::support::fallible::*;
+
 use crate::support::test::Fail;
-use crate::test_support::{bytes, holds, same, same_bytes, takes_memory};
+use crate::test_support::{bytes, each_makes, holds, same, same_bytes, takes_memory};
 use crate::uefi_base::{Error, Status};
 use crate::uefi_tcg::v2::{PcrEventInputs, write_event_inputs};
 use crate::uefi_tcg::{EventType, PcrIndex};
@@ -76,6 +78,25 @@ fn inputs_in_a_box_are_the_ones_in_a_buffer() -> Result<(), Fail> {
         &Some(true),
     )?;
     takes_memory(&true, || box_inputs(&written))
+}
+
+/// Returns the bytes of the inputs in a box that have this data.
+fn boxed_bytes(event_data: &[u8]) -> Result<Vec<u8>, Fail> {
+    let Ok(boxed) = PcrEventInputs::new_in_box(PCR, EventType::IPL, event_data) else {
+        return Err(Fail::from("the inputs are short enough"));
+    };
+    let copy = Vec::fallible_from_slice(boxed.as_inputs().as_bytes())?;
+    Ok(copy)
+}
+
+#[test]
+fn inputs_in_a_box_have_all_their_data_or_none() -> Result<(), Fail> {
+    const ROWS: [[&str; 2]; 3] = [
+        ["", "12000000 0e000000 0100 04000000 0d000000"],
+        ["2a", "13000000 0e000000 0100 04000000 0d000000 2a"],
+        ["12131415", INPUTS],
+    ];
+    each_makes(&ROWS, boxed_bytes)
 }
 
 #[test]

@@ -1,0 +1,35 @@
+use rows::hex_digits;
+use std::alloc::Global;
+use test_support::bytes;
+use uefi_base::Guid;
+
+/// Returns the bytes of the GUID that has a text, and the text that it is displayed as, or the error.
+pub(crate) fn guid(alloc: Global, input: &str) -> Option<String> {
+    match input.parse::<Guid>() {
+        Ok(guid) => {
+            let digits = hex_digits(alloc, &guid.to_bytes()).ok()?;
+            format!(in alloc; "Ok({digits}, \"{guid}\")").ok()
+        }
+        Err(error) => format!(in alloc; "Err({error:?}): {error}").ok(),
+    }
+}
+
+/// Returns what the GUID of sixteen bytes is displayed as.
+pub(crate) fn guid_text(alloc: Global, input: &str) -> Option<String> {
+    let mut guid = [0; 16];
+    let input = bytes(alloc, input).ok()?;
+    if input.len() != guid.len() {
+        return None;
+    }
+    guid.copy_from_slice(input.as_slice());
+    let guid = Guid::from_bytes(guid);
+    format!(in alloc; "\"{guid}\"").ok()
+}
+
+/// Returns the order of the GUIDs of two texts, and whether they are equal.
+pub(crate) fn guid_order(alloc: Global, input: &str) -> Option<String> {
+    let (one, other) = input.split_once(" ; ")?;
+    let (one, other) = (one.parse::<Guid>().ok()?, other.parse::<Guid>().ok()?);
+    let (order, are_equal) = (one.cmp(&other), one == other);
+    format!(in alloc; "({order:?}, {are_equal})").ok()
+}

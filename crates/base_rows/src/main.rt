@@ -1,0 +1,20 @@
+//! The rows of the folder `data`, answered by the library `uefi_base`.
+#![tactic(auto)]
+
+use crate::answer::answer;
+use rows::answered;
+use std::process::ExitCode;
+use std::test::Fail;
+
+mod answer;
+mod errors;
+mod guids;
+mod texts;
+mod units;
+
+fn main(rt: HostRuntime) -> Result<ExitCode, Fail> {
+    answered(
+        &rt,
+        |heap, call, input| answer(rt.alloc(), heap, call, input),
+    )
+}

@@ -1,8 +1,0 @@
-mod characters;
-mod equality;
-mod guids;
-mod memory;
-mod requests;
-mod texts;
-mod units;
-mod values;

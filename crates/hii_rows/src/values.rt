@@ -1,0 +1,74 @@
+use rows::hex_digits;
+use std::alloc::Global;
+use test_support::Refusing;
+use uefi_hii::{ConfigurationString, ConfigurationStringIter, keys, next_pair};
+
+/// Returns the number that a text spells.
+pub(crate) fn number(alloc: Global, input: &str) -> Option<String> {
+    let number = ConfigurationString::parse_number_from_hex(input);
+    format!(in alloc; "{number:?}").ok()
+}
+
+/// Returns the text that another one spells.
+pub(crate) fn text(alloc: Global, heap: &Refusing<Global>, input: &str) -> Option<String> {
+    let found = ConfigurationString::parse_string_from_hex(heap, input).ok()?;
+    let found = found.as_ref().map(|text| text.as_str());
+    format!(in alloc; "{found:?}").ok()
+}
+
+/// Returns the bytes of the GUID that a text spells.
+pub(crate) fn guid(alloc: Global, input: &str) -> Option<String> {
+    match ConfigurationString::parse_guid_from_hex(input) {
+        Some(guid) => hex_digits(alloc, &guid.to_bytes()).ok(),
+        None => format!(in alloc; "None").ok(),
+    }
+}
+
+/// Returns how many bytes a text spells, the last two of them, the first one, what is left by the
+/// hint, and the rest from its end.
+pub(crate) fn ends(alloc: Global, input: &str) -> Option<String> {
+    let mut bytes = ConfigurationString::parse_bytes_from_hex(input);
+    let ends = (
+        bytes.len(),
+        bytes.next_back(),
+        bytes.next_back(),
+        bytes.next(),
+    );
+    let left = bytes.size_hint();
+    let rest = bytes.rev().collect::<Vec<u8>>(alloc).ok()?;
+    let rest = hex_digits(alloc, rest.as_slice()).ok()?;
+    format!(in alloc; "({ends:?}, {left:?}, {rest})").ok()
+}
+
+/// Returns the pairs of a text. The iterator stays ended after them.
+pub(crate) fn pairs(alloc: Global, input: &str) -> Option<String> {
+    let mut text = String::new(alloc);
+    let mut pairs = ConfigurationStringIter::new(input);
+    while let Some(pair) = pairs.next() {
+        write!(text, "{pair:?}").ok()?;
+    }
+    if pairs.next().is_some() {
+        text.push_str(" and the iterator goes on").ok()?;
+    }
+    Some(text)
+}
+
+/// Returns the first pair of bytes, its key and its value, and the bytes after it.
+pub(crate) fn next_pair_of(alloc: Global, input: &[u8]) -> Option<String> {
+    let pair = next_pair(input);
+    format!(in alloc; "{pair:?}").ok()
+}
+
+/// Returns the key that has a name.
+pub(crate) fn key(alloc: Global, name: &str) -> Option<String> {
+    let key = match name {
+        "keys::ALTCFG" => keys::ALTCFG,
+        "keys::GUID" => keys::GUID,
+        "keys::NAME" => keys::NAME,
+        "keys::OFFSET" => keys::OFFSET,
+        "keys::VALUE" => keys::VALUE,
+        "keys::WIDTH" => keys::WIDTH,
+        _ => return None,
+    };
+    format!(in alloc; "{key:?}").ok()
+}

@@ -1,0 +1,21 @@
+//! The rows of the folder `data`, answered by the library `uefi_map`.
+#![tactic(auto)]
+
+use crate::answer::answer;
+use rows::answered;
+use std::process::ExitCode;
+use std::test::Fail;
+
+mod answer;
+mod maps;
+mod names;
+mod resources;
+mod values;
+mod writing;
+
+fn main(rt: HostRuntime) -> Result<ExitCode, Fail> {
+    answered(
+        &rt,
+        |heap, call, input| answer(rt.alloc(), heap, call, input),
+    )
+}

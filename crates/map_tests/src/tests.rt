@@ -1,2 +1,0 @@
-mod memory;
-mod pci;

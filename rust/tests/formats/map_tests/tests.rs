@@ -1,4 +1,0 @@
-// @generated from proved source. It is not edited.
-
-mod memory;
-mod pci;
