@@ -17,6 +17,7 @@ pub(crate) mod pcr_replay;
 pub(crate) mod sha1;
 pub(crate) mod sha2;
 pub(crate) mod sm3;
+pub(crate) mod tcg_event;
 pub(crate) mod tpm_quote;
 pub(crate) mod uefi_base;
 pub(crate) mod uefi_hii;

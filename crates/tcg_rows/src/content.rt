@@ -4,7 +4,7 @@ use rows::hex_digits;
 use std::alloc::Global;
 use test_support::bytes;
 use uefi_tcg::UintnSize;
-use uefi_tcg::content::{
+use tcg_event::{
     BootOrder, ImageLoadEvent, PlatformFirmwareBlob, PlatformFirmwareBlob2, TaggedEvents,
     VariableData,
 };

@@ -1,6 +1,6 @@
 use crate::content::size_and_bytes;
 use std::alloc::{AllocError, Global};
-use uefi_tcg::content::{GptData, GptEntry, GptHeader};
+use tcg_event::{GptData, GptEntry, GptHeader};
 
 /// Appends the type, the blocks, the attributes and the name of an entry, without what follows a NUL,
 /// and the count of the bytes after it.

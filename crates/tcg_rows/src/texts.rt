@@ -2,7 +2,7 @@ use rows::hex_digits;
 use std::alloc::Global;
 use test_support::bytes;
 use uefi_base::UnalignedSlice;
-use uefi_tcg::content::{CrtmVersion, EventText};
+use tcg_event::{CrtmVersion, EventText};
 
 /// Returns the units over bytes.
 pub(crate) fn units(alloc: Global, slice: UnalignedSlice<'_>) -> Option<Vec<u16>> {

@@ -4,7 +4,7 @@ use Rattle.std.specs.Prelude.{Bool, true, false, not, is_some, ◌≢◌, ◌==�
 use Rattle.std.specs.List.{Contains}
 use Rattle.std.proofs.lemmas.List.{append_cancel_left, append_cancel_right}
 use Rattle.std.proofs.lemmas.Bool.{true≢false}
-use Rattle.uefi_tcg.specs.content.Text.{prompts}
+use Rattle.tcg_event.specs.Text.{prompts}
 use Rattle.uefi_tcg.specs.v2.Event.{Event}
 use Rattle.uefi_audits.specs.Check.{IsCommand, MayNameFile}
 

@@ -5,9 +5,9 @@ use Rattle.std.proofs.lemmas.Bool.{true≢false}
 use Rattle.std.proofs.lemmas.List.{append_cancel_right, take-append-drop}
 use Rattle.std.proofs.Math.Seq.{drop-cons}
 use Rattle.std.proofs.lemmas.List.Elements.{All-more}
-use Rattle.uefi_tcg.specs.content.Laws.{OneEncoded}
-use Rattle.uefi_tcg.specs.content.Reading.{Reads}
-use Rattle.uefi_tcg.specs.content.Variable.{IsVariable, ReadsVariable, Variable, variable_bytes}
+use Rattle.tcg_event.specs.Laws.{OneEncoded}
+use Rattle.tcg_event.specs.Reading.{Reads}
+use Rattle.tcg_event.specs.Variable.{IsVariable, ReadsVariable, Variable, variable_bytes}
 use Rattle.uefi_tcg.specs.v2.Event.{Event}
 use Rattle.uefi_audits.specs.declared.check.form.Form.{Form}
 use Rattle.uefi_audits.specs.declared.check.form.Form.TheVariants.{Data, VariableValue, WithoutNul, WithNul, Command, Narrowed}

@@ -1,8 +1,8 @@
 -- What the digests of an event are the hash of, by the event's type (TCG PC Client Platform Firmware Profile 1.06, 10.4.1; for `EV_IPL` what GRUB, shim and systemd-stub measure).
 use Rattle.std.specs.Prelude.{ℕ, ◌≡◌, ◌⊎◌, ◌==◌, ◌||◌, ◌&&◌, not, Bool, true, List, [], ◌∷◌, ◌++◌, flat_map, Some, if◌then◌else◌}
 use Rattle.std.specs.List.{All, Contains, list_all, list_any}
-use Rattle.uefi_tcg.specs.content.Text.{prompts}
-use Rattle.uefi_tcg.specs.content.Variable.{Variable, ReadsVariable}
+use Rattle.tcg_event.specs.Text.{prompts}
+use Rattle.tcg_event.specs.Variable.{Variable, ReadsVariable}
 use Rattle.uefi_tcg.specs.declared.event_type.TheConstants.EventType.{SEPARATOR, ACTION, EVENT_TAG, CRTM_VERSION, PLATFORM_CONFIG_FLAGS, TABLE_OF_DEVICES, IPL, OMIT_BOOT_DEVICE_EVENTS}
 use Rattle.uefi_tcg.specs.declared.event_type.TheConstants.EventType.{EFI_VARIABLE_DRIVER_CONFIG, EFI_VARIABLE_BOOT, EFI_GPT_EVENT, EFI_ACTION, EFI_VARIABLE_BOOT2, EFI_GPT_EVENT2, EFI_VARIABLE_AUTHORITY}
 use Rattle.uefi_tcg.specs.declared.event_type.TheConstants.EventType.{EFI_SPDM_FIRMWARE_BLOB, EFI_SPDM_FIRMWARE_CONFIG, EFI_SPDM_DEVICE_POLICY, EFI_SPDM_DEVICE_AUTHORITY}

@@ -18,8 +18,8 @@ pub(crate) use self::result::CheckedEntry;
 pub use self::result::{CheckResult, Mismatch, check_entries};
 use pcr_replay::{Bank, has_digest, is_hash_of};
 use std::alloc::{AllocError, Allocator};
-use uefi_tcg::content::VariableData;
-use uefi_tcg::laws::one_value;
+use tcg_event::VariableData;
+use tcg_event::laws::one_value;
 use uefi_tcg::{EventType, LogEvent};
 
 mod counts;

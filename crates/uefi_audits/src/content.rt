@@ -1,7 +1,7 @@
 //! What the data of an event say, where they are read.
 //!
 //! Begin with [`read_content`], which returns an [`EventContent`]. What it holds are views of
-//! [`uefi_tcg::content`], of [`uefi_tcg::v2`] and of [`uefi_path`], which allocate nothing.
+//! [`tcg_event`], of [`uefi_tcg::v2`] and of [`uefi_path`], which allocate nothing.
 
 ghost use Rattle.std.specs.Prelude.{◌≡◌, option_map};
 ghost use Rattle.std.specs.List.{list_all};
@@ -20,7 +20,7 @@ use crate::content::variable::{authority_content, variable_content};
 use pcr_replay::locality_in;
 use uefi_base::little_endian::u32_at;
 use uefi_path::{DevicePath, LoadOption};
-use uefi_tcg::content::{
+use tcg_event::{
     BootOrder, CrtmVersion, EventText, GptData, ImageLoadEvent, PlatformFirmwareBlob,
     PlatformFirmwareBlob2, SignatureData, SignatureLists, VariableData,
 };

@@ -5,7 +5,7 @@ ghost use Rattle.uefi_audits.specs.Laws.{OneChecked, OneContent};
 ghost use Rattle.uefi_audits.specs.diff.Counterparts.{OneCounterpart};
 
 use uefi_path::laws::{one_front, one_load_option};
-use uefi_tcg::laws::{one_boot_order, one_gpt_data, one_signature, one_value};
+use tcg_event::laws::{one_boot_order, one_gpt_data, one_signature, one_value};
 
 /// States that the data of an event say one thing, by the form that its type gives them and the size
 /// of a `UINTN` in its log. So an event has one line, as

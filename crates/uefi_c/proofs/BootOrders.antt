@@ -1,8 +1,8 @@
 -- The number at an index of an order of boot options.
 use Rattle.std.proofs.Common.{◌≡◌, ℕ, List, Some, None}
 use Rattle.std.specs.Prelude.{slice_get}
-use Rattle.uefi_tcg.specs.content.BootOrder.{ReadsBootOrder}
-use Rattle.uefi_tcg.specs.content.Reading.{Reads}
+use Rattle.tcg_event.specs.BootOrder.{ReadsBootOrder}
+use Rattle.tcg_event.specs.Reading.{Reads}
 use Rattle.uefi_c.specs.EventData.{HasNumber, HasNoNumber, IsNoOrder}
 
 pub no_order : (bytes : List ℕ) → ReadsBootOrder bytes None → IsNoOrder bytes

@@ -7,12 +7,12 @@ use Rattle.std.specs.Option.{option_map}
 use Rattle.std.proofs.lemmas.List.{take_all, take_more, take_more_set}
 use Rattle.std.proofs.lemmas.Option.{slice_get_cases, unwrap_or-slice_get}
 use Rattle.uefi_base.specs.Views.{slice_units}
-use Rattle.uefi_tcg.specs.content.Gpt.{Entry, GptData, HasEntrySize, IsGptData, ReadsGptData, gpt_bytes}
-use Rattle.uefi_tcg.specs.content.GptViews.{entry_of}
-use Rattle.uefi_tcg.specs.content.Reading.{Reads}
-use Rattle.uefi_tcg.specs.declared.content.gpt.gpt_entry.GptEntry.{GptEntry}
+use Rattle.tcg_event.specs.Gpt.{Entry, GptData, HasEntrySize, IsGptData, ReadsGptData, gpt_bytes}
+use Rattle.tcg_event.specs.GptViews.{entry_of}
+use Rattle.tcg_event.specs.Reading.{Reads}
+use Rattle.tcg_event.specs.declared.gpt.gpt_entry.GptEntry.{GptEntry}
 use Rattle.uefi_tcg.specs.declared.uintn_size.UintnSize.{UintnSize}
-use Rattle.uefi_tcg.proofs.content.GptBytes.{one_gpt_data}
+use Rattle.tcg_event.proofs.GptBytes.{one_gpt_data}
 use Rattle.uefi_c.specs.Gpt.{HasEntry, HasHeader}
 
 pub has_header : (size : UintnSize) (bytes : List ℕ) (gpt : GptData) → ReadsGptData size bytes (Some gpt)

@@ -8,12 +8,12 @@ use Rattle.uefi_base.specs.LittleEndian.{u32_at, u32_bytes}
 use Rattle.uefi_base.specs.Prefix.{IsPrefix}
 use Rattle.std.specs.Prelude.{IfSome, IfNone}
 use Rattle.std.specs.Option.{option_map}
-use Rattle.uefi_tcg.specs.content.Reading.{Reads}
-use Rattle.uefi_tcg.specs.content.SignatureViews.{signature_of}
-use Rattle.uefi_tcg.specs.declared.content.signature.signature_data.SignatureData.{SignatureData}
-use Rattle.uefi_tcg.specs.content.Signature.{AreSignatureLists, HasSignatureList, HasSize, IsSignatureList, ReadsSignature, ReadsSignatureLists, Signature, SignatureList, list_bytes, list_size, lists_bytes, signature_bytes, signatures_bytes}
-use Rattle.uefi_tcg.specs.private.content.Signatures.{bytes_and_rest, some_bytes}
-use Rattle.uefi_tcg.proofs.content.SignatureBytes.{other_length, short_list}
+use Rattle.tcg_event.specs.Reading.{Reads}
+use Rattle.tcg_event.specs.SignatureViews.{signature_of}
+use Rattle.tcg_event.specs.declared.signature.signature_data.SignatureData.{SignatureData}
+use Rattle.tcg_event.specs.Signature.{AreSignatureLists, HasSignatureList, HasSize, IsSignatureList, ReadsSignature, ReadsSignatureLists, Signature, SignatureList, list_bytes, list_size, lists_bytes, signature_bytes, signatures_bytes}
+use Rattle.tcg_event.specs.private.Signatures.{bytes_and_rest, some_bytes}
+use Rattle.tcg_event.proofs.SignatureBytes.{other_length, short_list}
 
 -- What follows the type of a list, and each of its sizes.
 abbrev after_size : SignatureList → List ℕ → List ℕ

@@ -1,6 +1,6 @@
 -- The partition table of a disk (TCG PC Client Platform Firmware Profile 1.06, 10.4.1 "EV_EFI_GPT_EVENT", UEFI_GPT_DATA), as calls give it.
 use Rattle.std.specs.Prelude.{ℕ, ◌≡◌, List, Some, slice_get}
-use Rattle.uefi_tcg.specs.content.Gpt.{Entry, GptData, Header, IsGptData, gpt_bytes}
+use Rattle.tcg_event.specs.Gpt.{Entry, GptData, Header, IsGptData, gpt_bytes}
 use Rattle.uefi_tcg.specs.declared.uintn_size.UintnSize.{UintnSize}
 use Rattle.uefi_c.specs.declared.event_data.gpt.UefiGptEntry.{UefiGptEntry}
 use Rattle.uefi_c.specs.declared.event_data.gpt.UefiGptHeader.{UefiGptHeader}

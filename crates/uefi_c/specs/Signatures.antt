@@ -1,6 +1,6 @@
 -- Signature databases (UEFI 2.10, 32.4.1 "Signature Database"), as cursors give them.
 use Rattle.std.specs.Prelude.{ℕ, ◌≡◌, List}
-use Rattle.uefi_tcg.specs.content.Signature.{Signature, SignatureList, IsSignatureList, list_bytes, signatures_bytes}
+use Rattle.tcg_event.specs.Signature.{Signature, SignatureList, IsSignatureList, list_bytes, signatures_bytes}
 use Rattle.uefi_c.specs.Cursor.{Stands}
 use Rattle.uefi_c.specs.declared.event_data.signature.UefiSignature.{UefiSignature}
 use Rattle.uefi_c.specs.declared.event_data.signature.UefiSignatureList.{UefiSignatureList}

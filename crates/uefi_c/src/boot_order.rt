@@ -3,7 +3,7 @@ ghost use Rattle.uefi_c.specs.EventData.{HasNumber, HasNoNumber, IsNoOrder};
 ghost use Rattle.uefi_c.specs.Status.{ended, IsOneOf, ok, other_data};
 
 use crate::status::{self, UefiStatus};
-use uefi_tcg::content::BootOrder;
+use tcg_event::BootOrder;
 
 /// Reads the number at an index of the order of boot options that the bytes are: the value of the
 /// variable `BootOrder`. Option 1 is that of the variable `Boot0001`.

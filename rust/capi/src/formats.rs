@@ -25,6 +25,8 @@ pub(crate) mod sha1;
 pub(crate) mod sha2;
 #[path = "../../src/formats/sm3/mod.rs"]
 pub(crate) mod sm3;
+#[path = "../../src/formats/tcg_event/mod.rs"]
+pub(crate) mod tcg_event;
 #[path = "../../src/formats/tpm_quote/mod.rs"]
 pub(crate) mod tpm_quote;
 #[path = "../../src/formats/uefi_base/mod.rs"]

@@ -58,7 +58,9 @@ mod tcg_tests;
 #[allow(dead_code)]
 mod test_support;
 
-use formats::{pcr_replay, tpm_quote, uefi_base, uefi_hii, uefi_map, uefi_node, uefi_path, uefi_records, uefi_tcg};
+use formats::{
+    pcr_replay, tcg_event, tpm_quote, uefi_base, uefi_hii, uefi_map, uefi_node, uefi_path, uefi_records, uefi_tcg,
+};
 
 mod sm3 {
     pub(crate) use crate::formats::{sha2::Digest, sm3::*};

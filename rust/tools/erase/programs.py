@@ -40,8 +40,11 @@ class Library:
         return '::'.join(['uefi_formats', *paths[0].split('::')[:-1]]) if paths else None
 
     def link(self, found):
-        """A link of docs to an item of the libraries, by the path that a user has."""
+        """A link of docs to an item of the libraries, or to a library, by the path that a user has."""
         crate, *rest = found[0].split('::')
+        if not rest:
+            whole = (module for module, of, inside, names in self.public.places if of == crate and not inside and names == ['*'])
+            return '::'.join(['uefi_formats', *next(whole)])
         for n, name in enumerate(rest):
             if module := self.path(crate, tuple(rest[:n]), name):
                 return '::'.join([module, *rest[n:]])
@@ -131,7 +134,8 @@ def to_program(source, library, crate, crates):
     rewrite(source, PROGRAMS)
     if 'AsSlice' in source.names():
         rewrite(source, BYTES)
-    links = re.compile(rf'(?<=[`(\[])({"|".join(library.public.crates)})(::\w+)+')
+    crate_names = '|'.join(library.public.crates)
+    links = re.compile(rf'(?<=[`(\[])({crate_names})(::\w+)+|(?<=\[`)({crate_names})(?=`\])')
     for token in source.tokens:
         if '///' in token.space or '//!' in token.space:
             token.space = links.sub(library.link, token.space)

@@ -7,12 +7,12 @@ use Rattle.serde_json.specs.Written.{has_float, items_have_float}
 use Rattle.uefi_path.specs.LoadOption.{LoadOption}
 use Rattle.uefi_path.specs.Node.{Node}
 use Rattle.uefi_path.specs.Path.{all_but_last}
-use Rattle.uefi_tcg.specs.content.Gpt.{Entry}
-use Rattle.uefi_tcg.specs.content.Image.{Image}
-use Rattle.uefi_tcg.specs.content.Signature.{Signature, SignatureList}
-use Rattle.uefi_tcg.specs.content.Tagged.{Tagged}
-use Rattle.uefi_tcg.specs.content.Text.{text_in}
-use Rattle.uefi_tcg.specs.content.Variable.{Variable}
+use Rattle.tcg_event.specs.Gpt.{Entry}
+use Rattle.tcg_event.specs.Image.{Image}
+use Rattle.tcg_event.specs.Signature.{Signature, SignatureList}
+use Rattle.tcg_event.specs.Tagged.{Tagged}
+use Rattle.tcg_event.specs.Text.{text_in}
+use Rattle.tcg_event.specs.Variable.{Variable}
 use Rattle.uefi_audits.specs.content.Content.{Content, unread, text, separator, locality, header, loader_text}
 use Rattle.uefi_audits.specs.content.Content.{crtm_version, blob, described_blob, tagged, gpt, variable, image}
 use Rattle.uefi_audits.specs.content.Value as values

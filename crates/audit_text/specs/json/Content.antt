@@ -2,7 +2,7 @@
 use Rattle.std.specs.Prelude.{List, Option, codes}
 use Rattle.serde_json.specs.Data.{Data, null, number, unsigned, string, object, member, no_members}
 use Rattle.uefi_path.specs.Node.{Node}
-use Rattle.uefi_tcg.specs.content.Image.{Image}
+use Rattle.tcg_event.specs.Image.{Image}
 use Rattle.uefi_audits.specs.content.Content.{Content, unread, text, separator, locality, header, loader_text, crtm_version, blob, described_blob, tagged, gpt, variable, image}
 use Rattle.audit_text.specs.json.Firmware.{blob_json, described_json, gpt_json, header_json, tagged_events_json}
 use Rattle.audit_text.specs.json.Parts.{only, path_json, with_rest, with_text}

@@ -5,10 +5,10 @@ use Rattle.hex.specs.Hex.{encode_lower}
 use Rattle.serde_json.specs.Data.{Data, Members, number, unsigned, string, array, object, member, no_members, put}
 use Rattle.serde_json.specs.View.{items_of}
 use Rattle.uefi_base.specs.GuidText.{guid_text}
-use Rattle.uefi_tcg.specs.content.Blob.{Blob, DescribedBlob}
-use Rattle.uefi_tcg.specs.content.Gpt.{Entry, GptData}
-use Rattle.uefi_tcg.specs.content.Tagged.{Tagged}
-use Rattle.uefi_tcg.specs.content.Text.{text_in}
+use Rattle.tcg_event.specs.Blob.{Blob, DescribedBlob}
+use Rattle.tcg_event.specs.Gpt.{Entry, GptData}
+use Rattle.tcg_event.specs.Tagged.{Tagged}
+use Rattle.tcg_event.specs.Text.{text_in}
 use Rattle.uefi_tcg.specs.v2.Header.{Header}
 use Rattle.audit_text.specs.json.Algorithm.{algorithm_json}
 use Rattle.audit_text.specs.json.Parts.{with_rest}

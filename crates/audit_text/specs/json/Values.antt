@@ -7,8 +7,8 @@ use Rattle.serde_json.specs.View.{items_of}
 use Rattle.sha2.specs.Sha256.{sha256}
 use Rattle.uefi_base.specs.GuidText.{guid_text}
 use Rattle.uefi_path.specs.LoadOption.{LoadOption}
-use Rattle.uefi_tcg.specs.content.Signature.{Signature, SignatureList}
-use Rattle.uefi_tcg.specs.content.Variable.{Variable}
+use Rattle.tcg_event.specs.Signature.{Signature, SignatureList}
+use Rattle.tcg_event.specs.Variable.{Variable}
 use Rattle.audit_text.specs.words.Path.{path_text}
 use Rattle.uefi_audits.specs.content.Value.{Value, unread, boot_option, boot_order, signature_lists, signature}
 use Rattle.audit_text.specs.json.Parts.{nodes_json, only, with_printed}

@@ -3,8 +3,8 @@ use Rattle.std.specs.Prelude.{ℕ, ◌==◌, ◌&&◌, ◌||◌, not, Bool, true
 use Rattle.std.specs.List.{filter}
 use Rattle.std.specs.Str.{bytes_eq}
 use Rattle.hex.specs.Hex.{encode_lower}
-use Rattle.uefi_tcg.specs.content.Tagged.{Tagged}
-use Rattle.uefi_tcg.specs.content.Text.{text_in}
+use Rattle.tcg_event.specs.Tagged.{Tagged}
+use Rattle.tcg_event.specs.Text.{text_in}
 use Rattle.uefi_tcg.specs.v2.Event.{Digest, Event}
 use Rattle.uefi_audits.specs.Check.{forms_of}
 use Rattle.uefi_audits.specs.content.Content.{Content, unread, text, loader_text, crtm_version, tagged, variable}

@@ -6,14 +6,14 @@ use Rattle.sha2.specs.Sha256.{sha256}
 use Rattle.uefi_base.specs.GuidText.{guid_text}
 use Rattle.uefi_path.specs.LoadOption.{LoadOption}
 use Rattle.uefi_path.specs.Node.{Node}
-use Rattle.uefi_tcg.specs.content.Blob.{Blob, DescribedBlob}
-use Rattle.uefi_tcg.specs.content.Gpt as gpts
-use Rattle.uefi_tcg.specs.content.Gpt.{Entry, GptData}
-use Rattle.uefi_tcg.specs.content.Image.{Image}
-use Rattle.uefi_tcg.specs.content.Signature.{Signature, SignatureList}
-use Rattle.uefi_tcg.specs.content.Tagged.{Tagged}
-use Rattle.uefi_tcg.specs.content.Text.{text_in}
-use Rattle.uefi_tcg.specs.content.Variable.{Variable}
+use Rattle.tcg_event.specs.Blob.{Blob, DescribedBlob}
+use Rattle.tcg_event.specs.Gpt as gpts
+use Rattle.tcg_event.specs.Gpt.{Entry, GptData}
+use Rattle.tcg_event.specs.Image.{Image}
+use Rattle.tcg_event.specs.Signature.{Signature, SignatureList}
+use Rattle.tcg_event.specs.Tagged.{Tagged}
+use Rattle.tcg_event.specs.Text.{text_in}
+use Rattle.tcg_event.specs.Variable.{Variable}
 use Rattle.uefi_tcg.specs.v2.Header.{Header}
 use Rattle.uefi_audits.specs.content.Content.{Content, unread, text, separator, locality, header, loader_text, crtm_version, blob, described_blob, tagged, gpt, variable, image}
 use Rattle.uefi_audits.specs.content.Value as values

@@ -5,12 +5,12 @@ use Rattle.std.specs.Fmt.{decimal, digits}
 use Rattle.std.specs.Str.{chars}
 use Rattle.uefi_base.specs.GuidText.{guid_text, hex_byte}
 use Rattle.uefi_path.specs.Node.{Node}
-use Rattle.uefi_tcg.specs.content.Blob.{Blob}
-use Rattle.uefi_tcg.specs.content.CrtmVersion.{CrtmVersion, ucs2, guid, other}
-use Rattle.uefi_tcg.specs.content.Image.{Image}
-use Rattle.uefi_tcg.specs.content.Tagged.{Tagged}
-use Rattle.uefi_tcg.specs.content.Text as texts
-use Rattle.uefi_tcg.specs.content.Text.{EventText, utf8, utf16}
+use Rattle.tcg_event.specs.Blob.{Blob}
+use Rattle.tcg_event.specs.CrtmVersion.{CrtmVersion, ucs2, guid, other}
+use Rattle.tcg_event.specs.Image.{Image}
+use Rattle.tcg_event.specs.Tagged.{Tagged}
+use Rattle.tcg_event.specs.Text as texts
+use Rattle.tcg_event.specs.Text.{EventText, utf8, utf16}
 use Rattle.uefi_audits.specs.content.Content.{Content, unread, text, separator, locality, header, loader_text, crtm_version, blob, described_blob, tagged, gpt, variable, image}
 use Rattle.audit_text.specs.words.Path.{path_text}
 use Rattle.audit_text.specs.words.Texts.{unit_text}

@@ -1,7 +1,7 @@
 -- How signatures of a database are shown.
 use Rattle.std.specs.Prelude.{ℕ, List, Option, Some, None, codes, if◌then◌else◌}
 use Rattle.std.specs.Str.{bytes_eq}
-use Rattle.uefi_tcg.specs.declared.content.signature.signature_type.TheConstants.SignatureType.{SHA1, SHA256, SHA384, SHA512, RSA2048, X509, X509_SHA256}
+use Rattle.tcg_event.specs.declared.signature.signature_type.TheConstants.SignatureType.{SHA1, SHA256, SHA384, SHA512, RSA2048, X509, X509_SHA256}
 
 -- The longest data of a signature that are shown whole: a hash of 64 bytes, with the time of a revocation.
 abbrev pub longest_hash : ℕ

@@ -2,9 +2,9 @@
 use Rattle.std.specs.Prelude.{ℕ, ◌==◌, ◌&&◌, nat_le, List, [], ◌∷◌, encode_utf8, if◌then◌else◌}
 use Rattle.std.specs.List.{flat_map}
 use Rattle.uefi_base.specs.GuidText.{guid_text}
-use Rattle.uefi_tcg.specs.content.CrtmVersion.{CrtmVersion, ucs2, guid, other}
-use Rattle.uefi_tcg.specs.content.Text as texts
-use Rattle.uefi_tcg.specs.content.Text.{EventText, utf8, utf16}
+use Rattle.tcg_event.specs.CrtmVersion.{CrtmVersion, ucs2, guid, other}
+use Rattle.tcg_event.specs.Text as texts
+use Rattle.tcg_event.specs.Text.{EventText, utf8, utf16}
 use Rattle.audit_text.specs.words.Shown.{shown_name, shown_name_bytes}
 
 -- The character of a unit: U+FFFD for a surrogate.

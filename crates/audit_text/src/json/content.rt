@@ -2,7 +2,7 @@ ghost use Rattle.std.specs.Prelude.{◌≡◌, IfOk, option_map};
 ghost use Rattle.serde_json.specs.View.{view};
 ghost use Rattle.uefi_path.specs.Views.{path_nodes};
 ghost use Rattle.audit_text.specs.json.Content.{content_json, image_json};
-ghost use Rattle.uefi_tcg.specs.content.Views.{image_of};
+ghost use Rattle.tcg_event.specs.Views.{image_of};
 ghost use Rattle.uefi_audits.specs.content.Views.{content_of};
 
 use crate::json::content::firmware::{blob_json, described_json, header_json, tagged_events_json};
@@ -15,7 +15,7 @@ use serde_json::{Map, Value, put};
 use std::alloc::{AllocError, Global};
 use uefi_audits::content::EventContent;
 use uefi_path::DevicePath;
-use uefi_tcg::content::ImageLoadEvent;
+use tcg_event::ImageLoadEvent;
 
 mod firmware;
 mod gpt;

@@ -48,7 +48,7 @@ use uefi_tcg::{EventType, LogEntry, UintnSize};
 /// | others | `text`, if all bytes of the data print |
 ///
 /// The text of such an event, and of a tagged event, is UTF-8 or else UTF-16, as
-/// [`EventText`](uefi_tcg::content::EventText) reads it. Of bytes that are neither, each is its character
+/// [`EventText`](tcg_event::EventText) reads it. Of bytes that are neither, each is its character
 /// of ASCII, if that prints, or `\x` and two hex digits; a backslash is too. Other data, as the value of
 /// a variable, are a text if they are two or more characters of ASCII that print, tabs and ends of lines,
 /// of one byte or two each, with a NUL at the end or without one. In names U+FFFD stands for a surrogate.

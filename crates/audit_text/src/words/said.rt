@@ -5,7 +5,7 @@ ghost use Rattle.uefi_base.specs.Appending.{AppendsText};
 ghost use Rattle.uefi_base.specs.GuidText.{hex_byte};
 ghost use Rattle.uefi_base.specs.Views.{slice_units};
 ghost use Rattle.uefi_path.specs.Views.{path_nodes};
-ghost use Rattle.uefi_tcg.specs.content.Views.{blob_of, image_of, text_of, variable_of, version_of};
+ghost use Rattle.tcg_event.specs.Views.{blob_of, image_of, text_of, variable_of, version_of};
 ghost use Rattle.audit_text.specs.words.Said.{blob_text, event_words, image_text, more, path_words, said, shown_bytes, shown_hex, shown_one, shown_text, shown_units, tagged_words, version_words};
 ghost use Rattle.uefi_audits.specs.content.Views.{content_of};
 ghost use Rattle.audit_text.specs.words.Shown.{shown_name};
@@ -17,7 +17,7 @@ use std::alloc::{AllocError, Global};
 use uefi_audits::content::{EventContent, TaggedData};
 use uefi_base::UnalignedSlice;
 use uefi_path::DevicePath;
-use uefi_tcg::content::{
+use tcg_event::{
     CrtmVersion, EventText, ImageLoadEvent, PlatformFirmwareBlob, VariableData,
 };
 

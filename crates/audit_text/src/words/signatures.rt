@@ -1,7 +1,7 @@
 ghost use Rattle.std.specs.Prelude.{◌≡◌, nat_le, length, option_map};
 ghost use Rattle.audit_text.specs.words.Signatures.{longest_hash, signature_type_name};
 
-use uefi_tcg::content::SignatureType;
+use tcg_event::SignatureType;
 
 /// The longest data of a signature that are shown whole: a hash of 64 bytes, with the time of a
 /// revocation.

@@ -2,7 +2,7 @@ ghost use Rattle.std.specs.Prelude.{◌≡◌, IfOk, encode_utf8, string_bytes};
 ghost use Rattle.std.specs.List.{flat_map};
 ghost use Rattle.uefi_base.specs.Views.{slice_units};
 ghost use Rattle.uefi_path.specs.LoadOptionViews.{load_option_of};
-ghost use Rattle.uefi_tcg.specs.content.Views.{text_of, version_of};
+ghost use Rattle.tcg_event.specs.Views.{text_of, version_of};
 ghost use Rattle.audit_text.specs.words.Shown.{shown_name, shown_name_bytes};
 ghost use Rattle.audit_text.specs.words.Texts.{before_nul, event_text, shown_event, shown_version, unit_text, version_text};
 
@@ -10,7 +10,7 @@ use crate::words::{ShownBytes, ShownName};
 use std::alloc::{AllocError, Global};
 use uefi_base::UnalignedSlice;
 use uefi_path::LoadOption;
-use uefi_tcg::content::{CrtmVersion, EventText};
+use tcg_event::{CrtmVersion, EventText};
 
 /// Returns units as text, with U+FFFD for each surrogate.
 pub(crate) fn name_text(alloc: Global, units: &UnalignedSlice<'_>) -> Result<String, AllocError>

@@ -4,7 +4,7 @@ use std::alloc::Global;
 use std::test::Fail;
 use test_support::samples::{FOUR_EVENTS, FOUR_HEADER, LOG1};
 use test_support::{bytes, holds, joined_bytes, same};
-use uefi_tcg::content::TaggedEvents;
+use tcg_event::TaggedEvents;
 use uefi_tcg::{v1, v2};
 
 /// Returns the bytes of a version 2 log of two events.

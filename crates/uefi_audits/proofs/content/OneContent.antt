@@ -3,14 +3,14 @@ use Rattle.std.proofs.Common.{◌≡◌, ℕ, List, [], ◌++◌, sym, refl, ap,
 use Rattle.uefi_path.specs.Laws.{OneFront}
 use Rattle.uefi_path.specs.Node.{joined}
 use Rattle.uefi_path.specs.Path.{IsPath}
-use Rattle.uefi_tcg.specs.content.Blob.{IsBlob, IsDescribedBlob, blob_bytes, described_bytes}
-use Rattle.uefi_tcg.specs.content.Gpt.{IsGptData, OneGptData, gpt_bytes}
-use Rattle.uefi_tcg.specs.content.Image.{Image, IsImage, image_bytes}
-use Rattle.uefi_tcg.specs.content.Laws.{OneEncoded, OneValue}
-use Rattle.uefi_tcg.specs.content.Reading.{Reads}
-use Rattle.uefi_tcg.specs.content.Variable.{IsVariable, Variable, variable_bytes}
+use Rattle.tcg_event.specs.Blob.{IsBlob, IsDescribedBlob, blob_bytes, described_bytes}
+use Rattle.tcg_event.specs.Gpt.{IsGptData, OneGptData, gpt_bytes}
+use Rattle.tcg_event.specs.Image.{Image, IsImage, image_bytes}
+use Rattle.tcg_event.specs.Laws.{OneEncoded, OneValue}
+use Rattle.tcg_event.specs.Reading.{Reads}
+use Rattle.tcg_event.specs.Variable.{IsVariable, Variable, variable_bytes}
 use Rattle.uefi_tcg.specs.v2.Header.{Header}
-use Rattle.uefi_tcg.proofs.content.OneValue.{one_read}
+use Rattle.tcg_event.proofs.OneValue.{one_read}
 use Rattle.uefi_tcg.proofs.v2.HeaderBytes.{one_prefix_header}
 use Rattle.pcr_replay.specs.Start.{locality_in}
 use Rattle.uefi_audits.specs.content.Content.{BlobContent, Content, ImageContent, NoActionContent, PostCodeContent, Says, VariableContent}

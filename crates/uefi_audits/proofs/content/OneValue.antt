@@ -2,11 +2,11 @@
 use Rattle.std.proofs.Common.{◌≡◌, ℕ, List, sym, ap, ◌∙◌, Option}
 use Rattle.uefi_path.specs.LoadOption.{IsLoadOption, OneLoadOption, load_option_bytes}
 use Rattle.uefi_base.specs.Unaligned.{AreUnits, unit_bytes}
-use Rattle.uefi_tcg.specs.content.BootOrder.{OneBootOrder}
-use Rattle.uefi_tcg.specs.content.Laws.{OneEncoded}
-use Rattle.uefi_tcg.specs.content.Reading.{Reads}
-use Rattle.uefi_tcg.specs.content.Signature.{AreSignatureLists, IsSignature, OneSignature, lists_bytes, signature_bytes}
-use Rattle.uefi_tcg.proofs.content.OneValue.{one_read}
+use Rattle.tcg_event.specs.BootOrder.{OneBootOrder}
+use Rattle.tcg_event.specs.Laws.{OneEncoded}
+use Rattle.tcg_event.specs.Reading.{Reads}
+use Rattle.tcg_event.specs.Signature.{AreSignatureLists, IsSignature, OneSignature, lists_bytes, signature_bytes}
+use Rattle.tcg_event.proofs.OneValue.{one_read}
 use Rattle.uefi_audits.specs.content.Value.{SaysValue, Value, boot_option, boot_order, signature, signature_lists, value_or_unread}
 use Rattle.uefi_audits.specs.content.Value.{ValueForm, OfBootOption, OfBootOrder, OfSignatureLists, OfSignature, OfNothing}
 

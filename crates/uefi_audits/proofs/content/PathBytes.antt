@@ -5,7 +5,7 @@ use Rattle.std.proofs.lemmas.List.{nil_from_length}
 use Rattle.uefi_base.specs.Prefix.{IsPrefix}
 use Rattle.uefi_path.specs.Node.{Node, joined}
 use Rattle.uefi_path.specs.Path.{HasPath, IsPath}
-use Rattle.uefi_tcg.specs.content.Reading.{Reads}
+use Rattle.tcg_event.specs.Reading.{Reads}
 use Rattle.uefi_audits.specs.content.Path.{ReadsNodes}
 
 -- No path is a prefix, another length than the path's, and the whole path.

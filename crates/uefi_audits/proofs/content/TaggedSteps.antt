@@ -2,7 +2,7 @@
 use Rattle.std.proofs.Common.{◌≡◌, ◌∙◌, ℕ, List, [], ◌∷◌, ◌++◌, append_assoc, map, subst, sym}
 use Rattle.std.specs.List.{concat}
 use Rattle.std.proofs.lemmas.List.{append_cancel_left}
-use Rattle.uefi_tcg.specs.content.Tagged.{AreTagged, Tagged, tagged_bytes}
+use Rattle.tcg_event.specs.Tagged.{AreTagged, Tagged, tagged_bytes}
 
 -- After the first one.
 pub one_less : (bytes left rest : List ℕ) (event : Tagged) (events others : List Tagged) → AreTagged bytes events rest

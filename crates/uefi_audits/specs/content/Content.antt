@@ -4,13 +4,13 @@ use Rattle.std.specs.List.{list_all}
 use Rattle.uefi_base.specs.LittleEndian.{u32_at}
 use Rattle.uefi_path.specs.Node.{Node}
 use Rattle.pcr_replay.specs.Start.{locality_in}
-use Rattle.uefi_tcg.specs.content.Blob.{Blob, DescribedBlob, ReadsBlob, ReadsDescribedBlob}
-use Rattle.uefi_tcg.specs.content.CrtmVersion.{CrtmVersion, version_in}
-use Rattle.uefi_tcg.specs.content.Gpt.{GptData, ReadsGptData}
-use Rattle.uefi_tcg.specs.content.Image.{Image, ReadsImage}
-use Rattle.uefi_tcg.specs.content.Tagged.{Tagged, AreTagged}
-use Rattle.uefi_tcg.specs.content.Text.{EventText, text_in}
-use Rattle.uefi_tcg.specs.content.Variable.{Variable, ReadsVariable}
+use Rattle.tcg_event.specs.Blob.{Blob, DescribedBlob, ReadsBlob, ReadsDescribedBlob}
+use Rattle.tcg_event.specs.CrtmVersion.{CrtmVersion, version_in}
+use Rattle.tcg_event.specs.Gpt.{GptData, ReadsGptData}
+use Rattle.tcg_event.specs.Image.{Image, ReadsImage}
+use Rattle.tcg_event.specs.Tagged.{Tagged, AreTagged}
+use Rattle.tcg_event.specs.Text.{EventText, text_in}
+use Rattle.tcg_event.specs.Variable.{Variable, ReadsVariable}
 use Rattle.uefi_tcg.specs.declared.event_type.TheConstants.EventType.{POST_CODE, NO_ACTION, SEPARATOR, ACTION, EVENT_TAG, CRTM_VERSION, IPL, OMIT_BOOT_DEVICE_EVENTS, POST_CODE2}
 use Rattle.uefi_tcg.specs.declared.event_type.TheConstants.EventType.{EFI_VARIABLE_DRIVER_CONFIG, EFI_VARIABLE_BOOT, EFI_BOOT_SERVICES_APPLICATION, EFI_BOOT_SERVICES_DRIVER, EFI_RUNTIME_SERVICES_DRIVER}
 use Rattle.uefi_tcg.specs.declared.event_type.TheConstants.EventType.{EFI_GPT_EVENT, EFI_ACTION, EFI_PLATFORM_FIRMWARE_BLOB, EFI_PLATFORM_FIRMWARE_BLOB2, EFI_VARIABLE_BOOT2, EFI_GPT_EVENT2, EFI_HCRTM_EVENT, EFI_VARIABLE_AUTHORITY}

@@ -3,9 +3,9 @@ use Rattle.std.specs.Prelude.{ℕ, ◌≡◌, ◌==◌, ◌&&◌, ◌||◌, nat_
 use Rattle.std.specs.Option.{option_map_or}
 use Rattle.std.specs.Str.{bytes_eq}
 use Rattle.uefi_path.specs.LoadOption.{LoadOption, IsLoadOption, load_option_bytes}
-use Rattle.uefi_tcg.specs.content.BootOrder.{ReadsBootOrder}
-use Rattle.uefi_tcg.specs.content.Reading.{Reads}
-use Rattle.uefi_tcg.specs.content.Signature.{Signature, SignatureList, ReadsSignature, ReadsSignatureLists}
+use Rattle.tcg_event.specs.BootOrder.{ReadsBootOrder}
+use Rattle.tcg_event.specs.Reading.{Reads}
+use Rattle.tcg_event.specs.Signature.{Signature, SignatureList, ReadsSignature, ReadsSignatureLists}
 
 -- What a value says: a boot option, the order of these, the lists of a signature database, a signature of one; or nothing that is read here.
 pub data Value : Type 0 where

@@ -2,10 +2,10 @@
 use Rattle.std.specs.Prelude.{option_map}
 use Rattle.uefi_path.specs.LoadOptionViews.{load_option_of}
 use Rattle.uefi_path.specs.Views.{path_nodes}
-use Rattle.uefi_tcg.specs.content.BootOrderViews.{order_of}
-use Rattle.uefi_tcg.specs.content.GptViews.{gpt_of}
-use Rattle.uefi_tcg.specs.content.SignatureViews.{lists_of, signature_of}
-use Rattle.uefi_tcg.specs.content.Views.{blob_of, described_of, image_of, text_of, variable_of, version_of}
+use Rattle.tcg_event.specs.BootOrderViews.{order_of}
+use Rattle.tcg_event.specs.GptViews.{gpt_of}
+use Rattle.tcg_event.specs.SignatureViews.{lists_of, signature_of}
+use Rattle.tcg_event.specs.Views.{blob_of, described_of, image_of, text_of, variable_of, version_of}
 use Rattle.uefi_tcg.specs.v2.Views.{header_of}
 use Rattle.uefi_audits.specs.content.Content as contents
 use Rattle.uefi_audits.specs.content.Value as values

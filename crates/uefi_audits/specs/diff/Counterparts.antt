@@ -5,7 +5,7 @@ use Rattle.std.specs.List.{count_by, starts_with}
 use Rattle.std.specs.Ordering.{is_eq, nat_cmp, on, then_cmp}
 use Rattle.std.specs.Cmp.Lexicographic.{slice_cmp}
 use Rattle.std.specs.declared.cmp.Ordering.{Ordering}
-use Rattle.uefi_tcg.specs.content.Variable.{Variable}
+use Rattle.tcg_event.specs.Variable.{Variable}
 use Rattle.uefi_tcg.specs.v2.Event.{Event}
 use Rattle.pcr_replay.specs.Replay.{digests_by}
 use Rattle.uefi_audits.specs.Check.{are_hashes}

@@ -1,8 +1,8 @@
 ghost use Rattle.std.specs.Prelude.{◌≡◌, ◌^◌, ◌<◌, length};
-ghost use Rattle.uefi_tcg.specs.content.Tagged.{AreTagged};
+ghost use Rattle.tcg_event.specs.Tagged.{AreTagged};
 ghost use Rattle.uefi_audits.specs.private.content.Tagged.{HasTagged, HasTagged-prop};
 
-use uefi_tcg::content::TaggedEvents;
+use tcg_event::TaggedEvents;
 
 /// The tagged events that the data of an event are, and the bytes after them.
 ///

@@ -4,8 +4,8 @@ ghost use Rattle.uefi_base.specs.Unaligned.{units_of};
 ghost use Rattle.uefi_base.specs.Views.{slice_units};
 ghost use Rattle.uefi_path.specs.LoadOption.{IsLoadOption, load_option_bytes};
 ghost use Rattle.uefi_path.specs.LoadOptionViews.{load_option_of};
-ghost use Rattle.uefi_tcg.specs.content.Reading.{Reads};
-ghost use Rattle.uefi_tcg.specs.content.Views.{variable_of};
+ghost use Rattle.tcg_event.specs.Reading.{Reads};
+ghost use Rattle.tcg_event.specs.Views.{variable_of};
 ghost use Rattle.uefi_tcg.specs.declared.uintn_size.UintnSize.{UintnSize};
 ghost use Rattle.uefi_audits.specs.content.Content.{HasValue, OfAuthority, OfVariable, Says};
 ghost use Rattle.uefi_audits.specs.content.Value.{OfBootOption, OfBootOrder, OfSignature, OfSignatureLists};
@@ -15,7 +15,7 @@ ghost use Rattle.uefi_audits.specs.content.Views.{content_of};
 use crate::content::EventContent;
 use uefi_base::{Guid, UnalignedSlice};
 use uefi_path::LoadOption;
-use uefi_tcg::content::{BootOrder, SignatureData, SignatureLists, VariableData};
+use tcg_event::{BootOrder, SignatureData, SignatureLists, VariableData};
 
 /// The GUID of UEFI's own variables (UEFI 2.10, 3.3, `EFI_GLOBAL_VARIABLE`).
 const GLOBAL_VARIABLE: Guid = Guid([
@@ -119,7 +119,7 @@ fn with_boot_option<'a>(variable: &VariableData<'a>) -> EventContent<'a>
 }
 
 /// Returns the load option that the bytes are.
-#[tactic(auto, unfolding(uefi_tcg::specs::content::Reading::Reads))]
+#[tactic(auto, unfolding(tcg_event::specs::Reading::Reads))]
 fn load_option(bytes: &[u8]) -> Option<LoadOption<'_>>
     ensures { Reads IsLoadOption load_option_bytes bytes.now (option_map load_option_of result) }
 {

@@ -1,6 +1,6 @@
 ghost use Rattle.std.specs.Prelude.{◌≡◌, drop, take};
 ghost use Rattle.uefi_tcg.specs.LogViews.{event_of};
-ghost use Rattle.uefi_tcg.specs.content.Views.{variable_of};
+ghost use Rattle.tcg_event.specs.Views.{variable_of};
 ghost use Rattle.uefi_audits.specs.content.Views.{content_of};
 ghost use Rattle.uefi_audits.specs.diff.Counterparts.{before, command_name, first_word, has_uncovered_name, name_in, named, variable_name};
 ghost use Rattle.uefi_audits.specs.diff.Views.{name_of};
@@ -9,7 +9,7 @@ use crate::check::are_hashes;
 use crate::content::EventContent;
 use crate::diff::pcr::NumberedEntry;
 use crate::verify::splitting::split_once;
-use uefi_tcg::content::VariableData;
+use tcg_event::VariableData;
 
 /// The name that the data of an event have.
 #[derive(Clone, Copy, PartialEq, Eq, Debug)]

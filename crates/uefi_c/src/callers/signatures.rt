@@ -1,5 +1,5 @@
 ghost use Rattle.std.specs.Prelude.{IfOk, map};
-ghost use Rattle.uefi_tcg.specs.content.Signature.{HasSize, signature_bytes};
+ghost use Rattle.tcg_event.specs.Signature.{HasSize, signature_bytes};
 ghost use Rattle.uefi_c.specs.Cursor.{AreItems};
 ghost use Rattle.uefi_c.specs.Signatures.{signature_seen};
 

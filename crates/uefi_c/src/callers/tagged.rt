@@ -1,5 +1,5 @@
 ghost use Rattle.std.specs.Prelude.{ℕ, List, IfOk, map};
-ghost use Rattle.uefi_tcg.specs.content.Tagged.{AreTagged};
+ghost use Rattle.tcg_event.specs.Tagged.{AreTagged};
 ghost use Rattle.uefi_c.specs.EventData.{tagged_seen};
 
 use crate::event_data::{UefiTaggedEvent, uefi_tagged_next};

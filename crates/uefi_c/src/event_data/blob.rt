@@ -1,10 +1,10 @@
 ghost use Rattle.std.specs.Prelude.{◌≡◌, [], IsTrue, ◌≢◌, ◌∷◌};
-ghost use Rattle.uefi_tcg.specs.content.Blob.{ReadsBlob, ReadsDescribedBlob};
+ghost use Rattle.tcg_event.specs.Blob.{ReadsBlob, ReadsDescribedBlob};
 ghost use Rattle.uefi_c.specs.EventData.{given, blob_seen, described_seen};
 ghost use Rattle.uefi_c.specs.Status.{IsOneOf, ok, other_data};
 
 use crate::status::{self, UefiStatus};
-use uefi_tcg::content::{PlatformFirmwareBlob, PlatformFirmwareBlob2};
+use tcg_event::{PlatformFirmwareBlob, PlatformFirmwareBlob2};
 
 /// A blob of firmware (TCG PC Client Platform Firmware Profile 1.06, 10.2,
 /// `UEFI_PLATFORM_FIRMWARE_BLOB`, `UEFI_PLATFORM_FIRMWARE_BLOB2`).

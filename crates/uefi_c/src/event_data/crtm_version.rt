@@ -1,12 +1,12 @@
 ghost use Rattle.std.specs.Prelude.{◌≡◌, ◌≤◌, ◌%◌, length, IsTrue, IsFalse, ◌≢◌, [], ◌∷◌};
-ghost use Rattle.uefi_tcg.specs.content.CrtmVersion.{version_in};
+ghost use Rattle.tcg_event.specs.CrtmVersion.{version_in};
 ghost use Rattle.uefi_c.specs.EventData.{version_given_by};
 ghost use Rattle.uefi_c.specs.Status.{IsOneOf, ok, other_data};
 
 use super::text::{UefiEventText, seen};
 use crate::cursor::units_at;
 use crate::status::{self, UefiStatus};
-use uefi_tcg::content::CrtmVersion;
+use tcg_event::CrtmVersion;
 
 // The forms of a version.
 

@@ -1,15 +1,15 @@
 ghost use Rattle.std.specs.Prelude.{◌≡◌, ◌≤◌, None, length, IfSome, IfNone, ◌≢◌, [], ◌∷◌, Some};
 ghost use Rattle.uefi_base.specs.Views.{slice_units};
 ghost use Rattle.uefi_tcg.specs.UintnSize.{uintn_size_of};
-ghost use Rattle.uefi_tcg.specs.content.Gpt.{GptData as Gpt, IsGptData, ReadsGptData, gpt_bytes};
-ghost use Rattle.uefi_tcg.specs.content.GptViews.{entry_of, header_of};
+ghost use Rattle.tcg_event.specs.Gpt.{GptData as Gpt, IsGptData, ReadsGptData, gpt_bytes};
+ghost use Rattle.tcg_event.specs.GptViews.{entry_of, header_of};
 ghost use Rattle.uefi_c.specs.Gpt.{HasEntry, HasHeader, entry_seen, header_seen};
 ghost use Rattle.uefi_c.specs.Status.{ended, IsOneOf, ok, other_data};
 
 use crate::status::{self, UefiStatus};
 use uefi_base::UnalignedSlice;
 use uefi_tcg::UintnSize;
-use uefi_tcg::content::{GptData, GptEntry, GptHeader};
+use tcg_event::{GptData, GptEntry, GptHeader};
 
 /// The number of units in a partition's name.
 const NAME_UNITS: usize = 36;

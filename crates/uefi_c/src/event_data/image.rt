@@ -1,12 +1,12 @@
 ghost use Rattle.std.specs.Prelude.{◌≡◌, ◌≢◌, [], ◌∷◌};
 ghost use Rattle.uefi_tcg.specs.UintnSize.{uintn_size_of};
-ghost use Rattle.uefi_tcg.specs.content.Image.{ReadsImage};
+ghost use Rattle.tcg_event.specs.Image.{ReadsImage};
 ghost use Rattle.uefi_c.specs.EventData.{given, image_seen};
 ghost use Rattle.uefi_c.specs.Status.{IsOneOf, ok, other_data};
 
 use crate::status::{self, UefiStatus};
 use uefi_tcg::UintnSize;
-use uefi_tcg::content::ImageLoadEvent;
+use tcg_event::ImageLoadEvent;
 
 /// An image that was loaded (TCG PC Client Platform Firmware Profile 1.06, 10.2.3,
 /// `UEFI_IMAGE_LOAD_EVENT`).

@@ -1,8 +1,8 @@
 ghost use Rattle.std.specs.Prelude.{◌≡◌, ◌+◌, ◌≤◌, take, drop, length, IfSome, IfNone, ◌≢◌, ◌<◌, [], ◌∷◌};
 ghost use Rattle.uefi_base.specs.LittleEndian.{u32_at};
 ghost use Rattle.uefi_base.specs.Prefix.{IsPrefix};
-ghost use Rattle.uefi_tcg.specs.content.Signature.{HasSignatureList, HasSize, IsSignatureList, ReadsSignature, Signature, list_bytes, signature_bytes};
-ghost use Rattle.uefi_tcg.specs.content.SignatureViews.{list_of, signature_of};
+ghost use Rattle.tcg_event.specs.Signature.{HasSignatureList, HasSize, IsSignatureList, ReadsSignature, Signature, list_bytes, signature_bytes};
+ghost use Rattle.tcg_event.specs.SignatureViews.{list_of, signature_of};
 ghost use Rattle.uefi_c.specs.Cursor.{Stands};
 ghost use Rattle.uefi_c.specs.EventData.{given};
 ghost use Rattle.uefi_c.specs.Signatures.{IsNextList, IsGivenAs, signature_seen};
@@ -11,7 +11,7 @@ ghost use Rattle.uefi_c.specs.Status.{bad_signature_list, bad_signature_size, cu
 use crate::cursor::bytes_from;
 use crate::status::{self, UefiStatus};
 use uefi_base::little_endian::u32_at;
-use uefi_tcg::content::{SignatureData, SignatureList, SignatureLists};
+use tcg_event::{SignatureData, SignatureList, SignatureLists};
 
 /// The offset of the length in a list, and the length of the fields before a list's own header.
 const LIST_SIZE_OFFSET: usize = 16;

@@ -1,14 +1,14 @@
 ghost use Rattle.std.specs.Prelude.{◌≡◌, drop, IfSome, IfNone, ◌≢◌, ◌<◌, ◌≤◌, [], ◌∷◌, length};
 ghost use Rattle.uefi_base.specs.Prefix.{IsPrefix};
-ghost use Rattle.uefi_tcg.specs.content.Tagged.{Tagged, IsTagged, tagged_bytes};
-ghost use Rattle.uefi_tcg.specs.content.Views.{tagged_of};
+ghost use Rattle.tcg_event.specs.Tagged.{Tagged, IsTagged, tagged_bytes};
+ghost use Rattle.tcg_event.specs.Views.{tagged_of};
 ghost use Rattle.uefi_c.specs.Cursor.{Stands};
 ghost use Rattle.uefi_c.specs.EventData.{tagged_seen};
 ghost use Rattle.uefi_c.specs.Status.{cut, ended, IsOneOf, ok};
 
 use crate::cursor::bytes_from;
 use crate::status::{self, UefiStatus};
-use uefi_tcg::content::{TaggedEvent, TaggedEvents};
+use tcg_event::{TaggedEvent, TaggedEvents};
 
 /// A tagged event (TCG PC Client Platform Firmware Profile 1.06, 10.4.1,
 /// `TCG_PCClientTaggedEvent`).

@@ -1,12 +1,12 @@
 ghost use Rattle.std.specs.Prelude.{◌≡◌, ◌==◌, ◌%◌, length, IfSome, IsTrue, MatchOption, ◌≢◌, [], ◌∷◌, if◌then◌else◌};
-ghost use Rattle.uefi_tcg.specs.content.Text.{other, text_in};
-ghost use Rattle.uefi_tcg.specs.content.Views.{text_of};
+ghost use Rattle.tcg_event.specs.Text.{other, text_in};
+ghost use Rattle.tcg_event.specs.Views.{text_of};
 ghost use Rattle.uefi_c.specs.EventData.{text_given_by, text_seen};
 ghost use Rattle.uefi_c.specs.Status.{IsOneOf, ok, other_data};
 
 use crate::cursor::units_at;
 use crate::status::{self, UefiStatus};
-use uefi_tcg::content::EventText;
+use tcg_event::EventText;
 
 /// The text of an event (TCG PC Client Platform Firmware Profile 1.06, 10.4.1, `EV_IPL`).
 #[derive(Clone, Copy)]

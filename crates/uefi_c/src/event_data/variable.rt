@@ -1,11 +1,11 @@
 ghost use Rattle.std.specs.Prelude.{◌≡◌, ◌%◌, length, IsTrue, ◌≢◌, [], ◌∷◌};
-ghost use Rattle.uefi_tcg.specs.content.Variable.{ReadsVariable};
+ghost use Rattle.tcg_event.specs.Variable.{ReadsVariable};
 ghost use Rattle.uefi_c.specs.EventData.{given, variable_seen};
 ghost use Rattle.uefi_c.specs.Status.{IsOneOf, ok, other_data};
 
 use crate::cursor::units_at;
 use crate::status::{self, UefiStatus};
-use uefi_tcg::content::VariableData;
+use tcg_event::VariableData;
 
 /// The offset of the name in a variable's data.
 const NAME_OFFSET: usize = 32;

@@ -3,7 +3,7 @@
 //! What the data of an event say, where they are read.
 //!
 //! Begin with [`read_content`], which returns an [`EventContent`]. What it holds are views of
-//! [`uefi_formats::proto::tcg::content`], of [`uefi_formats::proto::tcg::v2`] and of [`uefi_path`], which allocate nothing.
+//! [`uefi_formats::proto::tcg::content`], of [`uefi_formats::proto::tcg::v2`] and of [`uefi_formats::proto::device_path`], which allocate nothing.
 
 pub use self::tagged::TaggedData;
 use crate::uefi_audits::content::path::whole_path;

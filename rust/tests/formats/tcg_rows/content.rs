@@ -5,7 +5,7 @@ use crate::tcg_rows::texts::units;
 use crate::rows::hex_digits;
 use crate::test_support::bytes;
 use crate::uefi_tcg::UintnSize;
-use crate::uefi_tcg::content::{
+use crate::tcg_event::{
     BootOrder, ImageLoadEvent, PlatformFirmwareBlob, PlatformFirmwareBlob2, TaggedEvents,
     VariableData,
 };

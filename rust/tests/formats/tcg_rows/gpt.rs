@@ -2,7 +2,7 @@
 
 use crate::tcg_rows::content::size_and_bytes;
 use crate::support::alloc::AllocError;
-use crate::uefi_tcg::content::{GptData, GptEntry, GptHeader};
+use crate::tcg_event::{GptData, GptEntry, GptHeader};
 
 /// Appends the type, the blocks, the attributes and the name of an entry, without what follows a NUL,
 /// and the count of the bytes after it.

@@ -1,6 +1,6 @@
 ghost use Rattle.std.specs.Prelude.{◌≡◌, map, IfOk, OnOk};
 ghost use Rattle.serde_json.specs.View.{view, members_view};
-ghost use Rattle.uefi_tcg.specs.content.Views.{blob_of, described_of, tagged_of};
+ghost use Rattle.tcg_event.specs.Views.{blob_of, described_of, tagged_of};
 ghost use Rattle.uefi_tcg.specs.v2.Views.{header_of, table_of};
 ghost use Rattle.audit_text.specs.words.Tags.{tag_name};
 ghost use Rattle.audit_text.specs.json.Firmware.{blob_json, described_json, header_json, size_json, tagged_events_json, tagged_json, with_name};
@@ -14,7 +14,7 @@ use serde_json::{Map, Value, put};
 use std::alloc::{AllocError, Global};
 use uefi_audits::content::TaggedData;
 use uefi_tcg::AlgorithmId;
-use uefi_tcg::content::{EventText, PlatformFirmwareBlob, PlatformFirmwareBlob2, TaggedEvent};
+use tcg_event::{EventText, PlatformFirmwareBlob, PlatformFirmwareBlob2, TaggedEvent};
 use uefi_tcg::v2::{AlgorithmDigestSizes, EventLogHeader};
 
 /// Returns a blob: its address and its length.

@@ -1,13 +1,13 @@
 ghost use Rattle.std.specs.Prelude.{◌≡◌, map, IfOk};
 ghost use Rattle.serde_json.specs.View.{view};
-ghost use Rattle.uefi_tcg.specs.content.GptViews.{entry_of, gpt_of};
+ghost use Rattle.tcg_event.specs.GptViews.{entry_of, gpt_of};
 ghost use Rattle.audit_text.specs.json.Firmware.{gpt_json, partition_json};
 
 use crate::json::content::guid::guid_json;
 use crate::words::texts::text_before_nul;
 use serde_json::{Map, Value, put};
 use std::alloc::{AllocError, Global};
-use uefi_tcg::content::{GptData, GptEntry};
+use tcg_event::{GptData, GptEntry};
 
 /// Returns a partition table: what its header says of the disk, and the partitions.
 #[tactic(auto, unfolding(crate::specs::json::Firmware::gpt_json))]

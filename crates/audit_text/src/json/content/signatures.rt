@@ -1,6 +1,6 @@
 ghost use Rattle.std.specs.Prelude.{◌≡◌, map, IfOk};
 ghost use Rattle.serde_json.specs.View.{view};
-ghost use Rattle.uefi_tcg.specs.content.SignatureViews.{list_of, lists_of, signature_of};
+ghost use Rattle.tcg_event.specs.SignatureViews.{list_of, lists_of, signature_of};
 ghost use Rattle.audit_text.specs.json.Values.{certificate_json, hash_json, list_json, signature_json};
 
 use crate::json::content::guid::guid_json;
@@ -9,7 +9,7 @@ use crate::words::signatures::is_shown_whole;
 use serde_json::{Map, Value, put};
 use sha2::{Digest, Sha256};
 use std::alloc::{AllocError, Global};
-use uefi_tcg::content::{SignatureData, SignatureList, SignatureLists};
+use tcg_event::{SignatureData, SignatureList, SignatureLists};
 
 /// Returns the lists of a signature database, in order.
 pub(crate) fn lists_json(

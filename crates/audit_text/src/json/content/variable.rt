@@ -2,8 +2,8 @@ ghost use Rattle.std.specs.Prelude.{◌≡◌, codes, map, IfOk, OnOk, option_ma
 ghost use Rattle.serde_json.specs.Data.{array};
 ghost use Rattle.serde_json.specs.View.{items_of, view, members_view};
 ghost use Rattle.uefi_path.specs.LoadOptionViews.{load_option_of};
-ghost use Rattle.uefi_tcg.specs.content.BootOrderViews.{order_of};
-ghost use Rattle.uefi_tcg.specs.content.Views.{variable_of};
+ghost use Rattle.tcg_event.specs.BootOrderViews.{order_of};
+ghost use Rattle.tcg_event.specs.Views.{variable_of};
 ghost use Rattle.audit_text.specs.json.Parts.{only};
 ghost use Rattle.audit_text.specs.json.Values.{boot_option_json, number_json, variable_json, with_value};
 
@@ -14,7 +14,7 @@ use crate::words::texts::{description_text, name_text};
 use serde_json::{Map, Value, put};
 use std::alloc::{AllocError, Global};
 use uefi_path::LoadOption;
-use uefi_tcg::content::{BootOrder, VariableData};
+use tcg_event::{BootOrder, VariableData};
 
 /// Returns what data say that are a variable: its data, its GUID, its name, and what its value says,
 /// or the text that it is.

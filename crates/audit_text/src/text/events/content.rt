@@ -1,7 +1,7 @@
 ghost use Rattle.std.specs.Prelude.{OnOk, option_map};
 ghost use Rattle.uefi_base.specs.Appending.{AppendsText};
 ghost use Rattle.uefi_path.specs.Views.{path_nodes};
-ghost use Rattle.uefi_tcg.specs.content.Views.{image_of};
+ghost use Rattle.tcg_event.specs.Views.{image_of};
 ghost use Rattle.uefi_audits.specs.content.Views.{content_of};
 ghost use Rattle.audit_text.specs.text.EventContents.{content_lines, image_line, image_lines, path_lines, text_line, version_line};
 
@@ -14,7 +14,7 @@ use crate::words::texts::{shown, shown_event, shown_version};
 use std::alloc::{AllocError, Global};
 use uefi_audits::content::EventContent;
 use uefi_path::DevicePath;
-use uefi_tcg::content::ImageLoadEvent;
+use tcg_event::ImageLoadEvent;
 
 /// Appends lines for what data say; the data in hex, if they aren't read.
 #[tactic(auto, unfolding(crate::specs::text::EventContents::content_lines, crate::specs::text::EventContents::value_lines))]

@@ -1,6 +1,6 @@
 ghost use Rattle.std.specs.Prelude.{flat_map, OnOk};
 ghost use Rattle.uefi_base.specs.Appending.{AppendsText};
-ghost use Rattle.uefi_tcg.specs.content.Views.{blob_of, described_of, tagged_of};
+ghost use Rattle.tcg_event.specs.Views.{blob_of, described_of, tagged_of};
 ghost use Rattle.uefi_tcg.specs.v2.Views.{header_of, table_of};
 ghost use Rattle.audit_text.specs.text.EventContents.{blob_line, described_line, header_line, header_lines, size_line, tagged_data, tagged_line, tagged_lines};
 
@@ -12,7 +12,7 @@ use crate::words::texts::{byte_text, shown_event};
 use std::alloc::{AllocError, Global};
 use uefi_audits::content::TaggedData;
 use uefi_tcg::AlgorithmId;
-use uefi_tcg::content::{EventText, PlatformFirmwareBlob, PlatformFirmwareBlob2, TaggedEvent};
+use tcg_event::{EventText, PlatformFirmwareBlob, PlatformFirmwareBlob2, TaggedEvent};
 use uefi_tcg::v2::{AlgorithmDigestSizes, EventLogHeader};
 
 /// Appends the lines of a header.

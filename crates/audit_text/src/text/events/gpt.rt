@@ -1,12 +1,12 @@
 ghost use Rattle.std.specs.Prelude.{flat_map, OnOk};
 ghost use Rattle.uefi_base.specs.Appending.{AppendsText};
-ghost use Rattle.uefi_tcg.specs.content.GptViews.{entry_of, gpt_of, header_of};
+ghost use Rattle.tcg_event.specs.GptViews.{entry_of, gpt_of, header_of};
 ghost use Rattle.audit_text.specs.text.EventContents.{disk_line, gpt_lines, partition_kind, partition_line, partition_place};
 
 use crate::words::ShownName;
 use crate::words::texts::text_before_nul;
 use std::alloc::{AllocError, Global};
-use uefi_tcg::content::{GptData, GptEntry, GptHeader};
+use tcg_event::{GptData, GptEntry, GptHeader};
 
 /// Appends a line for the disk of a partition table, and one for each partition.
 #[tactic(auto, unfolding(crate::specs::text::EventContents::gpt_lines))]

@@ -1,13 +1,13 @@
 ghost use Rattle.std.specs.Prelude.{flat_map, OnOk};
 ghost use Rattle.uefi_base.specs.Appending.{AppendsText};
-ghost use Rattle.uefi_tcg.specs.content.SignatureViews.{list_of, lists_of, signature_of};
+ghost use Rattle.tcg_event.specs.SignatureViews.{list_of, lists_of, signature_of};
 ghost use Rattle.audit_text.specs.text.EventContents.{certificate_line, hash_line, list_line, list_lines, signature_line};
 
 use crate::text::events::hex_lines::push_bytes_lines;
 use crate::words::signatures::{is_shown_whole, signature_type_name};
 use sha2::{Digest, Sha256};
 use std::alloc::{AllocError, Global};
-use uefi_tcg::content::{SignatureData, SignatureList, SignatureLists, SignatureType};
+use tcg_event::{SignatureData, SignatureList, SignatureLists, SignatureType};
 
 /// Appends the lines of each list of a signature database.
 pub(crate) fn push_signature_lists(

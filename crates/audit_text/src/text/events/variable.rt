@@ -2,8 +2,8 @@ ghost use Rattle.std.specs.Prelude.{flat_map, OnOk};
 ghost use Rattle.uefi_base.specs.Appending.{AppendsText};
 ghost use Rattle.uefi_path.specs.LoadOptionViews.{load_option_of};
 ghost use Rattle.uefi_path.specs.Views.{path_nodes};
-ghost use Rattle.uefi_tcg.specs.content.BootOrderViews.{order_of};
-ghost use Rattle.uefi_tcg.specs.content.Views.{variable_of};
+ghost use Rattle.tcg_event.specs.BootOrderViews.{order_of};
+ghost use Rattle.tcg_event.specs.Views.{variable_of};
 ghost use Rattle.audit_text.specs.text.EventContents.{boot_option_line, boot_option_lines, boot_order_line, option_name, path_line, variable_line};
 
 use crate::text::events::hex_lines::push_bytes_lines;
@@ -11,7 +11,7 @@ use crate::words::texts::{description_text, name_text};
 use crate::words::{ShownName, path_text};
 use std::alloc::{AllocError, Global};
 use uefi_path::{DevicePath, LoadOption};
-use uefi_tcg::content::{BootOrder, VariableData};
+use tcg_event::{BootOrder, VariableData};
 
 /// Appends the line of a variable: its name and its GUID.
 #[tactic(auto, unfolding(crate::specs::text::EventContents::variable_line))]

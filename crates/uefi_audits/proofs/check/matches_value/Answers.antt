@@ -1,5 +1,5 @@
 use Rattle.uefi_tcg.specs.LogViews.{event_of}
-use Rattle.uefi_tcg.specs.content.Views.{variable_of}
+use Rattle.tcg_event.specs.Views.{variable_of}
 use Rattle.uefi_audits.proofs.Matching.{by_no_value, by_value}
 use Rattle.uefi_audits.proofs.check.matches_value.Goals as goal
 

@@ -3,8 +3,8 @@ use Rattle.std.proofs.Common.{◌≡◌, ℕ, List}
 use Rattle.std.proofs.Props.{props}
 use mathlib.Core.HLevel.{Σ_prop_path}
 use Rattle.std.specs.List.{AllByRecursion-prop}
-use Rattle.uefi_tcg.specs.content.Tagged.{Tagged, IsTagged, AreTagged}
-use Rattle.uefi_tcg.proofs.content.TaggedBytes.{one_tagging}
+use Rattle.tcg_event.specs.Tagged.{Tagged, IsTagged, AreTagged}
+use Rattle.tcg_event.proofs.TaggedBytes.{one_tagging}
 
 -- The tagged events that bytes begin with, and the bytes after them.
 abbrev pub HasTagged : List ℕ → Type 0

@@ -4,7 +4,7 @@ use core::mem::MaybeUninit;
 use crate::bytes::Bytes;
 
 use crate::formats::uefi_c::status::{self, UefiStatus};
-use crate::formats::uefi_tcg::content::BootOrder;
+use crate::formats::tcg_event::BootOrder;
 
 /// Reads the number at an index of the order of boot options that the bytes are: the value of the
 /// variable `BootOrder`. Option 1 is that of the variable `Boot0001`.

@@ -1,7 +1,7 @@
 use Rattle.std.proofs.Common.{◌≡◌, ◌∙◌, ap, subst}
 use Rattle.std.specs.Prelude.{IfOk, Some, codes}
 use Rattle.serde_json.specs.View.{view}
-use Rattle.uefi_tcg.specs.content.Views.{variable_of}
+use Rattle.tcg_event.specs.Views.{variable_of}
 use Rattle.audit_text.specs.json.Content.{content_json}
 use Rattle.audit_text.specs.json.Parts.{only}
 use Rattle.audit_text.specs.json.Values.{variable_json}

@@ -14,7 +14,7 @@ use crate::words::texts::{shown, shown_event, shown_version};
 use std::alloc::{AllocError, Global};
 use uefi_audits::content::{EventContent, TaggedData};
 use uefi_audits::diff::NumberedEntry;
-use uefi_tcg::content::EventText;
+use tcg_event::EventText;
 
 /// Returns what changed in what the data of two events say; nothing if both say the same, or the
 /// data of one aren't read.

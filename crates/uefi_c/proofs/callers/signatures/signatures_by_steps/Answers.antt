@@ -1,5 +1,5 @@
 use Rattle.std.proofs.Common.{sym, subst, arith, drop}
-use Rattle.uefi_tcg.specs.content.Signature.{HasSize, signature_bytes}
+use Rattle.tcg_event.specs.Signature.{HasSize, signature_bytes}
 use Rattle.uefi_c.specs.Signatures.{signature_seen}
 use Rattle.uefi_c.proofs.Cursors.{moves, within}
 use Rattle.uefi_c.proofs.SignatureLists.{some_signature_bytes}

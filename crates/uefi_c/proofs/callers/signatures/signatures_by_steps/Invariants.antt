@@ -1,5 +1,5 @@
 use Rattle.std.proofs.Common.{◌-◌, length}
-use Rattle.uefi_tcg.specs.content.Signature.{HasSize, signature_bytes}
+use Rattle.tcg_event.specs.Signature.{HasSize, signature_bytes}
 use Rattle.uefi_c.specs.Signatures.{signature_seen}
 use Rattle.uefi_c.proofs.WalkSteps.{Passed}
 use Rattle.uefi_c.proofs.callers.signatures.signatures_by_steps.Given as goal

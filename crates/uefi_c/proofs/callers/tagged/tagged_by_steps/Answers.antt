@@ -1,5 +1,5 @@
 use Rattle.std.proofs.Common.{◌∙◌, ap, map, sym, subst, arith, drop, ◌++◌}
-use Rattle.uefi_tcg.specs.content.Tagged.{IsTagged, tagged_bytes}
+use Rattle.tcg_event.specs.Tagged.{IsTagged, tagged_bytes}
 use Rattle.uefi_c.specs.EventData.{tagged_seen}
 use Rattle.uefi_c.proofs.Cursors.{moves, within}
 use Rattle.uefi_c.proofs.EventBytes.{some_tagged_bytes}

@@ -1,5 +1,5 @@
 use Rattle.std.proofs.Common.{◌-◌, length}
-use Rattle.uefi_tcg.specs.content.Tagged.{IsTagged, tagged_bytes}
+use Rattle.tcg_event.specs.Tagged.{IsTagged, tagged_bytes}
 use Rattle.uefi_c.specs.EventData.{tagged_seen}
 use Rattle.uefi_c.proofs.WalkSteps.{Passed}
 use Rattle.uefi_c.proofs.callers.tagged.tagged_by_steps.Given as goal

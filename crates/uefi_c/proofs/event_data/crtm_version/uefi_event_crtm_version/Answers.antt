@@ -1,7 +1,7 @@
 use Rattle.std.proofs.Common.{ap, sym, ◌∙◌}
 use Rattle.uefi_base.specs.Views.{slice_units}
-use Rattle.uefi_tcg.specs.content.CrtmVersion.{other}
-use Rattle.uefi_tcg.specs.content.Views.{text_of, version_of}
+use Rattle.tcg_event.specs.CrtmVersion.{other}
+use Rattle.tcg_event.specs.Views.{text_of, version_of}
 use Rattle.uefi_c.proofs.EventBytes.{guid_is, other_is, string_there, string_within}
 use Rattle.uefi_c.proofs.event_data.crtm_version.uefi_event_crtm_version.Goals as goal
 

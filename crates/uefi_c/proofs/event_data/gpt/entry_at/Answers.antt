@@ -1,5 +1,5 @@
 use Rattle.std.proofs.lemmas.Iterator.Consumers.{YieldsList-from_first, nth_from_yields_List}
-use Rattle.uefi_tcg.specs.content.GptViews.{entries_left, entry_of, gpt_of}
+use Rattle.tcg_event.specs.GptViews.{entries_left, entry_of, gpt_of}
 use Rattle.uefi_c.proofs.GptEntries.{found, named, no_table, none}
 use Rattle.uefi_c.proofs.event_data.gpt.entry_at.Goals as goal
 

@@ -1,5 +1,5 @@
 use Rattle.std.proofs.Common.{◌∙◌, subst, sym}
-use Rattle.uefi_tcg.specs.content.GptViews.{gpt_of}
+use Rattle.tcg_event.specs.GptViews.{gpt_of}
 use Rattle.uefi_c.specs.Gpt.{HasHeader, header_seen}
 use Rattle.uefi_c.proofs.GptEntries.{has_header}
 use Rattle.uefi_c.proofs.event_data.gpt.uefi_gpt_header.Goals as goal

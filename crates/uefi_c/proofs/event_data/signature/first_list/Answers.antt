@@ -1,5 +1,5 @@
 use Rattle.std.proofs.Common.{sym, ◌∙◌}
-use Rattle.uefi_tcg.specs.content.SignatureViews.{list_of, lists_of, lists_left}
+use Rattle.tcg_event.specs.SignatureViews.{list_of, lists_of, lists_left}
 use Rattle.uefi_c.proofs.SignatureLists.{first_part, is_prefix, no_first, read_none}
 use Rattle.uefi_c.proofs.event_data.signature.first_list.Goals as goal
 

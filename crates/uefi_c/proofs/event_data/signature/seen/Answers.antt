@@ -1,5 +1,5 @@
 use Rattle.std.proofs.Common.{drop, length, ap, ◌∙◌, arith}
-use Rattle.uefi_tcg.specs.content.SignatureViews.{list_of}
+use Rattle.tcg_event.specs.SignatureViews.{list_of}
 use Rattle.uefi_c.proofs.SignatureLists.{room, signatures_there}
 use Rattle.uefi_c.proofs.event_data.signature.seen.Goals as goal
 

@@ -1,7 +1,7 @@
 use Rattle.std.proofs.Common.{ap, sym, ◌∙◌}
 use Rattle.uefi_base.specs.Views.{slice_units}
-use Rattle.uefi_tcg.specs.content.Text.{text_given}
-use Rattle.uefi_tcg.specs.content.Views.{text_of}
+use Rattle.tcg_event.specs.Text.{text_given}
+use Rattle.tcg_event.specs.Views.{text_of}
 use Rattle.uefi_c.proofs.EventBytes.{other_text_is, text_there, text_within}
 use Rattle.uefi_c.proofs.event_data.text.seen.Goals as goal
 

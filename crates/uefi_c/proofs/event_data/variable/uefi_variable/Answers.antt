@@ -1,4 +1,4 @@
-use Rattle.uefi_tcg.specs.content.Views.{variable_of}
+use Rattle.tcg_event.specs.Views.{variable_of}
 use Rattle.uefi_c.proofs.EventBytes.{name_within, name_there, variable_there}
 use Rattle.uefi_c.proofs.event_data.variable.uefi_variable.Goals as goal
 

@@ -4,7 +4,7 @@ use core::mem::MaybeUninit;
 use crate::bytes::Bytes;
 
 use crate::formats::uefi_c::status::{self, UefiStatus};
-use crate::formats::uefi_tcg::content::{PlatformFirmwareBlob, PlatformFirmwareBlob2};
+use crate::formats::tcg_event::{PlatformFirmwareBlob, PlatformFirmwareBlob2};
 
 /// A blob of firmware (TCG PC Client Platform Firmware Profile 1.06, 10.2,
 /// `UEFI_PLATFORM_FIRMWARE_BLOB`, `UEFI_PLATFORM_FIRMWARE_BLOB2`).

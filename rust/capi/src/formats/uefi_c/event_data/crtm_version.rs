@@ -6,7 +6,7 @@ use crate::bytes::Bytes;
 use super::text::{UefiEventText, seen};
 use crate::formats::uefi_c::cursor::units_at;
 use crate::formats::uefi_c::status::{self, UefiStatus};
-use crate::formats::uefi_tcg::content::CrtmVersion;
+use crate::formats::tcg_event::CrtmVersion;
 
 // The forms of a version.
 

@@ -6,7 +6,7 @@ use crate::bytes::Bytes;
 use crate::formats::uefi_c::cursor::bytes_from;
 use crate::formats::uefi_c::status::{self, UefiStatus};
 use crate::formats::uefi_base::little_endian::u32_at;
-use crate::formats::uefi_tcg::content::{SignatureData, SignatureList, SignatureLists};
+use crate::formats::tcg_event::{SignatureData, SignatureList, SignatureLists};
 
 /// The offset of the length in a list, and the length of the fields before a list's own header.
 const LIST_SIZE_OFFSET: usize = 16;

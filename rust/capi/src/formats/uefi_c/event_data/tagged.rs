@@ -5,7 +5,7 @@ use crate::bytes::Bytes;
 
 use crate::formats::uefi_c::cursor::bytes_from;
 use crate::formats::uefi_c::status::{self, UefiStatus};
-use crate::formats::uefi_tcg::content::{TaggedEvent, TaggedEvents};
+use crate::formats::tcg_event::{TaggedEvent, TaggedEvents};
 
 /// A tagged event (TCG PC Client Platform Firmware Profile 1.06, 10.4.1,
 /// `TCG_PCClientTaggedEvent`).

@@ -5,7 +5,7 @@ use crate::bytes::Bytes;
 
 use crate::formats::uefi_c::cursor::units_at;
 use crate::formats::uefi_c::status::{self, UefiStatus};
-use crate::formats::uefi_tcg::content::EventText;
+use crate::formats::tcg_event::EventText;
 
 /// The text of an event (TCG PC Client Platform Firmware Profile 1.06, 10.4.1, `EV_IPL`).
 #[derive(Clone, Copy, Debug)]

@@ -5,7 +5,7 @@ use crate::bytes::Bytes;
 
 use crate::formats::uefi_c::cursor::units_at;
 use crate::formats::uefi_c::status::{self, UefiStatus};
-use crate::formats::uefi_tcg::content::VariableData;
+use crate::formats::tcg_event::VariableData;
 
 /// The offset of the name in a variable's data.
 const NAME_OFFSET: usize = 32;

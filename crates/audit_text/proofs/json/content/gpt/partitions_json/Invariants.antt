@@ -1,6 +1,6 @@
 use Rattle.std.proofs.Common.{◌≡◌, ◌++◌, map}
 use Rattle.serde_json.specs.View.{view}
-use Rattle.uefi_tcg.specs.content.GptViews.{entries_left}
+use Rattle.tcg_event.specs.GptViews.{entries_left}
 use Rattle.audit_text.specs.json.Firmware.{partition_json}
 use Rattle.audit_text.proofs.json.content.gpt.partitions_json.Given as goal
 

@@ -1,6 +1,6 @@
 use Rattle.std.proofs.Common.{◌≡◌, ◌++◌, map}
 use Rattle.serde_json.specs.View.{view}
-use Rattle.uefi_tcg.specs.content.SignatureViews.{lists_left}
+use Rattle.tcg_event.specs.SignatureViews.{lists_left}
 use Rattle.audit_text.specs.json.Values.{list_json}
 use Rattle.audit_text.proofs.json.content.signatures.lists_json.Given as goal
 

@@ -1,6 +1,6 @@
 use Rattle.std.proofs.Common.{◌≡◌, ◌++◌, map}
 use Rattle.serde_json.specs.View.{view}
-use Rattle.uefi_tcg.specs.content.SignatureViews.{signatures_left}
+use Rattle.tcg_event.specs.SignatureViews.{signatures_left}
 use Rattle.audit_text.specs.json.Values.{signature_json}
 use Rattle.audit_text.proofs.json.content.signatures.signatures_json.Given as goal
 

@@ -1,6 +1,6 @@
 use Rattle.std.proofs.Common.{◌≡◌, ◌++◌, string_bytes}
 use Rattle.std.specs.Prelude.{flat_map}
-use Rattle.uefi_tcg.specs.content.GptViews.{entries_left}
+use Rattle.tcg_event.specs.GptViews.{entries_left}
 use Rattle.audit_text.specs.text.EventContents.{partition_line}
 use Rattle.audit_text.proofs.text.events.gpt.push_partitions.Given as goal
 

@@ -1,6 +1,6 @@
 use Rattle.std.proofs.Common.{◌≡◌, ◌++◌, string_bytes}
 use Rattle.std.specs.Prelude.{flat_map}
-use Rattle.uefi_tcg.specs.content.SignatureViews.{lists_left}
+use Rattle.tcg_event.specs.SignatureViews.{lists_left}
 use Rattle.audit_text.specs.text.EventContents.{list_lines}
 use Rattle.audit_text.proofs.text.events.signatures.push_signature_lists.Given as goal
 

@@ -1,6 +1,6 @@
 use Rattle.std.proofs.Common.{◌≡◌, ◌++◌, string_bytes}
 use Rattle.std.specs.Prelude.{flat_map}
-use Rattle.uefi_tcg.specs.content.SignatureViews.{signatures_left}
+use Rattle.tcg_event.specs.SignatureViews.{signatures_left}
 use Rattle.audit_text.specs.text.EventContents.{signature_line}
 use Rattle.audit_text.proofs.text.events.signatures.push_signatures.Given as goal
 

@@ -1,6 +1,6 @@
 use Rattle.std.proofs.lemmas.Result.{on_ok_weaker}
 use Rattle.std.specs.Prelude.{codes, flat_map}
-use Rattle.uefi_tcg.specs.content.BootOrderViews.{order_of}
+use Rattle.tcg_event.specs.BootOrderViews.{order_of}
 use Rattle.audit_text.specs.text.EventContents.{boot_order_line, option_name}
 use Rattle.audit_text.proofs.text.Appending.{three_appended}
 use Rattle.audit_text.proofs.text.events.variable.push_boot_order.Goals as goal

@@ -1,6 +1,6 @@
 use Rattle.std.proofs.Common.{◌∙◌, ap, sym, subst}
-use Rattle.uefi_tcg.specs.content.Tagged.{AreTagged}
-use Rattle.uefi_tcg.specs.content.Views.{tagged_of}
+use Rattle.tcg_event.specs.Tagged.{AreTagged}
+use Rattle.tcg_event.specs.Views.{tagged_of}
 use Rattle.uefi_audits.specs.private.content.Tagged.{same_split}
 use Rattle.uefi_audits.proofs.content.TaggedSteps.{none_left, one_less}
 use Rattle.uefi_audits.proofs.content.tagged.TaggedData.rest.Goals as goal

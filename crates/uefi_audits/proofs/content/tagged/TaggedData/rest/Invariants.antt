@@ -1,5 +1,5 @@
 use Rattle.std.proofs.Common.{length}
-use Rattle.uefi_tcg.specs.content.Tagged.{AreTagged}
+use Rattle.tcg_event.specs.Tagged.{AreTagged}
 use Rattle.uefi_audits.proofs.content.tagged.TaggedData.rest.Given as goal
 
 -- The bytes that aren't read are the tagged events to come and the rest of all.
