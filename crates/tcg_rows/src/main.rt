@@ -1,4 +1,4 @@
-//! The rows of the folder `data`, answered by the library `uefi_tcg`.
+//! The rows of the folder `data`, answered by the libraries `uefi_tcg` and `tcg_event`.
 #![tactic(auto)]
 
 use crate::answer::answer;
