@@ -1,13 +1,20 @@
 use crate::content::{blob, boot_order, described_blob, header, image, tagged_events, variable};
 use crate::gpt::{gpt_header, gpt_table};
 use crate::names::{algorithm, event_type, named, order, uintn_size};
+use crate::of_logs::of_logs;
 use crate::signatures::{owned_signature, signature_lists, signature_steps, signature_type};
 use crate::texts::{crtm_version, event_text};
 use rows::{hex_pair_row, hex_row};
 use std::alloc::Global;
+use test_support::Refusing;
 
-/// Answers a row: its call, and its input. No call asks for memory.
-pub(crate) fn answer(alloc: Global, call: &str, input: &str) -> Option<String> {
+/// Answers a row: its call, and its input.
+pub(crate) fn answer(
+    alloc: Global,
+    heap: &Refusing<Global>,
+    call: &str,
+    input: &str,
+) -> Option<String> {
     match call {
         "name" => named(alloc, input),
         "event_type" => hex_row(alloc, input, event_type),
@@ -21,12 +28,12 @@ pub(crate) fn answer(alloc: Global, call: &str, input: &str) -> Option<String> {
         "header" => hex_row(alloc, input, header),
         "tagged_events" => tagged_events(alloc, input),
         "variable" => variable(alloc, input),
-        _ => of_tables(alloc, call, input),
+        _ => of_tables(alloc, heap, call, input),
     }
 }
 
 /// Answers a row of an image, of numbers, of a partition table or of signatures.
-fn of_tables(alloc: Global, call: &str, input: &str) -> Option<String> {
+fn of_tables(alloc: Global, heap: &Refusing<Global>, call: &str, input: &str) -> Option<String> {
     match call {
         "image" => image(alloc, input),
         "boot_order" => boot_order(alloc, input),
@@ -36,6 +43,6 @@ fn of_tables(alloc: Global, call: &str, input: &str) -> Option<String> {
         "signature_steps" => signature_steps(alloc, input),
         "signature" => owned_signature(alloc, input),
         "signature_type" => signature_type(alloc, input),
-        _ => format!(in alloc; "there is no such call").ok(),
+        _ => of_logs(alloc, heap, call, input),
     }
 }

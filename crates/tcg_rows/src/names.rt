@@ -1,11 +1,13 @@
+use crate::of_logs::named_event;
 use std::alloc::Global;
 use std::cmp::Ordering;
-use uefi_tcg::{AlgorithmId, EventType, PcrIndex, UintnSize};
+use uefi_tcg::v2::EventLogFormat;
+use uefi_tcg::{AlgorithmId, EventType, HashAlgorithm, PcrIndex, UintnSize};
 
-/// Returns the number that has a name, with its type.
+/// Returns the number that has a name, with its type, or the event of a log that has one.
 pub(crate) fn named(alloc: Global, name: &str) -> Option<String> {
     let (Some(number), Some((type_name, _))) = (number_of(name), name.split_once("::")) else {
-        return format!(in alloc; "there is no such name").ok();
+        return named_event(alloc, name);
     };
     format!(in alloc; "{type_name}({number})").ok()
 }
@@ -21,6 +23,17 @@ fn number_of(name: &str) -> Option<u32> {
         "EventType::EFI_HCRTM_EVENT" => EventType::EFI_HCRTM_EVENT.0,
         "EventType::EFI_VARIABLE_AUTHORITY" => EventType::EFI_VARIABLE_AUTHORITY.0,
         "AlgorithmId::SM3_256" => u32::from(AlgorithmId::SM3_256.0),
+        "HashAlgorithm::SHA1" => HashAlgorithm::SHA1.bits(),
+        "HashAlgorithm::SHA256" => HashAlgorithm::SHA256.bits(),
+        "HashAlgorithm::SHA384" => HashAlgorithm::SHA384.bits(),
+        "HashAlgorithm::SHA512" => HashAlgorithm::SHA512.bits(),
+        "HashAlgorithm::SM3_256" => HashAlgorithm::SM3_256.bits(),
+        "HashAlgorithm::empty" => HashAlgorithm::empty().bits(),
+        "HashAlgorithm::default" => HashAlgorithm::default().bits(),
+        "EventLogFormat::TCG_1_2" => EventLogFormat::TCG_1_2.bits(),
+        "EventLogFormat::TCG_2" => EventLogFormat::TCG_2.bits(),
+        "EventLogFormat::empty" => EventLogFormat::empty().bits(),
+        "EventLogFormat::default" => EventLogFormat::default().bits(),
         _ => return None,
     })
 }

@@ -1,7 +1,2 @@
-mod capabilities;
+mod alignments;
 mod iterators;
-mod log;
-mod machine_log;
-mod texts;
-mod v1;
-mod v2;

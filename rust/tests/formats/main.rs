@@ -53,6 +53,8 @@ mod sm3_tests;
 mod support;
 #[allow(dead_code, unused_imports)]
 mod tcg_rows;
+// There is no `Align` here, nor the test that has it.
+#[allow(unused_imports)]
 mod tcg_tests;
 // A sample is for the tests of the programs.
 #[allow(dead_code)]

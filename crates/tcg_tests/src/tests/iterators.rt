@@ -1,4 +1,4 @@
-//! What iterators have beside `next`, and which events are equal.
+//! Copies of iterators.
 
 use std::alloc::Global;
 use std::test::Fail;
@@ -32,32 +32,4 @@ fn a_clone_stays_where_it_was_made(rt: HostRuntime) -> Result<(), Fail> {
     events.next();
     let left = (events.rest().len(), clone.rest().len());
     same("tagged events", &left, &(9, 17))
-}
-
-#[test]
-fn an_iterator_of_digests_has_their_count(rt: HostRuntime) -> Result<(), Fail> {
-    let input = four(rt.alloc())?;
-    let log = v2::EventLog::new(Some(input.as_slice()), Some(usize::MAX), false);
-    let event = log.iter().next().ok_or("an event")?;
-    let mut digests = event.digests().into_iter();
-    let before = (digests.len(), digests.size_hint());
-    digests.next();
-    let after = (digests.len(), digests.size_hint());
-    let expected = ((4, (4, Some(4))), (3, (3, Some(3))));
-    same("before and after one", &(before, after), &expected)?;
-    let clone = digests.clone()?;
-    digests.next();
-    same("a clone", &(digests.len(), clone.len()), &(2, 3))
-}
-
-#[test]
-fn events_are_equal_by_all_bytes(rt: HostRuntime) -> Result<(), Fail> {
-    let (input, other) = (four(rt.alloc())?, four(rt.alloc())?);
-    let log = v2::EventLog::new(Some(input.as_slice()), Some(usize::MAX), false);
-    let copy = v2::EventLog::new(Some(other.as_slice()), Some(usize::MAX), false);
-    let (first, second) = (log.iter().next(), log.iter().last());
-    let (first, second) = (first.ok_or("an event")?, second.ok_or("another")?);
-    let same_first = copy.iter().next().ok_or("a clone")?;
-    let found = (first == same_first, first == second);
-    same("a copy, another event", &found, &(true, false))
 }

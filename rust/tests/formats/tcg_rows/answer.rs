@@ -3,12 +3,17 @@
 use crate::tcg_rows::content::{blob, boot_order, described_blob, header, image, tagged_events, variable};
 use crate::tcg_rows::gpt::{gpt_header, gpt_table};
 use crate::tcg_rows::names::{algorithm, event_type, named, order, uintn_size};
+use crate::tcg_rows::of_logs::of_logs;
 use crate::tcg_rows::signatures::{owned_signature, signature_lists, signature_steps, signature_type};
 use crate::tcg_rows::texts::{crtm_version, event_text};
 use crate::rows::{hex_pair_row, hex_row};
+use crate::test_support::Refusing;
 
-/// Answers a row: its call, and its input. No call asks for memory.
-pub(crate) fn answer(call: &str, input: &str) -> Option<String> {
+/// Answers a row: its call, and its input.
+pub(crate) fn answer(
+    call: &str,
+    input: &str,
+) -> Option<String> {
     match call {
         "name" => named(input),
         "event_type" => hex_row(input, event_type),
@@ -27,7 +32,10 @@ pub(crate) fn answer(call: &str, input: &str) -> Option<String> {
 }
 
 /// Answers a row of an image, of numbers, of a partition table or of signatures.
-fn of_tables(call: &str, input: &str) -> Option<String> {
+fn of_tables(
+    call: &str,
+    input: &str,
+) -> Option<String> {
     match call {
         "image" => image(input),
         "boot_order" => boot_order(input),
@@ -37,6 +45,6 @@ fn of_tables(call: &str, input: &str) -> Option<String> {
         "signature_steps" => signature_steps(input),
         "signature" => owned_signature(input),
         "signature_type" => signature_type(input),
-        _ => fallible_format!("there is no such call").ok(),
+        _ => of_logs(call, input),
     }
 }

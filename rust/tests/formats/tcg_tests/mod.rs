@@ -1,8 +1,7 @@
 // @generated from proved source. It is not edited.
 
-//! Tests of the library `uefi_tcg` over its public names: the log of a real firmware cut at every
-//! byte and asked for every last entry, and each request for memory refused. The rows of names and of
-//! what the data of events say are in `crates/tcg_rows/data`.
+//! Tests of the library `uefi_tcg` over its public names that are no rows: copies of iterators,
+//! and alignments. The rows are in `crates/tcg_rows/data`.
 
 #[cfg(test)]
 mod tests;

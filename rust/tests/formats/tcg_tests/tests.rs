@@ -1,9 +1,4 @@
 // @generated from proved source. It is not edited.
 
-mod capabilities;
+mod alignments;
 mod iterators;
-mod log;
-mod machine_log;
-mod texts;
-mod v1;
-mod v2;

@@ -1,6 +1,0 @@
-//! Logs of version 1.
-
-mod cuts;
-mod logs;
-mod steps;
-mod writers;
