@@ -8,7 +8,7 @@ TO = $(DESTDIR)$(PREFIX)
 MADE = out/install
 .PHONY: all check test try edits install fuzz plant bench rust help $(PROGRAMS:%=build-%)
 
-all: $(PROGRAMS:%=build-%)  ## both programs, proved and built
+all: $(PROGRAMS:%=build-%)  ## both programs, proved and built; until then ./uefi_list and ./uefi_audit run their source, unproved
 
 $(PROGRAMS:%=build-%): build-%:
 	@tools/prove $*

@@ -11,18 +11,19 @@ from telling import TEST, TOP, counted
 
 # A run that takes more seconds hangs.
 SECONDS = 600
-# For each program, a call that prints nothing on standard error.
-QUIET = {"uefi_list": ["path", "/dev/null"], "uefi_audit": ["--version"]}
-# The exit status of a program that can't be proved or built.
-UNBUILT = 5
 
 
 def program_named(name):
-    """A program's path: the script that proves and builds it first, or, where the command line begins with `--programs DIR`,
-    the one in this folder."""
+    """A program's path: the script that runs it, or, where the command line begins with `--programs DIR`, the
+    one in this folder."""
     if sys.argv[1:2] == ["--programs"]:
         return os.path.abspath(f"{sys.argv[2]}/{name}")
     return f"{TOP}/{name}"
+
+
+def build(name):
+    """Whether a program is proved and built, which is done where it isn't yet. Standard error says how far it is."""
+    return subprocess.run([f"{TOP}/tools/ensure_built", name], check=False).returncode == 0
 
 
 def case_names():
@@ -70,9 +71,7 @@ def run(program, folder, *checks):
         sys.exit(f"{TEST}: there is no case {unknown[0]}")
     if not os.path.exists(program):
         sys.exit(f"{TEST}: there is no program {program}")
-    # The first call proves and builds the program where that isn't done yet, and says on standard error how far it is.
-    words = [program, *QUIET[os.path.basename(program)]]
-    if subprocess.run(words, stdout=subprocess.DEVNULL, check=False).returncode == UNBUILT:
+    if os.path.dirname(program) == TOP and not build(os.path.basename(program)):
         sys.exit(f"{TEST}: {program} can't be built")
     outcomes = [is_as_expected(program, found[it]) for it in names or found]
     with tempfile.TemporaryDirectory(prefix="golden-") as room:

@@ -8,9 +8,10 @@ from concurrent.futures import ThreadPoolExecutor
 TOP = os.path.dirname(os.path.dirname(os.path.dirname(os.path.realpath(__file__))))
 sys.path[:0] = [f"{TOP}/tests", f"{TOP}/tools"]
 from case_table import cases
+from golden import build
 from telling import tells
 
-# The program without the script that builds it first.
+# The program without the script that runs it.
 PROGRAM = f"{TOP}/crates/uefi_list/out/uefi_list"
 # The words after FILE that each command is tried with, over files of any kind.
 WORDS = {
@@ -52,14 +53,9 @@ def listing(program, case):
     return ran.returncode, ran.stdout, ran.stderr
 
 
-def build_program():
-    """The first call proves and builds the program where that isn't done yet."""
-    subprocess.run([f"{TOP}/uefi_list", "path", "/dev/null"], stdout=subprocess.DEVNULL, check=False)
-
-
 def agree(name, program):
     """Whether a program prints what the proved one prints, and enough of it is listings."""
-    build_program()
+    build("uefi_list")
     given = list(inputs())
     with ThreadPoolExecutor(os.cpu_count()) as threads:
         mine, theirs = (list(threads.map(lambda case: listing(program, case), given)) for program in (program, [PROGRAM]))
