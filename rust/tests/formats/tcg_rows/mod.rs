@@ -1,6 +1,6 @@
 // @generated from proved source. It is not edited.
 
-//! The rows of the folder `data`, answered by the library `uefi_tcg`.
+//! The rows of the folder `data`, answered by the libraries `uefi_tcg` and `tcg_event`.
 
 use crate::tcg_rows::answer::answer;
 use crate::rows::answered;
