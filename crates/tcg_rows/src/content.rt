@@ -2,12 +2,12 @@ use crate::samples::bytes_of;
 use crate::texts::units;
 use rows::hex_digits;
 use std::alloc::Global;
-use test_support::bytes;
-use uefi_tcg::UintnSize;
 use tcg_event::{
     BootOrder, ImageLoadEvent, PlatformFirmwareBlob, PlatformFirmwareBlob2, TaggedEvents,
     VariableData,
 };
+use test_support::bytes;
+use uefi_tcg::UintnSize;
 use uefi_tcg::v2::EventLogHeader;
 
 /// Returns the blob that the bytes are: its address and its length.

@@ -1,8 +1,8 @@
 use crate::samples::bytes_of;
 use rows::hex_digits;
 use std::alloc::Global;
-use test_support::bytes;
 use tcg_event::{SignatureData, SignatureList, SignatureLists, SignatureType};
+use test_support::bytes;
 
 /// Appends a list: its type, its header, the length of a signature, and each signature.
 fn push_list(alloc: Global, text: &mut String, list: &SignatureList<'_>) -> Option<()> {

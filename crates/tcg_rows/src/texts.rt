@@ -1,8 +1,8 @@
 use rows::hex_digits;
 use std::alloc::Global;
+use tcg_event::{CrtmVersion, EventText};
 use test_support::bytes;
 use uefi_base::UnalignedSlice;
-use tcg_event::{CrtmVersion, EventText};
 
 /// Returns the units over bytes.
 pub(crate) fn units(alloc: Global, slice: UnalignedSlice<'_>) -> Option<Vec<u16>> {

@@ -18,12 +18,12 @@ pub use self::tagged::TaggedData;
 use crate::content::path::whole_path;
 use crate::content::variable::{authority_content, variable_content};
 use pcr_replay::locality_in;
-use uefi_base::little_endian::u32_at;
-use uefi_path::{DevicePath, LoadOption};
 use tcg_event::{
     BootOrder, CrtmVersion, EventText, GptData, ImageLoadEvent, PlatformFirmwareBlob,
     PlatformFirmwareBlob2, SignatureData, SignatureLists, VariableData,
 };
+use uefi_base::little_endian::u32_at;
+use uefi_path::{DevicePath, LoadOption};
 use uefi_tcg::v2::EventLogHeader;
 use uefi_tcg::{EventType, LogEvent, UintnSize};
 

@@ -4,8 +4,8 @@
 ghost use Rattle.uefi_audits.specs.Laws.{OneChecked, OneContent};
 ghost use Rattle.uefi_audits.specs.diff.Counterparts.{OneCounterpart};
 
-use uefi_path::laws::{one_front, one_load_option};
 use tcg_event::laws::{one_boot_order, one_gpt_data, one_signature, one_value};
+use uefi_path::laws::{one_front, one_load_option};
 
 /// States that the data of an event say one thing, by the form that its type gives them and the size
 /// of a `UINTN` in its log. So an event has one line, as

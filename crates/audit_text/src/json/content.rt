@@ -13,9 +13,9 @@ use crate::json::content::variable::{boot_option_json, boot_order_json, variable
 use crate::words::texts::{event_text, version_text};
 use serde_json::{Map, Value, put};
 use std::alloc::{AllocError, Global};
+use tcg_event::ImageLoadEvent;
 use uefi_audits::content::EventContent;
 use uefi_path::DevicePath;
-use tcg_event::ImageLoadEvent;
 
 mod firmware;
 mod gpt;

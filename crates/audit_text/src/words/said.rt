@@ -14,12 +14,10 @@ use crate::words::tags::push_tag;
 use crate::words::texts::name_text;
 use crate::words::{ShownBytes, ShownName, path_text};
 use std::alloc::{AllocError, Global};
+use tcg_event::{CrtmVersion, EventText, ImageLoadEvent, PlatformFirmwareBlob, VariableData};
 use uefi_audits::content::{EventContent, TaggedData};
 use uefi_base::UnalignedSlice;
 use uefi_path::DevicePath;
-use tcg_event::{
-    CrtmVersion, EventText, ImageLoadEvent, PlatformFirmwareBlob, VariableData,
-};
 
 /// The most characters of a text or of a name that are shown.
 const SHOWN_LENGTH: usize = 1000;

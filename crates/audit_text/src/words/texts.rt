@@ -8,9 +8,9 @@ ghost use Rattle.audit_text.specs.words.Texts.{before_nul, event_text, shown_eve
 
 use crate::words::{ShownBytes, ShownName};
 use std::alloc::{AllocError, Global};
+use tcg_event::{CrtmVersion, EventText};
 use uefi_base::UnalignedSlice;
 use uefi_path::LoadOption;
-use tcg_event::{CrtmVersion, EventText};
 
 /// Returns units as text, with U+FFFD for each surrogate.
 pub(crate) fn name_text(alloc: Global, units: &UnalignedSlice<'_>) -> Result<String, AllocError>

@@ -2,9 +2,9 @@
 
 use std::alloc::Global;
 use std::test::Fail;
+use tcg_event::TaggedEvents;
 use test_support::samples::{FOUR_EVENTS, FOUR_HEADER, LOG1};
 use test_support::{bytes, holds, joined_bytes, same};
-use tcg_event::TaggedEvents;
 use uefi_tcg::{v1, v2};
 
 /// Returns the bytes of a version 2 log of two events.

@@ -13,9 +13,9 @@ ghost use Rattle.uefi_audits.specs.content.Value.{authority_form, global_form, h
 ghost use Rattle.uefi_audits.specs.content.Views.{content_of};
 
 use crate::content::EventContent;
+use tcg_event::{BootOrder, SignatureData, SignatureLists, VariableData};
 use uefi_base::{Guid, UnalignedSlice};
 use uefi_path::LoadOption;
-use tcg_event::{BootOrder, SignatureData, SignatureLists, VariableData};
 
 /// The GUID of UEFI's own variables (UEFI 2.10, 3.3, `EFI_GLOBAL_VARIABLE`).
 const GLOBAL_VARIABLE: Guid = Guid([

@@ -7,9 +7,9 @@ ghost use Rattle.uefi_c.specs.Gpt.{HasEntry, HasHeader, entry_seen, header_seen}
 ghost use Rattle.uefi_c.specs.Status.{ended, IsOneOf, ok, other_data};
 
 use crate::status::{self, UefiStatus};
+use tcg_event::{GptData, GptEntry, GptHeader};
 use uefi_base::UnalignedSlice;
 use uefi_tcg::UintnSize;
-use tcg_event::{GptData, GptEntry, GptHeader};
 
 /// The number of units in a partition's name.
 const NAME_UNITS: usize = 36;

@@ -5,8 +5,8 @@ ghost use Rattle.uefi_c.specs.EventData.{given, image_seen};
 ghost use Rattle.uefi_c.specs.Status.{IsOneOf, ok, other_data};
 
 use crate::status::{self, UefiStatus};
-use uefi_tcg::UintnSize;
 use tcg_event::ImageLoadEvent;
+use uefi_tcg::UintnSize;
 
 /// An image that was loaded (TCG PC Client Platform Firmware Profile 1.06, 10.2.3,
 /// `UEFI_IMAGE_LOAD_EVENT`).

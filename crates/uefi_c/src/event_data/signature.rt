@@ -10,8 +10,8 @@ ghost use Rattle.uefi_c.specs.Status.{bad_signature_list, bad_signature_size, cu
 
 use crate::cursor::bytes_from;
 use crate::status::{self, UefiStatus};
-use uefi_base::little_endian::u32_at;
 use tcg_event::{SignatureData, SignatureList, SignatureLists};
+use uefi_base::little_endian::u32_at;
 
 /// The offset of the length in a list, and the length of the fields before a list's own header.
 const LIST_SIZE_OFFSET: usize = 16;

@@ -12,9 +12,9 @@ use crate::words::tags::tag_name;
 use crate::words::texts::{byte_text, event_text};
 use serde_json::{Map, Value, put};
 use std::alloc::{AllocError, Global};
+use tcg_event::{EventText, PlatformFirmwareBlob, PlatformFirmwareBlob2, TaggedEvent};
 use uefi_audits::content::TaggedData;
 use uefi_tcg::AlgorithmId;
-use tcg_event::{EventText, PlatformFirmwareBlob, PlatformFirmwareBlob2, TaggedEvent};
 use uefi_tcg::v2::{AlgorithmDigestSizes, EventLogHeader};
 
 /// Returns a blob: its address and its length.

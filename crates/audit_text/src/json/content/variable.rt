@@ -13,8 +13,8 @@ use crate::json::event::hex_json;
 use crate::words::texts::{description_text, name_text};
 use serde_json::{Map, Value, put};
 use std::alloc::{AllocError, Global};
-use uefi_path::LoadOption;
 use tcg_event::{BootOrder, VariableData};
+use uefi_path::LoadOption;
 
 /// Returns what data say that are a variable: its data, its GUID, its name, and what its value says,
 /// or the text that it is.

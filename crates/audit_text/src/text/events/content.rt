@@ -12,9 +12,9 @@ use crate::text::events::signatures::{push_signature, push_signature_lists};
 use crate::text::events::variable::{push_boot_option, push_boot_order, push_path, push_variable};
 use crate::words::texts::{shown, shown_event, shown_version};
 use std::alloc::{AllocError, Global};
+use tcg_event::ImageLoadEvent;
 use uefi_audits::content::EventContent;
 use uefi_path::DevicePath;
-use tcg_event::ImageLoadEvent;
 
 /// Appends lines for what data say; the data in hex, if they aren't read.
 #[tactic(auto, unfolding(crate::specs::text::EventContents::content_lines, crate::specs::text::EventContents::value_lines))]

@@ -10,9 +10,9 @@ use crate::words::ShownName;
 use crate::words::tags::push_tag;
 use crate::words::texts::{byte_text, shown_event};
 use std::alloc::{AllocError, Global};
+use tcg_event::{EventText, PlatformFirmwareBlob, PlatformFirmwareBlob2, TaggedEvent};
 use uefi_audits::content::TaggedData;
 use uefi_tcg::AlgorithmId;
-use tcg_event::{EventText, PlatformFirmwareBlob, PlatformFirmwareBlob2, TaggedEvent};
 use uefi_tcg::v2::{AlgorithmDigestSizes, EventLogHeader};
 
 /// Appends the lines of a header.

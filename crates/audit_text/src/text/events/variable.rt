@@ -10,8 +10,8 @@ use crate::text::events::hex_lines::push_bytes_lines;
 use crate::words::texts::{description_text, name_text};
 use crate::words::{ShownName, path_text};
 use std::alloc::{AllocError, Global};
-use uefi_path::{DevicePath, LoadOption};
 use tcg_event::{BootOrder, VariableData};
+use uefi_path::{DevicePath, LoadOption};
 
 /// Appends the line of a variable: its name and its GUID.
 #[tactic(auto, unfolding(crate::specs::text::EventContents::variable_line))]

@@ -12,9 +12,9 @@ use crate::text::events::content::push_content;
 use crate::words::printed::printed_text;
 use crate::words::texts::{shown, shown_event, shown_version};
 use std::alloc::{AllocError, Global};
+use tcg_event::EventText;
 use uefi_audits::content::{EventContent, TaggedData};
 use uefi_audits::diff::NumberedEntry;
-use tcg_event::EventText;
 
 /// Returns what changed in what the data of two events say; nothing if both say the same, or the
 /// data of one aren't read.
