@@ -9,12 +9,12 @@ pub use self::tagged::TaggedData;
 use crate::uefi_audits::content::path::whole_path;
 use crate::uefi_audits::content::variable::{authority_content, variable_content};
 use uefi_formats::pcr::locality_in;
-use crate::uefi_base::little_endian::u32_at;
-use uefi_formats::proto::device_path::{DevicePath, LoadOption};
 use uefi_formats::proto::tcg::content::{
     BootOrder, CrtmVersion, EventText, GptData, ImageLoadEvent, PlatformFirmwareBlob,
     PlatformFirmwareBlob2, SignatureData, SignatureLists, VariableData,
 };
+use crate::uefi_base::little_endian::u32_at;
+use uefi_formats::proto::device_path::{DevicePath, LoadOption};
 use uefi_formats::proto::tcg::v2::EventLogHeader;
 use uefi_formats::proto::tcg::{EventType, LogEvent, UintnSize};
 

@@ -3,12 +3,12 @@
 use crate::tcg_rows::samples::bytes_of;
 use crate::tcg_rows::texts::units;
 use crate::rows::hex_digits;
-use crate::test_support::bytes;
-use crate::uefi_tcg::UintnSize;
 use crate::tcg_event::{
     BootOrder, ImageLoadEvent, PlatformFirmwareBlob, PlatformFirmwareBlob2, TaggedEvents,
     VariableData,
 };
+use crate::test_support::bytes;
+use crate::uefi_tcg::UintnSize;
 use crate::uefi_tcg::v2::EventLogHeader;
 
 /// Returns the blob that the bytes are: its address and its length.

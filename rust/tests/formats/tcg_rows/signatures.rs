@@ -4,8 +4,8 @@ use crate::support::fallible::*;
 
 use crate::tcg_rows::samples::bytes_of;
 use crate::rows::hex_digits;
-use crate::test_support::bytes;
 use crate::tcg_event::{SignatureData, SignatureList, SignatureLists, SignatureType};
+use crate::test_support::bytes;
 
 /// Appends a list: its type, its header, the length of a signature, and each signature.
 fn push_list(text: &mut String, list: &SignatureList<'_>) -> Option<()> {

@@ -3,9 +3,9 @@
 use crate::support::fallible::*;
 
 use crate::rows::hex_digits;
+use crate::tcg_event::{CrtmVersion, EventText};
 use crate::test_support::bytes;
 use crate::uefi_base::UnalignedSlice;
-use crate::tcg_event::{CrtmVersion, EventText};
 
 /// Returns the units over bytes.
 pub(crate) fn units(slice: UnalignedSlice<'_>) -> Option<Vec<u16>> {

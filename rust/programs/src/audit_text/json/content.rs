@@ -8,9 +8,9 @@ use crate::audit_text::json::content::variable::{boot_option_json, boot_order_js
 use crate::audit_text::words::texts::{event_text, version_text};
 use crate::serde_json::{Map, Value, put};
 use crate::support::alloc::AllocError;
+use uefi_formats::proto::tcg::content::ImageLoadEvent;
 use crate::uefi_audits::content::EventContent;
 use uefi_formats::proto::device_path::DevicePath;
-use uefi_formats::proto::tcg::content::ImageLoadEvent;
 
 mod firmware;
 mod gpt;

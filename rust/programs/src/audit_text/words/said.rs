@@ -6,12 +6,12 @@ use crate::audit_text::words::tags::push_tag;
 use crate::audit_text::words::texts::name_text;
 use crate::audit_text::words::{ShownBytes, ShownName, path_text};
 use crate::support::alloc::AllocError;
-use crate::uefi_audits::content::{EventContent, TaggedData};
-use uefi_formats::UnalignedSlice;
-use uefi_formats::proto::device_path::DevicePath;
 use uefi_formats::proto::tcg::content::{
     CrtmVersion, EventText, ImageLoadEvent, PlatformFirmwareBlob, VariableData,
 };
+use crate::uefi_audits::content::{EventContent, TaggedData};
+use uefi_formats::UnalignedSlice;
+use uefi_formats::proto::device_path::DevicePath;
 
 /// The most characters of a text or of a name that are shown.
 const SHOWN_LENGTH: usize = 1000;

@@ -4,9 +4,9 @@ use crate::support::fallible::*;
 
 use crate::audit_text::words::{ShownBytes, ShownName};
 use crate::support::alloc::AllocError;
+use uefi_formats::proto::tcg::content::{CrtmVersion, EventText};
 use uefi_formats::UnalignedSlice;
 use uefi_formats::proto::device_path::LoadOption;
-use uefi_formats::proto::tcg::content::{CrtmVersion, EventText};
 
 /// Returns units as text, with U+FFFD for each surrogate.
 pub(crate) fn name_text(units: &UnalignedSlice<'_>) -> Result<String, AllocError> {

@@ -1,9 +1,9 @@
 // @generated from proved source. It is not edited.
 
 use crate::uefi_audits::content::EventContent;
+use uefi_formats::proto::tcg::content::{BootOrder, SignatureData, SignatureLists, VariableData};
 use uefi_formats::{Guid, UnalignedSlice};
 use uefi_formats::proto::device_path::LoadOption;
-use uefi_formats::proto::tcg::content::{BootOrder, SignatureData, SignatureLists, VariableData};
 
 /// The GUID of UEFI's own variables (UEFI 2.10, 3.3, `EFI_GLOBAL_VARIABLE`).
 const GLOBAL_VARIABLE: Guid = Guid([

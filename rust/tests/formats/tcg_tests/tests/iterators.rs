@@ -5,9 +5,9 @@
 use crate::support::fallible::*;
 
 use crate::support::test::Fail;
+use crate::tcg_event::TaggedEvents;
 use crate::test_support::samples::{FOUR_EVENTS, FOUR_HEADER, LOG1};
 use crate::test_support::{bytes, holds, joined_bytes, same};
-use crate::tcg_event::TaggedEvents;
 use crate::uefi_tcg::{v1, v2};
 
 /// Returns the bytes of a version 2 log of two events.

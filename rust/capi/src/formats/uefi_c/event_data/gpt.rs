@@ -4,9 +4,9 @@ use core::mem::MaybeUninit;
 use crate::bytes::Bytes;
 
 use crate::formats::uefi_c::status::{self, UefiStatus};
+use crate::formats::tcg_event::{GptData, GptEntry, GptHeader};
 use crate::formats::uefi_base::UnalignedSlice;
 use crate::formats::uefi_tcg::UintnSize;
-use crate::formats::tcg_event::{GptData, GptEntry, GptHeader};
 
 /// The number of units in a partition's name.
 const NAME_UNITS: usize = 36;

@@ -4,8 +4,8 @@ use core::mem::MaybeUninit;
 use crate::bytes::Bytes;
 
 use crate::formats::uefi_c::status::{self, UefiStatus};
-use crate::formats::uefi_tcg::UintnSize;
 use crate::formats::tcg_event::ImageLoadEvent;
+use crate::formats::uefi_tcg::UintnSize;
 
 /// An image that was loaded (TCG PC Client Platform Firmware Profile 1.06, 10.2.3,
 /// `UEFI_IMAGE_LOAD_EVENT`).

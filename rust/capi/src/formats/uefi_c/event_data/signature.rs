@@ -5,8 +5,8 @@ use crate::bytes::Bytes;
 
 use crate::formats::uefi_c::cursor::bytes_from;
 use crate::formats::uefi_c::status::{self, UefiStatus};
-use crate::formats::uefi_base::little_endian::u32_at;
 use crate::formats::tcg_event::{SignatureData, SignatureList, SignatureLists};
+use crate::formats::uefi_base::little_endian::u32_at;
 
 /// The offset of the length in a list, and the length of the fields before a list's own header.
 const LIST_SIZE_OFFSET: usize = 16;

@@ -9,11 +9,11 @@ use crate::audit_text::words::tags::tag_name;
 use crate::audit_text::words::texts::{byte_text, event_text};
 use crate::serde_json::{Map, Value, put};
 use crate::support::alloc::AllocError;
-use crate::uefi_audits::content::TaggedData;
-use uefi_formats::proto::tcg::AlgorithmId;
 use uefi_formats::proto::tcg::content::{
     EventText, PlatformFirmwareBlob, PlatformFirmwareBlob2, TaggedEvent,
 };
+use crate::uefi_audits::content::TaggedData;
+use uefi_formats::proto::tcg::AlgorithmId;
 use uefi_formats::proto::tcg::v2::{AlgorithmDigestSizes, EventLogHeader};
 
 /// Returns a blob: its address and its length.

@@ -8,8 +8,8 @@ use crate::audit_text::json::event::hex_json;
 use crate::audit_text::words::texts::{description_text, name_text};
 use crate::serde_json::{Map, Value, put};
 use crate::support::alloc::AllocError;
-use uefi_formats::proto::device_path::LoadOption;
 use uefi_formats::proto::tcg::content::{BootOrder, VariableData};
+use uefi_formats::proto::device_path::LoadOption;
 
 /// Returns what data say that are a variable: its data, its GUID, its name, and what its value says,
 /// or the text that it is.

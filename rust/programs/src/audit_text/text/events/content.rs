@@ -7,9 +7,9 @@ use crate::audit_text::text::events::signatures::{push_signature, push_signature
 use crate::audit_text::text::events::variable::{push_boot_option, push_boot_order, push_path, push_variable};
 use crate::audit_text::words::texts::{shown, shown_event, shown_version};
 use crate::support::alloc::AllocError;
+use uefi_formats::proto::tcg::content::ImageLoadEvent;
 use crate::uefi_audits::content::EventContent;
 use uefi_formats::proto::device_path::DevicePath;
-use uefi_formats::proto::tcg::content::ImageLoadEvent;
 
 /// Appends lines for what data say; the data in hex, if they aren't read.
 pub(crate) fn push_content(

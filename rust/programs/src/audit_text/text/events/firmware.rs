@@ -8,11 +8,11 @@ use crate::audit_text::words::ShownName;
 use crate::audit_text::words::tags::push_tag;
 use crate::audit_text::words::texts::{byte_text, shown_event};
 use crate::support::alloc::AllocError;
-use crate::uefi_audits::content::TaggedData;
-use uefi_formats::proto::tcg::AlgorithmId;
 use uefi_formats::proto::tcg::content::{
     EventText, PlatformFirmwareBlob, PlatformFirmwareBlob2, TaggedEvent,
 };
+use crate::uefi_audits::content::TaggedData;
+use uefi_formats::proto::tcg::AlgorithmId;
 use uefi_formats::proto::tcg::v2::{AlgorithmDigestSizes, EventLogHeader};
 
 /// Appends the lines of a header.

@@ -6,8 +6,8 @@ use crate::audit_text::text::events::hex_lines::push_bytes_lines;
 use crate::audit_text::words::texts::{description_text, name_text};
 use crate::audit_text::words::{ShownName, path_text};
 use crate::support::alloc::AllocError;
-use uefi_formats::proto::device_path::{DevicePath, LoadOption};
 use uefi_formats::proto::tcg::content::{BootOrder, VariableData};
+use uefi_formats::proto::device_path::{DevicePath, LoadOption};
 
 /// Appends the line of a variable: its name and its GUID.
 pub(crate) fn push_variable(

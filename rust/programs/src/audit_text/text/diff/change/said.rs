@@ -9,9 +9,9 @@ use crate::audit_text::text::events::content::push_content;
 use crate::audit_text::words::printed::printed_text;
 use crate::audit_text::words::texts::{shown, shown_event, shown_version};
 use crate::support::alloc::AllocError;
+use uefi_formats::proto::tcg::content::EventText;
 use crate::uefi_audits::content::{EventContent, TaggedData};
 use crate::uefi_audits::diff::NumberedEntry;
-use uefi_formats::proto::tcg::content::EventText;
 
 /// Returns what changed in what the data of two events say; nothing if both say the same, or the
 /// data of one aren't read.
