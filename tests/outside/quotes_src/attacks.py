@@ -105,6 +105,23 @@ def own_key(attributes):
         tpm2_load -C {EK} -P session:own.ctx -u ak.pub -r ak.priv -c ak.ctx; tpm2_flushcontext own.ctx"""
 
 
+# A key in a file, and a public area of it that says that it is a restricted one of a TPM.
+CLAIMED = r"""openssl ecparam -name prime256v1 -genkey -noout -out own.key
+    openssl ec -in own.key -pubout -outform DER | tail -c 64 > point
+    { printf '\x00\x58\x00\x23\x00\x0b\x00\x05\x00\x72\x00\x00\x00\x10\x00\x18\x00\x0b\x00\x03\x00\x10'
+    printf '\x00\x20'; head -c 32 point; printf '\x00\x20'; tail -c 32 point; } > ak.pub"""
+
+
+def weak_key(procedure):
+    """A key in a file, which the TPM loads by its public area alone, and a key of a TPM that is short."""
+    load = "tpm2_loadexternal -C n -u ak.pub -c ak.ctx"
+    activate = f"{load}; tpm2_activatecredential -c ak.ctx -C {EK} -i credential -o received -P session:session.ctx"
+    ran = procedure.make_key({"tpm2_createak": CLAIMED, "tpm2_evictcontrol": load, "tpm2_activatecredential": activate})
+    yield stops_at("a public area that a TPM loads alone", ran, "tpm2_activatecredential", "not available")
+    short = f"tpm2_createak -C {EK} -c ak.ctx -G rsa1024 -g sha256 -s rsassa -u ak.pub"
+    yield stops_at("a key of 1024 bits", procedure.make_key({"tpm2_createak": short}), "openssl pkey")
+
+
 def other_key(procedure):
     """Keys that sign what they are given, and what is sent in the place of their public areas."""
     log = boots.log_of(boots.clean())
@@ -141,6 +158,29 @@ def other_tpm(procedure):
     yield ends_well("the TPM's own", ran)
 
 
+# A CA that is in the folder of those that the verifier's system trusts, and certifies keys of machines.
+HOUSE = """
+mkdir system
+openssl req -x509 -newkey ec -pkeyopt ec_paramgen_curve:P-256 -keyout house.key -nodes -subj /CN=House -out system/house.pem
+openssl rehash system
+"""
+
+
+def other_authority(procedure):
+    """The certificate of a key in a file, by a CA that isn't the vendor's, and that the verifier's system trusts."""
+    tpm = procedure.tpm
+    tpm.tool("bash", "-e", "-c", HOUSE)
+    tpm.environment["SSL_CERT_DIR"] = f"{tpm.room}/system"
+    sent = """openssl genrsa -out own.pem 2048; openssl rsa -in own.pem -pubout -out own.pub
+        openssl x509 -new -force_pubkey own.pub -subj /CN=EK -CA system/house.pem -CAkey house.key -out ek.crt"""
+    ran = procedure.make_key({"tpm2_getekcertificate": sent})
+    yield stops_at("a certificate: by a CA that the system trusts", ran, "openssl verify")
+    # The attack is one: it is trusted unless the command leaves those CAs out.
+    trusted = tpm.run("openssl", "verify", "-CAfile", "vendor.pem", "ek.crt").returncode
+    yield tells("a certificate: by a CA that isn't left out", trusted, 0)
+    del tpm.environment["SSL_CERT_DIR"]
+
+
 def replays(procedure):
     """Quotes of a clean boot, with another nonce and without one, once the machine booted otherwise."""
     log, machine, tpm = boots.log_of(boots.clean()), procedure.machine, procedure.tpm
@@ -166,4 +206,4 @@ def replays(procedure):
         yield says(f"{name}, an empty nonce", machine.run(*how, ""), {2}, "--nonce")
 
 
-ATTACKS = [honest, other_pcrs, other_bank, other_tpm, replays, other_key]
+ATTACKS = [honest, other_pcrs, other_bank, other_authority, other_tpm, replays, weak_key, other_key]

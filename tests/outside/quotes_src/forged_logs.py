@@ -1,10 +1,11 @@
 """Logs that lead to the PCRs of a quote, with data and types that no digest covers. `verify` can't tell, so that `check`,
 `events` or `diff` has to."""
+import hashlib
 import re
 
 import boots
 import event_log
-from attacks import ends_well, quote_of, says
+from attacks import QUOTED, ends_well, quote_of, says
 from boots import BLOB, IPL, QUIET, SHELL, row
 from telling import tells
 
@@ -124,6 +125,43 @@ def uncovered(procedure):
     yield tells("PCRs that aren't covered: check", (*found, "" if all(found) else out + err), (True, "0", True, ""))
 
 
+def added_pcrs(procedure):
+    """A quote of more PCRs than are asked for: of a bank that firmware doesn't extend, and of one that can be reset. The
+    machine extends them by what a forged log says."""
+    quiet, shell = ((f"root=/dev/sda2 {it}\0").encode("utf-16-le") for it in ("quiet", "init=/bin/sh"))
+    booted, clean = [*boots.clean(), row(12, IPL, shell)], [*boots.clean(), row(12, IPL, quiet)]
+    machine, tpm = procedure.machine, procedure.tpm
+    for name, added, extended, forged in [
+        ("another bank", "sha1:12", f"12:sha1={hashlib.sha1(quiet).hexdigest()}", boots.log_of(clean, ["sha1", "sha256"])),
+        ("PCR 16", "sha256:16", f"16:sha256={hashlib.sha256(quiet).hexdigest()}",
+         boots.log_of([*boots.clean(), row(16, IPL, quiet)])),
+    ]:
+        tpm.boot(boots.log_of(booted))
+        tpm.tool("tpm2_pcrextend", extended)
+        yield ends_well(f"{name} added: verify", procedure.verify(forged, quote_of(f"{QUOTED}+{added}")))
+        # The quote covers what the machine chose.
+        yield says(f"{name} added: check --quote", machine.run(*CHECK), {0}, "^EV_IPL: 3 match")
+        asked = ["check", "boot.log", "--pcrs", "sha256:0-9,14"]
+        yield says(f"{name} added: check --pcrs", machine.run(*asked), {0}, "^EV_IPL: 2 match.*1 not covered")
+
+
+def not_shown(procedure):
+    """A command under a type without a text, and a boot option with a character outside of ASCII: in hex, so that
+    `diff` has to tell."""
+    machine = procedure.machine
+    text = "linux /vmlinuz \N{LATIN SMALL LETTER E WITH ACUTE} init=/bin/sh"
+    booted = boots.with_commands(text)
+    later = true_commands(boots.clean())
+    called = [row(8, boots.VARIABLE, it.measured) if it.pcr == 8 else it for it in booted]
+    yield attacked(procedure, "commands called variables", [*called, *later], booted, later)
+    reason = r"^PCR 8: EV_EFI_VARIABLE_DRIVER_CONFIG.* isn't in clean\.log"
+    yield says("commands called variables: diff", machine.run(*DIFF), {1}, reason)
+    booted = boots.with_options(text)
+    yield attacked(procedure, "a boot option in hex", booted, booted)
+    yield says("a boot option in hex: diff", machine.run(*DIFF), {1}, r"^PCR 1.*variable Boot0000.*optional data")
+    yield says("a boot option in hex: events", machine.run(*EVENTS), {0}, "69006e0069007400")
+
+
 def other_digests(procedure):
     """Data whose hash is an event's digest in a bank that the quote doesn't cover."""
     booted, clean = boots.with_commands(SHELL), boots.clean()
@@ -136,4 +174,4 @@ def other_digests(procedure):
     yield says("digests of SHA-1 of other data: diff", machine.run(*DIFF), {1}, "^PCR 8.*sha256")
 
 
-ATTACKS = [relabelled, retyped, hidden, wide, long, uncovered, other_digests]
+ATTACKS = [relabelled, retyped, hidden, wide, long, uncovered, added_pcrs, not_shown, other_digests]
