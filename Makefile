@@ -23,7 +23,7 @@ try:  ## CRATE=uefi_path: a crate's tests and rows, run without a proof
 	@tools/run_tests try '$(CRATE)'
 
 edits:  ## CRATE=uefi_path: mistakes in a crate, which the prover has to refuse
-	@tests/edits/run $(CRATE)
+	@rt must-fail $(CRATE) && tests/edits/run $(CRATE)
 
 install: all  ## PREFIX=/usr/local DESTDIR=: programs, manual pages, completions, the library for C
 	@rm -rf $(MADE) && mkdir -p $(MADE)/bin

@@ -1,5 +1,5 @@
 -- The events of a log that are out of place, and the PCRs of firmware without a separator (TCG PC Client Platform Firmware Profile 1.06, 3.3.4 and 10.4.1). No digest covers an event's type, nor that the log has it here.
-use Rattle.std.specs.Prelude.{ℕ, ◌≡◌, ◌==◌, ◌||◌, ◌&&◌, not, nat_lt, Bool, false, List, [], ◌∷◌, codes, length, map, take, Option, None, Some, if◌then◌else◌}
+use Rattle.std.specs.Prelude.{ℕ, ◌==◌, ◌||◌, ◌&&◌, not, nat_lt, Bool, false, List, [], ◌∷◌, codes, length, map, take, Option, None, Some, if◌then◌else◌}
 use Rattle.std.specs.List.{filter, flat_map, list_any, range_with_len}
 use Rattle.std.specs.Str.{bytes_eq}
 use Rattle.uefi_tcg.specs.Entries.{Entry}
@@ -59,10 +59,11 @@ firmware_rule bios separated it =
     else if (pcr_of it == 7) && is_outside it.checked then Some Unlogged
     else None
 
--- The rule of PCR 8, which has commands: the log has what was measured. Other events than `EV_IPL` of a BIOS's loader aren't judged.
+-- The rule of PCR 8, which has commands as `EV_IPL`: the log has what was measured. Other events of a BIOS's loader aren't judged.
 unfoldable pub command_rule : Bool → Finding → Option Rule
 command_rule bios it =
-    if (not bios || has_type it IPL) && is_outside it.checked then Some Unlogged else None
+    if not (has_type it IPL) then (if bios then None else Some OtherType)
+    else if is_outside it.checked then Some Unlogged else None
 
 -- The rule that an event of PCR 0 to 8 breaks, the first one.
 unfoldable pub broken_rule : Bool → Bool → Finding → Option Rule
@@ -123,9 +124,13 @@ exits pcr it = (pcr_of it == pcr) && is_exit it.entry.event
 abbrev pub has_exit : ℕ → List Finding → Bool
 has_exit pcr findings = list_any (exits pcr) findings
 
+-- An event extends a PCR whose number no register of confidential computing has: these are 0 to 4.
+abbrev pub is_above_registers : Finding → Bool
+is_above_registers it = nat_lt 4 (pcr_of it) && not (has_type it NO_ACTION)
+
 -- The log is of confidential computing, whose registers aren't PCRs: what PCR 5 has elsewhere is of register 2 (UEFI 2.10, 38.4.1).
 abbrev pub is_confidential : List Finding → Bool
-is_confidential findings = has_exit 2 findings && not (has_exit 5 findings)
+is_confidential findings = has_exit 2 findings && not (list_any is_above_registers findings)
 
 -- The remarks on a log: the events out of place, the PCRs without a separator, and whether the boot got as far as the operating system.
 pub record Remarked : Type 0 where

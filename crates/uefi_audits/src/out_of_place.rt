@@ -8,7 +8,7 @@ ghost use Rattle.std.specs.Prelude.{◌≡◌, ◌++◌, ◌||◌, codes, map, l
 ghost use Rattle.std.specs.List.{filter, flat_map, list_any, range_with_len};
 ghost use Rattle.uefi_tcg.specs.LogViews.{entry_of, event_of};
 ghost use Rattle.pcr_replay.specs.Measured.{is_hash_of};
-ghost use Rattle.uefi_audits.specs.OutOfPlace.{are_faults, exit_text, exits, has_exit, if_broken, is_exit, is_confidential, is_of_bios, is_of_uefi, misplaced, misplaced_in, misplaced_of, remarks_in, remarks_of, separates, without_separator};
+ghost use Rattle.uefi_audits.specs.OutOfPlace.{are_faults, exit_text, exits, has_exit, if_broken, is_above_registers, is_exit, is_confidential, is_of_bios, is_of_uefi, misplaced, misplaced_in, misplaced_of, remarks_in, remarks_of, separates, without_separator};
 ghost use Rattle.uefi_audits.specs.private.Counting.{finding_of};
 
 pub use self::rule::Rule;
@@ -21,6 +21,9 @@ use uefi_tcg::{EventType, LogEntry, LogEvent};
 
 mod rule;
 mod types;
+
+/// The highest number of a register of confidential computing (UEFI 2.10, 38.4.1).
+const LAST_REGISTER: u32 = 4;
 
 /// An event that is out of place.
 #[derive(Clone, Copy)]
@@ -36,8 +39,8 @@ pub struct OutOfPlace<'a> {
 /// The remarks on the places of a log's events.
 ///
 /// There are none on a log of confidential computing, whose registers aren't PCRs. Such a log has its
-/// `Exit Boot Services Invocation` in register 2 (UEFI 2.10, 38.4.1), and none in PCR 5. One that ends
-/// before that can't be told from a log of PCRs.
+/// `Exit Boot Services Invocation` in register 2, and extends no register above 4 (UEFI 2.10, 38.4.1).
+/// One that ends before that can't be told from a log of PCRs.
 #[derive(Drop)]
 pub struct Remarks<'a, A: Allocator = Global> {
     /// The events that are out of place, by PCR, and of a PCR in order.
@@ -87,7 +90,21 @@ pub(crate) fn remarks_on<'a, A: Allocator + Copy>(
 fn is_confidential(all: &[CheckedEntry<'_>]) -> bool
     ensures { result ≡ is_confidential (map finding_of all.now) }
 {
-    has_exit(all, 2) && !has_exit(all, 5)
+    has_exit(all, 2) && !has_pcr_above_registers(all)
+}
+
+/// Returns whether an event extends a PCR whose number no register of confidential computing has.
+fn has_pcr_above_registers(all: &[CheckedEntry<'_>]) -> bool
+    ensures { result ≡ list_any is_above_registers (map finding_of all.now) }
+{
+    all.iter().any(|it| is_above_registers(it))
+}
+
+/// Returns whether an event extends such a PCR.
+fn is_above_registers(it: &CheckedEntry<'_>) -> bool
+    ensures { result ≡ is_above_registers (finding_of it.now) }
+{
+    it.pcr() > LAST_REGISTER && !it.has_type(EventType::NO_ACTION)
 }
 
 /// Returns whether an event of a PCR says that the operating system takes over.
