@@ -19,6 +19,9 @@ use uefi_formats::proto::tcg::{EventType, LogEntry, LogEvent};
 mod rule;
 mod types;
 
+/// The highest number of a register of confidential computing (UEFI 2.10, 38.4.1).
+const LAST_REGISTER: u32 = 4;
+
 /// An event that is out of place.
 #[derive(Clone, Copy, Debug)]
 pub struct OutOfPlace<'a> {
@@ -33,8 +36,8 @@ pub struct OutOfPlace<'a> {
 /// The remarks on the places of a log's events.
 ///
 /// There are none on a log of confidential computing, whose registers aren't PCRs. Such a log has its
-/// `Exit Boot Services Invocation` in register 2 (UEFI 2.10, 38.4.1), and none in PCR 5. One that ends
-/// before that can't be told from a log of PCRs.
+/// `Exit Boot Services Invocation` in register 2, and extends no register above 4 (UEFI 2.10, 38.4.1).
+/// One that ends before that can't be told from a log of PCRs.
 #[derive(Debug)]
 pub struct Remarks<'a> {
     /// The events that are out of place, by PCR, and of a PCR in order.
@@ -76,7 +79,17 @@ pub(crate) fn remarks_on<'a>(
 
 /// Returns whether a log is of confidential computing, whose registers aren't PCRs.
 fn is_confidential(all: &[CheckedEntry<'_>]) -> bool {
-    has_exit(all, 2) && !has_exit(all, 5)
+    has_exit(all, 2) && !has_pcr_above_registers(all)
+}
+
+/// Returns whether an event extends a PCR whose number no register of confidential computing has.
+fn has_pcr_above_registers(all: &[CheckedEntry<'_>]) -> bool {
+    all.iter().any(|it| is_above_registers(it))
+}
+
+/// Returns whether an event extends such a PCR.
+fn is_above_registers(it: &CheckedEntry<'_>) -> bool {
+    it.pcr() > LAST_REGISTER && !it.has_type(EventType::NO_ACTION)
 }
 
 /// Returns whether an event of a PCR says that the operating system takes over.

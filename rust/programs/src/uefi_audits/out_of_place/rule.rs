@@ -14,7 +14,7 @@ pub enum Rule {
     SecondSeparator,
     /// The data of their separators are 0 or 0xFFFFFFFF, in four bytes.
     SeparatorValue,
-    /// Events of other types than [`types_in`] returns don't extend them.
+    /// Events of other types than [`types_in`] returns don't extend them, nor PCR 8 others than `EV_IPL`.
     OtherType,
     /// After the separator, events of other types than [`types_after_separator`] returns don't either.
     AfterSeparator,
@@ -99,8 +99,16 @@ fn is_of_type(types: &[EventType], it: &CheckedEntry<'_>) -> bool {
 }
 
 /// Returns the rule that an event of PCR 8 breaks. In the log of a BIOS that is of `EV_IPL` alone.
+/// Elsewhere PCR 8 has no other type.
 fn command_rule(is_of_bios: bool, it: &CheckedEntry<'_>) -> Option<Rule> {
-    if (!is_of_bios || it.has_type(EventType::IPL)) && it.checked == Some(Checked::NotInLog) {
+    if !it.has_type(EventType::IPL) {
+        return if is_of_bios {
+            None
+        } else {
+            Some(Rule::OtherType)
+        };
+    }
+    if it.checked == Some(Checked::NotInLog) {
         return Some(Rule::Unlogged);
     }
     None
