@@ -1,6 +1,6 @@
 //! What holds of every prefix of a log, and of every last entry.
 
-use crate::log_inputs::bytes_and_numbers;
+use crate::log_inputs::{bytes_and_numbers, number};
 use crate::v2_logs::events_from;
 use std::alloc::Global;
 use std::fmt;
@@ -75,6 +75,24 @@ pub(crate) fn cuts_v1(alloc: Global, input: &str) -> Option<String> {
 /// Returns the same of a log of version 2: whether it has a header, and the counts from either start.
 pub(crate) fn cuts_v2(alloc: Global, input: &str) -> Option<String> {
     changes_for(alloc, input, counts_v2)
+}
+
+/// Returns the last entries, from one to another, at which that changes of the first bytes of a log,
+/// whose count comes first.
+pub(crate) fn last_entries_v2(alloc: Global, input: &str) -> Option<String> {
+    let (length, input) = input.split_once(" ; ")?;
+    let (bytes, first, last) = bytes_and_numbers(alloc, input)?;
+    let bytes = bytes.as_slice().get(..number(length)?)?;
+    let mut changes = Vec::new(alloc);
+    let mut before = None;
+    for last_entry in first..=last {
+        let now = counts_v2(bytes, last_entry);
+        if before != Some(now) {
+            changes.push((last_entry, now)).ok()?;
+        }
+        before = Some(now);
+    }
+    format!(in alloc; "{:?}", changes.as_slice()).ok()
 }
 
 /// Returns the first last entry, from one to another, of which a condition doesn't hold of the bytes.

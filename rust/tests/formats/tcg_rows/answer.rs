@@ -32,10 +32,7 @@ pub(crate) fn answer(
 }
 
 /// Answers a row of an image, of numbers, of a partition table or of signatures.
-fn of_tables(
-    call: &str,
-    input: &str,
-) -> Option<String> {
+fn of_tables(call: &str, input: &str) -> Option<String> {
     match call {
         "image" => image(input),
         "boot_order" => boot_order(input),

@@ -137,7 +137,10 @@ pub(crate) fn v2_capability(numbers: &[u8]) -> Option<(V2Fields, bool)> {
         capability.number_of_pcr_banks,
     ];
     let is_default = capability == v2::BootServiceCapability::default();
-    Some(((versions, bits, capability.tpm_present(), numbers), is_default))
+    Some((
+        (versions, bits, capability.tpm_present(), numbers),
+        is_default,
+    ))
 }
 
 /// Returns the order of two capabilities of version 2.

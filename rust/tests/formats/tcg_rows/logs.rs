@@ -62,7 +62,8 @@ fn log_of_rows(rows: u16) -> Option<Vec<u8>> {
     let mut log = bytes(start).ok()?;
     let length = 29 + 4 * u32::from(rows);
     log.fallible_extend_from_slice(&length.to_le_bytes()).ok()?;
-    log.fallible_extend_from_slice(b"Spec ID Event03\0\0\0\0\0\0\x02\0\x02").ok()?;
+    log.fallible_extend_from_slice(b"Spec ID Event03\0\0\0\0\0\0\x02\0\x02")
+        .ok()?;
     log.fallible_extend_from_slice(&u32::from(rows).to_le_bytes()).ok()?;
     for _ in 0..rows {
         log.fallible_extend_from_slice(&[4, 0, 20, 0]).ok()?;

@@ -4,7 +4,7 @@
 
 use crate::support::fallible::*;
 
-use crate::tcg_rows::log_inputs::bytes_and_numbers;
+use crate::tcg_rows::log_inputs::{bytes_and_numbers, number};
 use crate::tcg_rows::v2_logs::events_from;
 use core::fmt;
 use crate::uefi_tcg::v2::{AlgorithmDigestSizes, EventLogHeader, EventLogIter, PcrEvent, Start};
@@ -54,13 +54,13 @@ where
 }
 
 /// Returns how many events a log of version 1 has.
-fn count1(bytes: &[u8], last_entry: usize) -> usize {
+fn count_v1(bytes: &[u8], last_entry: usize) -> usize {
     let log = v1::EventLog::new(Some(bytes), Some(last_entry), false);
     log.iter().count()
 }
 
 /// Returns whether a log of version 2 has a header, and how many events it has from either start.
-fn counts2(bytes: &[u8], last_entry: usize) -> (bool, usize, usize) {
+fn counts_v2(bytes: &[u8], last_entry: usize) -> (bool, usize, usize) {
     let log = v2::EventLog::new(Some(bytes), Some(last_entry), false);
     let after_event = log.iter_after_header_event().count();
     (log.header().is_some(), log.iter().count(), after_event)
@@ -68,13 +68,31 @@ fn counts2(bytes: &[u8], last_entry: usize) -> (bool, usize, usize) {
 
 /// Returns, for each last entry from one to another, the lengths of prefixes of a log of version 1 at
 /// which the count of events changes.
-pub(crate) fn cuts1(input: &str) -> Option<String> {
-    changes_for(input, count1)
+pub(crate) fn cuts_v1(input: &str) -> Option<String> {
+    changes_for(input, count_v1)
 }
 
 /// Returns the same of a log of version 2: whether it has a header, and the counts from either start.
-pub(crate) fn cuts2(input: &str) -> Option<String> {
-    changes_for(input, counts2)
+pub(crate) fn cuts_v2(input: &str) -> Option<String> {
+    changes_for(input, counts_v2)
+}
+
+/// Returns the last entries, from one to another, at which that changes of the first bytes of a log,
+/// whose count comes first.
+pub(crate) fn last_entries_v2(input: &str) -> Option<String> {
+    let (length, input) = input.split_once(" ; ")?;
+    let (bytes, first, last) = bytes_and_numbers(input)?;
+    let bytes = bytes.as_slice().get(..number(length)?)?;
+    let mut changes = Vec::new();
+    let mut before = None;
+    for last_entry in first..=last {
+        let now = counts_v2(bytes, last_entry);
+        if before != Some(now) {
+            changes.fallible_push((last_entry, now)).ok()?;
+        }
+        before = Some(now);
+    }
+    fallible_format!("{:?}", changes.as_slice()).ok()
 }
 
 /// Returns the first last entry, from one to another, of which a condition doesn't hold of the bytes.
@@ -94,28 +112,28 @@ where
 
 /// Returns the first last entry for which the events that start at 0, and then at each event's end,
 /// aren't those of the log of version 1.
-pub(crate) fn steps1(input: &str) -> Option<String> {
-    first_without(input, are_events1)
+pub(crate) fn steps_v1(input: &str) -> Option<String> {
+    first_without(input, are_events_v1)
 }
 
 /// Returns the same of version 2, from both starts.
-pub(crate) fn steps2(input: &str) -> Option<String> {
-    first_without(input, are_events2)
+pub(crate) fn steps_v2(input: &str) -> Option<String> {
+    first_without(input, are_events_v2)
 }
 
 /// Returns the first last entry for which the log of version 1 has too many events, or loses one
 /// with a later last entry that it had by its own.
-pub(crate) fn growth1(input: &str) -> Option<String> {
-    first_without(input, grows1)
+pub(crate) fn growth_v1(input: &str) -> Option<String> {
+    first_without(input, grows_v1)
 }
 
 /// Returns the same of version 2, from both starts.
-pub(crate) fn growth2(input: &str) -> Option<String> {
-    first_without(input, grows2)
+pub(crate) fn growth_v2(input: &str) -> Option<String> {
+    first_without(input, grows_v2)
 }
 
 /// Returns whether the events that start at 0, and then at each event's end, are those of the log.
-fn are_events1(bytes: &[u8], last_entry: usize) -> bool {
+fn are_events_v1(bytes: &[u8], last_entry: usize) -> bool {
     let mut offset = 0usize;
     for event in v1::EventLog::new(Some(bytes), Some(last_entry), false).iter() {
         if v1::event_starting_at(bytes, offset, last_entry) != Some(event) {
@@ -176,7 +194,7 @@ fn are_steps<'a>(
 }
 
 /// Returns whether the steps from either start are the events of the log, if it has a header.
-fn are_events2(bytes: &[u8], last_entry: usize) -> bool {
+fn are_events_v2(bytes: &[u8], last_entry: usize) -> bool {
     let log = v2::EventLog::new(Some(bytes), Some(last_entry), false);
     let Some(header) = log.header() else {
         return log.iter().next().is_none();
@@ -191,18 +209,12 @@ fn are_events2(bytes: &[u8], last_entry: usize) -> bool {
         bytes,
         header.size_in_bytes(),
         last_entry,
-    ) && are_steps(
-        after_event,
-        &sizes,
-        bytes,
-        header.event_size(),
-        last_entry,
-    )
+    ) && are_steps(after_event, &sizes, bytes, header.event_size(), last_entry)
 }
 
 /// Returns whether the log with the later last entry begins with the earlier one's events that end
 /// by its last entry.
-fn begins_with1(bytes: &[u8], last_entry: usize, later: usize) -> bool {
+fn begins_with_v1(bytes: &[u8], last_entry: usize, later: usize) -> bool {
     let earlier = v1::EventLog::new(Some(bytes), Some(last_entry), false);
     let mut grown = v1::EventLog::new(Some(bytes), Some(later), false).iter();
     let mut end = 0usize;
@@ -217,10 +229,10 @@ fn begins_with1(bytes: &[u8], last_entry: usize, later: usize) -> bool {
 
 /// Returns whether the log has no more than an event for each 32 bytes, and one, and keeps its events
 /// with each later last entry up to the end of the bytes.
-fn grows1(bytes: &[u8], last_entry: usize) -> bool {
+fn grows_v1(bytes: &[u8], last_entry: usize) -> bool {
     let mut later = last_entry..=bytes.len();
-    count1(bytes, last_entry) <= last_entry / 32 + 1
-        && later.all(|later| begins_with1(bytes, last_entry, later))
+    count_v1(bytes, last_entry) <= last_entry / 32 + 1
+        && later.all(|later| begins_with_v1(bytes, last_entry, later))
 }
 
 /// Returns how many events a log can have at most from an offset on, since each has 16 bytes at
@@ -254,7 +266,7 @@ fn is_bounded(bytes: &[u8], last_entry: usize) -> bool {
 
 /// Returns whether the log with the later last entry begins with the earlier one's events that end
 /// by its last entry.
-fn begins_with2(bytes: &[u8], last_entry: usize, later: usize, start: Start) -> bool {
+fn begins_with_v2(bytes: &[u8], last_entry: usize, later: usize, start: Start) -> bool {
     let earlier = v2::EventLog::new(Some(bytes), Some(last_entry), false);
     let Some(header) = earlier.header() else {
         return events_from(&earlier, start).next().is_none();
@@ -273,13 +285,13 @@ fn begins_with2(bytes: &[u8], last_entry: usize, later: usize, start: Start) -> 
 
 /// Returns whether that holds from both starts.
 fn begins_with_both(bytes: &[u8], last_entry: usize, later: usize) -> bool {
-    begins_with2(bytes, last_entry, later, Start::AfterHeader)
-        && begins_with2(bytes, last_entry, later, Start::AfterEvent)
+    begins_with_v2(bytes, last_entry, later, Start::AfterHeader)
+        && begins_with_v2(bytes, last_entry, later, Start::AfterEvent)
 }
 
 /// Returns whether the log is bounded, and keeps its events with each later last entry up to the end
 /// of the bytes, and with the last one.
-fn grows2(bytes: &[u8], last_entry: usize) -> bool {
+fn grows_v2(bytes: &[u8], last_entry: usize) -> bool {
     let mut later = last_entry..=bytes.len();
     is_bounded(bytes, last_entry)
         && later.all(|later| begins_with_both(bytes, last_entry, later))

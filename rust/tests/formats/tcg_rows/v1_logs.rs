@@ -16,7 +16,10 @@ pub(crate) fn push_event(
     let (pcr, event_type) = (event.pcr_index().0, event.event_type().0);
     let digest = hex_digits(event.digest().as_slice()).ok()?;
     let data = hex_digits(event.event_data()).ok()?;
-    fallible_write!(text, "({start}..{end}, {pcr}, {event_type}, {digest}, {data})").ok()
+    fallible_write!(text,
+        "({start}..{end}, {pcr}, {event_type}, {digest}, {data})"
+    )
+    .ok()
 }
 
 /// Returns the events of a log, after which its iterator stays ended.

@@ -173,7 +173,9 @@ pub(crate) fn pcr_counts(input: &str) -> Option<String> {
     let log = EventLog::new(input.bytes(), input.last_entry, false);
     let mut counts = Vec::new();
     for pcr in 0..=u32::try_from(number(most)?).ok()? {
-        let events = log.iter().filter(|event| event.pcr_index() == PcrIndex(pcr));
+        let events = log
+            .iter()
+            .filter(|event| event.pcr_index() == PcrIndex(pcr));
         counts.fallible_push(events.count()).ok()?;
     }
     fallible_format!("{:?}", counts.as_slice()).ok()
