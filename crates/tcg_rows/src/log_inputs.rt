@@ -148,3 +148,12 @@ pub(crate) fn push_comma(text: &mut String) -> Option<()> {
     }
     text.push_str(", ").ok()
 }
+
+/// Appends bytes as `x"..."`, two hex digits a byte.
+pub(crate) fn push_hex(text: &mut String, bytes: &[u8]) -> Option<()> {
+    text.push_str("x\"").ok()?;
+    for byte in bytes {
+        write!(text, "{byte:02x}").ok()?;
+    }
+    text.push('"').ok()
+}

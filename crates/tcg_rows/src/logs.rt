@@ -1,6 +1,7 @@
-use crate::log_inputs::{bytes_and_numbers, bytes_of, number, push_comma};
+use crate::log_inputs::{bytes_and_numbers, bytes_of, number, push_comma, push_hex};
 use crate::sweeps::changes;
-use rows::{hex_digits, quoted};
+use crate::v2_logs::push_digest;
+use rows::quoted;
 use std::alloc::Global;
 use test_support::bytes;
 use uefi_tcg::{LastEntry, Log, LogEntry, LogError, LogEvent};
@@ -85,17 +86,16 @@ pub(crate) fn read_rows(alloc: Global, input: &str) -> Option<String> {
 
 /// Appends an event, with its offset: its PCR, its type, its digests, each after its algorithm, and
 /// its data.
-fn push_entry(alloc: Global, text: &mut String, entry: &LogEntry<'_>) -> Option<()> {
+fn push_entry(text: &mut String, entry: &LogEntry<'_>) -> Option<()> {
     let event = entry.event;
     let (pcr, event_type) = (event.pcr_index().0, event.event_type().0);
     write!(text, "({}, {pcr}, {event_type}, [", entry.offset).ok()?;
     for (algorithm, digest) in event.digests() {
-        let digest = hex_digits(alloc, digest).ok()?;
-        push_comma(text)?;
-        write!(text, "({}, {digest})", algorithm.0).ok()?;
+        push_digest(text, algorithm, digest)?;
     }
-    let data = hex_digits(alloc, event.event_data()).ok()?;
-    write!(text, "], {data})").ok()
+    text.push_str("], ").ok()?;
+    push_hex(text, event.event_data())?;
+    text.push(')').ok()
 }
 
 /// Returns whether a log has a header, the size of its `UINTN`s, its events, and where the last of
@@ -108,7 +108,7 @@ pub(crate) fn entries(alloc: Global, input: &str) -> Option<String> {
     let mut entries = log.entries();
     while let Some(entry) = entries.next() {
         push_comma(&mut text)?;
-        push_entry(alloc, &mut text, &entry)?;
+        push_entry(&mut text, &entry)?;
     }
     let end = (entries.offset(), entries.rest().len());
     write!(text, "], {end:?})").ok()?;
@@ -124,13 +124,17 @@ pub(crate) fn entries_before(alloc: Global, input: &str) -> Option<String> {
     format!(in alloc; "{count}").ok()
 }
 
+/// Returns why bytes are no whole log, if they aren't.
+fn error_of(bytes: &[u8], last_entry: LastEntry) -> Option<LogError> {
+    Log::read(bytes, last_entry).err()
+}
+
 /// Returns the lengths of prefixes of a log, from one to another, at which the error is another than
 /// one byte before, each with the error.
 pub(crate) fn read_cuts(alloc: Global, input: &str) -> Option<String> {
     let (bytes, first, last) = bytes_and_numbers(alloc, input)?;
-    let found = changes(alloc, bytes.as_slice(), first, last, |cut| {
-        Log::read(cut, LastEntry::Unknown).err()
-    })?;
+    let (bytes, lengths) = (bytes.as_slice(), (first, last));
+    let found = changes(alloc, bytes, lengths, LastEntry::Unknown, &error_of)?;
     format!(in alloc; "{:?}", found.as_slice()).ok()
 }
 

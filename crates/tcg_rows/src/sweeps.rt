@@ -1,6 +1,6 @@
 //! What holds of every prefix of a log, and of every last entry.
 
-use crate::log_inputs::bytes_and_numbers;
+use crate::log_inputs::{bytes_and_numbers, number};
 use crate::v2_logs::events_from;
 use std::alloc::Global;
 use std::fmt;
@@ -8,23 +8,25 @@ use uefi_tcg::v2::{AlgorithmDigestSizes, EventLogHeader, EventLogIter, PcrEvent,
 use uefi_tcg::{v1, v2};
 
 /// Returns the lengths of prefixes of bytes, from one to another, at which a function returns
-/// something else than one byte before, each with that.
-pub(crate) fn changes<T, F>(
+/// something else for a last entry than one byte before, each with that.
+pub(crate) fn changes<T, N, F>(
     alloc: Global,
     bytes: &[u8],
-    first: usize,
-    last: usize,
-    read: F,
+    lengths: (usize, usize),
+    last_entry: N,
+    read: &F,
 ) -> Option<Vec<(usize, T)>>
 where
     T: PartialEq + Copy + Drop,
-    F: Fn(&[u8]) -> T,
-    requires { F.IsAlwaysCallable read }
+    N: Copy + Drop,
+    F: Fn(&[u8], N) -> T,
+    requires { F.IsAlwaysCallable read.now }
 {
+    let (first, last) = lengths;
     let mut changes = Vec::new(alloc);
     let mut before = None;
     for length in first..=last {
-        let now = read(bytes.get(..length)?);
+        let now = read(bytes.get(..length)?, last_entry);
         if before != Some(now) {
             changes.push((length, now)).ok()?;
         }
@@ -35,17 +37,17 @@ where
 
 /// Returns these lengths of all prefixes for a last entry, and the same for each later one up to
 /// another.
-fn changes_for<T, F>(alloc: Global, input: &str, read: F) -> Option<String>
+fn changes_for<T, F>(alloc: Global, input: &str, read: &F) -> Option<String>
 where
     T: PartialEq + Copy + fmt::Debug + Drop,
     F: Fn(&[u8], usize) -> T,
-    requires { F.IsAlwaysCallable read }
+    requires { F.IsAlwaysCallable read.now }
 {
     let (bytes, first, last) = bytes_and_numbers(alloc, input)?;
-    let (bytes, end) = (bytes.as_slice(), bytes.len());
-    let found = changes(alloc, bytes, 0, end, |cut| read(cut, first))?;
+    let (bytes, lengths) = (bytes.as_slice(), (0, bytes.len()));
+    let found = changes(alloc, bytes, lengths, first, read)?;
     for last_entry in first..=last {
-        let others = changes(alloc, bytes, 0, end, |cut| read(cut, last_entry))?;
+        let others = changes(alloc, bytes, lengths, last_entry, read)?;
         if others.as_slice() != found.as_slice() {
             return format!(in alloc; "others for the last entry {last_entry}").ok();
         }
@@ -69,12 +71,30 @@ fn counts_v2(bytes: &[u8], last_entry: usize) -> (bool, usize, usize) {
 /// Returns, for each last entry from one to another, the lengths of prefixes of a log of version 1 at
 /// which the count of events changes.
 pub(crate) fn cuts_v1(alloc: Global, input: &str) -> Option<String> {
-    changes_for(alloc, input, count_v1)
+    changes_for(alloc, input, &count_v1)
 }
 
 /// Returns the same of a log of version 2: whether it has a header, and the counts from either start.
 pub(crate) fn cuts_v2(alloc: Global, input: &str) -> Option<String> {
-    changes_for(alloc, input, counts_v2)
+    changes_for(alloc, input, &counts_v2)
+}
+
+/// Returns the last entries, from one to another, at which that changes of the first bytes of a log,
+/// whose count comes first.
+pub(crate) fn last_entries_v2(alloc: Global, input: &str) -> Option<String> {
+    let (length, input) = input.split_once(" ; ")?;
+    let (bytes, first, last) = bytes_and_numbers(alloc, input)?;
+    let bytes = bytes.as_slice().get(..number(length)?)?;
+    let mut changes = Vec::new(alloc);
+    let mut before = None;
+    for last_entry in first..=last {
+        let now = counts_v2(bytes, last_entry);
+        if before != Some(now) {
+            changes.push((last_entry, now)).ok()?;
+        }
+        before = Some(now);
+    }
+    format!(in alloc; "{:?}", changes.as_slice()).ok()
 }
 
 /// Returns the first last entry, from one to another, of which a condition doesn't hold of the bytes.

@@ -1,24 +1,16 @@
-use crate::log_inputs::{bytes_and_numbers, log_input, push_comma};
-use rows::hex_digits;
+use crate::log_inputs::{bytes_and_numbers, log_input, push_comma, push_hex};
 use std::alloc::Global;
 use uefi_tcg::v1::{EventLog, PcrEvent, event_starting_at};
 
 /// Appends an event: where it is in the log's bytes, its PCR, its type, its digest and its data.
-pub(crate) fn push_event(
-    alloc: Global,
-    text: &mut String,
-    start: usize,
-    event: &PcrEvent<'_>,
-) -> Option<()> {
+pub(crate) fn push_event(text: &mut String, start: usize, event: &PcrEvent<'_>) -> Option<()> {
     let end = start.saturating_add(event.as_bytes().len());
     let (pcr, event_type) = (event.pcr_index().0, event.event_type().0);
-    let digest = hex_digits(alloc, event.digest().as_slice()).ok()?;
-    let data = hex_digits(alloc, event.event_data()).ok()?;
-    write!(
-        text,
-        "({start}..{end}, {pcr}, {event_type}, {digest}, {data})"
-    )
-    .ok()
+    write!(text, "({start}..{end}, {pcr}, {event_type}, ").ok()?;
+    push_hex(text, event.digest().as_slice())?;
+    text.push_str(", ").ok()?;
+    push_hex(text, event.event_data())?;
+    text.push(')').ok()
 }
 
 /// Returns the events of a log, after which its iterator stays ended.
@@ -33,7 +25,7 @@ pub(crate) fn log(alloc: Global, input: &str) -> Option<String> {
             return format!(in alloc; "the bytes of another event at {start}").ok();
         }
         push_comma(&mut text)?;
-        push_event(alloc, &mut text, start, &event)?;
+        push_event(&mut text, start, &event)?;
         start = events.offset();
     }
     if events.next().is_some() || events.offset() != start {
@@ -51,7 +43,7 @@ pub(crate) fn event_at(alloc: Global, bytes: &[u8], index: usize) -> Option<Stri
     }
     let start = events.offset();
     let mut text = String::new(alloc);
-    push_event(alloc, &mut text, start, &events.next()?)?;
+    push_event(&mut text, start, &events.next()?)?;
     Some(text)
 }
 
@@ -70,6 +62,6 @@ pub(crate) fn step(alloc: Global, input: &str) -> Option<String> {
         return format!(in alloc; "None").ok();
     };
     let mut text = String::new(alloc);
-    push_event(alloc, &mut text, offset, &event)?;
+    push_event(&mut text, offset, &event)?;
     Some(text)
 }

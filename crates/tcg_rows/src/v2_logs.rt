@@ -1,19 +1,17 @@
-use crate::log_inputs::{bytes_and_numbers, log_input, number, push_comma};
+use crate::log_inputs::{bytes_and_numbers, log_input, number, push_comma, push_hex};
 use crate::v2_headers::algorithm_of;
 use rows::hex_digits;
 use std::alloc::Global;
-use uefi_tcg::PcrIndex;
 use uefi_tcg::v2::{
     EventLog, EventLogHeader, EventLogIter, PcrEvent, PcrEventDigests, Start, event_starting_at,
 };
+use uefi_tcg::{AlgorithmId, PcrIndex};
 
 /// Appends the digests of an event, after which their iterator stays ended.
-fn push_digests(alloc: Global, text: &mut String, digests: PcrEventDigests<'_>) -> Option<()> {
+fn push_digests(text: &mut String, digests: PcrEventDigests<'_>) -> Option<()> {
     let mut left = digests.into_iter();
     while let Some((algorithm, digest)) = left.next() {
-        let digest = hex_digits(alloc, digest).ok()?;
-        push_comma(text)?;
-        write!(text, "({}, {digest})", algorithm.0).ok()?;
+        push_digest(text, algorithm, digest)?;
     }
     if left.next().is_some() {
         text.push_str(", and the iterator goes on").ok()?;
@@ -21,20 +19,24 @@ fn push_digests(alloc: Global, text: &mut String, digests: PcrEventDigests<'_>) 
     Some(())
 }
 
+/// Appends a digest after its algorithm.
+pub(crate) fn push_digest(text: &mut String, algorithm: AlgorithmId, digest: &[u8]) -> Option<()> {
+    push_comma(text)?;
+    write!(text, "({}, ", algorithm.0).ok()?;
+    push_hex(text, digest)?;
+    text.push(')').ok()
+}
+
 /// Appends an event: where it is in the log's bytes, its PCR, its type, its digests, each after its
 /// algorithm, and its data.
-pub(crate) fn push_event(
-    alloc: Global,
-    text: &mut String,
-    start: usize,
-    event: &PcrEvent<'_>,
-) -> Option<()> {
+pub(crate) fn push_event(text: &mut String, start: usize, event: &PcrEvent<'_>) -> Option<()> {
     let end = start.saturating_add(event.as_bytes().len());
     let (pcr, event_type) = (event.pcr_index().0, event.event_type().0);
     write!(text, "({start}..{end}, {pcr}, {event_type}, [").ok()?;
-    push_digests(alloc, text, event.digests())?;
-    let data = hex_digits(alloc, event.event_data()).ok()?;
-    write!(text, "], {data})").ok()
+    push_digests(text, event.digests())?;
+    text.push_str("], ").ok()?;
+    push_hex(text, event.event_data())?;
+    text.push(')').ok()
 }
 
 /// Returns the events that an iterator over the log of these bytes gives, after which it stays ended.
@@ -47,7 +49,7 @@ fn listed(alloc: Global, bytes: &[u8], events: EventLogIter<'_>) -> Option<Strin
             return format!(in alloc; "the bytes of another event at {start}").ok();
         }
         push_comma(&mut text)?;
-        push_event(alloc, &mut text, start, &event)?;
+        push_event(&mut text, start, &event)?;
         start = events.offset();
     }
     if events.next().is_some() || events.offset() != start {
@@ -100,7 +102,7 @@ pub(crate) fn event_at(alloc: Global, bytes: &[u8], index: usize) -> Option<Stri
     }
     let start = events.offset();
     let mut text = String::new(alloc);
-    push_event(alloc, &mut text, start, &events.next()?)?;
+    push_event(&mut text, start, &events.next()?)?;
     Some(text)
 }
 
@@ -134,7 +136,7 @@ pub(crate) fn step(alloc: Global, input: &str) -> Option<String> {
         return format!(in alloc; "None").ok();
     };
     let mut text = String::new(alloc);
-    push_event(alloc, &mut text, offset, &event)?;
+    push_event(&mut text, offset, &event)?;
     Some(text)
 }
 

@@ -76,7 +76,7 @@ fn viewed(
     match PcrEvent::new_in_buffer(buffer, pcr_index, event_type, digest, event_data) {
         Ok(event) => {
             let mut text = String::new(alloc);
-            push_event(alloc, &mut text, 0, &event)?;
+            push_event(&mut text, 0, &event)?;
             outcome(alloc, text.as_str(), None)
         }
         Err(error) => outcome(alloc, "", Some(error)),

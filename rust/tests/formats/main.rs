@@ -56,8 +56,8 @@ mod tcg_rows;
 // There is no `Align` here, nor the test that has it.
 #[allow(unused_imports)]
 mod tcg_tests;
-// A sample is for the tests of the programs.
-#[allow(dead_code)]
+// A sample is for the tests of the programs, and a table for none of these.
+#[allow(dead_code, unused_imports)]
 mod test_support;
 
 use formats::{

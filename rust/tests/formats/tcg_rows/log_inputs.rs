@@ -151,3 +151,12 @@ pub(crate) fn push_comma(text: &mut String) -> Option<()> {
     }
     text.fallible_push_str(", ").ok()
 }
+
+/// Appends bytes as `x"..."`, two hex digits a byte.
+pub(crate) fn push_hex(text: &mut String, bytes: &[u8]) -> Option<()> {
+    text.fallible_push_str("x\"").ok()?;
+    for byte in bytes {
+        fallible_write!(text, "{byte:02x}").ok()?;
+    }
+    text.fallible_push('"').ok()
+}

@@ -2,9 +2,10 @@
 
 use crate::support::fallible::*;
 
-use crate::tcg_rows::log_inputs::{bytes_and_numbers, bytes_of, number, push_comma};
+use crate::tcg_rows::log_inputs::{bytes_and_numbers, bytes_of, number, push_comma, push_hex};
 use crate::tcg_rows::sweeps::changes;
-use crate::rows::{hex_digits, quoted};
+use crate::tcg_rows::v2_logs::push_digest;
+use crate::rows::quoted;
 use crate::test_support::bytes;
 use crate::uefi_tcg::{LastEntry, Log, LogEntry, LogError, LogEvent};
 
@@ -93,12 +94,11 @@ fn push_entry(text: &mut String, entry: &LogEntry<'_>) -> Option<()> {
     let (pcr, event_type) = (event.pcr_index().0, event.event_type().0);
     fallible_write!(text, "({}, {pcr}, {event_type}, [", entry.offset).ok()?;
     for (algorithm, digest) in event.digests() {
-        let digest = hex_digits(digest).ok()?;
-        push_comma(text)?;
-        fallible_write!(text, "({}, {digest})", algorithm.0).ok()?;
+        push_digest(text, algorithm, digest)?;
     }
-    let data = hex_digits(event.event_data()).ok()?;
-    fallible_write!(text, "], {data})").ok()
+    text.fallible_push_str("], ").ok()?;
+    push_hex(text, event.event_data())?;
+    text.fallible_push(')').ok()
 }
 
 /// Returns whether a log has a header, the size of its `UINTN`s, its events, and where the last of
@@ -127,13 +127,17 @@ pub(crate) fn entries_before(input: &str) -> Option<String> {
     fallible_format!("{count}").ok()
 }
 
+/// Returns why bytes are no whole log, if they aren't.
+fn error_of(bytes: &[u8], last_entry: LastEntry) -> Option<LogError> {
+    Log::read(bytes, last_entry).err()
+}
+
 /// Returns the lengths of prefixes of a log, from one to another, at which the error is another than
 /// one byte before, each with the error.
 pub(crate) fn read_cuts(input: &str) -> Option<String> {
     let (bytes, first, last) = bytes_and_numbers(input)?;
-    let found = changes(bytes.as_slice(), first, last, |cut| {
-        Log::read(cut, LastEntry::Unknown).err()
-    })?;
+    let (bytes, lengths) = (bytes.as_slice(), (first, last));
+    let found = changes(bytes, lengths, LastEntry::Unknown, &error_of)?;
     fallible_format!("{:?}", found.as_slice()).ok()
 }
 

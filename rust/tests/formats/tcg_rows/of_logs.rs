@@ -47,6 +47,7 @@ fn of_versions(call: &str, input: &str) -> Option<String> {
         "v2_rests" => v2_logs::rests(input),
         "v2_step" => v2_logs::step(input),
         "v2_cuts" => sweeps::cuts_v2(input),
+        "v2_last_entries" => sweeps::last_entries_v2(input),
         "v2_steps" => sweeps::steps_v2(input),
         "v2_growth" => sweeps::growth_v2(input),
         "digest" => v2_logs::digest(input),

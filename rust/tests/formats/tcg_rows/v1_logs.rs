@@ -2,24 +2,18 @@
 
 use crate::support::fallible::*;
 
-use crate::tcg_rows::log_inputs::{bytes_and_numbers, log_input, push_comma};
-use crate::rows::hex_digits;
+use crate::tcg_rows::log_inputs::{bytes_and_numbers, log_input, push_comma, push_hex};
 use crate::uefi_tcg::v1::{EventLog, PcrEvent, event_starting_at};
 
 /// Appends an event: where it is in the log's bytes, its PCR, its type, its digest and its data.
-pub(crate) fn push_event(
-    text: &mut String,
-    start: usize,
-    event: &PcrEvent<'_>,
-) -> Option<()> {
+pub(crate) fn push_event(text: &mut String, start: usize, event: &PcrEvent<'_>) -> Option<()> {
     let end = start.saturating_add(event.as_bytes().len());
     let (pcr, event_type) = (event.pcr_index().0, event.event_type().0);
-    let digest = hex_digits(event.digest().as_slice()).ok()?;
-    let data = hex_digits(event.event_data()).ok()?;
-    fallible_write!(text,
-        "({start}..{end}, {pcr}, {event_type}, {digest}, {data})"
-    )
-    .ok()
+    fallible_write!(text, "({start}..{end}, {pcr}, {event_type}, ").ok()?;
+    push_hex(text, event.digest().as_slice())?;
+    text.fallible_push_str(", ").ok()?;
+    push_hex(text, event.event_data())?;
+    text.fallible_push(')').ok()
 }
 
 /// Returns the events of a log, after which its iterator stays ended.

@@ -2,21 +2,19 @@
 
 use crate::support::fallible::*;
 
-use crate::tcg_rows::log_inputs::{bytes_and_numbers, log_input, number, push_comma};
+use crate::tcg_rows::log_inputs::{bytes_and_numbers, log_input, number, push_comma, push_hex};
 use crate::tcg_rows::v2_headers::algorithm_of;
 use crate::rows::hex_digits;
-use crate::uefi_tcg::PcrIndex;
 use crate::uefi_tcg::v2::{
     EventLog, EventLogHeader, EventLogIter, PcrEvent, PcrEventDigests, Start, event_starting_at,
 };
+use crate::uefi_tcg::{AlgorithmId, PcrIndex};
 
 /// Appends the digests of an event, after which their iterator stays ended.
 fn push_digests(text: &mut String, digests: PcrEventDigests<'_>) -> Option<()> {
     let mut left = digests.into_iter();
     while let Some((algorithm, digest)) = left.next() {
-        let digest = hex_digits(digest).ok()?;
-        push_comma(text)?;
-        fallible_write!(text, "({}, {digest})", algorithm.0).ok()?;
+        push_digest(text, algorithm, digest)?;
     }
     if left.next().is_some() {
         text.fallible_push_str(", and the iterator goes on").ok()?;
@@ -24,19 +22,24 @@ fn push_digests(text: &mut String, digests: PcrEventDigests<'_>) -> Option<()> {
     Some(())
 }
 
+/// Appends a digest after its algorithm.
+pub(crate) fn push_digest(text: &mut String, algorithm: AlgorithmId, digest: &[u8]) -> Option<()> {
+    push_comma(text)?;
+    fallible_write!(text, "({}, ", algorithm.0).ok()?;
+    push_hex(text, digest)?;
+    text.fallible_push(')').ok()
+}
+
 /// Appends an event: where it is in the log's bytes, its PCR, its type, its digests, each after its
 /// algorithm, and its data.
-pub(crate) fn push_event(
-    text: &mut String,
-    start: usize,
-    event: &PcrEvent<'_>,
-) -> Option<()> {
+pub(crate) fn push_event(text: &mut String, start: usize, event: &PcrEvent<'_>) -> Option<()> {
     let end = start.saturating_add(event.as_bytes().len());
     let (pcr, event_type) = (event.pcr_index().0, event.event_type().0);
     fallible_write!(text, "({start}..{end}, {pcr}, {event_type}, [").ok()?;
     push_digests(text, event.digests())?;
-    let data = hex_digits(event.event_data()).ok()?;
-    fallible_write!(text, "], {data})").ok()
+    text.fallible_push_str("], ").ok()?;
+    push_hex(text, event.event_data())?;
+    text.fallible_push(')').ok()
 }
 
 /// Returns the events that an iterator over the log of these bytes gives, after which it stays ended.
