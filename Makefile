@@ -3,12 +3,12 @@ PREFIX = /usr/local
 DESTDIR =
 CRATE =
 SECONDS = 600
-PROGRAMS = uefi_list uefi_audit
+PROGRAMS = uefi_list uefi_boot uefi_audit
 TO = $(DESTDIR)$(PREFIX)
 MADE = out/install
 .PHONY: all check test try edits install fuzz plant bench rust help $(PROGRAMS:%=build-%)
 
-all: $(PROGRAMS:%=build-%)  ## both programs, proved and built; until then ./uefi_list and ./uefi_audit run their source, unproved
+all: $(PROGRAMS:%=build-%)  ## the programs, proved and built; until then ./uefi_list, ./uefi_boot and ./uefi_audit run their source, unproved
 
 $(PROGRAMS:%=build-%): build-%:
 	@tools/prove $*

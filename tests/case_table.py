@@ -41,8 +41,9 @@ are indented further, where `| LINE` is a line of a text. A name is valid in all
 In a line, a text and an argument `\\` is a backslash and `\x1b` a byte, in a text `\n` also a line break and `\"` a quote.
 A line that ends with `\` has no line break: so is one written that is too long, or that ends the output without one.
 
-`tests/audit/run CASE..` and `tests/program/run CASE..` try cases with the proved program. Where it isn't built, they prove
-it first, which takes long. `--programs DIR`, before the cases, has another one: that of `rust/programs`, by cargo.
+`tests/audit/run CASE..`, and likewise those of `boot` and `program`, tries cases with the proved program. Where it isn't
+built, it is proved first, which takes long. `--programs DIR`, before the cases, has another one: that of `rust/programs`, by
+cargo.
 
 `tests/case_table.py TABLES FOLDER CASE..` writes what cases are given: for each a folder of its name, in which `words` has
 each argument before a zero byte, `stdin` standard input, and `files` the files.

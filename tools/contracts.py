@@ -47,7 +47,7 @@ def bound_in(text):
 def free_names(text, bound=()):
     """The names in a piece of text that it doesn't bind. Fields are none; `M.name` is one."""
     bound = bound_in(text) | set(bound)
-    text = re.sub(r"\"[^\"]*\"|«\w+»|∥₁", " ", text)
+    text = re.sub(r"\"(?:\\.|[^\"\\])*\"|«\w+»|∥₁", " ", text)
     names = {it for it in re.findall(r"(?<![\w.'-])[A-Za-z]\w*\.[A-Za-z_][\w'-]*", text) if it.partition(".")[0] not in bound}
     text = re.sub(r"(?<=[\w)' ])\.[\w'-]+", " ", text)
     text = re.sub(r"\b[\w'-]+ =(?=[^=>])", " ", text)

@@ -1,5 +1,5 @@
 //! The listings of the program `uefi_list` by plain Rust, over the plain [`readers`](crate::readers):
-//! std alone. A command has a line in [`COMMANDS`], but for those that print or read paths as text.
+//! std alone. A command has a line in [`COMMANDS`].
 
 use crate::readers::config::{Configuration, Configurations};
 use crate::readers::info::FileInfo;

@@ -3,7 +3,7 @@
 
 - rustc isn't older than rust/Cargo.toml allows.
 - The tests of both packages pass.
-- The programs pass `tests/program`, `tests/audit` and `tests/command_lines`, as the proved ones do.
+- The programs pass `tests/program`, `tests/boot`, `tests/audit` and `tests/command_lines`, as the proved ones do.
 
 `make test` runs it, and so does `rust/checks/package` in a folder of its own. The last line of output is `N as expected,
 M not`.
@@ -43,7 +43,7 @@ def tests(target):
 
 def cases(target):
     """Whether the programs pass the tests of the proved ones."""
-    for name in "program", "audit", "command_lines":
+    for name in "program", "boot", "audit", "command_lines":
         words = [f"{TOP}/tests/{name}/run", "--programs", f"{target}/release"]
         yield ends_well(f"the programs pass tests/{name}", words, PACKAGE, target)[0]
 

@@ -1,4 +1,4 @@
-"""What arguments ask for, and which are wrong, stated by hand from docs/AUDIT.md.
+"""What arguments ask for, and which are wrong, stated by hand from docs/AUDIT.md and docs/FORMATS.md.
 
 `asked` has a command line after `$`, in the words of bash, and what shows that the program does what it asks for: after
 `>` a text that is in standard output, after `>-` one that isn't, after `!` one that is in standard error, after `=` the

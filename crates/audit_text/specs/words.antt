@@ -1,4 +1,3 @@
-pub mod Shown
 pub mod Texts
 pub mod Names
 pub mod Numbers

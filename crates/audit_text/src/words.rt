@@ -1,8 +1,7 @@
 //! Words that text and JSON share.
 //!
-//! [`push_said`] appends in a few words what the data of an event say. A [`ShownName`] displays a
-//! name so that nothing in it is hidden, and [`ShownBytes`] one that isn't UTF-8. [`push_number`]
-//! appends the number of an algorithm.
+//! [`push_said`] appends in a few words what the data of an event say, and [`push_number`] the number
+//! of an algorithm.
 
 pub(crate) use self::forms::form_name;
 pub use self::numbers::push_number;
@@ -10,8 +9,6 @@ pub(crate) use self::path::path_text;
 pub(crate) use self::rules::rule_name;
 pub use self::said::push_said;
 pub(crate) use self::said::{push_bytes, push_more};
-pub(crate) use self::shown::is_control;
-pub use self::shown::{ShownBytes, ShownName};
 pub(crate) use self::types::push_type;
 
 mod forms;
@@ -21,7 +18,6 @@ mod path;
 pub(crate) mod printed;
 mod rules;
 mod said;
-mod shown;
 pub(crate) mod signatures;
 pub(crate) mod tags;
 pub(crate) mod texts;

@@ -28,7 +28,7 @@ ghost use Rattle.hex.specs.Hex.{decode_of};
 
 pub use self::allocator::{Refusing, in_turn, takes_memory, without_request};
 pub use self::checks::{holds, same, same_bytes, same_text};
-pub use self::tables::{each_holds, each_makes, each_reads, each_shows};
+pub use self::tables::{each_makes, each_reads, each_shows};
 use hex::FromHexError;
 use std::alloc::{AllocError, Global};
 use std::test::Fail;

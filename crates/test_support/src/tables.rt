@@ -1,5 +1,5 @@
 use crate::bytes;
-use crate::checks::{holds, same, same_bytes, same_text};
+use crate::checks::{same, same_bytes, same_text};
 use std::alloc::Global;
 use std::fmt::Debug;
 use std::test::Fail;
@@ -19,24 +19,6 @@ where
     for (row, expected) in rows {
         let input = bytes(alloc, row)?;
         same(row, &read(input.as_slice()), expected)?;
-    }
-    Ok(())
-}
-
-/// Checks that a condition holds of the bytes of each row, which has them as hex.
-///
-/// # Errors
-///
-/// A failure that names the first row of whose bytes it doesn't hold; also if a row isn't hex or an
-/// allocation fails.
-pub fn each_holds<F>(alloc: Global, rows: &[&str], is_so: F) -> Result<(), Fail>
-where
-    F: Fn(&[u8]) -> bool,
-    requires { F.IsAlwaysCallable is_so }
-{
-    for row in rows {
-        let input = bytes(alloc, row)?;
-        holds(row, is_so(input.as_slice()))?;
     }
     Ok(())
 }

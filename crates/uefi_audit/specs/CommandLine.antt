@@ -7,7 +7,7 @@ use Rattle.clap.specs.Words.{first_value, matched_of, one_text, raw_values}
 use Rattle.clap.specs.declared.parser.matches.Found.{Found}
 use Rattle.pcr_replay.specs.declared.bank.Bank.{Bank}
 use Rattle.uefi_audits.specs.Naming.{bank_name}
-use Rattle.audit_text.specs.words.Shown.{shown_name_bytes}
+use Rattle.shown.specs.Name.{shown_name_bytes}
 use Rattle.uefi_audit.specs.declared.request.AskedCoverage.{AskedCoverage}
 use Rattle.uefi_audit.specs.declared.request.AskedQuote.{AskedQuote}
 use Rattle.uefi_audit.specs.declared.request.Compared.{Compared}

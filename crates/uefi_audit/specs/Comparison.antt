@@ -7,7 +7,7 @@ use Rattle.uefi_audits.specs.diff.Differences.{AreDifferences, Difference, Parts
 use Rattle.audit_text.specs.ComparedLogs.{Logs}
 use Rattle.audit_text.specs.text.Differences.{difference_lines}
 use Rattle.audit_text.specs.json.Diff.{difference_json_lines}
-use Rattle.audit_text.specs.words.Shown.{shown_name}
+use Rattle.shown.specs.Name.{shown_name}
 use Rattle.uefi_audit.specs.Ends.{worse}
 use Rattle.uefi_audit.specs.Judged.{judged_status, judgement_messages}
 use Rattle.uefi_audit.specs.Printed.{Printed, one_after_other, printed_of}

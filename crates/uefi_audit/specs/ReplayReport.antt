@@ -14,7 +14,7 @@ use Rattle.audit_text.specs.json.Replay.{replay_line}
 use Rattle.audit_text.specs.text.Pcrs.{bank_lines}
 use Rattle.audit_text.specs.text.Remarks.{ignored_line, inactive_line, start_lines, unsupported_line}
 use Rattle.audit_text.specs.text.Undetermined.{undetermined_lines}
-use Rattle.audit_text.specs.words.Shown.{shown_name}
+use Rattle.shown.specs.Name.{shown_name}
 use Rattle.uefi_audit.specs.Ends.{worse}
 use Rattle.uefi_audit.specs.Judged.{judged_status, judgement_messages}
 use Rattle.uefi_audit.specs.Printed.{Printed}

@@ -23,8 +23,8 @@ use crate::starts::Starts;
 use crate::task::{Task, task_report};
 use crate::verification::{StatedPcrs, verify_report};
 use audit_text::json::NotJudged;
-use audit_text::words::ShownName;
 use hex::FromHexError;
+use shown::ShownName;
 use std::io::{self, Write};
 use std::rt::Files;
 use uefi_audits::verify::{

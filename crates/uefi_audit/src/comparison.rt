@@ -1,6 +1,6 @@
 ghost use Rattle.std.specs.Prelude.{◌≡◌, map, string_bytes, IfOk};
 ghost use Rattle.audit_text.specs.ComparedLogs.{logs_of};
-ghost use Rattle.audit_text.specs.words.Shown.{shown_name};
+ghost use Rattle.shown.specs.Name.{shown_name};
 ghost use Rattle.uefi_audit.specs.Comparison.{IsCompared, IsComparison, IsDifferenceReport, compared_parts, compared_status, difference_text, side_printed};
 ghost use Rattle.uefi_audit.specs.Printed.{printed_of};
 ghost use Rattle.uefi_audits.specs.diff.Views.{difference_of, numbers_of, parts_of};
@@ -12,7 +12,7 @@ use crate::request::{Compared, Format, Reading};
 use audit_text::ComparedLogs;
 use audit_text::json::push_differences_json;
 use audit_text::text::push_differences;
-use audit_text::words::ShownName;
+use shown::ShownName;
 use std::alloc::{AllocError, Global};
 use uefi_audits::diff::{ComparedParts, PcrDifference, compared_algorithms, differences};
 use uefi_tcg::AlgorithmId;

@@ -1,9 +1,9 @@
 ghost use Rattle.std.specs.Prelude.{◌≡◌, ◌≢◌, [], IfOk, IfSome, Some, string_bytes};
 ghost use Rattle.uefi_audit.specs.Held.{fault_text, pcr_path};
 
-use audit_text::words::ShownName;
 use file_input::{MAX_READS, ReadError, STANDARD_INPUT, read_file};
 use pcr_replay::{Bank, PCR_COUNT};
+use shown::ShownName;
 use std::alloc::{AllocError, Global};
 use std::io::ErrorKind;
 use std::rt::Files;

@@ -7,7 +7,7 @@ use crate::command_line::matches_of;
 use crate::commands::perform;
 use crate::failure::{Failure, Status, exit_code};
 use crate::request::request_of;
-use audit_text::words::ShownBytes;
+use shown::ShownBytes;
 use std::alloc::{AllocError, Global};
 use std::env::FillError;
 use std::io;

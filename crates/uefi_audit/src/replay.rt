@@ -13,8 +13,8 @@ use audit_text::json::push_replay_json;
 use audit_text::text::{
     push_banks, push_ignored, push_inactive, push_start, push_undetermined, push_unsupported,
 };
-use audit_text::words::ShownName;
 use pcr_replay::Bank;
+use shown::ShownName;
 use std::alloc::{AllocError, Global};
 use uefi_audits::facts::LogFacts;
 use uefi_audits::ignored::IgnoredEvent;

@@ -1,9 +1,5 @@
-pub mod Appending
 pub mod ConfigLines
 pub mod Digits
 pub mod Headers
-pub mod HexBlocks
-pub mod HexNumbers
-pub mod InfoLines
 pub mod Refusals
 pub mod Sending

@@ -1,8 +1,8 @@
 -- The words of the command line that ask for a listing.
-use Rattle.std.specs.Prelude.{◌≡◌, ℕ, ◌^◌, ◌<◌, List, [], ◌∷◌, codes, Option, None, Some}
+use Rattle.std.specs.Prelude.{◌≡◌, ◌⊎◌, ℕ, ◌^◌, ◌<◌, List, [], ◌∷◌, codes, Option, None, Some}
 use Rattle.std.specs.Str.Parse.{IsNumeral, digits_value}
 use Rattle.uefi_listing.specs.declared.command.Command.{Command}
-use Rattle.uefi_listing.specs.declared.command.Command.TheVariants.{Path, PathText, TextPath, LoadOption, Log1, Log2, Log2After, Config, Pci, Time, Map, Info}
+use Rattle.uefi_listing.specs.declared.command.Command.TheVariants.{Path, Log1, Log2, Log2After, Config, Pci, Time, Map, Info}
 
 -- The word is the number in decimal: one or more digits 0 to 9, and at most 2^64 - 1.
 abbrev pub IsDecimal : List ℕ → ℕ → Type 0
@@ -16,9 +16,6 @@ IsLastEntry word (Some n) = IsDecimal word n
 -- The words, after the program's name, ask for the command over the file of this name.
 abbrev pub AskOver : Command → List ℕ → List (List ℕ) → Type 0
 AskOver Path file words = words ≡ codes "path" ∷ file ∷ []
-AskOver PathText file words = words ≡ codes "pathtext" ∷ file ∷ []
-AskOver TextPath file words = words ≡ codes "textpath" ∷ file ∷ []
-AskOver LoadOption file words = words ≡ codes "option" ∷ file ∷ []
 AskOver (Log1 last_entry) file words = (last : List ℕ) × (words ≡ codes "log1" ∷ file ∷ last ∷ []) × IsLastEntry last last_entry
 AskOver (Log2 last_entry) file words = (last : List ℕ) × (words ≡ codes "log2" ∷ file ∷ last ∷ []) × IsLastEntry last last_entry
 AskOver (Log2After last_entry) file words = (last : List ℕ) × (words ≡ codes "log2after" ∷ file ∷ last ∷ []) × IsLastEntry last last_entry
@@ -35,3 +32,7 @@ Asks command words = (file : List ℕ) × AskOver command file words
 -- The words ask for no command.
 abbrev pub AskForNothing : List (List ℕ) → Type 0
 AskForNothing words = (command : Command) → Asks command words → ⊥
+
+-- The name of a command that the program `uefi_boot` has now.
+abbrev pub IsMoved : List ℕ → Type 0
+IsMoved name = (name ≡ codes "option") ⊎ (name ≡ codes "pathtext") ⊎ (name ≡ codes "textpath")

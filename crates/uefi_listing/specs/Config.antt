@@ -11,7 +11,7 @@ use Rattle.uefi_hii.specs.Pairs.{Pair}
 use Rattle.uefi_hii.specs.Configuration.{Configuration, Element}
 use Rattle.uefi_hii.specs.Cut.{Part, AreGroups, pairs_of, results_of, Cut}
 use Rattle.uefi_base.specs.Appending.{AppendsText}
-use Rattle.uefi_listing.specs.HexText.{gap_before, hex_of}
+use Rattle.shown.specs.HexText.{gap_before, hex_of}
 use Rattle.uefi_listing.specs.declared.listing.Outcome.{Outcome}
 use Rattle.uefi_listing.specs.declared.listing.Outcome.TheVariants.{Listed, Refused}
 use Rattle.uefi_hii.specs.declared.error.ConfigHdrSection.TheVariants as section

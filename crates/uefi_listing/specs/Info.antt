@@ -1,23 +1,14 @@
 -- What `info` lists: the file information record in the bytes that were written.
 use Rattle.std.specs.Prelude.{ℕ, List, [], ◌∷◌, ◌++◌, codes, flat_map, ◌≡◌, Option, None, Some, length, take}
 use Rattle.std.specs.Fmt.{decimal}
-use Rattle.std.specs.Int.{w16, to_be_bytes}
 use Rattle.uefi_base.specs.Ucs2.{characters_of}
 use Rattle.uefi_records.specs.time.Fields.{TimeFields, time_bytes}
 use Rattle.uefi_records.specs.file.FileInfo.{FileFields, file_fields, file_info_verdict, size_in}
-use Rattle.uefi_listing.specs.HexText.{hex_of, hex_number}
+use Rattle.shown.specs.HexText.{hex_of, hex_number}
+use Rattle.shown.specs.HexName.{name_field}
 use Rattle.uefi_records.specs.file.Verdict.{Verdict, without_name, too_small, accepted}
 use Rattle.uefi_listing.specs.declared.listing.Outcome.{Outcome}
 use Rattle.uefi_listing.specs.declared.listing.Outcome.TheVariants.{Listed, Refused}
-
--- Four hex digits for each unit, joined.
-abbrev pub units_hex : List ℕ → List ℕ
-units_hex units = hex_of (flat_map (to_be_bytes w16) units)
-
--- A space and the characters of the name in hex; nothing if it has none.
-unfoldable pub name_field : List ℕ → List ℕ
-name_field [] = []
-name_field (unit ∷ units) = codes " " ++ units_hex (unit ∷ units)
 
 -- The sixteen bytes of a time in hex.
 unfoldable pub stamp_text : TimeFields → List ℕ

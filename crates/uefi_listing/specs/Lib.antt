@@ -1,13 +1,9 @@
 pub mod Arguments
-pub mod HexText
 pub mod Path
-pub mod PathText
-pub mod TextPath
 pub mod Map
 pub mod Pci
 pub mod Time
 pub mod Info
-pub mod LoadOption
 pub mod Log1
 pub mod Log2
 pub mod Config

@@ -5,9 +5,6 @@ use Rattle.uefi_listing.specs.declared.command.Command.{Command}
 use Rattle.uefi_listing.specs.declared.command.Command.TheVariants as command
 use Rattle.uefi_listing.specs.declared.listing.Outcome.{Outcome}
 use Rattle.uefi_listing.specs.Path.{PathListing}
-use Rattle.uefi_listing.specs.PathText.{PathTextListing}
-use Rattle.uefi_listing.specs.TextPath.{TextPathListing}
-use Rattle.uefi_listing.specs.LoadOption.{LoadOptionListing}
 use Rattle.uefi_listing.specs.Log1.{Log1Listing}
 use Rattle.uefi_listing.specs.Log2.{Log2Listing}
 use Rattle.uefi_listing.specs.Config.{ConfigListing}
@@ -19,9 +16,6 @@ use Rattle.uefi_listing.specs.Info.{InfoListing}
 -- The text and the outcome are those of the command over the bytes.
 unfoldable pub Listing : Command → List ℕ → List ℕ → Outcome → Type 0
 Listing command.Path bytes text outcome = PathListing bytes text outcome
-Listing command.PathText bytes text outcome = PathTextListing bytes text outcome
-Listing command.TextPath bytes text outcome = TextPathListing bytes text outcome
-Listing command.LoadOption bytes text outcome = LoadOptionListing bytes text outcome
 Listing (command.Log1 last_entry) bytes text outcome = Log1Listing last_entry bytes text outcome
 Listing (command.Log2 last_entry) bytes text outcome = Log2Listing after_header last_entry bytes text outcome
 Listing (command.Log2After last_entry) bytes text outcome = Log2Listing after_event last_entry bytes text outcome

@@ -7,7 +7,7 @@ use Rattle.uefi_tcg.specs.LogInput.{LogInput}
 use Rattle.uefi_tcg.specs.v1.Event.{Event}
 use Rattle.uefi_tcg.specs.v1.Log.{IsLogOf}
 use Rattle.uefi_base.specs.Appending.{AppendsText}
-use Rattle.uefi_listing.specs.HexText.{gap_before, hex_of}
+use Rattle.shown.specs.HexText.{gap_before, hex_of}
 use Rattle.uefi_listing.specs.declared.listing.Outcome.{Outcome}
 use Rattle.uefi_listing.specs.declared.listing.Outcome.TheVariants.{Listed, Refused}
 

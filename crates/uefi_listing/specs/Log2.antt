@@ -10,7 +10,7 @@ use Rattle.uefi_tcg.specs.v2.Header.{Header, Start}
 use Rattle.uefi_tcg.specs.v2.Log.{HasHeaderOf, IsLogOf}
 use Rattle.uefi_tcg.specs.v2.Views.{start_named}
 use Rattle.uefi_base.specs.Appending.{AppendsText}
-use Rattle.uefi_listing.specs.HexText.{gap_before, hex_of}
+use Rattle.shown.specs.HexText.{gap_before, hex_of}
 use Rattle.uefi_listing.specs.declared.listing.Outcome.{Outcome}
 use Rattle.uefi_listing.specs.declared.listing.Outcome.TheVariants.{Listed, Refused}
 

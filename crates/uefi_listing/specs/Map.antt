@@ -3,7 +3,7 @@ use Rattle.std.specs.Prelude.{◌↔◌, ℕ, Bool, List, ◌++◌, length, code
 use Rattle.std.specs.Fmt.{decimal}
 use Rattle.std.specs.declared.string.String.{String}
 use Rattle.uefi_base.specs.Appending.{AppendsText}
-use Rattle.uefi_listing.specs.HexText.{hex_number}
+use Rattle.shown.specs.HexText.{hex_number}
 use Rattle.uefi_map.specs.declared.memory.descriptor.MemoryDescriptor.{MemoryDescriptor}
 use Rattle.uefi_map.specs.declared.memory.meta.MemoryMapMeta.{MemoryMapMeta}
 use Rattle.uefi_map.specs.memory.Map.{AreSorted, entries_of, IsMap}

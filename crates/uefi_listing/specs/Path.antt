@@ -6,7 +6,7 @@ use Rattle.uefi_base.specs.GuidText.{hex_byte}
 use Rattle.uefi_path.specs.Node.{Node, joined}
 use Rattle.uefi_path.specs.Path.{AreInstances, all_but_last, IsPath, HasPath}
 use Rattle.uefi_base.specs.Appending.{AppendsText}
-use Rattle.uefi_listing.specs.HexText.{gap_before, hex_of}
+use Rattle.shown.specs.HexText.{gap_before, hex_of}
 use Rattle.uefi_base.specs.Prefix.{IsPrefix}
 use Rattle.uefi_listing.specs.declared.listing.Outcome.{Outcome}
 use Rattle.uefi_listing.specs.declared.listing.Outcome.TheVariants.{Listed, Refused}

@@ -3,7 +3,7 @@ use Rattle.std.specs.Prelude.{ℕ, List, ◌++◌, length, codes, flat_map, ◌�
 use Rattle.std.specs.Fmt.{decimal}
 use Rattle.uefi_map.specs.declared.pci.resource.QwordAddressSpaceDescriptor.{QwordAddressSpaceDescriptor}
 use Rattle.uefi_map.specs.declared.pci.resource.ResourceRangeType.{ResourceRangeType}
-use Rattle.uefi_listing.specs.HexText.{hex_number}
+use Rattle.shown.specs.HexText.{hex_number}
 use Rattle.uefi_map.specs.declared.pci.resource_error.ResourceError.{ResourceError}
 use Rattle.uefi_map.specs.declared.pci.resource_error.ResourceError.TheVariants.{NoEndTag, CutRecord, UnknownTag}
 use Rattle.uefi_map.specs.declared.pci.resource_error.ResourceError.TheVariants.{Memory}

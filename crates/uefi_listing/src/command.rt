@@ -1,18 +1,12 @@
-ghost use Rattle.std.specs.Prelude.{◌≡◌, ℕ, List, [], ◌∷◌, map, string_bytes, IfSome, IfNone, Option, MatchOption};
+ghost use Rattle.std.specs.Prelude.{◌≡◌, ◌↔◌, ℕ, List, [], ◌∷◌, map, string_bytes, IfSome, IfNone, IsTrue, Option, MatchOption};
 ghost use Rattle.uefi_listing.specs.declared.command.Command.{Command};
-ghost use Rattle.uefi_listing.specs.Arguments.{AskOver, Asks, AskForNothing, IsDecimal, IsLastEntry};
+ghost use Rattle.uefi_listing.specs.Arguments.{AskOver, Asks, AskForNothing, IsDecimal, IsLastEntry, IsMoved};
 
 /// What the program is asked to list.
 #[derive(Clone, Copy, PartialEq, Eq, Debug)]
 pub enum Command {
     /// `path FILE`: the device path that is a prefix of the file.
     Path,
-    /// `pathtext FILE`: the same path as text.
-    PathText,
-    /// `textpath FILE`: the device path whose text is the file, which is one line.
-    TextPath,
-    /// `option FILE`: the load option that the file is.
-    LoadOption,
     /// `log1 FILE LAST`: the file as a version 1 event log, with LAST as its last entry, or without
     /// one if LAST is `-`.
     Log1(Option<usize>),
@@ -62,6 +56,13 @@ pub fn command_and_file(words: &[String]) -> Option<(Command, &str)>
     }
 }
 
+/// Returns whether this is the name of a command that the program had, and `uefi_boot` has now.
+pub fn is_moved(name: &str) -> bool
+    ensures { IsTrue result ↔ IsMoved name.now }
+{
+    matches!(name, "option" | "pathtext" | "textpath")
+}
+
 /// Returns the command of this name that takes no word after FILE, or `None` if there is none.
 fn command_alone(name: &str) -> Option<Command>
     ensures asked { IfSome result
@@ -71,9 +72,6 @@ fn command_alone(name: &str) -> Option<Command>
 {
     match name {
         "path" => Some(Command::Path),
-        "pathtext" => Some(Command::PathText),
-        "textpath" => Some(Command::TextPath),
-        "option" => Some(Command::LoadOption),
         "config" => Some(Command::Config),
         "pci" => Some(Command::Pci),
         "time" => Some(Command::Time),

@@ -7,8 +7,8 @@ ghost use Rattle.uefi_hii.specs.Views.{configuration_of, element_of, nv_pair_of,
 ghost use Rattle.uefi_listing.specs.private.Appending.{AppendsListing};
 ghost use Rattle.uefi_listing.specs.Config.{AppendsConfigLines, ConfigListing, alt_line, configuration_lines, element_line, element_lines, fault_line, header_lines, item_lines, nv_line, section_name};
 
-use crate::hex_text::{Hex, gap_before};
 use crate::listing::Outcome;
+use shown::{Hex, gap_before};
 use std::alloc::{AllocError, Allocator};
 use uefi_hii::{
     ConfigHdrSection, ConfigurationString, ConfigurationStringElement,

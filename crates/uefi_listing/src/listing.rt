@@ -7,14 +7,11 @@ ghost use Rattle.uefi_listing.specs.Listing.{Listing};
 use crate::command::Command;
 use crate::config::push_config_listing;
 use crate::info::push_info_listing;
-use crate::load_option::push_load_option_listing;
 use crate::log1::push_log1_listing;
 use crate::log2::push_log2_listing;
 use crate::map::push_map_listing;
 use crate::path::push_path_listing;
-use crate::path_text::push_path_text_listing;
 use crate::pci::push_pci_listing;
-use crate::text_path::push_text_path_listing;
 use crate::time::push_time_listing;
 use std::alloc::{AllocError, Allocator};
 use uefi_tcg::v2::Start;
@@ -57,9 +54,6 @@ fn push_listing<A: Allocator + Copy>(
 {
     match command {
         Command::Path => push_path_listing(text, bytes),
-        Command::PathText => push_path_text_listing(text, bytes),
-        Command::TextPath => push_text_path_listing(text, alloc, bytes),
-        Command::LoadOption => push_load_option_listing(text, bytes),
         Command::Log1(last) => push_log1_listing(text, bytes, *last),
         Command::Log2(last) => push_log2_listing(text, bytes, *last, Start::AfterHeader),
         Command::Log2After(last) => push_log2_listing(text, bytes, *last, Start::AfterEvent),

@@ -7,8 +7,8 @@ ghost use Rattle.uefi_map.specs.memory.Views.{ref_bytes, ref_meta};
 ghost use Rattle.uefi_listing.specs.private.Appending.{AppendsListing};
 ghost use Rattle.uefi_listing.specs.Map.{entry_line, yes_or_no, file_meta, AppendsMapLines, MapListing};
 
-use crate::hex_text::HexNumber;
 use crate::listing::Outcome;
+use shown::HexNumber;
 use std::alloc::{AllocError, Allocator};
 use uefi_map::{MemoryDescriptor, MemoryMap, MemoryMapMeta, MemoryMapRef};
 

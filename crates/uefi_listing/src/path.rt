@@ -6,8 +6,8 @@ ghost use Rattle.uefi_path.specs.Views.{node_of, instance_nodes, path_nodes};
 ghost use Rattle.uefi_listing.specs.private.Appending.{AppendsListing};
 ghost use Rattle.uefi_listing.specs.Path.{node_line, instance_lines, AppendsPathLines, PathListing};
 
-use crate::hex_text::{Hex, HexByte, gap_before};
 use crate::listing::Outcome;
+use shown::{Hex, HexByte, gap_before};
 use std::alloc::{AllocError, Allocator};
 use uefi_path::{ByteConversionError, DevicePath, DevicePathInstance, DevicePathNode};
 

@@ -6,8 +6,8 @@ ghost use Rattle.uefi_map.specs.pci.Views.{resources_of};
 ghost use Rattle.uefi_listing.specs.private.Appending.{AppendsListing};
 ghost use Rattle.uefi_listing.specs.Pci.{kind_text, resource_line, resource_lines, fault_line, PciListing};
 
-use crate::hex_text::HexNumber;
 use crate::listing::Outcome;
+use shown::HexNumber;
 use std::alloc::{AllocError, Allocator};
 use std::fmt;
 use uefi_map::{QwordAddressSpaceDescriptor, ResourceError, ResourceList, ResourceRangeType};

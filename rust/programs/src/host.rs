@@ -23,6 +23,11 @@ impl rt::Files for HostRuntime {
         Ok(File::open(path)?)
     }
 
+    fn open_dir(&self, path: &str) -> io::Result<system::Names> {
+        system::reserve_path(path)?;
+        Ok(system::Names::open(path)?)
+    }
+
     fn metadata(&self, path: &str) -> io::Result<Metadata> {
         system::reserve_path(path)?;
         Ok(std::fs::metadata(path)?)

@@ -1,8 +1,8 @@
-//! The parts of the programs `uefi_list` and `uefi_audit`, whose `main` functions call [`uefi_list::main`] and
-//! [`uefi_audit::main`]. No interface is promised.
+//! The parts of the programs `uefi_list`, `uefi_boot` and `uefi_audit`, whose `main` functions call [`uefi_list::main`],
+//! [`uefi_boot::main`] and [`uefi_audit::main`]. No interface is promised.
 //!
-//! The modules `audit_text`, `file_input`, `hex`, `sha2`, `uefi_audit`, `uefi_audits`, `uefi_base`,
-//! `uefi_list`, `uefi_listing` are written from source that is proved; they aren't themselves
+//! The modules `audit_text`, `boot_listing`, `file_input`, `hex`, `sha2`, `shown`, `uefi_audit`,
+//! `uefi_audits`, `uefi_base`, `uefi_boot`, `uefi_list`, `uefi_listing` are written from source that is proved; they aren't themselves
 //! proved. The others are by hand: the README says why.
 
 // A loop has the form that its proof is about.
@@ -31,11 +31,14 @@ pub(crate) mod strsim;
 
 // Generated from here on.
 pub mod audit_text;
+pub mod boot_listing;
 pub mod file_input;
+pub mod shown;
 pub mod uefi_audit;
 // A field is read by contracts alone.
 #[allow(dead_code)]
 pub mod uefi_audits;
+pub mod uefi_boot;
 pub mod uefi_list;
 pub mod uefi_listing;
 

@@ -74,16 +74,20 @@ struct Case {
 }
 
 /// The golden cases, with one call of each command or more.
-const CASES: [(&str, &[&str]); 2] = [
+const CASES: [(&str, &[&str]); 3] = [
     ("uefi_audit", &[
         "events-two-logs", "events-text", "bank", "replay-json", "verify-stated-locality", "verify-differs-json",
         "registers-folder", "quote-agrees", "diff", "diff-json", "check", "check-json", "help-all",
         "arguments-unknown-bank", "arguments-no-registers",
     ]),
     ("uefi_list", &[
-        "path-one-record", "pathtext-one-record", "textpath-one-record", "option-one-record", "log1-one-record",
-        "log2-one-record", "log2after-one-record", "config-one-record", "pci-one-record", "time-one-record",
-        "map-one-record", "info-one-record", "other-no-arguments",
+        "path-one-record", "log1-one-record", "log2-one-record", "log2after-one-record", "config-one-record",
+        "pci-one-record", "time-one-record", "map-one-record", "info-one-record", "other-no-arguments",
+    ]),
+    ("uefi_boot", &[
+        "list", "list-refused-options", "list-option-twice", "list-description-with-controls", "list-empty-folder",
+        "list-missing-folder", "list-option-that-is-a-folder", "list-name-not-utf8", "option-one-record", "text-one-record",
+        "path-of-two-instances", "path-unknown-node", "missing-file", "arguments-none",
     ]),
 ];
 
@@ -96,7 +100,12 @@ fn top() -> PathBuf {
 /// tables.
 fn cases_of(program: &'static str, names: &[&str]) -> Vec<Case> {
     let tests = top().join("tests");
-    let tables = tests.join(if program == "uefi_audit" { "audit" } else { "program" }).join("cases");
+    let folder = match program {
+        "uefi_audit" => "audit",
+        "uefi_boot" => "boot",
+        _ => "program",
+    };
+    let tables = tests.join(folder).join("cases");
     let room = Path::new(env!("CARGO_TARGET_TMPDIR")).join("memory").join(program);
     let mut script = Command::new("python3");
     script.arg(tests.join("case_table.py")).args([&tables, &room]).args(names);
@@ -154,7 +163,11 @@ fn run_as(program: &str) -> ExitCode {
     FIRST.store(if first == 0 { usize::MAX } else { first }, Relaxed);
     LAST.store(if refused.ends_with("..") { usize::MAX } else { first }, Relaxed);
     COUNTS.store(true, Relaxed);
-    let end = if program == "uefi_audit" { uefi_tools::uefi_audit::main() } else { uefi_tools::uefi_list::main() };
+    let end = match program {
+        "uefi_audit" => uefi_tools::uefi_audit::main(),
+        "uefi_boot" => uefi_tools::uefi_boot::main(),
+        _ => uefi_tools::uefi_list::main(),
+    };
     COUNTS.store(false, Relaxed);
     if first == 0 {
         eprintln!("requests: {}", COUNT.load(Relaxed));

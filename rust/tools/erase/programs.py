@@ -12,7 +12,7 @@ HANDLES = {'Eprint', 'Input', 'Print'}
 PROGRAMS = [Rule(before, after) for before, after in [
     # The handle of the host, whose allocator goes.
     ('fn main(rt: HostRuntime) -> ExitCode {', 'pub fn main() -> ExitCode { \n    let rt = host::HostRuntime;'),
-    ('+ AllocGlobal', ''), ('use std::{$a, $b};', 'use std::$a;\nuse std::$b;'),
+    ('+ AllocGlobal', ''), ('DirEntry<R>', 'DirEntry'), ('use std::{$a, $b};', 'use std::$a;\nuse std::$b;'),
     ('eprintln!(rt; $next', 'fallible_eprintln!(rt, $next'), ('eprint!(rt; $next', 'fallible_eprint!(rt, $next'),
     *((f'format!(in {alloc}; $next', 'fallible_format!($next') for alloc in ('alloc', 'rt.alloc()')), ('json!(in alloc; $next', 'json!($next'),
     ('vec![in alloc; $$items]', 'fallible_vec![$$items]'), ('unsafe { String::from_utf8_unchecked($$bytes) }', 'String::from_utf8($$bytes).expect("UTF-8")'),

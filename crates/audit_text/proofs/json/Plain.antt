@@ -5,7 +5,7 @@ use Rattle.std.specs.List.{flat_map, list_any}
 use Rattle.std.specs.Str.{chars}
 use Rattle.std.proofs.lemmas.Str.{encodes-chars}
 use Rattle.audit_text.specs.json.Line.{escaped, line_character, unicode_escape}
-use Rattle.audit_text.specs.words.Shown.{is_control}
+use Rattle.shown.specs.Name.{is_control}
 
 neither : (a b : Bool) → (a || b) ≡ false → (a ≡ false) × (b ≡ false)
 neither false b none = (refl, none)

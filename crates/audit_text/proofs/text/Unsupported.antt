@@ -3,7 +3,7 @@ use Rattle.std.proofs.Common.{◌≡◌, ℕ, List, [], ◌∷◌, ◌++◌, len
 use Rattle.std.specs.Prelude.{codes, flat_map}
 use Rattle.audit_text.specs.text.Remarks.{unsupported_line}
 use Rattle.audit_text.specs.words.Numbers.{hex_text}
-use Rattle.audit_text.specs.words.Shown.{shown_name}
+use Rattle.shown.specs.Name.{shown_name}
 
 -- Without any nothing is appended.
 pub none_unsupported : (name algorithms old : List ℕ) → length algorithms ≡ 0 → old ≡ old ++ unsupported_line name algorithms

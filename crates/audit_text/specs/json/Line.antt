@@ -4,7 +4,7 @@ use Rattle.std.specs.Str.{chars}
 use Rattle.serde_json.specs.Data.{Data}
 use Rattle.serde_json.specs.Written.{compact_text}
 use Rattle.uefi_base.specs.GuidText.{hex_byte}
-use Rattle.audit_text.specs.words.Shown.{is_control}
+use Rattle.shown.specs.Name.{is_control}
 
 -- `\u` and four hex digits (RFC 8259, 7). All controls are below 65536.
 abbrev pub unicode_escape : ℕ → List ℕ

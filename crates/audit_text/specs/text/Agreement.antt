@@ -4,7 +4,7 @@ use Rattle.std.specs.Fmt.{decimal}
 use Rattle.uefi_audits.specs.Naming.{bank_name}
 use Rattle.uefi_audits.specs.declared.verify.named.NamedPcr.{NamedPcr}
 use Rattle.uefi_audits.specs.verify.Banks.{is_same_bank}
-use Rattle.audit_text.specs.words.Shown.{shown_name}
+use Rattle.shown.specs.Name.{shown_name}
 
 -- Whether a PCR is the next one of the bank of the one before it.
 unfoldable pub is_next : Option NamedPcr → NamedPcr → Bool

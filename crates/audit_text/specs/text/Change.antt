@@ -14,7 +14,7 @@ use Rattle.audit_text.specs.text.ChangeParts.{byte_change, joined, line_change, 
 use Rattle.audit_text.specs.text.EventContents.{content_lines}
 use Rattle.audit_text.specs.text.EventParts.{algorithm_text}
 use Rattle.audit_text.specs.words.Printed.{printed_text}
-use Rattle.audit_text.specs.words.Shown.{shown_name}
+use Rattle.shown.specs.Name.{shown_name}
 use Rattle.audit_text.specs.words.Texts.{shown_event, shown_version}
 
 -- An event of a log, and its data.

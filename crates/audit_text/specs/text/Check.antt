@@ -7,7 +7,7 @@ use Rattle.uefi_audits.specs.declared.check.counts.TypeCounts.{TypeCounts}
 use Rattle.uefi_audits.specs.declared.check.form.Form.{Form}
 use Rattle.audit_text.specs.text.OutOfPlace.{remark_lines}
 use Rattle.audit_text.specs.words.Forms.{form_name}
-use Rattle.audit_text.specs.words.Shown.{shown_name}
+use Rattle.shown.specs.Name.{shown_name}
 use Rattle.audit_text.specs.words.Types.{type_text}
 
 -- The line of an event that matches in none of the forms of its type.

@@ -19,7 +19,7 @@ use Rattle.uefi_audits.specs.content.Content.{Content, unread, text, separator, 
 use Rattle.uefi_audits.specs.content.Value as values
 use Rattle.audit_text.specs.text.EventParts.{algorithm_text, bytes_lines}
 use Rattle.audit_text.specs.words.Path.{path_text}
-use Rattle.audit_text.specs.words.Shown.{shown_name}
+use Rattle.shown.specs.Name.{shown_name}
 use Rattle.audit_text.specs.words.Signatures.{longest_hash, signature_type_name}
 use Rattle.audit_text.specs.words.Tags.{tag_text}
 use Rattle.audit_text.specs.words.Texts.{before_nul, shown_event, shown_version, unit_text}

@@ -3,7 +3,7 @@ use Rattle.std.specs.Prelude.{ℕ, ◌-◌, ◌/◌, zero, suc, List, [], ◌∷
 use Rattle.hex.specs.Hex.{encode_lower}
 use Rattle.audit_text.specs.words.Names.{algorithm_name}
 use Rattle.audit_text.specs.words.Printed.{printed_text}
-use Rattle.audit_text.specs.words.Shown.{shown_name}
+use Rattle.shown.specs.Name.{shown_name}
 use Rattle.audit_text.specs.words.Types.{name_or_number}
 
 -- The name of an algorithm, or its number in hex.

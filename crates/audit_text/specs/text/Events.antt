@@ -9,7 +9,7 @@ use Rattle.uefi_tcg.specs.Entries.{Entry}
 use Rattle.audit_text.specs.text.EventContents.{content_lines, header_lines}
 use Rattle.audit_text.specs.text.EventParts.{algorithm_text}
 use Rattle.audit_text.specs.words.Events.{AreShown}
-use Rattle.audit_text.specs.words.Shown.{shown_name}
+use Rattle.shown.specs.Name.{shown_name}
 use Rattle.audit_text.specs.words.Types.{type_text}
 use Rattle.uefi_audits.specs.content.Content.{Content, Says, form_of}
 

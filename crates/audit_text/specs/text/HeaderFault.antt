@@ -3,7 +3,7 @@ use Rattle.std.specs.Prelude.{ℕ, List, [], ◌++◌, codes, Option, None, Some
 use Rattle.std.specs.Fmt.{decimal}
 use Rattle.uefi_audits.specs.declared.header_fault.HeaderFault.{HeaderFault}
 use Rattle.uefi_audits.specs.declared.header_fault.HeaderFault.TheVariants.{Pcr, Digest}
-use Rattle.audit_text.specs.words.Shown.{shown_name}
+use Rattle.shown.specs.Name.{shown_name}
 
 -- The line says what isn't as a header's.
 unfoldable pub fault_line : List ℕ → HeaderFault → List ℕ

@@ -6,7 +6,7 @@ use Rattle.uefi_audits.specs.declared.judgement.Judgement.TheVariants.{Accepted,
 use Rattle.uefi_audits.specs.Trailing.{is_of_empty_log}
 use Rattle.uefi_audits.specs.declared.trailing.Trailing.{Trailing}
 use Rattle.audit_text.specs.text.Trailing.{trailing_lines}
-use Rattle.audit_text.specs.words.Shown.{shown_name}
+use Rattle.shown.specs.Name.{shown_name}
 
 -- The line of a log with many algorithms, by how many it has and how many are read.
 unfoldable pub many_line : List ℕ → ℕ → ℕ → List ℕ

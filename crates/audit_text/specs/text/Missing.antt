@@ -3,7 +3,7 @@ use Rattle.std.specs.Prelude.{ℕ, List, ◌++◌, codes, flat_map}
 use Rattle.std.specs.Fmt.{decimal}
 use Rattle.uefi_audits.specs.Naming.{bank_name}
 use Rattle.uefi_audits.specs.declared.verify.named.NamedPcr.{NamedPcr}
-use Rattle.audit_text.specs.words.Shown.{shown_name}
+use Rattle.shown.specs.Name.{shown_name}
 
 -- The line of one, by the name of the file that states the PCRs; and those of all.
 unfoldable pub missing_line : List ℕ → NamedPcr → List ℕ

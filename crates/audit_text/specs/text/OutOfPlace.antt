@@ -4,7 +4,7 @@ use Rattle.std.specs.Fmt.{decimal}
 use Rattle.uefi_audits.specs.OutOfPlace.{Misplaced, Remarked}
 use Rattle.audit_text.specs.text.Remarks.{other_pcrs}
 use Rattle.audit_text.specs.words.Rules.{rule_name}
-use Rattle.audit_text.specs.words.Shown.{shown_name}
+use Rattle.shown.specs.Name.{shown_name}
 use Rattle.audit_text.specs.words.Types.{type_text}
 
 -- The line of an event that is out of place.

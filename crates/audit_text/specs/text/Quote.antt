@@ -15,7 +15,7 @@ use Rattle.uefi_audits.specs.verify.Quote.{QuoteJudgement, Received, is_met}
 use Rattle.audit_text.specs.text.Agreement.{agree_line, ranges_after}
 use Rattle.audit_text.specs.text.Remarks.{inactive_line, unsupported_line}
 use Rattle.audit_text.specs.text.Undetermined.{undetermined_line}
-use Rattle.audit_text.specs.words.Shown.{shown_name}
+use Rattle.shown.specs.Name.{shown_name}
 
 -- A nonce in hex.
 unfoldable pub nonce_text : List ℕ → List ℕ

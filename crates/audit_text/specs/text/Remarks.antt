@@ -8,7 +8,7 @@ use Rattle.uefi_audits.specs.Naming.{bank_name}
 use Rattle.uefi_audits.specs.declared.ignored.IgnoredEvent.{IgnoredEvent}
 use Rattle.uefi_audits.specs.declared.start.KnownStart.{KnownStart}
 use Rattle.audit_text.specs.words.Numbers.{hex_text}
-use Rattle.audit_text.specs.words.Shown.{shown_name}
+use Rattle.shown.specs.Name.{shown_name}
 
 -- The locality at which PCR 0 starts, if none is stated.
 unfoldable pub start_lines : List ℕ → KnownStart → List ℕ

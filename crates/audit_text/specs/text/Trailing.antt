@@ -2,7 +2,7 @@
 use Rattle.std.specs.Prelude.{ℕ, ◌==◌, List, [], ◌++◌, codes, if◌then◌else◌}
 use Rattle.std.specs.Fmt.{decimal}
 use Rattle.uefi_audits.specs.declared.trailing.Trailing.{Trailing}
-use Rattle.audit_text.specs.words.Shown.{shown_name}
+use Rattle.shown.specs.Name.{shown_name}
 
 -- How many bytes are padding, and where they begin.
 unfoldable pub padding_line : List ℕ → ℕ → ℕ → List ℕ

@@ -8,7 +8,7 @@ use Rattle.pcr_replay.specs.BankReplays.{BankOutcomes}
 use Rattle.pcr_replay.specs.Texts.{undetermined_text as event_text}
 use Rattle.uefi_audits.specs.Naming.{bank_name}
 use Rattle.uefi_audits.specs.Numbered.{numbered}
-use Rattle.audit_text.specs.words.Shown.{shown_name}
+use Rattle.shown.specs.Name.{shown_name}
 
 -- The file's name, the bank, the PCR, and the first event by which it is undetermined.
 unfoldable pub undetermined_line : List ℕ → Bank → ℕ → Undetermined → List ℕ

@@ -9,7 +9,7 @@ use Rattle.pcr_replay.specs.Texts.{undetermined_text as event_text}
 use Rattle.pcr_replay.specs.Views.{value_of}
 use Rattle.uefi_audits.specs.Naming.{bank_name}
 use Rattle.audit_text.specs.text.Agreement.{agree_line}
-use Rattle.audit_text.specs.words.Shown.{shown_name}
+use Rattle.shown.specs.Name.{shown_name}
 use Rattle.uefi_audits.specs.declared.verify.held.HeldPcr.{HeldPcr}
 use Rattle.uefi_audits.specs.verify.Named.{name_of}
 use Rattle.uefi_audits.specs.verify.Verdict.{Comparison, agrees, is_agreement, led_to}

@@ -14,7 +14,7 @@ use Rattle.tcg_event.specs.Text.{EventText, utf8, utf16}
 use Rattle.uefi_audits.specs.content.Content.{Content, unread, text, separator, locality, header, loader_text, crtm_version, blob, described_blob, tagged, gpt, variable, image}
 use Rattle.audit_text.specs.words.Path.{path_text}
 use Rattle.audit_text.specs.words.Texts.{unit_text}
-use Rattle.audit_text.specs.words.Shown.{shown_name, shown_name_bytes}
+use Rattle.shown.specs.Name.{shown_name, shown_name_bytes}
 use Rattle.audit_text.specs.words.Tags.{tag_text}
 
 -- The most characters of a text or of a name that are shown.

@@ -5,7 +5,7 @@ use Rattle.uefi_base.specs.GuidText.{guid_text}
 use Rattle.tcg_event.specs.CrtmVersion.{CrtmVersion, ucs2, guid, other}
 use Rattle.tcg_event.specs.Text as texts
 use Rattle.tcg_event.specs.Text.{EventText, utf8, utf16}
-use Rattle.audit_text.specs.words.Shown.{shown_name, shown_name_bytes}
+use Rattle.shown.specs.Name.{shown_name, shown_name_bytes}
 
 -- The character of a unit: U+FFFD for a surrogate.
 abbrev pub unit_text : ℕ → List ℕ

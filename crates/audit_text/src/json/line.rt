@@ -5,10 +5,10 @@ ghost use Rattle.serde_json.specs.View.{view};
 ghost use Rattle.serde_json.specs.Written.{has_float};
 ghost use Rattle.uefi_base.specs.Appending.{AppendsText};
 ghost use Rattle.audit_text.specs.json.Line.{escaped, line_character, line_of, unicode_escape};
-ghost use Rattle.audit_text.specs.words.Shown.{is_control};
+ghost use Rattle.shown.specs.Name.{is_control};
 
-use crate::words::is_control;
 use serde_json::Value;
+use shown::is_control;
 use std::alloc::{AllocError, Global};
 
 /// Returns the text of a value on one line, without spaces and without a line's end: each control
@@ -21,11 +21,18 @@ pub(crate) fn line_of(alloc: Global, value: &Value) -> Result<String, AllocError
     escaped(alloc, text)
 }
 
+/// Returns whether a character is escaped.
+fn is_escaped(character: char) -> bool
+    ensures { result ≡ is_control character }
+{
+    is_control(character)
+}
+
 /// Returns whether a text has a control character.
 fn has_control(text: &str) -> bool
     ensures { result ≡ list_any is_control (chars text.now) }
 {
-    text.chars().any(is_control)
+    text.chars().any(is_escaped)
 }
 
 /// Returns a text of JSON, in which controls are in strings alone, with these escaped.

@@ -3,7 +3,7 @@ ghost use Rattle.std.specs.Option.{option_map};
 ghost use Rattle.uefi_base.specs.Appending.{AppendsText};
 ghost use Rattle.audit_text.specs.text.Agreement.{agree_line, goes_on, is_next, opening, pcr_text, ranges_after};
 
-use crate::words::ShownName;
+use shown::ShownName;
 use std::alloc::{AllocError, Allocator};
 use uefi_audits::naming::bank_name;
 use uefi_audits::verify::NamedPcr;

@@ -8,7 +8,8 @@ ghost use Rattle.audit_text.specs.text.Check.{check_text, counts_line, form_text
 ghost use Rattle.audit_text.specs.private.Forms.{AppendsNext};
 
 use super::out_of_place::push_remarks;
-use crate::words::{ShownName, form_name, push_type};
+use crate::words::{form_name, push_type};
+use shown::ShownName;
 use std::alloc::{AllocError, Allocator};
 use uefi_audits::check::{CheckResult, Form, Mismatch, TypeCounts};
 

@@ -2,8 +2,8 @@ ghost use Rattle.std.specs.Prelude.{flat_map, OnOk};
 ghost use Rattle.uefi_base.specs.Appending.{AppendsText};
 ghost use Rattle.audit_text.specs.text.Remarks.{ignored_line, ignored_text};
 
-use crate::words::ShownName;
 use pcr_replay::Ignored;
+use shown::ShownName;
 use std::alloc::{AllocError, Allocator};
 use uefi_audits::ignored::IgnoredEvent;
 

@@ -3,7 +3,7 @@ ghost use Rattle.uefi_base.specs.Appending.{AppendsText};
 ghost use Rattle.audit_text.specs.text.Judgement.{judgement_lines, many_line, nothing_line};
 
 use crate::text::trailing::push_trailing;
-use crate::words::ShownName;
+use shown::ShownName;
 use std::alloc::{AllocError, Allocator};
 use uefi_audits::judgement::Judgement;
 use uefi_audits::trailing::Trailing;

@@ -6,7 +6,8 @@ ghost use Rattle.uefi_audits.specs.OutOfPlace.{misplaced_of, remarks_of};
 ghost use Rattle.audit_text.specs.text.OutOfPlace.{misplaced_line, remark_lines, unseparated_from, unseparated_line};
 
 use super::uncompared::push_others;
-use crate::words::{ShownName, push_type, rule_name};
+use crate::words::{push_type, rule_name};
+use shown::ShownName;
 use std::alloc::{AllocError, Allocator};
 use uefi_audits::out_of_place::{OutOfPlace, Remarks};
 

@@ -8,8 +8,8 @@ ghost use Rattle.audit_text.specs.text.Quote.{by_digest, clock_text, differ_line
 use crate::text::agreement::{push_agreement, push_ranges};
 use crate::text::undetermined::push_line;
 use crate::text::unreplayed::{push_inactive, push_unsupported};
-use crate::words::ShownName;
 use pcr_replay::{NoQuoteDigest, Undetermined};
+use shown::ShownName;
 use std::alloc::{AllocError, Allocator};
 use tpm_quote::ClockInfo;
 use uefi_audits::naming::{bank_name, bank_of};

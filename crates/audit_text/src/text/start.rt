@@ -2,7 +2,7 @@ ghost use Rattle.std.specs.Prelude.{OnOk};
 ghost use Rattle.uefi_base.specs.Appending.{AppendsText};
 ghost use Rattle.audit_text.specs.text.Remarks.{start_lines};
 
-use crate::words::ShownName;
+use shown::ShownName;
 use std::alloc::{AllocError, Allocator};
 use uefi_audits::start::KnownStart;
 

@@ -2,7 +2,7 @@ ghost use Rattle.std.specs.Prelude.{OnOk};
 ghost use Rattle.uefi_base.specs.Appending.{AppendsText};
 ghost use Rattle.audit_text.specs.text.Trailing.{left_over_line, left_over_lines, padding_line, padding_lines, trailing_lines};
 
-use crate::words::ShownName;
+use shown::ShownName;
 use std::alloc::{AllocError, Allocator};
 use uefi_audits::trailing::Trailing;
 

@@ -2,7 +2,7 @@ ghost use Rattle.std.specs.Prelude.{OnOk};
 ghost use Rattle.uefi_base.specs.Appending.{AppendsText};
 ghost use Rattle.audit_text.specs.text.Remarks.{other_pcrs, uncompared_from, uncompared_line};
 
-use crate::words::ShownName;
+use shown::ShownName;
 use std::alloc::{AllocError, Allocator};
 
 /// Appends which PCRs events extend that weren't compared, if there are any.

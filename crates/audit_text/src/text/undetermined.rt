@@ -5,8 +5,8 @@ ghost use Rattle.pcr_replay.specs.BankReplays.{bank_outcomes_of};
 ghost use Rattle.uefi_audits.specs.Numbered.{numbered};
 ghost use Rattle.audit_text.specs.text.Undetermined.{undetermined_line, undetermined_lines, undetermined_text};
 
-use crate::words::ShownName;
 use pcr_replay::{Bank, BankPcrs, PcrValue, Pcrs, Undetermined};
+use shown::ShownName;
 use std::alloc::{AllocError, Allocator};
 use uefi_audits::naming::bank_name;
 

@@ -3,8 +3,9 @@ ghost use Rattle.uefi_base.specs.Appending.{AppendsText};
 ghost use Rattle.audit_text.specs.words.Numbers.{hex_text};
 ghost use Rattle.audit_text.specs.text.Remarks.{inactive_line, unsupported_line};
 
-use crate::words::{ShownName, push_number};
+use crate::words::push_number;
 use pcr_replay::Bank;
+use shown::ShownName;
 use std::alloc::{AllocError, Allocator};
 use uefi_audits::naming::bank_name;
 

@@ -6,8 +6,8 @@ ghost use Rattle.audit_text.specs.text.Verdict.{held_text, line_of, outcome_text
 ghost use Rattle.uefi_audits.specs.verify.Verdict.{comparison_of};
 
 use crate::text::agreement::push_agreement;
-use crate::words::ShownName;
 use pcr_replay::{PcrValue, Undetermined};
+use shown::ShownName;
 use std::alloc::{AllocError, Allocator};
 use uefi_audits::naming::bank_name;
 use uefi_audits::verify::{HeldPcr, Verdict, agrees, led_to, named_pcrs};

@@ -8,11 +8,12 @@ ghost use Rattle.uefi_path.specs.Views.{path_nodes};
 ghost use Rattle.tcg_event.specs.Views.{blob_of, image_of, text_of, variable_of, version_of};
 ghost use Rattle.audit_text.specs.words.Said.{blob_text, event_words, image_text, more, path_words, said, shown_bytes, shown_hex, shown_one, shown_text, shown_units, tagged_words, version_words};
 ghost use Rattle.uefi_audits.specs.content.Views.{content_of};
-ghost use Rattle.audit_text.specs.words.Shown.{shown_name};
+ghost use Rattle.shown.specs.Name.{shown_name};
 
+use crate::words::path_text;
 use crate::words::tags::push_tag;
 use crate::words::texts::name_text;
-use crate::words::{ShownBytes, ShownName, path_text};
+use shown::{ShownBytes, ShownName};
 use std::alloc::{AllocError, Global};
 use tcg_event::{CrtmVersion, EventText, ImageLoadEvent, PlatformFirmwareBlob, VariableData};
 use uefi_audits::content::{EventContent, TaggedData};

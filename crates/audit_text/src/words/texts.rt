@@ -3,10 +3,10 @@ ghost use Rattle.std.specs.List.{flat_map};
 ghost use Rattle.uefi_base.specs.Views.{slice_units};
 ghost use Rattle.uefi_path.specs.LoadOptionViews.{load_option_of};
 ghost use Rattle.tcg_event.specs.Views.{text_of, version_of};
-ghost use Rattle.audit_text.specs.words.Shown.{shown_name, shown_name_bytes};
+ghost use Rattle.shown.specs.Name.{shown_name, shown_name_bytes};
 ghost use Rattle.audit_text.specs.words.Texts.{before_nul, event_text, shown_event, shown_version, unit_text, version_text};
 
-use crate::words::{ShownBytes, ShownName};
+use shown::{ShownBytes, ShownName};
 use std::alloc::{AllocError, Global};
 use tcg_event::{CrtmVersion, EventText};
 use uefi_base::UnalignedSlice;

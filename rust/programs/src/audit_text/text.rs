@@ -17,7 +17,7 @@
 //! have, [`push_uncompared`] the PCRs that events extend and that weren't compared, and
 //! [`push_missing`] those that are asked for and not stated, and [`push_no_digest`] and
 //! [`push_no_pcr`] why a log can't be compared with a quote. Each line begins with the file's name, as
-//! [`ShownName`](crate::audit_text::words::ShownName) displays it.
+//! [`ShownName`](crate::shown::ShownName) displays it.
 
 pub use self::banks::{push_bank, push_banks};
 pub use self::check::push_check;

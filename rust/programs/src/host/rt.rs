@@ -2,12 +2,16 @@
 
 use super::env::FillError;
 use super::io::{Result, Stream};
+use super::system::Names;
 use std::fs::{File, Metadata};
 
-/// Files are opened.
+/// Files and folders are opened.
 pub trait Files {
     /// Opens the file at a path, to be read.
     fn open(&self, path: &str) -> Result<File>;
+
+    /// Opens the folder at a path, of which the names are read.
+    fn open_dir(&self, path: &str) -> Result<Names>;
 
     /// Returns what is known of the file or folder at a path.
     fn metadata(&self, path: &str) -> Result<Metadata>;

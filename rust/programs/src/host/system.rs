@@ -1,5 +1,5 @@
 //! What the operating system gives a process. On Linux with the library of GNU nothing here allocates, but for a path of
-//! 384 bytes or more; elsewhere Rust's own calls take arguments and messages, and end the program if that fails.
+//! 384 bytes or more; elsewhere Rust's own calls take arguments, messages and names in a folder, and end the program if that fails.
 
 use super::io::{Error, ErrorKind};
 use std::fs::File;
@@ -7,9 +7,13 @@ use std::fs::File;
 #[cfg(all(target_os = "linux", target_env = "gnu"))]
 mod gnu;
 #[cfg(all(target_os = "linux", target_env = "gnu"))]
+pub use gnu::Names;
+#[cfg(all(target_os = "linux", target_env = "gnu"))]
 pub(super) use gnu::{argument, write_message};
 #[cfg(not(all(target_os = "linux", target_env = "gnu")))]
 mod other;
+#[cfg(not(all(target_os = "linux", target_env = "gnu")))]
+pub use other::Names;
 #[cfg(not(all(target_os = "linux", target_env = "gnu")))]
 pub(super) use other::{argument, write_message};
 

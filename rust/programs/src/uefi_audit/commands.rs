@@ -16,8 +16,8 @@ use crate::uefi_audit::starts::Starts;
 use crate::uefi_audit::task::{Task, task_report};
 use crate::uefi_audit::verification::{StatedPcrs, verify_report};
 use crate::audit_text::json::NotJudged;
-use crate::audit_text::words::ShownName;
 use crate::hex::FromHexError;
+use crate::shown::ShownName;
 use crate::host::io::{self, Write};
 use crate::host::rt::Files;
 use crate::uefi_audits::verify::{

@@ -9,7 +9,7 @@ use crate::uefi_audit::request::{Compared, Format, Reading};
 use crate::audit_text::ComparedLogs;
 use crate::audit_text::json::push_differences_json;
 use crate::audit_text::text::push_differences;
-use crate::audit_text::words::ShownName;
+use crate::shown::ShownName;
 use crate::support::alloc::AllocError;
 use crate::uefi_audits::diff::{ComparedParts, PcrDifference, compared_algorithms, differences};
 use uefi_formats::proto::tcg::AlgorithmId;

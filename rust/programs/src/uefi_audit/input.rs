@@ -3,9 +3,9 @@
 use crate::host::rt::{Eprint, Input};
 use crate::support::fallible::*;
 
-use crate::audit_text::words::ShownName;
 use crate::file_input::{MAX_READS, ReadError, STANDARD_INPUT, read_file};
 use uefi_formats::pcr::{Bank, PCR_COUNT};
+use crate::shown::ShownName;
 use crate::support::alloc::AllocError;
 use crate::host::io::ErrorKind;
 use crate::host::rt::Files;

@@ -7,7 +7,7 @@ use crate::uefi_audit::command_line::matches_of;
 use crate::uefi_audit::commands::perform;
 use crate::uefi_audit::failure::{Failure, Status, exit_code};
 use crate::uefi_audit::request::request_of;
-use crate::audit_text::words::ShownBytes;
+use crate::shown::ShownBytes;
 use crate::support::alloc::AllocError;
 use crate::host::env::FillError;
 use std::process::ExitCode;

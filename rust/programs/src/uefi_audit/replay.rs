@@ -8,8 +8,8 @@ use crate::audit_text::json::push_replay_json;
 use crate::audit_text::text::{
     push_banks, push_ignored, push_inactive, push_start, push_undetermined, push_unsupported,
 };
-use crate::audit_text::words::ShownName;
 use uefi_formats::pcr::Bank;
+use crate::shown::ShownName;
 use crate::support::alloc::AllocError;
 use crate::uefi_audits::facts::LogFacts;
 use crate::uefi_audits::ignored::IgnoredEvent;

@@ -8,7 +8,7 @@ use std::process::ExitCode;
 use crate::host::rt::{Env, Files};
 use crate::host::env;
 use crate::host::io;
-use crate::uefi_listing::command::command_and_file;
+use crate::uefi_listing::command::{command_and_file, is_moved};
 use crate::uefi_listing::listing::Outcome;
 use crate::uefi_listing::run::{RunError, run};
 
@@ -17,6 +17,8 @@ use crate::uefi_listing::run::{RunError, run};
 enum Failure {
     /// The words ask for no listing.
     OtherWords,
+    /// The words ask for a command that the program `uefi_boot` has now.
+    Moved,
     /// The file wasn't read, whatever the cause.
     File,
     /// A write failed or accepted no bytes.
@@ -29,7 +31,7 @@ impl Failure {
     /// Returns the exit status.
     fn status(self) -> u8 {
         match self {
-            Failure::OtherWords => 2,
+            Failure::OtherWords | Failure::Moved => 2,
             Failure::File | Failure::Output | Failure::Memory => 3,
         }
     }
@@ -38,6 +40,9 @@ impl Failure {
     fn message(self) -> &'static str {
         match self {
             Failure::OtherWords => "usage: uefi_list COMMAND FILE [ARG]",
+            Failure::Moved => {
+                "uefi_list: option, pathtext and textpath are option, text and path of uefi_boot"
+            }
             Failure::File => "uefi_list: file",
             Failure::Output => "uefi_list: output",
             Failure::Memory => "uefi_list: memory",
@@ -72,11 +77,19 @@ fn read_words<R: Env>(rt: &R) -> Result<Vec<String>, Failure> {
     }
 }
 
+/// Returns why words that ask for no listing do so.
+fn other_words(words: &[String]) -> Failure {
+    match words {
+        [name, _] if is_moved(name.as_str()) => Failure::Moved,
+        _ => Failure::OtherWords,
+    }
+}
+
 /// Judges the words, reads the file, and prints its listing.
 fn print_listing<R: Files + Env + Input + Print>(rt: &R) -> Result<Outcome, Failure> {
     let words = read_words(rt)?;
     let Some((command, file)) = command_and_file(words.as_slice()) else {
-        return Err(Failure::OtherWords);
+        return Err(other_words(words.as_slice()));
     };
     let bytes = read_file(rt, file, MAX_READS)?;
     let outcome = run(&command, bytes.as_slice(), &mut io::writer(rt))?;

@@ -4,8 +4,8 @@
 
 use crate::support::fallible::*;
 
-use crate::uefi_listing::hex_text::{Hex, gap_before};
 use crate::uefi_listing::listing::Outcome;
+use crate::shown::{Hex, gap_before};
 use crate::support::alloc::AllocError;
 use uefi_formats::proto::hii::config_str::{
     ConfigHdrSection, ConfigurationString, ConfigurationStringElement,

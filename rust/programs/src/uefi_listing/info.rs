@@ -2,19 +2,13 @@
 
 //! What `info` lists of bytes, and what it refuses.
 
-use crate::uefi_listing::hex_text::{Hex, HexNumber, write_hex};
 use crate::uefi_listing::listing::Outcome;
+use crate::shown::{Hex, HexName, HexNumber};
 use crate::support::alloc::AllocError;
 use core::fmt;
-use uefi_formats::{Error, UnalignedSlice};
+use uefi_formats::Error;
 use uefi_formats::proto::media::file::FileInfo;
 use uefi_formats::runtime::Time;
-
-/// How many units of a name are written at a time.
-const BLOCK_UNITS: usize = 32;
-
-/// How many bytes these units have.
-const BLOCK_BYTES: usize = 64;
 
 /// Appends the lines of a file information record: `size`, `file` and `physical` with sizes in
 /// bytes in decimal; `created`, `accessed` and `modified` with the sixteen bytes of a time in hex;
@@ -29,7 +23,7 @@ pub fn push_info(text: &mut String, info: &FileInfo<'_>) -> Result<(), AllocErro
     let (created, accessed) = (Stamp(info.create_time()), Stamp(info.last_access_time()));
     let modified = Stamp(info.modification_time());
     let attribute = HexNumber(info.attribute().bits());
-    let name = Name(info.file_name());
+    let name = HexName(info.file_name());
     fallible_writeln!(text,
         "size {size}\nfile {file}\nphysical {physical}\n\
          created {created}\naccessed {accessed}\nmodified {modified}\n\
@@ -46,49 +40,6 @@ impl fmt::Display for Stamp {
         let bytes = self.0.to_bytes();
         let bytes = Hex(&bytes);
         write!(f, "{bytes}")
-    }
-}
-
-/// A name with its NUL, displayed as a space and its characters, four hex digits each; as nothing
-/// if it has none.
-#[derive(Clone, Copy, Debug)]
-pub(crate) struct Name<'a>(pub(crate) UnalignedSlice<'a>);
-
-impl fmt::Display for Name<'_> {
-    fn fmt(&self, f: &mut fmt::Formatter<'_>) -> fmt::Result {
-        let count = self.0.len().saturating_sub(1);
-        if count == 0 {
-            return Ok(());
-        }
-        f.write_str(" ")?;
-        write_units(f, &self.0, count)
-    }
-}
-
-/// Writes four hex digits for each of the first units, a block at a time.
-fn write_units(
-    f: &mut fmt::Formatter<'_>,
-    units: &UnalignedSlice<'_>,
-    count: usize,
-) -> fmt::Result {
-    let mut start = 0;
-    while start < count {
-        let end = start + BLOCK_UNITS.min(count - start);
-        let mut room = [0; BLOCK_BYTES];
-        let bytes = &mut room[..2 * (end - start)];
-        fill_big_endian(bytes, units, start, end);
-        write_hex(f, bytes)?;
-        start = end;
-    }
-    Ok(())
-}
-
-/// Fills the bytes with the units from one index up to another, each with its high byte first.
-fn fill_big_endian(bytes: &mut [u8], units: &UnalignedSlice<'_>, start: usize, end: usize) {
-    for i in start..end {
-        let [high, low] = units.get(i).unwrap_or(0).to_be_bytes();
-        bytes[2 * (i - start)] = high;
-        bytes[2 * (i - start) + 1] = low;
     }
 }
 

@@ -5,14 +5,11 @@
 use crate::uefi_listing::command::Command;
 use crate::uefi_listing::config::push_config_listing;
 use crate::uefi_listing::info::push_info_listing;
-use crate::uefi_listing::load_option::push_load_option_listing;
 use crate::uefi_listing::log1::push_log1_listing;
 use crate::uefi_listing::log2::push_log2_listing;
 use crate::uefi_listing::map::push_map_listing;
 use crate::uefi_listing::path::push_path_listing;
-use crate::uefi_listing::path_text::push_path_text_listing;
 use crate::uefi_listing::pci::push_pci_listing;
-use crate::uefi_listing::text_path::push_text_path_listing;
 use crate::uefi_listing::time::push_time_listing;
 use crate::support::alloc::AllocError;
 use uefi_formats::proto::tcg::v2::Start;
@@ -48,9 +45,6 @@ fn push_listing(
 ) -> Result<Outcome, AllocError> {
     match command {
         Command::Path => push_path_listing(text, bytes),
-        Command::PathText => push_path_text_listing(text, bytes),
-        Command::TextPath => push_text_path_listing(text, bytes),
-        Command::LoadOption => push_load_option_listing(text, bytes),
         Command::Log1(last) => push_log1_listing(text, bytes, *last),
         Command::Log2(last) => push_log2_listing(text, bytes, *last, Start::AfterHeader),
         Command::Log2After(last) => push_log2_listing(text, bytes, *last, Start::AfterEvent),

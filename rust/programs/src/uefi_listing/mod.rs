@@ -7,22 +7,17 @@
 //!
 //! Each command has a module of its name: it appends the lines of what a reader returned to a text
 //! ([`path::push_path`], [`log1::push_log`]), and names the errors that bytes are refused with.
-//! `log2after` is in `log2`, `pathtext` in [`path_text`], `textpath` in [`text_path`], `option` in
-//! [`load_option`]. A failed allocation is the only error of these calls.
-//! [`hex_text`] displays bytes and numbers for all of them.
+//! `log2after` is in `log2`. A failed allocation is the only error of these calls.
+//! The crate `shown` displays bytes and numbers for all of them.
 
 pub mod command;
 pub mod config;
-pub mod hex_text;
 pub mod info;
 pub mod listing;
-pub mod load_option;
 pub mod log1;
 pub mod log2;
 pub mod map;
 pub mod path;
-pub mod path_text;
 pub mod pci;
 pub mod run;
-pub mod text_path;
 pub mod time;

@@ -2,8 +2,8 @@
 
 //! What `path` lists of bytes, and what it refuses.
 
-use crate::uefi_listing::hex_text::{Hex, HexByte, gap_before};
 use crate::uefi_listing::listing::Outcome;
+use crate::shown::{Hex, HexByte, gap_before};
 use crate::support::alloc::AllocError;
 use uefi_formats::proto::device_path::{
     ByteConversionError, DevicePath, DevicePathInstance, DevicePathNode,

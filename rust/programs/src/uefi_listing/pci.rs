@@ -2,8 +2,8 @@
 
 //! What `pci` lists of bytes, and what it refuses.
 
-use crate::uefi_listing::hex_text::HexNumber;
 use crate::uefi_listing::listing::Outcome;
+use crate::shown::HexNumber;
 use crate::support::alloc::AllocError;
 use core::fmt;
 use uefi_formats::proto::pci::{

@@ -1,4 +1,4 @@
-//! The repository's tests of the listings and audits, written out by `tools/erase`, over the crate's public names.
+//! The repository's tests of the listings, boot options and audits, written out by `tools/erase`, over the crate's public names.
 
 // The form is the one of the repository's tests, of which some are left out.
 #![allow(dead_code, unused_imports, unused_macros, clippy::all)]
@@ -10,6 +10,7 @@ extern crate alloc;
 mod text;
 
 mod audit_tests;
+mod boot_tests;
 #[path = "../../../tests/formats/hex.rs"]
 mod hex;
 mod listing_tests;
@@ -20,4 +21,4 @@ mod test_support;
 use uefi_formats::pcr as pcr_replay;
 use uefi_formats::pcr as tpm_quote;
 use uefi_formats::proto::tcg as uefi_tcg;
-use uefi_tools::{audit_text, uefi_audits, uefi_listing};
+use uefi_tools::{audit_text, boot_listing, shown, uefi_audits, uefi_listing};

@@ -28,7 +28,7 @@ use crate::support::fallible::*;
 
 pub use self::allocator::{Refusing, in_turn, takes_memory, without_request};
 pub use self::checks::{holds, same, same_bytes, same_text};
-pub use self::tables::{each_holds, each_makes, each_reads, each_shows};
+pub use self::tables::{each_makes, each_reads, each_shows};
 use crate::hex::FromHexError;
 use crate::support::alloc::AllocError;
 use crate::support::test::Fail;

@@ -1,7 +1,7 @@
 // @generated from proved source. It is not edited.
 
 use crate::test_support::bytes;
-use crate::test_support::checks::{holds, same, same_bytes, same_text};
+use crate::test_support::checks::{same, same_bytes, same_text};
 use core::fmt::Debug;
 use crate::support::test::Fail;
 
@@ -19,23 +19,6 @@ where
     for (row, expected) in rows {
         let input = bytes(row)?;
         same(row, &read(input.as_slice()), expected)?;
-    }
-    Ok(())
-}
-
-/// Checks that a condition holds of the bytes of each row, which has them as hex.
-///
-/// # Errors
-///
-/// A failure that names the first row of whose bytes it doesn't hold; also if a row isn't hex or an
-/// allocation fails.
-pub fn each_holds<F>(rows: &[&str], is_so: F) -> Result<(), Fail>
-where
-    F: Fn(&[u8]) -> bool,
-{
-    for row in rows {
-        let input = bytes(row)?;
-        holds(row, is_so(input.as_slice()))?;
     }
     Ok(())
 }

@@ -1,4 +1,4 @@
-use audit_text::words::ShownName;
+use shown::ShownName;
 use std::test::Fail;
 use test_support::same_text;
 

@@ -9,7 +9,8 @@ ghost use Rattle.audit_text.specs.words.Events.{AppendsSome};
 use crate::text::events::content::push_content;
 use crate::text::events::firmware::push_header;
 use crate::text::events::names::push_algorithm;
-use crate::words::{ShownName, push_type};
+use crate::words::push_type;
+use shown::ShownName;
 use std::alloc::{AllocError, Global};
 use uefi_audits::content::read_content;
 use uefi_tcg::v2::{EventLogHeader, PcrEventDigests};
@@ -55,7 +56,7 @@ pub fn push_header_block(
 /// The first line of an event has the name of the log, the event's index and the offset at which it
 /// starts, its PCR and its type. A line for each digest follows, and what the data say, as
 /// [`read_content`] reads them. A text is shown whole: as [`ShownName`] displays it, and bytes that
-/// are no text as [`ShownBytes`](crate::words::ShownBytes) does. Data that aren't read are in hex, 32
+/// are no text as [`ShownBytes`](shown::ShownBytes) does. Data that aren't read are in hex, 32
 /// bytes a line. A type or an algorithm without a name is its number, as `0x77`.
 ///
 /// A device path is in UEFI's text form (UEFI 2.10, 10.6) where its nodes are of the usual types,

@@ -6,9 +6,9 @@ ghost use Rattle.audit_text.specs.text.EventContents.{blob_line, described_line,
 
 use crate::text::events::hex_lines::push_bytes_lines;
 use crate::text::events::names::push_algorithm;
-use crate::words::ShownName;
 use crate::words::tags::push_tag;
 use crate::words::texts::{byte_text, shown_event};
+use shown::ShownName;
 use std::alloc::{AllocError, Global};
 use tcg_event::{EventText, PlatformFirmwareBlob, PlatformFirmwareBlob2, TaggedEvent};
 use uefi_audits::content::TaggedData;

@@ -3,8 +3,8 @@ ghost use Rattle.uefi_base.specs.Appending.{AppendsText};
 ghost use Rattle.tcg_event.specs.GptViews.{entry_of, gpt_of, header_of};
 ghost use Rattle.audit_text.specs.text.EventContents.{disk_line, gpt_lines, partition_kind, partition_line, partition_place};
 
-use crate::words::ShownName;
 use crate::words::texts::text_before_nul;
+use shown::ShownName;
 use std::alloc::{AllocError, Global};
 use tcg_event::{GptData, GptEntry, GptHeader};
 

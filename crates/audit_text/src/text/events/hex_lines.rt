@@ -2,8 +2,8 @@ ghost use Rattle.std.specs.Prelude.{OnOk};
 ghost use Rattle.uefi_base.specs.Appending.{AppendsText};
 ghost use Rattle.audit_text.specs.text.EventParts.{bytes_lines, hex_line, hex_lines, hex_block, printed_line};
 
-use crate::words::ShownName;
 use crate::words::printed::printed_text;
+use shown::ShownName;
 use std::alloc::{AllocError, Global};
 
 /// How many bytes a line has.

@@ -7,8 +7,9 @@ ghost use Rattle.tcg_event.specs.Views.{variable_of};
 ghost use Rattle.audit_text.specs.text.EventContents.{boot_option_line, boot_option_lines, boot_order_line, option_name, path_line, variable_line};
 
 use crate::text::events::hex_lines::push_bytes_lines;
+use crate::words::path_text;
 use crate::words::texts::{description_text, name_text};
-use crate::words::{ShownName, path_text};
+use shown::ShownName;
 use std::alloc::{AllocError, Global};
 use tcg_event::{BootOrder, VariableData};
 use uefi_path::{DevicePath, LoadOption};

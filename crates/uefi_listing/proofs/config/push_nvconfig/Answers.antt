@@ -1,4 +1,4 @@
-use Rattle.uefi_listing.proofs.Appending.{appended_all, appended_more}
+use Rattle.shown.proofs.Appending.{appended_all, appended_more}
 use Rattle.uefi_listing.proofs.config.push_nvconfig.Goals as goal
 
 pub loop-pair-preserved : goal.loop-pair-preserved

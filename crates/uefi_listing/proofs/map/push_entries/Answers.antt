@@ -1,6 +1,6 @@
 use Rattle.uefi_map.specs.memory.Views.{entries_left}
 use Rattle.uefi_listing.specs.Map.{entry_line}
-use Rattle.uefi_listing.proofs.Appending.{appended_last, appended_next}
+use Rattle.shown.proofs.Appending.{appended_last, appended_next}
 use Rattle.uefi_listing.proofs.map.push_entries.Goals as goal
 
 pub loop-entry-preserved : goal.loop-entry-preserved

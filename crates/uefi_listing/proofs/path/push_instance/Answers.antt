@@ -1,6 +1,6 @@
 use Rattle.std.proofs.Common.{◌≡◌, ℕ, List, ◌++◌, append_assoc, codes, flat_map, length}
 use Rattle.std.specs.Fmt.{decimal}
-use Rattle.uefi_listing.proofs.Appending.{appended_last, appended_next}
+use Rattle.shown.proofs.Appending.{appended_last, appended_next}
 use Rattle.uefi_path.specs.Node.{Node, joined}
 use Rattle.uefi_path.specs.Path.{all_but_last}
 use Rattle.uefi_path.specs.Views.{node_of, instance_nodes, nodes_left}

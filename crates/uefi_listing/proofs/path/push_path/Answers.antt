@@ -1,7 +1,7 @@
 use Rattle.std.proofs.Common.{◌≡◌, ℕ, List, ◌++◌, append_assoc, codes, flat_map, length, string_bytes}
 use Rattle.std.specs.Fmt.{decimal}
 use Rattle.std.proofs.lemmas.Result.{on_ok_weaker}
-use Rattle.uefi_listing.proofs.Appending.{appended_last, appended_next}
+use Rattle.shown.proofs.Appending.{appended_last, appended_next}
 use Rattle.uefi_path.specs.Node.{Node, joined}
 use Rattle.uefi_path.specs.Views.{instance_nodes, instances_left, path_nodes}
 use Rattle.uefi_listing.specs.Path.{instance_lines, path_lines}

@@ -2,7 +2,7 @@ use Rattle.std.proofs.Common.{◌≡◌, ℕ, List, ◌++◌, append_assoc, code
 use Rattle.std.specs.Fmt.{decimal}
 use Rattle.std.proofs.lemmas.Result.{on_ok_weaker}
 use Rattle.uefi_map.specs.declared.pci.resource.QwordAddressSpaceDescriptor.{QwordAddressSpaceDescriptor}
-use Rattle.uefi_listing.specs.HexText.{hex_number}
+use Rattle.shown.specs.HexText.{hex_number}
 use Rattle.uefi_listing.specs.Pci.{kind_text, resource_line}
 use Rattle.uefi_listing.proofs.pci.push_resource.Goals as goal
 

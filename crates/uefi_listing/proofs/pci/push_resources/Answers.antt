@@ -1,7 +1,7 @@
 use Rattle.std.proofs.Common.{◌≡◌, ℕ, ◌+◌, List, [], ◌++◌, ap, append_assoc, arith, codes, flat_map, length, string_bytes}
 use Rattle.std.specs.Fmt.{decimal}
 use Rattle.std.proofs.lemmas.Result.{on_ok_weaker}
-use Rattle.uefi_listing.proofs.Appending.{appended_next, counted_last}
+use Rattle.shown.proofs.Appending.{appended_next, counted_last}
 use Rattle.uefi_map.specs.declared.pci.resource.QwordAddressSpaceDescriptor.{QwordAddressSpaceDescriptor}
 use Rattle.uefi_map.specs.pci.Views.{resources_left, resources_of}
 use Rattle.uefi_listing.specs.Pci.{resource_line, resource_lines}

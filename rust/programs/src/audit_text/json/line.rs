@@ -2,8 +2,8 @@
 
 use crate::support::fallible::*;
 
-use crate::audit_text::words::is_control;
 use crate::serde_json::Value;
+use crate::shown::is_control;
 use crate::support::alloc::AllocError;
 
 /// Returns the text of a value on one line, without spaces and without a line's end: each control
@@ -13,9 +13,14 @@ pub(crate) fn line_of(value: &Value) -> Result<String, AllocError> {
     escaped(text)
 }
 
+/// Returns whether a character is escaped.
+fn is_escaped(character: char) -> bool {
+    is_control(character)
+}
+
 /// Returns whether a text has a control character.
 fn has_control(text: &str) -> bool {
-    text.chars().any(is_control)
+    text.chars().any(is_escaped)
 }
 
 /// Returns a text of JSON, in which controls are in strings alone, with these escaped.

@@ -2,7 +2,7 @@
 
 use crate::support::fallible::*;
 
-use crate::audit_text::words::ShownName;
+use crate::shown::ShownName;
 use crate::support::alloc::AllocError;
 use crate::uefi_audits::naming::bank_name;
 use crate::uefi_audits::verify::NamedPcr;

@@ -5,7 +5,8 @@
 use crate::support::fallible::*;
 
 use super::out_of_place::push_remarks;
-use crate::audit_text::words::{ShownName, form_name, push_type};
+use crate::audit_text::words::{form_name, push_type};
+use crate::shown::ShownName;
 use crate::support::alloc::AllocError;
 use crate::uefi_audits::check::{CheckResult, Form, Mismatch, TypeCounts};
 

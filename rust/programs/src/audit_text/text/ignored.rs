@@ -1,7 +1,7 @@
 // @generated from proved source. It is not edited.
 
-use crate::audit_text::words::ShownName;
 use uefi_formats::pcr::Ignored;
+use crate::shown::ShownName;
 use crate::support::alloc::AllocError;
 use crate::uefi_audits::ignored::IgnoredEvent;
 

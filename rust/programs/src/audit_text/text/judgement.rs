@@ -1,7 +1,7 @@
 // @generated from proved source. It is not edited.
 
 use crate::audit_text::text::trailing::push_trailing;
-use crate::audit_text::words::ShownName;
+use crate::shown::ShownName;
 use crate::support::alloc::AllocError;
 use crate::uefi_audits::judgement::Judgement;
 use crate::uefi_audits::trailing::Trailing;

@@ -1,6 +1,6 @@
 // @generated from proved source. It is not edited.
 
-use crate::audit_text::words::ShownName;
+use crate::shown::ShownName;
 use crate::support::alloc::AllocError;
 use crate::uefi_audits::naming::bank_name;
 use crate::uefi_audits::verify::NamedPcr;

@@ -3,7 +3,8 @@
 //! The lines of the remarks on the places of a log's events.
 
 use super::uncompared::push_others;
-use crate::audit_text::words::{ShownName, push_type, rule_name};
+use crate::audit_text::words::{push_type, rule_name};
+use crate::shown::ShownName;
 use crate::support::alloc::AllocError;
 use crate::uefi_audits::out_of_place::{OutOfPlace, Remarks};
 

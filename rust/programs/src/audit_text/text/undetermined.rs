@@ -1,7 +1,7 @@
 // @generated from proved source. It is not edited.
 
-use crate::audit_text::words::ShownName;
 use uefi_formats::pcr::{Bank, BankPcrs, PcrValue, Pcrs, Undetermined};
+use crate::shown::ShownName;
 use crate::support::alloc::AllocError;
 use crate::uefi_audits::naming::bank_name;
 

@@ -2,8 +2,9 @@
 
 use crate::support::fallible::*;
 
-use crate::audit_text::words::{ShownName, push_number};
+use crate::audit_text::words::push_number;
 use uefi_formats::pcr::Bank;
+use crate::shown::ShownName;
 use crate::support::alloc::AllocError;
 use crate::uefi_audits::naming::bank_name;
 

@@ -1,8 +1,8 @@
 // @generated from proved source. It is not edited.
 
 use crate::audit_text::text::agreement::push_agreement;
-use crate::audit_text::words::ShownName;
 use uefi_formats::pcr::{PcrValue, Undetermined};
+use crate::shown::ShownName;
 use crate::support::alloc::AllocError;
 use crate::uefi_audits::naming::bank_name;
 use crate::uefi_audits::verify::{HeldPcr, Verdict, agrees, led_to, named_pcrs};

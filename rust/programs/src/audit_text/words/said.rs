@@ -2,9 +2,10 @@
 
 use crate::support::fallible::*;
 
+use crate::audit_text::words::path_text;
 use crate::audit_text::words::tags::push_tag;
 use crate::audit_text::words::texts::name_text;
-use crate::audit_text::words::{ShownBytes, ShownName, path_text};
+use crate::shown::{ShownBytes, ShownName};
 use crate::support::alloc::AllocError;
 use uefi_formats::proto::tcg::content::{
     CrtmVersion, EventText, ImageLoadEvent, PlatformFirmwareBlob, VariableData,

@@ -2,7 +2,7 @@
 
 use crate::support::fallible::*;
 
-use crate::audit_text::words::{ShownBytes, ShownName};
+use crate::shown::{ShownBytes, ShownName};
 use crate::support::alloc::AllocError;
 use uefi_formats::proto::tcg::content::{CrtmVersion, EventText};
 use uefi_formats::UnalignedSlice;

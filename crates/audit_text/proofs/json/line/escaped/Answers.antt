@@ -2,7 +2,7 @@ use Rattle.std.proofs.Common.{◌≡◌, false, rules, string_bytes, subst, sym,
 use Rattle.std.specs.Prelude.{IsUtf8}
 use Rattle.std.specs.List.{list_any}
 use Rattle.std.specs.Str.{chars}
-use Rattle.audit_text.specs.words.Shown.{is_control}
+use Rattle.shown.specs.Name.{is_control}
 use Rattle.audit_text.proofs.json.Plain.{plain}
 use Rattle.audit_text.proofs.json.line.escaped.Goals as goal
 

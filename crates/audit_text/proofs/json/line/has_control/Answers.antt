@@ -1,7 +1,7 @@
 use Rattle.std.proofs.Common.{rules, tests}
 use Rattle.std.proofs.lemmas.Iterator.{YieldsList-from_chars}
 use Rattle.std.proofs.lemmas.Iterator.Search.{any_from_yields_List}
-use Rattle.audit_text.specs.words.Shown.{is_control}
+use Rattle.shown.specs.Name.{is_control}
 use Rattle.audit_text.proofs.json.line.has_control.Goals as goal
 
 pub returns : goal.returns

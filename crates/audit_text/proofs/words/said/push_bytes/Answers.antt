@@ -1,6 +1,6 @@
 use Rattle.std.proofs.lemmas.Result.{on_ok_weaker}
 use Rattle.audit_text.specs.words.Said.{shown_bytes}
-use Rattle.audit_text.specs.words.Shown.{shown_name_bytes}
+use Rattle.shown.specs.Name.{shown_name_bytes}
 use Rattle.audit_text.proofs.words.FirstItems.{first_appended}
 use Rattle.audit_text.proofs.words.said.push_bytes.Goals as goal
 

@@ -1,7 +1,7 @@
 ghost use Rattle.std.specs.Prelude.{◌≡◌, IfOk, option_map, string_bytes};
 ghost use Rattle.audit_text.specs.text.Change.{block_change, is_unread, lines_in, plain_value, print_change, read_change, said_change, tagged_text, value_change, words_in};
 ghost use Rattle.audit_text.specs.words.Printed.{printed_text};
-ghost use Rattle.audit_text.specs.words.Shown.{shown_name};
+ghost use Rattle.shown.specs.Name.{shown_name};
 ghost use Rattle.uefi_audits.specs.content.Views.{content_of};
 ghost use Rattle.uefi_audits.specs.diff.Views.{numbered_of};
 

@@ -4,9 +4,9 @@ use crate::support::fallible::*;
 
 use crate::audit_text::text::events::hex_lines::push_bytes_lines;
 use crate::audit_text::text::events::names::push_algorithm;
-use crate::audit_text::words::ShownName;
 use crate::audit_text::words::tags::push_tag;
 use crate::audit_text::words::texts::{byte_text, shown_event};
+use crate::shown::ShownName;
 use crate::support::alloc::AllocError;
 use uefi_formats::proto::tcg::content::{
     EventText, PlatformFirmwareBlob, PlatformFirmwareBlob2, TaggedEvent,

@@ -1,7 +1,7 @@
 // @generated from proved source. It is not edited.
 
-use crate::audit_text::words::ShownName;
 use crate::audit_text::words::texts::text_before_nul;
+use crate::shown::ShownName;
 use crate::support::alloc::AllocError;
 use uefi_formats::proto::tcg::content::{GptData, GptEntry, GptHeader};
 

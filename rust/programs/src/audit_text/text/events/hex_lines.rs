@@ -1,7 +1,7 @@
 // @generated from proved source. It is not edited.
 
-use crate::audit_text::words::ShownName;
 use crate::audit_text::words::printed::printed_text;
+use crate::shown::ShownName;
 use crate::support::alloc::AllocError;
 
 /// How many bytes a line has.

@@ -3,8 +3,9 @@
 use crate::support::fallible::*;
 
 use crate::audit_text::text::events::hex_lines::push_bytes_lines;
+use crate::audit_text::words::path_text;
 use crate::audit_text::words::texts::{description_text, name_text};
-use crate::audit_text::words::{ShownName, path_text};
+use crate::shown::ShownName;
 use crate::support::alloc::AllocError;
 use uefi_formats::proto::tcg::content::{BootOrder, VariableData};
 use uefi_formats::proto::device_path::{DevicePath, LoadOption};

@@ -12,18 +12,6 @@ use crate::uefi_listing::listing::Outcome::{self, Listed, Refused};
 const TWO_INSTANCES_LISTING: &str = "instance 18\n  a0 b0 0a0b\n  a1 b1 14151617\n\
     instance 18\n  a2 b2 1e1f\n  a3 b3 28292a2b\npath 36\n";
 
-/// A path to a file, as it is typed.
-const FILE_TEXT: &str = "PciRoot(0x0)/Pci(0x1F,0x2)/\\EFI\\b.efi\n";
-
-const FILE_TEXT_LISTING: &str = "instance 48\n  02 01 d041030a00000000\n  01 01 021f\n  \
-    04 04 5c004500460049005c0062002e006500660069000000\npath 48\n";
-
-/// An option named `a`, of a device, with a byte of data.
-const SMALL_OPTION: &str = "09010000 0a00  6100 0000  0101 0600 001f  7fff 0400  cc";
-
-const SMALL_OPTION_LISTING: &str =
-    "attributes 0x109\ndescription 0061\npath Pci(0x1F,0x0)\ndata cc\n";
-
 const LOG1_LISTING: &str = "event 0 0x00000008 1489f923c4dca729178b3e3233458550d8dddf29 0000\n\
     event 0 0x80000008 c706e7dd36392984eb06aaa08ff336844077b3ed \
     000082000000000000000e0000000000\nevents 2\n";
@@ -96,7 +84,7 @@ pub type Run = (Command, &'static str, &'static str, Outcome);
 
 /// Runs of each command, and of each that can be refused a refused one too. The tests `memory` and
 /// `writers` go over them.
-pub const RUNS: [Run; 26] = [
+pub const RUNS: [Run; 19] = [
     (
         Command::Path,
         "7fff 0600 aabb",
@@ -105,23 +93,6 @@ pub const RUNS: [Run; 26] = [
     ),
     (Command::Path, TWO_INSTANCES, TWO_INSTANCES_LISTING, Listed),
     (Command::Path, "00", "refused InvalidLength\n", Refused),
-    (
-        Command::PathText,
-        "0101 0600 001f  7f01 0400  7fff 0400",
-        "Pci(0x1F,0x0)\n\n",
-        Listed,
-    ),
-    (Command::PathText, "00", "refused InvalidLength\n", Refused),
-    (Command::TextPath, FILE_TEXT, FILE_TEXT_LISTING, Listed),
-    (Command::TextPath, "00", "refused Argument\n", Refused),
-    (Command::TextPath, "ff", "refused NotUtf8\n", Refused),
-    (
-        Command::LoadOption,
-        SMALL_OPTION,
-        SMALL_OPTION_LISTING,
-        Listed,
-    ),
-    (Command::LoadOption, "", "refused TooShort\n", Refused),
     (Command::Log1(Some(34)), LOG1, LOG1_LISTING, Listed),
     (Command::Log1(None), LOG1, "events 0\n", Listed),
     (
@@ -168,9 +139,7 @@ pub const RUNS: [Run; 26] = [
 /// Returns the bytes of a run's input: a text that is listed as it stands, else hex.
 pub fn input_of((command, input, _, outcome): &Run) -> Result<Vec<u8>, Fail> {
     match (command, outcome) {
-        (Command::Config | Command::TextPath, Listed) => {
-            Ok(Vec::fallible_from_slice(input.as_bytes())?)
-        }
+        (Command::Config, Listed) => Ok(Vec::fallible_from_slice(input.as_bytes())?),
         _ => Ok(bytes(input)?),
     }
 }

@@ -1,6 +1,6 @@
 // @generated from proved source. It is not edited.
 
-use crate::audit_text::words::ShownName;
+use crate::shown::ShownName;
 use crate::support::test::Fail;
 use crate::test_support::same_text;
 

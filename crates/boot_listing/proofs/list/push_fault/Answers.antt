@@ -1,0 +1,11 @@
+use Rattle.std.proofs.Common.{append_assoc}
+use Rattle.boot_listing.specs.List.{fault_line}
+use Rattle.boot_listing.proofs.list.push_fault.Goals as goal
+
+pub returns-in-Lines : goal.returns-in-Lines
+unfolding fault_line
+returns-in-Lines g c = rw c.in-Lines.is (simp append_assoc c.writeln.ensures.bytes)
+
+pub returns-in-Json : goal.returns-in-Json
+unfolding fault_line
+returns-in-Json g c = rw c.in-Json.is (simp append_assoc c.writeln-in-Json.ensures.bytes)

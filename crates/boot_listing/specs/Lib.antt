@@ -1,0 +1,10 @@
+pub mod Appending
+pub mod Arguments
+pub mod Json
+pub mod Refusal
+pub mod Variables
+pub mod Text
+pub mod Path
+pub mod Option
+pub mod List
+pub mod private

@@ -1,0 +1,4 @@
+-- Words of private contracts alone.
+pub mod Appending
+pub mod Found
+pub mod Marks

@@ -1,0 +1,5 @@
+mod arguments;
+mod folders;
+mod memory;
+mod runs;
+mod variables;

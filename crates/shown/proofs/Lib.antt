@@ -1,0 +1,4 @@
+pub mod Appending
+pub mod HexBlocks
+pub mod HexNames
+pub mod HexNumbers

@@ -1,6 +1,0 @@
-use Rattle.uefi_listing.specs.PathText.{nodes_as_text, text_line}
-use Rattle.uefi_listing.proofs.path_text.push_instance_text.Goals as goal
-
-pub returns : goal.returns
-unfolding nodes_as_text text_line
-returns g c = simp c.instance_to_text-instance.ensures at c.writeln.ensures.bytes

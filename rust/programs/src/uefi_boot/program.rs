@@ -1,0 +1,94 @@
+// @generated from proved source. It is not edited.
+
+use crate::host::rt::{Eprint, Input, Print};
+use crate::support::fallible::*;
+
+use crate::uefi_boot::failure::Failure;
+use crate::uefi_boot::folder::read_folder;
+use crate::boot_listing::Outcome;
+use crate::boot_listing::command::{Command, Request};
+use crate::boot_listing::list::folder_listing;
+use crate::boot_listing::option::push_load_option_listing;
+use crate::boot_listing::path::push_path_listing;
+use crate::boot_listing::text::push_path_text_listing;
+use crate::file_input::{MAX_READS, read_file};
+use crate::host::io::Write;
+use std::process::ExitCode;
+use crate::host::rt::{Env, Files};
+use crate::host::env;
+use crate::host::io;
+
+/// Returns the words after the program's name. If one isn't UTF-8, they ask for nothing.
+fn read_words<R: Env>(rt: &R) -> Result<Vec<String>, Failure> {
+    match env::args(rt) {
+        Ok(args) => match args.skip(1).fallible_collect() {
+            Ok(words) => Ok(words),
+            Err(_) => Err(Failure::Memory),
+        },
+        Err(error) if error.kind() == io::ErrorKind::OutOfMemory => Err(Failure::Memory),
+        Err(_) => Err(Failure::OtherWords),
+    }
+}
+
+/// Returns the bytes of a file.
+fn file_bytes<R: Files + Input>(rt: &R, path: &str) -> Result<Vec<u8>, Failure> {
+    match read_file(rt, path, MAX_READS) {
+        Ok(bytes) => Ok(bytes),
+        Err(error) => Err(Failure::of_file(path, error)),
+    }
+}
+
+/// Returns what is printed for a request.
+fn listing<R: Files + Input + Clone>(
+    rt: &R,
+    request: &Request<'_>,
+) -> Result<(String, Outcome), Failure> {
+    let form = request.form;
+    let mut text = String::new();
+    let outcome = match request.command {
+        Command::List => {
+            let files = read_folder(rt, request.operand)?;
+            return Ok(folder_listing(form, files.as_slice())?);
+        }
+        Command::Option => {
+            let bytes = file_bytes(rt, request.operand)?;
+            push_load_option_listing(&mut text, form, bytes.as_slice())?
+        }
+        Command::Text => {
+            let bytes = file_bytes(rt, request.operand)?;
+            push_path_text_listing(&mut text, form, bytes.as_slice())?
+        }
+        Command::Path => push_path_listing(&mut text, form, request.operand)?,
+    };
+    Ok((text, outcome))
+}
+
+/// Judges the words, and prints what they ask for.
+fn print_listing<R: Files + Env + Input + Print + Clone>(
+    rt: &R,
+) -> Result<Outcome, Failure> {
+    let words = read_words(rt)?;
+    let Some(request) = Request::from_words(words.as_slice()) else {
+        return Err(Failure::OtherWords);
+    };
+    let (text, outcome) = listing(rt, &request)?;
+    match io::writer(rt).write_all(text.as_bytes()) {
+        Ok(()) => Ok(outcome),
+        Err(error) => Err(Failure::Output(error)),
+    }
+}
+
+/// Runs the program, says on standard error why it failed, and returns its exit status.
+pub(crate) fn start<R: Files + Env + Input + Print + Eprint + Clone>(
+    rt: &R,
+) -> ExitCode {
+    match print_listing(rt) {
+        Ok(Outcome::Listed) => ExitCode::SUCCESS,
+        Ok(Outcome::Refused) => ExitCode::from(1),
+        Err(failure) => {
+            // If standard error is closed too, the exit status still tells.
+            let _ = fallible_eprintln!(rt, "{failure}");
+            ExitCode::from(failure.status())
+        }
+    }
+}
