@@ -1,0 +1,10 @@
+pub mod FileNames
+pub mod Found
+pub mod NodeLaw
+pub mod PathTexts
+pub mod Shown
+pub mod Table
+pub mod TableLaw
+pub mod Tables
+pub mod arguments
+pub mod reading

@@ -1,0 +1,11 @@
+pub mod Addresses
+pub mod Elements
+pub mod Finding
+pub mod Identifiers
+pub mod Lengths
+pub mod Numerals
+pub mod Pairs
+pub mod Parts
+pub mod Quotes
+pub mod Shapes
+pub mod TextLengths

@@ -1,0 +1,4 @@
+pub mod Words
+pub mod Pieces
+pub mod NodeForm
+pub mod Parameters

@@ -1,0 +1,10 @@
+pub mod Generic
+pub mod Hardware
+pub mod Acpi
+pub mod Storage
+pub mod Usb
+pub mod Network
+pub mod Vendor
+pub mod Media
+pub mod BiosBootSpec
+pub mod Display

@@ -1,0 +1,129 @@
+ghost use Rattle.std.specs.Prelude.{◌≡◌, ◌≤◌, ◌<◌};
+ghost use Rattle.uefi_path_text.specs.form.Pieces.{pieces, shape_size};
+
+/// The shape of digits whose count is fixed.
+#[derive(Clone, Copy)]
+pub(crate) enum Shape {
+    /// A GUID (UEFI 2.10, Appendix A).
+    Guid,
+    /// An IPv6 address: eight groups of four digits.
+    Ipv6,
+    /// An IEEE extended unique identifier, the highest byte first.
+    Eui64,
+    /// A GUID of IEEE 1394, the highest byte first.
+    Ieee1394,
+    /// An address of six bytes.
+    Address,
+}
+
+/// A piece of a text of a shape.
+#[derive(Clone, Copy)]
+pub(crate) enum Piece {
+    /// The two digits of the byte at an index.
+    Digits(usize),
+    /// A character.
+    Mark(u8),
+}
+
+impl Shape {
+    /// Returns the pieces, in the order of the text.
+    pub(crate) fn pieces(self) -> &'static [Piece]
+        ensures { result.now ≡ pieces self }
+    {
+        match self {
+            Shape::Guid => &[
+                Piece::Digits(3),
+                Piece::Digits(2),
+                Piece::Digits(1),
+                Piece::Digits(0),
+                Piece::Mark(b'-'),
+                Piece::Digits(5),
+                Piece::Digits(4),
+                Piece::Mark(b'-'),
+                Piece::Digits(7),
+                Piece::Digits(6),
+                Piece::Mark(b'-'),
+                Piece::Digits(8),
+                Piece::Digits(9),
+                Piece::Mark(b'-'),
+                Piece::Digits(10),
+                Piece::Digits(11),
+                Piece::Digits(12),
+                Piece::Digits(13),
+                Piece::Digits(14),
+                Piece::Digits(15),
+            ],
+            Shape::Ipv6 => &[
+                Piece::Digits(0),
+                Piece::Digits(1),
+                Piece::Mark(b':'),
+                Piece::Digits(2),
+                Piece::Digits(3),
+                Piece::Mark(b':'),
+                Piece::Digits(4),
+                Piece::Digits(5),
+                Piece::Mark(b':'),
+                Piece::Digits(6),
+                Piece::Digits(7),
+                Piece::Mark(b':'),
+                Piece::Digits(8),
+                Piece::Digits(9),
+                Piece::Mark(b':'),
+                Piece::Digits(10),
+                Piece::Digits(11),
+                Piece::Mark(b':'),
+                Piece::Digits(12),
+                Piece::Digits(13),
+                Piece::Mark(b':'),
+                Piece::Digits(14),
+                Piece::Digits(15),
+            ],
+            Shape::Eui64 => &[
+                Piece::Digits(7),
+                Piece::Mark(b'-'),
+                Piece::Digits(6),
+                Piece::Mark(b'-'),
+                Piece::Digits(5),
+                Piece::Mark(b'-'),
+                Piece::Digits(4),
+                Piece::Mark(b'-'),
+                Piece::Digits(3),
+                Piece::Mark(b'-'),
+                Piece::Digits(2),
+                Piece::Mark(b'-'),
+                Piece::Digits(1),
+                Piece::Mark(b'-'),
+                Piece::Digits(0),
+            ],
+            Shape::Ieee1394 => &[
+                Piece::Digits(7),
+                Piece::Digits(6),
+                Piece::Digits(5),
+                Piece::Digits(4),
+                Piece::Digits(3),
+                Piece::Digits(2),
+                Piece::Digits(1),
+                Piece::Digits(0),
+            ],
+            Shape::Address => &[
+                Piece::Digits(0),
+                Piece::Digits(1),
+                Piece::Digits(2),
+                Piece::Digits(3),
+                Piece::Digits(4),
+                Piece::Digits(5),
+            ],
+        }
+    }
+
+    /// Returns the number of bytes.
+    pub(crate) fn size(self) -> usize
+        ensures { result ≡ shape_size self }
+    {
+        match self {
+            Shape::Guid | Shape::Ipv6 => 16,
+            Shape::Eui64 | Shape::Ieee1394 => 8,
+            Shape::Address => 6,
+        }
+    }
+}

@@ -1,0 +1,83 @@
+//! The forms of nodes as text (UEFI 2.10, 10.6.1.6), in sections.
+
+ghost use Rattle.std.specs.Prelude.{◌≡◌, map};
+ghost use Rattle.uefi_path_text.specs.AllForms.{forms_in, sections};
+ghost use Rattle.uefi_path_text.specs.private.FormViews.{form_of};
+
+use crate::form::NodeForm;
+
+mod acpi;
+mod bios_boot_spec;
+mod display;
+mod generic;
+mod hardware;
+mod media;
+mod network;
+mod storage;
+mod usb;
+mod vendor;
+
+/// A section of the forms.
+#[derive(Clone, Copy)]
+pub(crate) enum Section {
+    /// Nodes of any type.
+    Generic,
+    /// Nodes of the type HARDWARE.
+    Hardware,
+    /// Nodes of the type ACPI.
+    Acpi,
+    /// Nodes of the type MESSAGING that lead to storage.
+    Storage,
+    /// USB nodes.
+    Usb,
+    /// Nodes of networks and serial ports.
+    Network,
+    /// Nodes of vendors.
+    Vendor,
+    /// Nodes of the type MEDIA.
+    Media,
+    /// Nodes of the type BIOS_BOOT_SPEC.
+    BiosBootSpec,
+    /// Nodes that are for display alone.
+    Display,
+}
+
+/// The sections of the forms in which nodes are read.
+static SECTIONS: [Section; 9] = [
+    Section::Generic,
+    Section::Hardware,
+    Section::Acpi,
+    Section::Storage,
+    Section::Usb,
+    Section::Network,
+    Section::Vendor,
+    Section::Media,
+    Section::BiosBootSpec,
+];
+
+/// Returns the sections of the forms in which nodes are read.
+pub(crate) fn sections() -> &'static [Section]
+    ensures { result.now ≡ sections }
+{
+    &SECTIONS
+}
+
+impl Section {
+    /// Returns the forms.
+    pub(crate) fn forms(self) -> &'static [NodeForm]
+        ensures { map form_of result.now ≡ forms_in self }
+    {
+        match self {
+            Section::Generic => generic::forms(),
+            Section::Hardware => hardware::forms(),
+            Section::Acpi => acpi::forms(),
+            Section::Storage => storage::forms(),
+            Section::Usb => usb::forms(),
+            Section::Network => network::forms(),
+            Section::Vendor => vendor::forms(),
+            Section::Media => media::forms(),
+            Section::BiosBootSpec => bios_boot_spec::forms(),
+            Section::Display => display::forms(),
+        }
+    }
+}

@@ -1,0 +1,22 @@
+//! UEFI device paths as text and from text (UEFI 2.10, 10.6).
+//!
+//! [`to_text`] writes a path as text, [`instance_to_text`] an instance and [`node_to_text`] a node.
+//! [`from_text`] reads the path of a text into a caller's buffer, and [`write_from_text`] does so
+//! for a caller that goes on with the buffer. [`from_text_in`] alone allocates.
+//!
+//! Nodes are read and written by one table of forms, which is in `specs/forms` as it is in
+//! `src/forms`. `specs/parse` defines what a text stands for, and `specs/write` and `specs/text` the
+//! text of a node and of a path.
+#![tactic(auto)]
+
+pub use self::parse::{FromTextError, from_text, from_text_in, write_from_text};
+pub use self::text::{
+    AllowShortcuts, DisplayOnly, NodeText, PathText, instance_to_text, node_to_text, to_text,
+};
+
+mod form;
+mod forms;
+pub mod laws;
+mod parse;
+mod text;
+mod write;

@@ -1,0 +1,236 @@
+//! The text of an argument, read.
+
+ghost use Rattle.std.specs.Prelude.{◌≡◌, ◌≤◌, ◌<◌, ◌+◌, ◌-◌, ◌*◌, ◌^◌, length, IfOk, OnOk, OnErr, IfErr, IsTrue, Some, None, false};
+ghost use Rattle.std.specs.Option.{option_map};
+ghost use Rattle.std.specs.Str.Parse.{digits_value};
+ghost use Rattle.uefi_path_text.specs.parse.Values.{bytes_in, number_in, below, low_first, word_bytes, is_octet, is_ipv4, ipv4_bytes, is_eisa, is_eisa_letter, eisa_number, is_quoted, unquoted, are_pairs, bay_info};
+ghost use Rattle.uefi_path_text.specs.text.Arguments.{is_argument};
+ghost use Rattle.uefi_path_text.specs.private.FromText.{value_bytes, IsValue, fits_eisa};
+
+use crate::form::argument::Argument;
+use crate::form::words::Words;
+use crate::parse::cut::cut;
+use crate::parse::number::{read_digits, read_number};
+use crate::parse::shape::{byte_of_digits, is_hex_digit};
+use crate::parse::value::Value;
+use crate::text::arguments::{is_argument_character, is_serial_character};
+
+impl Argument {
+    /// Reads the text of an argument.
+    ///
+    /// # Errors
+    ///
+    /// The offset of the first character that no such text has there.
+    #[tactic(auto, unfolding(crate::specs::parse::Values::bytes_in))]
+    pub(crate) fn read(self, text: &[u8]) -> Result<Value<'_>, usize>
+        ensures ok { IfOk result (λ value. bytes_in self text.now ≡ Some (value_bytes value)) }
+        ensures value { IfOk result IsValue }
+        ensures err { OnErr result (bytes_in self text.now ≡ None) }
+        ensures offset { IfErr result (λ offset. offset ≤ length text.now) }
+    {
+        Ok(match self {
+            Argument::Number(size, _) => {
+                Value::Number(read_number(text, most(size.bytes()))?, size.bytes())
+            }
+            Argument::BigEndian => Value::BigEndian(read_number(text, u64::MAX)?),
+            Argument::Word(words, size) => {
+                Value::Number(read_word(words, size.bytes(), text)?, size.bytes())
+            }
+            Argument::Digits(shape) => {
+                shape.check(text)?;
+                Value::Digits(shape, text)
+            }
+            Argument::Bytes(most) => Value::Pairs(read_pairs(text, most)?),
+            Argument::HardwareAddress => Value::Pairs(read_pairs(text, 32)?),
+            Argument::Ipv4 => Value::Ipv4(read_ipv4(text)?),
+            Argument::Ipv4Server => Value::Ipv4Server(read_ipv4(text)?),
+            Argument::EisaId | Argument::PnpId => Value::Number(u64::from(read_eisa(text)?), 4),
+            Argument::EisaLetters => Value::Number(read_number(text, most(2))?, 2),
+            Argument::DriveBay => Value::Number(read_bay(text)?, 2),
+            Argument::Text(most) | Argument::Name(most) => Value::Text(read_text(text, most)?),
+            Argument::Quoted => Value::Units(read_quoted(text)?),
+        })
+    }
+}
+
+/// Returns the greatest number of this many bytes.
+fn most(size: usize) -> u64
+    requires some { 1 ≤ size }
+    requires few { size ≤ 8 }
+    ensures { result + 1 ≡ 2 ^ (8 * size) }
+{
+    u64::MAX >> (64 - 8 * size)
+}
+
+/// Reads a word, or a number of this many bytes if one can be in its place.
+fn read_word(words: Words, size: usize, text: &[u8]) -> Result<u64, usize>
+    requires some { 1 ≤ size }
+    requires few { size ≤ 8 }
+    ensures ok { IfOk result (λ number. word_bytes words size text.now
+        ≡ Some (low_first size number)) }
+    ensures err { OnErr result (word_bytes words size text.now ≡ None) }
+    ensures offset { IfErr result (λ offset. offset ≤ length text.now) }
+{
+    match words.number(text) {
+        Ok(number) => Ok(number),
+        Err(offset) if words.are_numbers() => match read_number(text, most(size)) {
+            Ok(number) => Ok(number),
+            Err(other) => Err(offset.max(other)),
+        },
+        Err(offset) => Err(offset),
+    }
+}
+
+/// Reads at most this many bytes, two hex digits each.
+fn read_pairs(text: &[u8], most: usize) -> Result<&[u8], usize>
+    ensures ok { IfOk result (λ pairs. pairs.now ≡ text.now) }
+    ensures pairs { OnOk result (IsTrue (are_pairs text.now)) }
+    ensures few { OnOk result (length text.now ≤ 2 * most) }
+    ensures err { OnErr result (¬ (IsTrue (are_pairs text.now) × (length text.now ≤ 2 * most))) }
+    ensures offset { IfErr result (λ offset. offset ≤ length text.now) }
+{
+    for (offset, c) in text.iter().enumerate() {
+        if !is_hex_digit(*c) || offset / 2 == most {
+            return Err(offset);
+        }
+    }
+    if text.len() % 2 == 0 {
+        Ok(text)
+    } else {
+        Err(text.len())
+    }
+}
+
+/// Reads an IPv4 address.
+fn read_ipv4(text: &[u8]) -> Result<[u8; 4], usize>
+    ensures ok { OnOk result (IsTrue (is_ipv4 text.now)) }
+    ensures address { IfOk result (λ address. address ≡ ipv4_bytes text.now) }
+    ensures err { OnErr result (is_ipv4 text.now ≡ false) }
+    ensures offset { IfErr result (λ offset. offset ≤ length text.now) }
+{
+    let mut address = [0; 4];
+    let mut rest = Some(text);
+    let mut start = 0;
+    for byte in &mut address {
+        let Some(parts) = rest else {
+            return Err(text.len());
+        };
+        let (part, others) = cut(parts, b'.');
+        *byte = read_octet(part, start)?;
+        start += part.len() + 1;
+        rest = others;
+    }
+    match rest {
+        None => Ok(address),
+        Some(_) => Err(start - 1),
+    }
+}
+
+/// Reads a part of an IPv4 address that is at an offset.
+fn read_octet(part: &[u8], start: usize) -> Result<u8, usize>
+    requires { start + length part.now < 2 ^ 64 }
+    ensures ok { OnOk result (IsTrue (is_octet part.now)) }
+    ensures number { IfOk result (λ octet. octet ≡ digits_value 10 part.now) }
+    ensures err { OnErr result (is_octet part.now ≡ false) }
+    ensures place { IfErr result (λ offset. offset ≤ start + length part.now) }
+{
+    match read_digits(part, 10, 255) {
+        Ok(octet) => Ok(octet as u8),
+        Err(offset) => Err(start + offset),
+    }
+}
+
+/// Reads a compressed EISA identifier.
+#[tactic(auto, using(crate::proofs::arguments::Identifiers::identifiers))]
+fn read_eisa(text: &[u8]) -> Result<u32, usize>
+    ensures ok { OnOk result (IsTrue (is_eisa text.now)) }
+    ensures number { IfOk result (λ number. number ≡ eisa_number text.now) }
+    ensures err { OnErr result (is_eisa text.now ≡ false) }
+    ensures offset { IfErr result (λ offset. offset ≤ length text.now) }
+{
+    for (offset, c) in text.iter().enumerate() {
+        if !fits_eisa(offset, *c) {
+            return Err(offset);
+        }
+    }
+    if text.len() != 7 {
+        return Err(text.len());
+    }
+    let letters = eisa_letter(text[0]) * 0x400 + eisa_letter(text[1]) * 0x20 + eisa_letter(text[2]);
+    let product = u32::from(byte_of_digits(text[3], text[4])) * 0x100
+        + u32::from(byte_of_digits(text[5], text[6]));
+    Ok(letters + product * 0x10000)
+}
+
+/// Returns the number of a letter of a compressed EISA identifier.
+fn eisa_letter(c: u8) -> u32
+    requires { IsTrue (is_eisa_letter c) }
+    ensures number { result ≡ c - 0x40 }
+    ensures small { result < 0x20 }
+{
+    u32::from(c - 0x40)
+}
+
+/// Returns whether a compressed EISA identifier may have a character at an offset.
+fn fits_eisa(offset: usize, c: u8) -> bool
+    ensures { result ≡ fits_eisa offset c }
+{
+    if offset < 3 {
+        (0x40..0x60).contains(&c)
+    } else {
+        offset < 7 && is_hex_digit(c)
+    }
+}
+
+/// Reads the number of a drive bay as what is known of a SAS device.
+fn read_bay(text: &[u8]) -> Result<u64, usize>
+    ensures ok { IfOk result (λ info. option_map bay_info (below 257 (number_in text.now))
+        ≡ Some info) }
+    ensures small { IfOk result (λ info. info < 2 ^ 16) }
+    ensures err { OnErr result (below 257 (number_in text.now) ≡ None) }
+    ensures offset { IfErr result (λ offset. offset ≤ length text.now) }
+{
+    let bay = read_number(text, 256)?;
+    Ok(if bay == 0 { 1 } else { 2 + (bay - 1) * 0x100 })
+}
+
+/// Reads a text of at most this many bytes.
+fn read_text(text: &[u8], most: usize) -> Result<&[u8], usize>
+    ensures ok { IfOk result (λ argument. argument.now ≡ text.now) }
+    ensures argument { OnOk result (IsTrue (is_argument text.now)) }
+    ensures few { OnOk result (length text.now ≤ most) }
+    ensures err { OnErr result (¬ (IsTrue (is_argument text.now) × (length text.now ≤ most))) }
+    ensures offset { IfErr result (λ offset. offset ≤ length text.now) }
+{
+    for (offset, c) in text.iter().enumerate() {
+        if !is_argument_character(*c) || offset == most {
+            return Err(offset);
+        }
+    }
+    Ok(text)
+}
+
+/// Reads a text in quotes.
+fn read_quoted(text: &[u8]) -> Result<&[u8], usize>
+    ensures ok { OnOk result (IsTrue (is_quoted text.now)) }
+    ensures text { IfOk result (λ serial. serial.now ≡ unquoted text.now) }
+    ensures err { OnErr result (is_quoted text.now ≡ false) }
+    ensures offset { IfErr result (λ offset. offset ≤ length text.now) }
+{
+    let [b'"', rest @ ..] = text else {
+        return Err(0);
+    };
+    for (offset, c) in rest.iter().enumerate() {
+        if *c == b'"' {
+            return if offset + 1 == rest.len() {
+                Ok(&rest[..offset])
+            } else {
+                Err(2 + offset)
+            };
+        }
+        if !is_serial_character(*c) {
+            return Err(1 + offset);
+        }
+    }
+    Err(text.len())
+}
