@@ -7,6 +7,7 @@ use Rattle.uefi_path_text.specs.declared.form.argument.Base.TheVariants as Base
 use Rattle.uefi_path_text.specs.declared.form.words.Words.TheVariants as Words
 use Rattle.uefi_path_text.specs.declared.form.size.Size.TheVariants as Size
 
+-- The GUIDs of disks and CDs in RAM (UEFI 2.10, 10.3.5.9).
 abbrev pub virtual_disk : List ℕ
 virtual_disk =
     0x5a ∷ 0x53 ∷ 0xab ∷ 0x77 ∷ 0xfc ∷ 0x45 ∷ 0x4b ∷ 0x62 ∷ 0x55 ∷ 0x60 ∷ 0xf7 ∷ 0xb2 ∷ 0x81 ∷ 0xd1 ∷ 0xf9 ∷ 0x6e ∷

@@ -6,6 +6,7 @@ use Rattle.uefi_path_text.specs.declared.form.argument.Argument.TheVariants.{Wor
 use Rattle.uefi_path_text.specs.declared.form.words.Words.TheVariants as Words
 use Rattle.uefi_path_text.specs.declared.form.size.Size.TheVariants as Size
 
+-- The GUIDs of vendors whose nodes have forms of their own (UEFI 2.10, 10.3.4.17 to 10.3.4.19).
 abbrev pub pc_ansi : List ℕ
 pc_ansi =
     0x53 ∷ 0x47 ∷ 0xc1 ∷ 0xe0 ∷ 0xbe ∷ 0xf9 ∷ 0xd2 ∷ 0x11 ∷ 0x9a ∷ 0x0c ∷ 0 ∷ 0x90 ∷ 0x27 ∷ 0x3f ∷ 0xc1 ∷ 0x4d ∷ []
