@@ -1,10 +1,10 @@
 -- What `path` prints: the bytes of the device path whose text is given (UEFI 2.10, 10.6 "Device Path Display Format Overview").
 use Rattle.std.specs.Prelude.{ℕ, List, ◌++◌, codes, ◌≡◌}
 use Rattle.uefi_path.specs.Node.{Node, joined}
-use Rattle.uefi_node.specs.declared.parse.error.FromTextError.{FromTextError}
-use Rattle.uefi_node.specs.declared.parse.error.FromTextError.TheVariants.{UnknownNode, Argument, Missing, TooLong, Buffer, Memory}
-use Rattle.uefi_node.specs.parse.Errors.{HasMemoryFault, IsText}
-use Rattle.uefi_node.specs.parse.Paths.{IsTextOf}
+use Rattle.uefi_path_text.specs.declared.parse.error.FromTextError.{FromTextError}
+use Rattle.uefi_path_text.specs.declared.parse.error.FromTextError.TheVariants.{UnknownNode, Argument, Missing, TooLong, Buffer, Memory}
+use Rattle.uefi_path_text.specs.parse.Errors.{HasMemoryFault, IsText}
+use Rattle.uefi_path_text.specs.parse.Paths.{IsTextOf}
 use Rattle.shown.specs.HexText.{hex_of}
 use Rattle.boot_listing.specs.Refusal.{refusal_line}
 use Rattle.boot_listing.specs.declared.command.Form.{Form}

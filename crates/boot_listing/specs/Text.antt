@@ -5,8 +5,8 @@ use Rattle.uefi_base.specs.Appending.{AppendsText}
 use Rattle.uefi_base.specs.Prefix.{IsPrefix}
 use Rattle.uefi_path.specs.Node.{Node, joined}
 use Rattle.uefi_path.specs.Path.{AreInstances, IsPath, HasPath}
-use Rattle.uefi_node.specs.text.PathText.{path_text}
-use Rattle.uefi_node.specs.text.Style.{style}
+use Rattle.uefi_path_text.specs.text.PathText.{path_text}
+use Rattle.uefi_path_text.specs.text.Style.{style}
 use Rattle.boot_listing.specs.Json.{elements, json_text}
 use Rattle.boot_listing.specs.Refusal.{refusal_line}
 use Rattle.boot_listing.specs.declared.command.Form.{Form}

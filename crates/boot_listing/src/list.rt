@@ -22,8 +22,8 @@ use crate::variables::{
 use shown::{Hex, HexNumber, ShownName, gap_before};
 use std::alloc::{AllocError, Allocator};
 use uefi_base::UnalignedSlice;
-use uefi_node::{AllowShortcuts, DisplayOnly, to_text};
 use uefi_path::{LoadOption, LoadOptionAttributes};
+use uefi_path_text::{AllowShortcuts, DisplayOnly, to_text};
 
 /// Returns the lines of the boot manager's variables among the files of a folder: `BootCurrent` and
 /// `BootOrder`, if they are there, each with the names of boot options; then the boot options, those

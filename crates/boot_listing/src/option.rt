@@ -15,8 +15,8 @@ use crate::refusal::push_refusal;
 use shown::{Hex, HexName, HexNumber, gap_before};
 use std::alloc::{AllocError, Allocator};
 use uefi_base::UnalignedSlice;
-use uefi_node::{AllowShortcuts, DisplayOnly, to_text};
 use uefi_path::{LoadOption, LoadOptionAttributes, LoadOptionError};
+use uefi_path_text::{AllowShortcuts, DisplayOnly, to_text};
 
 /// Appends the text of a load option.
 ///

@@ -2,7 +2,7 @@
 
 ghost use Rattle.std.specs.Prelude.{◌≢◌, IfOk, OnOk};
 ghost use Rattle.uefi_base.specs.Appending.{AppendsText};
-ghost use Rattle.uefi_node.specs.declared.parse.error.FromTextError.TheVariants.{Memory};
+ghost use Rattle.uefi_path_text.specs.declared.parse.error.FromTextError.TheVariants.{Memory};
 ghost use Rattle.boot_listing.specs.Appending.{AppendsListing};
 ghost use Rattle.boot_listing.specs.Refusal.{refusal_line};
 ghost use Rattle.boot_listing.specs.Path.{PathListing, bytes_line, fault_of};
@@ -12,7 +12,7 @@ use crate::command::Form;
 use crate::refusal::push_refusal;
 use shown::Hex;
 use std::alloc::{AllocError, Allocator};
-use uefi_node::{FromTextError, from_text_in};
+use uefi_path_text::{FromTextError, from_text_in};
 
 /// Appends a line with the bytes, in hex, of the device path whose text is given (UEFI 2.10, 10.6).
 /// In JSON they are `bytes` of an object.

@@ -12,8 +12,8 @@ use crate::command::Form;
 use crate::json::JsonText;
 use crate::refusal::push_refusal;
 use std::alloc::{AllocError, Allocator};
-use uefi_node::{AllowShortcuts, DisplayOnly, instance_to_text};
 use uefi_path::{ByteConversionError, DevicePath, DevicePathInstance};
+use uefi_path_text::{AllowShortcuts, DisplayOnly, instance_to_text};
 
 /// Appends a device path as text: for each instance a line with its text, such as
 /// `PciRoot(0x0)/Pci(0x1F,0x0)` (UEFI 2.10, 10.6.1). In JSON the texts are `paths` of an object.

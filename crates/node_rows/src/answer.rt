@@ -4,38 +4,15 @@ use crate::nodes::node;
 use crate::parts::{
     adr_list, dns_addresses, hard_drive, lengths, pci, signature, unknown_signature,
 };
-use crate::texts::{
-    into_nine_bytes, parsed, text, text_and_back, text_in_each_style, texts_of_parts,
-};
 use rows::hex_row;
 use std::alloc::Global;
-use test_support::Refusing;
 
 /// Answers a row: its call, and its input.
-pub(crate) fn answer(
-    alloc: Global,
-    heap: &Refusing<Global>,
-    call: &str,
-    input: &str,
-) -> Option<String> {
+pub(crate) fn answer(alloc: Global, call: &str, input: &str) -> Option<String> {
     match call {
         "name" => named(alloc, input),
         "guid_text" => guid_text(alloc, input),
         "node" => node(alloc, input),
-        "text" => text_and_back(alloc, heap, input),
-        "text_in_each_style" => text_in_each_style(alloc, heap, input),
-        "display" => text(alloc, input, true, false),
-        "shortcuts" => text(alloc, input, false, true),
-        "parts" => texts_of_parts(alloc, input),
-        "parse" => parsed(alloc, heap, input),
-        "into_nine_bytes" => into_nine_bytes(alloc, input),
-        _ => of_parts(alloc, call, input),
-    }
-}
-
-/// Answers a row of a part of nodes, or of why bytes are none.
-fn of_parts(alloc: Global, call: &str, input: &str) -> Option<String> {
-    match call {
         "pci" => hex_row(alloc, input, pci),
         "hard_drive" => hex_row(alloc, input, hard_drive),
         "lengths" => hex_row(alloc, input, lengths),

@@ -12,11 +12,7 @@ mod messaging;
 mod names;
 mod nodes;
 mod parts;
-mod texts;
 
 fn main(rt: HostRuntime) -> Result<ExitCode, Fail> {
-    answered(
-        &rt,
-        |heap, call, input| answer(rt.alloc(), heap, call, input),
-    )
+    answered(&rt, |_heap, call, input| answer(rt.alloc(), call, input))
 }

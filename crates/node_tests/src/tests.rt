@@ -1,4 +1,3 @@
-mod from_text;
 mod paths;
 mod types;
 mod writers;

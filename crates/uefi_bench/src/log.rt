@@ -1,4 +1,4 @@
-use uefi_tcg::{v1, v2};
+use uefi_tcg::{LastEntry, Log, v1, v2};
 
 /// Reads the bytes as an event log of version 1 with this last entry. The sum is over PCR,
 /// type, first byte of the digest and length of the data of each event.
@@ -41,6 +41,23 @@ fn digest_sum(digests: v2::PcrEventDigests<'_>) -> u64 {
     for (algorithm, digest) in digests {
         let first = digest.first().map_or(0, |byte| u64::from(*byte));
         sum = sum.wrapping_add(u64::from(algorithm.0)).wrapping_add(first);
+    }
+    sum
+}
+
+/// Reads the bytes as a whole event log, whose last entry is unknown. The sum is over PCR, type and
+/// length of the data of each event.
+#[unsafe(no_mangle)]
+pub extern "C" fn port_log(bytes: &[u8]) -> u64 {
+    let Ok(log) = Log::read(bytes, LastEntry::Unknown) else {
+        return 0;
+    };
+    let mut sum = 0u64;
+    for entry in log.entries() {
+        sum = sum
+            .wrapping_add(u64::from(entry.event.pcr_index().0))
+            .wrapping_add(u64::from(entry.event.event_type().0))
+            .wrapping_add(entry.event.event_data().len() as u64);
     }
     sum
 }

@@ -1,4 +1,5 @@
-use uefi_path::{DevicePath, DevicePathNodeIterator};
+use uefi_node::{DevicePathNodeEnum, DevicePathNodeExt};
+use uefi_path::{DevicePath, DevicePathNode, DevicePathNodeIterator};
 
 /// Reads the path that the bytes begin with. The sum is its length in bytes.
 #[unsafe(no_mangle)]
@@ -43,4 +44,34 @@ fn node_sum(nodes: DevicePathNodeIterator<'_>) -> u64 {
             .wrapping_add(node.data().len() as u64);
     }
     sum
+}
+
+/// Reads the path, and its nodes but the end-entire one as values of their types. The sum is over
+/// [`value_sum`].
+#[unsafe(no_mangle)]
+pub extern "C" fn port_values(bytes: &[u8]) -> u64 {
+    let Ok(path) = DevicePath::try_from(bytes) else {
+        return 0;
+    };
+    let mut sum = 0u64;
+    for node in path.node_iter() {
+        sum = sum.wrapping_add(value_sum(&node));
+    }
+    sum
+}
+
+/// Returns the sum over numbers of a value that boot options have, or 0 for another node.
+fn value_sum(node: &DevicePathNode<'_>) -> u64 {
+    match node.as_enum() {
+        Ok(DevicePathNodeEnum::AcpiAcpi(it)) => u64::from(it.hid).wrapping_add(u64::from(it.uid)),
+        Ok(DevicePathNodeEnum::HardwarePci(it)) => {
+            u64::from(it.device).wrapping_add(u64::from(it.function))
+        }
+        Ok(DevicePathNodeEnum::MessagingNvmeNamespace(it)) => u64::from(it.namespace_identifier),
+        Ok(DevicePathNodeEnum::MediaHardDrive(it)) => {
+            it.partition_start.wrapping_add(it.partition_size)
+        }
+        Ok(DevicePathNodeEnum::MediaFilePath(it)) => it.path_name.len() as u64,
+        _ => 0,
+    }
 }

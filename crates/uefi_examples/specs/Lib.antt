@@ -1,3 +1,4 @@
 pub mod ActiveOption
 pub mod Configurations
 pub mod FullMap
+pub mod FormSizes

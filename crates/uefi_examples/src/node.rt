@@ -1,24 +1,15 @@
-ghost use Rattle.std.specs.Prelude.{◌≡◌, [], ◌∷◌, false, string_bytes, IfOk, IfSome};
+ghost use Rattle.std.specs.Prelude.{◌≡◌, [], ◌∷◌, IfOk, IfSome};
 ghost use Rattle.std.specs.List.{Any};
 ghost use Rattle.uefi_path.specs.Node.{end_entire};
 ghost use Rattle.uefi_path.specs.Path.{all_but_last};
 ghost use Rattle.uefi_path.specs.Views.{path_nodes};
 ghost use Rattle.uefi_node.specs.Layout.{IsNodeAs, node_as};
 ghost use Rattle.uefi_node.specs.Media.{hard_drive, file_path};
-ghost use Rattle.uefi_node.specs.text.PathText.{path_text};
-ghost use Rattle.uefi_node.specs.text.Style.{style};
-ghost use Rattle.uefi_node.specs.parse.Paths.{IsTextOf};
 ghost use Rattle.uefi_node.specs.declared.media.hard_drive.HardDrive.{HardDrive};
 
-use std::alloc::{AllocError, Global};
-use uefi_node::laws::{
-    faithful_types, one_path_of_text, one_signature, one_way_to_split, text_reads_back, worked_rows,
-};
+use uefi_node::laws::{faithful_types, one_signature, one_way_to_split, worked_rows};
 use uefi_node::media::{FilePath, HardDrive};
-use uefi_node::{
-    AllowShortcuts, DevicePathNodeEnum, DevicePathNodeExt, DisplayOnly, FromTextError, from_text,
-    to_text,
-};
+use uefi_node::{DevicePathNodeEnum, DevicePathNodeExt};
 use uefi_path::DevicePath;
 use uefi_path::build::{BuildError, DevicePathBuilder};
 
@@ -51,28 +42,10 @@ pub fn boot_path<'a>(
         .finalize()
 }
 
-/// Returns the text of a path, such as `PciRoot(0x0)/Pci(0x2,0x0)`.
-pub fn path_string(alloc: Global, path: DevicePath<'_>) -> Result<String, AllocError>
-    ensures { IfOk result (λ text. string_bytes text
-        ≡ path_text (style false false) (path_nodes path.entry)) }
-{
-    let text = to_text(path, DisplayOnly(false), AllowShortcuts(false));
-    format!(in alloc; "{text}")
-}
-
-/// Builds the path of a text, such as `PciRoot(0x0)/Pci(0x2,0x0)`, in a buffer.
-pub fn path_from_text<'a>(buffer: &'a mut [u8], text: &str) -> Result<DevicePath<'a>, FromTextError>
-    ensures { IfOk result (λ path. IsTextOf (path_nodes path) text.now) }
-{
-    from_text(buffer, text)
-}
-
-/// Calls each law of typed nodes and of their texts.
+/// Calls each law of typed nodes.
 pub fn laws_of_nodes() {
-    faithful_types();
+    faithful_types::<HardDrive>();
     one_signature();
     one_way_to_split();
     worked_rows();
-    text_reads_back();
-    one_path_of_text();
 }

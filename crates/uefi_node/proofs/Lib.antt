@@ -6,11 +6,3 @@ pub mod Signatures
 pub mod NulStrings
 pub mod Faithful
 pub mod Rows
-pub mod DataTests
-pub mod Forms
-pub mod PathTexts
-pub mod Commas
-pub mod ExpandedText
-pub mod arguments
-pub mod reading
-pub mod FileNames

@@ -26,21 +26,16 @@ first_then (part ∷ parts) none old now next offset some room first others =
 pub units_sized : (units : List ℕ) → length (unit_bytes units) ≡ 2 * length units
 units_sized units = units_read_back.sized units
 
--- Four parts that are put one after another.
-pub four_put : (kind size fields tail old first second third new : List ℕ) → length kind ≡ 2 → length size ≡ 2
-    → 4 + (length fields + length tail) ≤ length old → first ≡ put_at 0 kind old → second ≡ put_at 2 size first
-    → third ≡ put_at 4 fields second → new ≡ put_at (4 + length fields) tail third
-    → new ≡ put_prefix (kind ++ (size ++ (fields ++ tail))) old
-four_put kind size fields tail old first second third new two two_more room is_first is_second is_third is =
-    let begun : first ≡ put_prefix kind old = put_first kind kind old first refl is_first in
-    let header : second ≡ put_prefix (kind ++ size) old =
-    put_more 2 kind size size old first second begun two (omega (arith, room)) refl is_second in
-    let four : length (kind ++ size) ≡ 4 = omega (arith, length-append kind size, two, two_more) in
-    let filled : third ≡ put_prefix (kind ++ size ++ fields) old =
-    put_more 4 (kind ++ size) fields fields old second third header four (omega (arith, room)) refl is_third in
-    let long : length (kind ++ size ++ fields) ≡ 4 + length fields =
-    length-append (kind ++ size) fields ∙ ap (λ n. n + length fields) four in
-    let all : new ≡ put_prefix (kind ++ size ++ fields ++ tail) old =
-    put_more (4 + length fields) (kind ++ size ++ fields) tail tail old third new filled long (omega (arith, room)) refl is in
-    all ∙ ap (λ b. put_prefix b old)
-    (append_assoc (kind ++ size) fields tail ∙ append_assoc kind size (fields ++ tail))
+-- The header, the fields and the tail, put one after another.
+pub node_put : (header fields tail old first second new : List ℕ) → length header ≡ 4
+    → 4 + (length fields + length tail) ≤ length old → first ≡ put_at 0 header old → second ≡ put_at 4 fields first
+    → new ≡ put_at (4 + length fields) tail second → new ≡ put_prefix (header ++ (fields ++ tail)) old
+node_put header fields tail old first second new four room is_first is_second is =
+    let begun : first ≡ put_prefix header old = put_first header header old first refl is_first in
+    let filled : second ≡ put_prefix (header ++ fields) old =
+    put_more 4 header fields fields old first second begun four (omega (arith, room)) refl is_second in
+    let long : length (header ++ fields) ≡ 4 + length fields =
+    length-append header fields ∙ ap (λ n. n + length fields) four in
+    let all : new ≡ put_prefix (header ++ fields ++ tail) old =
+    put_more (4 + length fields) (header ++ fields) tail tail old second new filled long (omega (arith, room)) refl is in
+    all ∙ ap (λ b. put_prefix b old) (append_assoc header fields tail)

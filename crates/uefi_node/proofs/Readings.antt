@@ -2,10 +2,10 @@
 use Rattle.std.proofs.Common.{◌≡◌, ℕ, List, length, sym, ◌∙◌, ap, subst, Ok, Err}
 use Rattle.uefi_base.specs.LittleEndian.{AreBytes}
 use Rattle.uefi_path.specs.Node.{Node}
-use Rattle.uefi_node.specs.Layout.{Layout, fields_size, kind_of, HasForm}
+use Rattle.uefi_node.specs.Layout.{Layout, HasForm}
 use Rattle.uefi_node.specs.Reading.{HasType, HasLength, ReadsAs}
-use Rattle.uefi_node.specs.private.Fields.{HasValue, HasLengthOf, IsLayout}
-use Rattle.uefi_node.specs.declared.read.RestKind.{RestKind}
+use Rattle.uefi_node.specs.private.Fields.{HasValue, HasLengthOf, node_kind}
+use Rattle.uefi_node.specs.declared.read.NodeKind.{NodeKind}
 use Rattle.uefi_node.specs.declared.error.NodeConversionError.TheVariants.{DifferentType, Length, Form}
 use Rattle.uefi_node.proofs.Layouts.{value_read, value_sized}
 
@@ -54,15 +54,21 @@ reads_other_form l node b is same long other =
       none = λ r of. none (subst (HasForm l.form) (sym (ap (λ n. n.payload) of.1)) of.0.form);
     }
 
--- The length of a layout by its numbers.
-pub length_given : {R : Type 0} (l : Layout R) (t s n : ℕ) (kind : RestKind) (b : List ℕ) → IsLayout l t s n kind
-    → HasLengthOf n kind (length b) → HasLength l b
-length_given l t s n kind b is long =
-    subst (λ k. HasLengthOf (fields_size l.fields) k (length b)) (sym is.rest)
-    (subst (λ m. HasLengthOf m kind (length b)) (sym is.size) long)
+-- The type and the length of data by the constant of a layout.
+pub type_given : {R : Type 0} (l : Layout R) (kind : NodeKind) (node : Node) → kind ≡ node_kind l
+    → (node.device_type ≡ kind.full_type.0.0) × (node.sub_type ≡ kind.full_type.1.0) → HasType l node
+type_given l kind node is same =
+    (same.0 ∙ ap (λ k. k.full_type.0.0) is, same.1 ∙ ap (λ k. k.full_type.1.0) is)
 
-pub length_known : {R : Type 0} (l : Layout R) (t s n : ℕ) (kind : RestKind) (b : List ℕ) → IsLayout l t s n kind
-    → HasLength l b → HasLengthOf n kind (length b)
-length_known l t s n kind b is long =
-    subst (λ k. HasLengthOf n k (length b)) is.rest
-    (subst (λ m. HasLengthOf m (kind_of l.rest) (length b)) is.size long)
+pub type_known : {R : Type 0} (l : Layout R) (kind : NodeKind) (node : Node) → kind ≡ node_kind l → HasType l node
+    → (node.device_type ≡ kind.full_type.0.0) × (node.sub_type ≡ kind.full_type.1.0)
+type_known l kind node is same =
+    (same.0 ∙ sym (ap (λ k. k.full_type.0.0) is), same.1 ∙ sym (ap (λ k. k.full_type.1.0) is))
+
+pub length_given : {R : Type 0} (l : Layout R) (kind : NodeKind) (b : List ℕ) → kind ≡ node_kind l
+    → HasLengthOf kind.size kind.rest (length b) → HasLength l b
+length_given l kind b is long = subst (λ k. HasLengthOf k.size k.rest (length b)) is long
+
+pub length_known : {R : Type 0} (l : Layout R) (kind : NodeKind) (b : List ℕ) → kind ≡ node_kind l → HasLength l b
+    → HasLengthOf kind.size kind.rest (length b)
+length_known l kind b is long = subst (λ k. HasLengthOf k.size k.rest (length b)) (sym is) long

@@ -7,7 +7,8 @@ use Rattle.uefi_path.specs.build.Writing.{WritesNode, HasWritingFault}
 use Rattle.uefi_path.specs.declared.build.error.BuildError.{BuildError}
 use Rattle.uefi_path.specs.declared.build.error.BuildError.TheVariants.{Form, NodeTooBig, BufferTooSmall, EndEntire, Memory}
 use Rattle.uefi_node.specs.Layout.{Layout, IsValue, fields_bytes, rest_bytes, value_bytes, node_as}
-use Rattle.uefi_node.specs.private.Fields.{WritesParts, HasLengthFault}
+use Rattle.uefi_node.specs.private.Fields.{WritesParts, HasLengthFault, node_kind}
+use Rattle.uefi_node.specs.declared.read.NodeKind.{NodeKind}
 
 -- The node's length is that of the header, the fields and the tail.
 long : (node : Node) (fields tail : List ℕ) → node.payload ≡ fields ++ tail
@@ -53,14 +54,13 @@ writes_node IsValid node fields tail old new (Err e) valid is done = record {
   err = fault IsValid node old _ e valid (long node fields tail is) done.err;
 }
 
--- The same by the parts of a layout.
-pub writes_value : {R : Type 0} (l : Layout R) (r : R) (t s : ℕ) (fields tail old new : List ℕ)
-    (result : Result ℕ BuildError) → IsValue l r → l.device_type ≡ t → l.sub_type ≡ s
-    → fields ≡ fields_bytes l.fields r → tail ≡ rest_bytes l.rest r → WritesParts t s fields tail old new result
+-- The same by the parts of a layout, and its constant.
+pub writes_value : {R : Type 0} (l : Layout R) (r : R) (kind : NodeKind) (fields tail old new : List ℕ)
+    (result : Result ℕ BuildError) → IsValue l r → kind ≡ node_kind l → fields ≡ fields_bytes l.fields r
+    → tail ≡ rest_bytes l.rest r → WritesParts kind.full_type.0.0 kind.full_type.1.0 fields tail old new result
     → WritesNode (IsValue l r) (node_as l r) old new result
 unfolding value_bytes
-writes_value l r t s fields tail old new result valid same_type same_sub is_fields is_tail done =
+writes_value l r kind fields tail old new result valid is is_fields is_tail done =
     writes_node (IsValue l r) (node_as l r) fields tail old new result valid
     (λ i. sym is_fields i ++ sym is_tail i)
-    (subst (λ u. WritesParts u l.sub_type fields tail old new result) (sym same_type)
-    (subst (λ u. WritesParts t u fields tail old new result) (sym same_sub) done))
+    (subst (λ k. WritesParts k.full_type.0.0 k.full_type.1.0 fields tail old new result) is done)

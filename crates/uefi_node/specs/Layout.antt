@@ -1,6 +1,6 @@
 -- The layout of a type of nodes (UEFI 2.10, 10.3): its numbers, the fields of its data at fixed offsets, and what
 -- follows them.
-use Rattle.std.specs.Prelude.{ℕ, ◌≡◌, ◌<◌, ◌≤◌, ◌+◌, ◌%◌, ◌^◌, List, [], ◌∷◌, ◌++◌, length, drop, slice_index, Bool, true, IsTrue, Option, Some, None}
+use Rattle.std.specs.Prelude.{ℕ, ◌≡◌, ◌<◌, ◌≤◌, ◌+◌, ◌%◌, ◌^◌, ◌==◌, ◌&&◌, nat_le, List, [], ◌∷◌, ◌++◌, length, drop, slice_index, Bool, true, IsTrue, Option, Some, None}
 use Rattle.std.specs.Int.{Width, w16, w32, w64, to_le_bytes}
 use Rattle.std.specs.List.{AllByRecursion}
 use Rattle.uefi_base.specs.Unaligned.{AreUnits, unit_bytes}
@@ -134,6 +134,14 @@ RestLength Bytes n = Unit
 RestLength Units n = n % 2 ≡ 0
 RestLength Numbers n = (4 ≤ n) × (n % 4 ≡ 0)
 RestLength Addresses n = n % 16 ≡ 0
+
+-- The same as a test.
+abbrev pub is_rest_length : RestKind → ℕ → Bool
+is_rest_length Nothing n = n == 0
+is_rest_length Bytes n = true
+is_rest_length Units n = n % 2 == 0
+is_rest_length Numbers n = nat_le 4 n && n % 4 == 0
+is_rest_length Addresses n = n % 16 == 0
 
 -- The value fits what follows the fields.
 abbrev pub RestFits : {R : Type 0} → Rest R → R → Type 0

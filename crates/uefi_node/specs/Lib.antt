@@ -13,8 +13,6 @@ pub mod RestServices
 pub mod Media
 pub mod BiosBootSpec
 pub mod NodeEnum
-pub mod text
-pub mod parse
 pub mod Texts
 pub mod Laws
 pub mod rows

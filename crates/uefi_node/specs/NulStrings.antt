@@ -1,5 +1,5 @@
 -- Strings that end with a NUL each.
-use Rattle.std.specs.Prelude.{ℕ, ◌≡◌, ◌-◌, Bool, not, ◌==◌, ◌&&◌, List, [], ◌∷◌, ◌++◌, length, slice_index, count_by, IsTrue}
+use Rattle.std.specs.Prelude.{ℕ, ◌≡◌, Bool, not, ◌==◌, List, [], ◌∷◌, ◌++◌, IsTrue}
 use Rattle.std.specs.List.{list_all}
 
 -- No byte is a NUL.
@@ -16,7 +16,3 @@ pub record AreStrings (bytes first second third : List ℕ) : Type 0 where
   pub second_string : IsTrue (is_without_nul second)
   pub third_string : IsTrue (is_without_nul third)
   pub joined : bytes ≡ strings_bytes first second third
-
--- The bytes are three strings: three of them are NULs, and the last byte is one.
-abbrev pub are_three_strings : List ℕ → Bool
-are_three_strings bytes = count_by (λ byte. byte == 0) bytes == 3 && slice_index bytes (length bytes - 1) == 0

@@ -1,15 +1,16 @@
 //! Laws of the definitions. Each function states a law that holds for all values, and does nothing
 //! when it runs.
 
-ghost use Rattle.uefi_node.specs.parse.Laws.{TextReadsBack, OnePathOfText};
-ghost use Rattle.uefi_node.specs.Laws.{FaithfulTypes, OneSignature, OneWayToSplit};
+ghost use Rattle.uefi_node.specs.Layout.{Layout};
+ghost use Rattle.uefi_node.specs.Laws.{IsFaithful, OneSignature, OneWayToSplit};
 ghost use Rattle.uefi_node.specs.rows.Nodes.{RowsHold};
 ghost use Rattle.uefi_node.specs.rows.Numbers.{NumbersHold};
 
-/// States for each type of nodes that a node is that of one value at most, and that reading the
-/// node of a value returns the value.
-pub fn faithful_types()
-    ensures { FaithfulTypes }
+/// States for each layout, so for each type of nodes, that a node is that of one value at most, and
+/// that reading the node of a value returns the value.
+pub fn faithful_types<R>()
+    ghost layout: { Layout R }
+    ensures { IsFaithful layout }
 {}
 
 /// States that a type and 16 bytes are those of one signature of a partition.
@@ -31,17 +32,4 @@ pub fn one_way_to_split()
 pub fn worked_rows()
     ensures nodes { RowsHold }
     ensures numbers { NumbersHold }
-{}
-
-/// States that the text of a path, with both flags false, is that of the path: so reading it gives
-/// the path, byte for byte.
-#[tactic(auto, using(crate::proofs::reading::AllTexts::path_text_reads_back))]
-pub fn text_reads_back()
-    ensures { TextReadsBack }
-{}
-
-/// States that a text is that of one path.
-#[tactic(auto, using(crate::proofs::reading::OnePath::one_path_of_text))]
-pub fn one_path_of_text()
-    ensures { OnePathOfText }
 {}

@@ -1,25 +1,18 @@
-//! The nodes of UEFI device paths by their types, read and written (UEFI 2.10, 10.3.1 to 10.3.6),
-//! and paths as text and from text (10.6).
+//! The nodes of UEFI device paths by their types, read and written (UEFI 2.10, 10.3.1 to 10.3.6).
 //!
 //! A node has a type, a subtype and data. Here each type of the standard is a struct with its
 //! fields.
 //!
 //! Begin with [`DevicePathNodeExt::as_enum`], which returns a node of a path as the value of its
 //! type, or with `TryFrom`, such as [`HardDrive::try_from`](media::HardDrive), for a type that is
-//! known. Values are pushed to a `uefi_path::build::DevicePathBuilder`. [`to_text`] writes a path
-//! as text, and [`from_text`] reads the path of a text. [`from_text_in`] alone allocates.
+//! known. Values are pushed to a `uefi_path::build::DevicePathBuilder`. Nothing allocates.
 //!
 //! The contracts speak of layouts: `specs/Layout.antt` defines what a layout is, and one definition
-//! for each type, such as `hard_drive` in `specs/Media.antt`, has its fields in order. Its form as
-//! text is in `specs/text`, and what is read as its text in `specs/parse`.
+//! for each type, such as `hard_drive` in `specs/Media.antt`, has its fields in order.
 #![tactic(auto)]
 
 pub use self::error::NodeConversionError;
 pub use self::node_enum::{DevicePathNodeEnum, DevicePathNodeExt};
-pub use self::parse::{FromTextError, from_text, from_text_in, write_from_text};
-pub use self::text::{
-    AllowShortcuts, DisplayOnly, NodeText, PathText, instance_to_text, node_to_text, to_text,
-};
 
 pub mod acpi;
 mod as_enum;
@@ -31,8 +24,6 @@ pub mod laws;
 pub mod media;
 pub mod messaging;
 mod node_enum;
-mod parse;
 mod read;
 mod strings;
-mod text;
 mod write;

@@ -2,10 +2,48 @@ ghost use Rattle.std.specs.Prelude.{◌≡◌, ◌↔◌, ◌≤◌, ◌+◌, le
 ghost use Rattle.uefi_path.specs.Views.{node_of};
 ghost use Rattle.uefi_node.specs.Layout.{Layout};
 ghost use Rattle.uefi_node.specs.Reading.{HasLength, ReadsAs};
-ghost use Rattle.uefi_node.specs.private.Fields.{HasLengthOf, IsLayout, TakesValue};
+ghost use Rattle.uefi_node.specs.private.Fields.{HasLengthOf, TakesValue, node_kind};
 
 use crate::error::NodeConversionError;
 use uefi_path::{DevicePathNode, DeviceSubType, DeviceType};
+
+/// A type of nodes, and how long its data are.
+#[derive(Clone, Copy)]
+pub(crate) struct NodeKind {
+    /// The type and the subtype.
+    pub(crate) full_type: (DeviceType, DeviceSubType),
+    /// How many bytes the fields have.
+    pub(crate) size: usize,
+    /// What follows them.
+    pub(crate) rest: RestKind,
+}
+
+impl NodeKind {
+    /// Returns whether a node has the type and the subtype.
+    fn is_of(&self, node: &DevicePathNode<'_>) -> bool
+        ensures { IsTrue result ↔ ((node_of node.now).device_type ≡ self.now.full_type.0.0)
+            × ((node_of node.now).sub_type ≡ self.now.full_type.1.0) }
+    {
+        node.full_type() == self.full_type
+    }
+
+    /// Returns whether data of this length are fields and such a rest.
+    fn has_length(&self, length: usize) -> bool
+        ensures { IsTrue result ↔ HasLengthOf self.now.size self.now.rest length }
+    {
+        if length < self.size {
+            return false;
+        }
+        let after = length - self.size;
+        match self.rest {
+            RestKind::Nothing => after == 0,
+            RestKind::Bytes => true,
+            RestKind::Units => after % 2 == 0,
+            RestKind::Numbers => after >= 4 && after % 4 == 0,
+            RestKind::Addresses => after % 16 == 0,
+        }
+    }
+}
 
 /// What follows the fields of a node.
 #[derive(Clone, Copy)]
@@ -36,49 +74,21 @@ pub(crate) trait NodeValue<'a>: Sized {
 /// Returns the value that a node is, or why it is none.
 pub(crate) fn read_node<'a, T: NodeValue<'a>>(
     node: &DevicePathNode<'a>,
-    device_type: DeviceType,
-    sub_type: DeviceSubType,
-    size: usize,
-    rest: RestKind,
+    kind: NodeKind,
 ) -> Result<T, NodeConversionError>
-    requires { IsLayout T.layout device_type.0 sub_type.0 size rest }
+    requires { kind ≡ node_kind T.layout }
     ensures { ReadsAs T.layout (node_of node.now) result }
 {
     let data = node.data();
-    if !has_type(node, device_type, sub_type) {
+    if !kind.is_of(node) {
         return Err(NodeConversionError::DifferentType);
     }
-    if !has_length(data.len(), size, rest) {
+    if !kind.has_length(data.len()) {
         return Err(NodeConversionError::Length);
     }
     match T::from_data(data) {
         Some(value) => Ok(value),
         None => Err(NodeConversionError::Form),
-    }
-}
-
-/// Returns whether the node has this type and subtype.
-fn has_type(node: &DevicePathNode<'_>, device_type: DeviceType, sub_type: DeviceSubType) -> bool
-    ensures { IsTrue result ↔ ((node_of node.now).device_type ≡ device_type.0)
-        × ((node_of node.now).sub_type ≡ sub_type.0) }
-{
-    node.full_type() == (device_type, sub_type)
-}
-
-/// Returns whether data of this length are fields of this size and such a rest.
-fn has_length(length: usize, size: usize, rest: RestKind) -> bool
-    ensures { IsTrue result ↔ HasLengthOf size rest length }
-{
-    if length < size {
-        return false;
-    }
-    let after = length - size;
-    match rest {
-        RestKind::Nothing => after == 0,
-        RestKind::Bytes => true,
-        RestKind::Units => after % 2 == 0,
-        RestKind::Numbers => after >= 4 && after % 4 == 0,
-        RestKind::Addresses => after % 16 == 0,
     }
 }
 

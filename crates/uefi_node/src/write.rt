@@ -2,16 +2,15 @@ ghost use Rattle.std.specs.Prelude.{◌≡◌, ◌++◌, ◌+◌, ◌*◌, ◌�
 ghost use Rattle.uefi_base.specs.Buffer.{put_at, put_prefix};
 ghost use Rattle.uefi_base.specs.Unaligned.{unit_bytes};
 ghost use Rattle.uefi_base.specs.Views.{slice_units};
-ghost use Rattle.uefi_path.specs.build.Writing.{WritesNode, greatest_length};
-ghost use Rattle.uefi_path.specs.Node.{encoding};
+ghost use Rattle.uefi_path.specs.build.Writing.{WritesNode};
 ghost use Rattle.uefi_node.specs.Layout.{IsValue, fields_bytes, rest_bytes, node_as};
-ghost use Rattle.uefi_node.specs.private.Fields.{parts_bytes, tail_bytes, WritesParts};
+ghost use Rattle.uefi_node.specs.private.Fields.{node_kind, parts_bytes, tail_bytes, WritesParts};
 
-use crate::read::NodeValue;
+use crate::read::{NodeKind, NodeValue};
 use uefi_base::UnalignedSlice;
 use uefi_base::buffer::put;
 use uefi_path::build::BuildError;
-use uefi_path::{DeviceSubType, DeviceType};
+use uefi_path::{DevicePathHeader, DeviceSubType, DeviceType};
 
 // The length of a header, and the greatest length of a node.
 pub(crate) const HEADER_LENGTH: usize = 4;
@@ -113,14 +112,13 @@ pub(crate) fn joined<const N: usize>(parts: &[&[u8]]) -> [u8; N]
 /// Writes the node of a value, which has these fields and this tail.
 pub(crate) fn write_node<'a, T: NodeValue<'a>>(
     buffer: &mut [u8],
+    kind: NodeKind,
     value: &T,
-    full_type: (DeviceType, DeviceSubType),
     fields: &[u8],
     tail: Tail<'_>,
 ) -> Result<usize, BuildError>
+    requires kind { kind ≡ node_kind T.layout }
     requires value { IsValue T.layout value.now }
-    requires device_type { T.layout.device_type ≡ full_type.0.0 }
-    requires sub_type { T.layout.sub_type ≡ full_type.1.0 }
     requires fields { fields.now ≡ fields_bytes T.layout.fields value.now }
     requires few { length fields.now < 2 ^ 16 }
     requires tail { tail_bytes tail ≡ rest_bytes T.layout.rest value.now }
@@ -128,7 +126,7 @@ pub(crate) fn write_node<'a, T: NodeValue<'a>>(
         buffer.old buffer.new result }
 {
     let _value = value;
-    write_parts(buffer, full_type, fields, &tail)
+    write_parts(buffer, kind.full_type, fields, &tail)
 }
 
 /// Writes the node with this type and subtype, whose data are the fields and then the tail.
@@ -153,26 +151,18 @@ fn write_parts(
         return Err(BuildError::BufferTooSmall(length));
     }
     let (device_type, sub_type) = full_type;
-    put_node(
-        buffer,
-        [device_type.0, sub_type.0],
-        (length as u16).to_le_bytes(),
-        fields,
-        tail,
-    );
+    let header = DevicePathHeader::new(device_type, sub_type, length as u16);
+    put_node(buffer, header.to_bytes(), fields, tail);
     Ok(length)
 }
 
-/// Puts a node at the start of a buffer that has room for it: its type and subtype, its length, its
-/// fields and its tail.
-#[tactic(auto, using(crate::proofs::Parts::four_put))]
-fn put_node(buffer: &mut [u8], full_type: [u8; 2], size: [u8; 2], fields: &[u8], tail: &Tail<'_>)
+/// Puts a node at the start of a buffer that has room for it: its header, its fields and its tail.
+#[tactic(auto, using(crate::proofs::Parts::node_put))]
+fn put_node(buffer: &mut [u8], header: [u8; 4], fields: &[u8], tail: &Tail<'_>)
     requires { 4 + (length fields.now + length (tail_bytes tail.now)) ≤ length buffer.old }
-    ensures { buffer.new ≡ put_prefix
-        (full_type ++ (size ++ (fields.now ++ tail_bytes tail.now))) buffer.old }
+    ensures { buffer.new ≡ put_prefix (header ++ (fields.now ++ tail_bytes tail.now)) buffer.old }
 {
-    put(buffer, 0, &full_type);
-    put(buffer, 2, &size);
+    put(buffer, 0, &header);
     put(buffer, HEADER_LENGTH, fields);
     tail.put(buffer, HEADER_LENGTH + fields.len());
 }

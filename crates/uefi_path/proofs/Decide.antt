@@ -32,7 +32,7 @@ node_states bytes has =
     (omega (arith, whole), (omega (arith, states), omega (arith, states, whole)))
 
 -- Bytes that state so start with a node.
-node_stated : (bytes : List ℕ) → AreBytes bytes → StatesNode bytes → HasNode bytes
+pub node_stated : (bytes : List ℕ) → AreBytes bytes → StatesNode bytes → HasNode bytes
 node_stated bytes small (enough, (whole_header, within)) =
     let n = stated bytes in
     let header = header_prefix bytes n small enough refl in

@@ -1,6 +1,8 @@
 -- A walk over the nodes that bytes start with.
 use Rattle.std.proofs.Common.{◌≡◌, ℕ, ◌-◌, List, [], ◌∷◌, ◌++◌, length, take, refl, sym, ◌∙◌, ap, subst, arith}
-use Rattle.std.proofs.Common.{append_assoc}
+use Rattle.std.proofs.Common.{append_assoc, ◌<◌, Result, Ok, Err, IfOk, MatchOption}
+use Rattle.std.specs.List.{IsSplitAt}
+use Rattle.std.specs.Result.{result_ok}
 use Rattle.std.proofs.lemmas.Grind.{common_steps, flat_map-append}
 use Rattle.std.proofs.lemmas.List.{append-nil}
 use Rattle.std.specs.List.{AllByRecursion, flat_map}
@@ -134,3 +136,10 @@ pub passed_end_node : (P : Node → Type 0) (bytes rest after : List ℕ) (n : N
 passed_end_node P bytes rest after n nodes before fits so e encodes =
     let all : nodes ≡ before.0 ++ n ∷ [] = passed_all P bytes rest after n nodes before fits so e encodes in
     all ∙ ap (λ front. front ++ n ∷ []) (sym (ap all_but_last all ∙ all_but_last-push before.0 n))
+
+-- The front that is split off has what so many of the bytes have.
+pub ok_front : {X E : Type 0} (front back : X → List ℕ) (Q : List ℕ → Type 0) (bytes : List ℕ) (n : ℕ) (r : Result X E)
+    → MatchOption (result_ok r) (length bytes < n) (λ p. IsSplitAt bytes n (front p) (back p))
+    → Q (take n bytes) → IfOk r (λ p. Q (front p))
+ok_front front back Q bytes n (Ok p) split so = subst Q (sym split.1) so
+ok_front front back Q bytes n (Err e) split so = tt

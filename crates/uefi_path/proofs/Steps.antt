@@ -1,6 +1,8 @@
 -- One step of the iterators.
-use Rattle.std.proofs.Common.{◌≡◌, ℕ, List, [], ◌∷◌, ◌++◌, length, refl, sym, ◌∙◌, ap, subst, append_assoc}
-use Rattle.std.proofs.lemmas.List.{append-nil, nil_from_length}
+use Rattle.std.proofs.Common.{◌≡◌, ℕ, List, [], ◌∷◌, ◌++◌, refl, sym, ◌∙◌, ap, subst, append_assoc}
+use Rattle.std.proofs.Common.{Some, None, Result, Ok, Err, IfOk, OnErr}
+use Rattle.std.specs.Result.{result_ok}
+use Rattle.std.proofs.lemmas.List.{append-nil}
 use Rattle.uefi_base.specs.Prefix.{IsPrefix}
 use Rattle.uefi_path.specs.Node.{Node, Fits, encoding, joined, HasNode, IsEnd}
 use Rattle.uefi_path.specs.Path.{AreEndedBy, concat, all_but_last}
@@ -84,20 +86,12 @@ next_node {P} {bytes} {after} {n} {nodes} {others} encodes fits not_so e left =
     }) in
     ap all_but_last all ∙ all_but_last-cons P n others left.ended
 
--- If no bytes are left, no instance is left.
-pub no_instance : {bytes : List ℕ} {instances : List (List Node)} → IsEncodingOfInstances bytes instances
-    → length bytes ≡ 0 → instances ≡ []
-no_instance {bytes} {instances = []} encodes none = refl
-no_instance {bytes} {instances = p ∷ instances} encodes none =
-    absurd (some_bytes p (joined (concat instances)) encodes.each.0
-    (sym (encodes.encoded ∙ joined-append p (concat instances)) ∙ nil_from_length bytes none))
-
--- If bytes are left, they start with an instance.
-pub some_instance : {bytes : List ℕ} {instances : List (List Node)} → IsEncodingOfInstances bytes instances
-    → (length bytes ≡ 0 → ⊥) → HasNodes IsEnd bytes
-some_instance {bytes} {instances = []} encodes some = absurd (some (ap length encodes.encoded))
-some_instance {bytes} {instances = p ∷ instances} encodes some =
-    (p, encodes.each.0, (joined (concat instances), encodes.encoded ∙ joined-append p (concat instances)))
+-- If the bytes start with no instance, none is left.
+pub none_left : {bytes : List ℕ} {instances : List (List Node)} → IsEncodingOfInstances bytes instances
+    → ¬ HasNodes IsEnd bytes → instances ≡ []
+none_left {bytes} {instances = []} encodes none = refl
+none_left {bytes} {instances = p ∷ instances} encodes none =
+    absurd (none (p, encodes.each.0, (joined (concat instances), encodes.encoded ∙ joined-append p (concat instances))))
 
 -- After an instance, the bytes encode the other instances.
 pub after_instance : {bytes : List ℕ} {instances : List (List Node)} (prefix after : List ℕ)
@@ -119,3 +113,14 @@ next_instance {bytes} {prefix} {after} {nodes} {instances} {others} encodes came
     instances_encoded_once instances (nodes ∷ others) encodes.each (came.ended, left.each)
     (sym encodes.encoded ∙ e ∙ ap (λ b. b ++ after) came.encoded ∙ ap (λ b. joined nodes ++ b) left.encoded
     ∙ sym (joined-append nodes (concat others)))
+
+-- What is ensured of a result, where its value is taken, and where there is none.
+pub of_value : {X E : Type 0} (P : X → Type 0) (r : Result X E) (x : X) → Some x ≡ result_ok r → IfOk r P → P x
+of_value P (Ok y) x e holds =
+    let same : y ≡ x = cc in
+    subst P same holds
+of_value P (Err _) x e holds = absurd cc
+
+pub of_none : {X E : Type 0} (A : Type 0) (r : Result X E) → None ≡ result_ok r → OnErr r A → A
+of_none A (Ok y) e holds = absurd cc
+of_none A (Err _) e holds = holds

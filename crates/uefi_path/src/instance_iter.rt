@@ -4,7 +4,7 @@ ghost use Rattle.uefi_path.specs.private.Encoding.{IsEncodingOfInstances, Encode
 ghost use Rattle.uefi_path.specs.private.OnePath.{EncodesInstances-prop};
 
 use crate::instance::DevicePathInstance;
-use crate::walk::{StopCondition, first_nodes};
+use crate::walk::{StopCondition, split_nodes};
 use std::iter::FusedIterator;
 use uefi_base::buffer::length_fits;
 
@@ -40,10 +40,7 @@ impl<'a> Iterator for DevicePathInstanceIterator<'a> {
     ghost remaining = { item_count instances_left };
 
     fn next(&mut self) -> Option<DevicePathInstance<'a>> {
-        if self.rest.is_empty() {
-            return None;
-        }
-        let (instance, after) = first_nodes(self.rest, StopCondition::AnyEndNode);
+        let (instance, after) = split_nodes(self.rest, StopCondition::AnyEndNode).ok()?;
         *self = DevicePathInstanceIterator::new(after);
         Some(DevicePathInstance::new_unchecked(instance))
     }

@@ -133,6 +133,7 @@ impl<'a> Eq for DevicePathNode<'a> {
     ghost laws = { on_equiv node_bytes nat_list_eq_equiv };
 }
 
+// Left out of rust/: there a node displays its text.
 /// Writes `<device path node: N bytes>`, where N is the length of the data in decimal.
 impl<'a> fmt::Display for DevicePathNode<'a> {
     ghost use Rattle.uefi_path.specs.Texts.{node_text};

@@ -5,7 +5,7 @@ ghost use Rattle.uefi_path.specs.private.Encoding.{IsEncodingOfNodes, EncodesNod
 ghost use Rattle.uefi_path.specs.private.OnePath.{EncodesNodes-prop};
 
 use crate::node::DevicePathNode;
-use crate::walk::{StopCondition, first_node};
+use crate::walk::{StopCondition, split_node};
 use std::iter::FusedIterator;
 use uefi_base::buffer::length_fits;
 
@@ -42,7 +42,7 @@ impl<'a> Iterator for DevicePathNodeIterator<'a> {
     ghost remaining = { item_count nodes_left };
 
     fn next(&mut self) -> Option<DevicePathNode<'a>> {
-        let (node, after) = first_node(self.rest);
+        let (node, after) = split_node(self.rest).ok()?;
         if self.stop.stops_at(&node) {
             return None;
         }

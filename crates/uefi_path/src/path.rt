@@ -168,6 +168,7 @@ impl<'a> Eq for DevicePath<'a> {
     ghost laws = { on_equiv path_bytes nat_list_eq_equiv };
 }
 
+// Left out of rust/: there a path displays its text.
 /// Writes `<device path: N bytes>`, where N is the length of the whole path in decimal.
 impl<'a> fmt::Display for DevicePath<'a> {
     ghost use Rattle.uefi_path.specs.Texts.{path_text};

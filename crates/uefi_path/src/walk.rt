@@ -7,7 +7,7 @@ ghost use Rattle.uefi_path.specs.Views.{node_of};
 
 use crate::device_type::DeviceType;
 use crate::error::ByteConversionError;
-use crate::header::{DevicePathHeader, HEADER_LENGTH, LENGTH_OFFSET};
+use crate::header::{HEADER_LENGTH, LENGTH_OFFSET};
 use crate::node::DevicePathNode;
 use uefi_base::little_endian::u16_at;
 
@@ -39,8 +39,10 @@ pub(crate) fn split_node(bytes: &[u8]) -> Result<(DevicePathNode<'_>, &[u8]), By
     ensures split { IfOk result (λ r. bytes.now ≡ encoding (node_of r.0) ++ r.1.now) }
     ensures none { OnErr result (¬ HasNode bytes.now) }
 {
-    let header = DevicePathHeader::try_from(bytes)?;
-    let length = usize::from(header.length());
+    if bytes.len() < HEADER_LENGTH {
+        return Err(ByteConversionError::InvalidLength);
+    }
+    let length = usize::from(u16_at(bytes, LENGTH_OFFSET));
     if length < HEADER_LENGTH || bytes.len() < length {
         return Err(ByteConversionError::InvalidLength);
     }
@@ -74,23 +76,9 @@ pub(crate) fn split_nodes(
         let (node, after) = split_node(rest)?;
         rest = after;
         if stop.stops_at(&node) {
-            return Ok(bytes.split_at(bytes.len() - rest.len()));
-        }
-    }
-}
-
-/// Returns the same for bytes that are known to start with such nodes, without a test.
-pub(crate) fn first_nodes(bytes: &[u8], stop: StopCondition) -> (&[u8], &[u8])
-    requires { HasNodes (Stops stop) bytes.now }
-    ensures nodes { EncodesNodes (Stops stop) result.0.now }
-    ensures split { bytes.now ≡ result.0.now ++ result.1.now }
-{
-    let mut rest = bytes;
-    loop {
-        let (node, after) = first_node(rest);
-        rest = after;
-        if stop.stops_at(&node) {
-            return bytes.split_at(bytes.len() - rest.len());
+            return bytes
+                .split_at_checked(bytes.len() - rest.len())
+                .ok_or(ByteConversionError::InvalidLength);
         }
     }
 }

@@ -2,7 +2,7 @@
 use Rattle.std.proofs.Common.{◌≡◌, ℕ, zero, suc, ◌+◌, ◌-◌, ◌*◌, ◌<◌, ◌≤◌, ◌^◌, min, List, [], ◌∷◌, ◌++◌, length, take, drop, replicate, map, refl, sym, ap, ◌∙◌, arith, subst, append_assoc, Option, Some, None, pow_mono}
 use Rattle.std.specs.Borrow.{Bor}
 use Rattle.uefi_path_text.specs.form.NodeForm.{Parameter, Part}
-use Rattle.uefi_path_text.specs.parse.Arguments.{value_at, number_of, number_sum, part_bytes, parts_data, with_zeros}
+use Rattle.uefi_path_text.specs.parse.Arguments.{value_at, part_bytes, parts_data, with_zeros}
 use Rattle.uefi_path_text.specs.write.Fields.{argument_at, value_found, values_from}
 use Rattle.uefi_path_text.specs.private.Found.{IsAfter}
 use Rattle.uefi_path_text.proofs.reading.ArgumentLists.{zeros_left}

@@ -5,13 +5,14 @@ use Rattle.uefi_path.specs.Node.{Node}
 use Rattle.uefi_path_text.specs.AllForms.{forms}
 use Rattle.uefi_path_text.proofs.Table.{is_table}
 use Rattle.uefi_path_text.specs.parse.Nodes.{piece_node}
+use Rattle.uefi_path_text.specs.parse.Ipv6.{ipv6_in}
 use Rattle.uefi_path_text.specs.parse.Values.{bytes_in, number_in, shape_bytes}
 use Rattle.uefi_path_text.specs.text.Style.{style}
 use Rattle.uefi_path_text.specs.write.Forms.{form_text}
 use Rattle.uefi_path_text.proofs.TableLaw.{reads_back}
 
 forms_are_table : is_table forms ≡ true
-unfolding bytes_in number_in shape_bytes
+unfolding bytes_in number_in shape_bytes ipv6_in
 forms_are_table = refl
 
 -- The text of a node in a form, not for display alone, is read as the node.

@@ -5,6 +5,7 @@ use Rattle.std.specs.List.{take-map, drop-map}
 use Rattle.uefi_path_text.specs.form.NodeForm.{Parameter, Part}
 use Rattle.uefi_path_text.specs.write.Forms.{all_shown, marked, texts_from}
 use Rattle.uefi_path_text.specs.write.Fields.{values_from, value_size}
+use Rattle.uefi_path_text.specs.write.Partial.{partial_value, partial_from}
 use Rattle.uefi_path_text.specs.write.Values.{value_text}
 use Rattle.uefi_path_text.specs.declared.form.argument.Argument.{Argument}
 
@@ -55,3 +56,20 @@ values_marked kind count rest mark front after size some is is_front is_after =
     ap (marked mark) (texts_more kind count rest some)
     ∙ (λ i. mark ++ (value_text kind (sym (is_front ∙ ap (λ n. take n rest) is) i)
     ++ marked (codes ",") (texts_from kind (count - 1) (sym (is_after ∙ ap (λ n. drop n rest) is) i))))
+
+-- The same of what arguments have of them.
+partial_more : (kind : Argument) (count : ℕ) (rest : List ℕ) → (count ≡ 0 → ⊥)
+    → partial_from kind count rest
+    ≡ partial_value kind (take (value_size kind rest) rest) ∷ partial_from kind (count - 1) (drop (value_size kind rest) rest)
+partial_more kind zero rest some = absurd (some refl)
+partial_more kind (suc count) rest some =
+    ap (λ n. partial_value kind (take (value_size kind rest) rest) ∷ partial_from kind n (drop (value_size kind rest) rest)) (omega arith)
+
+pub partial_marked : (kind : Argument) (count : ℕ) (rest mark front after : List ℕ) (size : ℕ) → (count ≡ 0 → ⊥)
+    → size ≡ value_size kind rest → front ≡ take size rest → after ≡ drop size rest
+    → marked mark (partial_from kind count rest)
+    ≡ mark ++ (partial_value kind front ++ marked (codes ",") (partial_from kind (count - 1) after))
+partial_marked kind count rest mark front after size some is is_front is_after =
+    ap (marked mark) (partial_more kind count rest some)
+    ∙ (λ i. mark ++ (partial_value kind (sym (is_front ∙ ap (λ n. take n rest) is) i)
+    ++ marked (codes ",") (partial_from kind (count - 1) (sym (is_after ∙ ap (λ n. drop n rest) is) i))))

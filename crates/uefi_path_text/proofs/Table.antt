@@ -8,7 +8,7 @@ use Rattle.uefi_path_text.specs.parse.Values.{bytes_in}
 use Rattle.uefi_path_text.specs.form.NodeForm.{NodeForm, Parameter, Source, known, stated, Arguments, listed, repeated}
 use Rattle.uefi_path_text.specs.write.Values.{writes_numbers}
 use Rattle.uefi_path_text.specs.declared.form.argument.Argument.{Argument}
-use Rattle.uefi_path_text.specs.declared.form.argument.Argument.TheVariants.{Number, Word, Digits, Ipv4Server, EisaId, PnpId}
+use Rattle.uefi_path_text.specs.declared.form.argument.Argument.TheVariants.{Number, Word, Ipv4Server, Ipv6, EisaId, PnpId}
 
 -- A text stands for an argument that is left out only if the empty text is none of its kind.
 abbrev pub is_sound_parameter : Parameter → Bool
@@ -43,7 +43,7 @@ kinds_differ (Word a size) (Number other base) = not (are_numbers a) && list_all
 kinds_differ (Word a size) EisaId = not (are_numbers a) && list_all is_early (words a)
 kinds_differ EisaId (Number other base) = true
 kinds_differ PnpId (Number other base) = true
-kinds_differ Ipv4Server (Digits shape) = true
+kinds_differ Ipv4Server Ipv6 = true
 kinds_differ _ _ = false
 
 abbrev pub some_differ : List Parameter → List Parameter → Bool

@@ -1,6 +1,7 @@
 pub mod Addresses
 pub mod Elements
 pub mod Finding
+pub mod Groups
 pub mod Identifiers
 pub mod Lengths
 pub mod Numerals
@@ -8,4 +9,5 @@ pub mod Pairs
 pub mod Parts
 pub mod Quotes
 pub mod Shapes
+pub mod Sides
 pub mod TextLengths

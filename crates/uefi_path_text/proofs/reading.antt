@@ -12,6 +12,7 @@ pub mod FirstMarks
 pub mod GenericReads
 pub mod HexDigits
 pub mod Ipv4
+pub mod Ipv6
 pub mod Kinds
 pub mod LongNumbers
 pub mod LowNumbers

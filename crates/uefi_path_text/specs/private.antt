@@ -1,9 +1,11 @@
 pub mod Calls
+pub mod Escapes
 pub mod FileName
 pub mod FileNames
 pub mod FormViews
 pub mod Found
 pub mod FromText
+pub mod Ipv6
 pub mod Lists
 pub mod Marks
 pub mod Pieces

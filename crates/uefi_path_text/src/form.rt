@@ -26,6 +26,9 @@ pub(crate) struct NodeForm {
     pub(crate) first_displayed: u8,
     /// How many arguments are written for display, at most.
     pub(crate) displayed: u8,
+    /// The index of the part of reserved bytes, if there is one: they are zeros, which display
+    /// doesn't ask for.
+    pub(crate) reserved: Option<u8>,
 }
 
 /// A form that is no shortcut, and for display is the same. The forms say where they differ.
@@ -37,6 +40,7 @@ pub(crate) const PLAIN: NodeForm = NodeForm {
     is_shortcut: false,
     first_displayed: 0,
     displayed: u8::MAX,
+    reserved: None,
 };
 
 /// What is in the parentheses.

@@ -1,4 +1,10 @@
 //! The forms of nodes as text (UEFI 2.10, 10.6.1.6), in sections.
+//!
+//! Three texts are those of no form, and are written and read beside the table: a file's name, which
+//! has no parentheses; the end of an instance, a comma; and the generic text of a node, in which any
+//! node is written that no form has all of. Two kinds of forms are no list of arguments, each a part
+//! of the data: words whose numbers one part is the sum of (`Part::Sum`), and arguments of which
+//! there can be any number (`Arguments::Repeated`).
 
 ghost use Rattle.std.specs.Prelude.{◌≡◌, map};
 ghost use Rattle.uefi_path_text.specs.AllForms.{forms_in, sections};

@@ -10,7 +10,6 @@ pub fn text_reads_back()
 {}
 
 /// States that a text is that of one path.
-#[tactic(auto, using(crate::proofs::reading::OnePath::one_path_of_text))]
 pub fn one_path_of_text()
     ensures { OnePathOfText }
 {}

@@ -5,6 +5,7 @@ pub use self::path_text::{PathText, instance_to_text, to_text};
 pub use self::style::{AllowShortcuts, DisplayOnly};
 
 pub(crate) mod arguments;
+pub(crate) mod escape;
 pub(crate) mod file_name;
 mod node_text;
 mod path_text;

@@ -10,9 +10,10 @@ use crate::write::form::{write_in_forms, write_in_sections};
 use std::fmt;
 use uefi_path::DevicePathNode;
 
-mod bytes;
+pub(crate) mod bytes;
 mod fields;
 mod form;
+pub(crate) mod partial;
 mod repeated;
 mod value;
 

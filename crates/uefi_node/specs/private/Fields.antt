@@ -10,6 +10,7 @@ use Rattle.uefi_base.specs.Buffer.{put_prefix}
 use Rattle.uefi_path.specs.Node.{encoding}
 use Rattle.uefi_path.specs.declared.build.error.BuildError.{BuildError}
 use Rattle.uefi_path.specs.declared.build.error.BuildError.TheVariants.{Form as BuildForm, NodeTooBig, BufferTooSmall, EndEntire, Memory}
+use Rattle.uefi_node.specs.declared.read.NodeKind.{NodeKind}
 use Rattle.uefi_node.specs.declared.read.RestKind.{RestKind}
 use Rattle.uefi_node.specs.declared.write.Tail.{Tail}
 use Rattle.uefi_node.specs.declared.write.Tail.TheVariants.{Bytes as TailBytes, Parts as TailParts, Units as TailUnits}
@@ -54,12 +55,13 @@ pub record TakesValue {R : Type 0} (l : Layout R) (b : List ℕ) (taken : Option
 abbrev pub HasLengthOf : ℕ → RestKind → ℕ → Type 0
 HasLengthOf size rest n = (size ≤ n) × RestLength rest (n - size)
 
--- The layout has these numbers.
-pub record IsLayout {R : Type 0} (l : Layout R) (t s n : ℕ) (kind : RestKind) : Type 0 where
-  pub device_type : l.device_type ≡ t
-  pub sub_type : l.sub_type ≡ s
-  pub size : fields_size l.fields ≡ n
-  pub rest : kind_of l.rest ≡ kind
+-- The type of nodes of a layout, and how long its data are.
+abbrev pub node_kind : {R : Type 0} → Layout R → NodeKind
+node_kind l = record {
+  full_type = (record { 0 = l.device_type }, record { 0 = l.sub_type });
+  size = fields_size l.fields;
+  rest = kind_of l.rest;
+}
 
 -- The bytes of the parts, in order.
 abbrev pub parts_bytes : List (Bor (List ℕ)) → List ℕ

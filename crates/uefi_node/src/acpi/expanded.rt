@@ -1,23 +1,13 @@
-ghost use Rattle.std.specs.Prelude.{◌≡◌, [], ◌∷◌, Some, None, IsTrue, IfSome, IfNone};
-ghost use Rattle.std.specs.Fmt.{DisplaysOnOk};
+ghost use Rattle.std.specs.Prelude.{◌≡◌};
 ghost use Rattle.uefi_path.specs.Views.{node_of};
 ghost use Rattle.uefi_node.specs.Layout.{IsValue, node_as};
 ghost use Rattle.uefi_node.specs.Reading.{ReadsAs};
 ghost use Rattle.uefi_node.specs.Expanded.{expanded};
-ghost use Rattle.uefi_node.specs.text.Acpi as forms;
-ghost use Rattle.uefi_node.specs.text.Acpi.{has_text, expanded_text, exact_text, short_call, is_short, has_uid_alone, root_name, shown_as};
-ghost use Rattle.uefi_node.specs.text.Arguments.{closed};
-ghost use Rattle.uefi_node.specs.private.Writing.{WritesForm};
 
-use crate::acpi::eisa::{EisaId, EisaIdOrZero, is_eisa_id};
 use crate::error::NodeConversionError;
-use crate::read::{NodeValue, RestKind, read_node};
+use crate::read::{NodeKind, NodeValue, RestKind, read_node};
 use crate::strings::{is_without_nul, three_strings};
-use crate::text::arguments::{is_argument, write_argument};
-use crate::text::form::WriteText;
-use crate::text::style::Style;
 use crate::write::{Tail, joined, write_node};
-use std::fmt;
 use uefi_base::little_endian::u32_at;
 use uefi_path::build::{BuildError, BuildNode};
 use uefi_path::{DevicePathNode, DeviceSubType, DeviceType};
@@ -60,19 +50,20 @@ impl Expanded<'_> {
     }
 }
 
+/// The type of the nodes, and how long their data are.
+const KIND: NodeKind = NodeKind {
+    full_type: (DeviceType::ACPI, DeviceSubType::ACPI_EXPANDED),
+    size: 12,
+    rest: RestKind::Bytes,
+};
+
 impl<'a> TryFrom<DevicePathNode<'a>> for Expanded<'a> {
     type Error = NodeConversionError;
 
     ghost try_from_gives = { λ node read. ReadsAs expanded (node_of node) read };
 
     fn try_from(node: DevicePathNode<'a>) -> Result<Expanded<'a>, NodeConversionError> {
-        read_node(
-            &node,
-            DeviceType::ACPI,
-            DeviceSubType::ACPI_EXPANDED,
-            12,
-            RestKind::Bytes,
-        )
+        read_node(&node, KIND)
     }
 }
 
@@ -101,7 +92,7 @@ impl BuildNode for Expanded<'_> {
     ghost is_valid = { IsValue expanded };
 
     fn full_type(&self) -> (DeviceType, DeviceSubType) {
-        (DeviceType::ACPI, DeviceSubType::ACPI_EXPANDED)
+        KIND.full_type
     }
 
     fn write(&self, buffer: &mut [u8]) -> Result<usize, BuildError> {
@@ -114,151 +105,6 @@ impl BuildNode for Expanded<'_> {
             &self.cid.to_le_bytes(),
         ]);
         let strings: [&[u8]; 6] = [self.hid_str, &[0], self.uid_str, &[0], self.cid_str, &[0]];
-        write_node(
-            buffer,
-            self,
-            self.full_type(),
-            &fields,
-            Tail::Parts(&strings),
-        )
-    }
-}
-
-impl WriteText for Expanded<'_> {
-    ghost form = { forms.expanded_device };
-
-    fn write_text<W: fmt::Write>(
-        &self,
-        f: &mut fmt::Formatter<W>,
-        style: Style,
-    ) -> Option<fmt::Result> {
-        write_device(f, self, style.display_only)
-    }
-}
-
-/// Writes the form, or returns `None` if the device has none.
-#[tactic(auto, unfolding(crate::specs::text::Acpi::expanded_text))]
-fn write_device<W: fmt::Write>(
-    f: &mut fmt::Formatter<W>,
-    device: &Expanded<'_>,
-    display_only: bool,
-) -> Option<fmt::Result>
-    ensures { let d = device.now in WritesForm W.write_str_gives f.old result
-        (expanded_text display_only d.hid d.uid d.cid
-        d.hid_str.now d.uid_str.now d.cid_str.now) f.new }
-{
-    if !has_text(device) {
-        return None;
-    }
-    if display_only {
-        Some(write_shown(f, device))
-    } else {
-        Some(write_exact(f, device))
-    }
-}
-
-/// Returns whether the identifiers and the strings of a device can be written.
-fn has_text(device: &Expanded<'_>) -> bool
-    ensures { let d = device.now
-        in result ≡ has_text d.hid d.cid d.hid_str.now d.uid_str.now d.cid_str.now }
-{
-    is_eisa_id(device.hid)
-        && is_eisa_id(device.cid)
-        && is_argument(device.hid_str)
-        && is_argument(device.uid_str)
-        && is_argument(device.cid_str)
-}
-
-/// Writes the form for display.
-fn write_shown<W: fmt::Write>(f: &mut fmt::Formatter<W>, device: &Expanded<'_>) -> fmt::Result
-    requires { let d = device.now
-        in IsTrue (has_text d.hid d.cid d.hid_str.now d.uid_str.now d.cid_str.now) }
-    ensures { let d = device.now in DisplaysOnOk W.write_str_gives f.old result
-        (Some (shown_as (root_name d.hid d.cid) d.hid d.uid d.cid
-        d.hid_str.now d.uid_str.now d.cid_str.now)) f.new }
-{
-    if let Some(root) = root_name(device.hid, device.cid) {
-        write!(f, "{root}(")?;
-        write_argument(f, device.uid_str)?;
-        return write!(f, ")");
-    }
-    if has_uid_alone(device) {
-        return write_short(f, device);
-    }
-    write!(f, "AcpiEx(")?;
-    write_strings(f, device)
-}
-
-/// Writes the form with all parts of the device.
-fn write_exact<W: fmt::Write>(f: &mut fmt::Formatter<W>, device: &Expanded<'_>) -> fmt::Result
-    requires { let d = device.now
-        in IsTrue (has_text d.hid d.cid d.hid_str.now d.uid_str.now d.cid_str.now) }
-    ensures { let d = device.now in DisplaysOnOk W.write_str_gives f.old result
-        (Some (exact_text d.hid d.uid d.cid d.hid_str.now d.uid_str.now d.cid_str.now)) f.new }
-{
-    if is_short(device) {
-        return write_short(f, device);
-    }
-    let (hid, uid, cid) = (device.hid, device.uid, device.cid);
-    write!(f, "AcpiEx({},{},0x{uid:X},", EisaId(hid), EisaId(cid))?;
-    write_strings(f, device)
-}
-
-/// Returns whether the form with the string of `_UID` alone has all parts of the device.
-fn is_short(device: &Expanded<'_>) -> bool
-    ensures { let d = device.now
-        in result ≡ is_short d.uid d.hid_str.now d.uid_str.now d.cid_str.now }
-{
-    device.uid == 0 && has_uid_alone(device)
-}
-
-/// Returns whether of the strings that of `_UID` alone isn't empty.
-fn has_uid_alone(device: &Expanded<'_>) -> bool
-    ensures { let d = device.now
-        in result ≡ has_uid_alone d.hid_str.now d.uid_str.now d.cid_str.now }
-{
-    device.hid_str.is_empty() && device.cid_str.is_empty() && !device.uid_str.is_empty()
-}
-
-/// Writes the form of a device with the string of `_UID` alone.
-fn write_short<W: fmt::Write>(f: &mut fmt::Formatter<W>, device: &Expanded<'_>) -> fmt::Result
-    requires { let d = device.now
-        in IsTrue (has_text d.hid d.cid d.hid_str.now d.uid_str.now d.cid_str.now) }
-    ensures { let d = device.now in DisplaysOnOk W.write_str_gives f.old result
-        (Some (short_call d.hid d.cid d.uid_str.now)) f.new }
-{
-    let (hid, cid) = (device.hid, device.cid);
-    write!(f, "AcpiExp({},{},", EisaId(hid), EisaIdOrZero(cid))?;
-    write_argument(f, device.uid_str)?;
-    write!(f, ")")
-}
-
-/// Writes the strings as the last arguments.
-fn write_strings<W: fmt::Write>(f: &mut fmt::Formatter<W>, device: &Expanded<'_>) -> fmt::Result
-    requires { let d = device.now
-        in IsTrue (has_text d.hid d.cid d.hid_str.now d.uid_str.now d.cid_str.now) }
-    ensures { let d = device.now in DisplaysOnOk W.write_str_gives f.old result
-        (Some (closed (d.hid_str.now ∷ d.cid_str.now ∷ d.uid_str.now ∷ []))) f.new }
-{
-    write_argument(f, device.hid_str)?;
-    write!(f, ",")?;
-    write_argument(f, device.cid_str)?;
-    write!(f, ",")?;
-    write_argument(f, device.uid_str)?;
-    write!(f, ")")
-}
-
-/// Returns the name of a root of buses that the identifiers are, if they are one.
-fn root_name(hid: u32, cid: u32) -> Option<&'static str>
-    ensures some { IfSome result (λ name. root_name hid cid ≡ Some name.now) }
-    ensures none { IfNone result (root_name hid cid ≡ None) }
-{
-    let (hid, cid) = (hid / 0x1_0000, cid / 0x1_0000);
-    if hid == 0x0a03 || (cid == 0x0a03 && hid != 0x0a08) {
-        Some("PciRoot")
-    } else if hid == 0x0a08 || cid == 0x0a08 {
-        Some("PcieRoot")
-    } else {
-        None
+        write_node(buffer, KIND, self, &fields, Tail::Parts(&strings))
     }
 }

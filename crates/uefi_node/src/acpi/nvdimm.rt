@@ -4,7 +4,7 @@ ghost use Rattle.uefi_node.specs.Reading.{ReadsAs};
 ghost use Rattle.uefi_node.specs.Acpi.{nvdimm};
 
 use crate::error::NodeConversionError;
-use crate::read::{NodeValue, RestKind, read_node};
+use crate::read::{NodeKind, NodeValue, RestKind, read_node};
 use crate::write::{Tail, joined, write_node};
 use uefi_base::little_endian::u32_at;
 use uefi_path::build::{BuildError, BuildNode};
@@ -23,19 +23,20 @@ pub struct Nvdimm {
     pub nfit_device_handle: u32,
 }
 
+/// The type of the nodes, and how long their data are.
+const KIND: NodeKind = NodeKind {
+    full_type: (DeviceType::ACPI, DeviceSubType::ACPI_NVDIMM),
+    size: 4,
+    rest: RestKind::Nothing,
+};
+
 impl<'a> TryFrom<DevicePathNode<'a>> for Nvdimm {
     type Error = NodeConversionError;
 
     ghost try_from_gives = { λ node read. ReadsAs nvdimm (node_of node) read };
 
     fn try_from(node: DevicePathNode<'a>) -> Result<Nvdimm, NodeConversionError> {
-        read_node(
-            &node,
-            DeviceType::ACPI,
-            DeviceSubType::ACPI_NVDIMM,
-            4,
-            RestKind::Nothing,
-        )
+        read_node(&node, KIND)
     }
 }
 
@@ -55,11 +56,11 @@ impl BuildNode for Nvdimm {
     ghost is_valid = { IsValue nvdimm };
 
     fn full_type(&self) -> (DeviceType, DeviceSubType) {
-        (DeviceType::ACPI, DeviceSubType::ACPI_NVDIMM)
+        KIND.full_type
     }
 
     fn write(&self, buffer: &mut [u8]) -> Result<usize, BuildError> {
         let fields = joined::<4>(&[&self.nfit_device_handle.to_le_bytes()]);
-        write_node(buffer, self, self.full_type(), &fields, Tail::Bytes(&[]))
+        write_node(buffer, KIND, self, &fields, Tail::Bytes(&[]))
     }
 }

@@ -1,20 +1,11 @@
-ghost use Rattle.std.specs.Prelude.{◌≡◌, true, false, Some, IsTrue};
-ghost use Rattle.std.specs.Fmt.{DisplaysOnOk};
 ghost use Rattle.uefi_path.specs.Views.{node_of};
 ghost use Rattle.uefi_node.specs.Layout.{IsValue, node_as};
 ghost use Rattle.uefi_node.specs.Reading.{ReadsAs};
 ghost use Rattle.uefi_node.specs.BiosBootSpec.{boot_specification};
-ghost use Rattle.uefi_node.specs.text.BiosBootSpec as forms;
-ghost use Rattle.uefi_node.specs.text.BiosBootSpec.{boot_device_type, boot_device};
-ghost use Rattle.uefi_node.specs.text.Arguments.{is_argument};
 
 use crate::error::NodeConversionError;
-use crate::read::{NodeValue, RestKind, read_node};
-use crate::text::arguments::{nul_ended_argument, write_argument};
-use crate::text::form::WriteText;
-use crate::text::style::Style;
+use crate::read::{NodeKind, NodeValue, RestKind, read_node};
 use crate::write::{Tail, joined, write_node};
-use std::fmt;
 use uefi_base::little_endian::u16_at;
 use uefi_path::build::{BuildError, BuildNode};
 use uefi_path::{DevicePathNode, DeviceSubType, DeviceType};
@@ -38,19 +29,23 @@ pub struct BootSpecification<'a> {
     pub description_string: &'a [u8],
 }
 
+/// The type of the nodes, and how long their data are.
+const KIND: NodeKind = NodeKind {
+    full_type: (
+        DeviceType::BIOS_BOOT_SPEC,
+        DeviceSubType::BIOS_BOOT_SPECIFICATION,
+    ),
+    size: 4,
+    rest: RestKind::Bytes,
+};
+
 impl<'a> TryFrom<DevicePathNode<'a>> for BootSpecification<'a> {
     type Error = NodeConversionError;
 
     ghost try_from_gives = { λ node read. ReadsAs boot_specification (node_of node) read };
 
     fn try_from(node: DevicePathNode<'a>) -> Result<BootSpecification<'a>, NodeConversionError> {
-        read_node(
-            &node,
-            DeviceType::BIOS_BOOT_SPEC,
-            DeviceSubType::BIOS_BOOT_SPECIFICATION,
-            4,
-            RestKind::Bytes,
-        )
+        read_node(&node, KIND)
     }
 }
 
@@ -73,10 +68,7 @@ impl BuildNode for BootSpecification<'_> {
     ghost is_valid = { IsValue boot_specification };
 
     fn full_type(&self) -> (DeviceType, DeviceSubType) {
-        (
-            DeviceType::BIOS_BOOT_SPEC,
-            DeviceSubType::BIOS_BOOT_SPECIFICATION,
-        )
+        KIND.full_type
     }
 
     fn write(&self, buffer: &mut [u8]) -> Result<usize, BuildError> {
@@ -86,83 +78,11 @@ impl BuildNode for BootSpecification<'_> {
         ]);
         write_node(
             buffer,
+            KIND,
             self,
-            self.full_type(),
             &fields,
             Tail::Bytes(self.description_string),
         )
-    }
-}
-
-impl WriteText for BootSpecification<'_> {
-    ghost form = { forms.boot_specification };
-
-    fn write_text<W: fmt::Write>(
-        &self,
-        f: &mut fmt::Formatter<W>,
-        style: Style,
-    ) -> Option<fmt::Result> {
-        let (kind, flag) = (self.device_type.0, self.status_flag);
-        let Some(description) = nul_ended_argument(self.description_string) else {
-            return None;
-        };
-        Some(if style.display_only {
-            write_short(f, kind, description)
-        } else {
-            write_full(f, kind, description, flag)
-        })
-    }
-}
-
-/// Writes the form for display.
-fn write_short<W: fmt::Write>(
-    f: &mut fmt::Formatter<W>,
-    kind: u16,
-    description: &[u8],
-) -> fmt::Result
-    requires { IsTrue (is_argument description.now) }
-    ensures { DisplaysOnOk W.write_str_gives f.old result
-        (Some (boot_device true kind 0 description.now)) f.new }
-{
-    write!(f, "BBS({},", DeviceTypeText(kind))?;
-    write_argument(f, description)?;
-    write!(f, ")")
-}
-
-/// Writes the form with all fields.
-fn write_full<W: fmt::Write>(
-    f: &mut fmt::Formatter<W>,
-    kind: u16,
-    description: &[u8],
-    flag: u16,
-) -> fmt::Result
-    requires { IsTrue (is_argument description.now) }
-    ensures { DisplaysOnOk W.write_str_gives f.old result
-        (Some (boot_device false kind flag description.now)) f.new }
-{
-    write!(f, "BBS({},", DeviceTypeText(kind))?;
-    write_argument(f, description)?;
-    write!(f, ",0x{flag:X})")
-}
-
-/// The type of a boot device, displayed as its name, or else as its number.
-#[derive(Clone, Copy)]
-struct DeviceTypeText(u16);
-
-impl fmt::Display for DeviceTypeText {
-    ghost output = { λ it. Some (boot_device_type it.0) };
-
-    fn fmt<W: fmt::Write>(&self, f: &mut fmt::Formatter<W>) -> fmt::Result {
-        let number = self.0;
-        match number {
-            1 => f.write_str("Floppy"),
-            2 => f.write_str("HD"),
-            3 => f.write_str("CDROM"),
-            4 => f.write_str("PCMCIA"),
-            5 => f.write_str("USB"),
-            6 => f.write_str("Network"),
-            _ => write!(f, "0x{number:X}"),
-        }
     }
 }
 

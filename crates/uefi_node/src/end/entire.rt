@@ -4,7 +4,7 @@ ghost use Rattle.uefi_node.specs.Reading.{ReadsAs};
 ghost use Rattle.uefi_node.specs.End.{entire};
 
 use crate::error::NodeConversionError;
-use crate::read::{NodeValue, RestKind, read_node};
+use crate::read::{NodeKind, NodeValue, RestKind, read_node};
 use crate::write::{Tail, write_node};
 use uefi_path::build::{BuildError, BuildNode};
 use uefi_path::{DevicePathNode, DeviceSubType, DeviceType};
@@ -15,19 +15,20 @@ use uefi_path::{DevicePathNode, DeviceSubType, DeviceType};
 #[derive(Clone, Copy, PartialEq, Eq, Debug)]
 pub struct Entire;
 
+/// The type of the nodes, and how long their data are.
+const KIND: NodeKind = NodeKind {
+    full_type: (DeviceType::END, DeviceSubType::END_ENTIRE),
+    size: 0,
+    rest: RestKind::Nothing,
+};
+
 impl<'a> TryFrom<DevicePathNode<'a>> for Entire {
     type Error = NodeConversionError;
 
     ghost try_from_gives = { λ node read. ReadsAs entire (node_of node) read };
 
     fn try_from(node: DevicePathNode<'a>) -> Result<Entire, NodeConversionError> {
-        read_node(
-            &node,
-            DeviceType::END,
-            DeviceSubType::END_ENTIRE,
-            0,
-            RestKind::Nothing,
-        )
+        read_node(&node, KIND)
     }
 }
 
@@ -45,10 +46,10 @@ impl BuildNode for Entire {
     ghost is_valid = { IsValue entire };
 
     fn full_type(&self) -> (DeviceType, DeviceSubType) {
-        (DeviceType::END, DeviceSubType::END_ENTIRE)
+        KIND.full_type
     }
 
     fn write(&self, buffer: &mut [u8]) -> Result<usize, BuildError> {
-        write_node(buffer, self, self.full_type(), &[], Tail::Bytes(&[]))
+        write_node(buffer, KIND, self, &[], Tail::Bytes(&[]))
     }
 }

@@ -2,14 +2,10 @@ ghost use Rattle.uefi_path.specs.Views.{node_of};
 ghost use Rattle.uefi_node.specs.Layout.{IsValue, node_as};
 ghost use Rattle.uefi_node.specs.Reading.{ReadsAs};
 ghost use Rattle.uefi_node.specs.Hardware.{controller};
-ghost use Rattle.uefi_node.specs.text.Hardware as forms;
 
 use crate::error::NodeConversionError;
-use crate::read::{NodeValue, RestKind, read_node};
-use crate::text::form::WriteText;
-use crate::text::style::Style;
+use crate::read::{NodeKind, NodeValue, RestKind, read_node};
 use crate::write::{Tail, joined, write_node};
-use std::fmt;
 use uefi_base::little_endian::u32_at;
 use uefi_path::build::{BuildError, BuildNode};
 use uefi_path::{DevicePathNode, DeviceSubType, DeviceType};
@@ -27,19 +23,20 @@ pub struct Controller {
     pub controller_number: u32,
 }
 
+/// The type of the nodes, and how long their data are.
+const KIND: NodeKind = NodeKind {
+    full_type: (DeviceType::HARDWARE, DeviceSubType::HARDWARE_CONTROLLER),
+    size: 4,
+    rest: RestKind::Nothing,
+};
+
 impl<'a> TryFrom<DevicePathNode<'a>> for Controller {
     type Error = NodeConversionError;
 
     ghost try_from_gives = { λ node read. ReadsAs controller (node_of node) read };
 
     fn try_from(node: DevicePathNode<'a>) -> Result<Controller, NodeConversionError> {
-        read_node(
-            &node,
-            DeviceType::HARDWARE,
-            DeviceSubType::HARDWARE_CONTROLLER,
-            4,
-            RestKind::Nothing,
-        )
+        read_node(&node, KIND)
     }
 }
 
@@ -59,24 +56,11 @@ impl BuildNode for Controller {
     ghost is_valid = { IsValue controller };
 
     fn full_type(&self) -> (DeviceType, DeviceSubType) {
-        (DeviceType::HARDWARE, DeviceSubType::HARDWARE_CONTROLLER)
+        KIND.full_type
     }
 
     fn write(&self, buffer: &mut [u8]) -> Result<usize, BuildError> {
         let fields = joined::<4>(&[&self.controller_number.to_le_bytes()]);
-        write_node(buffer, self, self.full_type(), &fields, Tail::Bytes(&[]))
-    }
-}
-
-impl WriteText for Controller {
-    ghost form = { forms.controller };
-
-    fn write_text<W: fmt::Write>(
-        &self,
-        f: &mut fmt::Formatter<W>,
-        _style: Style,
-    ) -> Option<fmt::Result> {
-        let number = self.controller_number;
-        Some(write!(f, "Ctrl(0x{number:X})"))
+        write_node(buffer, KIND, self, &fields, Tail::Bytes(&[]))
     }
 }

@@ -2,14 +2,10 @@ ghost use Rattle.uefi_path.specs.Views.{node_of};
 ghost use Rattle.uefi_node.specs.Layout.{IsValue, node_as};
 ghost use Rattle.uefi_node.specs.Reading.{ReadsAs};
 ghost use Rattle.uefi_node.specs.Hardware.{memory_mapped};
-ghost use Rattle.uefi_node.specs.text.Hardware as forms;
 
 use crate::error::NodeConversionError;
-use crate::read::{NodeValue, RestKind, read_node};
-use crate::text::form::WriteText;
-use crate::text::style::Style;
+use crate::read::{NodeKind, NodeValue, RestKind, read_node};
 use crate::write::{Tail, joined, write_node};
-use std::fmt;
 use uefi_base::little_endian::{u32_at, u64_at};
 use uefi_map::MemoryType;
 use uefi_path::build::{BuildError, BuildNode};
@@ -34,19 +30,20 @@ pub struct MemoryMapped {
     pub end_address: u64,
 }
 
+/// The type of the nodes, and how long their data are.
+const KIND: NodeKind = NodeKind {
+    full_type: (DeviceType::HARDWARE, DeviceSubType::HARDWARE_MEMORY_MAPPED),
+    size: 20,
+    rest: RestKind::Nothing,
+};
+
 impl<'a> TryFrom<DevicePathNode<'a>> for MemoryMapped {
     type Error = NodeConversionError;
 
     ghost try_from_gives = { λ node read. ReadsAs memory_mapped (node_of node) read };
 
     fn try_from(node: DevicePathNode<'a>) -> Result<MemoryMapped, NodeConversionError> {
-        read_node(
-            &node,
-            DeviceType::HARDWARE,
-            DeviceSubType::HARDWARE_MEMORY_MAPPED,
-            20,
-            RestKind::Nothing,
-        )
+        read_node(&node, KIND)
     }
 }
 
@@ -68,7 +65,7 @@ impl BuildNode for MemoryMapped {
     ghost is_valid = { IsValue memory_mapped };
 
     fn full_type(&self) -> (DeviceType, DeviceSubType) {
-        (DeviceType::HARDWARE, DeviceSubType::HARDWARE_MEMORY_MAPPED)
+        KIND.full_type
     }
 
     fn write(&self, buffer: &mut [u8]) -> Result<usize, BuildError> {
@@ -77,19 +74,6 @@ impl BuildNode for MemoryMapped {
             &self.start_address.to_le_bytes(),
             &self.end_address.to_le_bytes(),
         ]);
-        write_node(buffer, self, self.full_type(), &fields, Tail::Bytes(&[]))
-    }
-}
-
-impl WriteText for MemoryMapped {
-    ghost form = { forms.memory_mapped };
-
-    fn write_text<W: fmt::Write>(
-        &self,
-        f: &mut fmt::Formatter<W>,
-        _style: Style,
-    ) -> Option<fmt::Result> {
-        let (kind, start, end) = (self.memory_type.0, self.start_address, self.end_address);
-        Some(write!(f, "MemoryMapped(0x{kind:X},0x{start:X},0x{end:X})"))
+        write_node(buffer, KIND, self, &fields, Tail::Bytes(&[]))
     }
 }

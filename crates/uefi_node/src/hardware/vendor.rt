@@ -2,15 +2,10 @@ ghost use Rattle.uefi_path.specs.Views.{node_of};
 ghost use Rattle.uefi_node.specs.Layout.{IsValue, node_as};
 ghost use Rattle.uefi_node.specs.Reading.{ReadsAs};
 ghost use Rattle.uefi_node.specs.Hardware.{vendor};
-ghost use Rattle.uefi_node.specs.text.Hardware as forms;
 
 use crate::error::NodeConversionError;
-use crate::read::{NodeValue, RestKind, bytes_at, read_node};
-use crate::text::arguments::write_vendor;
-use crate::text::form::WriteText;
-use crate::text::style::Style;
+use crate::read::{NodeKind, NodeValue, RestKind, bytes_at, read_node};
 use crate::write::{Tail, joined, write_node};
-use std::fmt;
 use uefi_base::Guid;
 use uefi_path::build::{BuildError, BuildNode};
 use uefi_path::{DevicePathNode, DeviceSubType, DeviceType};
@@ -31,19 +26,20 @@ pub struct Vendor<'a> {
     pub vendor_defined_data: &'a [u8],
 }
 
+/// The type of the nodes, and how long their data are.
+const KIND: NodeKind = NodeKind {
+    full_type: (DeviceType::HARDWARE, DeviceSubType::HARDWARE_VENDOR),
+    size: 16,
+    rest: RestKind::Bytes,
+};
+
 impl<'a> TryFrom<DevicePathNode<'a>> for Vendor<'a> {
     type Error = NodeConversionError;
 
     ghost try_from_gives = { λ node read. ReadsAs vendor (node_of node) read };
 
     fn try_from(node: DevicePathNode<'a>) -> Result<Vendor<'a>, NodeConversionError> {
-        read_node(
-            &node,
-            DeviceType::HARDWARE,
-            DeviceSubType::HARDWARE_VENDOR,
-            16,
-            RestKind::Bytes,
-        )
+        read_node(&node, KIND)
     }
 }
 
@@ -65,30 +61,17 @@ impl BuildNode for Vendor<'_> {
     ghost is_valid = { IsValue vendor };
 
     fn full_type(&self) -> (DeviceType, DeviceSubType) {
-        (DeviceType::HARDWARE, DeviceSubType::HARDWARE_VENDOR)
+        KIND.full_type
     }
 
     fn write(&self, buffer: &mut [u8]) -> Result<usize, BuildError> {
         let fields = joined::<16>(&[&self.vendor_guid.to_bytes()]);
         write_node(
             buffer,
+            KIND,
             self,
-            self.full_type(),
             &fields,
             Tail::Bytes(self.vendor_defined_data),
         )
-    }
-}
-
-impl WriteText for Vendor<'_> {
-    ghost form = { forms.vendor };
-
-    fn write_text<W: fmt::Write>(
-        &self,
-        f: &mut fmt::Formatter<W>,
-        _style: Style,
-    ) -> Option<fmt::Result> {
-        let (guid, data) = (self.vendor_guid, self.vendor_defined_data);
-        Some(write_vendor(f, "VenHw", guid, data))
     }
 }

@@ -1,25 +1,12 @@
-ghost use Rattle.std.specs.Prelude.{◌≡◌, ◌&&◌, Some, None, encode_utf8_all, if◌then◌else◌};
-ghost use Rattle.std.specs.Char.Utf16.{has_unpaired_surrogate, is_high_surrogate, is_low_surrogate, surrogate_pair_char, lone_unit_char, utf16_lossy_chars};
-ghost use Rattle.std.specs.Fmt.{DisplaysOnOk};
-ghost use Rattle.std.specs.List.{list_all};
-ghost use Rattle.std.specs.Option.{unwrap_or};
-ghost use Rattle.std.specs.Iterator.{YieldsFirst, item_count};
-ghost use Rattle.uefi_base.specs.Views.{slice_units};
 ghost use Rattle.uefi_path.specs.Views.{node_of};
 ghost use Rattle.uefi_node.specs.Layout.{IsValue, node_as};
 ghost use Rattle.uefi_node.specs.Reading.{ReadsAs};
 ghost use Rattle.uefi_node.specs.Media.{file_path};
-ghost use Rattle.uefi_node.specs.text.Arguments.{without_nul};
-ghost use Rattle.uefi_node.specs.text.FileName as text;
-ghost use Rattle.uefi_node.specs.private.FileName.{name_units, characters_left};
 
 use crate::error::NodeConversionError;
-use crate::read::{NodeValue, RestKind, read_node};
-use crate::text::form::WriteText;
-use crate::text::style::Style;
+use crate::read::{NodeKind, NodeValue, RestKind, read_node};
 use crate::write::{Tail, write_node};
-use std::fmt;
-use uefi_base::{UnalignedSlice, UnalignedSliceIter};
+use uefi_base::UnalignedSlice;
 use uefi_path::build::{BuildError, BuildNode};
 use uefi_path::{DevicePathNode, DeviceSubType, DeviceType};
 
@@ -36,19 +23,20 @@ pub struct FilePath<'a> {
     pub path_name: UnalignedSlice<'a>,
 }
 
+/// The type of the nodes, and how long their data are.
+const KIND: NodeKind = NodeKind {
+    full_type: (DeviceType::MEDIA, DeviceSubType::MEDIA_FILE_PATH),
+    size: 0,
+    rest: RestKind::Units,
+};
+
 impl<'a> TryFrom<DevicePathNode<'a>> for FilePath<'a> {
     type Error = NodeConversionError;
 
     ghost try_from_gives = { λ node read. ReadsAs file_path (node_of node) read };
 
     fn try_from(node: DevicePathNode<'a>) -> Result<FilePath<'a>, NodeConversionError> {
-        read_node(
-            &node,
-            DeviceType::MEDIA,
-            DeviceSubType::MEDIA_FILE_PATH,
-            0,
-            RestKind::Units,
-        )
+        read_node(&node, KIND)
     }
 }
 
@@ -68,196 +56,10 @@ impl BuildNode for FilePath<'_> {
     ghost is_valid = { IsValue file_path };
 
     fn full_type(&self) -> (DeviceType, DeviceSubType) {
-        (DeviceType::MEDIA, DeviceSubType::MEDIA_FILE_PATH)
+        KIND.full_type
     }
 
     fn write(&self, buffer: &mut [u8]) -> Result<usize, BuildError> {
-        write_node(
-            buffer,
-            self,
-            self.full_type(),
-            &[],
-            Tail::Units(self.path_name),
-        )
+        write_node(buffer, KIND, self, &[], Tail::Units(self.path_name))
     }
-}
-
-/// Writes the name itself, without its NUL.
-impl WriteText for FilePath<'_> {
-    ghost form = { text.file_path };
-
-    #[tactic(auto, unfolding(crate::specs::text::FileName::name_text))]
-    fn write_text<W: fmt::Write>(
-        &self,
-        f: &mut fmt::Formatter<W>,
-        _style: Style,
-    ) -> Option<fmt::Result> {
-        let units = self.path_name;
-        if !is_nul_ended(units) {
-            return None;
-        }
-        let name = NameCharacters::new(units);
-        if has_unpaired_surrogate(name) || !is_name(name) {
-            return None;
-        }
-        Some(write_name(f, name))
-    }
-}
-
-/// Returns whether the units are one or more, and then a NUL.
-fn is_nul_ended(units: UnalignedSlice<'_>) -> bool
-    ensures { result ≡ text.is_nul_ended (slice_units units.entry) }
-{
-    units.len() > 1 && units.get(units.len() - 1) == Some(0)
-}
-
-/// Returns whether a surrogate has no partner.
-fn has_unpaired_surrogate(mut name: NameCharacters<'_>) -> bool
-    ensures { result ≡ has_unpaired_surrogate (name_units name.entry) }
-{
-    name.any(|character| character.is_none())
-}
-
-/// Returns whether the characters are a name that doesn't read as a node.
-fn is_name(name: NameCharacters<'_>) -> bool
-    ensures { result ≡ text.is_name (utf16_lossy_chars (name_units name.entry)) }
-{
-    has_name_characters(name) && !reads_as_node(name)
-}
-
-/// Returns whether a name may have all the characters.
-fn has_name_characters(mut name: NameCharacters<'_>) -> bool
-    ensures { result ≡ list_all text.is_name_character (utf16_lossy_chars (name_units name.entry)) }
-{
-    name.all(|character| is_name_character(or_replacement(character)))
-}
-
-/// Returns whether the characters read as a node with arguments.
-fn reads_as_node(name: NameCharacters<'_>) -> bool
-    ensures { result ≡ text.reads_as_node (utf16_lossy_chars (name_units name.entry)) }
-{
-    name.map(or_replacement)
-        .find(|character| !is_node_character(*character))
-        == Some('(')
-}
-
-/// Writes the characters.
-fn write_name<W: fmt::Write>(f: &mut fmt::Formatter<W>, name: NameCharacters<'_>) -> fmt::Result
-    ensures { DisplaysOnOk W.write_str_gives f.old result
-        (Some (encode_utf8_all (utf16_lossy_chars (name_units name.entry)))) f.new }
-{
-    for character in name {
-        f.write_char(or_replacement(character))?;
-    }
-    Ok(())
-}
-
-/// Returns whether a name may have the character.
-pub(crate) fn is_name_character(character: char) -> bool
-    ensures { result ≡ text.is_name_character character }
-{
-    !is_control(character) && character != '/' && character != ','
-}
-
-/// Returns whether the character is a control character of ASCII or Latin-1, a separator of lines
-/// or paragraphs, or a control of the writing direction.
-fn is_control(character: char) -> bool
-    ensures { result ≡ text.is_control character }
-{
-    matches!(
-        character,
-        '\0'..='\u{1f}'
-            | '\u{7f}'..='\u{9f}'
-            | '\u{61c}'
-            | '\u{200e}'..='\u{200f}'
-            | '\u{2028}'..='\u{202e}'
-            | '\u{2066}'..='\u{2069}'
-    )
-}
-
-/// Returns whether a type of nodes may have the character in its name.
-pub(crate) fn is_node_character(character: char) -> bool
-    ensures { result ≡ text.is_node_character character }
-{
-    character.is_ascii_alphanumeric() || character == '-'
-}
-
-/// Returns the character, or U+FFFD in place of a surrogate.
-fn or_replacement(character: Option<char>) -> char
-    ensures { result ≡ unwrap_or character 0xfffd }
-{
-    character.unwrap_or(char::REPLACEMENT_CHARACTER)
-}
-
-/// The characters of a name in UTF-16, with `None` for a surrogate that has no partner.
-#[derive(Clone, Copy)]
-struct NameCharacters<'a> {
-    /// The units that weren't read yet, with those after the name.
-    units: UnalignedSliceIter<'a>,
-    /// How many of them are of the name.
-    count: usize,
-}
-
-impl<'a> NameCharacters<'a> {
-    /// Returns the characters of the units before the last.
-    fn new(units: UnalignedSlice<'a>) -> NameCharacters<'a>
-        ensures { name_units result ≡ without_nul (slice_units units.entry) }
-    {
-        NameCharacters {
-            units: units.iter(),
-            count: units.len().saturating_sub(1),
-        }
-    }
-
-    /// Takes the next unit.
-    fn next_unit(&mut self) -> Option<u16>
-        ensures { YieldsFirst name_units self.old result self.new }
-    {
-        if self.count == 0 {
-            return None;
-        }
-        let unit = self.units.next()?;
-        self.count -= 1;
-        Some(unit)
-    }
-}
-
-impl Iterator for NameCharacters<'_> {
-    type Item = Option<char>;
-
-    ghost next_gives = { YieldsFirst characters_left };
-
-    ghost remaining = { item_count characters_left };
-
-    fn next(&mut self) -> Option<Option<char>> {
-        let first = self.next_unit()?;
-        let mut after = *self;
-        if let Some(second) = after.next_unit() {
-            if let Some(character) = pair_character(first, second) {
-                *self = after;
-                return Some(Some(character));
-            }
-        }
-        Some(lone_character(first))
-    }
-}
-
-/// Returns the character of a unit that is in no pair, or `None` for a surrogate.
-fn lone_character(unit: u16) -> Option<char>
-    ensures { result ≡ lone_unit_char unit }
-{
-    char::from_u32(u32::from(unit))
-}
-
-/// Returns the character of a pair of surrogates, or `None` if the units aren't one.
-fn pair_character(first: u16, second: u16) -> Option<char>
-    ensures { result ≡ (if is_high_surrogate first && is_low_surrogate second
-        then Some (surrogate_pair_char first second) else None) }
-{
-    let (high, low) = (0xd800..0xdc00, 0xdc00..0xe000);
-    if !high.contains(&first) || !low.contains(&second) {
-        return None;
-    }
-    let high = u32::from(first) - 0xd800;
-    char::from_u32(0x1_0000 + high * 0x400 + (u32::from(second) - 0xdc00))
 }

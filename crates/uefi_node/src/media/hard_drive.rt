@@ -2,22 +2,11 @@ ghost use Rattle.uefi_path.specs.Views.{node_of};
 ghost use Rattle.uefi_node.specs.Layout.{IsValue, node_as};
 ghost use Rattle.uefi_node.specs.Reading.{ReadsAs};
 ghost use Rattle.uefi_node.specs.Media.{hard_drive};
-ghost use Rattle.uefi_node.specs.text.Media as forms;
-ghost use Rattle.std.specs.Prelude.{codes, Some};
-ghost use Rattle.std.specs.Fmt.{DisplaysOnOk, decimal};
-ghost use Rattle.uefi_node.specs.text.Arguments.{guid};
-ghost use Rattle.uefi_node.specs.text.Media.{mbr_signature};
-ghost use Rattle.uefi_node.specs.private.HardDrive.{drive_text};
 
 use crate::error::NodeConversionError;
-use crate::media::partition_signature::{PartitionSignature, are_zero};
-use crate::read::{NodeValue, RestKind, bytes_at, read_node};
-use crate::text::arguments::{HexBytes, UpperGuid};
-use crate::text::form::WriteText;
-use crate::text::style::Style;
+use crate::media::partition_signature::PartitionSignature;
+use crate::read::{NodeKind, NodeValue, RestKind, bytes_at, read_node};
 use crate::write::{Tail, joined, write_node};
-use std::fmt;
-use uefi_base::Guid;
 use uefi_base::little_endian::{u32_at, u64_at};
 use uefi_path::build::{BuildError, BuildNode};
 use uefi_path::{DevicePathNode, DeviceSubType, DeviceType};
@@ -51,19 +40,20 @@ pub struct HardDrive {
     pub partition_format: PartitionFormat,
 }
 
+/// The type of the nodes, and how long their data are.
+const KIND: NodeKind = NodeKind {
+    full_type: (DeviceType::MEDIA, DeviceSubType::MEDIA_HARD_DRIVE),
+    size: 38,
+    rest: RestKind::Nothing,
+};
+
 impl<'a> TryFrom<DevicePathNode<'a>> for HardDrive {
     type Error = NodeConversionError;
 
     ghost try_from_gives = { λ node read. ReadsAs hard_drive (node_of node) read };
 
     fn try_from(node: DevicePathNode<'a>) -> Result<HardDrive, NodeConversionError> {
-        read_node(
-            &node,
-            DeviceType::MEDIA,
-            DeviceSubType::MEDIA_HARD_DRIVE,
-            38,
-            RestKind::Nothing,
-        )
+        read_node(&node, KIND)
     }
 }
 
@@ -87,7 +77,7 @@ impl BuildNode for HardDrive {
     ghost is_valid = { IsValue hard_drive };
 
     fn full_type(&self) -> (DeviceType, DeviceSubType) {
-        (DeviceType::MEDIA, DeviceSubType::MEDIA_HARD_DRIVE)
+        KIND.full_type
     }
 
     fn write(&self, buffer: &mut [u8]) -> Result<usize, BuildError> {
@@ -102,109 +92,8 @@ impl BuildNode for HardDrive {
             &self.partition_format.0.to_le_bytes(),
             &self.partition_signature.signature_type().to_le_bytes(),
         ]);
-        write_node(buffer, self, self.full_type(), &fields, Tail::Bytes(&[]))
+        write_node(buffer, KIND, self, &fields, Tail::Bytes(&[]))
     }
-}
-
-impl WriteText for HardDrive {
-    ghost form = { forms.hard_drive };
-
-    fn write_text<W: fmt::Write>(
-        &self,
-        f: &mut fmt::Formatter<W>,
-        style: Style,
-    ) -> Option<fmt::Result> {
-        let (signature, format) = (self.partition_signature.to_bytes(), self.partition_format.0);
-        let kind = self.partition_signature.signature_type();
-        if kind == 1 {
-            let (_, after) = signature.split_at(4);
-            if format != 1 || !are_zero(after) {
-                return None;
-            }
-            return Some(write_mbr(f, self, style, signature));
-        }
-        if kind == 2 {
-            if format != 2 {
-                return None;
-            }
-            return Some(write_gpt(f, self, style, signature));
-        }
-        if format != 0 || !are_zero(&signature) {
-            return None;
-        }
-        Some(write_other(f, self, style, kind))
-    }
-}
-
-/// Writes the form of a drive with a master boot record.
-#[tactic(auto, unfolding(crate::specs::text::Media::partition, crate::specs::text::Media::mbr_signature))]
-fn write_mbr<W: fmt::Write>(
-    f: &mut fmt::Formatter<W>,
-    drive: &HardDrive,
-    style: Style,
-    signature: [u8; 16],
-) -> fmt::Result
-    ensures { DisplaysOnOk W.write_str_gives f.old result
-        (Some (drive_text style.display_only drive.now
-        (codes "MBR") (mbr_signature signature))) f.new }
-{
-    let (number, start, size) = (
-        drive.partition_number,
-        drive.partition_start,
-        drive.partition_size,
-    );
-    let b = signature;
-    let reversed = [b[3], b[2], b[1], b[0]];
-    let signature = HexBytes(&reversed);
-    if style.display_only {
-        return write!(f, "HD({number},MBR,0x{signature})");
-    }
-    write!(f, "HD({number},MBR,0x{signature},0x{start:X},0x{size:X})")
-}
-
-/// Writes the form of a drive with a GUID partition table.
-#[tactic(auto, unfolding(crate::specs::text::Media::partition))]
-fn write_gpt<W: fmt::Write>(
-    f: &mut fmt::Formatter<W>,
-    drive: &HardDrive,
-    style: Style,
-    signature: [u8; 16],
-) -> fmt::Result
-    ensures { DisplaysOnOk W.write_str_gives f.old result
-        (Some (drive_text style.display_only drive.now (codes "GPT") (guid signature))) f.new }
-{
-    let (number, start, size) = (
-        drive.partition_number,
-        drive.partition_start,
-        drive.partition_size,
-    );
-    let signature = UpperGuid(Guid(signature));
-    if style.display_only {
-        return write!(f, "HD({number},GPT,{signature})");
-    }
-    write!(f, "HD({number},GPT,{signature},0x{start:X},0x{size:X})")
-}
-
-/// Writes the form of a drive without a signature.
-#[tactic(auto, unfolding(crate::specs::text::Media::partition))]
-fn write_other<W: fmt::Write>(
-    f: &mut fmt::Formatter<W>,
-    drive: &HardDrive,
-    style: Style,
-    kind: u8,
-) -> fmt::Result
-    ensures { DisplaysOnOk W.write_str_gives f.old result
-        (Some (drive_text style.display_only drive.now (decimal kind) (codes "0"))) f.new }
-{
-    let (number, start, size) = (
-        drive.partition_number,
-        drive.partition_start,
-        drive.partition_size,
-    );
-    if style.display_only {
-        return write!(f, "HD({number},{kind},0)");
-    }
-    write!(f, "HD({number},{kind},0,0x{start:X},0x{size:X})")
 }
 
 /// The format of a partition table (UEFI 2.10, 10.3.5.1).

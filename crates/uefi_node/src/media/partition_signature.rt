@@ -109,7 +109,7 @@ fn is_defined(signature_type: u8, signature: &[u8]) -> bool
 }
 
 /// Returns whether all bytes are zero.
-pub(crate) fn are_zero(bytes: &[u8]) -> bool
+fn are_zero(bytes: &[u8]) -> bool
     ensures { result ≡ are_zero bytes.now }
 {
     bytes.iter().all(|byte| *byte == 0)

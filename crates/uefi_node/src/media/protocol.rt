@@ -2,15 +2,10 @@ ghost use Rattle.uefi_path.specs.Views.{node_of};
 ghost use Rattle.uefi_node.specs.Layout.{IsValue, node_as};
 ghost use Rattle.uefi_node.specs.Reading.{ReadsAs};
 ghost use Rattle.uefi_node.specs.Media.{protocol};
-ghost use Rattle.uefi_node.specs.text.Media as forms;
 
 use crate::error::NodeConversionError;
-use crate::read::{NodeValue, RestKind, bytes_at, read_node};
-use crate::text::arguments::UpperGuid;
-use crate::text::form::WriteText;
-use crate::text::style::Style;
+use crate::read::{NodeKind, NodeValue, RestKind, bytes_at, read_node};
 use crate::write::{Tail, joined, write_node};
-use std::fmt;
 use uefi_base::Guid;
 use uefi_path::build::{BuildError, BuildNode};
 use uefi_path::{DevicePathNode, DeviceSubType, DeviceType};
@@ -28,19 +23,20 @@ pub struct Protocol {
     pub protocol_guid: Guid,
 }
 
+/// The type of the nodes, and how long their data are.
+const KIND: NodeKind = NodeKind {
+    full_type: (DeviceType::MEDIA, DeviceSubType::MEDIA_PROTOCOL),
+    size: 16,
+    rest: RestKind::Nothing,
+};
+
 impl<'a> TryFrom<DevicePathNode<'a>> for Protocol {
     type Error = NodeConversionError;
 
     ghost try_from_gives = { λ node read. ReadsAs protocol (node_of node) read };
 
     fn try_from(node: DevicePathNode<'a>) -> Result<Protocol, NodeConversionError> {
-        read_node(
-            &node,
-            DeviceType::MEDIA,
-            DeviceSubType::MEDIA_PROTOCOL,
-            16,
-            RestKind::Nothing,
-        )
+        read_node(&node, KIND)
     }
 }
 
@@ -60,24 +56,11 @@ impl BuildNode for Protocol {
     ghost is_valid = { IsValue protocol };
 
     fn full_type(&self) -> (DeviceType, DeviceSubType) {
-        (DeviceType::MEDIA, DeviceSubType::MEDIA_PROTOCOL)
+        KIND.full_type
     }
 
     fn write(&self, buffer: &mut [u8]) -> Result<usize, BuildError> {
         let fields = joined::<16>(&[&self.protocol_guid.to_bytes()]);
-        write_node(buffer, self, self.full_type(), &fields, Tail::Bytes(&[]))
-    }
-}
-
-impl WriteText for Protocol {
-    ghost form = { forms.protocol };
-
-    fn write_text<W: fmt::Write>(
-        &self,
-        f: &mut fmt::Formatter<W>,
-        _style: Style,
-    ) -> Option<fmt::Result> {
-        let guid = UpperGuid(self.protocol_guid);
-        Some(write!(f, "Media({guid})"))
+        write_node(buffer, KIND, self, &fields, Tail::Bytes(&[]))
     }
 }

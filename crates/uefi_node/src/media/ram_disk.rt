@@ -2,18 +2,11 @@ ghost use Rattle.uefi_path.specs.Views.{node_of};
 ghost use Rattle.uefi_node.specs.Layout.{IsValue, node_as};
 ghost use Rattle.uefi_node.specs.Reading.{ReadsAs};
 ghost use Rattle.uefi_node.specs.Media.{ram_disk};
-ghost use Rattle.uefi_node.specs.text.Media as forms;
-ghost use Rattle.std.specs.Prelude.{◌≡◌, Some, None, MatchOption};
-ghost use Rattle.uefi_node.specs.text.Media.{ram_disk_name};
 
 use crate::error::NodeConversionError;
 use crate::media::ram_disk_type::RamDiskType;
-use crate::read::{NodeValue, RestKind, bytes_at, read_node};
-use crate::text::arguments::UpperGuid;
-use crate::text::form::WriteText;
-use crate::text::style::Style;
+use crate::read::{NodeKind, NodeValue, RestKind, bytes_at, read_node};
 use crate::write::{Tail, joined, write_node};
-use std::fmt;
 use uefi_base::Guid;
 use uefi_base::little_endian::{u16_at, u64_at};
 use uefi_path::build::{BuildError, BuildNode};
@@ -41,19 +34,20 @@ pub struct RamDisk {
     pub disk_instance: u16,
 }
 
+/// The type of the nodes, and how long their data are.
+const KIND: NodeKind = NodeKind {
+    full_type: (DeviceType::MEDIA, DeviceSubType::MEDIA_RAM_DISK),
+    size: 34,
+    rest: RestKind::Nothing,
+};
+
 impl<'a> TryFrom<DevicePathNode<'a>> for RamDisk {
     type Error = NodeConversionError;
 
     ghost try_from_gives = { λ node read. ReadsAs ram_disk (node_of node) read };
 
     fn try_from(node: DevicePathNode<'a>) -> Result<RamDisk, NodeConversionError> {
-        read_node(
-            &node,
-            DeviceType::MEDIA,
-            DeviceSubType::MEDIA_RAM_DISK,
-            34,
-            RestKind::Nothing,
-        )
+        read_node(&node, KIND)
     }
 }
 
@@ -76,7 +70,7 @@ impl BuildNode for RamDisk {
     ghost is_valid = { IsValue ram_disk };
 
     fn full_type(&self) -> (DeviceType, DeviceSubType) {
-        (DeviceType::MEDIA, DeviceSubType::MEDIA_RAM_DISK)
+        KIND.full_type
     }
 
     fn write(&self, buffer: &mut [u8]) -> Result<usize, BuildError> {
@@ -86,45 +80,6 @@ impl BuildNode for RamDisk {
             &self.disk_type.0.to_bytes(),
             &self.disk_instance.to_le_bytes(),
         ]);
-        write_node(buffer, self, self.full_type(), &fields, Tail::Bytes(&[]))
+        write_node(buffer, KIND, self, &fields, Tail::Bytes(&[]))
     }
-}
-
-impl WriteText for RamDisk {
-    ghost form = { forms.ram_disk };
-
-    fn write_text<W: fmt::Write>(
-        &self,
-        f: &mut fmt::Formatter<W>,
-        _style: Style,
-    ) -> Option<fmt::Result> {
-        let (start, end) = (self.starting_address, self.ending_address);
-        let instance = self.disk_instance;
-        if let Some(name) = own_name(self.disk_type) {
-            return Some(write!(f, "{name}(0x{start:X},0x{end:X},{instance})"));
-        }
-        let guid = UpperGuid(self.disk_type.0);
-        Some(write!(f, "RamDisk(0x{start:X},0x{end:X},{instance},{guid})"))
-    }
-}
-
-/// Returns the name of the form for disks of a type that has its own.
-#[tactic(auto, unfolding(crate::specs::text::Media::ram_disk_name))]
-fn own_name(disk_type: RamDiskType) -> Option<&'static str>
-    ensures { MatchOption result (ram_disk_name disk_type.0.0 ≡ None)
-        (λ name. ram_disk_name disk_type.0.0 ≡ Some name.now) }
-{
-    if disk_type == RamDiskType::VIRTUAL_DISK {
-        return Some("VirtualDisk");
-    }
-    if disk_type == RamDiskType::VIRTUAL_CD {
-        return Some("VirtualCD");
-    }
-    if disk_type == RamDiskType::PERSISTENT_VIRTUAL_DISK {
-        return Some("PersistentVirtualDisk");
-    }
-    if disk_type == RamDiskType::PERSISTENT_VIRTUAL_CD {
-        return Some("PersistentVirtualCD");
-    }
-    None
 }

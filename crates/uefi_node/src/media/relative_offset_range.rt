@@ -2,14 +2,10 @@ ghost use Rattle.uefi_path.specs.Views.{node_of};
 ghost use Rattle.uefi_node.specs.Layout.{IsValue, node_as};
 ghost use Rattle.uefi_node.specs.Reading.{ReadsAs};
 ghost use Rattle.uefi_node.specs.Media.{relative_offset_range};
-ghost use Rattle.uefi_node.specs.text.Media as forms;
 
 use crate::error::NodeConversionError;
-use crate::read::{NodeValue, RestKind, read_node};
-use crate::text::form::WriteText;
-use crate::text::style::Style;
+use crate::read::{NodeKind, NodeValue, RestKind, read_node};
 use crate::write::{Tail, joined, write_node};
-use std::fmt;
 use uefi_base::little_endian::{u32_at, u64_at};
 use uefi_path::build::{BuildError, BuildNode};
 use uefi_path::{DevicePathNode, DeviceSubType, DeviceType};
@@ -33,19 +29,23 @@ pub struct RelativeOffsetRange {
     pub ending_offset: u64,
 }
 
+/// The type of the nodes, and how long their data are.
+const KIND: NodeKind = NodeKind {
+    full_type: (
+        DeviceType::MEDIA,
+        DeviceSubType::MEDIA_RELATIVE_OFFSET_RANGE,
+    ),
+    size: 20,
+    rest: RestKind::Nothing,
+};
+
 impl<'a> TryFrom<DevicePathNode<'a>> for RelativeOffsetRange {
     type Error = NodeConversionError;
 
     ghost try_from_gives = { λ node read. ReadsAs relative_offset_range (node_of node) read };
 
     fn try_from(node: DevicePathNode<'a>) -> Result<RelativeOffsetRange, NodeConversionError> {
-        read_node(
-            &node,
-            DeviceType::MEDIA,
-            DeviceSubType::MEDIA_RELATIVE_OFFSET_RANGE,
-            20,
-            RestKind::Nothing,
-        )
+        read_node(&node, KIND)
     }
 }
 
@@ -67,10 +67,7 @@ impl BuildNode for RelativeOffsetRange {
     ghost is_valid = { IsValue relative_offset_range };
 
     fn full_type(&self) -> (DeviceType, DeviceSubType) {
-        (
-            DeviceType::MEDIA,
-            DeviceSubType::MEDIA_RELATIVE_OFFSET_RANGE,
-        )
+        KIND.full_type
     }
 
     fn write(&self, buffer: &mut [u8]) -> Result<usize, BuildError> {
@@ -79,22 +76,6 @@ impl BuildNode for RelativeOffsetRange {
             &self.starting_offset.to_le_bytes(),
             &self.ending_offset.to_le_bytes(),
         ]);
-        write_node(buffer, self, self.full_type(), &fields, Tail::Bytes(&[]))
-    }
-}
-
-impl WriteText for RelativeOffsetRange {
-    ghost form = { forms.relative_offset_range };
-
-    fn write_text<W: fmt::Write>(
-        &self,
-        f: &mut fmt::Formatter<W>,
-        _style: Style,
-    ) -> Option<fmt::Result> {
-        if self.reserved != 0 {
-            return None;
-        }
-        let (start, end) = (self.starting_offset, self.ending_offset);
-        Some(write!(f, "Offset(0x{start:X},0x{end:X})"))
+        write_node(buffer, KIND, self, &fields, Tail::Bytes(&[]))
     }
 }

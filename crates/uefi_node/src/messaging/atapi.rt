@@ -2,16 +2,10 @@ ghost use Rattle.uefi_path.specs.Views.{node_of};
 ghost use Rattle.uefi_node.specs.Layout.{IsValue, node_as};
 ghost use Rattle.uefi_node.specs.Reading.{ReadsAs};
 ghost use Rattle.uefi_node.specs.Messaging.{atapi};
-ghost use Rattle.uefi_node.specs.text.Storage as forms;
-ghost use Rattle.std.specs.Prelude.{◌≡◌};
-ghost use Rattle.uefi_node.specs.text.Storage.{channel_name, drive_name};
 
 use crate::error::NodeConversionError;
-use crate::read::{NodeValue, RestKind, read_node};
-use crate::text::form::WriteText;
-use crate::text::style::Style;
+use crate::read::{NodeKind, NodeValue, RestKind, read_node};
 use crate::write::{Tail, joined, write_node};
-use std::fmt;
 use uefi_base::little_endian::u16_at;
 use uefi_path::build::{BuildError, BuildNode};
 use uefi_path::{DevicePathNode, DeviceSubType, DeviceType};
@@ -35,19 +29,20 @@ pub struct Atapi {
     pub logical_unit_number: u16,
 }
 
+/// The type of the nodes, and how long their data are.
+const KIND: NodeKind = NodeKind {
+    full_type: (DeviceType::MESSAGING, DeviceSubType::MESSAGING_ATAPI),
+    size: 4,
+    rest: RestKind::Nothing,
+};
+
 impl<'a> TryFrom<DevicePathNode<'a>> for Atapi {
     type Error = NodeConversionError;
 
     ghost try_from_gives = { λ node read. ReadsAs atapi (node_of node) read };
 
     fn try_from(node: DevicePathNode<'a>) -> Result<Atapi, NodeConversionError> {
-        read_node(
-            &node,
-            DeviceType::MESSAGING,
-            DeviceSubType::MESSAGING_ATAPI,
-            4,
-            RestKind::Nothing,
-        )
+        read_node(&node, KIND)
     }
 }
 
@@ -69,7 +64,7 @@ impl BuildNode for Atapi {
     ghost is_valid = { IsValue atapi };
 
     fn full_type(&self) -> (DeviceType, DeviceSubType) {
-        (DeviceType::MESSAGING, DeviceSubType::MESSAGING_ATAPI)
+        KIND.full_type
     }
 
     fn write(&self, buffer: &mut [u8]) -> Result<usize, BuildError> {
@@ -78,43 +73,8 @@ impl BuildNode for Atapi {
             &self.master_slave.0.to_le_bytes(),
             &self.logical_unit_number.to_le_bytes(),
         ]);
-        write_node(buffer, self, self.full_type(), &fields, Tail::Bytes(&[]))
+        write_node(buffer, KIND, self, &fields, Tail::Bytes(&[]))
     }
-}
-
-impl WriteText for Atapi {
-    ghost form = { forms.atapi };
-
-    fn write_text<W: fmt::Write>(
-        &self,
-        f: &mut fmt::Formatter<W>,
-        style: Style,
-    ) -> Option<fmt::Result> {
-        let (channel, drive) = (self.primary_secondary.0, self.master_slave.0);
-        let lun = self.logical_unit_number;
-        if channel > 1 || drive > 1 {
-            return None;
-        }
-        if style.display_only {
-            return Some(write!(f, "Ata(0x{lun:X})"));
-        }
-        let (channel, drive) = (channel_name(channel), drive_name(drive));
-        Some(write!(f, "Ata({channel},{drive},0x{lun:X})"))
-    }
-}
-
-/// Returns the name of a channel.
-fn channel_name(channel: u8) -> &'static str
-    ensures { result.now ≡ channel_name channel }
-{
-    if channel == 0 { "Primary" } else { "Secondary" }
-}
-
-/// Returns the name of a device of a channel.
-fn drive_name(drive: u8) -> &'static str
-    ensures { result.now ≡ drive_name drive }
-{
-    if drive == 0 { "Master" } else { "Slave" }
 }
 
 /// The channel of an ATAPI device (UEFI 2.10, 10.3.4.1).

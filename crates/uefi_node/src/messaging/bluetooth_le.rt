@@ -2,15 +2,10 @@ ghost use Rattle.uefi_path.specs.Views.{node_of};
 ghost use Rattle.uefi_node.specs.Layout.{IsValue, node_as};
 ghost use Rattle.uefi_node.specs.Reading.{ReadsAs};
 ghost use Rattle.uefi_node.specs.Messaging.{bluetooth_le};
-ghost use Rattle.uefi_node.specs.text.Network as forms;
 
 use crate::error::NodeConversionError;
-use crate::read::{NodeValue, RestKind, bytes_at, read_node};
-use crate::text::arguments::HexBytes;
-use crate::text::form::WriteText;
-use crate::text::style::Style;
+use crate::read::{NodeKind, NodeValue, RestKind, bytes_at, read_node};
 use crate::write::{Tail, joined, write_node};
-use std::fmt;
 use uefi_path::build::{BuildError, BuildNode};
 use uefi_path::{DevicePathNode, DeviceSubType, DeviceType};
 
@@ -30,19 +25,20 @@ pub struct BluetoothLe {
     pub address_type: BluetoothLeAddressType,
 }
 
+/// The type of the nodes, and how long their data are.
+const KIND: NodeKind = NodeKind {
+    full_type: (DeviceType::MESSAGING, DeviceSubType::MESSAGING_BLUETOOTH_LE),
+    size: 7,
+    rest: RestKind::Nothing,
+};
+
 impl<'a> TryFrom<DevicePathNode<'a>> for BluetoothLe {
     type Error = NodeConversionError;
 
     ghost try_from_gives = { λ node read. ReadsAs bluetooth_le (node_of node) read };
 
     fn try_from(node: DevicePathNode<'a>) -> Result<BluetoothLe, NodeConversionError> {
-        read_node(
-            &node,
-            DeviceType::MESSAGING,
-            DeviceSubType::MESSAGING_BLUETOOTH_LE,
-            7,
-            RestKind::Nothing,
-        )
+        read_node(&node, KIND)
     }
 }
 
@@ -63,30 +59,12 @@ impl BuildNode for BluetoothLe {
     ghost is_valid = { IsValue bluetooth_le };
 
     fn full_type(&self) -> (DeviceType, DeviceSubType) {
-        (DeviceType::MESSAGING, DeviceSubType::MESSAGING_BLUETOOTH_LE)
+        KIND.full_type
     }
 
     fn write(&self, buffer: &mut [u8]) -> Result<usize, BuildError> {
         let fields = joined::<7>(&[&self.device_address, &self.address_type.0.to_le_bytes()]);
-        write_node(buffer, self, self.full_type(), &fields, Tail::Bytes(&[]))
-    }
-}
-
-impl WriteText for BluetoothLe {
-    ghost form = { forms.bluetooth_le };
-
-    fn write_text<W: fmt::Write>(
-        &self,
-        f: &mut fmt::Formatter<W>,
-        _style: Style,
-    ) -> Option<fmt::Result> {
-        let address_type = [self.address_type.0];
-        Some(write!(
-            f,
-            "BluetoothLE({},0x{})",
-            HexBytes(&self.device_address),
-            HexBytes(&address_type),
-        ))
+        write_node(buffer, KIND, self, &fields, Tail::Bytes(&[]))
     }
 }
 

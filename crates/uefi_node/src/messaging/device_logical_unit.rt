@@ -2,14 +2,10 @@ ghost use Rattle.uefi_path.specs.Views.{node_of};
 ghost use Rattle.uefi_node.specs.Layout.{IsValue, node_as};
 ghost use Rattle.uefi_node.specs.Reading.{ReadsAs};
 ghost use Rattle.uefi_node.specs.Messaging.{device_logical_unit};
-ghost use Rattle.uefi_node.specs.text.Storage as forms;
 
 use crate::error::NodeConversionError;
-use crate::read::{NodeValue, RestKind, read_node};
-use crate::text::form::WriteText;
-use crate::text::style::Style;
+use crate::read::{NodeKind, NodeValue, RestKind, read_node};
 use crate::write::{Tail, joined, write_node};
-use std::fmt;
 use uefi_path::build::{BuildError, BuildNode};
 use uefi_path::{DevicePathNode, DeviceSubType, DeviceType};
 
@@ -26,19 +22,23 @@ pub struct DeviceLogicalUnit {
     pub logical_unit_number: u8,
 }
 
+/// The type of the nodes, and how long their data are.
+const KIND: NodeKind = NodeKind {
+    full_type: (
+        DeviceType::MESSAGING,
+        DeviceSubType::MESSAGING_DEVICE_LOGICAL_UNIT,
+    ),
+    size: 1,
+    rest: RestKind::Nothing,
+};
+
 impl<'a> TryFrom<DevicePathNode<'a>> for DeviceLogicalUnit {
     type Error = NodeConversionError;
 
     ghost try_from_gives = { λ node read. ReadsAs device_logical_unit (node_of node) read };
 
     fn try_from(node: DevicePathNode<'a>) -> Result<DeviceLogicalUnit, NodeConversionError> {
-        read_node(
-            &node,
-            DeviceType::MESSAGING,
-            DeviceSubType::MESSAGING_DEVICE_LOGICAL_UNIT,
-            1,
-            RestKind::Nothing,
-        )
+        read_node(&node, KIND)
     }
 }
 
@@ -58,27 +58,11 @@ impl BuildNode for DeviceLogicalUnit {
     ghost is_valid = { IsValue device_logical_unit };
 
     fn full_type(&self) -> (DeviceType, DeviceSubType) {
-        (
-            DeviceType::MESSAGING,
-            DeviceSubType::MESSAGING_DEVICE_LOGICAL_UNIT,
-        )
+        KIND.full_type
     }
 
     fn write(&self, buffer: &mut [u8]) -> Result<usize, BuildError> {
         let fields = joined::<1>(&[&self.logical_unit_number.to_le_bytes()]);
-        write_node(buffer, self, self.full_type(), &fields, Tail::Bytes(&[]))
-    }
-}
-
-impl WriteText for DeviceLogicalUnit {
-    ghost form = { forms.device_logical_unit };
-
-    fn write_text<W: fmt::Write>(
-        &self,
-        f: &mut fmt::Formatter<W>,
-        _style: Style,
-    ) -> Option<fmt::Result> {
-        let lun = self.logical_unit_number;
-        Some(write!(f, "Unit(0x{lun:X})"))
+        write_node(buffer, KIND, self, &fields, Tail::Bytes(&[]))
     }
 }

@@ -2,14 +2,10 @@ ghost use Rattle.uefi_path.specs.Views.{node_of};
 ghost use Rattle.uefi_node.specs.Layout.{IsValue, node_as};
 ghost use Rattle.uefi_node.specs.Reading.{ReadsAs};
 ghost use Rattle.uefi_node.specs.Messaging.{fibre_channel};
-ghost use Rattle.uefi_node.specs.text.Storage as forms;
 
 use crate::error::NodeConversionError;
-use crate::read::{NodeValue, RestKind, read_node};
-use crate::text::form::WriteText;
-use crate::text::style::Style;
+use crate::read::{NodeKind, NodeValue, RestKind, read_node};
 use crate::write::{Tail, joined, write_node};
-use std::fmt;
 use uefi_base::little_endian::{u32_at, u64_at};
 use uefi_path::build::{BuildError, BuildNode};
 use uefi_path::{DevicePathNode, DeviceSubType, DeviceType};
@@ -33,19 +29,23 @@ pub struct FibreChannel {
     pub logical_unit_number: u64,
 }
 
+/// The type of the nodes, and how long their data are.
+const KIND: NodeKind = NodeKind {
+    full_type: (
+        DeviceType::MESSAGING,
+        DeviceSubType::MESSAGING_FIBRE_CHANNEL,
+    ),
+    size: 20,
+    rest: RestKind::Nothing,
+};
+
 impl<'a> TryFrom<DevicePathNode<'a>> for FibreChannel {
     type Error = NodeConversionError;
 
     ghost try_from_gives = { λ node read. ReadsAs fibre_channel (node_of node) read };
 
     fn try_from(node: DevicePathNode<'a>) -> Result<FibreChannel, NodeConversionError> {
-        read_node(
-            &node,
-            DeviceType::MESSAGING,
-            DeviceSubType::MESSAGING_FIBRE_CHANNEL,
-            20,
-            RestKind::Nothing,
-        )
+        read_node(&node, KIND)
     }
 }
 
@@ -67,10 +67,7 @@ impl BuildNode for FibreChannel {
     ghost is_valid = { IsValue fibre_channel };
 
     fn full_type(&self) -> (DeviceType, DeviceSubType) {
-        (
-            DeviceType::MESSAGING,
-            DeviceSubType::MESSAGING_FIBRE_CHANNEL,
-        )
+        KIND.full_type
     }
 
     fn write(&self, buffer: &mut [u8]) -> Result<usize, BuildError> {
@@ -79,22 +76,6 @@ impl BuildNode for FibreChannel {
             &self.world_wide_name.to_le_bytes(),
             &self.logical_unit_number.to_le_bytes(),
         ]);
-        write_node(buffer, self, self.full_type(), &fields, Tail::Bytes(&[]))
-    }
-}
-
-impl WriteText for FibreChannel {
-    ghost form = { forms.fibre_channel };
-
-    fn write_text<W: fmt::Write>(
-        &self,
-        f: &mut fmt::Formatter<W>,
-        _style: Style,
-    ) -> Option<fmt::Result> {
-        if self.reserved != 0 {
-            return None;
-        }
-        let (name, lun) = (self.world_wide_name, self.logical_unit_number);
-        Some(write!(f, "Fibre(0x{name:X},0x{lun:X})"))
+        write_node(buffer, KIND, self, &fields, Tail::Bytes(&[]))
     }
 }

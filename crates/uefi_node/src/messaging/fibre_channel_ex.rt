@@ -2,15 +2,10 @@ ghost use Rattle.uefi_path.specs.Views.{node_of};
 ghost use Rattle.uefi_node.specs.Layout.{IsValue, node_as};
 ghost use Rattle.uefi_node.specs.Reading.{ReadsAs};
 ghost use Rattle.uefi_node.specs.Messaging.{fibre_channel_ex};
-ghost use Rattle.uefi_node.specs.text.Storage as forms;
 
 use crate::error::NodeConversionError;
-use crate::read::{NodeValue, RestKind, bytes_at, read_node};
-use crate::text::arguments::HexBytes;
-use crate::text::form::WriteText;
-use crate::text::style::Style;
+use crate::read::{NodeKind, NodeValue, RestKind, bytes_at, read_node};
 use crate::write::{Tail, joined, write_node};
-use std::fmt;
 use uefi_base::little_endian::u32_at;
 use uefi_path::build::{BuildError, BuildNode};
 use uefi_path::{DevicePathNode, DeviceSubType, DeviceType};
@@ -34,19 +29,23 @@ pub struct FibreChannelEx {
     pub logical_unit_number: [u8; 8],
 }
 
+/// The type of the nodes, and how long their data are.
+const KIND: NodeKind = NodeKind {
+    full_type: (
+        DeviceType::MESSAGING,
+        DeviceSubType::MESSAGING_FIBRE_CHANNEL_EX,
+    ),
+    size: 20,
+    rest: RestKind::Nothing,
+};
+
 impl<'a> TryFrom<DevicePathNode<'a>> for FibreChannelEx {
     type Error = NodeConversionError;
 
     ghost try_from_gives = { λ node read. ReadsAs fibre_channel_ex (node_of node) read };
 
     fn try_from(node: DevicePathNode<'a>) -> Result<FibreChannelEx, NodeConversionError> {
-        read_node(
-            &node,
-            DeviceType::MESSAGING,
-            DeviceSubType::MESSAGING_FIBRE_CHANNEL_EX,
-            20,
-            RestKind::Nothing,
-        )
+        read_node(&node, KIND)
     }
 }
 
@@ -68,10 +67,7 @@ impl BuildNode for FibreChannelEx {
     ghost is_valid = { IsValue fibre_channel_ex };
 
     fn full_type(&self) -> (DeviceType, DeviceSubType) {
-        (
-            DeviceType::MESSAGING,
-            DeviceSubType::MESSAGING_FIBRE_CHANNEL_EX,
-        )
+        KIND.full_type
     }
 
     fn write(&self, buffer: &mut [u8]) -> Result<usize, BuildError> {
@@ -80,25 +76,6 @@ impl BuildNode for FibreChannelEx {
             &self.world_wide_name,
             &self.logical_unit_number,
         ]);
-        write_node(buffer, self, self.full_type(), &fields, Tail::Bytes(&[]))
-    }
-}
-
-impl WriteText for FibreChannelEx {
-    ghost form = { forms.fibre_channel_ex };
-
-    fn write_text<W: fmt::Write>(
-        &self,
-        f: &mut fmt::Formatter<W>,
-        _style: Style,
-    ) -> Option<fmt::Result> {
-        if self.reserved != 0 {
-            return None;
-        }
-        let (name, lun) = (
-            HexBytes(&self.world_wide_name),
-            HexBytes(&self.logical_unit_number),
-        );
-        Some(write!(f, "FibreEx(0x{name},0x{lun})"))
+        write_node(buffer, KIND, self, &fields, Tail::Bytes(&[]))
     }
 }

@@ -2,15 +2,10 @@ ghost use Rattle.uefi_path.specs.Views.{node_of};
 ghost use Rattle.uefi_node.specs.Layout.{IsValue, node_as};
 ghost use Rattle.uefi_node.specs.Reading.{ReadsAs};
 ghost use Rattle.uefi_node.specs.Messaging.{ieee1394};
-ghost use Rattle.uefi_node.specs.text.Storage as forms;
 
 use crate::error::NodeConversionError;
-use crate::read::{NodeValue, RestKind, bytes_at, read_node};
-use crate::text::arguments::HexBytes;
-use crate::text::form::WriteText;
-use crate::text::style::Style;
+use crate::read::{NodeKind, NodeValue, RestKind, bytes_at, read_node};
 use crate::write::{Tail, joined, write_node};
-use std::fmt;
 use uefi_base::little_endian::u32_at;
 use uefi_path::build::{BuildError, BuildNode};
 use uefi_path::{DevicePathNode, DeviceSubType, DeviceType};
@@ -31,19 +26,20 @@ pub struct Ieee1394 {
     pub guid: [u8; 8],
 }
 
+/// The type of the nodes, and how long their data are.
+const KIND: NodeKind = NodeKind {
+    full_type: (DeviceType::MESSAGING, DeviceSubType::MESSAGING_1394),
+    size: 12,
+    rest: RestKind::Nothing,
+};
+
 impl<'a> TryFrom<DevicePathNode<'a>> for Ieee1394 {
     type Error = NodeConversionError;
 
     ghost try_from_gives = { λ node read. ReadsAs ieee1394 (node_of node) read };
 
     fn try_from(node: DevicePathNode<'a>) -> Result<Ieee1394, NodeConversionError> {
-        read_node(
-            &node,
-            DeviceType::MESSAGING,
-            DeviceSubType::MESSAGING_1394,
-            12,
-            RestKind::Nothing,
-        )
+        read_node(&node, KIND)
     }
 }
 
@@ -64,28 +60,11 @@ impl BuildNode for Ieee1394 {
     ghost is_valid = { IsValue ieee1394 };
 
     fn full_type(&self) -> (DeviceType, DeviceSubType) {
-        (DeviceType::MESSAGING, DeviceSubType::MESSAGING_1394)
+        KIND.full_type
     }
 
     fn write(&self, buffer: &mut [u8]) -> Result<usize, BuildError> {
         let fields = joined::<12>(&[&self.reserved.to_le_bytes(), &self.guid]);
-        write_node(buffer, self, self.full_type(), &fields, Tail::Bytes(&[]))
-    }
-}
-
-impl WriteText for Ieee1394 {
-    ghost form = { forms.ieee1394 };
-
-    fn write_text<W: fmt::Write>(
-        &self,
-        f: &mut fmt::Formatter<W>,
-        _style: Style,
-    ) -> Option<fmt::Result> {
-        if self.reserved != 0 {
-            return None;
-        }
-        let b = self.guid;
-        let reversed = [b[7], b[6], b[5], b[4], b[3], b[2], b[1], b[0]];
-        Some(write!(f, "I1394({})", HexBytes(&reversed)))
+        write_node(buffer, KIND, self, &fields, Tail::Bytes(&[]))
     }
 }

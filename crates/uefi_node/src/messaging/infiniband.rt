@@ -2,17 +2,11 @@ ghost use Rattle.uefi_path.specs.Views.{node_of};
 ghost use Rattle.uefi_node.specs.Layout.{IsValue, node_as};
 ghost use Rattle.uefi_node.specs.Reading.{ReadsAs};
 ghost use Rattle.uefi_node.specs.Messaging.{infiniband};
-ghost use Rattle.uefi_node.specs.text.Network as forms;
 
 use crate::error::NodeConversionError;
 use crate::messaging::infiniband_resource_flags::InfinibandResourceFlags;
-use crate::read::{NodeValue, RestKind, bytes_at, read_node};
-use crate::text::arguments::UpperGuid;
-use crate::text::form::WriteText;
-use crate::text::style::Style;
+use crate::read::{NodeKind, NodeValue, RestKind, bytes_at, read_node};
 use crate::write::{Tail, joined, write_node};
-use std::fmt;
-use uefi_base::Guid;
 use uefi_base::little_endian::{u32_at, u64_at};
 use uefi_path::build::{BuildError, BuildNode};
 use uefi_path::{DevicePathNode, DeviceSubType, DeviceType};
@@ -42,19 +36,20 @@ pub struct Infiniband {
     pub device_id: u64,
 }
 
+/// The type of the nodes, and how long their data are.
+const KIND: NodeKind = NodeKind {
+    full_type: (DeviceType::MESSAGING, DeviceSubType::MESSAGING_INFINIBAND),
+    size: 44,
+    rest: RestKind::Nothing,
+};
+
 impl<'a> TryFrom<DevicePathNode<'a>> for Infiniband {
     type Error = NodeConversionError;
 
     ghost try_from_gives = { λ node read. ReadsAs infiniband (node_of node) read };
 
     fn try_from(node: DevicePathNode<'a>) -> Result<Infiniband, NodeConversionError> {
-        read_node(
-            &node,
-            DeviceType::MESSAGING,
-            DeviceSubType::MESSAGING_INFINIBAND,
-            44,
-            RestKind::Nothing,
-        )
+        read_node(&node, KIND)
     }
 }
 
@@ -78,7 +73,7 @@ impl BuildNode for Infiniband {
     ghost is_valid = { IsValue infiniband };
 
     fn full_type(&self) -> (DeviceType, DeviceSubType) {
-        (DeviceType::MESSAGING, DeviceSubType::MESSAGING_INFINIBAND)
+        KIND.full_type
     }
 
     fn write(&self, buffer: &mut [u8]) -> Result<usize, BuildError> {
@@ -89,24 +84,6 @@ impl BuildNode for Infiniband {
             &self.target_port_id.to_le_bytes(),
             &self.device_id.to_le_bytes(),
         ]);
-        write_node(buffer, self, self.full_type(), &fields, Tail::Bytes(&[]))
-    }
-}
-
-impl WriteText for Infiniband {
-    ghost form = { forms.infiniband };
-
-    fn write_text<W: fmt::Write>(
-        &self,
-        f: &mut fmt::Formatter<W>,
-        _style: Style,
-    ) -> Option<fmt::Result> {
-        let (flags, port_gid) = (self.resource_flags.bits(), UpperGuid(Guid(self.port_gid)));
-        let (controller, target) = (self.ioc_guid_or_service_id, self.target_port_id);
-        let device = self.device_id;
-        Some(write!(
-            f,
-            "Infiniband(0x{flags:X},{port_gid},0x{controller:X},0x{target:X},0x{device:X})",
-        ))
+        write_node(buffer, KIND, self, &fields, Tail::Bytes(&[]))
     }
 }

@@ -1,18 +1,11 @@
-ghost use Rattle.std.specs.Prelude.{◌≡◌, Some};
 ghost use Rattle.uefi_path.specs.Views.{node_of};
 ghost use Rattle.uefi_node.specs.Layout.{IsValue, node_as};
 ghost use Rattle.uefi_node.specs.Reading.{ReadsAs};
 ghost use Rattle.uefi_node.specs.Messaging.{ipv4};
-ghost use Rattle.uefi_node.specs.text.Network.{ipv4_origin, network_protocol};
-ghost use Rattle.uefi_node.specs.text.Network as forms;
 
 use crate::error::NodeConversionError;
-use crate::read::{NodeValue, RestKind, bytes_at, read_node};
-use crate::text::arguments::Ipv4Text;
-use crate::text::form::WriteText;
-use crate::text::style::Style;
+use crate::read::{NodeKind, NodeValue, RestKind, bytes_at, read_node};
 use crate::write::{Tail, joined, write_node};
-use std::fmt;
 use uefi_base::little_endian::u16_at;
 use uefi_path::build::{BuildError, BuildNode};
 use uefi_path::{DevicePathNode, DeviceSubType, DeviceType};
@@ -51,19 +44,20 @@ pub struct Ipv4 {
     pub subnet_mask: [u8; 4],
 }
 
+/// The type of the nodes, and how long their data are.
+const KIND: NodeKind = NodeKind {
+    full_type: (DeviceType::MESSAGING, DeviceSubType::MESSAGING_IPV4),
+    size: 23,
+    rest: RestKind::Nothing,
+};
+
 impl<'a> TryFrom<DevicePathNode<'a>> for Ipv4 {
     type Error = NodeConversionError;
 
     ghost try_from_gives = { λ node read. ReadsAs ipv4 (node_of node) read };
 
     fn try_from(node: DevicePathNode<'a>) -> Result<Ipv4, NodeConversionError> {
-        read_node(
-            &node,
-            DeviceType::MESSAGING,
-            DeviceSubType::MESSAGING_IPV4,
-            23,
-            RestKind::Nothing,
-        )
+        read_node(&node, KIND)
     }
 }
 
@@ -90,7 +84,7 @@ impl BuildNode for Ipv4 {
     ghost is_valid = { IsValue ipv4 };
 
     fn full_type(&self) -> (DeviceType, DeviceSubType) {
-        (DeviceType::MESSAGING, DeviceSubType::MESSAGING_IPV4)
+        KIND.full_type
     }
 
     fn write(&self, buffer: &mut [u8]) -> Result<usize, BuildError> {
@@ -104,59 +98,7 @@ impl BuildNode for Ipv4 {
             &self.gateway_ip_address,
             &self.subnet_mask,
         ]);
-        write_node(buffer, self, self.full_type(), &fields, Tail::Bytes(&[]))
-    }
-}
-
-impl WriteText for Ipv4 {
-    ghost form = { forms.ipv4 };
-
-    fn write_text<W: fmt::Write>(
-        &self,
-        f: &mut fmt::Formatter<W>,
-        style: Style,
-    ) -> Option<fmt::Result> {
-        let (local_port, remote_port) = (self.local_port, self.remote_port);
-        let origin = self.ip_address_origin.0;
-        if local_port != 0 || remote_port != 0 || origin > 1 {
-            return None;
-        }
-        let remote = Ipv4Text(self.remote_ip_address);
-        if style.display_only {
-            return Some(write!(f, "IPv4({remote})"));
-        }
-        let protocol = ProtocolText(self.protocol);
-        let local = Ipv4Text(self.local_ip_address);
-        let gateway = Ipv4Text(self.gateway_ip_address);
-        let mask = Ipv4Text(self.subnet_mask);
-        let origin = origin_name(origin);
-        Some(write!(
-            f,
-            "IPv4({remote},{protocol},{origin},{local},{gateway},{mask})",
-        ))
-    }
-}
-
-/// Returns the name of an origin of an IPv4 address.
-fn origin_name(origin: u8) -> &'static str
-    ensures { result.now ≡ ipv4_origin origin }
-{
-    if origin == 1 { "Static" } else { "DHCP" }
-}
-
-/// A network protocol, displayed as its name or its number.
-#[derive(Clone, Copy)]
-pub(crate) struct ProtocolText(pub(crate) u16);
-
-impl fmt::Display for ProtocolText {
-    ghost output = { λ protocol. Some (network_protocol protocol.0) };
-
-    fn fmt<W: fmt::Write>(&self, f: &mut fmt::Formatter<W>) -> fmt::Result {
-        match self.0 {
-            6 => f.write_str("TCP"),
-            17 => f.write_str("UDP"),
-            number => write!(f, "0x{number:X}"),
-        }
+        write_node(buffer, KIND, self, &fields, Tail::Bytes(&[]))
     }
 }
 

@@ -1,19 +1,11 @@
-ghost use Rattle.std.specs.Prelude.{◌≡◌};
 ghost use Rattle.uefi_path.specs.Views.{node_of};
 ghost use Rattle.uefi_node.specs.Layout.{IsValue, node_as};
 ghost use Rattle.uefi_node.specs.Reading.{ReadsAs};
 ghost use Rattle.uefi_node.specs.Messaging.{ipv6};
-ghost use Rattle.uefi_node.specs.text.Network.{ipv6_origin};
-ghost use Rattle.uefi_node.specs.text.Network as forms;
 
 use crate::error::NodeConversionError;
-use crate::messaging::ipv4::ProtocolText;
-use crate::read::{NodeValue, RestKind, bytes_at, read_node};
-use crate::text::arguments::Ipv6Text;
-use crate::text::form::WriteText;
-use crate::text::style::Style;
+use crate::read::{NodeKind, NodeValue, RestKind, bytes_at, read_node};
 use crate::write::{Tail, joined, write_node};
-use std::fmt;
 use uefi_base::little_endian::u16_at;
 use uefi_path::build::{BuildError, BuildNode};
 use uefi_path::{DevicePathNode, DeviceSubType, DeviceType};
@@ -52,19 +44,20 @@ pub struct Ipv6 {
     pub gateway_ip_address: [u8; 16],
 }
 
+/// The type of the nodes, and how long their data are.
+const KIND: NodeKind = NodeKind {
+    full_type: (DeviceType::MESSAGING, DeviceSubType::MESSAGING_IPV6),
+    size: 56,
+    rest: RestKind::Nothing,
+};
+
 impl<'a> TryFrom<DevicePathNode<'a>> for Ipv6 {
     type Error = NodeConversionError;
 
     ghost try_from_gives = { λ node read. ReadsAs ipv6 (node_of node) read };
 
     fn try_from(node: DevicePathNode<'a>) -> Result<Ipv6, NodeConversionError> {
-        read_node(
-            &node,
-            DeviceType::MESSAGING,
-            DeviceSubType::MESSAGING_IPV6,
-            56,
-            RestKind::Nothing,
-        )
+        read_node(&node, KIND)
     }
 }
 
@@ -91,7 +84,7 @@ impl BuildNode for Ipv6 {
     ghost is_valid = { IsValue ipv6 };
 
     fn full_type(&self) -> (DeviceType, DeviceSubType) {
-        (DeviceType::MESSAGING, DeviceSubType::MESSAGING_IPV6)
+        KIND.full_type
     }
 
     fn write(&self, buffer: &mut [u8]) -> Result<usize, BuildError> {
@@ -105,47 +98,7 @@ impl BuildNode for Ipv6 {
             &self.prefix_length.to_le_bytes(),
             &self.gateway_ip_address,
         ]);
-        write_node(buffer, self, self.full_type(), &fields, Tail::Bytes(&[]))
-    }
-}
-
-impl WriteText for Ipv6 {
-    ghost form = { forms.ipv6 };
-
-    fn write_text<W: fmt::Write>(
-        &self,
-        f: &mut fmt::Formatter<W>,
-        style: Style,
-    ) -> Option<fmt::Result> {
-        let (local_port, remote_port) = (self.local_port, self.remote_port);
-        let origin = self.ip_address_origin.0;
-        if local_port != 0 || remote_port != 0 || origin > 2 {
-            return None;
-        }
-        let remote = Ipv6Text(self.remote_ip_address);
-        if style.display_only {
-            return Some(write!(f, "IPv6({remote})"));
-        }
-        let protocol = ProtocolText(self.protocol);
-        let local = Ipv6Text(self.local_ip_address);
-        let gateway = Ipv6Text(self.gateway_ip_address);
-        let prefix_length = self.prefix_length;
-        let origin = origin_name(origin);
-        Some(write!(
-            f,
-            "IPv6({remote},{protocol},{origin},{local},0x{prefix_length:X},{gateway})",
-        ))
-    }
-}
-
-/// Returns the name of an origin of an IPv6 address.
-fn origin_name(origin: u8) -> &'static str
-    ensures { result.now ≡ ipv6_origin origin }
-{
-    match origin {
-        0 => "Static",
-        1 => "StatelessAutoConfigure",
-        _ => "StatefulAutoConfigure",
+        write_node(buffer, KIND, self, &fields, Tail::Bytes(&[]))
     }
 }
 

@@ -2,16 +2,10 @@ ghost use Rattle.uefi_path.specs.Views.{node_of};
 ghost use Rattle.uefi_node.specs.Layout.{IsValue, node_as};
 ghost use Rattle.uefi_node.specs.Reading.{ReadsAs};
 ghost use Rattle.uefi_node.specs.Messaging.{mac_address};
-ghost use Rattle.uefi_node.specs.text.Network as forms;
 
 use crate::error::NodeConversionError;
-use crate::media::partition_signature::are_zero;
-use crate::read::{NodeValue, RestKind, bytes_at, read_node};
-use crate::text::arguments::HexBytes;
-use crate::text::form::WriteText;
-use crate::text::style::Style;
+use crate::read::{NodeKind, NodeValue, RestKind, bytes_at, read_node};
 use crate::write::{Tail, joined, write_node};
-use std::fmt;
 use uefi_path::build::{BuildError, BuildNode};
 use uefi_path::{DevicePathNode, DeviceSubType, DeviceType};
 
@@ -31,19 +25,20 @@ pub struct MacAddress {
     pub interface_type: u8,
 }
 
+/// The type of the nodes, and how long their data are.
+const KIND: NodeKind = NodeKind {
+    full_type: (DeviceType::MESSAGING, DeviceSubType::MESSAGING_MAC_ADDRESS),
+    size: 33,
+    rest: RestKind::Nothing,
+};
+
 impl<'a> TryFrom<DevicePathNode<'a>> for MacAddress {
     type Error = NodeConversionError;
 
     ghost try_from_gives = { λ node read. ReadsAs mac_address (node_of node) read };
 
     fn try_from(node: DevicePathNode<'a>) -> Result<MacAddress, NodeConversionError> {
-        read_node(
-            &node,
-            DeviceType::MESSAGING,
-            DeviceSubType::MESSAGING_MAC_ADDRESS,
-            33,
-            RestKind::Nothing,
-        )
+        read_node(&node, KIND)
     }
 }
 
@@ -64,32 +59,11 @@ impl BuildNode for MacAddress {
     ghost is_valid = { IsValue mac_address };
 
     fn full_type(&self) -> (DeviceType, DeviceSubType) {
-        (DeviceType::MESSAGING, DeviceSubType::MESSAGING_MAC_ADDRESS)
+        KIND.full_type
     }
 
     fn write(&self, buffer: &mut [u8]) -> Result<usize, BuildError> {
         let fields = joined::<33>(&[&self.mac_address, &self.interface_type.to_le_bytes()]);
-        write_node(buffer, self, self.full_type(), &fields, Tail::Bytes(&[]))
-    }
-}
-
-impl WriteText for MacAddress {
-    ghost form = { forms.mac_address };
-
-    fn write_text<W: fmt::Write>(
-        &self,
-        f: &mut fmt::Formatter<W>,
-        _style: Style,
-    ) -> Option<fmt::Result> {
-        let interface_type = self.interface_type;
-        if interface_type > 1 {
-            let address = HexBytes(&self.mac_address);
-            return Some(write!(f, "MAC({address},0x{interface_type:X})"));
-        }
-        let (address, padding) = self.mac_address.split_at(6);
-        if !are_zero(padding) {
-            return None;
-        }
-        Some(write!(f, "MAC({},0x{interface_type:X})", HexBytes(address)))
+        write_node(buffer, KIND, self, &fields, Tail::Bytes(&[]))
     }
 }

@@ -4,7 +4,7 @@ ghost use Rattle.uefi_node.specs.Reading.{ReadsAs};
 ghost use Rattle.uefi_node.specs.Messaging.{nvdimm_namespace};
 
 use crate::error::NodeConversionError;
-use crate::read::{NodeValue, RestKind, bytes_at, read_node};
+use crate::read::{NodeKind, NodeValue, RestKind, bytes_at, read_node};
 use crate::write::{Tail, joined, write_node};
 use uefi_path::build::{BuildError, BuildNode};
 use uefi_path::{DevicePathNode, DeviceSubType, DeviceType};
@@ -22,19 +22,23 @@ pub struct NvdimmNamespace {
     pub uuid: [u8; 16],
 }
 
+/// The type of the nodes, and how long their data are.
+const KIND: NodeKind = NodeKind {
+    full_type: (
+        DeviceType::MESSAGING,
+        DeviceSubType::MESSAGING_NVDIMM_NAMESPACE,
+    ),
+    size: 16,
+    rest: RestKind::Nothing,
+};
+
 impl<'a> TryFrom<DevicePathNode<'a>> for NvdimmNamespace {
     type Error = NodeConversionError;
 
     ghost try_from_gives = { λ node read. ReadsAs nvdimm_namespace (node_of node) read };
 
     fn try_from(node: DevicePathNode<'a>) -> Result<NvdimmNamespace, NodeConversionError> {
-        read_node(
-            &node,
-            DeviceType::MESSAGING,
-            DeviceSubType::MESSAGING_NVDIMM_NAMESPACE,
-            16,
-            RestKind::Nothing,
-        )
+        read_node(&node, KIND)
     }
 }
 
@@ -54,14 +58,11 @@ impl BuildNode for NvdimmNamespace {
     ghost is_valid = { IsValue nvdimm_namespace };
 
     fn full_type(&self) -> (DeviceType, DeviceSubType) {
-        (
-            DeviceType::MESSAGING,
-            DeviceSubType::MESSAGING_NVDIMM_NAMESPACE,
-        )
+        KIND.full_type
     }
 
     fn write(&self, buffer: &mut [u8]) -> Result<usize, BuildError> {
         let fields = joined::<16>(&[&self.uuid]);
-        write_node(buffer, self, self.full_type(), &fields, Tail::Bytes(&[]))
+        write_node(buffer, KIND, self, &fields, Tail::Bytes(&[]))
     }
 }

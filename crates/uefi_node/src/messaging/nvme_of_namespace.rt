@@ -4,7 +4,7 @@ ghost use Rattle.uefi_node.specs.Reading.{ReadsAs};
 ghost use Rattle.uefi_node.specs.Messaging.{nvme_of_namespace};
 
 use crate::error::NodeConversionError;
-use crate::read::{NodeValue, RestKind, bytes_at, read_node};
+use crate::read::{NodeKind, NodeValue, RestKind, bytes_at, read_node};
 use crate::write::{Tail, joined, write_node};
 use uefi_path::build::{BuildError, BuildNode};
 use uefi_path::{DevicePathNode, DeviceSubType, DeviceType};
@@ -28,19 +28,23 @@ pub struct NvmeOfNamespace<'a> {
     pub subsystem_nqn: &'a [u8],
 }
 
+/// The type of the nodes, and how long their data are.
+const KIND: NodeKind = NodeKind {
+    full_type: (
+        DeviceType::MESSAGING,
+        DeviceSubType::MESSAGING_NVME_OF_NAMESPACE,
+    ),
+    size: 17,
+    rest: RestKind::Bytes,
+};
+
 impl<'a> TryFrom<DevicePathNode<'a>> for NvmeOfNamespace<'a> {
     type Error = NodeConversionError;
 
     ghost try_from_gives = { λ node read. ReadsAs nvme_of_namespace (node_of node) read };
 
     fn try_from(node: DevicePathNode<'a>) -> Result<NvmeOfNamespace<'a>, NodeConversionError> {
-        read_node(
-            &node,
-            DeviceType::MESSAGING,
-            DeviceSubType::MESSAGING_NVME_OF_NAMESPACE,
-            17,
-            RestKind::Bytes,
-        )
+        read_node(&node, KIND)
     }
 }
 
@@ -63,20 +67,11 @@ impl BuildNode for NvmeOfNamespace<'_> {
     ghost is_valid = { IsValue nvme_of_namespace };
 
     fn full_type(&self) -> (DeviceType, DeviceSubType) {
-        (
-            DeviceType::MESSAGING,
-            DeviceSubType::MESSAGING_NVME_OF_NAMESPACE,
-        )
+        KIND.full_type
     }
 
     fn write(&self, buffer: &mut [u8]) -> Result<usize, BuildError> {
         let fields = joined::<17>(&[&self.nidt.to_le_bytes(), &self.nid]);
-        write_node(
-            buffer,
-            self,
-            self.full_type(),
-            &fields,
-            Tail::Bytes(self.subsystem_nqn),
-        )
+        write_node(buffer, KIND, self, &fields, Tail::Bytes(self.subsystem_nqn))
     }
 }

@@ -5,7 +5,7 @@ ghost use Rattle.uefi_node.specs.Reading.{ReadsAs};
 ghost use Rattle.uefi_node.specs.RestServices.{rest_service};
 
 use crate::error::NodeConversionError;
-use crate::read::{NodeValue, RestKind, bytes_at, read_node};
+use crate::read::{NodeKind, NodeValue, RestKind, bytes_at, read_node};
 use crate::write::{Tail, joined, write_node};
 use uefi_base::Guid;
 use uefi_path::build::{BuildError, BuildNode};
@@ -44,19 +44,20 @@ impl RestService<'_> {
     }
 }
 
+/// The type of the nodes, and how long their data are.
+const KIND: NodeKind = NodeKind {
+    full_type: (DeviceType::MESSAGING, DeviceSubType::MESSAGING_REST_SERVICE),
+    size: 2,
+    rest: RestKind::Bytes,
+};
+
 impl<'a> TryFrom<DevicePathNode<'a>> for RestService<'a> {
     type Error = NodeConversionError;
 
     ghost try_from_gives = { λ node read. ReadsAs rest_service (node_of node) read };
 
     fn try_from(node: DevicePathNode<'a>) -> Result<RestService<'a>, NodeConversionError> {
-        read_node(
-            &node,
-            DeviceType::MESSAGING,
-            DeviceSubType::MESSAGING_REST_SERVICE,
-            2,
-            RestKind::Bytes,
-        )
+        read_node(&node, KIND)
     }
 }
 
@@ -95,7 +96,7 @@ impl BuildNode for RestService<'_> {
     ghost is_valid = { IsValue rest_service };
 
     fn full_type(&self) -> (DeviceType, DeviceSubType) {
-        (DeviceType::MESSAGING, DeviceSubType::MESSAGING_REST_SERVICE)
+        KIND.full_type
     }
 
     fn write(&self, buffer: &mut [u8]) -> Result<usize, BuildError> {
@@ -107,10 +108,10 @@ impl BuildNode for RestService<'_> {
             &self.access_mode.0.to_le_bytes(),
         ]);
         match self.vendor_guid_and_data {
-            None => write_node(buffer, self, self.full_type(), &fields, Tail::Bytes(&[])),
+            None => write_node(buffer, KIND, self, &fields, Tail::Bytes(&[])),
             Some((guid, data)) => {
                 let parts: [&[u8]; 2] = [&guid.to_bytes(), data];
-                write_node(buffer, self, self.full_type(), &fields, Tail::Parts(&parts))
+                write_node(buffer, KIND, self, &fields, Tail::Parts(&parts))
             }
         }
     }

@@ -2,18 +2,10 @@ ghost use Rattle.uefi_path.specs.Views.{node_of};
 ghost use Rattle.uefi_node.specs.Layout.{IsValue, node_as};
 ghost use Rattle.uefi_node.specs.Reading.{ReadsAs};
 ghost use Rattle.uefi_node.specs.Messaging.{sas_ex};
-ghost use Rattle.uefi_node.specs.text.Storage as forms;
-ghost use Rattle.std.specs.Prelude.{◌≡◌, Some};
-ghost use Rattle.std.specs.Fmt.{DisplaysOnOk};
-ghost use Rattle.uefi_node.specs.text.Storage.{topology, described_topology, is_described, sas_interface, sas_location, sas_connection};
 
 use crate::error::NodeConversionError;
-use crate::read::{NodeValue, RestKind, bytes_at, read_node};
-use crate::text::arguments::HexBytes;
-use crate::text::form::WriteText;
-use crate::text::style::Style;
+use crate::read::{NodeKind, NodeValue, RestKind, bytes_at, read_node};
 use crate::write::{Tail, joined, write_node};
-use std::fmt;
 use uefi_base::little_endian::u16_at;
 use uefi_path::build::{BuildError, BuildNode};
 use uefi_path::{DevicePathNode, DeviceSubType, DeviceType};
@@ -40,19 +32,20 @@ pub struct SasEx {
     pub relative_target_port: u16,
 }
 
+/// The type of the nodes, and how long their data are.
+const KIND: NodeKind = NodeKind {
+    full_type: (DeviceType::MESSAGING, DeviceSubType::MESSAGING_SCSI_SAS_EX),
+    size: 20,
+    rest: RestKind::Nothing,
+};
+
 impl<'a> TryFrom<DevicePathNode<'a>> for SasEx {
     type Error = NodeConversionError;
 
     ghost try_from_gives = { λ node read. ReadsAs sas_ex (node_of node) read };
 
     fn try_from(node: DevicePathNode<'a>) -> Result<SasEx, NodeConversionError> {
-        read_node(
-            &node,
-            DeviceType::MESSAGING,
-            DeviceSubType::MESSAGING_SCSI_SAS_EX,
-            20,
-            RestKind::Nothing,
-        )
+        read_node(&node, KIND)
     }
 }
 
@@ -75,7 +68,7 @@ impl BuildNode for SasEx {
     ghost is_valid = { IsValue sas_ex };
 
     fn full_type(&self) -> (DeviceType, DeviceSubType) {
-        (DeviceType::MESSAGING, DeviceSubType::MESSAGING_SCSI_SAS_EX)
+        KIND.full_type
     }
 
     fn write(&self, buffer: &mut [u8]) -> Result<usize, BuildError> {
@@ -85,93 +78,6 @@ impl BuildNode for SasEx {
             &self.info.to_le_bytes(),
             &self.relative_target_port.to_le_bytes(),
         ]);
-        write_node(buffer, self, self.full_type(), &fields, Tail::Bytes(&[]))
-    }
-}
-
-impl WriteText for SasEx {
-    ghost form = { forms.sas_ex };
-
-    fn write_text<W: fmt::Write>(
-        &self,
-        f: &mut fmt::Formatter<W>,
-        _style: Style,
-    ) -> Option<fmt::Result> {
-        let (address, lun) = (
-            HexBytes(&self.sas_address),
-            HexBytes(&self.logical_unit_number),
-        );
-        let (port, topology) = (self.relative_target_port, Topology(self.info));
-        Some(write!(f, "SasEx(0x{address},0x{lun},0x{port:X},{topology})"))
-    }
-}
-
-/// What is known of a device, displayed as four arguments.
-#[derive(Clone, Copy)]
-pub(crate) struct Topology(pub(crate) u16);
-
-impl fmt::Display for Topology {
-    ghost output = { λ info. Some (topology info.0) };
-
-    #[tactic(auto, unfolding(crate::specs::text::Storage::topology))]
-    fn fmt<W: fmt::Write>(&self, f: &mut fmt::Formatter<W>) -> fmt::Result {
-        let info = self.0;
-        if info == 0 {
-            return f.write_str("NoTopology,0,0,0");
-        }
-        if is_described(info) {
-            return write_described(f, info);
-        }
-        write!(f, "0x{info:X},0,0,0")
-    }
-}
-
-/// Returns whether words have all that is known of a device.
-fn is_described(info: u16) -> bool
-    ensures { result ≡ is_described info }
-{
-    let kind = info % 16;
-    info / 0x80 % 2 == 0 && (kind == 2 || kind == 1 && info / 256 == 0)
-}
-
-/// Writes the words of what is known of a device.
-fn write_described<W: fmt::Write>(f: &mut fmt::Formatter<W>, info: u16) -> fmt::Result
-    ensures { DisplaysOnOk W.write_str_gives f.old result (Some (described_topology info)) f.new }
-{
-    let (interface, location) = (interface_name(info), location_name(info));
-    let connection = connection_name(info);
-    if info % 16 == 2 {
-        let bay = info / 256 + 1;
-        return write!(f, "{interface},{location},{connection},0x{bay:X}");
-    }
-    write!(f, "{interface},{location},{connection},0")
-}
-
-/// Returns the name of a device's interface.
-fn interface_name(info: u16) -> &'static str
-    ensures { result.now ≡ sas_interface info }
-{
-    if info / 0x10 % 2 == 1 { "SATA" } else { "SAS" }
-}
-
-/// Returns the name of a device's location.
-fn location_name(info: u16) -> &'static str
-    ensures { result.now ≡ sas_location info }
-{
-    if info / 0x20 % 2 == 1 {
-        "External"
-    } else {
-        "Internal"
-    }
-}
-
-/// Returns the name of how a device is connected.
-fn connection_name(info: u16) -> &'static str
-    ensures { result.now ≡ sas_connection info }
-{
-    if info / 0x40 % 2 == 1 {
-        "Expanded"
-    } else {
-        "Direct"
+        write_node(buffer, KIND, self, &fields, Tail::Bytes(&[]))
     }
 }

@@ -1,17 +1,11 @@
-ghost use Rattle.std.specs.Prelude.{◌≡◌, Some};
 ghost use Rattle.uefi_path.specs.Views.{node_of};
 ghost use Rattle.uefi_node.specs.Layout.{IsValue, node_as};
 ghost use Rattle.uefi_node.specs.Reading.{ReadsAs};
 ghost use Rattle.uefi_node.specs.Messaging.{uart};
-ghost use Rattle.uefi_node.specs.text.Network.{number_or_default, parity_letter, stop_bits_count};
-ghost use Rattle.uefi_node.specs.text.Network as forms;
 
 use crate::error::NodeConversionError;
-use crate::read::{NodeValue, RestKind, read_node};
-use crate::text::form::WriteText;
-use crate::text::style::Style;
+use crate::read::{NodeKind, NodeValue, RestKind, read_node};
 use crate::write::{Tail, joined, write_node};
-use std::fmt;
 use uefi_base::little_endian::{u32_at, u64_at};
 use uefi_path::build::{BuildError, BuildNode};
 use uefi_path::{DevicePathNode, DeviceSubType, DeviceType};
@@ -41,19 +35,20 @@ pub struct Uart {
     pub stop_bits: StopBits,
 }
 
+/// The type of the nodes, and how long their data are.
+const KIND: NodeKind = NodeKind {
+    full_type: (DeviceType::MESSAGING, DeviceSubType::MESSAGING_UART),
+    size: 15,
+    rest: RestKind::Nothing,
+};
+
 impl<'a> TryFrom<DevicePathNode<'a>> for Uart {
     type Error = NodeConversionError;
 
     ghost try_from_gives = { λ node read. ReadsAs uart (node_of node) read };
 
     fn try_from(node: DevicePathNode<'a>) -> Result<Uart, NodeConversionError> {
-        read_node(
-            &node,
-            DeviceType::MESSAGING,
-            DeviceSubType::MESSAGING_UART,
-            15,
-            RestKind::Nothing,
-        )
+        read_node(&node, KIND)
     }
 }
 
@@ -77,7 +72,7 @@ impl BuildNode for Uart {
     ghost is_valid = { IsValue uart };
 
     fn full_type(&self) -> (DeviceType, DeviceSubType) {
-        (DeviceType::MESSAGING, DeviceSubType::MESSAGING_UART)
+        KIND.full_type
     }
 
     fn write(&self, buffer: &mut [u8]) -> Result<usize, BuildError> {
@@ -88,74 +83,7 @@ impl BuildNode for Uart {
             &self.parity.0.to_le_bytes(),
             &self.stop_bits.0.to_le_bytes(),
         ]);
-        write_node(buffer, self, self.full_type(), &fields, Tail::Bytes(&[]))
-    }
-}
-
-impl WriteText for Uart {
-    ghost form = { forms.uart };
-
-    fn write_text<W: fmt::Write>(
-        &self,
-        f: &mut fmt::Formatter<W>,
-        _style: Style,
-    ) -> Option<fmt::Result> {
-        let (reserved, baud_rate, data_bits) = (self.reserved, self.baud_rate, self.data_bits);
-        let (parity, stop_bits) = (self.parity.0, self.stop_bits.0);
-        if reserved != 0 || parity > 5 || stop_bits > 3 {
-            return None;
-        }
-        Some(write!(
-            f,
-            "Uart({},{},{},{})",
-            NumberOrDefault(baud_rate),
-            NumberOrDefault(u64::from(data_bits)),
-            parity_letter(parity),
-            stop_bits_count(stop_bits),
-        ))
-    }
-}
-
-/// A number, displayed in decimal, and 0 as `DEFAULT`.
-#[derive(Clone, Copy)]
-struct NumberOrDefault(u64);
-
-impl fmt::Display for NumberOrDefault {
-    ghost output = { λ it. Some (number_or_default it.0) };
-
-    fn fmt<W: fmt::Write>(&self, f: &mut fmt::Formatter<W>) -> fmt::Result {
-        let number = self.0;
-        if number == 0 {
-            f.write_str("DEFAULT")
-        } else {
-            write!(f, "{number}")
-        }
-    }
-}
-
-/// Returns the letter of a parity.
-fn parity_letter(parity: u8) -> &'static str
-    ensures { result.now ≡ parity_letter parity }
-{
-    match parity {
-        0 => "D",
-        1 => "N",
-        2 => "E",
-        3 => "O",
-        4 => "M",
-        _ => "S",
-    }
-}
-
-/// Returns how a number of stop bits is written.
-fn stop_bits_count(stop_bits: u8) -> &'static str
-    ensures { result.now ≡ stop_bits_count stop_bits }
-{
-    match stop_bits {
-        0 => "D",
-        1 => "1",
-        2 => "1.5",
-        _ => "2",
+        write_node(buffer, KIND, self, &fields, Tail::Bytes(&[]))
     }
 }
 

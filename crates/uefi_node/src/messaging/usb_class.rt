@@ -1,17 +1,11 @@
-ghost use Rattle.std.specs.Prelude.{◌≡◌, Some, None, MatchOption};
 ghost use Rattle.uefi_path.specs.Views.{node_of};
 ghost use Rattle.uefi_node.specs.Layout.{IsValue, node_as};
 ghost use Rattle.uefi_node.specs.Reading.{ReadsAs};
 ghost use Rattle.uefi_node.specs.Messaging.{usb_class};
-ghost use Rattle.uefi_node.specs.text.Network.{usb_class_name, usb_subclass_name};
-ghost use Rattle.uefi_node.specs.text.Network as forms;
 
 use crate::error::NodeConversionError;
-use crate::read::{NodeValue, RestKind, read_node};
-use crate::text::form::WriteText;
-use crate::text::style::Style;
+use crate::read::{NodeKind, NodeValue, RestKind, read_node};
 use crate::write::{Tail, joined, write_node};
-use std::fmt;
 use uefi_base::little_endian::u16_at;
 use uefi_path::build::{BuildError, BuildNode};
 use uefi_path::{DevicePathNode, DeviceSubType, DeviceType};
@@ -41,19 +35,20 @@ pub struct UsbClass {
     pub device_protocol: u8,
 }
 
+/// The type of the nodes, and how long their data are.
+const KIND: NodeKind = NodeKind {
+    full_type: (DeviceType::MESSAGING, DeviceSubType::MESSAGING_USB_CLASS),
+    size: 7,
+    rest: RestKind::Nothing,
+};
+
 impl<'a> TryFrom<DevicePathNode<'a>> for UsbClass {
     type Error = NodeConversionError;
 
     ghost try_from_gives = { λ node read. ReadsAs usb_class (node_of node) read };
 
     fn try_from(node: DevicePathNode<'a>) -> Result<UsbClass, NodeConversionError> {
-        read_node(
-            &node,
-            DeviceType::MESSAGING,
-            DeviceSubType::MESSAGING_USB_CLASS,
-            7,
-            RestKind::Nothing,
-        )
+        read_node(&node, KIND)
     }
 }
 
@@ -77,7 +72,7 @@ impl BuildNode for UsbClass {
     ghost is_valid = { IsValue usb_class };
 
     fn full_type(&self) -> (DeviceType, DeviceSubType) {
-        (DeviceType::MESSAGING, DeviceSubType::MESSAGING_USB_CLASS)
+        KIND.full_type
     }
 
     fn write(&self, buffer: &mut [u8]) -> Result<usize, BuildError> {
@@ -88,67 +83,6 @@ impl BuildNode for UsbClass {
             &self.device_subclass.to_le_bytes(),
             &self.device_protocol.to_le_bytes(),
         ]);
-        write_node(buffer, self, self.full_type(), &fields, Tail::Bytes(&[]))
-    }
-}
-
-impl WriteText for UsbClass {
-    ghost form = { forms.usb_class };
-
-    fn write_text<W: fmt::Write>(
-        &self,
-        f: &mut fmt::Formatter<W>,
-        _style: Style,
-    ) -> Option<fmt::Result> {
-        let (vendor, product, class) = (self.vendor_id, self.product_id, self.device_class);
-        let (subclass, protocol) = (self.device_subclass, self.device_protocol);
-        if let Some(name) = class_name(class) {
-            return Some(write!(
-                f,
-                "{name}(0x{vendor:X},0x{product:X},0x{subclass:X},0x{protocol:X})",
-            ));
-        }
-        if let Some(name) = subclass_name(class, subclass) {
-            return Some(write!(f, "{name}(0x{vendor:X},0x{product:X},0x{protocol:X})"));
-        }
-        Some(write!(
-            f,
-            "UsbClass(0x{vendor:X},0x{product:X},0x{class:X},0x{subclass:X},0x{protocol:X})",
-        ))
-    }
-}
-
-/// Returns the name of a class that has a form of its own.
-fn class_name(class: u8) -> Option<&'static str>
-    ensures { MatchOption result (usb_class_name class ≡ None)
-        (λ name. usb_class_name class ≡ Some name.now) }
-{
-    match class {
-        1 => Some("UsbAudio"),
-        2 => Some("UsbCDCControl"),
-        3 => Some("UsbHID"),
-        6 => Some("UsbImage"),
-        7 => Some("UsbPrinter"),
-        8 => Some("UsbMassStorage"),
-        9 => Some("UsbHub"),
-        0x0a => Some("UsbCDCData"),
-        0x0b => Some("UsbSmartCard"),
-        0x0e => Some("UsbVideo"),
-        0xdc => Some("UsbDiagnostic"),
-        0xe0 => Some("UsbWireless"),
-        _ => None,
-    }
-}
-
-/// Returns the name of a subclass that has a form of its own: those of the class 0xfe.
-fn subclass_name(class: u8, subclass: u8) -> Option<&'static str>
-    ensures { MatchOption result (usb_subclass_name class subclass ≡ None)
-        (λ name. usb_subclass_name class subclass ≡ Some name.now) }
-{
-    match (class, subclass) {
-        (0xfe, 1) => Some("UsbDeviceFirmwareUpdate"),
-        (0xfe, 2) => Some("UsbIrdaBridge"),
-        (0xfe, 3) => Some("UsbTestAndMeasurement"),
-        _ => None,
+        write_node(buffer, KIND, self, &fields, Tail::Bytes(&[]))
     }
 }

@@ -6,7 +6,8 @@ use Rattle.std.specs.Str.Parse.{digits_value}
 use Rattle.std.proofs.lemmas.Bool.{cases_Bool, and_left, and_right, ne_eqb}
 use Rattle.std.proofs.lemmas.List.{length-drop, length-set, drop_more, take_more_set, map_more}
 use Rattle.std.proofs.lemmas.List.Folds.{list_all_more, list_all_at}
-use Rattle.uefi_path_text.specs.parse.Values.{cut_at, onto_first, is_octet, is_ipv4}
+use Rattle.uefi_path_text.specs.parse.Parts.{cut_at, onto_first}
+use Rattle.uefi_path_text.specs.parse.Ipv4.{is_octet, is_ipv4}
 use Rattle.uefi_path_text.specs.private.FromText.{IsCut, rest_parts, rest_length}
 
 -- A character goes onto a part.

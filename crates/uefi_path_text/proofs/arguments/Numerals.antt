@@ -9,7 +9,8 @@ use Rattle.std.proofs.lemmas.List.Folds.{list_all_more}
 use Rattle.std.proofs.lemmas.Bool.Decides.{nat_tests}
 use Rattle.std.proofs.lemmas.Bool.{and_parts}
 use Rattle.uefi_path_text.proofs.arguments.Elements.{list_all-get_or}
-use Rattle.uefi_path_text.specs.parse.Values.{given, below, is_numeral, numeral}
+use Rattle.uefi_path_text.specs.parse.Parts.{given, is_numeral, numeral}
+use Rattle.uefi_path_text.specs.parse.Values.{below}
 
 -- A number that isn't given, or isn't below the limit, is none below it.
 none_below : (limit : ℕ) (test : Bool) (n : ℕ) → (test ≡ true → limit ≤ n) → below limit (given test n) ≡ None

@@ -2,7 +2,7 @@
 use Rattle.std.proofs.Common.{◌≡◌, ◌<◌, ◌+◌, ℕ, Bool, true, false, ltb, eqb, cond, List, [], ◌∷◌, length, take, drop, refl, arith, suc, sym, ◌∙◌, None, Some, inl, inr}
 use Rattle.std.specs.List.{position, position_or_len}
 use Rattle.std.proofs.lemmas.Bool.{cases_Bool, cases_lt, lt-ltb, le-ltb, ltb-true}
-use Rattle.uefi_path_text.specs.parse.Values.{cut_at, onto_first}
+use Rattle.uefi_path_text.specs.parse.Parts.{cut_at, onto_first}
 
 -- A character goes onto the first part, whichever the parts are.
 onto_first_cond : (c : ℕ) (test : Bool) (part text : List ℕ) (parts : List (List ℕ)) → onto_first c (cond test (part ∷ parts) (text ∷ [])) ≡ cond test ((c ∷ part) ∷ parts) ((c ∷ text) ∷ [])

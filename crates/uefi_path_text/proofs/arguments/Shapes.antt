@@ -4,7 +4,7 @@ use Rattle.std.specs.List.{list_all}
 use Rattle.std.proofs.lemmas.Bool.{and_parts, and_from, ltb-true, eqb-true, eq-eqb, false≢true, false_from_ne_true, both_ways}
 use Rattle.std.proofs.lemmas.List.{take_all, take_more}
 use Rattle.uefi_path_text.specs.declared.form.shape.Shape.{Shape}
-use Rattle.uefi_path_text.specs.declared.form.shape.Shape.TheVariants.{Guid, Ipv6, Eui64, Ieee1394, Address}
+use Rattle.uefi_path_text.specs.declared.form.shape.Shape.TheVariants.{Guid, Eui64, Ieee1394, Address}
 use Rattle.uefi_path_text.specs.parse.Values.{has_pattern, fits_mark, pattern, offsets, is_hex_digit, byte_at}
 use Rattle.uefi_path_text.proofs.arguments.Elements.{list_all-get_or}
 
@@ -33,7 +33,6 @@ marks_digits marks offset = ltb (offset + 1) (length marks) && (eqb (get_or mark
 -- Each offset of a shape is one of two digits.
 offsets_marked : (shape : Shape) → list_all (marks_digits (pattern shape)) (offsets shape) ≡ true
 offsets_marked Guid = refl
-offsets_marked Ipv6 = refl
 offsets_marked Eui64 = refl
 offsets_marked Ieee1394 = refl
 offsets_marked Address = refl

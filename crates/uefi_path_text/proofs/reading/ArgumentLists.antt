@@ -2,7 +2,7 @@
 use Rattle.std.proofs.Common.{◌≡◌, ◌==◌, ℕ, zero, suc, ◌+◌, ◌-◌, min, ◌<◌, ◌≤◌, List, [], ◌∷◌, ◌++◌, take, drop, replicate, refl, ◌∙◌, length-append, Option, Some, None, Bool, true, false, cond, length, map, sym, ap, subst, arith}
 use Rattle.std.specs.Borrow.{Bor}
 use Rattle.std.specs.Prelude.{is_some, ◌&&◌}
-use Rattle.uefi_path_text.specs.parse.Values.{cut_at, onto_first}
+use Rattle.uefi_path_text.specs.parse.Parts.{cut_at, onto_first}
 use Rattle.std.proofs.lemmas.Bool.Decides.{nat_tests}
 use Rattle.std.proofs.lemmas.List.{drop-replicate, length-replicate, take_all}
 use Rattle.uefi_base.specs.Buffer.{put_at}

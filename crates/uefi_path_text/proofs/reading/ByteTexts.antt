@@ -3,7 +3,8 @@ use Rattle.std.proofs.Common.{◌≡◌, ℕ, suc, ◌*◌, ◌%◌, ◌≤◌, 
 use Rattle.std.proofs.Common.{eq-eqb, le-leb}
 use Rattle.std.proofs.lemmas.Bool.{and_from}
 use Rattle.uefi_path_text.specs.text.Arguments.{hex_bytes}
-use Rattle.uefi_path_text.specs.parse.Values.{given, pairs_bytes, are_pairs, bytes_in}
+use Rattle.uefi_path_text.specs.parse.Parts.{given}
+use Rattle.uefi_path_text.specs.parse.Values.{pairs_bytes, are_pairs, bytes_in}
 use Rattle.uefi_path_text.specs.declared.form.argument.Argument.TheVariants.{Bytes}
 use Rattle.uefi_base.specs.LittleEndian.{AreBytes}
 use Rattle.uefi_path_text.proofs.reading.HexDigits.{byte_back, hex_bytes_digits, hex_bytes_length}

@@ -8,7 +8,7 @@ use Rattle.std.proofs.lemmas.List.{take_at, drop_at, length_push}
 use Rattle.uefi_path.specs.Node.{Node}
 use Rattle.uefi_path_text.specs.text.Arguments.{call}
 use Rattle.uefi_path_text.specs.text.FileName.{is_node_character, reads_as_node}
-use Rattle.uefi_path_text.specs.parse.Values.{given}
+use Rattle.uefi_path_text.specs.parse.Parts.{given}
 use Rattle.uefi_path_text.specs.form.NodeForm.{NodeForm}
 use Rattle.uefi_path_text.specs.parse.Arguments.{texts_of, values_in, form_node}
 use Rattle.uefi_path_text.specs.parse.Nodes.{is_written, node_of_values, node_in, or_else, first_node, forms_named, call_node, after_name, arguments_of, is_closed, piece_node}

@@ -4,7 +4,7 @@ use Rattle.std.specs.List.{list_all}
 use Rattle.std.proofs.lemmas.Bool.{and_parts, and_from, not-true, cond-true, cond-false}
 use Rattle.std.proofs.lemmas.List.Folds.{list_all-append}
 use Rattle.uefi_path_text.specs.text.Arguments.{call, closed, is_argument, is_argument_character}
-use Rattle.uefi_path_text.specs.parse.Values.{cut_at, onto_first}
+use Rattle.uefi_path_text.specs.parse.Parts.{cut_at, onto_first}
 
 -- The text doesn't have the mark.
 abbrev pub is_without : ℕ → List ℕ → Bool

@@ -7,13 +7,13 @@ use Rattle.std.proofs.lemmas.Bool.Decides.{nat_tests}
 use Rattle.std.proofs.lemmas.Bool.{cases_Bool, and_parts, and_left, and_right, and_from, cond-false, not-true, agree_below_at, leb-false}
 use Rattle.std.specs.Fmt.{digit_glyph}
 use Rattle.uefi_path_text.specs.text.EisaId.{eisa_id}
-use Rattle.uefi_path_text.specs.form.Pieces.{pieces, pieces_text}
-use Rattle.uefi_path_text.specs.declared.form.shape.Shape.{Shape}
-use Rattle.uefi_path_text.specs.declared.form.shape.Shape.TheVariants.{Guid, Ipv6, Eui64, Ieee1394, Address}
+use Rattle.uefi_path_text.specs.form.Pieces.{pieces_text, ipv6_pieces}
 use Rattle.uefi_path_text.specs.declared.form.shape.Piece.{Piece}
 use Rattle.uefi_path_text.specs.declared.form.shape.Piece.TheVariants.{Digits as digits_at, Mark as mark_of}
 use Rattle.uefi_base.specs.LittleEndian.{AreBytes}
-use Rattle.uefi_path_text.specs.parse.Values.{bytes_in, or_number, is_ipv4, cut_at, is_eisa, is_eisa_letter, size_bytes}
+use Rattle.uefi_path_text.specs.parse.Parts.{cut_at}
+use Rattle.uefi_path_text.specs.parse.Ipv4.{is_ipv4}
+use Rattle.uefi_path_text.specs.parse.Values.{bytes_in, or_number, is_eisa, is_eisa_letter, size_bytes}
 use Rattle.uefi_path_text.specs.form.Words.{words, are_numbers}
 use Rattle.uefi_path_text.specs.form.NodeForm.{Parameter, Part}
 use Rattle.uefi_path_text.specs.parse.Arguments.{onto, value_in, listed_values}
@@ -25,7 +25,7 @@ use Rattle.uefi_path_text.specs.declared.form.size.Size.{Size}
 use Rattle.uefi_path_text.specs.declared.form.words.Words.{Words}
 use Rattle.uefi_path_text.specs.declared.form.argument.Base.{Base}
 use Rattle.uefi_path_text.specs.declared.form.argument.Argument.{Argument}
-use Rattle.uefi_path_text.specs.declared.form.argument.Argument.TheVariants.{Number, Word, Digits, Ipv4Server, EisaId, PnpId}
+use Rattle.uefi_path_text.specs.declared.form.argument.Argument.TheVariants.{Number, Word, Ipv4Server, Ipv6, EisaId, PnpId}
 use Rattle.uefi_path_text.proofs.reading.CutTexts.{is_without, cut_whole}
 use Rattle.uefi_path_text.proofs.reading.Kinds.{size_small}
 use Rattle.uefi_path_text.proofs.reading.LowNumbers.{base_early, base_some}
@@ -157,7 +157,7 @@ number_after_pnp other base v each shown =
     let is = number_after_eisa other base v each shown in
     record { none = pnp_is (number_text base v) ∙ is.none; some = is.some; not_left = refl }
 
--- The text of a shape has no dot.
+-- The text of an IPv6 address has no dot.
 glyph_dots : (d : ℕ) → d < 16 → not (digit_glyph true d == 0x2e) ≡ true
 glyph_dots d small = agree_below_at (λ e. not (digit_glyph true e == 0x2e)) (λ e. true) 16 d refl small
 
@@ -165,42 +165,33 @@ abbrev no_dot : Piece → Bool
 no_dot (digits_at k) = true
 no_dot (mark_of c) = not (c == 0x2e)
 
-shape_dots : (v : List ℕ) (ps : List Piece) → AreBytes v → list_all no_dot ps ≡ true → is_without 0x2e (pieces_text v ps) ≡ true
-shape_dots v [] each none = refl
-shape_dots v (digits_at k ∷ ps) each none =
+pieces_dots : (v : List ℕ) (ps : List Piece) → AreBytes v → list_all no_dot ps ≡ true → is_without 0x2e (pieces_text v ps) ≡ true
+pieces_dots v [] each none = refl
+pieces_dots v (digits_at k ∷ ps) each none =
     let small : slice_index v k < 256 = each k in
     and_from _ _ (glyph_dots (slice_index v k / 16) (omega arith))
-    (and_from _ _ (glyph_dots (slice_index v k % 16) (omega arith)) (shape_dots v ps each none))
-shape_dots v (mark_of c ∷ ps) each none = let parts = and_parts _ _ none in and_from _ _ parts.0 (shape_dots v ps each parts.1)
+    (and_from _ _ (glyph_dots (slice_index v k % 16) (omega arith)) (pieces_dots v ps each none))
+pieces_dots v (mark_of c ∷ ps) each none = let parts = and_parts _ _ none in and_from _ _ parts.0 (pieces_dots v ps each parts.1)
 
-no_dots : (shape : Shape) → list_all no_dot (pieces shape) ≡ true
-no_dots Guid = refl
-no_dots Ipv6 = refl
-no_dots Eui64 = refl
-no_dots Ieee1394 = refl
-no_dots Address = refl
-
-shape_some : (shape : Shape) (v : List ℕ) → 0 < length (pieces_text v (pieces shape))
-shape_some Guid v = omega arith
-shape_some Ipv6 v = omega arith
-shape_some Eui64 v = omega arith
-shape_some Ieee1394 v = omega arith
-shape_some Address v = omega arith
-
-digits_after_server : (shape : Shape) (v : List ℕ) → AreBytes v → IsNone Ipv4Server (Digits shape) v
+no_server : (text : List ℕ) → is_without 0x2e text ≡ true → bytes_in Ipv4Server text ≡ None
 unfolding bytes_in
-digits_after_server shape v each =
-    let text : List ℕ = pieces_text v (pieces shape) in
-    let one : cut_at 0x2e text ≡ text ∷ [] = cut_whole 0x2e text (shape_dots v (pieces shape) each (no_dots shape)) in
-    let other : is_ipv4 text ≡ false = and_left _ _ (ap (λ l. length l == 4) one) in
-    record { none = cond-false (is_ipv4 text) _ _ other; some = shape_some shape v; not_left = refl }
+no_server text none =
+    let one : cut_at 0x2e text ≡ text ∷ [] = cut_whole 0x2e text none in
+    cond-false (is_ipv4 text) _ _ (and_left _ _ (ap (λ l. length l == 4) one))
+
+ipv6_after_server : (v : List ℕ) → AreBytes v → IsNone Ipv4Server Ipv6 v
+ipv6_after_server v each = record {
+  none = no_server (pieces_text v ipv6_pieces) (pieces_dots v ipv6_pieces each refl);
+  some = omega arith;
+  not_left = refl;
+}
 
 pub kinds_none : (a b : Argument) (v : List ℕ) → AreBytes v → kinds_differ a b ≡ true → can_show b v ≡ true → IsNone a b v
 kinds_none (Word a size) (Word b other) v each differ shown = words_differ a b size other v differ shown
 kinds_none (Word a size) (Number other base) v each differ shown = number_after_words a size other base v each differ shown
 kinds_none (Word a size) EisaId v each differ shown = eisa_after_words a size v differ
 kinds_none PnpId (Number other base) v each differ shown = number_after_pnp other base v each shown
-kinds_none Ipv4Server (Digits shape) v each differ shown = digits_after_server shape v each
+kinds_none Ipv4Server Ipv6 v each differ shown = ipv6_after_server v each
 kinds_none EisaId (Number other base) v each differ shown = number_after_eisa other base v each shown
 kinds_none _ _ v each differ shown = cc
 

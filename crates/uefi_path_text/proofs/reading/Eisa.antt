@@ -6,7 +6,8 @@ use Rattle.std.specs.List.{list_all}
 use Rattle.std.proofs.lemmas.Bool.{and_from, agree_below_at}
 use Rattle.uefi_path_text.specs.text.Arguments.{hex_bytes}
 use Rattle.uefi_path_text.specs.text.EisaId.{product_digits, eisa_letter, eisa_id}
-use Rattle.uefi_path_text.specs.parse.Values.{given, is_eisa, is_eisa_letter, is_hex_digit, eisa_number, low_first, bytes_in}
+use Rattle.uefi_path_text.specs.parse.Parts.{given}
+use Rattle.uefi_path_text.specs.parse.Values.{is_eisa, is_eisa_letter, is_hex_digit, eisa_number, low_first, bytes_in}
 use Rattle.uefi_path_text.specs.declared.form.argument.Argument.TheVariants.{EisaId}
 use Rattle.uefi_path_text.proofs.reading.HexDigits.{hex_bytes_digits, hex_bytes_value}
 use Rattle.uefi_path_text.proofs.reading.Numerals.{digits_pass}

@@ -8,7 +8,7 @@ use Rattle.std.proofs.lemmas.Bool.Decides.{nat_tests}
 use Rattle.std.proofs.lemmas.List.{nil_from_length}
 use Rattle.uefi_path.specs.Node.{Node}
 use Rattle.uefi_path_text.specs.text.FileName.{is_node_character, reads_as_node}
-use Rattle.uefi_path_text.specs.private.Pieces.{up_to, through, is_opening, is_closing, is_mark, piece_at}
+use Rattle.uefi_path_text.specs.private.Pieces.{up_to, through, is_opening, is_closing, is_mark, is_cut, piece_at}
 use Rattle.uefi_path_text.specs.parse.Nodes.{is_plain_byte, is_closed, is_file_name, piece_node, after_name}
 
 -- What follows the first character that passes a test.
@@ -82,11 +82,6 @@ call_ends : (piece rest : List ℕ) → reads_as_node piece ≡ true
 call_ends [] rest reads one = absurd (omega arith)
 call_ends (c ∷ piece) rest reads one =
     call_step (is_node_character c) c piece rest refl (call_ends piece rest) reads one
-
--- What follows a piece: nothing, or what begins with a slash or a comma.
-abbrev pub is_cut : List ℕ → Bool
-is_cut [] = true
-is_cut (c ∷ text) = is_mark c
 
 either : (a b : Bool) → not (not a && not b) ≡ true → (a ≡ true) ⊎ (b ≡ true)
 either true b is = inl refl

@@ -13,7 +13,7 @@ use Rattle.uefi_path.specs.Node.{Node}
 use Rattle.uefi_base.proofs.UnitsBack.{units_read_back}
 use Rattle.uefi_path_text.specs.text.Arguments.{without_nul}
 use Rattle.uefi_path_text.specs.text.FileName.{is_name, is_name_character, is_nul_ended, name_text, file_name_text, reads_as_node}
-use Rattle.uefi_path_text.specs.parse.Values.{given}
+use Rattle.uefi_path_text.specs.parse.Parts.{given}
 use Rattle.uefi_path_text.specs.parse.Nodes.{is_written, is_file_name, is_plain_byte, name_node, piece_node}
 use Rattle.uefi_path_text.proofs.reading.Calls.{node_with, written}
 use Rattle.uefi_path_text.proofs.reading.NameTexts.{name_plain, name_text_reads}
@@ -81,7 +81,7 @@ has_name : (node : Node) (text : List ℕ) → file_name_text node ≡ Some text
 unfolding file_name_text
 has_name node text is =
     let parts = chosen _ (name_text (without_nul (units_of node.payload))) text is in
-    let ended = and_parts _ _ parts.0 in
+    let ended = and_parts _ _ (and_parts _ _ parts.0).0 in
     let even = and_parts _ _ ended.0 in
     let types = and_parts _ _ even.0 in
     record {

@@ -8,7 +8,8 @@ use Rattle.uefi_base.specs.LittleEndian.{AreBytes}
 use Rattle.uefi_path.specs.Node.{Node}
 use Rattle.uefi_path_text.specs.text.Arguments.{hex_bytes}
 use Rattle.uefi_path_text.specs.text.NodeText.{data_argument, generic_text, is_plain_end}
-use Rattle.uefi_path_text.specs.parse.Values.{given, bytes_in}
+use Rattle.uefi_path_text.specs.parse.Parts.{given}
+use Rattle.uefi_path_text.specs.parse.Values.{bytes_in}
 use Rattle.uefi_path_text.specs.form.NodeForm.{NodeForm, Parameter, form, stated, listed, argument}
 use Rattle.uefi_path_text.specs.parse.Arguments.{onto, text_or, value_in, listed_values, form_node}
 use Rattle.uefi_path_text.specs.parse.Nodes.{is_written, node_of_values, node_in, piece_node}

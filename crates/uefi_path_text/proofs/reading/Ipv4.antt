@@ -7,7 +7,9 @@ use Rattle.std.proofs.lemmas.Bool.{and_from, not_from_false}
 use Rattle.std.proofs.lemmas.Fmt.{decimal_is_IsNumeral}
 use Rattle.std.proofs.lemmas.Str.Parse.{digit_from_value}
 use Rattle.uefi_path_text.specs.text.Arguments.{ipv4_address}
-use Rattle.uefi_path_text.specs.parse.Values.{given, cut_at, is_octet, is_ipv4, ipv4_bytes, bytes_in}
+use Rattle.uefi_path_text.specs.parse.Parts.{given, cut_at}
+use Rattle.uefi_path_text.specs.parse.Ipv4.{is_octet, is_ipv4, ipv4_bytes}
+use Rattle.uefi_path_text.specs.parse.Values.{bytes_in}
 use Rattle.uefi_path_text.specs.declared.form.argument.Argument.TheVariants.{Ipv4, Ipv4Server}
 use Rattle.uefi_base.specs.LittleEndian.{AreBytes}
 use Rattle.uefi_path_text.proofs.reading.ByteLists.{listed}

@@ -17,11 +17,12 @@ use Rattle.uefi_path_text.specs.declared.form.words.Words.{Words}
 use Rattle.uefi_path_text.specs.declared.form.argument.Base.{Base}
 use Rattle.uefi_path_text.specs.declared.form.argument.Base.TheVariants.{Hex}
 use Rattle.uefi_path_text.specs.declared.form.argument.Argument.{Argument}
-use Rattle.uefi_path_text.specs.declared.form.argument.Argument.TheVariants.{Number, BigEndian, Word, Digits, Bytes, HardwareAddress, Ipv4, Ipv4Server, EisaId, PnpId, EisaLetters, DriveBay, Text, Name, Quoted}
+use Rattle.uefi_path_text.specs.declared.form.argument.Argument.TheVariants.{Number, BigEndian, Word, Digits, Bytes, HardwareAddress, Ipv4, Ipv4Server, Ipv6, EisaId, PnpId, EisaLetters, DriveBay, Text, Name, Quoted}
 use Rattle.uefi_path_text.proofs.reading.ArgumentTexts.{hex_argument, hex_bytes_argument, long_hex_argument, ipv4_argument, eisa_argument, quoted_argument}
 use Rattle.uefi_path_text.proofs.reading.ByteTexts.{bytes_read}
 use Rattle.uefi_path_text.proofs.reading.Eisa.{eisa_read}
 use Rattle.uefi_path_text.proofs.reading.Ipv4.{ipv4_read, ipv4_server_read}
+use Rattle.uefi_path_text.proofs.reading.Ipv6.{ipv6_argument, ipv6_read}
 use Rattle.uefi_path_text.proofs.reading.LongNumbers.{big_endian_read}
 use Rattle.uefi_path_text.proofs.reading.LowNumbers.{low_back, low_fits, base_read, base_argument, base_early}
 use Rattle.uefi_path_text.proofs.reading.Shapes.{digits_read, shape_argument}
@@ -189,6 +190,7 @@ kind_reads HardwareAddress v each shown =
 kind_reads Ipv4Server v each shown =
     let parts = and_parts _ _ shown in
     record { argument = ipv4_argument v each; read = server_read v each (eqb-true _ 16 parts.0) ((bytes_eq-Decides _ _).0 parts.1) }
+kind_reads Ipv6 v each shown = record { argument = ipv6_argument v each; read = ipv6_read v (eqb-true _ 16 shown) each }
 kind_reads EisaId v each shown =
     let parts = and_parts _ _ shown in
     let long : length v ≡ 4 = eqb-true _ 4 parts.0 in

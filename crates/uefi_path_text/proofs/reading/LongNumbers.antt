@@ -8,7 +8,8 @@ use Rattle.std.proofs.lemmas.Int.Digits.{number_lt}
 use Rattle.std.proofs.lemmas.List.{reverse-append}
 use Rattle.std.proofs.lemmas.Nat.{div-mul-add, le_bytes_2, le_bytes_4, le_bytes_8}
 use Rattle.uefi_path_text.specs.text.Arguments.{hex_bytes, long_hex}
-use Rattle.uefi_path_text.specs.parse.Values.{given, below, number_in, low_first, number_bytes, bytes_in}
+use Rattle.uefi_path_text.specs.parse.Parts.{given}
+use Rattle.uefi_path_text.specs.parse.Values.{below, number_in, low_first, number_bytes, bytes_in}
 use Rattle.uefi_path_text.specs.declared.form.argument.Argument.TheVariants.{BigEndian}
 use Rattle.uefi_base.specs.LittleEndian.{AreBytes}
 use Rattle.uefi_path_text.proofs.reading.ByteLists.{no_bytes, more_bytes, picked_bytes, listed}

@@ -6,6 +6,7 @@ use Rattle.uefi_path.specs.Node.{Node, Fits}
 use Rattle.uefi_path_text.specs.text.FileName.{file_name_text}
 use Rattle.uefi_path_text.specs.text.NodeText.{typed_text, or_generic, is_plain_end}
 use Rattle.uefi_path_text.specs.write.Forms.{form_text, or_text}
+use Rattle.uefi_path_text.specs.write.Partial.{partial_text}
 use Rattle.uefi_path_text.specs.parse.Nodes.{piece_node}
 use Rattle.uefi_path_text.specs.Laws.{TextReadsBack}
 use Rattle.uefi_path_text.proofs.NodeLaw.{form_text_reads_back}
@@ -25,10 +26,21 @@ in_form node fits each instance entire None (Some text) form name =
 in_form node fits each instance entire (Some text) name form is_name =
     form_text_reads_back false node text each (omega (arith, fits.payload)) form
 
+-- A text for reading isn't one for display.
+not_partial : (node : Node) → None ≡ partial_text plain_style node
+unfolding partial_text
+not_partial node = refl
+
+or_none : (text : Option (List ℕ)) → text ≡ or_text text None
+or_none None = refl
+or_none (Some text) = refl
+
 node_reads_back : NodeReadsBack
 node_reads_back node fits each instance entire =
     ap piece_node (cond-false (is_plain_end 0x01 node) (codes ",") (or_generic node (typed_text plain_style node)) instance)
-    ∙ in_form node fits each instance entire (form_text plain_style node) (file_name_text node) refl refl
+    ∙ in_form node fits each instance entire (form_text plain_style node)
+    (or_text (file_name_text node) (partial_text plain_style node)) refl
+    (or_none (file_name_text node) ∙ ap (or_text (file_name_text node)) (not_partial node))
 
 pub path_text_reads_back : TextReadsBack
 path_text_reads_back = text_reads_back node_reads_back

@@ -10,7 +10,8 @@ use Rattle.std.proofs.lemmas.Str.Parse.{digit_from_value}
 use Rattle.std.proofs.lemmas.Bool.{and_right, or_from, cond-false}
 use Rattle.std.proofs.lemmas.Fmt.{digits_is_IsNumeral, decimal_is_IsNumeral}
 use Rattle.uefi_path_text.specs.text.Arguments.{hex}
-use Rattle.uefi_path_text.specs.parse.Values.{given, below, is_numeral, numeral, number_in, is_hex, low_first, number_bytes, bytes_in}
+use Rattle.uefi_path_text.specs.parse.Parts.{given, is_numeral, numeral}
+use Rattle.uefi_path_text.specs.parse.Values.{below, number_in, is_hex, low_first, number_bytes, bytes_in}
 
 -- Digits pass the test for them.
 pub digits_pass : (radix : ℕ) (ds : List ℕ) → AllDigits radix ds → list_all (λ c. is_digit c radix) ds ≡ true

@@ -4,7 +4,8 @@ use Rattle.std.specs.List.{list_all}
 use Rattle.std.specs.Fmt.{digit_glyph}
 use Rattle.std.proofs.lemmas.Bool.{and_parts, and_from, not-true, cond-false, ltb-true}
 use Rattle.uefi_path_text.specs.text.Arguments.{is_argument, is_argument_character}
-use Rattle.uefi_path_text.specs.parse.Values.{given, has_pattern, fits_mark, pattern, shape_bytes, byte_of_digits, bytes_in}
+use Rattle.uefi_path_text.specs.parse.Parts.{given}
+use Rattle.uefi_path_text.specs.parse.Values.{has_pattern, fits_mark, pattern, shape_bytes, byte_of_digits, bytes_in}
 use Rattle.uefi_path_text.specs.form.Pieces.{pieces_text}
 use Rattle.uefi_path_text.specs.declared.form.shape.Shape.{Shape}
 use Rattle.uefi_path_text.specs.declared.form.shape.Piece.{Piece}

@@ -5,7 +5,7 @@ use Rattle.uefi_path_text.specs.form.Pieces.{pieces, pieces_text, shape_size}
 use Rattle.uefi_path_text.specs.text.Arguments.{is_argument}
 use Rattle.uefi_path_text.specs.parse.Values.{shape_bytes, bytes_in, pattern, has_pattern}
 use Rattle.uefi_path_text.specs.declared.form.shape.Shape.{Shape}
-use Rattle.uefi_path_text.specs.declared.form.shape.Shape.TheVariants.{Guid, Ipv6, Eui64, Ieee1394, Address}
+use Rattle.uefi_path_text.specs.declared.form.shape.Shape.TheVariants.{Guid, Eui64, Ieee1394, Address}
 use Rattle.uefi_path_text.specs.declared.form.argument.Argument.TheVariants.{Digits}
 use Rattle.uefi_base.specs.LittleEndian.{AreBytes}
 use Rattle.uefi_path_text.proofs.reading.ByteLists.{listed}
@@ -14,14 +14,12 @@ use Rattle.uefi_path_text.proofs.reading.Pieces.{pieces_pattern, is_mark, pieces
 -- The pieces of a shape have its pattern, and its marks can be in an argument.
 same_pattern : (shape : Shape) → pieces_pattern (pieces shape) ≡ pattern shape
 same_pattern Guid = refl
-same_pattern Ipv6 = refl
 same_pattern Eui64 = refl
 same_pattern Ieee1394 = refl
 same_pattern Address = refl
 
 marks : (shape : Shape) → list_all is_mark (pieces shape) ≡ true
 marks Guid = refl
-marks Ipv6 = refl
 marks Eui64 = refl
 marks Ieee1394 = refl
 marks Address = refl
@@ -31,7 +29,6 @@ same_bytes : (shape : Shape) (bytes : List ℕ) → length bytes ≡ shape_size 
     → shape_bytes shape (pieces_text bytes (pieces shape)) ≡ map digits_twice bytes
 unfolding shape_bytes
 same_bytes Guid bytes long = ap (map digits_twice) (listed 16 bytes long)
-same_bytes Ipv6 bytes long = ap (map digits_twice) (listed 16 bytes long)
 same_bytes Eui64 bytes long = ap (map digits_twice) (listed 8 bytes long)
 same_bytes Ieee1394 bytes long = ap (map digits_twice) (listed 8 bytes long)
 same_bytes Address bytes long = ap (map digits_twice) (listed 6 bytes long)

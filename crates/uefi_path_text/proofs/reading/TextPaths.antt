@@ -15,34 +15,36 @@ use Rattle.uefi_path.proofs.Appending.{AreEndedBy-append}
 use Rattle.uefi_path.proofs.Passing.{AllByRecursion-push}
 use Rattle.uefi_path_text.specs.text.NodeText.{is_plain_end}
 use Rattle.uefi_path_text.specs.text.PathText.{shown, is_shown_end}
-use Rattle.uefi_path_text.specs.parse.Paths.{IsTextOf, IsTextOfNodes}
+use Rattle.uefi_path_text.specs.parse.Paths.{IsTextOf, IsTextOfNodes, place_after}
 use Rattle.uefi_path_text.specs.private.Places.{IsFrom}
 use Rattle.uefi_path_text.specs.private.Taking.{TakesNode, IsOfNoNodes}
 use Rattle.uefi_path_text.specs.private.TextPaths.{HasTextFault}
+use Rattle.uefi_path_text.specs.declared.parse.place.Place.{Place}
+use Rattle.uefi_path_text.specs.declared.parse.place.Place.TheVariants.{Start}
 use Rattle.uefi_path_text.specs.declared.parse.error.FromTextError.{FromTextError}
 use Rattle.uefi_path_text.specs.declared.parse.error.FromTextError.TheVariants.{UnknownNode, Argument, Missing, TooLong, Buffer, Memory}
 use Rattle.uefi_path_text.proofs.reading.OnePath.{completed, shown_completed, not_entire, not_instance, ends, one_path_of_text}
 
 -- The text begins with the nodes that were taken, and with no others.
-pub record HasTaken (text : List ℕ) (is_first : Bool) (rest : List ℕ) (done : List Node) : Type 0 where
-  pub some : (more : List Node) → IsTextOfNodes is_first more rest → IsTextOfNodes true (done ++ more) text
-  pub only : (nodes : List Node) → IsTextOfNodes true nodes text
-      → (more : List Node) × (nodes ≡ done ++ more) × IsTextOfNodes is_first more rest
+pub record HasTaken (text : List ℕ) (place : Place) (rest : List ℕ) (done : List Node) : Type 0 where
+  pub some : (more : List Node) → IsTextOfNodes place more rest → IsTextOfNodes Start (done ++ more) text
+  pub only : (nodes : List Node) → IsTextOfNodes Start nodes text
+      → (more : List Node) × (nodes ≡ done ++ more) × IsTextOfNodes place more rest
 
 -- No node was taken yet.
-none_taken : (text : List ℕ) → HasTaken text true text []
+none_taken : (text : List ℕ) → HasTaken text Start text []
 none_taken text = record { some = λ more is. is; only = λ nodes is. (nodes, refl, is) }
 
 -- The same, of the state that a walk begins with.
-pub first_taken : (text rest : List ℕ) (is_first : Bool) → rest ≡ text → is_first ≡ true → HasTaken text is_first rest []
-first_taken text rest is_first same first =
-    subst (λ r. HasTaken text is_first r []) (sym same) (subst (λ f. HasTaken text f text []) (sym first) (none_taken text))
+pub first_taken : (text rest : List ℕ) (place : Place) → rest ≡ text → place ≡ Start → HasTaken text place rest []
+first_taken text rest place same first =
+    subst (λ r. HasTaken text place r []) (sym same) (subst (λ f. HasTaken text f text []) (sym first) (none_taken text))
 
 -- The next node was taken.
-pub next_taken : (text rest next : List ℕ) (is_first : Bool) (done : List Node) (node : Node)
-    → HasTaken text is_first rest done → TakesNode is_first rest node next
-    → HasTaken text (is_plain_end 0x01 node) next (done ++ node ∷ [])
-next_taken text rest next is_first done node taken takes = record {
+pub next_taken : (text rest next : List ℕ) (place : Place) (done : List Node) (node : Node)
+    → HasTaken text place rest done → TakesNode place rest node next
+    → HasTaken text (place_after node) next (done ++ node ∷ [])
+next_taken text rest next place done node taken takes = record {
   some = λ more is. rw append_assoc (taken.some (node ∷ more) (takes.some more is));
   only = λ nodes is.
       let first = taken.only nodes is in
@@ -53,12 +55,12 @@ next_taken text rest next is_first done node taken takes = record {
       );
 }
 
--- The same, of a walk that knows whether the node after it is the first of its instance.
-pub then_taken : (text rest next : List ℕ) (is_first now : Bool) (done : List Node) (node : Node)
-    → HasTaken text is_first rest done → TakesNode is_first rest node next → now ≡ is_plain_end 0x01 node
+-- The same, of a walk that knows where the node after it is.
+pub then_taken : (text rest next : List ℕ) (place now : Place) (done : List Node) (node : Node)
+    → HasTaken text place rest done → TakesNode place rest node next → now ≡ place_after node
     → HasTaken text now next (done ++ node ∷ [])
-then_taken text rest next is_first now done node taken takes known =
-    subst (λ f. HasTaken text f next (done ++ node ∷ [])) (sym known) (next_taken text rest next is_first done node taken takes)
+then_taken text rest next place now done node taken takes known =
+    subst (λ f. HasTaken text f next (done ++ node ∷ [])) (sym known) (next_taken text rest next place done node taken takes)
 
 -- A short node whose numbers have a byte each has an encoding.
 pub node_fits : (node : Node) → length node.payload ≤ 0xfffb → node.device_type < 256 × node.sub_type < 256 → Fits node
@@ -101,15 +103,15 @@ end_shown end is no_end =
 
 -- The path of the nodes whose text ends.
 text_of : (text : List ℕ) (done written : List Node) (end : Node) → AreBefore IsEndEntire done → Fits end → IsEndEntire end
-    → shown (done ++ end ∷ []) ≡ written → IsTextOfNodes true written text → IsTextOf (done ++ end ∷ []) text
+    → shown (done ++ end ∷ []) ≡ written → IsTextOfNodes Start written text → IsTextOf (done ++ end ∷ []) text
 text_of text done written end before fits is same text_is = record {
   is_path = AreEndedBy-append IsEndEntire done (end ∷ []) before (record { each = (fits, tt); end = is });
-  is_written = subst (λ l. IsTextOfNodes true l text) (sym same) text_is;
+  is_written = subst (λ l. IsTextOfNodes Start l text) (sym same) text_is;
 }
 
-pub text_ends : (text rest : List ℕ) (is_first : Bool) (done : List Node) → HasTaken text is_first rest done → rest ≡ []
+pub text_ends : (text rest : List ℕ) (place : Place) (done : List Node) → HasTaken text place rest done → rest ≡ []
     → AreBefore IsEndEntire done → IsTextOf (done ++ end_entire ∷ []) text
-text_ends text rest is_first done taken none before =
+text_ends text rest place done taken none before =
     text_of text done (done ++ []) end_entire before
     (record { device_type = omega arith; sub_type = omega arith; payload = omega arith }) (refl, refl)
     (shown_push done end_entire ∙ ap (λ l. done ++ l) end_hidden) (taken.some [] none)
@@ -119,10 +121,10 @@ pub end_written : (done : List Node) (end : Node) → IsEndEntire end → is_pla
     → shown (done ++ end ∷ []) ≡ done ++ end ∷ []
 end_written done end is no_end = shown_push done end ∙ ap (λ l. done ++ l) (end_shown end is no_end)
 
-pub text_ended : (text rest next : List ℕ) (is_first : Bool) (done : List Node) (end : Node) → HasTaken text is_first rest done
-    → TakesNode is_first rest end next → IsEndEntire end → next ≡ [] → AreBefore IsEndEntire done
+pub text_ended : (text rest next : List ℕ) (place : Place) (done : List Node) (end : Node) → HasTaken text place rest done
+    → TakesNode place rest end next → IsEndEntire end → next ≡ [] → AreBefore IsEndEntire done
     → IsTextOf (done ++ end ∷ []) text
-text_ended text rest next is_first done end taken takes is none before =
+text_ended text rest next place done end taken takes is none before =
     text_of text done (done ++ end ∷ []) end before (end_fits end takes.short is) is (end_written done end is takes.no_end)
     (taken.some (end ∷ []) (takes.some [] none))
 
@@ -142,33 +144,33 @@ none_more nodes more same =
     nil_from_length more (omega (arith, sized, length-append nodes more))
 
 -- The path of a text of which a node was taken that ends a path.
-pub path_ended : (text rest next : List ℕ) (is_first : Bool) (done : List Node) (end : Node) → HasTaken text is_first rest done
-    → TakesNode is_first rest end next → IsEndEntire end → AreBefore IsEndEntire done
+pub path_ended : (text rest next : List ℕ) (place : Place) (done : List Node) (end : Node) → HasTaken text place rest done
+    → TakesNode place rest end next → IsEndEntire end → AreBefore IsEndEntire done
     → (path : List Node) → IsTextOf path text → path ≡ done ++ end ∷ []
-path_ended text rest next is_first done end taken takes is before path text_is =
+path_ended text rest next place done end taken takes is before path text_is =
     let first = taken.only (shown path) text_is.is_written in
     let second = takes.only first.0 first.2 in
     sym (shown_completed path text_is.is_path.end) ∙ ap completed (first.1 ∙ ap (λ l. done ++ l) second.1)
     ∙ completed_done done (end ∷ second.0) before.none ∙ ap (λ l. done ++ l) (completed_end end second.0 is)
 
-nil_text : (is_first : Bool) (nodes : List Node) (text : List ℕ) → nodes ≡ [] → IsTextOfNodes is_first nodes text → text ≡ []
-nil_text is_first nodes text none is = subst (λ l. IsTextOfNodes is_first l text) none is
+nil_text : (place : Place) (nodes : List Node) (text : List ℕ) → nodes ≡ [] → IsTextOfNodes place nodes text → text ≡ []
+nil_text place nodes text none is = subst (λ l. IsTextOfNodes place l text) none is
 
-pub none_after_end : (text rest next : List ℕ) (is_first : Bool) (done : List Node) (end : Node)
-    → HasTaken text is_first rest done → TakesNode is_first rest end next → IsEndEntire end → AreBefore IsEndEntire done
+pub none_after_end : (text rest next : List ℕ) (place : Place) (done : List Node) (end : Node)
+    → HasTaken text place rest done → TakesNode place rest end next → IsEndEntire end → AreBefore IsEndEntire done
     → 0 < length next → (path : List Node) → ¬ IsTextOf path text
-none_after_end text rest next is_first done end taken takes is before some path text_is =
-    let same = path_ended text rest next is_first done end taken takes is before path text_is in
-    let last = (next_taken text rest next is_first done end taken takes).only (shown path) text_is.is_written in
+none_after_end text rest next place done end taken takes is before some path text_is =
+    let same = path_ended text rest next place done end taken takes is before path text_is in
+    let last = (next_taken text rest next place done end taken takes).only (shown path) text_is.is_written in
     let written = ap shown same ∙ end_written done end is takes.no_end in
     let none = none_more (done ++ end ∷ []) last.0 (sym last.1 ∙ written) in
-    let empty : length next ≡ 0 = ap length (nil_text (is_plain_end 0x01 end) last.0 next none last.2) in
+    let empty : length next ≡ 0 = ap length (nil_text (place_after end) last.0 next none last.2) in
     omega (arith, empty, some)
 
 -- What is left of a text of a path is that of nodes.
-pub not_wrong : (text rest : List ℕ) (is_first : Bool) (done path : List Node) → HasTaken text is_first rest done
-    → IsTextOf path text → ¬ IsOfNoNodes is_first rest
-not_wrong text rest is_first done path taken text_is none =
+pub not_wrong : (text rest : List ℕ) (place : Place) (done path : List Node) → HasTaken text place rest done
+    → IsTextOf path text → ¬ IsOfNoNodes place rest
+not_wrong text rest place done path taken text_is none =
     let more = taken.only (shown path) text_is.is_written in none more.0 more.2
 
 -- The fault of a text, from that of what is left.
@@ -214,19 +216,19 @@ shown_within (n ∷ m ∷ path) =
     omega (arith, shown_within (m ∷ path), length-append (encoding n) (joined (shown (m ∷ path))), length-append (encoding n) (joined (m ∷ path)))
 
 -- The nodes that were taken are within the path.
-pub taken_within : (text rest : List ℕ) (is_first : Bool) (done path : List Node) → HasTaken text is_first rest done
+pub taken_within : (text rest : List ℕ) (place : Place) (done path : List Node) → HasTaken text place rest done
     → IsTextOf path text → length (joined done) ≤ length (joined path)
-taken_within text rest is_first done path taken text_is =
+taken_within text rest place done path taken text_is =
     let more = taken.only (shown path) text_is.is_written in
     let sized : length (joined (shown path)) ≡ length (joined done) + length (joined more.0) =
     ap (λ l. length (joined l)) more.1 ∙ ap length (joined-append done more.0) ∙ length-append (joined done) (joined more.0) in
     omega (arith, sized, shown_within path)
 
 -- So are they if the text ends, and the node that ends the path.
-pub end_within : (text rest : List ℕ) (is_first : Bool) (done path : List Node) → HasTaken text is_first rest done → rest ≡ []
+pub end_within : (text rest : List ℕ) (place : Place) (done path : List Node) → HasTaken text place rest done → rest ≡ []
     → AreBefore IsEndEntire done → IsTextOf path text → length (joined done) + 4 ≤ length (joined path)
-end_within text rest is_first done path taken none before text_is =
-    let same = one_path_of_text path (done ++ end_entire ∷ []) text text_is (text_ends text rest is_first done taken none before) in
+end_within text rest place done path taken none before text_is =
+    let same = one_path_of_text path (done ++ end_entire ∷ []) text text_is (text_ends text rest place done taken none before) in
     omega (arith, ap (λ l. length (joined l)) same, length_push done end_entire)
 
 -- A result that isn't an error.

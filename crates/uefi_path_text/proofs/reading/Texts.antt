@@ -4,7 +4,8 @@ use Rattle.std.proofs.lemmas.Bool.{and_from}
 use Rattle.std.proofs.lemmas.List.{length_push, take_at, get_or_push}
 use Rattle.uefi_path_text.specs.text.Arguments.{is_argument}
 use Rattle.uefi_path_text.specs.text.SerialNumber.{is_serial_number}
-use Rattle.uefi_path_text.specs.parse.Values.{given, is_quoted, unquoted, character_units, bytes_in}
+use Rattle.uefi_path_text.specs.parse.Parts.{given}
+use Rattle.uefi_path_text.specs.parse.Values.{is_quoted, unquoted, character_units, bytes_in}
 use Rattle.uefi_path_text.specs.declared.form.argument.Argument.TheVariants.{Text, Quoted}
 
 pub text_read : (most : ℕ) (text : List ℕ) → is_argument text ≡ true → length text ≤ most

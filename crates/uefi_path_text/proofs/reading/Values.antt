@@ -17,7 +17,7 @@ use Rattle.uefi_path_text.specs.write.Fields.{value_size, is_of, value_of_part, 
 use Rattle.uefi_path_text.specs.write.Forms.{are_values, texts_from, all_shown, shown_texts, is_left_out}
 use Rattle.uefi_path_text.proofs.Table.{is_sound_parameter}
 use Rattle.uefi_path_text.specs.declared.form.argument.Argument.{Argument}
-use Rattle.uefi_path_text.specs.declared.form.argument.Argument.TheVariants.{Number, BigEndian, Word, Digits, Bytes, HardwareAddress, Ipv4, Ipv4Server, EisaId, PnpId, EisaLetters, DriveBay, Text, Name, Quoted}
+use Rattle.uefi_path_text.specs.declared.form.argument.Argument.TheVariants.{Number, BigEndian, Word, Digits, Bytes, HardwareAddress, Ipv4, Ipv4Server, Ipv6, EisaId, PnpId, EisaLetters, DriveBay, Text, Name, Quoted}
 use Rattle.uefi_path_text.proofs.reading.ByteLists.{no_bytes, more_bytes}
 use Rattle.uefi_path_text.proofs.reading.CutTexts.{are_arguments, joined}
 use Rattle.uefi_path_text.proofs.reading.Kinds.{kind_reads}
@@ -51,6 +51,7 @@ zeros (Some (Digits shape)) = no_bytes
 zeros (Some (Bytes most)) = no_bytes
 zeros (Some Ipv4) = no_bytes
 zeros (Some Ipv4Server) = no_bytes
+zeros (Some Ipv6) = no_bytes
 zeros (Some EisaId) = no_bytes
 zeros (Some EisaLetters) = no_bytes
 zeros (Some DriveBay) = no_bytes
@@ -114,6 +115,7 @@ left_out_text (Word vocabulary size) v is = cc
 left_out_text (Digits shape) v is = cc
 left_out_text Ipv4 v is = cc
 left_out_text Ipv4Server v is = cc
+left_out_text Ipv6 v is = cc
 left_out_text EisaId v is = cc
 left_out_text EisaLetters v is = cc
 left_out_text DriveBay v is = cc

@@ -9,7 +9,8 @@ use Rattle.std.proofs.lemmas.Bool.{and_parts, and_left, cond-false}
 use Rattle.std.proofs.lemmas.Fmt.{decimal_is_IsNumeral}
 use Rattle.std.proofs.lemmas.Str.Parse.{digit_from_value}
 use Rattle.uefi_path_text.specs.text.Arguments.{hex}
-use Rattle.uefi_path_text.specs.parse.Values.{given, below, bay_info, low_first, or_number, word_bytes, number_bytes, bytes_in}
+use Rattle.uefi_path_text.specs.parse.Parts.{given}
+use Rattle.uefi_path_text.specs.parse.Values.{below, bay_info, low_first, or_number, word_bytes, number_bytes, bytes_in}
 use Rattle.uefi_path_text.specs.form.Words.{words, are_numbers}
 use Rattle.uefi_path_text.specs.declared.form.words.Words.{Words}
 use Rattle.uefi_path_text.specs.declared.form.words.Words.TheVariants.{Protocol, Default}

@@ -1,5 +1,5 @@
 -- The forms of nodes as text: a name, what its arguments are, and which node they make (UEFI 2.10, 10.6.1.6).
-use Rattle.std.specs.Prelude.{ℕ, Bool, true, false, List}
+use Rattle.std.specs.Prelude.{ℕ, Bool, true, false, List, Option, None, Some}
 use Rattle.uefi_path_text.specs.declared.form.argument.Argument.{Argument}
 
 -- An argument, and the text that stands for it if it is left out or empty; the empty text, if it can't be left out.
@@ -27,7 +27,7 @@ pub data Arguments : Type 0 where
   repeated : List ℕ → Argument → Arguments
 
 -- A form. A shortcut is written only where they are allowed. For display so many arguments are written, from the first
--- of these on.
+-- of these on, and the part at an index, of reserved bytes, may be any.
 pub record NodeForm : Type 0 where
   pub name : List ℕ
   pub device_type : Source
@@ -36,6 +36,7 @@ pub record NodeForm : Type 0 where
   pub is_shortcut : Bool
   pub first_displayed : ℕ
   pub displayed : ℕ
+  pub reserved : Option ℕ
 
 -- A form that is no shortcut, and for display is the same.
 abbrev pub form : List ℕ → Source → Source → Arguments → NodeForm
@@ -47,6 +48,7 @@ form name device_type sub_type arguments = record {
   is_shortcut = false;
   first_displayed = 0;
   displayed = 255;
+  reserved = None;
 }
 
 abbrev pub shortcut : NodeForm → NodeForm
@@ -55,3 +57,7 @@ shortcut form = record form { is_shortcut = true }
 -- For display so many arguments, from the first on.
 abbrev pub displaying : ℕ → ℕ → NodeForm → NodeForm
 displaying first count form = record form { first_displayed = first; displayed = count }
+
+-- The part at an index is of reserved bytes.
+abbrev pub reserving : ℕ → NodeForm → NodeForm
+reserving index form = record form { reserved = Some index }

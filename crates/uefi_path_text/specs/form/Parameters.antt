@@ -2,7 +2,7 @@
 use Rattle.std.specs.Prelude.{ℕ, List, [], codes}
 use Rattle.uefi_path_text.specs.form.NodeForm.{Parameter}
 use Rattle.uefi_path_text.specs.declared.form.argument.Argument.{Argument}
-use Rattle.uefi_path_text.specs.declared.form.argument.Argument.TheVariants.{Number, BigEndian, Word, Digits, Bytes, Ipv4, EisaId, EisaLetters, DriveBay, Text, Name}
+use Rattle.uefi_path_text.specs.declared.form.argument.Argument.TheVariants.{Number, BigEndian, Word, Digits, Bytes, Ipv4, Ipv6, EisaId, EisaLetters, DriveBay, Text, Name}
 use Rattle.uefi_path_text.specs.declared.form.words.Words.TheVariants as Words
 use Rattle.uefi_path_text.specs.declared.form.shape.Shape.TheVariants as Shape
 use Rattle.uefi_path_text.specs.declared.form.size.Size.TheVariants as Size
@@ -46,10 +46,10 @@ abbrev pub optional_ipv4 : Parameter
 optional_ipv4 = optional (Ipv4) (codes "0.0.0.0")
 
 abbrev pub ipv6 : Parameter
-ipv6 = required (Digits Shape.Ipv6)
+ipv6 = required (Ipv6)
 
 abbrev pub optional_ipv6 : Parameter
-optional_ipv6 = optional (Digits Shape.Ipv6) (codes "0000:0000:0000:0000:0000:0000:0000:0000")
+optional_ipv6 = optional (Ipv6) (codes "::")
 
 abbrev pub zero : Parameter
 zero = optional (Word Words.Zero Size.One) (codes "0")

@@ -1,6 +1,6 @@
 -- The forms of nodes of the type MEDIA (UEFI 2.10, 10.6.1.6).
 use Rattle.std.specs.Prelude.{ℕ, [], ◌∷◌, List, codes, replicate}
-use Rattle.uefi_path_text.specs.form.NodeForm.{NodeForm, form, displaying, known, listed, bytes, argument}
+use Rattle.uefi_path_text.specs.form.NodeForm.{NodeForm, form, displaying, reserving, known, listed, bytes, argument}
 use Rattle.uefi_path_text.specs.form.Parameters.{decimal_u16, decimal_u32, guid, optional, required, u32, u64, vendor_data, zero}
 use Rattle.uefi_path_text.specs.declared.form.argument.Argument.TheVariants.{Number, Word}
 use Rattle.uefi_path_text.specs.declared.form.argument.Base.TheVariants as Base
@@ -28,23 +28,23 @@ persistent_virtual_cd =
 
 abbrev pub media_forms : List NodeForm
 media_forms =
-    displaying 0 3 (form (codes "HD") (known 4) (known 1) (listed (decimal_u32 ∷ required (Word Words.Mbr Size.One)
+    reserving 4 (displaying 0 3 (form (codes "HD") (known 4) (known 1) (listed (decimal_u32 ∷ required (Word Words.Mbr Size.One)
     ∷ optional (Number Size.Four Base.LongHex) (codes "0") ∷ u64 ∷ u64 ∷ []) (argument 0 ∷ argument 3 ∷ argument 4 ∷
-    argument 2 ∷ bytes (replicate 12 0) ∷ argument 1 ∷ bytes (1 ∷ []) ∷ [])))
+    argument 2 ∷ bytes (replicate 12 0) ∷ argument 1 ∷ bytes (1 ∷ []) ∷ []))))
     ∷ displaying 0 3 (form (codes "HD") (known 4) (known 1) (listed (decimal_u32 ∷ required (Word Words.Gpt
     Size.One) ∷ guid ∷ u64 ∷ u64 ∷ []) (argument 0 ∷ argument 3 ∷ argument 4 ∷ argument 2 ∷ argument 1 ∷ bytes (2 ∷
     []) ∷ [])))
-    ∷ displaying 0 3 (form (codes "HD") (known 4) (known 1) (listed (decimal_u32 ∷ required (Number Size.One
-    Base.Decimal) ∷ zero ∷ u64 ∷ u64 ∷ []) (argument 0 ∷ argument 3 ∷ argument 4 ∷ bytes (replicate 16 0) ∷ bytes (0
-    ∷ []) ∷ argument 1 ∷ [])))
+    ∷ reserving 3 (displaying 0 3 (form (codes "HD") (known 4) (known 1) (listed (decimal_u32 ∷ required (Number Size.One
+    Base.Decimal) ∷ zero ∷ u64 ∷ u64 ∷ []) (argument 0 ∷ argument 3 ∷ argument 4 ∷ bytes (replicate 17 0) ∷
+    argument 1 ∷ []))))
     ∷ displaying 0 1 (form (codes "CDROM") (known 4) (known 2) (listed (u32 ∷ u64 ∷ u64 ∷ []) (argument 0 ∷ argument
     1 ∷ argument 2 ∷ [])))
     ∷ form (codes "VenMedia") (known 4) (known 3) (listed (guid ∷ vendor_data ∷ []) (argument 0 ∷ argument 1 ∷ []))
     ∷ form (codes "Media") (known 4) (known 5) (listed (guid ∷ []) (argument 0 ∷ []))
     ∷ form (codes "FvFile") (known 4) (known 6) (listed (guid ∷ []) (argument 0 ∷ []))
     ∷ form (codes "Fv") (known 4) (known 7) (listed (guid ∷ []) (argument 0 ∷ []))
-    ∷ form (codes "Offset") (known 4) (known 8) (listed (u64 ∷ u64 ∷ []) (bytes (replicate 4 0) ∷ argument 0 ∷
-    argument 1 ∷ []))
+    ∷ reserving 0 (form (codes "Offset") (known 4) (known 8) (listed (u64 ∷ u64 ∷ []) (bytes (replicate 4 0) ∷ argument 0 ∷
+    argument 1 ∷ [])))
     ∷ form (codes "VirtualDisk") (known 4) (known 9) (listed (u64 ∷ u64 ∷ decimal_u16 ∷ []) (argument 0 ∷ argument 1
     ∷ bytes virtual_disk ∷ argument 2 ∷ []))
     ∷ form (codes "VirtualCD") (known 4) (known 9) (listed (u64 ∷ u64 ∷ decimal_u16 ∷ []) (argument 0 ∷ argument 1 ∷

@@ -1,6 +1,6 @@
 -- The forms of nodes of the type MESSAGING that lead to storage (UEFI 2.10, 10.6.1.6).
 use Rattle.std.specs.Prelude.{[], ◌∷◌, List, codes, replicate}
-use Rattle.uefi_path_text.specs.form.NodeForm.{NodeForm, form, displaying, known, listed, bytes, argument, sum}
+use Rattle.uefi_path_text.specs.form.NodeForm.{NodeForm, form, displaying, reserving, known, listed, bytes, argument, sum}
 use Rattle.uefi_path_text.specs.form.Parameters.{big_endian, drive_bay, identifier, no_topology, optional, required, sas_connection, sas_interface, sas_location, string, u16, u32, u64, u8, zero}
 use Rattle.uefi_path_text.specs.declared.form.argument.Argument.TheVariants.{Digits, Word}
 use Rattle.uefi_path_text.specs.declared.form.words.Words.TheVariants as Words
@@ -13,12 +13,12 @@ storage_forms =
     "0") ∷ optional (Word Words.Drive Size.One) (codes "0") ∷ u16 ∷ []) (argument 0 ∷ argument 1 ∷ argument 2 ∷
     [])))
     ∷ form (codes "Scsi") (known 3) (known 2) (listed (u16 ∷ u16 ∷ []) (argument 0 ∷ argument 1 ∷ []))
-    ∷ form (codes "Fibre") (known 3) (known 3) (listed (u64 ∷ u64 ∷ []) (bytes (replicate 4 0) ∷ argument 0 ∷
-    argument 1 ∷ []))
-    ∷ form (codes "FibreEx") (known 3) (known 21) (listed (big_endian ∷ big_endian ∷ []) (bytes (replicate 4 0) ∷
-    argument 0 ∷ argument 1 ∷ []))
-    ∷ form (codes "I1394") (known 3) (known 4) (listed (required (Digits Shape.Ieee1394) ∷ []) (bytes (replicate 4
-    0) ∷ argument 0 ∷ []))
+    ∷ reserving 0 (form (codes "Fibre") (known 3) (known 3) (listed (u64 ∷ u64 ∷ []) (bytes (replicate 4 0) ∷ argument 0 ∷
+    argument 1 ∷ [])))
+    ∷ reserving 0 (form (codes "FibreEx") (known 3) (known 21) (listed (big_endian ∷ big_endian ∷ []) (bytes (replicate 4 0) ∷
+    argument 0 ∷ argument 1 ∷ [])))
+    ∷ reserving 0 (form (codes "I1394") (known 3) (known 4) (listed (required (Digits Shape.Ieee1394) ∷ []) (bytes (replicate 4
+    0) ∷ argument 0 ∷ [])))
     ∷ form (codes "I2O") (known 3) (known 6) (listed (u32 ∷ []) (argument 0 ∷ []))
     ∷ form (codes "Sata") (known 3) (known 18) (listed (u16 ∷ identifier ∷ u16 ∷ []) (argument 0 ∷ argument 1 ∷
     argument 2 ∷ []))

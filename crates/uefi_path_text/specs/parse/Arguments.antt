@@ -4,7 +4,8 @@ use Rattle.std.specs.Prelude.{Option, Some, None, if◌then◌else◌}
 use Rattle.std.specs.Int.{w16, from_le_bytes}
 use Rattle.uefi_path.specs.Node.{Node}
 use Rattle.uefi_path_text.specs.form.NodeForm.{Parameter, Source, known, stated, Part, bytes, argument, padded, sum, Arguments, listed, repeated, NodeForm}
-use Rattle.uefi_path_text.specs.parse.Values.{bytes_in, low_first, cut_at}
+use Rattle.uefi_path_text.specs.parse.Parts.{cut_at}
+use Rattle.uefi_path_text.specs.parse.Values.{bytes_in, low_first}
 use Rattle.uefi_path_text.specs.declared.form.argument.Argument.{Argument}
 
 -- The list of values, if there are all of them.

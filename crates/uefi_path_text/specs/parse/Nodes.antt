@@ -7,7 +7,7 @@ use Rattle.uefi_base.specs.Unaligned.{unit_bytes}
 use Rattle.uefi_path.specs.Node.{Node}
 use Rattle.uefi_path_text.specs.text.FileName.{reads_as_node, is_name_character}
 use Rattle.uefi_path_text.specs.text.NodeText.{is_plain_end}
-use Rattle.uefi_path_text.specs.parse.Values.{given}
+use Rattle.uefi_path_text.specs.parse.Parts.{given}
 use Rattle.uefi_path_text.specs.form.NodeForm.{NodeForm}
 use Rattle.uefi_path_text.specs.parse.Arguments.{values_in, form_node, texts_of}
 use Rattle.uefi_path_text.specs.AllForms.{forms}

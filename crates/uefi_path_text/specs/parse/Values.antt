@@ -1,5 +1,5 @@
 -- What an argument stands for: bytes of the node's data (UEFI 2.10, 10.6.1.6).
-use Rattle.std.specs.Prelude.{ℕ, ◌+◌, ◌-◌, ◌*◌, ◌%◌, ◌^◌, ◌==◌, ◌&&◌, ◌||◌, Bool, true, false, not, nat_le, nat_lt, List, [], ◌∷◌, ◌++◌, codes, length, take, drop, map, slice_index, replicate}
+use Rattle.std.specs.Prelude.{ℕ, ◌+◌, ◌-◌, ◌*◌, ◌%◌, ◌^◌, ◌==◌, ◌&&◌, ◌||◌, Bool, true, false, nat_le, nat_lt, List, [], ◌∷◌, ◌++◌, codes, length, take, drop, map, slice_index, replicate}
 use Rattle.std.specs.Prelude.{Option, Some, None, if◌then◌else◌}
 use Rattle.std.specs.List.{list_all, find, flat_map}
 use Rattle.std.specs.Option.{option_map}
@@ -7,6 +7,9 @@ use Rattle.std.specs.Str.{bytes_eq}
 use Rattle.std.specs.Str.Parse.{digits_value}
 use Rattle.std.specs.Char.{is_digit, digit_value}
 use Rattle.std.specs.Int.{bytes_low_first, bytes_high_first}
+use Rattle.uefi_path_text.specs.parse.Parts.{given, numeral}
+use Rattle.uefi_path_text.specs.parse.Ipv4.{is_ipv4, ipv4_bytes}
+use Rattle.uefi_path_text.specs.parse.Ipv6.{ipv6_in}
 use Rattle.uefi_path_text.specs.text.Arguments.{is_argument}
 use Rattle.uefi_path_text.specs.text.SerialNumber.{is_serial_number}
 use Rattle.uefi_path_text.specs.form.Words.{words, are_numbers}
@@ -14,20 +17,9 @@ use Rattle.uefi_path_text.specs.declared.form.size.Size.{Size}
 use Rattle.uefi_path_text.specs.declared.form.size.Size.TheVariants.{One, Two, Four, Eight}
 use Rattle.uefi_path_text.specs.declared.form.words.Words.{Words}
 use Rattle.uefi_path_text.specs.declared.form.shape.Shape.{Shape}
-use Rattle.uefi_path_text.specs.declared.form.shape.Shape.TheVariants.{Guid, Ipv6, Eui64, Ieee1394, Address}
+use Rattle.uefi_path_text.specs.declared.form.shape.Shape.TheVariants.{Guid, Eui64, Ieee1394, Address}
 use Rattle.uefi_path_text.specs.declared.form.argument.Argument.{Argument}
-use Rattle.uefi_path_text.specs.declared.form.argument.Argument.TheVariants.{Number, BigEndian, Word, Digits, Bytes, Ipv4, Ipv4Server, HardwareAddress, EisaId, PnpId, EisaLetters, DriveBay, Text, Name, Quoted}
-
--- A value, if a test holds.
-abbrev pub given : {A : Type 0} → Bool → A → Option A
-given test value = if test then Some value else None
-
--- One digit or more.
-abbrev pub is_numeral : ℕ → List ℕ → Bool
-is_numeral radix text = not (length text == 0) && list_all (λ c. is_digit c radix) text
-
-abbrev pub numeral : ℕ → List ℕ → Option ℕ
-numeral radix text = given (is_numeral radix text) (digits_value radix text)
+use Rattle.uefi_path_text.specs.declared.form.argument.Argument.TheVariants.{Number, BigEndian, Word, Digits, Bytes, Ipv4, Ipv4Server, Ipv6, HardwareAddress, EisaId, PnpId, EisaLetters, DriveBay, Text, Name, Quoted}
 
 -- The text starts with `0x` or `0X`.
 abbrev pub is_hex : List ℕ → Bool
@@ -71,7 +63,6 @@ word_bytes vocabulary size text = or_number (are_numbers vocabulary) size text (
 -- The shape of digits: `x` for a hex digit, and other characters as they are.
 abbrev pub pattern : Shape → List ℕ
 pattern Guid = codes "xxxxxxxx-xxxx-xxxx-xxxx-xxxxxxxxxxxx"
-pattern Ipv6 = codes "xxxx:xxxx:xxxx:xxxx:xxxx:xxxx:xxxx:xxxx"
 pattern Eui64 = codes "xx-xx-xx-xx-xx-xx-xx-xx"
 pattern Ieee1394 = codes "xxxxxxxxxxxxxxxx"
 pattern Address = codes "xxxxxxxxxxxx"
@@ -79,7 +70,6 @@ pattern Address = codes "xxxxxxxxxxxx"
 -- Where the digits of each byte are, in the order of the node's data.
 abbrev pub offsets : Shape → List ℕ
 offsets Guid = 6 ∷ 4 ∷ 2 ∷ 0 ∷ 11 ∷ 9 ∷ 16 ∷ 14 ∷ 19 ∷ 21 ∷ 24 ∷ 26 ∷ 28 ∷ 30 ∷ 32 ∷ 34 ∷ []
-offsets Ipv6 = 0 ∷ 2 ∷ 5 ∷ 7 ∷ 10 ∷ 12 ∷ 15 ∷ 17 ∷ 20 ∷ 22 ∷ 25 ∷ 27 ∷ 30 ∷ 32 ∷ 35 ∷ 37 ∷ []
 offsets Eui64 = 21 ∷ 18 ∷ 15 ∷ 12 ∷ 9 ∷ 6 ∷ 3 ∷ 0 ∷ []
 offsets Ieee1394 = 14 ∷ 12 ∷ 10 ∷ 8 ∷ 6 ∷ 4 ∷ 2 ∷ 0 ∷ []
 offsets Address = 0 ∷ 2 ∷ 4 ∷ 6 ∷ 8 ∷ 10 ∷ []
@@ -114,25 +104,6 @@ abbrev pub pairs_bytes : List ℕ → List ℕ
 pairs_bytes [] = []
 pairs_bytes (high ∷ []) = []
 pairs_bytes (high ∷ low ∷ more) = byte_of_digits high low ∷ pairs_bytes more
-
--- The parts of a text that dots separate.
-abbrev pub onto_first : ℕ → List (List ℕ) → List (List ℕ)
-onto_first c [] = (c ∷ []) ∷ []
-onto_first c (part ∷ parts) = (c ∷ part) ∷ parts
-
-abbrev pub cut_at : ℕ → List ℕ → List (List ℕ)
-cut_at mark [] = [] ∷ []
-cut_at mark (c ∷ text) = if c == mark then [] ∷ cut_at mark text else onto_first c (cut_at mark text)
-
--- An IPv4 address: four decimal numbers.
-abbrev pub is_octet : List ℕ → Bool
-is_octet part = is_numeral 10 part && nat_lt (digits_value 10 part) 256
-
-abbrev pub is_ipv4 : List ℕ → Bool
-is_ipv4 text = length (cut_at 0x2e text) == 4 && list_all is_octet (cut_at 0x2e text)
-
-abbrev pub ipv4_bytes : List ℕ → List ℕ
-ipv4_bytes text = map (digits_value 10) (cut_at 0x2e text)
 
 -- A compressed EISA identifier: three letters of five bits each, `@` to `_`, and four hex digits.
 abbrev pub is_eisa_letter : ℕ → Bool
@@ -171,6 +142,7 @@ bytes_in (Digits shape) text = given (has_pattern (pattern shape) text) (shape_b
 bytes_in (Bytes most) text = given (are_pairs text && nat_le (length text) (2 * most)) (pairs_bytes text)
 bytes_in Ipv4 text = given (is_ipv4 text) (ipv4_bytes text)
 bytes_in Ipv4Server text = given (is_ipv4 text) (ipv4_bytes text ++ replicate 12 0)
+bytes_in Ipv6 text = ipv6_in text
 bytes_in EisaId text = given (is_eisa text) (low_first 4 (eisa_number text))
 bytes_in EisaLetters text = number_bytes 2 text
 bytes_in DriveBay text = option_map (λ bay. low_first 2 (bay_info bay)) (below 257 (number_in text))

@@ -36,4 +36,5 @@ form_of form = record {
   is_shortcut = form.is_shortcut;
   first_displayed = form.first_displayed;
   displayed = form.displayed;
+  reserved = form.reserved;
 }

@@ -2,9 +2,10 @@
 use Rattle.std.specs.Prelude.{ℕ, ◌≡◌, ◌≤◌, ◌<◌, ◌+◌, ◌^◌, List, [], ◌∷◌, ◌++◌, replicate, IsTrue, Option, Some, None, length, Bool, ◌&&◌, nat_lt, if◌then◌else◌}
 use Rattle.std.specs.Borrow.{Bor}
 use Rattle.std.specs.Int.{bytes_high_first}
-use Rattle.uefi_path_text.specs.parse.Values.{low_first, shape_bytes, pairs_bytes, character_units, has_pattern, pattern, are_pairs, cut_at, is_eisa_letter, is_hex_digit}
+use Rattle.uefi_path_text.specs.parse.Parts.{cut_at}
+use Rattle.uefi_path_text.specs.parse.Values.{low_first, shape_bytes, pairs_bytes, character_units, has_pattern, pattern, are_pairs, is_eisa_letter, is_hex_digit}
 use Rattle.uefi_path_text.specs.declared.parse.value.Value.{Value}
-use Rattle.uefi_path_text.specs.declared.parse.value.Value.TheVariants.{Number, BigEndian, Digits, Pairs, Ipv4, Ipv4Server, Text, Units}
+use Rattle.uefi_path_text.specs.declared.parse.value.Value.TheVariants.{Number, BigEndian, Digits, Pairs, Ipv4, Ipv4Server, Ipv6, Text, Units}
 
 -- The bytes of the value.
 abbrev pub value_bytes : Value → List ℕ
@@ -14,6 +15,7 @@ value_bytes (Digits shape text) = shape_bytes shape text.now
 value_bytes (Pairs text) = pairs_bytes text.now
 value_bytes (Ipv4 address) = address
 value_bytes (Ipv4Server address) = address ++ replicate 12 0
+value_bytes (Ipv6 address) = address
 value_bytes (Text text) = text.now
 value_bytes (Units text) = character_units text.now
 
@@ -25,6 +27,7 @@ IsValue (Digits shape text) = IsTrue (has_pattern (pattern shape) text.now)
 IsValue (Pairs text) = IsTrue (are_pairs text.now)
 IsValue (Ipv4 address) = length address ≡ 4
 IsValue (Ipv4Server address) = length address ≡ 4
+IsValue (Ipv6 address) = length address ≡ 16
 IsValue (Text text) = Unit
 IsValue (Units text) = length text.now < 2 ^ 63
 

@@ -1,5 +1,5 @@
 -- The piece at the start of a text.
-use Rattle.std.specs.Prelude.{ℕ, ◌≡◌, ◌<◌, ◌==◌, Bool, not, List, [], ◌∷◌, length}
+use Rattle.std.specs.Prelude.{ℕ, ◌≡◌, ◌<◌, ◌==◌, Bool, true, not, List, [], ◌∷◌, length}
 use Rattle.std.specs.List.{before_first, after_first, position_or_len}
 use Rattle.std.specs.Prelude.{if◌then◌else◌}
 use Rattle.uefi_path_text.specs.text.FileName.{reads_as_node}
@@ -24,6 +24,11 @@ is_closing c = c == 0x29
 -- A slash or a comma, before which a name ends.
 abbrev pub is_mark : ℕ → Bool
 is_mark c = not (is_plain_byte c)
+
+-- What follows the text of a node: nothing, or what begins with a slash or a comma.
+abbrev pub is_cut : List ℕ → Bool
+is_cut [] = true
+is_cut (c ∷ text) = is_mark c
 
 -- A call is through the parenthesis that closes, and a name up to a slash or a comma.
 abbrev pub piece_at : List ℕ → List ℕ

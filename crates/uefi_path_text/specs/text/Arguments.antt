@@ -1,6 +1,5 @@
 -- How a name and its arguments are written (UEFI 2.10, 10.6.1). Hex digits are upper case.
 use Rattle.std.specs.Prelude.{ℕ, ◌-◌, ◌/◌, ◌%◌, ◌==◌, ◌&&◌, Bool, not, nat_le, nat_lt, List, [], ◌∷◌, ◌++◌, codes, true, flat_map, length, take, slice_index}
-use Rattle.std.specs.Prelude.{if◌then◌else◌}
 use Rattle.std.specs.List.{list_all}
 use Rattle.std.specs.Fmt.{decimal, digits, digit_glyph}
 

@@ -1,5 +1,5 @@
 -- The form of a file's path: its name itself, in UTF-8 (UEFI 2.10, 10.6.1.6).
-use Rattle.std.specs.Prelude.{ℕ, ◌-◌, ◌%◌, ◌==◌, ◌&&◌, ◌||◌, Bool, not, nat_eq, nat_le, nat_lt, List, length, slice_index}
+use Rattle.std.specs.Prelude.{ℕ, ◌-◌, ◌%◌, ◌==◌, ◌&&◌, ◌||◌, Bool, not, nat_eq, nat_le, nat_lt, List, length, filter, slice_index}
 use Rattle.std.specs.Prelude.{Option, Some, None, encode_utf8_all, if◌then◌else◌}
 use Rattle.std.specs.Char.Utf16.{has_unpaired_surrogate, utf16_lossy_chars}
 use Rattle.std.specs.List.{list_all, find}
@@ -40,6 +40,13 @@ is_name name = list_all is_name_character name && not (reads_as_node name)
 abbrev pub is_nul_ended : List ℕ → Bool
 is_nul_ended units = nat_lt 1 (length units) && slice_index units (length units - 1) == 0
 
+-- As many parentheses open as close: EDK II reads no path with another name.
+abbrev pub count_of : ℕ → List ℕ → ℕ
+count_of wanted units = length (filter (λ unit. unit == wanted) units)
+
+abbrev pub is_paired : List ℕ → Bool
+is_paired units = count_of 0x28 units == count_of 0x29 units
+
 -- The text of the units before the NUL: that of their characters, if each surrogate has its partner and they are a
 -- name.
 unfoldable pub name_text : List ℕ → Option (List ℕ)
@@ -47,9 +54,9 @@ name_text units =
     if not (has_unpaired_surrogate units) && is_name (utf16_lossy_chars units)
     then Some (encode_utf8_all (utf16_lossy_chars units)) else None
 
--- The text of the path of a file (10.3.5.4), whose data are units that end with a NUL.
+-- The text of the path of a file (10.3.5.4), whose data are units that end with a NUL, with each parenthesis in a pair.
 unfoldable pub file_name_text : Node → Option (List ℕ)
 file_name_text node =
     if node.device_type == 4 && node.sub_type == 4 && length node.payload % 2 == 0
-    && is_nul_ended (units_of node.payload)
+    && is_nul_ended (units_of node.payload) && is_paired (units_of node.payload)
     then name_text (without_nul (units_of node.payload)) else None

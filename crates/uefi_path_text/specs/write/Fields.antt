@@ -9,7 +9,7 @@ use Rattle.uefi_path_text.specs.form.Words.{words}
 use Rattle.uefi_path_text.specs.parse.Values.{size_bytes, low_first}
 use Rattle.uefi_path_text.specs.write.Values.{low_number}
 use Rattle.uefi_path_text.specs.declared.form.argument.Argument.{Argument}
-use Rattle.uefi_path_text.specs.declared.form.argument.Argument.TheVariants.{Number, BigEndian, Word, Digits, Bytes, HardwareAddress, Ipv4, Ipv4Server, EisaId, PnpId, EisaLetters, DriveBay, Text, Name, Quoted}
+use Rattle.uefi_path_text.specs.declared.form.argument.Argument.TheVariants.{Number, BigEndian, Word, Digits, Bytes, HardwareAddress, Ipv4, Ipv4Server, Ipv6, EisaId, PnpId, EisaLetters, DriveBay, Text, Name, Quoted}
 
 -- How many of the bytes are the value of an argument.
 abbrev pub value_size : Argument → List ℕ → ℕ
@@ -21,6 +21,7 @@ value_size (Bytes most) rest = length rest
 value_size Ipv4 rest = 4
 value_size HardwareAddress rest = if nat_le (slice_index rest 32) 1 then 6 else 32
 value_size Ipv4Server rest = 16
+value_size Ipv6 rest = 16
 value_size EisaId rest = 4
 value_size PnpId rest = 4
 value_size EisaLetters rest = 2

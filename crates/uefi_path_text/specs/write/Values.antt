@@ -4,7 +4,7 @@ use Rattle.std.specs.Prelude.{Option, Some, None, if◌then◌else◌}
 use Rattle.std.specs.List.{find}
 use Rattle.std.specs.Str.{bytes_eq}
 use Rattle.std.specs.Fmt.{decimal}
-use Rattle.uefi_path_text.specs.form.Pieces.{pieces, pieces_text, shape_size}
+use Rattle.uefi_path_text.specs.form.Pieces.{pieces, pieces_text, ipv6_pieces, shape_size}
 use Rattle.uefi_path_text.specs.form.Words.{words}
 use Rattle.uefi_path_text.specs.text.Arguments.{hex, long_hex, hex_byte, hex_bytes, ipv4_address, is_argument}
 use Rattle.uefi_path_text.specs.text.EisaId.{eisa_id}
@@ -15,7 +15,7 @@ use Rattle.uefi_path_text.specs.declared.form.words.Words.TheVariants.{Protocol,
 use Rattle.uefi_path_text.specs.declared.form.argument.Base.{Base}
 use Rattle.uefi_path_text.specs.declared.form.argument.Base.TheVariants.{Hex, LongHex, Decimal}
 use Rattle.uefi_path_text.specs.declared.form.argument.Argument.{Argument}
-use Rattle.uefi_path_text.specs.declared.form.argument.Argument.TheVariants.{Number, BigEndian, Word, Digits, Bytes, HardwareAddress, Ipv4, Ipv4Server, EisaId, PnpId, EisaLetters, DriveBay, Text, Name, Quoted}
+use Rattle.uefi_path_text.specs.declared.form.argument.Argument.TheVariants.{Number, BigEndian, Word, Digits, Bytes, HardwareAddress, Ipv4, Ipv4Server, Ipv6, EisaId, PnpId, EisaLetters, DriveBay, Text, Name, Quoted}
 
 -- The number in bytes, the lowest first.
 abbrev pub low_number : List ℕ → ℕ
@@ -86,6 +86,7 @@ value_text (Bytes most) value = hex_bytes value
 value_text Ipv4 value = ipv4_address value
 value_text HardwareAddress value = hex_bytes value
 value_text Ipv4Server value = ipv4_address value
+value_text Ipv6 value = pieces_text value ipv6_pieces
 value_text EisaId value = eisa_id (low_number value)
 value_text PnpId value = eisa_id (low_number value)
 value_text EisaLetters value = hex (low_number value)
@@ -104,6 +105,7 @@ can_show (Bytes most) value = nat_le (length value) most
 can_show Ipv4 value = length value == 4
 can_show HardwareAddress value = nat_le (length value) 32
 can_show Ipv4Server value = length value == 16 && bytes_eq (drop 4 value) (replicate 12 0)
+can_show Ipv6 value = length value == 16
 can_show EisaId value = length value == 4 && nat_lt (low_number value % 0x10000) 0x8000
 can_show PnpId value = length value == 4 && low_number value % 0x10000 == 0x41d0
 can_show EisaLetters value = length value == 2 && nat_lt (low_number value) 0x8000

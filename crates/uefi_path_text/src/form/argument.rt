@@ -33,6 +33,8 @@ pub(crate) enum Argument {
     Ipv4,
     /// An IPv4 address, in 16 bytes.
     Ipv4Server,
+    /// An IPv6 address. It is written as eight groups of four digits.
+    Ipv6,
     /// A compressed EISA identifier, such as `PNP0A03`.
     EisaId,
     /// The same, written only if its letters are `PNP`.

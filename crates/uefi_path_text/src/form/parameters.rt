@@ -66,14 +66,14 @@ pub(crate) const OPTIONAL_IPV4: Parameter = Parameter {
 
 /// An IPv6 address, which can't be left out.
 pub(crate) const IPV6: Parameter = Parameter {
-    argument: Argument::Digits(Shape::Ipv6),
+    argument: Argument::Ipv6,
     default: "",
 };
 
-/// An IPv6 address, or else the one of zeros.
+/// An IPv6 address, or else `::`.
 pub(crate) const OPTIONAL_IPV6: Parameter = Parameter {
-    argument: Argument::Digits(Shape::Ipv6),
-    default: "0000:0000:0000:0000:0000:0000:0000:0000",
+    argument: Argument::Ipv6,
+    default: "::",
 };
 
 /// The digit `0`, which can be left out.

@@ -1,13 +1,11 @@
 ghost use Rattle.std.specs.Prelude.{◌≡◌, ◌≤◌, ◌<◌};
-ghost use Rattle.uefi_path_text.specs.form.Pieces.{pieces, shape_size};
+ghost use Rattle.uefi_path_text.specs.form.Pieces.{pieces, shape_size, ipv6_pieces};
 
 /// The shape of digits whose count is fixed.
 #[derive(Clone, Copy)]
 pub(crate) enum Shape {
     /// A GUID (UEFI 2.10, Appendix A).
     Guid,
-    /// An IPv6 address: eight groups of four digits.
-    Ipv6,
     /// An IEEE extended unique identifier, the highest byte first.
     Eui64,
     /// A GUID of IEEE 1394, the highest byte first.
@@ -50,31 +48,6 @@ impl Shape {
                 Piece::Digits(11),
                 Piece::Digits(12),
                 Piece::Digits(13),
-                Piece::Digits(14),
-                Piece::Digits(15),
-            ],
-            Shape::Ipv6 => &[
-                Piece::Digits(0),
-                Piece::Digits(1),
-                Piece::Mark(b':'),
-                Piece::Digits(2),
-                Piece::Digits(3),
-                Piece::Mark(b':'),
-                Piece::Digits(4),
-                Piece::Digits(5),
-                Piece::Mark(b':'),
-                Piece::Digits(6),
-                Piece::Digits(7),
-                Piece::Mark(b':'),
-                Piece::Digits(8),
-                Piece::Digits(9),
-                Piece::Mark(b':'),
-                Piece::Digits(10),
-                Piece::Digits(11),
-                Piece::Mark(b':'),
-                Piece::Digits(12),
-                Piece::Digits(13),
-                Piece::Mark(b':'),
                 Piece::Digits(14),
                 Piece::Digits(15),
             ],
@@ -121,9 +94,40 @@ impl Shape {
         ensures { result ≡ shape_size self }
     {
         match self {
-            Shape::Guid | Shape::Ipv6 => 16,
+            Shape::Guid => 16,
             Shape::Eui64 | Shape::Ieee1394 => 8,
             Shape::Address => 6,
         }
     }
+}
+
+/// Returns the pieces of an IPv6 address: eight groups of two bytes.
+pub(crate) fn ipv6_pieces() -> &'static [Piece]
+    ensures { result.now ≡ ipv6_pieces }
+{
+    &[
+        Piece::Digits(0),
+        Piece::Digits(1),
+        Piece::Mark(b':'),
+        Piece::Digits(2),
+        Piece::Digits(3),
+        Piece::Mark(b':'),
+        Piece::Digits(4),
+        Piece::Digits(5),
+        Piece::Mark(b':'),
+        Piece::Digits(6),
+        Piece::Digits(7),
+        Piece::Mark(b':'),
+        Piece::Digits(8),
+        Piece::Digits(9),
+        Piece::Mark(b':'),
+        Piece::Digits(10),
+        Piece::Digits(11),
+        Piece::Mark(b':'),
+        Piece::Digits(12),
+        Piece::Digits(13),
+        Piece::Mark(b':'),
+        Piece::Digits(14),
+        Piece::Digits(15),
+    ]
 }

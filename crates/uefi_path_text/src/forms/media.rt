@@ -68,6 +68,7 @@ static MEDIA: [NodeForm; 14] = [
         ),
         first_displayed: 0,
         displayed: 3,
+        reserved: Some(4),
         ..MEDIA_FORM
     },
     NodeForm {
@@ -111,17 +112,11 @@ static MEDIA: [NodeForm; 14] = [
                 U64,
                 U64,
             ],
-            &[
-                Value(0),
-                Value(3),
-                Value(4),
-                Bytes(&[0; 16]),
-                Bytes(&[0]),
-                Value(1),
-            ],
+            &[Value(0), Value(3), Value(4), Bytes(&[0; 17]), Value(1)],
         ),
         first_displayed: 0,
         displayed: 3,
+        reserved: Some(3),
         ..MEDIA_FORM
     },
     NodeForm {
@@ -160,6 +155,7 @@ static MEDIA: [NodeForm; 14] = [
         name: "Offset",
         sub_type: Known(8),
         arguments: Listed(&[U64, U64], &[Bytes(&[0; 4]), Value(0), Value(1)]),
+        reserved: Some(0),
         ..MEDIA_FORM
     },
     NodeForm {

@@ -9,7 +9,6 @@ use crate::form::argument::{Argument, Base};
 use crate::form::parameters::{
     ADDRESS, DECIMAL_U16, GUID, IPV4, IPV6, OPTIONAL_IPV4, OPTIONAL_IPV6, PROTOCOL, U8, U32, U64,
 };
-use crate::form::shape::Shape;
 use crate::form::size::Size;
 use crate::form::words::Words;
 use crate::form::{NodeForm, PLAIN, Parameter};
@@ -64,6 +63,7 @@ static NETWORK: [NodeForm; 12] = [
         ),
         first_displayed: 0,
         displayed: 1,
+        reserved: Some(2),
         ..MESSAGING_FORM
     },
     NodeForm {
@@ -93,6 +93,7 @@ static NETWORK: [NodeForm; 12] = [
         ),
         first_displayed: 0,
         displayed: 1,
+        reserved: Some(2),
         ..MESSAGING_FORM
     },
     NodeForm {
@@ -134,6 +135,7 @@ static NETWORK: [NodeForm; 12] = [
             ],
             &[Bytes(&[0; 4]), Value(0), Value(1), Value(2), Value(3)],
         ),
+        reserved: Some(0),
         ..MESSAGING_FORM
     },
     NodeForm {
@@ -190,7 +192,7 @@ static NETWORK: [NodeForm; 12] = [
     NodeForm {
         name: "Dns",
         sub_type: Known(31),
-        arguments: Repeated(&[1], Argument::Digits(Shape::Ipv6)),
+        arguments: Repeated(&[1], Argument::Ipv6),
         ..MESSAGING_FORM
     },
 ];

@@ -54,6 +54,7 @@ static STORAGE: [NodeForm; 16] = [
         name: "Fibre",
         sub_type: Known(3),
         arguments: Listed(&[U64, U64], &[Bytes(&[0; 4]), Value(0), Value(1)]),
+        reserved: Some(0),
         ..MESSAGING_FORM
     },
     NodeForm {
@@ -63,6 +64,7 @@ static STORAGE: [NodeForm; 16] = [
             &[BIG_ENDIAN, BIG_ENDIAN],
             &[Bytes(&[0; 4]), Value(0), Value(1)],
         ),
+        reserved: Some(0),
         ..MESSAGING_FORM
     },
     NodeForm {
@@ -75,6 +77,7 @@ static STORAGE: [NodeForm; 16] = [
             }],
             &[Bytes(&[0; 4]), Value(0)],
         ),
+        reserved: Some(0),
         ..MESSAGING_FORM
     },
     NodeForm {

@@ -3,14 +3,15 @@
 ghost use Rattle.std.specs.Prelude.{◌≡◌, ◌≤◌, ◌<◌, ◌+◌, ◌-◌, ◌*◌, ◌^◌, length, IfOk, OnOk, OnErr, IfErr, IsTrue, Some, None, false};
 ghost use Rattle.std.specs.Option.{option_map};
 ghost use Rattle.std.specs.Str.Parse.{digits_value};
-ghost use Rattle.uefi_path_text.specs.parse.Values.{bytes_in, number_in, below, low_first, word_bytes, is_octet, is_ipv4, ipv4_bytes, is_eisa, is_eisa_letter, eisa_number, is_quoted, unquoted, are_pairs, bay_info};
+ghost use Rattle.uefi_path_text.specs.parse.Values.{bytes_in, number_in, below, low_first, word_bytes, is_eisa, is_eisa_letter, eisa_number, is_quoted, unquoted, are_pairs, bay_info};
 ghost use Rattle.uefi_path_text.specs.text.Arguments.{is_argument};
 ghost use Rattle.uefi_path_text.specs.private.FromText.{value_bytes, IsValue, fits_eisa};
 
 use crate::form::argument::Argument;
 use crate::form::words::Words;
-use crate::parse::cut::cut;
-use crate::parse::number::{read_digits, read_number};
+use crate::parse::ipv4::read_ipv4;
+use crate::parse::ipv6::read_ipv6;
+use crate::parse::number::read_number;
 use crate::parse::shape::{byte_of_digits, is_hex_digit};
 use crate::parse::value::Value;
 use crate::text::arguments::{is_argument_character, is_serial_character};
@@ -44,6 +45,7 @@ impl Argument {
             Argument::HardwareAddress => Value::Pairs(read_pairs(text, 32)?),
             Argument::Ipv4 => Value::Ipv4(read_ipv4(text)?),
             Argument::Ipv4Server => Value::Ipv4Server(read_ipv4(text)?),
+            Argument::Ipv6 => Value::Ipv6(read_ipv6(text)?),
             Argument::EisaId | Argument::PnpId => Value::Number(u64::from(read_eisa(text)?), 4),
             Argument::EisaLetters => Value::Number(read_number(text, most(2))?, 2),
             Argument::DriveBay => Value::Number(read_bay(text)?, 2),
@@ -98,45 +100,6 @@ fn read_pairs(text: &[u8], most: usize) -> Result<&[u8], usize>
         Ok(text)
     } else {
         Err(text.len())
-    }
-}
-
-/// Reads an IPv4 address.
-fn read_ipv4(text: &[u8]) -> Result<[u8; 4], usize>
-    ensures ok { OnOk result (IsTrue (is_ipv4 text.now)) }
-    ensures address { IfOk result (λ address. address ≡ ipv4_bytes text.now) }
-    ensures err { OnErr result (is_ipv4 text.now ≡ false) }
-    ensures offset { IfErr result (λ offset. offset ≤ length text.now) }
-{
-    let mut address = [0; 4];
-    let mut rest = Some(text);
-    let mut start = 0;
-    for byte in &mut address {
-        let Some(parts) = rest else {
-            return Err(text.len());
-        };
-        let (part, others) = cut(parts, b'.');
-        *byte = read_octet(part, start)?;
-        start += part.len() + 1;
-        rest = others;
-    }
-    match rest {
-        None => Ok(address),
-        Some(_) => Err(start - 1),
-    }
-}
-
-/// Reads a part of an IPv4 address that is at an offset.
-fn read_octet(part: &[u8], start: usize) -> Result<u8, usize>
-    requires { start + length part.now < 2 ^ 64 }
-    ensures ok { OnOk result (IsTrue (is_octet part.now)) }
-    ensures number { IfOk result (λ octet. octet ≡ digits_value 10 part.now) }
-    ensures err { OnErr result (is_octet part.now ≡ false) }
-    ensures place { IfErr result (λ offset. offset ≤ start + length part.now) }
-{
-    match read_digits(part, 10, 255) {
-        Ok(octet) => Ok(octet as u8),
-        Err(offset) => Err(start + offset),
     }
 }
 

@@ -212,7 +212,7 @@ impl Argument {
             Argument::Digits(shape) => shape.size(),
             Argument::Bytes(_) | Argument::HardwareAddress => text.len() / 2,
             Argument::Ipv4 | Argument::EisaId | Argument::PnpId => 4,
-            Argument::Ipv4Server => 16,
+            Argument::Ipv4Server | Argument::Ipv6 => 16,
             Argument::EisaLetters | Argument::DriveBay => 2,
             Argument::Text(_) | Argument::Name(_) => text.len(),
             Argument::Quoted => 2 * text.len().saturating_sub(2),

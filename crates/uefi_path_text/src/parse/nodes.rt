@@ -1,10 +1,11 @@
-ghost use Rattle.std.specs.Prelude.{◌≡◌, ◌≢◌, ◌≤◌, ◌<◌, ◌+◌, ◌^◌, [], ◌∷◌, ◌++◌, ℕ, List, true, length, IfOk, OnOk, OnErr, IfErr, IfSome, IfNone};
-ghost use Rattle.uefi_path_text.specs.text.NodeText.{is_plain_end};
+ghost use Rattle.std.specs.Prelude.{◌≡◌, ◌≢◌, ◌≤◌, ◌<◌, ◌+◌, ◌^◌, [], ◌∷◌, ◌++◌, ℕ, List, length, IfOk, OnOk, OnErr, IfErr, IfSome, IfNone};
+ghost use Rattle.uefi_path_text.specs.parse.Paths.{IsSlash, place_after};
 ghost use Rattle.uefi_path_text.specs.private.Places.{IsFrom};
-ghost use Rattle.uefi_path_text.specs.private.Taking.{TakesNode, IsOfNoNodes, slash_unless};
+ghost use Rattle.uefi_path_text.specs.private.Taking.{TakesNode, IsOfNoNodes, FollowsSlash};
 
 use crate::parse::error::FromTextError;
 use crate::parse::piece::read_piece;
+use crate::parse::place::Place;
 use crate::parse::text_node::TextNode;
 
 /// The nodes of a path's text that weren't taken yet.
@@ -14,23 +15,24 @@ pub(crate) struct TextNodes<'a> {
     rest: &'a str,
     /// How many bytes are before it.
     offset: usize,
-    /// The next node is the first of its instance.
-    is_first: bool,
+    /// Where the next node is.
+    place: Place,
 }
 
 impl<'a> TextNodes<'a> {
     ghost use Rattle.uefi_path_text.specs.private.TextNodes.{text_node};
+    ghost use Rattle.uefi_path_text.specs.declared.parse.place.Place.TheVariants.{Start};
 
     /// Returns the nodes of a text.
     pub(crate) fn new(text: &'a str) -> TextNodes<'a>
         ensures rest { result.rest.now ≡ text.now }
         ensures offset { result.offset ≡ 0 }
-        ensures first { result.is_first ≡ true }
+        ensures place { result.place ≡ Start }
     {
         TextNodes {
             rest: text,
             offset: 0,
-            is_first: true,
+            place: Place::Start,
         }
     }
 
@@ -38,13 +40,13 @@ impl<'a> TextNodes<'a> {
     pub(crate) fn next(&mut self) -> Result<Option<TextNode<'a>>, FromTextError>
         requires { self.old.offset + length self.old.rest.now < 2 ^ 64 }
         ensures node { IfOk result (λ taken. IfSome taken (λ node.
-            TakesNode self.old.is_first self.old.rest.now (text_node node) self.new.rest.now)) }
-        ensures first { IfOk result (λ taken. IfSome taken (λ node.
-            self.new.is_first ≡ is_plain_end 0x01 (text_node node))) }
+            TakesNode self.old.place self.old.rest.now (text_node node) self.new.rest.now)) }
+        ensures place { IfOk result (λ taken. IfSome taken (λ node.
+            self.new.place ≡ place_after (text_node node))) }
         ensures end { IfOk result (λ taken. IfNone taken (self.old.rest.now ≡ [])) }
-        ensures place { self.new.offset + length self.new.rest.now
+        ensures offset { self.new.offset + length self.new.rest.now
             ≡ self.old.offset + length self.old.rest.now }
-        ensures wrong { OnErr result (IsOfNoNodes self.old.is_first self.old.rest.now) }
+        ensures wrong { OnErr result (IsOfNoNodes self.old.place self.old.rest.now) }
         ensures fault { IfErr result (IsFrom self.old.offset (length self.old.rest.now)) }
     {
         let text = self.rest;
@@ -53,17 +55,17 @@ impl<'a> TextNodes<'a> {
         }
         if let Some(rest) = after_mark(text, ',') {
             self.go_to(rest);
-            self.is_first = true;
+            self.place = Place::AfterComma;
             return Ok(Some(TextNode::EndInstance));
         }
-        let Some(piece) = after_separator(text, self.is_first) else {
+        let Some(piece) = after_slash(text, self.place) else {
             return Err(FromTextError::Argument(self.offset));
         };
         let start = self.offset + (text.len() - piece.len());
         match read_piece(piece, start) {
             Ok((node, rest)) => {
                 self.go_to(rest);
-                self.is_first = false;
+                self.place = Place::AfterNode;
                 Ok(Some(node))
             }
             Err(error) => Err(error),
@@ -90,23 +92,23 @@ impl<'a> TextNodes<'a> {
         ensures rest { self.new.rest.now ≡ rest.now }
         ensures offset { self.new.offset + length rest.now
             ≡ self.old.offset + length self.old.rest.now }
-        ensures first { self.new.is_first ≡ self.old.is_first }
+        ensures place { self.new.place ≡ self.old.place }
     {
         self.offset += self.rest.len() - rest.len();
         self.rest = rest;
     }
 }
 
-/// Returns what follows the separator before a node: nothing before the first of an instance, and
-/// else a slash.
-fn after_separator(text: &str, is_first: bool) -> Option<&str>
-    ensures some { IfSome result (λ piece. text.now ≡ slash_unless is_first ++ piece.now) }
-    ensures none { IfNone result ((piece : List ℕ) → text.now ≢ slash_unless is_first ++ piece) }
+/// Returns what follows the slash before a node, if one is where it has to be.
+fn after_slash(text: &str, place: Place) -> Option<&str>
+    ensures some { IfSome result (λ start. FollowsSlash place text.now start.now) }
+    ensures none { IfNone result ((slash : List ℕ) → (start : List ℕ) → IsSlash place slash
+        → text.now ≢ slash ++ start) }
 {
-    if is_first {
-        Some(text)
-    } else {
-        after_mark(text, '/')
+    match place {
+        Place::Start => Some(text),
+        Place::AfterComma => Some(after_mark(text, '/').unwrap_or(text)),
+        Place::AfterNode => after_mark(text, '/'),
     }
 }
 

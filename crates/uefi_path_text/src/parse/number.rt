@@ -1,7 +1,8 @@
 ghost use Rattle.std.specs.Prelude.{◌≡◌, ◌≤◌, ◌<◌, ◌+◌, ◌*◌, IfOk, OnErr, IfErr, IfSome, IfNone, Some, None, length, IsTrue};
 ghost use Rattle.std.specs.Char.{is_digit, digit_value};
 ghost use Rattle.std.specs.Str.Parse.{digits_value};
-ghost use Rattle.uefi_path_text.specs.parse.Values.{is_numeral, numeral, number_in, below};
+ghost use Rattle.uefi_path_text.specs.parse.Parts.{is_numeral, numeral};
+ghost use Rattle.uefi_path_text.specs.parse.Values.{number_in, below};
 
 /// Reads one digit or more as a number of at most `most`.
 ///

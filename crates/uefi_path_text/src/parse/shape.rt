@@ -13,7 +13,6 @@ impl Shape {
     {
         match self {
             Shape::Guid => b"xxxxxxxx-xxxx-xxxx-xxxx-xxxxxxxxxxxx",
-            Shape::Ipv6 => b"xxxx:xxxx:xxxx:xxxx:xxxx:xxxx:xxxx:xxxx",
             Shape::Eui64 => b"xx-xx-xx-xx-xx-xx-xx-xx",
             Shape::Ieee1394 => b"xxxxxxxxxxxxxxxx",
             Shape::Address => b"xxxxxxxxxxxx",
@@ -26,7 +25,6 @@ impl Shape {
     {
         match self {
             Shape::Guid => &[6, 4, 2, 0, 11, 9, 16, 14, 19, 21, 24, 26, 28, 30, 32, 34],
-            Shape::Ipv6 => &[0, 2, 5, 7, 10, 12, 15, 17, 20, 22, 25, 27, 30, 32, 35, 37],
             Shape::Eui64 => &[21, 18, 15, 12, 9, 6, 3, 0],
             Shape::Ieee1394 => &[14, 12, 10, 8, 6, 4, 2, 0],
             Shape::Address => &[0, 2, 4, 6, 8, 10],

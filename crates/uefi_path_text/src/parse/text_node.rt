@@ -7,7 +7,7 @@ ghost use Rattle.uefi_path.specs.Node.{encoding, IsEndEntire};
 use crate::parse::call::Call;
 use crate::parse::file_name::FileName;
 use uefi_base::buffer::put;
-use uefi_path::{DeviceSubType, DeviceType};
+use uefi_path::{DevicePathHeader, DeviceSubType, DeviceType};
 
 /// The length of the header of a node in bytes.
 const HEADER_LENGTH: usize = 4;
@@ -83,8 +83,8 @@ impl TextNode<'_> {
     {
         let size = self.size();
         let (device_type, sub_type) = self.full_type();
-        put(buffer, 0, &[device_type.0, sub_type.0]);
-        put(buffer, 2, &(size as u16).to_le_bytes());
+        let header = DevicePathHeader::new(device_type, sub_type, size as u16);
+        put(buffer, 0, &header.to_bytes());
         self.put_data(buffer, HEADER_LENGTH);
         size
     }

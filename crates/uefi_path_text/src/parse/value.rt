@@ -20,6 +20,8 @@ pub(crate) enum Value<'a> {
     Ipv4([u8; 4]),
     /// An IPv4 address in 16 bytes.
     Ipv4Server([u8; 4]),
+    /// An IPv6 address.
+    Ipv6([u8; 16]),
     /// A text.
     Text(&'a [u8]),
     /// A text in units of two bytes.
@@ -39,7 +41,7 @@ impl Value<'_> {
             Value::Digits(shape, _) => shape.offsets().len(),
             Value::Pairs(text) => text.len() / 2,
             Value::Ipv4(_) => 4,
-            Value::Ipv4Server(_) => 16,
+            Value::Ipv4Server(_) | Value::Ipv6(_) => 16,
             Value::Text(text) => text.len(),
             Value::Units(text) => 2 * text.len(),
         }
@@ -63,6 +65,7 @@ impl Value<'_> {
                 first.copy_from_slice(&address);
                 zeros.fill(0);
             }
+            Value::Ipv6(address) => bytes.copy_from_slice(&address),
             Value::Text(text) => bytes.copy_from_slice(text),
             Value::Units(text) => put_units(bytes, text),
         }

@@ -9,7 +9,7 @@ ghost use Rattle.std.specs.Iterator.{YieldsFirst, item_count};
 ghost use Rattle.uefi_base.specs.Views.{slice_units};
 ghost use Rattle.uefi_path.specs.Views.{node_of};
 ghost use Rattle.uefi_path_text.specs.text.Arguments.{without_nul};
-ghost use Rattle.uefi_path_text.specs.text.FileName.{is_nul_ended, is_name, is_name_character, is_control, is_node_character, reads_as_node, name_text, file_name_text};
+ghost use Rattle.uefi_path_text.specs.text.FileName.{is_nul_ended, is_name, is_name_character, is_control, is_node_character, reads_as_node, count_of, is_paired, name_text, file_name_text};
 ghost use Rattle.uefi_path_text.specs.private.FileName.{name_units, characters_left};
 ghost use Rattle.uefi_path_text.specs.private.Writing.{WritesForm};
 
@@ -32,7 +32,7 @@ pub(crate) fn write_file_name<W: fmt::Write>(
         return None;
     }
     let units = UnalignedSlice::new(data);
-    if is_nul_ended(units) {
+    if is_nul_ended(units) && is_paired(units) {
         write_units(f, units)
     } else {
         None
@@ -68,6 +68,20 @@ fn is_nul_ended(units: UnalignedSlice<'_>) -> bool
     ensures { result ≡ is_nul_ended (slice_units units.entry) }
 {
     units.len() > 1 && units.get(units.len() - 1) == Some(0)
+}
+
+/// Returns whether as many parentheses open as close.
+fn is_paired(units: UnalignedSlice<'_>) -> bool
+    ensures { result ≡ is_paired (slice_units units.entry) }
+{
+    count_of(units, u16::from(b'(')) == count_of(units, u16::from(b')'))
+}
+
+/// Returns how many of the units are this one.
+fn count_of(units: UnalignedSlice<'_>, wanted: u16) -> usize
+    ensures { result ≡ count_of wanted (slice_units units.entry) }
+{
+    units.iter().filter(|unit| *unit == wanted).count()
 }
 
 /// Returns whether a surrogate has no partner.
@@ -120,7 +134,7 @@ pub(crate) fn is_name_character(character: char) -> bool
 
 /// Returns whether the character is a control character of ASCII or Latin-1, a separator of lines
 /// or paragraphs, or a control of the writing direction.
-fn is_control(character: char) -> bool
+pub(crate) fn is_control(character: char) -> bool
     ensures { result ≡ is_control character }
 {
     matches!(

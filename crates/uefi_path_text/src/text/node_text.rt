@@ -3,12 +3,16 @@ ghost use Rattle.std.specs.Fmt.{DisplaysOnOk};
 ghost use Rattle.uefi_path.specs.Views.{node_of};
 ghost use Rattle.uefi_path_text.specs.text.NodeText.{node_text, typed_text, generic_text, is_plain_end};
 ghost use Rattle.uefi_path_text.specs.text.Style.{style};
+ghost use Rattle.uefi_path_text.specs.text.FileName.{file_name_text};
+ghost use Rattle.uefi_path_text.specs.write.Forms.{or_text};
+ghost use Rattle.uefi_path_text.specs.write.Partial.{partial_text};
 ghost use Rattle.uefi_path_text.specs.private.Writing.{WritesForm};
 ghost use Rattle.uefi_path_text.specs.text.Views.{node_view_text};
 
 use crate::text::arguments::HexBytes;
 use crate::text::file_name::write_file_name;
 use crate::text::style::{AllowShortcuts, DisplayOnly, Style};
+use crate::write::partial::write_partial;
 use crate::write::write_form;
 use std::fmt;
 use uefi_path::{DevicePathNode, DeviceSubType, DeviceType};
@@ -57,8 +61,8 @@ pub(crate) fn write_node<W: fmt::Write>(
     }
 }
 
-/// Writes a node in the first form that has all of it, or a file's path by its name, or returns
-/// `None` and writes nothing.
+/// Writes a node in the first form that has all of it, or a file's path by its name, or for display
+/// what a form has of it, or returns `None` and writes nothing.
 fn write_typed<W: fmt::Write>(
     f: &mut fmt::Formatter<W>,
     node: &DevicePathNode<'_>,
@@ -69,7 +73,23 @@ fn write_typed<W: fmt::Write>(
 {
     match write_form(f, node, style) {
         Some(written) => Some(written),
-        None => write_file_name(f, node),
+        None => write_name(f, node, style),
+    }
+}
+
+/// Writes a file's path by its name, or for display what a form has of the node, or returns `None`
+/// and writes nothing.
+fn write_name<W: fmt::Write>(
+    f: &mut fmt::Formatter<W>,
+    node: &DevicePathNode<'_>,
+    style: Style,
+) -> Option<fmt::Result>
+    ensures { WritesForm W.write_str_gives f.old result
+        (or_text (file_name_text (node_of node.now)) (partial_text style (node_of node.now))) f.new }
+{
+    match write_file_name(f, node) {
+        Some(written) => Some(written),
+        None => write_partial(f, node, style),
     }
 }
 
@@ -95,7 +115,8 @@ pub(crate) fn is_plain_end(node: &DevicePathNode<'_>, sub_type: DeviceSubType) -
 }
 
 /// Returns the text of a node: in the form of its type, such as `Pci(0x2,0x0)`, if the form has all
-/// of the node; and else in the generic form, `Path(TYPE,SUBTYPE,DATA)` (UEFI 2.10, 10.6.1).
+/// of the node, or for display a part of it; and else in the generic form,
+/// `Path(TYPE,SUBTYPE,DATA)` (UEFI 2.10, 10.6.1).
 pub fn node_to_text<'a>(
     node: DevicePathNode<'a>,
     display_only: DisplayOnly,

@@ -1,4 +1,4 @@
-ghost use Rattle.std.specs.Prelude.{◌≡◌, ◌≤◌, ◌<◌, ◌^◌, ◌==◌, length, take, drop, position};
+ghost use Rattle.std.specs.Prelude.{◌≡◌, ◌≤◌, ◌<◌, ◌^◌, ◌==◌, length, take, drop, position, slice_index};
 ghost use Rattle.std.specs.List.{position_or_len};
 ghost use Rattle.uefi_path_text.specs.write.Values.{low_number};
 ghost use Rattle.uefi_path_text.specs.private.Found.{IsAfter};
@@ -59,4 +59,11 @@ fn first_nul(bytes: &[u8]) -> Option<usize>
     ensures { result ≡ position (λ b. b == 0) bytes.now }
 {
     bytes.iter().position(|b| *b == 0)
+}
+
+/// Returns the byte at an index, or 0 if there is none.
+pub(crate) fn byte_at(bytes: &[u8], index: usize) -> u8
+    ensures { result ≡ slice_index bytes.now index }
+{
+    if index < bytes.len() { bytes[index] } else { 0 }
 }

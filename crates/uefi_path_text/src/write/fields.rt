@@ -45,7 +45,7 @@ impl<'a> Found<'a> {
     }
 
     /// Returns whether the value is left out, if it is the last.
-    fn is_left_out(&self, argument: Argument) -> bool
+    pub(crate) fn is_left_out(&self, argument: Argument) -> bool
         ensures { result ≡ is_left_out argument (found_bytes self.now) }
     {
         match self {
@@ -132,7 +132,7 @@ fn addend(argument: Option<Argument>, sum: u16) -> u16
 }
 
 /// Returns how many bytes a part has.
-fn part_size(parameters: &[Parameter], part: &Part, rest: &[u8]) -> usize
+pub(crate) fn part_size(parameters: &[Parameter], part: &Part, rest: &[u8]) -> usize
     ensures { result ≡ part_size (map parameter_of parameters.now) (part_of part.now) rest.now }
 {
     match part {
@@ -212,7 +212,7 @@ fn value_found<'a>(
 
 impl<'a> Fields<'a> {
     /// Returns the value of the argument at an index.
-    fn found(&self, index: usize) -> Found<'a>
+    pub(crate) fn found(&self, index: usize) -> Found<'a>
         ensures { found_bytes result ≡ found_at self.now index }
     {
         value_found(self.parameters, self.parts, index, self.payload)
@@ -286,6 +286,7 @@ impl<'a> Fields<'a> {
         ensures { result ≡ has_data (listed
             (map parameter_of self.now.parameters.now) (map part_of self.now.parts.now)) self.now.payload.now }
     {
+        // Its length says that an index of an argument has no overflow.
         let _few = self.parameters.len();
         self.are_parts(self.parts, self.payload) && self.are_shown(self.parameters, 0)
     }
@@ -296,6 +297,7 @@ impl<'a> Fields<'a> {
         ensures { DisplaysOnOk W.write_str_gives f.old result
             (Some (marked [] (shown_texts (map parameter_of self.now.parameters.now) (values_of self.now)))) f.new }
     {
+        // Its length says that an index of an argument has no overflow.
         let _few = self.parameters.len();
         self.write_from(f, self.parameters, 0, "")
     }

@@ -167,7 +167,7 @@ impl Arguments {
 
 impl Source {
     /// Returns whether it is a number.
-    fn is_number(self, number: u8) -> bool
+    pub(crate) fn is_number(self, number: u8) -> bool
         ensures { result ≡ is_source (source_of self) number }
     {
         match self {

@@ -11,7 +11,7 @@ pub(crate) fn repeated_count(argument: Argument, rest: &[u8]) -> usize
     ensures { result ≡ repeated_count argument rest.now }
 {
     let size = argument.value_size(rest);
-    if size == 0 { 0 } else { rest.len() / size }
+    rest.len().checked_div(size).unwrap_or(0)
 }
 
 /// Returns whether bytes are so many values that have texts.

@@ -1,4 +1,4 @@
-ghost use Rattle.std.specs.Prelude.{◌≡◌, ◌≤◌, ◌%◌, ◌==◌, ◌||◌, length, map, replicate, slice_index, Some, None, IsTrue, MatchOption};
+ghost use Rattle.std.specs.Prelude.{◌≡◌, ◌≤◌, ◌%◌, ◌==◌, ◌||◌, length, map, replicate, Some, None, IsTrue, MatchOption};
 ghost use Rattle.std.specs.Fmt.{DisplaysOnOk};
 ghost use Rattle.std.specs.Str.{bytes_eq};
 ghost use Rattle.uefi_path_text.specs.text.SerialNumber.{is_serial_character};
@@ -14,10 +14,10 @@ ghost use Rattle.uefi_path_text.specs.private.WordViews.{word_view};
 ghost use Rattle.uefi_path_text.specs.form.Words.{words};
 
 use crate::form::argument::{Argument, Base};
-use crate::form::shape::Piece;
+use crate::form::shape::{Piece, ipv6_pieces};
 use crate::form::words::Words;
 use crate::text::arguments::{HexByte, HexBytes, is_argument, is_serial_character, write_argument};
-use crate::write::bytes::{number, text_size};
+use crate::write::bytes::{byte_at, number, text_size};
 use std::fmt;
 
 impl Argument {
@@ -31,7 +31,7 @@ impl Argument {
             Argument::Digits(shape) => shape.size(),
             Argument::Bytes(_) | Argument::Quoted => rest.len(),
             Argument::Ipv4 | Argument::EisaId | Argument::PnpId => 4,
-            Argument::Ipv4Server => 16,
+            Argument::Ipv4Server | Argument::Ipv6 => 16,
             Argument::EisaLetters | Argument::DriveBay => 2,
             Argument::HardwareAddress => { if byte_at(rest, 32) <= 1 { 6 } else { 32 } }
             Argument::Text(_) | Argument::Name(_) => text_size(rest),
@@ -52,6 +52,7 @@ impl Argument {
             Argument::Digits(shape) => value.len() == shape.size(),
             Argument::Bytes(most) => value.len() <= most,
             Argument::Ipv4 => value.len() == 4,
+            Argument::Ipv6 => value.len() == 16,
             Argument::EisaId => value.len() == 4 && number(value) % 0x10000 < 0x8000,
             Argument::EisaLetters => value.len() == 2 && number(value) < 0x8000,
             Argument::DriveBay => value.len() == 2 && is_bay(number(value)),
@@ -90,6 +91,7 @@ impl Argument {
             Argument::Digits(shape) => write_pieces(f, shape.pieces(), value),
             Argument::Bytes(_) | Argument::HardwareAddress => { write!(f, "{}", HexBytes(value)) }
             Argument::Ipv4 | Argument::Ipv4Server => write_ipv4(f, value),
+            Argument::Ipv6 => write_pieces(f, ipv6_pieces(), value),
             Argument::EisaId | Argument::PnpId => write_eisa(f, number(value) as u32),
             Argument::EisaLetters => write_number(f, Base::Hex, value),
             Argument::DriveBay => write_bay(f, number(value) as u16),
@@ -203,7 +205,11 @@ fn write_reversed<W: fmt::Write>(f: &mut fmt::Formatter<W>, value: &[u8]) -> fmt
 }
 
 /// Writes the word of a number, or the number.
-fn write_word<W: fmt::Write>(f: &mut fmt::Formatter<W>, words: Words, value: &[u8]) -> fmt::Result
+pub(crate) fn write_word<W: fmt::Write>(
+    f: &mut fmt::Formatter<W>,
+    words: Words,
+    value: &[u8],
+) -> fmt::Result
     requires { length value.now ≤ 8 }
     ensures { DisplaysOnOk W.write_str_gives f.old result (Some (word_text words value.now)) f.new }
 {
@@ -241,16 +247,9 @@ fn write_piece<W: fmt::Write>(f: &mut fmt::Formatter<W>, piece: &Piece, value: &
     }
 }
 
-/// Returns the byte at an index, or 0 if there is none.
-fn byte_at(bytes: &[u8], index: usize) -> u8
-    ensures { result ≡ slice_index bytes.now index }
-{
-    if index < bytes.len() { bytes[index] } else { 0 }
-}
-
 /// Writes an IPv4 address.
 #[tactic(auto, unfolding(crate::specs::text::Arguments::ipv4_address))]
-fn write_ipv4<W: fmt::Write>(f: &mut fmt::Formatter<W>, value: &[u8]) -> fmt::Result
+pub(crate) fn write_ipv4<W: fmt::Write>(f: &mut fmt::Formatter<W>, value: &[u8]) -> fmt::Result
     requires { 4 ≤ length value.now }
     ensures { DisplaysOnOk W.write_str_gives f.old result (Some (ipv4_address value.now)) f.new }
 {

@@ -1,21 +1,33 @@
 use Rattle.std.proofs.Common.{arith}
 use Rattle.uefi_path.proofs.Descriptions.{EndsPart, passed_end, passed_more, passed_nowhere, unit_missing}
 use Rattle.uefi_path.proofs.load_option.split_description.Goals as goal
-use Rattle.uefi_path.proofs.load_option.split_description.Goals.{After-description-1}
+use Rattle.uefi_path.proofs.load_option.split_description.Goals.{In_ok-description}
 
 -- What is split off is a description, with its NUL.
-ends : (c : After-description-1) → EndsPart c.args.bytes.now c.split_at.result.0.now c.in-Some.after.now
+ends : (c : In_ok-description) → EndsPart c.args.bytes.now c.in_ok-description.description.now c.in-Some.after.now
 ends c =
     passed_end c.args.bytes.now _ _ _ c.in-Some.unit (λ i. omega (arith, c.type_inv.bytes i)) c.loop-unit.invariant
-    c.in-Some.ensures c.if-unit-eq0.true c.split_at.ensures.front
+    c.in-Some.ensures c.if-unit-eq0.true c.in_ok-description.ensures.cases.1
 
-pub new-requires : goal.new-requires
-new-requires c = (ends c).even
+pub returns-in_err-try_new-clause-none : goal.returns-in_err-try_new-clause-none
+returns-in_err-try_new-clause-none c =
+    let part = ends (goal.at.returns-in_err-try_new-clause-none c).In_ok-description in
+    absurd (let odd = c.in_err-try_new.ensures.even.1 part.even in cc)
 
-pub returns-then-unit-eq0 : goal.returns-then-unit-eq0
-returns-then-unit-eq0 c =
-    let part = ends (goal.at.returns-then-unit-eq0 c).After-description-1 in
-    rw c.new.ensures (record { nul = part.nul; units = part.nonzero; split = part.split; none = tt })
+pub returns-then-unit-eq0-clause-nul : goal.returns-then-unit-eq0-clause-nul
+returns-then-unit-eq0-clause-nul c =
+    let part = ends (goal.at.returns-then-unit-eq0-clause-nul c).In_ok-description in
+    rw c.in_ok-try_new.ensures.units part.nul
+
+pub returns-then-unit-eq0-clause-units : goal.returns-then-unit-eq0-clause-units
+returns-then-unit-eq0-clause-units c =
+    let part = ends (goal.at.returns-then-unit-eq0-clause-units c).In_ok-description in
+    rw c.in_ok-try_new.ensures.units part.nonzero
+
+pub returns-then-unit-eq0-clause-split : goal.returns-then-unit-eq0-clause-split
+returns-then-unit-eq0-clause-split c =
+    let part = ends (goal.at.returns-then-unit-eq0-clause-split c).In_ok-description in
+    rw c.in_ok-try_new.ensures.units part.split
 
 pub loop-unit-preserved : goal.loop-unit-preserved
 loop-unit-preserved c =

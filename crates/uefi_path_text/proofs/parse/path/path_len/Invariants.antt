@@ -7,7 +7,7 @@ use Rattle.uefi_path_text.proofs.parse.path.path_len.Given as goal
 -- The nodes that were taken have this length, and none of them ends a path.
 abbrev pub invariant-loop-node : goal.invariant-loop-node
 invariant-loop-node l =
-    ((done : List Node) × HasTaken l.text l.nodes.is_first l.nodes.rest.now done × AreBefore IsEndEntire done
+    ((done : List Node) × HasTaken l.text l.nodes.place l.nodes.rest.now done × AreBefore IsEndEntire done
     × (l.size ≡ min (length (joined done)) 0xffffffffffffffff))
     × (l.nodes.offset + length l.nodes.rest.now ≡ length l.text)
 

@@ -8,7 +8,7 @@ use Rattle.uefi_path_text.proofs.parse.path.put_path.Goals as goal
 pub loop-node-init : goal.loop-node-init
 loop-node-init c =
     let made = c.new-nodes.ensures in (
-      ([], first_taken c.args.text.now c.new-nodes.result.rest.now c.new-nodes.result.is_first made.rest made.first, none_before, refl, refl),
+      ([], first_taken c.args.text.now c.new-nodes.result.rest.now c.new-nodes.result.place made.rest made.place, none_before, refl, refl),
       omega (arith, made.offset, ap length made.rest),
     )
 
@@ -17,7 +17,7 @@ put-end-requires-clause-room c =
     let state = c.loop-node.invariant in
     let takes = rw (c.unwrap.ensures, c.in-Some.is) at c.next.ensures.node in
     let node = text_node c.in-Some.node in
-    let taken = next_taken c.args.text.now c.loop-node.nodes.rest.now c.next.new.self.rest.now c.loop-node.nodes.is_first
+    let taken = next_taken c.args.text.now c.loop-node.nodes.rest.now c.next.new.self.rest.now c.loop-node.nodes.place
     state.0.0 node state.0.1 takes in
     let within = taken_within c.args.text.now c.next.new.self.rest.now _ (state.0.0 ++ node ∷ []) c.requires.0 taken c.requires.1 in
     omega (arith, within, length_push state.0.0 node, c.requires.2, c.loop-node.auto.buffer, state.0.3)
@@ -27,9 +27,9 @@ returns-then-is_end_entire c nodes is =
     let state = c.loop-node.invariant in
     let takes = rw (c.unwrap.ensures, c.in-Some.is) at c.next.ensures.node in
     let entire = c.is_end_entire.ensures.end.0 c.if-is_end_entire.true in
-    let within = taken_within c.args.text.now c.loop-node.nodes.rest.now c.loop-node.nodes.is_first state.0.0 c.requires.0
+    let within = taken_within c.args.text.now c.loop-node.nodes.rest.now c.loop-node.nodes.place state.0.0 c.requires.0
     state.0.1 c.requires.1 in
-    let same = path_ended c.args.text.now c.loop-node.nodes.rest.now c.next.new.self.rest.now c.loop-node.nodes.is_first
+    let same = path_ended c.args.text.now c.loop-node.nodes.rest.now c.next.new.self.rest.now c.loop-node.nodes.place
     state.0.0 (text_node c.in-Some.node) state.0.1 takes entire state.0.2 nodes is in
     path_put state.0.0 nodes (text_node c.in-Some.node) c.loop-node.end c.args.buffer.now c.loop-node.buffer
     c.put-end.new.buffer same state.0.3 state.0.4 (omega (arith, within, c.requires.2, state.0.3)) c.put-end.ensures.written
@@ -39,33 +39,33 @@ loop-node-preserved c =
     let state = c.loop-node.invariant in
     let node = text_node c.in-Some.node in
     let takes = rw (c.unwrap.ensures, c.in-Some.is) at c.next.ensures.node in
-    let first = rw (c.unwrap.ensures, c.in-Some.is) at c.next.ensures.first in
+    let place = rw (c.unwrap.ensures, c.in-Some.is) at c.next.ensures.place in
     let other = other_node c.is_end_entire.result c.is_end_entire.ensures.end.1 c.if-is_end_entire.false in
-    let within = taken_within c.args.text.now c.loop-node.nodes.rest.now c.loop-node.nodes.is_first state.0.0 c.requires.0
+    let within = taken_within c.args.text.now c.loop-node.nodes.rest.now c.loop-node.nodes.place state.0.0 c.requires.0
     state.0.1 c.requires.1 in (
       (
         state.0.0 ++ node ∷ [],
-        then_taken c.args.text.now c.loop-node.nodes.rest.now c.next.new.self.rest.now c.loop-node.nodes.is_first
-            c.next.new.self.is_first state.0.0 node state.0.1 takes first,
+        then_taken c.args.text.now c.loop-node.nodes.rest.now c.next.new.self.rest.now c.loop-node.nodes.place
+            c.next.new.self.place state.0.0 node state.0.1 takes place,
         before_push state.0.0 node state.0.2 (node_fits _ takes.short c.is_end_entire.ensures.numbers) other,
         omega (arith, c.put-end.ensures.end, state.0.3, length_push state.0.0 node),
         node_put state.0.0 node c.loop-node.end c.args.buffer.now c.loop-node.buffer c.put-end.new.buffer state.0.3 state.0.4
             (omega (arith, within, c.requires.2, state.0.3)) c.put-end.ensures.written,
       ),
-      c.next.ensures.place ∙ state.1,
+      c.next.ensures.offset ∙ state.1,
     )
 
 pub unwrap-requires : goal.unwrap-requires
 unwrap-requires c =
     let state = c.loop-node.invariant in
     not_err c.next.result c.next.ensures.wrong
-    (not_wrong c.args.text.now c.loop-node.nodes.rest.now c.loop-node.nodes.is_first state.0.0 c.requires.0 state.0.1 c.requires.1)
+    (not_wrong c.args.text.now c.loop-node.nodes.rest.now c.loop-node.nodes.place state.0.0 c.requires.0 state.0.1 c.requires.1)
 
 pub put-requires : goal.put-requires
 put-requires c =
     let state = c.loop-node.invariant in
     let none = rw (c.unwrap.ensures, c.in_default.is) at c.next.ensures.end in
-    let within = end_within c.args.text.now c.loop-node.nodes.rest.now c.loop-node.nodes.is_first state.0.0 c.requires.0 state.0.1 none state.0.2
+    let within = end_within c.args.text.now c.loop-node.nodes.rest.now c.loop-node.nodes.place state.0.0 c.requires.0 state.0.1 none state.0.2
     c.requires.1 in
     omega (arith, within, c.requires.2, c.loop-node.auto.buffer, state.0.3)
 
@@ -73,9 +73,9 @@ pub returns : goal.returns
 returns c nodes is =
     let state = c.loop-node.invariant in
     let none = rw (c.unwrap.ensures, c.in_default.is) at c.next.ensures.end in
-    let within = taken_within c.args.text.now c.loop-node.nodes.rest.now c.loop-node.nodes.is_first state.0.0 c.requires.0
+    let within = taken_within c.args.text.now c.loop-node.nodes.rest.now c.loop-node.nodes.place state.0.0 c.requires.0
     state.0.1 c.requires.1 in
-    let ended = text_ends c.args.text.now c.loop-node.nodes.rest.now c.loop-node.nodes.is_first state.0.0 state.0.1 none state.0.2 in
+    let ended = text_ends c.args.text.now c.loop-node.nodes.rest.now c.loop-node.nodes.place state.0.0 state.0.1 none state.0.2 in
     path_put state.0.0 nodes end_entire c.loop-node.end c.args.buffer.now c.loop-node.buffer c.put.new.buffer
     (one_path_of_text nodes (state.0.0 ++ end_entire ∷ []) c.args.text.now is ended) state.0.3 state.0.4
     (omega (arith, within, c.requires.2, state.0.3)) c.put.ensures

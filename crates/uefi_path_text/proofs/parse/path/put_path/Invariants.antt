@@ -8,7 +8,7 @@ use Rattle.uefi_path_text.proofs.parse.path.put_path.Given as goal
 -- The nodes that were taken are written, and none of them ends a path.
 abbrev pub invariant-loop-node : goal.invariant-loop-node
 invariant-loop-node l =
-    ((done : List Node) × HasTaken l.text l.nodes.is_first l.nodes.rest.now done × AreBefore IsEndEntire done
+    ((done : List Node) × HasTaken l.text l.nodes.place l.nodes.rest.now done × AreBefore IsEndEntire done
     × (l.end ≡ length (joined done)) × (l.buffer ≡ put_prefix (joined done) l.initial.buffer))
     × (l.nodes.offset + length l.nodes.rest.now ≡ length l.text)
 

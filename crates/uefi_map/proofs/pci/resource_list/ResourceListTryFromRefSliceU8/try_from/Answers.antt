@@ -1,7 +1,7 @@
-use Rattle.std.proofs.Common.{rules, [], ◌∷◌, ◌++◌, sym, subst, Err}
+use Rattle.std.proofs.Common.{rules, [], ◌∷◌, ◌++◌, sym, ◌∙◌, ap, subst, Err}
 use Rattle.std.proofs.lemmas.Result.{err_from_is_err_and}
 use Rattle.uefi_map.specs.pci.ResourceList.{BeginWith, end_tag, HaveOneList, ReadsList}
-use Rattle.uefi_map.specs.pci.Views.{resources_of}
+use Rattle.uefi_map.specs.pci.Views.{resources_in, resources_of}
 use Rattle.uefi_map.proofs.pci.OneList.{have_one_fault, have_one_list}
 use Rattle.uefi_map.proofs.pci.Records.{more_records, are_read}
 use Rattle.uefi_map.proofs.pci.resource_list.ResourceListTryFromRefSliceU8.try_from.Goals as goal
@@ -29,7 +29,8 @@ pub returns : goal.returns
 returns c =
     let passed = c.loop-after.invariant in
     let end : BeginWith c.loop-after.rest.now end_tag = search rules in
-    let read = are_read c.args.bytes.now c.loop-after.rest.now passed.0 passed.1 in
+    let cut = rw c.in_ok-records.ensures.ok_part at c.split_at_checked.ensures.cases in
+    let read = ap resources_in cut.1 ∙ are_read c.args.bytes.now c.loop-after.rest.now passed.0 passed.1 in
     let list = subst (HaveOneList c.args.bytes.now) (sym read)
     (have_one_list c.args.bytes.now passed.0 (c.loop-after.rest.now, passed.1, end)) in
     record { list = list; fault = tt }

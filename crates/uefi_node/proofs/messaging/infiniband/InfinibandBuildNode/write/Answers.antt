@@ -1,4 +1,4 @@
-use Rattle.std.proofs.Common.{◌++◌, [], ◌∙◌, sym, ap, arith, refl}
+use Rattle.std.proofs.Common.{◌++◌, [], ◌∙◌, ap, arith, refl}
 use Rattle.uefi_base.specs.LittleEndian.{u32_bytes}
 use Rattle.uefi_node.proofs.messaging.infiniband.InfinibandBuildNode.write.Goals as goal
 
@@ -8,5 +8,4 @@ write_node-requires c = λ κs.
     let flags = c.to_le_bytes.ensures ∙ ap u32_bytes c.bits.ensures in
     let fields = c.joined-fields.ensures ∙ (λ i. flags i ++ (value.port_gid
     ++ (c.to_le_bytes-2.ensures i ++ (c.to_le_bytes-3.ensures i ++ (c.to_le_bytes-4.ensures i ++ []))))) in
-    let types = c.full_type.ensures in
-    ((refl, tt), (refl, (sym types.device_type, (sym types.sub_type, (fields, (grind arith, refl))))))
+    ((refl, tt), (refl, (refl, (fields, (grind arith, refl)))))

@@ -1,5 +1,0 @@
-use Rattle.std.proofs.Common.{length}
-use Rattle.uefi_node.proofs.parse.data.Listed.+put.Given as goal
-
-abbrev pub decreases-put : goal.decreases-put
-decreases-put l = length l.parts.now

@@ -1,8 +1,0 @@
-use Rattle.uefi_node.specs.private.FromText.{value_bytes}
-use Rattle.uefi_node.proofs.reading.ArgumentLists.{padded_put}
-use Rattle.uefi_node.proofs.parse.data.put_padded.Goals as goal
-
-pub returns : goal.returns
-returns c =
-    padded_put c.args.offset c.len-size.result c.min.result (value_bytes c.args.value.now) c.args.buffer.now
-    c.put_value.new.buffer c.put.new.buffer c.len-size.ensures c.min.ensures c.requires.room c.put_value.ensures c.put.ensures

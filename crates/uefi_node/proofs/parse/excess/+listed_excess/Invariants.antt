@@ -1,5 +1,0 @@
-use Rattle.std.proofs.Common.{length}
-use Rattle.uefi_node.proofs.parse.excess.+listed_excess.Given as goal
-
-abbrev pub decreases-listed_excess : goal.decreases-listed_excess
-decreases-listed_excess l = length l.parameters.now

@@ -1,6 +1,0 @@
-use Rattle.std.proofs.Common.{◌≤◌}
-use Rattle.uefi_node.proofs.parse.file_name.first_excess.Given as goal
-
--- The size so far isn't too long.
-abbrev pub invariant-loop-offset : goal.invariant-loop-offset
-invariant-loop-offset l = l.size ≤ 0xfffb

@@ -1,9 +1,0 @@
-pub mod Generic
-pub mod Hardware
-pub mod Acpi
-pub mod Storage
-pub mod Usb
-pub mod Network
-pub mod Vendor
-pub mod Media
-pub mod BiosBootSpec

@@ -1,7 +1,0 @@
--- What contracts see of a file's name.
-use Rattle.uefi_path.specs.Node.{Node}
-use Rattle.uefi_node.specs.parse.Nodes.{name_node}
-use Rattle.uefi_node.specs.declared.parse.file_name.FileName.{FileName}
-
-abbrev pub file_name_node : FileName → Node
-file_name_node file = name_node file.name.now

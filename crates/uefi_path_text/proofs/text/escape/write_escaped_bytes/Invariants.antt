@@ -1,0 +1,9 @@
+use Rattle.std.proofs.Common.{take, flat_map}
+use Rattle.std.specs.Fmt.{HasWritten, IsPlainFormatter}
+use Rattle.uefi_path_text.specs.write.Partial.{escaped_byte}
+use Rattle.uefi_path_text.proofs.text.escape.write_escaped_bytes.Given as goal
+
+abbrev pub invariant-loop-byte : goal.invariant-loop-byte
+invariant-loop-byte g l =
+    IsPlainFormatter l.initial.f → HasWritten g.W.Write.write_str_gives l.initial.f
+    (flat_map escaped_byte (take l.byte-index l.bytes)) l.f

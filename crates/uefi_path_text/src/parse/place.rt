@@ -1,0 +1,10 @@
+/// Where the text of a node is.
+#[derive(Clone, Copy)]
+pub(crate) enum Place {
+    /// At the start of a text.
+    Start,
+    /// After the comma that ends an instance.
+    AfterComma,
+    /// After another node.
+    AfterNode,
+}
