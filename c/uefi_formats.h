@@ -2,25 +2,18 @@
  * configuration texts of UEFI firmware, and quotes of a TPM: readers and writers
  * for C.
  *
- *     // The events of a version 2 log, as EFI_TCG2_PROTOCOL.GetEventLog
- *     // returns it: `start` is EventLogLocation, `last` EventLogLastEntry, and
- *     // `size` how many bytes can be read from `start`.
- *     UefiBytes log = uefi_bytes((const void *)(uintptr_t)start, size);
- *     size_t last_entry = uefi_last_entry(start, last), at = 0;
- *     UefiLogHeader header;
- *     UefiEvent2 event;
- *     UefiDigest digest;
- *     UefiStatus status = uefi_log_read(log, last_entry, &at);
+ *     // The events of a log, as EFI_TCG2_PROTOCOL.GetEventLog returns it:
+ *     // `start` is EventLogLocation, `last` EventLogLastEntry, and `size` how
+ *     // many bytes can be read from `start`.
+ *     UefiBytes bytes = uefi_bytes((const void *)(uintptr_t)start, size), digest;
+ *     UefiLog log;
+ *     UefiEvent event;
+ *     UefiStatus status = uefi_log(bytes, uefi_last_entry(start, last), &log);
  *     if (status != UEFI_OK)
- *         return damaged(status, at);
- *     if (uefi_log2_header(log, last_entry, &header) != UEFI_OK)
- *         return of_version_1(log, last_entry);
- *     at = header.event_end;
- *     while (uefi_log2_next(log, last_entry, header.rows, &at, &event) == UEFI_OK) {
- *         size_t next = 0;
- *         while (uefi_digest_next(event.digests, header.rows, &next, &digest) == UEFI_OK)
- *             measure(event.pcr_index, digest.algorithm, digest.bytes);
- *     }
+ *         return damaged(status);
+ *     while (uefi_log_next(&log, &event) == UEFI_OK)
+ *         if (uefi_event_digest(&event, UEFI_TPM_ALG_SHA256, &digest) == UEFI_OK)
+ *             measure(event.pcr_index, digest);
  *
  * Each reader's result is stated for all bytes. None reads a byte outside
  * those it is handed, writes anything but what its pointers point to, allocates,
@@ -45,8 +38,8 @@
  * said, and call while the function returns UEFI_OK. It ends with UEFI_END where no
  * item follows, or with what is wrong with the one at the offset. An offset may be
  * any number, also past the end; the rows of a table any bytes: a caller's state
- * needs no trust. uefi_quote_next_selection takes `cursor`, an index, in the same
- * way.
+ * needs no trust. uefi_quote_next_selection takes `cursor`, an index, and
+ * uefi_log_next a UefiLog, in the same way.
  *
  * Writers. A function that writes takes first what it writes to. Where it has a
  * parameter `size`, it writes to the beginning of the buffer. Then `*size` is the
@@ -58,9 +51,9 @@
  * their types, aligned, and overlap neither one another nor the bytes.
  *
  * Stack. docs/FIRMWARE.md says how much of it a call takes, by archive. What
- * uefi_replay, uefi_replay_pcr and uefi_quote_digest need beside it is in a
- * UefiWorkspace of 12,288 bytes, which the caller passes. The 24 UefiPcr of
- * uefi_replay are 2,304 bytes more (1,920 on i686).
+ * uefi_log_replay, uefi_replay, uefi_replay_pcr and uefi_quote_digest need beside it
+ * is in a UefiWorkspace of 12,288 bytes, which the caller passes. The 24 UefiPcr of
+ * a replay are 2,304 bytes more (1,920 on i686).
  *
  * Which archive to link. `tools/build_c PREFIX` installs the first two of these,
  * `tools/build_c PREFIX --target TARGET` the third alone. The description in
@@ -77,9 +70,10 @@
  *   rustc for a target. Those of x86_64-unknown-none and
  *   aarch64-unknown-none-softfloat are for kernels: they change no vector register,
  *   and that of x86_64-unknown-none uses no memory below the stack pointer. With
- *   --kernel, it is for Linux (docs/KERNEL.md). Of other targets neither is checked:
- *   on aarch64 and i686, expect a call to change each vector register that the
- *   calling convention lets a function change.
+ *   --kernel, it is for Linux (docs/KERNEL.md). Of other targets, which are for
+ *   programs, neither is checked: that of x86_64-unknown-linux-gnu uses the red zone,
+ *   and expect a call to change each vector register that the calling convention
+ *   lets a function change.
  *
  * Calling convention. UEFI_CALL names it to the compiler: see bytes.h.
  */
@@ -90,7 +84,9 @@
 #include "uefi_formats/config.h"
 #include "uefi_formats/event_data.h"
 #include "uefi_formats/log.h"
+#include "uefi_formats/log_at.h"
 #include "uefi_formats/map.h"
+#include "uefi_formats/node.h"
 #include "uefi_formats/path.h"
 #include "uefi_formats/pci.h"
 #include "uefi_formats/pcr.h"

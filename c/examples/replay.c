@@ -29,17 +29,23 @@ static int fail(UefiStatus status) {
     return 1;
 }
 
-static int replay(UefiBytes log, size_t last_entry, uint16_t algorithm) {
+/* Where the last whole event of a log ends that isn't whole. */
+static size_t end_of_events(UefiBytes bytes, size_t last_entry) {
+    size_t offset = 0;
+    /* A log that was cut at its last entry has whole events up to there. */
+    return uefi_log_read(bytes, last_entry, &offset) == UEFI_OK ? bytes.n : offset;
+}
+
+static int replay(UefiBytes bytes, size_t last_entry, uint16_t algorithm) {
     static UefiWorkspace workspace;
     UefiPcr pcrs[24];
-    size_t offset = 0;
-    /* uefi_replay takes the events before a fault, and doesn't say that others are missing. */
-    UefiStatus status = uefi_log_read(log, last_entry, &offset);
+    UefiLog log;
+    UefiStatus status = uefi_log(bytes, last_entry, &log);
     if (status != UEFI_OK) {
-        fprintf(stderr, "replay: this is no whole log, at %zu: ", offset);
+        fprintf(stderr, "replay: this is no whole log, at %zu: ", end_of_events(bytes, last_entry));
         return fail(status);
     }
-    status = uefi_replay(log, last_entry, algorithm, UEFI_LOCALITY_OF_LOG, &workspace, pcrs);
+    status = uefi_log_replay(&log, algorithm, UEFI_LOCALITY_OF_LOG, &workspace, pcrs);
     if (status != UEFI_OK) {
         fprintf(stderr, "replay: algorithm %u: ", algorithm);
         return fail(status);
@@ -59,6 +65,6 @@ int main(int argc, char **argv) {
     fclose(file);
     if (!whole)
         return 2;
-    size_t last_entry = argc == 4 ? (size_t)strtoull(argv[3], NULL, 10) : size;
+    size_t last_entry = argc == 4 ? (size_t)strtoull(argv[3], NULL, 10) : UEFI_UNKNOWN_LAST_ENTRY;
     return replay(uefi_bytes(bytes, size), last_entry, (uint16_t)strtoull(argv[2], NULL, 10));
 }

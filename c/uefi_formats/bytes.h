@@ -80,6 +80,13 @@ UEFI_CALL uint32_t uefi_formats_version(void);
 #define UEFI_AT_LEAST(n) static n
 #endif
 
+/* A value as another type: a compiler of C++ may warn of casts that C has too. */
+#ifdef __cplusplus
+#define UEFI_CAST(type, value) static_cast<type>(value)
+#else
+#define UEFI_CAST(type, value) ((type)(value))
+#endif
+
 typedef struct {
     const uint8_t *at;
     size_t n;
@@ -93,17 +100,17 @@ typedef struct {
 /* The `n` bytes at `at`; none if `at` is NULL. */
 static inline UefiBytes uefi_bytes(const void *at, size_t n) {
     static const uint8_t none[1] = {0};
-    UefiBytes bytes = {at && n ? (const uint8_t *)at : none, at ? n : 0};
+    UefiBytes bytes = {at && n ? UEFI_CAST(const uint8_t *, at) : none, at ? n : 0};
     return bytes;
 }
 
 static inline UefiBuffer uefi_buffer(void *at, size_t n) {
     static uint8_t none[1];
-    UefiBuffer buffer = {at && n ? (uint8_t *)at : none, at ? n : 0};
+    UefiBuffer buffer = {at && n ? UEFI_CAST(uint8_t *, at) : none, at ? n : 0};
     return buffer;
 }
 
 /* Two arguments of printf: printf("%.*s", UEFI_TEXT(name)). */
-#define UEFI_TEXT(bytes) (int)(bytes).n, (const char *)(bytes).at
+#define UEFI_TEXT(bytes) UEFI_CAST(int, (bytes).n), UEFI_CAST(const char *, UEFI_CAST(const void *, (bytes).at))
 
 #endif

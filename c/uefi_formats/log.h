@@ -72,78 +72,98 @@ uefi_algorithm_name(uint16_t algorithm, UefiBytes *name);
 /* `last_entry` is the offset at which the last event starts, firmware's
  * EventLogLastEntry less EventLogLocation. An event that starts there may end
  * at any later offset of the log's bytes; an event that starts before it also
- * ends there or before; none starts after it. If it isn't known, pass the
- * log's length: then each whole event is returned.
+ * ends there or before; none starts after it. If it isn't known, pass
+ * UEFI_UNKNOWN_LAST_ENTRY.
  *
  * A log without events, for which firmware's EventLogLastEntry is 0, has the
  * last entry UEFI_EMPTY_LOG. uefi_last_entry() makes either from what
  * GetEventLog returned.
  *
- * Whether the log is whole. Call uefi_log_read first: it judges the whole log. A
- * walk calls the function for the next event, from the first event on, until it
- * returns another status than UEFI_OK. That status says why the walk ended, and
- * UEFI_END alone doesn't say that the last event was read: a log that is cut
- * between two events ends so too.
- *
- * Padding. The area that has the log may be longer than the log. The bytes after
- * the last event, which firmware never wrote, are then all 0, or all 0xff. A walk
- * with the log's own last entry ends before them. A walk with the log's length
- * as the last entry doesn't: it reads zeros as events whose fields are all 0. So
- * end it where all bytes from the offset on are 0, or all are 0xff: look before
- * each call. uefi_log_read and the functions in pcr.h do so themselves. */
+ * The area that has the log may be longer than the log. The bytes after the last
+ * event, which firmware never wrote, are then all 0, or all 0xff: padding. */
 
-/* The last entry of a log without events. */
-#define UEFI_EMPTY_LOG ((size_t)1)
+/* Last entries at which no event starts: that of a log without events, and one
+ * that isn't known. */
+#define UEFI_EMPTY_LOG UEFI_CAST(size_t, 1)
+#define UEFI_UNKNOWN_LAST_ENTRY UEFI_CAST(size_t, -1)
 
 /* The last entry of the log at `location`, firmware's EventLogLocation, whose
  * EventLogLastEntry is `last`. */
 static inline size_t uefi_last_entry(uint64_t location, uint64_t last) {
-    return last ? (size_t)(last - location) : UEFI_EMPTY_LOG;
+#ifdef __i386__
+    return last ? UEFI_CAST(size_t, last - location) : UEFI_EMPTY_LOG;
+#else
+    return last ? last - location : UEFI_EMPTY_LOG;
+#endif
 }
 
-/* Reads a whole log, to judge it. A log that begins with a header is of version 2,
- * and its events follow the one that has the header. Another is of version 1.
+/* A log of either version, which was judged whole, and how far it was read. A copy
+ * keeps a place in it. The bytes aren't copied: they stay as they are while a log
+ * or an event of them is used.
  *
- * UEFI_OK if the log has an event, and the last one starts at `last_entry`: what
- * follows it isn't judged. If the last entry isn't known, UEFI_OK if the log has
- * an event, and nothing but padding follows the last. A log that was cut between
- * two events, or after zeros with which an event begins, then looks like a whole
- * one of fewer events.
+ * Set no field. The calls that take a log or an event say what they return for
+ * fields that no call gave. They read no byte outside of the slices. A call that
+ * takes bytes and a last entry, such as uefi_log2_header, takes those of a log. */
+typedef struct {
+    UefiBytes bytes;
+    UefiBytes rows;    /* of the table of the log's header: see below; none in version 1 */
+    size_t last_entry; /* the offset at which the last event starts, also if it wasn't known */
+    size_t offset;     /* at which the next event starts */
+    uint32_t version;  /* 1 or 2 */
+} UefiLog;
+
+/* Judges a log, and gives it at its first event. A log that begins with a header is
+ * of version 2, and its events follow the one that has the header. Another is of
+ * version 1.
+ *
+ * UEFI_OK if the log is whole: it has an event, and the last one starts at
+ * `last_entry`. What follows it isn't judged. If the last entry isn't known, the
+ * log is whole if it has an event, and nothing but padding follows the last. A log
+ * that was cut between two events, or after zeros with which an event begins, then
+ * looks like a whole one of fewer events.
  *
  * Else the first of these that holds:
  *
  *     UEFI_TOO_MANY_ALGORITHMS    the header's table has more than 256 rows
  *     UEFI_NO_EVENT               there is no whole event, or none but the header's
- *     UEFI_LEFT_OVER              the log doesn't end with its last whole event:
- *                                 `*offset` is where that ends
+ *     UEFI_LEFT_OVER              the log doesn't end with its last whole event
  *
- * `*offset` is set at UEFI_LEFT_OVER alone. uefi_log1_next or uefi_log2_next says
- * what is there. */
+ * uefi_log_read (log_at.h) says where that one ends. */
 UEFI_CALL UEFI_NODISCARD UEFI_NONNULL UefiStatus
-uefi_log_read(UefiBytes log, size_t last_entry, size_t *offset);
+uefi_log(UefiBytes bytes, size_t last_entry, UefiLog *log);
 
 typedef struct {
     UefiBytes event_data;
+    UefiBytes digests; /* version 1: SHA-1's digest; version 2: for uefi_digest_next */
+    UefiBytes rows;    /* for uefi_digest_next; none in version 1 */
+    size_t offset;     /* in the log, at which the event starts */
+    uint32_t digest_count;
     uint32_t pcr_index;
     uint32_t event_type;
-    uint8_t digest[20];
-} UefiEvent1;
+    uint32_t version; /* 1 or 2 */
+} UefiEvent;
 
-/* The next event of a version 1 log (TCG_PCR_EVENT).
+/* The next event of a log. UEFI_END if the last one was read.
  *
- *     UEFI_END                   the last event was read, the log has none, or its
- *                                bytes end here
- *     UEFI_CUT                   the bytes end inside the event
- *     UEFI_CROSSES_LAST_ENTRY    the event starts before `last_entry`, and ends
- *                                after it */
+ * Of fields that no call gave: UEFI_NO_EVENT if the version is neither 1 nor 2,
+ * else what uefi_log1_next or uefi_log2_next (log_at.h) returns there. */
 UEFI_CALL UEFI_NODISCARD UEFI_NONNULL UefiStatus
-uefi_log1_next(UefiBytes log, size_t last_entry, size_t *offset, UefiEvent1 *out);
+uefi_log_next(UefiLog *log, UefiEvent *event);
+
+/* The first digest of an algorithm in an event. In version 1 it has that of SHA-1
+ * alone. UEFI_NO_DIGEST if it has none of the algorithm.
+ *
+ * Of fields that no call gave: UEFI_NO_EVENT if the version is neither 1 nor 2,
+ * UEFI_CUT if there aren't twenty bytes in version 1, and in version 2 what
+ * uefi_digest_next returns where the digests before are of other algorithms. */
+UEFI_CALL UEFI_NODISCARD UEFI_NONNULL UefiStatus
+uefi_event_digest(const UefiEvent *event, uint16_t algorithm, UefiBytes *digest);
 
 typedef struct {
     UefiBytes rows;   /* of the table of algorithms: see below */
     UefiBytes vendor; /* at most 255 bytes */
     size_t events_start; /* where the header's own bytes end: see uefi_log2_next */
-    size_t event_end;    /* where the event ends that has the header: start the walk here */
+    size_t event_end;    /* where the event ends that has the header, and the first of the log starts */
     uint32_t platform_class;
     uint8_t major;
     uint8_t minor;
@@ -154,14 +174,6 @@ typedef struct {
 /* How many bytes a UINTN has, in some data of events: uefi_image, uefi_gpt_header. */
 #define UEFI_UINTN_FOUR 1u
 #define UEFI_UINTN_EIGHT 2u
-
-typedef struct {
-    UefiBytes digests; /* for uefi_digest_next */
-    UefiBytes event_data;
-    uint32_t digest_count;
-    uint32_t pcr_index;
-    uint32_t event_type;
-} UefiEvent2;
 
 typedef struct {
     UefiBytes bytes;
@@ -177,8 +189,8 @@ typedef struct {
  * slow to read: a call for an event goes over them once, and once more for each
  * of its digests; a call for a digest goes over them twice. So a walk over a log
  * of E events with D digests each, under a table with R rows, takes up to
- * E * (3 * D + 2) * R steps. uefi_log_read refuses a table of more than 256 rows
- * before it reads an event. For a lower limit, read the header before, and write
+ * E * (3 * D + 2) * R steps. uefi_log refuses a table of more than 256 rows before
+ * it reads an event. For a lower limit, read the header before, and write
  *
  *     if (header.rows.n / 4 > 8)
  *         return refused;
@@ -191,33 +203,11 @@ typedef struct {
 UEFI_CALL UEFI_NODISCARD UEFI_NONNULL UefiStatus
 uefi_log2_header(UefiBytes log, size_t last_entry, UefiLogHeader *out);
 
-/* The next event of a version 2 log (TCG_PCR_EVENT2) under the header's table,
- * whose rows these are. Its statuses are those of uefi_log1_next, and:
- *
- *     UEFI_UNKNOWN_ALGORITHM      a digest is of an algorithm that has no row
- *     UEFI_TOO_MANY_DIGESTS       the event states more digests than there are rows
- *     UEFI_TOO_MANY_ALGORITHMS    there are 2^32 rows or more, as no header has
- *
- * Start at the header's `event_end`. Firmware writes the first event there, and
- * Linux and tpm2-tools read it there. `events_start` is for programs that must
- * list what the Rust crate `uefi` lists, which starts there. The two differ only
- * where other bytes follow the header in its event. */
-UEFI_CALL UEFI_NODISCARD UEFI_NONNULL UefiStatus
-uefi_log2_next(UefiBytes log, size_t last_entry, UefiBytes rows, size_t *offset, UefiEvent2 *out);
-
-/* The next digest of an event, under the same rows. UEFI_END at the end of the
- * bytes, UEFI_CUT, UEFI_UNKNOWN_ALGORITHM, or UEFI_TOO_MANY_ALGORITHMS as for
- * uefi_log2_next. The digests of an event that was read are whole. */
+/* The next digest of an event of version 2, under its rows. UEFI_END at the end of
+ * the bytes, UEFI_CUT, UEFI_UNKNOWN_ALGORITHM, or UEFI_TOO_MANY_ALGORITHMS as for
+ * uefi_log2_next (log_at.h). The digests of an event that was read are whole. */
 UEFI_CALL UEFI_NODISCARD UEFI_NONNULL UefiStatus
 uefi_digest_next(UefiBytes digests, UefiBytes rows, size_t *offset, UefiDigest *out);
-
-/* The first digest of an algorithm in the event of a version 2 log that starts
- * at the offset: where uefi_log2_next read it from, and not where it ended.
- * UEFI_NO_EVENT if none can be read there, UEFI_NO_DIGEST if it has no digest of the
- * algorithm. */
-UEFI_CALL UEFI_NODISCARD UEFI_NONNULL UefiStatus
-uefi_log2_digest(UefiBytes log, size_t last_entry, UefiBytes rows, size_t offset, uint16_t algorithm,
-                 UefiBytes *digest);
 
 /* Writes an event of a version 1 log. UEFI_TOO_LONG if the data have 2^32 bytes or
  * more. */

@@ -2,21 +2,18 @@
 #ifndef UEFI_FORMATS_PCR_H
 #define UEFI_FORMATS_PCR_H
 
-#include "status.h"
+#include "log.h"
 
 #ifdef __cplusplus
 extern "C" {
 #endif
 
-/* Call uefi_log_read (log.h) before you trust the PCRs. These functions take the
- * whole events of a log, up to where it is cut or damaged, and don't say that
- * others are missing. They read a log whose header is cut or damaged as one of
- * version 1. uefi_log_read says whether the log is whole.
- *
- * The log is one of either version. `last_entry` is as for uefi_log2_next:
- * UEFI_EMPTY_LOG for a log without events, the log's length if it isn't known.
- * Then the log ends where padding starts, from where on all bytes are 0, or all
- * are 0xff, or else with the last whole event.
+/* uefi_log_replay takes a log that uefi_log judged. The others take the whole events
+ * of a log of either version, up to where it is cut or damaged, and don't say that
+ * others are missing; they read one whose header is cut or damaged as one of
+ * version 1. `last_entry` is as for uefi_log, and the log's length also says that it
+ * isn't known. Then the log ends where padding starts, or else with the last whole
+ * event.
  *
  * A bank is that of an algorithm, such as UEFI_TPM_ALG_SHA256: SHA-1, SHA-256,
  * SHA-384, SHA-512 or SM3. For another algorithm a function fails with
@@ -52,8 +49,14 @@ typedef struct {
     uint8_t value[64]; /* in its first bytes */
 } UefiPcr;
 
-/* Replays a log: writes what each of the 24 PCRs holds, a value, or the first
- * event by which it is undetermined. */
+/* Replays a log: writes what each of the 24 PCRs holds after all its events, however
+ * far it was read: a value, or the first event by which it is undetermined. Of the
+ * log's fields it uses the bytes and the last entry. */
+UEFI_CALL UEFI_NODISCARD UEFI_NONNULL UefiStatus
+uefi_log_replay(const UefiLog *log, uint16_t algorithm, uint32_t locality, UefiWorkspace *workspace,
+                UefiPcr pcrs[UEFI_AT_LEAST(24)]);
+
+/* The same of a log by its bytes. */
 UEFI_CALL UEFI_NODISCARD UEFI_NONNULL UefiStatus
 uefi_replay(UefiBytes log, size_t last_entry, uint16_t algorithm, uint32_t locality, UefiWorkspace *workspace,
             UefiPcr pcrs[UEFI_AT_LEAST(24)]);

@@ -25,7 +25,8 @@ extern "C" {
  *     while (uefi_quote_next_selection(message, &cursor, &selection) == UEFI_OK)
  *         if (selection.algorithm == UEFI_TPM_ALG_SHA256)
  *             lacking &= ~selection.pcrs;
- *     status = uefi_quote_digest(message, UEFI_HASH_OF_SIZE, log, last_entry, UEFI_LOCALITY_OF_LOG,
+ *     // `log` is a UefiLog, which uefi_log judged.
+ *     status = uefi_quote_digest(message, UEFI_HASH_OF_SIZE, log.bytes, log.last_entry, UEFI_LOCALITY_OF_LOG,
  *                                &workspace, &found);
  *     bool agrees = !lacking && is_same(quote.extra_data, nonce) && status == UEFI_OK
  *         && is_same(quote.pcr_digest, uefi_bytes(found.value, found.size));
@@ -39,7 +40,7 @@ extern "C" {
  *   - Each PCR that you need is selected, in a bank that firmware extends. What
  *     isn't selected may be anything, software may extend another bank by
  *     what a log says, and any log agrees with a quote that selects no PCR.
- *   - uefi_log_read says that the log is whole.
+ *   - uefi_log says that the log is whole.
  *
  * A TPM that is sound writes a few selections. For a message of N bytes
  * uefi_quote_digest takes about N steps for the quote and up to 6 × N hashes of

@@ -53,7 +53,11 @@ typedef enum {
     UEFI_BAD_SAFE = 38,                 /* the byte `safe` is neither 0 nor 1 */
     UEFI_BAD_SELECTION = 39,            /* a PCR above 23 is selected, or a bitmap has more than four bytes */
     UEFI_BAD_SIGNATURE_LIST = 40,       /* the bytes at the offset begin with no signature list */
-    UEFI_BAD_SIGNATURE_SIZE = 41        /* a signature's size is below the sixteen bytes of its owner */
+    UEFI_BAD_SIGNATURE_SIZE = 41,       /* a signature's size is below the sixteen bytes of its owner */
+    UEFI_ENDS_PATH = 42,                /* the node is an end-entire node, with which each path ends */
+    UEFI_UNKNOWN_NODE = 43,             /* no node has the name before the offset */
+    UEFI_UNEXPECTED_CHARACTER = 44,     /* the character at the offset isn't expected */
+    UEFI_MISSING_TEXT = 45              /* something is missing from the text at the offset */
 } UefiStatus;
 
 /* The archives return a status in four bytes, so -fshort-enums is an error. */

@@ -1,5 +1,6 @@
-"""The header of the library for C: that it compiles in each dialect, that compilers refuse and warn of what it says they do,
-and that an archive exports the functions that it declares."""
+"""The header of the library for C: that it compiles in each dialect without a warning, also where its macros and inline
+functions are used, that compilers refuse and warn of what it says they do, and that an archive exports the functions that it
+declares."""
 import os
 import re
 import shutil
@@ -11,7 +12,21 @@ from telling import TOP, tells
 TOOLCHAIN = f"{TOP}/tools/toolchain.py"
 HEADERS = ["uefi_formats.h", *(f"uefi_formats/{it}" for it in sorted(os.listdir(f"{TOP}/c/uefi_formats")))]
 STRICT = ["-Wall", "-Wextra", "-Wpedantic", "-Werror", "-ffreestanding", "-c", "-o", os.devnull]
-C, CXX = ["c99", "c11", "c17"], ["c++11", "c++17"]
+C, CXX = ["c99", "c11", "c17"], ["c++11", "c++17", "c++20"]
+CONVERSIONS = ["-Wconversion", "-Wsign-conversion", "-Wcast-qual"]
+# gcc alone knows the last one.
+OF_CXX, OF_GCC = ["-Wold-style-cast"], ["-Wuseless-cast"]
+# Each macro that has a value of the caller's, and each inline function.
+USES = """#include "uefi_formats.h"
+int use(const void *start, void *room, int (*print)(const char *, ...));
+int use(const void *start, void *room, int (*print)(const char *, ...)) {
+    UefiBytes path = uefi_bytes(start, 4);
+    UefiBuffer buffer = uefi_buffer(room, 4);
+    if (uefi_path_at(start, buffer.n, &path) != UEFI_OK || uefi_last_entry(1, 2) == UEFI_EMPTY_LOG)
+        return UEFI_FORMATS_VERSION;
+    return print("%.*s", UEFI_TEXT(path));
+}
+"""
 TARGETS_OF_CLANG = ["x86_64-linux-gnu", "i686-linux-gnu", "aarch64-linux-gnu", "x86_64-unknown-windows"]
 # Statements of which a compiler warns, each with a word of the warning.
 WARNED = {
@@ -36,17 +51,19 @@ def complaint(words, source):
     return ran.stderr if ran.returncode else None
 
 
-def dialect(name):
-    """The options of a dialect of C or C++."""
-    return ["-x", "c++" if "+" in name else "c", f"-std={name}"]
+def dialect(name, compiler=""):
+    """The options of a dialect of C or C++, with the warnings that the compiler has for it."""
+    warnings = [*CONVERSIONS, *(OF_CXX if "+" in name else []), *(OF_GCC if "+" in name and compiler.startswith("gcc") else [])]
+    return ["-x", "c++" if "+" in name else "c", f"-std={name}", *warnings]
 
 
 def rows(include):
     """Whether the header, and each file of it alone, compiles; and what it warns of and refuses."""
     for name, words in compilers().items():
         words = [*words, "-I", include, *STRICT]
-        variants = [*((it, HEADERS[0]) for it in (*C, *CXX)), *((it, header) for it in (C[0], CXX[0]) for header in HEADERS[1:])]
-        found = {(it, header): complaint([*words, *dialect(it)], f'#include "{header}"\n') for it, header in variants}
+        variants = [(it, f'#include "{header}"\n') for it in (C[0], CXX[0]) for header in HEADERS]
+        variants += [(it, USES) for it in (*C, *CXX)]
+        found = {(it, source): complaint([*words, *dialect(it, name)], source) for it, source in variants}
         yield tells(f"{name}: the header in {len(C) + len(CXX)} dialects", {it: said for it, said in found.items() if said}, {})
         for statement, word in WARNED.items():
             said = complaint([*words, *dialect("c11")], f'#include "uefi_formats.h"\nint f(void);\nint f(void) {{ {statement} return 0; }}\n')

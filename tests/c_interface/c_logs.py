@@ -46,6 +46,7 @@ def refused(room):
         (write(room, "rows", many_rows(257)), SHA256): (0, c_statuses.TOO_MANY_ALGORITHMS),
         (LOG, SHA256, str(LAST - 1)): (BEFORE, c_statuses.LEFT_OVER),
         (write(room, "between", log[:BEFORE]), SHA256, str(LAST)): (BEFORE, c_statuses.LEFT_OVER),
+        (write(room, "until", log[:LAST]), SHA256, str(LAST)): (LAST, c_statuses.LEFT_OVER),
         (LOG, SHA256, str(1 << 30)): (len(log), c_statuses.LEFT_OVER),
         (LOG, SHA256, "1"): (0, c_statuses.NO_EVENT),
     }

@@ -2,7 +2,19 @@ pub mod Cursors
 pub mod DigestSteps
 pub mod Log1Steps
 pub mod Log2Steps
+pub mod KnownLast
+pub mod LogBegins
+pub mod LogWalk
+pub mod FirstDigest
+pub mod LogSteps
+pub mod PathFaults
 pub mod PathSteps
+pub mod PathWritten
+pub mod DriveSignatures
+pub mod FilePathNodes
+pub mod NodesRead
+pub mod NodesWritten
+pub mod PartsJoined
 pub mod MapSteps
 pub mod PciSteps
 pub mod PairSteps
@@ -18,6 +30,8 @@ pub mod QuoteBanks
 pub mod SetPcrs
 pub mod WorkspaceBanks
 pub mod SelectionSteps
+pub mod UriNodes
+pub mod VendorNodes
 pub mod WalkSteps
 pub mod PassedDigests
 pub mod UnknownAlgorithms
@@ -26,3 +40,6 @@ pub mod Utf8Puts
 pub mod Ucs2Units
 pub mod NameUnits
 pub mod Ucs2Puts
+pub mod TextsWritten
+pub mod OptionSeen
+pub mod GuidTexts

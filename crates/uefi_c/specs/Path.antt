@@ -2,12 +2,16 @@
 use Rattle.std.specs.Prelude.{ℕ, ◌≡◌, ◌⊎◌, List, length}
 use Rattle.uefi_path.specs.Node.{Node, Fits, encoding, joined, IsEnd, IsEndEntire}
 use Rattle.uefi_base.specs.Prefix.{IsPrefix}
-use Rattle.uefi_path.specs.Path.{IsInstance}
+use Rattle.uefi_path.specs.Path.{IsInstance, IsPath}
 use Rattle.uefi_c.specs.declared.path.UefiNode.{UefiNode}
 use Rattle.uefi_c.specs.Cursor.{Stands}
 
 abbrev pub node_seen : UefiNode → Node
 node_seen view = record { device_type = view.device_type; sub_type = view.sub_type; payload = view.data.now }
+
+-- The bytes begin with the path of these nodes.
+abbrev pub BeginsWithPath : List ℕ → List Node → Type 0
+BeginsWithPath bytes nodes = IsPath nodes × IsPrefix (joined nodes) bytes
 
 -- The node ends a walk: it is end-entire, or it has the type END and the bytes end after it, as those of an instance do.
 abbrev pub EndsWalk : Node → Type 0 → Type 0

@@ -1,25 +1,13 @@
--- Logs and PCRs (`pcr_replay`) of plain numbers.
-use Rattle.std.specs.Prelude.{ℕ, ◌≡◌, ◌≤◌, ◌==◌, ◌⊎◌, List, [], ◌∷◌, Ok, Err, nat_lt, length, take, if◌then◌else◌}
-use Rattle.std.specs.Borrow.{Bor}
+-- PCRs (`pcr_replay`) of plain numbers.
+use Rattle.std.specs.Prelude.{ℕ, ◌≡◌, ◌≤◌, ◌==◌, ◌⊎◌, List, [], ◌∷◌, Ok, Err, nat_lt, take, if◌then◌else◌}
 use Rattle.pcr_replay.specs.declared.fault.Fault.{Fault}
 use Rattle.pcr_replay.specs.declared.fault.Fault.TheVariants.{NoDigest, TwoDigests, OtherLength, UnknownLocality, OtherLocality, LateLocality}
-use Rattle.uefi_tcg.specs.declared.log.LastEntry.{LastEntry}
-use Rattle.uefi_tcg.specs.declared.log.LastEntry.TheVariants.{Unknown, Empty, At}
-use Rattle.uefi_tcg.specs.declared.log.Log.{Log}
 use Rattle.pcr_replay.specs.declared.start.Start.{Start}
 use Rattle.uefi_tcg.specs.Entries.{Entry}
 use Rattle.pcr_replay.specs.Replay.{Outcome}
 use Rattle.pcr_replay.specs.Start.{start_at, start_in}
 use Rattle.uefi_c.specs.Status.{IsOneOf, late_locality, no_digest, ok, other_length, other_locality, two_digests, unknown_locality}
 use Rattle.uefi_c.specs.declared.replay.UefiPcr.{UefiPcr}
-
--- The last entry that a number stands for in a log of this length: 1 says that the log is empty, and the length that it isn't known.
-abbrev pub last_entry_given : ℕ → ℕ → LastEntry
-last_entry_given size offset = if offset == 1 then Empty else if offset == size then Unknown else At offset
-
--- The log of these bytes with this last entry.
-abbrev pub log_given : Bor (List ℕ) → ℕ → Log
-log_given bytes last_entry = record { bytes = bytes; last_entry = last_entry_given (length bytes.now) last_entry }
 
 -- How PCR 0 starts: at this locality, which is below 256, or else as the log of these entries says.
 abbrev pub start_given : ℕ → List Entry → Start

@@ -171,6 +171,22 @@ bad_signature_list = 40
 abbrev pub bad_signature_size : ℕ
 bad_signature_size = 41
 
+-- The node is an end-entire node, with which each path ends.
+abbrev pub ends_path : ℕ
+ends_path = 42
+
+-- No node has the name before the offset.
+abbrev pub unknown_node : ℕ
+unknown_node = 43
+
+-- The character at the offset isn't expected.
+abbrev pub unexpected_character : ℕ
+unexpected_character = 44
+
+-- Something is missing from the text at the offset.
+abbrev pub missing_text : ℕ
+missing_text = 45
+
 -- A status is one of these.
 abbrev pub IsOneOf : ℕ → List ℕ → Type 0
 IsOneOf status [] = ⊥
@@ -220,7 +236,11 @@ status_texts =
     ∷ (bad_safe, codes "the byte `safe` is neither 0 nor 1")
     ∷ (bad_selection, codes "the selection isn't one of a PC")
     ∷ (bad_signature_list, codes "the bytes begin with no signature list")
-    ∷ (bad_signature_size, codes "the size of a signature is below 16") ∷ []
+    ∷ (bad_signature_size, codes "the size of a signature is below 16")
+    ∷ (ends_path, codes "the node ends a path")
+    ∷ (unknown_node, codes "no node has the name")
+    ∷ (unexpected_character, codes "a character isn't expected")
+    ∷ (missing_text, codes "something is missing from the text") ∷ []
 
 unfoldable pub status_text : ℕ → List ℕ
 status_text status = option_map_or (λ row. row.1) (find (λ row. row.0 == status) status_texts) (codes "unknown status")

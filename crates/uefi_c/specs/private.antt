@@ -1,1 +1,3 @@
+pub mod Nodes
 pub mod Ucs2
+pub mod TextWriters

@@ -4,6 +4,7 @@
 //! be the list that the library's iterator gives.
 
 mod instances;
+mod log;
 mod log1;
 mod log2;
 mod map;
@@ -14,6 +15,7 @@ mod signatures;
 mod tagged;
 
 pub use self::instances::instances_by_steps;
+pub use self::log::log_by_steps;
 pub use self::log1::log1_by_steps;
 pub use self::log2::{digests_by_steps, log2_after_event_by_steps, log2_by_steps};
 pub use self::map::entries_by_steps;

@@ -1,6 +1,11 @@
-ghost use Rattle.std.specs.Prelude.{◌≡◌, ◌<◌, ◌/◌, ◌%◌, false};
+ghost use Rattle.std.specs.Prelude.{◌≢◌, ◌↔◌, [], ◌∷◌, ◌≡◌, ◌<◌, ◌/◌, ◌%◌, false};
 ghost use Rattle.std.specs.Fmt.{digit_glyph};
-ghost use Rattle.uefi_base.specs.GuidText.{guid_text};
+ghost use Rattle.uefi_base.specs.GuidText.{IsGuidText, guid_bytes, guid_text};
+ghost use Rattle.uefi_c.specs.Status.{IsOneOf, not_text, ok};
+
+use crate::status::{self, UefiStatus};
+use std::str::FromStr;
+use uefi_base::Guid;
 
 /// Writes the text of a GUID: five groups of lowercase hex digits, separated by dashes, of which the
 /// first three are the little-endian numbers of the GUID.
@@ -47,6 +52,26 @@ pub extern "C" fn uefi_guid_text(text: &mut [u8; 36], guid: &[u8; 16])
         high(p),
         low(p),
     ];
+}
+
+/// Reads a GUID from its text, which has hex digits of either case. Without one the GUID stays as it
+/// was.
+#[tactic(auto, using(crate::proofs::GuidTexts::utf8_of_guid))]
+#[unsafe(no_mangle)]
+pub extern "C" fn uefi_guid_from_text(guid: &mut [u8; 16], text: &[u8]) -> UefiStatus
+    ensures found { (result ≡ ok) ↔ IsGuidText text.now }
+    ensures known { IsOneOf result (ok ∷ not_text ∷ []) }
+    ensures guid { result ≡ ok → guid.new ≡ guid_bytes text.now }
+    ensures unchanged { result ≢ ok → guid.new ≡ guid.old }
+{
+    let Ok(text) = str::from_utf8(text) else {
+        return status::NOT_TEXT;
+    };
+    let Ok(found) = Guid::from_str(text) else {
+        return status::NOT_TEXT;
+    };
+    *guid = found.to_bytes();
+    status::OK
 }
 
 /// Returns the hex digit of a byte's higher half.

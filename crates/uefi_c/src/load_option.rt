@@ -1,15 +1,17 @@
-ghost use Rattle.std.specs.Prelude.{◌≡◌, ◌≢◌, ◌≤◌};
+ghost use Rattle.std.specs.Prelude.{◌≡◌, ◌≢◌, ◌↔◌, ◌+◌, ◌≤◌, List, [], ◌∷◌, drop, length};
 ghost use Rattle.uefi_base.specs.Unaligned.{unit_bytes};
 ghost use Rattle.uefi_path.specs.LoadOption.{EncodesLoadOption, HasFault, file_path_list, load_option_bytes, with_nul};
-ghost use Rattle.uefi_path.specs.Node.{joined};
+ghost use Rattle.uefi_path.specs.Node.{Node, joined};
+ghost use Rattle.uefi_path.specs.Path.{HasPath};
 ghost use Rattle.uefi_path.specs.LoadOptionViews.{load_option_of};
 ghost use Rattle.uefi_path.specs.declared.load_option_error.LoadOptionError.{LoadOptionError};
 ghost use Rattle.uefi_c.specs.LoadOption.{IsSeenOf, status_of};
-ghost use Rattle.uefi_c.specs.Status.{ok};
+ghost use Rattle.uefi_c.specs.Path.{BeginsWithPath};
+ghost use Rattle.uefi_c.specs.Status.{IsOneOf, ended, no_path, ok};
 
 use crate::info::name_bytes;
 use crate::status::{self, UefiStatus};
-use uefi_path::{LoadOption, LoadOptionError};
+use uefi_path::{DevicePath, LoadOption, LoadOptionError};
 
 /// The offset of the description.
 const DESCRIPTION_OFFSET: usize = 6;
@@ -51,6 +53,36 @@ pub extern "C" fn uefi_load_option<'a>(bytes: &'a [u8], out: &mut UefiLoadOption
         }
         Err(error) => status_of(&error),
     }
+}
+
+/// Finds the path at the offset of a file path list, and moves the offset to its end. Without one it
+/// returns why: the list ends there, or no path begins there.
+#[unsafe(no_mangle)]
+pub extern "C" fn uefi_load_option_next_path<'a>(
+    file_path_list: &'a [u8],
+    offset: &mut usize,
+    path: &mut &'a [u8],
+) -> UefiStatus
+    ensures known { IsOneOf result (ok ∷ ended ∷ no_path ∷ []) }
+    ensures found { (result ≡ ok) ↔ HasPath (drop offset.old file_path_list.now) }
+    ensures ended { (result ≡ ended) ↔ (length file_path_list.now ≤ offset.old) }
+    ensures path { result ≡ ok → (nodes : List Node)
+        → BeginsWithPath (drop offset.old file_path_list.now) nodes
+        → path.new.now ≡ joined nodes }
+    ensures offset { result ≡ ok → offset.new ≡ offset.old + length path.new.now }
+    ensures offset_unchanged { result ≢ ok → offset.new ≡ offset.old }
+    ensures path_unchanged { result ≢ ok → path.new ≡ path.old }
+{
+    if *offset >= file_path_list.len() {
+        return status::END;
+    }
+    let (_, rest) = file_path_list.split_at(*offset);
+    let Ok(found) = DevicePath::try_from(rest) else {
+        return status::NO_PATH;
+    };
+    *path = found.as_bytes();
+    *offset += found.as_bytes().len();
+    status::OK
 }
 
 /// Returns the parts of the load option that the bytes are.

@@ -4,8 +4,8 @@ ghost use Rattle.uefi_path.specs.Node.{Node, Fits, encoding, joined, HasNode, Is
 ghost use Rattle.uefi_path.specs.Path.{IsPath, HasPath};
 ghost use Rattle.uefi_path.specs.private.Encoding.{EncodesInstance};
 ghost use Rattle.uefi_path.specs.Views.{node_of};
-ghost use Rattle.uefi_c.specs.Faults.{HasLastNode, IsNodeFault, MeetsNodeFault};
-ghost use Rattle.uefi_c.specs.Path.{HasInstance, node_seen, IsNextNode, IsNextInstance, EndsWalk};
+ghost use Rattle.uefi_c.specs.Faults.{HasLastNode, IsNodeFault, MeetsNodeFault, MeetsPathFault};
+ghost use Rattle.uefi_c.specs.Path.{BeginsWithPath, HasInstance, node_seen, IsNextNode, IsNextInstance, EndsWalk};
 ghost use Rattle.uefi_c.specs.Status.{ended, IsOneOf, no_path, ok};
 
 use crate::cursor::bytes_from;
@@ -39,6 +39,41 @@ pub extern "C" fn uefi_path<'a>(bytes: &'a [u8], path: &mut &'a [u8]) -> UefiSta
     };
     *path = found.as_bytes();
     status::OK
+}
+
+/// Finds where bytes stop being a path: sets the offset to that of the first node that can't be read,
+/// and returns why. If they begin with a path it returns success, and the offset is the path's end.
+#[unsafe(no_mangle)]
+pub extern "C" fn uefi_path_fault(path: &[u8], offset: &mut usize) -> UefiStatus
+    ensures found { (result ≡ ok) ↔ HasPath path.now }
+    ensures end { result ≡ ok → (nodes : List Node) → BeginsWithPath path.now nodes
+        → offset.new ≡ length (joined nodes) }
+    ensures fault { result ≢ ok → MeetsPathFault path.now offset.new result }
+{
+    let mut rest = path;
+    loop {
+        let Some((node, after)) = split_node(rest) else {
+            *offset = path.len() - rest.len();
+            return node_fault(rest);
+        };
+        rest = after;
+        if node.is_end_entire() {
+            *offset = path.len() - rest.len();
+            return status::OK;
+        }
+    }
+}
+
+/// Returns whether both begin with the same path.
+#[unsafe(no_mangle)]
+pub extern "C" fn uefi_path_equal(path: &[u8], other: &[u8]) -> bool
+    ensures { IsTrue result
+        ↔ (nodes : List Node) × BeginsWithPath path.now nodes × BeginsWithPath other.now nodes }
+{
+    match (DevicePath::try_from(path), DevicePath::try_from(other)) {
+        (Ok(path), Ok(other)) => path == other,
+        _ => false,
+    }
 }
 
 /// Reads the node at the offset, unless it ends the walk, and moves the offset to its end.

@@ -12,11 +12,13 @@ ghost use Rattle.uefi_tcg.specs.Entries.{Contents};
 ghost use Rattle.uefi_tcg.specs.Logs.{HasContents};
 ghost use Rattle.uefi_c.specs.Quote.{AreQuote, HasQuote, status_of};
 ghost use Rattle.uefi_c.specs.QuoteDigest.{HasHash, IsDigestStatus, IsHash, digest_seen};
-ghost use Rattle.uefi_c.specs.Replay.{log_given, start_given};
+ghost use Rattle.uefi_c.specs.LastEntry.{log_given};
+ghost use Rattle.uefi_c.specs.Replay.{start_given};
 ghost use Rattle.uefi_c.specs.Status.{no_hash};
 
+use crate::last_entry::log_of;
 use crate::quote::status_of;
-use crate::replay::{ROOM, log_of, start_of, status_of as fault_status};
+use crate::replay::{ROOM, start_of, status_of as fault_status};
 use crate::status::{self, UefiStatus};
 use crate::workspace::{BANK_COUNT, UefiWorkspace};
 use pcr_replay::{

@@ -84,6 +84,7 @@ static void walk2(UefiBytes log, size_t last, UefiBytes rows, size_t at) {
 static void one_path(UefiBytes bytes, size_t at) {
     size_t next = at;
     READ(UefiBytes, path, bytes);
+    READ(UefiBytes, path_at, bytes.at, bytes.n);
     while (NEXT(UefiBytes, next, path_next_instance, bytes) == UEFI_OK) {}
     while (NEXT(UefiNode, at, path_next_node, bytes) == UEFI_OK) {}
 }
@@ -148,7 +149,7 @@ static void one_input(UefiBytes log, size_t whole, uint8_t *rows_end) {
     UefiLogHeader header;
     size_t n = log.n, last = any() & 7 ? any() & 1 ? whole : below(n + 40) : any() & 1 ? 0 : (size_t)-1 - below(40);
     size_t none = 0, end = 7;
-    SAME_AT(end, log_read, log, last);
+    SAME_AT(end, log_read, log, last), one_log(log, any() & 1 ? last : UEFI_UNKNOWN_LAST_ENTRY);
     if (BOTH(header, none, log2_header, log, last, &header) == UEFI_OK)
         walk2(log, last, header.rows, any() & 1 ? header.events_start : header.event_end);
     walk1(log, last, start_of(0, n));
@@ -157,13 +158,13 @@ static void one_input(UefiBytes log, size_t whole, uint8_t *rows_end) {
     make_rows(rows_end - r, r);
     if (any() & 1 && n > 80 && r >= 20) memcpy(rows_end - r + 4 * below(2), log.at + 60, 16);
     at = start_of(65 + 16, n);
-    walk2(log, any() & 1 ? last : at, rows, at);
+    walk2(log, any() & 1 ? last : at, rows, at), other_logs(log, last, rows);
     UefiBytes part = from(log, below(n + 1));
     at = start_of(0, part.n);
     one_path(part, at), one_map(part);
     for (size_t next = start_of(0, n); NEXT(UefiResource, next, pci_next, log) == UEFI_OK;) {}
     for (size_t next = at; NEXT(UefiPair, next, config_next_pair, part) == UEFI_OK;) {}
-    digests_from(rows, part, &at), records_of(part), calls_of(part), contents_of(part), names_of(part), quotes_of(part);
+    digests_from(rows, part, &at), records_of(part), calls_of(part), paths_of(part), nodes_of(part), texts_of(part), contents_of(part), names_of(part), quotes_of(part);
     numbers();
     if (!(any() & 3)) pcrs();
 }

@@ -23,7 +23,7 @@ void need(bool holds, const char *what, const char *file, int line);
 uint8_t *area(void);
 
 /* How often a call, at one place of the program, returned each status. */
-enum { STATUSES = UEFI_BAD_SIGNATURE_SIZE + 1 };
+enum { STATUSES = UEFI_MISSING_TEXT + 1 };
 typedef struct Count {
     const char *name;
     size_t results[STATUSES];
@@ -103,6 +103,9 @@ UefiStatus plain_hex(UefiBuffer buffer, UefiBytes text, size_t *size);
 UefiTime time_at(const uint8_t *b);
 void put_time(const UefiTime *time, uint8_t *b);
 
+/* A node of these fields. */
+UefiStatus plain_write_node(UefiBuffer buffer, const UefiNode *node, size_t *size);
+
 UefiStatus plain_log2_digest(UefiBytes log, size_t last, UefiBytes rows, size_t at, uint16_t algorithm, UefiBytes *out);
 
 /* Makes a quote at the end of the bytes, mostly a whole one. */
@@ -110,9 +113,19 @@ UefiBytes make_quote(UefiBytes bytes);
 UefiStatus plain_quote(UefiBytes message, UefiQuote *out);
 UefiStatus plain_quote_next_selection(UefiBytes message, size_t *cursor, UefiPcrSelection *out);
 
+/* A log as one value. */
+UefiStatus plain_log(UefiBytes bytes, size_t last_entry, UefiLog *out);
+UefiStatus plain_log_next(UefiLog *log, UefiEvent *out);
+UefiStatus plain_event_digest(const UefiEvent *event, uint16_t algorithm, UefiBytes *out);
+void one_log(UefiBytes bytes, size_t last_entry);
+void other_logs(UefiBytes bytes, size_t last_entry, UefiBytes rows);
+
 /* What is read of these bytes, and written. */
 void records_of(UefiBytes part);
 void calls_of(UefiBytes part);
+void paths_of(UefiBytes part);
+void nodes_of(UefiBytes part);
+void texts_of(UefiBytes part);
 void contents_of(UefiBytes part);
 void names_of(UefiBytes part);
 void quotes_of(UefiBytes part);

@@ -44,6 +44,10 @@ static void long_tables(UefiBytes all) {
             NEXT(UefiEvent2, at, log2_next, log, log.n, rows), at = start;
             NEXT(UefiDigest, at, digest_next, log, rows);
             READ(UefiBytes, log2_digest, log, log.n, rows, start, 1);
+            UefiLog value = {log, rows, log.n, start, 2};
+            UefiEvent next = {.digests = from(log, start), .rows = rows, .version = 2};
+            READ(UefiBytes, event_digest, &next, 1);
+            BOTH(next, value.offset, log_next, &value, &next);
         }
 }
 

@@ -87,7 +87,7 @@ static int stated(const PlainEvent *event) {
 }
 
 static UefiStatus plain_startup_locality(UefiBytes log, size_t last, uint8_t *out) {
-    PlainLog walk = plain_log(log, last);
+    PlainLog walk = plain_walk(log, last);
     PlainEvent event;
     int first = -1;
     bool has_hcrtm = false;
@@ -110,7 +110,7 @@ static size_t digests_of(const PlainLog *log, const PlainEvent *event, const Ban
 }
 
 static bool plain_bank_is_active(UefiBytes log, size_t last, uint16_t algorithm) {
-    PlainLog walk = plain_log(log, last);
+    PlainLog walk = plain_walk(log, last);
     PlainEvent event;
     const Bank *bank = bank_of(algorithm);
     uint8_t value[64];
@@ -122,7 +122,7 @@ static bool plain_bank_is_active(UefiBytes log, size_t last, uint16_t algorithm)
 
 /* The first event that contradicts a locality. */
 static UefiStatus contradiction(UefiBytes log, size_t last, int locality, UefiPcr *out) {
-    PlainLog walk = plain_log(log, last);
+    PlainLog walk = plain_walk(log, last);
     PlainEvent event;
     bool is_extended = false;
     for (size_t index = 0; plain_next_event(&walk, &event); index++) {
@@ -136,7 +136,7 @@ static UefiStatus contradiction(UefiBytes log, size_t last, int locality, UefiPc
 }
 
 static void start(UefiBytes log, size_t last, const Bank *bank, uint32_t pcr, uint8_t locality, uint8_t *value) {
-    PlainLog walk = plain_log(log, last);
+    PlainLog walk = plain_walk(log, last);
     PlainEvent event;
     bool is_launched = false;
     while (plain_next_event(&walk, &event))
@@ -148,7 +148,7 @@ static void start(UefiBytes log, size_t last, const Bank *bank, uint32_t pcr, ui
 /* What a PCR holds after the events, with the first by which it is undetermined. Values are known of SHA-256, and of PCRs
  * that no event extends. */
 static UefiStatus after_events(UefiBytes log, size_t last, const Bank *bank, uint32_t pcr, UefiPcr *out, bool *is_known) {
-    PlainLog walk = plain_log(log, last);
+    PlainLog walk = plain_walk(log, last);
     PlainEvent event;
     uint8_t both[128];
     for (size_t index = 0; plain_next_event(&walk, &event); index++) {
@@ -248,7 +248,7 @@ static UefiBytes make_log(uint8_t *end, size_t *last) {
     if (has_header) count = make_header(made, &n, rows);
     for (size_t events = below(6); events--;) start = n, make_event(made, &n, has_header, rows, count);
     make_end(made, &n);
-    *last = any() & 3 ? n : any() & 3 ? start : any() & 1 ? UEFI_EMPTY_LOG : below(n + 2);
+    *last = any() & 3 ? any() & 1 ? n : UEFI_UNKNOWN_LAST_ENTRY : any() & 3 ? start : any() & 1 ? UEFI_EMPTY_LOG : below(n + 2);
     return (UefiBytes){memcpy(end - n, made, n), n};
 }
 
@@ -271,6 +271,21 @@ static bool are_all(const void *at, uint8_t byte, size_t n) {
 
 static void need_space(void) { NEED(are_all(space_end - AREA, 0xa5, AREA - UEFI_WORKSPACE_SIZE)); }
 
+/* A whole log as one value, wherever it was read to, leads to the same. */
+static void same_replay(UefiBytes bytes, size_t last, uint16_t algorithm, uint32_t locality, const UefiPcr *wanted) {
+    UefiPcr found[24];
+    UefiLog log;
+    UefiEvent event;
+    bool has_bank = bank_of(algorithm);
+    if (uefi_log(bytes, last == bytes.n ? UEFI_UNKNOWN_LAST_ENTRY : last, &log) != UEFI_OK) return;
+    if (any() & 1 && uefi_log_next(&log, &event) != UEFI_OK) NEED(false);
+    memset(found, 0xcc, sizeof found);
+    UefiStatus status = COUNTED(log_replay, uefi_log_replay(&log, algorithm, locality, workspace(), found));
+    need_space();
+    NEED(status == (has_bank ? UEFI_OK : UEFI_NO_HASH) && (has_bank || are_all(found, 0xcc, sizeof found)));
+    for (uint32_t i = 0; has_bank && i < 24; i++) NEED(is_same_pcr(&found[i], &wanted[i], true));
+}
+
 static void one_replay(UefiBytes log, size_t last, uint16_t algorithm, uint32_t locality) {
     UefiPcr found[24], one, wanted;
     const Bank *bank = bank_of(algorithm);
@@ -284,6 +299,7 @@ static void one_replay(UefiBytes log, size_t last, uint16_t algorithm, uint32_t 
         plain_pcr(log, last, bank, locality, i, &wanted, &is_known);
         NEED(is_same_pcr(&found[i], &wanted, is_known));
     }
+    same_replay(log, last, algorithm, locality, found);
     status = COUNTED(replay_pcr, uefi_replay_pcr(log, last, algorithm, locality, pcr, workspace(), &one));
     need_space();
     if (!bank || pcr > 23) NEED(status == (bank ? UEFI_NO_PCR : UEFI_NO_HASH) && are_all(&one, 0xcc, sizeof one));
@@ -345,7 +361,7 @@ void pcrs(void) {
     UefiBytes log = make_log(log_end, &last);
     uint16_t algorithm = any() & 7 ? banks[any() & 1 ? 1 : below(BANKS)].algorithm : below(50);
     uint32_t locality = any() & 1 ? UEFI_LOCALITY_OF_LOG : any() & 1 ? below(256) : UEFI_LOCALITY_OF_LOG + below(3);
-    SAME_AT(end, log_read, log, last);
+    SAME_AT(end, log_read, log, last), one_log(log, any() & 1 ? last : UEFI_UNKNOWN_LAST_ENTRY);
     one_replay(log, last, algorithm, locality), one_quote(log, last, locality);
     READ(uint8_t, startup_locality, log, last), SAME_BOOL(bank_is_active, log, last, algorithm);
 }

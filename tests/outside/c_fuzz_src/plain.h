@@ -27,6 +27,8 @@ static inline uint64_t uintn_at(const uint8_t *at, size_t width) {
 }
 
 UefiStatus plain_path(UefiBytes bytes, UefiBytes *path);
+UefiStatus plain_path_at(const void *start, size_t most, UefiBytes *path);
+UefiStatus plain_path_fault(UefiBytes path, size_t *offset);
 UefiStatus plain_path_next_node(UefiBytes path, size_t *offset, UefiNode *out);
 UefiStatus plain_path_next_instance(UefiBytes path, size_t *offset, UefiBytes *instance);
 UefiStatus plain_map_check(UefiBytes map, size_t stride);
@@ -54,7 +56,7 @@ typedef struct {
     UefiBytes event_data;
 } PlainEvent;
 
-PlainLog plain_log(UefiBytes log, size_t last_entry);
+PlainLog plain_walk(UefiBytes log, size_t last_entry);
 bool plain_next_event(PlainLog *log, PlainEvent *out);
 
 #endif

@@ -1,6 +1,7 @@
 //! Kinds of arguments: which texts are one, which begin one, and the bytes of each in a node.
 
 use Kind::*;
+use std::net::Ipv6Addr;
 
 /// A set of texts, none of which has a comma or a parenthesis, with the bytes of each.
 #[derive(Clone, Copy)]
@@ -16,6 +17,8 @@ pub enum Kind {
     Eisa(&'static str),
     /// An IPv4 address, and zeros up to this length.
     Ipv4(usize),
+    /// An IPv6 address (RFC 4291, 2.2).
+    Ipv6,
     /// Pairs of hex digits.
     Data(Extent),
     /// Printable characters of ASCII.
@@ -114,6 +117,7 @@ impl Kind {
             Digits(_, order) => Some(order.len()),
             Eisa(_) => Some(4),
             Ipv4(length) => Some(length),
+            Ipv6 => Some(16),
             Data(extent) | Text(extent) => extent.size(),
             Serial => None,
             OneOf(kinds) => kinds.last().and_then(Kind::size),
@@ -147,6 +151,11 @@ impl Kind {
             Ipv4(length) => {
                 let (viable, address) = ipv4(text);
                 Fit::new(text, viable, || address.map(|it| Extent::Padded(length).filled(it)))
+            }
+            Ipv6 => {
+                let address = ipv6(text);
+                let viable = if address.is_some() { text.len() } else { viable_ipv6(text) };
+                Fit::new(text, viable, || address.map(|it| it.octets().to_vec()))
             }
             Data(extent) => data(text, extent, room),
             Text(extent) => self::text(text, extent, room),
@@ -223,6 +232,33 @@ fn ipv4(text: &str) -> (usize, Option<Vec<u8>>) {
         start += part.len() + 1;
     }
     (text.len(), Some(bytes).filter(|it| it.len() == 4))
+}
+
+/// The address, by the standard library. That takes no zeros before a number of an IPv4 address, of
+/// which there can be up to three digits here.
+fn ipv6(text: &str) -> Option<Ipv6Addr> {
+    let (groups, last) = text.split_at(text.rfind(':')? + 1);
+    if !last.contains('.') {
+        return text.parse().ok();
+    }
+    let without_zeros = |number: &str| match number.trim_start_matches('0') {
+        _ if number.is_empty() || number.len() > 3 => None,
+        "" => Some(String::from("0")),
+        digits => Some(String::from(digits)),
+    };
+    let numbers: Option<Vec<String>> = last.split('.').map(without_zeros).collect();
+    format!("{groups}{}", numbers?.join(".")).parse().ok()
+}
+
+/// What an address ends with after any text that one begins with.
+const IPV6_ENDS: [&str; 8] = ["", ":", "::", "0", ".0", "0.0", ".0.0", "0.0.0"];
+
+/// The length of the longest prefix that an address begins with.
+fn viable_ipv6(text: &str) -> usize {
+    let begins_one =
+        |prefix: &str| IPV6_ENDS.iter().any(|it| ipv6(&format!("{prefix}{it}")).is_some());
+    let ends = text.char_indices().map(|(offset, c)| offset + c.len_utf8());
+    ends.take_while(|end| begins_one(&text[..*end])).last().unwrap_or(0)
 }
 
 fn data(text: &str, extent: Extent, room: usize) -> Fit {

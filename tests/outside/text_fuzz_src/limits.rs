@@ -141,8 +141,9 @@ fn addresses(random: &mut Random) -> String {
 fn servers(random: &mut Random) -> String {
     let count = near(random, (MAX_DATA - 1) / 16);
     let byte = random.byte();
-    let address = match random.index(2) {
+    let address = match random.index(3) {
         0 => format!("10.0.0.{byte}"),
+        1 => format!("FE80::{byte:x}"),
         _ => format!("{IPV6}{byte:02X}"),
     };
     let close = random.one_of(&[")", ")", ")", ",)", ",1.2.3.4)", ",x)", "", ","]);

@@ -5,7 +5,7 @@ use crate::spell;
 
 /// Texts that mutations put in.
 #[rustfmt::skip]
-const FRAGMENTS: [&str; 64] = [
+const FRAGMENTS: [&str; 80] = [
     "(", ")", ",", "/", "()", ",,", "//", ")/", "),", "\"", "\"\"", "-", ".", ":", "::", "\\", " ",
     "0", "0x", "0X", "00", "-1", "255", "256", "257", "65535", "65536", "0xFFFF", "0x10000",
     "4294967295", "4294967296", "18446744073709551615", "18446744073709551616",
@@ -13,7 +13,10 @@ const FRAGMENTS: [&str; 64] = [
     "TCP", "UDP", "DEFAULT", "NoTopology", "SAS,Internal,Direct,1", "MBR", "GPT", "HD", "Primary",
     "Slave", "1.5", "10.0.0.1", "CRC32C", "2001:0DB8:0000:0000:0000:0000:0000:0001",
     "01234567-89AB-CDEF-FEDC-BA9876543210", "Path(127,1)", "Path(127,255)", "Path(127,255,AB)",
-    "Path(0x7F,1,)", "Foo(1)", "UartFlowControl(1)", "FvVol(1)",
+    "Path(0x7F,1,)", "Foo(1)", "UartFlowControl(1)", "FvVol(1)", "::1", ":::", "1::2::3", ":1",
+    "1:2:3:4:5:6:7:8", "1:2:3:4:5:6:7::", "::2:3:4:5:6:7:8", "1:2:3:4:5:6:1.2.3.4",
+    "1:2:3:4:5:1.2.3.4", "::FFFF:129.144.52.38", "1.2.3.4::", "::001.02.3.0004", "12345::",
+    "fe80::1%eth0", "::g", "2001:DB8::8:800:200C:417A",
 ];
 /// Characters that mutations put in.
 #[rustfmt::skip]
@@ -94,7 +97,7 @@ fn replace_part(random: &mut Random, text: &mut String) {
 /// Puts a part in twice, with a separator between.
 fn double_part(random: &mut Random, text: &mut String) {
     let (start, end) = part(random, text);
-    let again = format!("{}{}", random.one_of(&[',', ',', '/']), &text[start..end]);
+    let again = format!("{}{}", random.one_of(&[",", ",/", "/"]), &text[start..end]);
     text.insert_str(end, &again);
 }
 

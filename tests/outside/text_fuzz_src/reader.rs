@@ -1,4 +1,5 @@
-//! A reader of the texts of paths: instances with `,` between them, of nodes with `/` between them.
+//! A reader of the texts of paths: instances with `,` between them, of nodes with `/` between them. A `/` may follow a
+//! `,` before a node.
 
 use crate::form::{MAX_DATA, Node};
 use crate::forms;
@@ -12,13 +13,19 @@ pub const MAX_UNITS: usize = MAX_DATA / 2 - 1;
 
 /// Returns the bytes of the path of a text, or why there is none.
 pub fn read(text: &str) -> Result<Vec<u8>, Fault> {
-    let (mut path, mut at, mut begins_instance) = (Vec::new(), 0, true);
+    let (mut path, mut at, mut begins_instance, mut follows_comma) = (Vec::new(), 0, true, false);
     loop {
         match text.as_bytes().get(at) {
             None if begins_instance => break,
             Some(b',') if begins_instance => {
                 path.extend(INSTANCE_END);
                 at += 1;
+                follows_comma = true;
+                continue;
+            }
+            Some(b'/') if follows_comma => {
+                at += 1;
+                (begins_instance, follows_comma) = (false, false);
                 continue;
             }
             None | Some(b'/' | b',') => return Err(Fault { at, error: Error::Missing }),
@@ -32,6 +39,7 @@ pub fn read(text: &str) -> Result<Vec<u8>, Fault> {
             None => break,
             Some(b',' | b'/') if !node.ends_path() => {
                 begins_instance = text.as_bytes()[at] == b',';
+                follows_comma = begins_instance;
                 path.extend(INSTANCE_END.iter().filter(|_| begins_instance));
                 at += 1;
             }

@@ -147,6 +147,38 @@ fn printable(random: &mut Random, most: usize) -> String {
     (0..random.index(most + 1)).map(|_| char::from(random.one_of(&characters))).collect()
 }
 
+/// An IPv6 address, in any of its forms.
+fn ipv6(random: &mut Random) -> String {
+    let has_ipv4 = random.index(4) == 0;
+    let count = if has_ipv4 { 6 } else { 8 };
+    let mut groups: Vec<String> = (0..count).map(|_| group(random)).collect();
+    if has_ipv4 {
+        let numbers = [(); 4].map(|()| match random.index(4) {
+            0 => format!("{:03}", random.byte()),
+            _ => random.byte().to_string(),
+        });
+        groups.push(numbers.join("."));
+    }
+    if random.index(3) == 0 {
+        return groups.join(":");
+    }
+    let start = random.index(count);
+    let end = start + 1 + random.index(count - start);
+    format!("{}::{}", groups[..start].join(":"), groups[end..].join(":"))
+}
+
+/// A group of an IPv6 address: one to four hex digits.
+fn group(random: &mut Random) -> String {
+    let number = u16::from_le_bytes([random.byte(), random.byte()]) >> random.index(16);
+    match random.index(6) {
+        0 => String::from("0"),
+        1 => format!("{number:04X}"),
+        2 => format!("{number:02x}"),
+        3 => format!("{number:X}"),
+        _ => format!("{number:x}"),
+    }
+}
+
 /// An argument of a kind.
 fn argument(random: &mut Random, kind: &Kind) -> String {
     match *kind {
@@ -162,6 +194,7 @@ fn argument(random: &mut Random, kind: &Kind) -> String {
             let parts = [(); 4].map(|()| format!("{}{}", "0".repeat(zeros), random.byte()));
             parts.join(".")
         }
+        Ipv6 => ipv6(random),
         Data(extent) => {
             let most = if let Extent::Padded(length) = extent { length } else { 12 };
             let count = random.index(most + 1);

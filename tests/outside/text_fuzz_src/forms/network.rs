@@ -5,12 +5,8 @@ use crate::form::{Form, Head::Is, Part::Bytes, Part::Of};
 use crate::kind::{Extent, Kind, Kind::*};
 
 const NO_PORTS: &[u8] = &[0; 4];
-const IPV6: Kind = Digits(
-    "XXXX:XXXX:XXXX:XXXX:XXXX:XXXX:XXXX:XXXX",
-    &[0, 1, 2, 3, 4, 5, 6, 7, 8, 9, 10, 11, 12, 13, 14, 15],
-);
 const IPV4_OR_NONE: Kind = OneOf(&[Empty(&[0; 4]), Ipv4(4)]);
-const IPV6_OR_NONE: Kind = OneOf(&[Empty(&[0; 16]), IPV6]);
+const IPV6_OR_NONE: Kind = OneOf(&[Empty(&[0; 16]), Ipv6]);
 const PROTOCOL: Kind = OneOf(&[Empty(&[0; 2]), Word("TCP", &[6, 0]), Word("UDP", &[17, 0]), TWO]);
 const IPV4_ORIGIN: Kind = OneOf(&[Empty(&[0]), Word("DHCP", &[0]), Word("Static", &[1])]);
 const IPV6_ORIGIN: Kind = OneOf(&[
@@ -47,7 +43,7 @@ pub const FORMS: &[Form] = &[
         &[Of(3), Of(0), Bytes(NO_PORTS), Of(1), Of(2), Of(4), Of(5)],
     ),
     Form::new(
-        "IPv6", Is(3, 13), &[IPV6, PROTOCOL, IPV6_ORIGIN, IPV6_OR_NONE, U8, IPV6_OR_NONE],
+        "IPv6", Is(3, 13), &[Ipv6, PROTOCOL, IPV6_ORIGIN, IPV6_OR_NONE, U8, IPV6_OR_NONE],
         &[Of(3), Of(0), Bytes(NO_PORTS), Of(1), Of(2), Of(4), Of(5)],
     ),
     Form::new(
@@ -60,5 +56,5 @@ pub const FORMS: &[Form] = &[
     Form::new("Wi-Fi", Is(3, 28), &[Text(Extent::Padded(32))], &[Of(0)]),
     Form::new("BluetoothLE", Is(3, 30), &[BLUETOOTH, U8], &[Of(0), Of(1)]),
     Form::list("Dns", Is(3, 31), &[Ipv4(16)], &[Bytes(&[0]), Of(0)]),
-    Form::list("Dns", Is(3, 31), &[IPV6], &[Bytes(&[1]), Of(0)]),
+    Form::list("Dns", Is(3, 31), &[Ipv6], &[Bytes(&[1]), Of(0)]),
 ];
