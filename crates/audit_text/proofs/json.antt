@@ -1,10 +1,3 @@
-pub mod NoFloatsInContent
-pub mod NoFloats
-pub mod NoFloatsInReplay
-pub mod NoFloatsInCoverage
-pub mod NoFloatsInVerdict
-pub mod NoFloatsInQuote
-pub mod NoFloatsInDiff
+pub mod Values
 pub mod Controls
-pub mod NoFloatsInCheck
 pub mod Plain

@@ -1,8 +1,6 @@
+pub mod Json
 pub mod Line
 pub mod Algorithm
-pub mod Parts
-pub mod Values
-pub mod Firmware
 pub mod Content
 pub mod Event
 pub mod Events

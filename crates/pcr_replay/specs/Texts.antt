@@ -6,8 +6,6 @@ use Rattle.pcr_replay.specs.declared.fault.Fault.TheVariants.{NoDigest, TwoDiges
 use Rattle.pcr_replay.specs.declared.fault.Undetermined.{Undetermined}
 use Rattle.pcr_replay.specs.declared.quote.NoQuoteDigest.{NoQuoteDigest}
 use Rattle.pcr_replay.specs.declared.quote.NoQuoteDigest.TheVariants.{NoBank, Undetermined as UndeterminedPcr}
-use Rattle.pcr_replay.specs.declared.read_log.ReadLogError.{ReadLogError}
-use Rattle.pcr_replay.specs.declared.read_log.ReadLogError.TheVariants.{Memory, TooManyAlgorithms}
 
 -- What is wrong with an event by which a PCR is undetermined.
 abbrev pub fault_text : Fault → List ℕ
@@ -27,8 +25,3 @@ abbrev pub no_quote_digest_text : NoQuoteDigest → List ℕ
 no_quote_digest_text (NoBank algorithm) = codes "no bank of algorithm 0x" ++ digits 16 false algorithm.0
 no_quote_digest_text (UndeterminedPcr algorithm pcr at) =
     codes "PCR " ++ (decimal pcr.0 ++ (codes " of algorithm 0x" ++ (digits 16 false algorithm.0 ++ (codes " is undetermined: " ++ undetermined_text at))))
-
--- Why a log wasn't read.
-abbrev pub read_log_error_text : ReadLogError → List ℕ
-read_log_error_text Memory = codes "out of memory"
-read_log_error_text (TooManyAlgorithms rows) = codes "a header of " ++ decimal rows ++ codes " algorithms"

@@ -18,7 +18,7 @@ pub use self::fault::{Fault, Undetermined};
 pub use self::ignored::{Ignored, why_ignored};
 pub use self::pcrs::{PCR_COUNT, Pcrs};
 pub use self::quote::{NoQuoteDigest, is_quoted, quote_digest, quote_digest_in};
-pub use self::read_log::{ReadLog, ReadLogError};
+pub use self::read_log::ReadLog;
 pub use self::replaying::{has_measured, is_active, replay, replay_from, replay_into};
 pub use self::start::{Start, locality_in, startup_locality, stated_locality};
 pub use self::value::PcrValue;

@@ -4,3 +4,4 @@ pub mod CheckPrinted
 pub mod Replayed
 pub mod Verifying
 pub mod QuoteChecks
+pub mod WholeLogs

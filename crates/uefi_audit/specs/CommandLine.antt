@@ -1,5 +1,5 @@
 -- What the values that `clap` found ask for.
-use Rattle.std.specs.Prelude.{ℕ, ◌≡◌, ◌<◌, ◌^◌, ◌⊎◌, ◌++◌, ◌∷◌, [], IsUtf8, List, map, codes, Bool, true, false, Option, None, Some, unwrap_or}
+use Rattle.std.specs.Prelude.{ℕ, ◌≡◌, ◌<◌, ◌^◌, List, map, codes, Bool, true, false, Option, None, Some, unwrap_or}
 use Rattle.std.specs.Option.{option_map}
 use Rattle.std.specs.Borrow.{Bor}
 use Rattle.std.specs.Str.Parse.{IsNumeral, digits_value, without_leading_plus}
@@ -7,7 +7,6 @@ use Rattle.clap.specs.Words.{first_value, matched_of, one_text, raw_values}
 use Rattle.clap.specs.declared.parser.matches.Found.{Found}
 use Rattle.pcr_replay.specs.declared.bank.Bank.{Bank}
 use Rattle.uefi_audits.specs.Naming.{bank_name}
-use Rattle.shown.specs.Name.{shown_name_bytes}
 use Rattle.uefi_audit.specs.declared.request.AskedCoverage.{AskedCoverage}
 use Rattle.uefi_audit.specs.declared.request.AskedQuote.{AskedQuote}
 use Rattle.uefi_audit.specs.declared.request.Compared.{Compared}
@@ -19,10 +18,6 @@ use Rattle.uefi_audit.specs.declared.request.Reading.{Reading}
 use Rattle.uefi_audit.specs.declared.request.Request.{Request}
 use Rattle.uefi_audit.specs.declared.request.Verification.{Verification}
 use Rattle.uefi_audit.specs.declared.request.Request.TheVariants.{Events, Replay, Verify, Diff, Check}
-
--- The word of an argument: its text; of one that isn't UTF-8, how it is shown and a NUL, which no argument has.
-abbrev pub IsWordOf : List ℕ → List ℕ → Type 0
-IsWordOf bytes word = (IsUtf8 bytes × (word ≡ bytes)) ⊎ ((IsUtf8 bytes → ⊥) × (word ≡ shown_name_bytes bytes ++ 0 ∷ []))
 
 -- The word is the number in decimal: one or more digits 0 to 9, and at most 2^64 - 1.
 abbrev pub IsDecimal : List ℕ → ℕ → Type 0

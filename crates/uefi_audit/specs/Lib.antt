@@ -11,5 +11,6 @@ pub mod Verification
 pub mod Quote
 pub mod QuoteCheck
 pub mod Held
+pub mod FileName
 pub mod CommandLine
-pub mod Starts
+pub mod ReplayCounts

@@ -1,8 +1,8 @@
 -- A log that was read from a file, or what is printed of one that wasn't.
-use Rattle.std.specs.Prelude.{ℕ, ◌≡◌, ◌≤◌, ◌<◌, List, length}
+use Rattle.std.specs.Prelude.{ℕ, ◌≡◌, ◌≤◌, ◌<◌, List, length, MatchOption}
 use Rattle.std.specs.Borrow.{Bor}
 use Rattle.uefi_tcg.specs.Logs.{HasHeader}
-use Rattle.uefi_tcg.specs.declared.log.Log.{Log}
+use Rattle.uefi_tcg.specs.WholeLogs.{IsFault, IsWhole, log_given}
 use Rattle.uefi_tcg.specs.v2.Header.{Header}
 use Rattle.pcr_replay.specs.ReadLogs.{table_in}
 use Rattle.audit_text.specs.text.Judgement.{many_line}
@@ -14,20 +14,17 @@ use Rattle.uefi_audit.specs.declared.report.Report.{Report}
 use Rattle.uefi_audit.specs.declared.request.Format.{Format}
 use Rattle.uefi_audit.specs.declared.request.Reading.{Reading}
 
--- The log of these bytes, with the last entry that is asked for.
-abbrev pub log_asked : Bor (List ℕ) → Reading → Log
-log_asked bytes reading = record { bytes = bytes; last_entry = reading.last_entry }
-
--- It was read, with as many rows as are allowed at most.
+-- It was read, with as many rows as are allowed at most: it is whole, or why it isn't is known.
 pub record WasOpened (name bytes : Bor (List ℕ)) (reading : Reading) (file : LogFile) : Type 0 where
   pub named : file.name ≡ name
-  pub log : file.read.log ≡ log_asked bytes reading
+  pub log : file.read.log ≡ log_given bytes reading.last_entry
   pub few_rows : length (table_in file.read) ≤ reading.max_rows
+  pub whole : MatchOption file.fault (IsWhole reading.max_rows file.read.log) (IsFault reading.max_rows file.read.log)
 
 -- It wasn't: its header has more, which is said.
 pub record WasRefused (name bytes : Bor (List ℕ)) (reading : Reading) (report : Report) : Type 0 where
   pub header : Header
-  pub has : HasHeader (log_asked bytes reading) header
+  pub has : HasHeader (log_given bytes reading.last_entry) header
   pub many_rows : reading.max_rows < length header.table
   pub is_printed : printed_of report ≡ unjudged (many_line name.now (length header.table) reading.max_rows)
 

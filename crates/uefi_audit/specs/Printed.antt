@@ -1,7 +1,7 @@
 -- What a command prints.
 use Rattle.std.specs.Prelude.{ℕ, List, [], ◌++◌, string_bytes}
 use Rattle.audit_text.specs.declared.json.unjudged.NotJudged.{NotJudged}
-use Rattle.audit_text.specs.declared.json.unjudged.NotJudged.TheVariants.{ManyAlgorithms}
+use Rattle.audit_text.specs.declared.json.unjudged.NotJudged.TheVariants.{TooManyAlgorithms}
 use Rattle.audit_text.specs.json.Unjudged.{unjudged_line}
 use Rattle.uefi_audit.specs.Ends.{worse}
 use Rattle.uefi_audit.specs.declared.failure.Status.{Status}
@@ -35,7 +35,7 @@ unjudged_as format name why messages = record { messages = messages; text = unju
 abbrev pub refused_as : Format → List ℕ → Printed → Printed
 refused_as format name printed = record {
   messages = printed.messages;
-  text = unjudged_text format name ManyAlgorithms;
+  text = unjudged_text format name TooManyAlgorithms;
   status = printed.status;
 }
 

@@ -126,7 +126,7 @@ checked_by_judgement Accepted before file check = by_digest before file check (j
 checked_by_judgement NothingMeasured before file check =
     unjudged_as check.registers.format file.name.now why.NothingMeasured before
 checked_by_judgement LeftOver before file check =
-    unjudged_as check.registers.format file.name.now why.TrailingBytes before
+    unjudged_as check.registers.format file.name.now why.LeftOver before
 
 -- What is printed of a log: the messages on it come first.
 abbrev pub quote_checked : Bool → LogFile → QuoteCheck → Printed

@@ -9,7 +9,7 @@ use Rattle.uefi_audits.specs.LogReplay.{IsReplayOf, is_undetermined}
 use Rattle.pcr_replay.specs.BankReplays.{bank_outcomes_of}
 use Rattle.uefi_audits.specs.declared.facts.LogFacts.{LogFacts}
 use Rattle.uefi_audits.specs.declared.log_replay.LogReplay.{LogReplay}
-use Rattle.uefi_audits.specs.declared.start.KnownStart.{KnownStart}
+use Rattle.uefi_audits.specs.declared.known_start.KnownStart.{KnownStart}
 use Rattle.audit_text.specs.json.Replay.{replay_line}
 use Rattle.audit_text.specs.text.Pcrs.{bank_lines}
 use Rattle.audit_text.specs.text.Remarks.{ignored_line, inactive_line, start_lines, unsupported_line}

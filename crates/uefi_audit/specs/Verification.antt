@@ -81,7 +81,7 @@ compared before file stated judged = unless_missing judged.covering.missing befo
 unfoldable pub by_judgement : Judgement → List ℕ → LogFile → StatedPcrs → Printed
 by_judgement Accepted before file stated = compared before file stated (judged_in file stated)
 by_judgement NothingMeasured before file stated = unjudged_as stated.format file.name.now why.NothingMeasured before
-by_judgement LeftOver before file stated = unjudged_as stated.format file.name.now why.TrailingBytes before
+by_judgement LeftOver before file stated = unjudged_as stated.format file.name.now why.LeftOver before
 
 -- What is printed of a log: the messages on it come first.
 abbrev pub verification : Bool → LogFile → StatedPcrs → Printed

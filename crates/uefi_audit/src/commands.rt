@@ -1,8 +1,6 @@
-ghost use Rattle.std.specs.Prelude.{◌≡◌, [], List, IsTrue, OnOk, IfErr, IfOk, IfSome, None};
+ghost use Rattle.std.specs.Prelude.{◌≡◌, [], List, IsTrue, IfOk, IfSome, None};
 ghost use Rattle.std.specs.Option.{option_map};
 ghost use Rattle.std.specs.Result.{result_map_both};
-ghost use Rattle.std.specs.Io.KnownBytes.{Appends};
-ghost use Rattle.uefi_audit.specs.Ends.{is_output};
 ghost use Rattle.uefi_audit.specs.Quote.{AsksFor, IsNonce, Receives, is_coverage_stated, name_banks, status_without};
 ghost use Rattle.uefi_audits.specs.verify.Missing.{asked_pcrs};
 ghost use Rattle.uefi_audits.specs.verify.Quote.{received_of};
@@ -12,20 +10,20 @@ ghost use Rattle.uefi_audits.specs.declared.verify.selection.PcrSelection.{PcrSe
 use crate::checking::quoted_pcrs;
 use crate::comparison::difference_report;
 use crate::failure::{Failure, Status};
+use crate::file_name::FileName;
 use crate::input::{file_bytes, held_pcrs};
 use crate::log_file::{Opened, open_log};
 use crate::quote::{NotReceived, received_quote};
 use crate::quote_check::{QuoteCheck, quote_report};
 use crate::replay::Asked;
-use crate::report::unjudged_text;
+use crate::replay_counts::ReplayCounts;
+use crate::report::{Report, unjudged_text};
 use crate::request::{AskedCoverage, AskedQuote, Compared, Format, Reading, Request, Verification};
-use crate::starts::Starts;
 use crate::task::{Task, task_report};
 use crate::verification::{StatedPcrs, verify_report};
 use audit_text::json::NotJudged;
 use hex::FromHexError;
 use shown::ShownName;
-use std::io::{self, Write};
 use std::rt::Files;
 use uefi_audits::verify::{
     HeldPcr, NamedPcr, PcrSelection, ReceivedQuote, asked_pcrs, selections_in,
@@ -107,7 +105,7 @@ fn pcrs_in_quote<R: Files + Input + Eprint + AllocGlobal>(
     rt: &R,
     file: &str,
 ) -> Result<Result<Vec<NamedPcr>, Status>, Failure> {
-    let Some(bytes) = file_bytes(rt, file) else {
+    let Some(bytes) = file_bytes(rt, FileName::of(file)) else {
         return Ok(Err(Status::Unread));
     };
     let name = ShownName(file);
@@ -132,12 +130,12 @@ fn each_log<R: Files + Input + Print + Eprint + AllocGlobal>(
     task: Task<'_>,
 ) -> Result<Status, Failure> {
     let mut status = Status::Well;
-    let mut starts = Starts::default();
+    let mut counts = ReplayCounts::default();
     for name in logs {
-        status = status.and(do_task(rt, *name, reading, task, &mut starts)?);
+        status = status.and(do_task(rt, *name, reading, task, &mut counts)?);
     }
-    if starts.assumed > 0 {
-        let Starts { assumed, replayed } = starts;
+    if counts.assumed > 0 {
+        let ReplayCounts { assumed, replayed } = counts;
         let _ = eprintln!(rt;
             "uefi_audit: no locality is stated by {assumed} of {replayed} logs that were replayed; \
              PCR 0 starts at locality 0"
@@ -152,15 +150,15 @@ fn do_task<R: Files + Input + Print + Eprint + AllocGlobal>(
     name: &str,
     reading: Reading,
     task: Task<'_>,
-    starts: &mut Starts,
+    counts: &mut ReplayCounts,
 ) -> Result<Status, Failure> {
-    let Some(bytes) = file_bytes(rt, name) else {
+    let Some(bytes) = file_bytes(rt, FileName::of(name)) else {
         return Ok(Status::Unread);
     };
     let log = open_log(rt.alloc(), name, bytes.as_slice(), reading)?;
     if let (Opened::Read(file), Task::Replay(asked)) = (&log, task) {
         if asked.is_one_of_many && file.is_replayed(reading.allow_left_over) {
-            *starts = starts.with(file.is_locality_stated(asked.locality));
+            *counts = counts.with(file.is_locality_stated(asked.locality));
         }
     }
     task_report(rt.alloc(), log, reading, task)?.print(rt)
@@ -173,8 +171,8 @@ fn compare_logs<R: Files + Input + Print + Eprint + AllocGlobal>(
     asked: Compared,
     reading: Reading,
 ) -> Result<Status, Failure> {
-    let old_bytes = file_bytes(rt, old);
-    let new_bytes = file_bytes(rt, new);
+    let old_bytes = file_bytes(rt, FileName::of(old));
+    let new_bytes = file_bytes(rt, FileName::of(new));
     let (Some(old_bytes), Some(new_bytes)) = (old_bytes, new_bytes) else {
         return Ok(Status::Unread);
     };
@@ -191,13 +189,16 @@ fn verify_log<R: Files + Input + Print + Eprint + AllocGlobal>(
     reading: Reading,
 ) -> Result<Status, Failure> {
     let selections = selections_of(rt, asked.pcrs)?;
-    let bytes = file_bytes(rt, asked.log);
-    let held = held_pcrs(rt, registers);
+    let bytes = file_bytes(rt, FileName::of(asked.log));
+    let held = held_pcrs(rt, FileName::of(registers));
     let (Some(bytes), Some(held)) = (bytes, held) else {
         return print_unjudged(rt, asked, NotJudged::Unread, Status::Unread);
     };
     if !is_coverage_stated(false, selections.as_slice()) {
-        tell_chosen(rt, registers);
+        let name = ShownName(registers);
+        let _ = eprintln!(rt;
+            "uefi_audit: {name} chooses which banks are compared, unless --pcrs names them, as in sha256:0-7"
+        );
     }
     let stated = StatedPcrs {
         log: asked.log,
@@ -211,25 +212,20 @@ fn verify_log<R: Files + Input + Print + Eprint + AllocGlobal>(
     verify_report(rt.alloc(), log, reading, &stated)?.print(rt)
 }
 
-/// Tells on standard error that the file with the PCRs chooses the banks: `--pcrs` doesn't name them.
-fn tell_chosen<R: Eprint>(rt: &R, registers: &str) {
-    let name = ShownName(registers);
-    let _ = eprintln!(rt;
-        "uefi_audit: {name} chooses which banks are compared, unless --pcrs names them, as in sha256:0-7"
-    );
-}
-
 /// Prints in JSON why a log isn't judged, and returns this status.
-fn print_unjudged<R: Print + AllocGlobal>(
+fn print_unjudged<R: Print + Eprint + AllocGlobal>(
     rt: &R,
     asked: &Verification<'_>,
     why: NotJudged,
     status: Status,
 ) -> Result<Status, Failure> {
-    let name = asked.log.strip_suffix('\0').unwrap_or(asked.log);
-    let text = unjudged_text(rt.alloc(), name, asked.format, why)?;
-    print_text(&mut io::writer(rt), text.as_str())?;
-    Ok(status)
+    let name = FileName::of(asked.log).as_str();
+    let report = Report {
+        text: unjudged_text(rt.alloc(), name, asked.format, why)?,
+        messages: String::new(rt.alloc()),
+        status,
+    };
+    report.print(rt)
 }
 
 /// What `verify --quote` is given: the bytes of its files, and what its options state.
@@ -265,8 +261,8 @@ fn quote_input<R: Files + Input + Eprint + AllocGlobal>(
 {
     let selections = required_pcrs(rt, asked.pcrs, quote.any_pcrs)?;
     let nonce = nonce_of(rt, quote.nonce)?;
-    let log = file_bytes(rt, asked.log);
-    let message = file_bytes(rt, quote.file);
+    let log = file_bytes(rt, FileName::of(asked.log));
+    let message = file_bytes(rt, FileName::of(quote.file));
     let held = held_beside(rt, asked.registers);
     let (Some(log), Some(message), Some(held)) = (log, message, held) else {
         return Ok(None);
@@ -339,7 +335,7 @@ fn held_beside<R: Files + Input + Eprint + AllocGlobal>(
     ensures { IfSome result (λ held. held.items ≡ [] → registers.entry ≡ None) }
 {
     match registers {
-        Some(path) => held_pcrs(rt, path),
+        Some(word) => held_pcrs(rt, FileName::of(word)),
         None => Some(Vec::new(rt.alloc())),
     }
 }
@@ -437,15 +433,4 @@ fn name_banks(selections: &[PcrSelection]) -> bool
     ensures { result ≡ name_banks selections.now }
 {
     selections.iter().all(|it| it.bank().is_some())
-}
-
-/// Writes a text to its end.
-pub(crate) fn print_text<W: Write>(out: &mut W, text: &str) -> Result<(), Failure>
-    ensures whole { OnOk result (Appends (W.contents out.old) (W.contents out.new) text.now) }
-    ensures output { IfErr result (λ failure. IsTrue (is_output failure)) }
-{
-    match out.write_all(text.as_bytes()) {
-        Ok(()) => Ok(()),
-        Err(cause) => Err(Failure::Output(cause)),
-    }
 }

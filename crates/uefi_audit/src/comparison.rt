@@ -145,7 +145,10 @@ fn difference_text(
     let mut text = String::new(alloc);
     match format {
         Format::Text => {
-            let (old_name, new_name) = (shown(alloc, logs.old_name)?, shown(alloc, logs.new_name)?);
+            let (old_name, new_name) = (
+                shown_name(alloc, logs.old_name)?,
+                shown_name(alloc, logs.new_name)?,
+            );
             let logs = ComparedLogs {
                 old_name: old_name.as_str(),
                 new_name: new_name.as_str(),
@@ -159,7 +162,7 @@ fn difference_text(
 }
 
 /// Returns a file's name as it is printed.
-fn shown(alloc: Global, name: &str) -> Result<String, AllocError>
+fn shown_name(alloc: Global, name: &str) -> Result<String, AllocError>
     ensures { IfOk result (λ text. string_bytes text ≡ shown_name name.now) }
 {
     let name = ShownName(name);

@@ -1,23 +1,23 @@
-ghost use Rattle.std.specs.Prelude.{◌≡◌, ◌++◌, string_bytes, IfOk};
+ghost use Rattle.std.specs.Prelude.{◌≡◌, string_bytes, IfOk, OnOk};
+ghost use Rattle.uefi_base.specs.Appending.{AppendsText};
 ghost use Rattle.pcr_replay.specs.ReadLogs.{entries_in};
 ghost use Rattle.uefi_audits.specs.Judgement.{is_read, judgement_of};
-ghost use Rattle.uefi_audits.specs.Start.{known_start};
-ghost use Rattle.audit_text.specs.text.Judgement.{many_line};
-ghost use Rattle.uefi_audit.specs.Judged.{judged_status, judgement_messages};
+ghost use Rattle.uefi_audits.specs.KnownStart.{known_start};
+ghost use Rattle.uefi_audit.specs.Judged.{judged_status, judgement_messages, last_entry_lines};
 ghost use Rattle.uefi_audit.specs.Opened.{IsOpened};
-ghost use Rattle.uefi_audit.specs.Printed.{printed_of, unjudged};
 
 use crate::failure::Status;
 use crate::report::Report;
 use crate::request::Reading;
 use audit_text::text::{push_header_fault, push_judgement, push_many_algorithms};
-use pcr_replay::{ReadLog, ReadLogError};
+use pcr_replay::ReadLog;
+use shown::ShownName;
 use std::alloc::{AllocError, Global};
 use uefi_audits::header_fault::header_fault;
 use uefi_audits::judgement::Judgement;
-use uefi_audits::start::KnownStart;
+use uefi_audits::known_start::KnownStart;
 use uefi_audits::trailing::Trailing;
-use uefi_tcg::Log;
+use uefi_tcg::{LastEntry, Log, LogError};
 
 /// An event log that was read from a file: the name to print, and what was read.
 #[derive(Drop)]
@@ -26,6 +26,8 @@ pub(crate) struct LogFile<'a> {
     pub name: &'a str,
     /// The log.
     pub read: ReadLog<'a>,
+    /// Why it isn't whole, if it isn't.
+    pub fault: Option<LogError>,
 }
 
 impl LogFile<'_> {
@@ -67,26 +69,16 @@ pub(crate) fn open_log<'a>(
 ) -> Result<Opened<'a>, AllocError>
     ensures { IfOk result (IsOpened name.entry bytes.entry reading) }
 {
-    let log = Log::new(bytes, reading.last_entry);
-    let most = reading.max_rows;
-    match ReadLog::with_most_rows(alloc, log, most as usize) {
-        Ok(read) => Ok(Opened::Read(LogFile { name, read })),
-        Err(ReadLogError::Memory) => Err(AllocError),
-        Err(ReadLogError::TooManyAlgorithms(rows)) => {
-            let report = many_report(alloc, name, rows, most)?;
-            Ok(Opened::Refused(report))
-        }
+    let (last_entry, most) = (reading.last_entry, reading.max_rows);
+    let whole = Log::read_with(bytes, last_entry, most as usize);
+    if let Err(LogError::TooManyAlgorithms(rows)) = whole {
+        let mut messages = String::new(alloc);
+        push_many_algorithms(&mut messages, name, rows, most)?;
+        return Ok(Opened::Refused(Report::unjudged(alloc, messages)));
     }
-}
-
-/// Returns the report of a log whose header has more algorithms than are allowed.
-fn many_report(alloc: Global, name: &str, rows: usize, most: u32) -> Result<Report, AllocError>
-    ensures { IfOk result
-        (λ report. printed_of report ≡ unjudged (many_line name.now rows most)) }
-{
-    let mut messages = String::new(alloc);
-    push_many_algorithms(&mut messages, name, rows, most)?;
-    Ok(Report::unjudged(alloc, messages))
+    let read = ReadLog::new(alloc, Log::new(bytes, last_entry))?;
+    let fault = whole.err();
+    Ok(Opened::Read(LogFile { name, read, fault }))
 }
 
 /// Returns whether a log can be judged, and the messages on that.
@@ -107,6 +99,7 @@ pub(crate) fn judge(
     let judgement = Judgement::of(&file.read, allow_left_over);
     let mut messages = String::new(alloc);
     push_header_fault(&mut messages, file.name, header_fault(&file.read))?;
+    push_last_entry(&mut messages, file)?;
     push_judgement(
         &mut messages,
         file.name,
@@ -114,6 +107,25 @@ pub(crate) fn judge(
         &Trailing::of(&file.read),
     )?;
     Ok((judgement, messages))
+}
+
+/// Appends the line of a log in which no event starts at the last entry that is asked for.
+#[tactic(auto, unfolding(crate::specs::Judged::last_entry_lines))]
+fn push_last_entry(messages: &mut String, file: &LogFile<'_>) -> Result<(), AllocError>
+    ensures { OnOk result (AppendsText messages.old messages.new
+        (last_entry_lines file.now.name.now file.now.read.log.last_entry file.now.fault)) }
+{
+    let last_entry = file.read.log().last_entry;
+    match (last_entry, file.fault) {
+        (LastEntry::At(offset), Some(LogError::LeftOver { .. })) => {
+            let name = ShownName(file.name);
+            writeln!(
+                messages,
+                "{name}: no event starts at offset {offset} (--last-entry)"
+            )
+        }
+        _ => Ok(()),
+    }
 }
 
 /// Returns the status of a run over a log with this judgement, if nothing else is wrong.

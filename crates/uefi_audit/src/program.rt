@@ -1,14 +1,12 @@
-ghost use Rattle.std.specs.Prelude.{◌≡◌, ◌⊎◌, IfOk, IsTrue, string_bytes};
-ghost use Rattle.uefi_audit.specs.CommandLine.{IsWordOf};
+ghost use Rattle.std.specs.Prelude.{◌≡◌, ◌⊎◌, IsTrue};
 ghost use Rattle.clap.specs.Words.{kind_of};
 ghost use Rattle.uefi_audit.specs.Ends.{failure_of, is_output};
 
 use crate::command_line::matches_of;
 use crate::commands::perform;
 use crate::failure::{Failure, Status, exit_code};
+use crate::file_name::FileName;
 use crate::request::request_of;
-use shown::ShownBytes;
-use std::alloc::{AllocError, Global};
 use std::env::FillError;
 use std::io;
 use std::process::ExitCode;
@@ -17,7 +15,7 @@ use std::rt::{Env, Files};
 /// The longest argument that Linux passes, in bytes.
 const LONGEST_ARGUMENT: usize = 131_072;
 
-/// Returns the arguments, of which the first is the program's name.
+/// Returns the words of the arguments, of which the first is the program's name.
 fn read_arguments<R: Env + AllocGlobal>(rt: &R) -> Result<Vec<String>, Failure> {
     let mut words = Vec::new(rt.alloc());
     let mut buffer = vec![in rt.alloc(); 0; LONGEST_ARGUMENT]?;
@@ -27,7 +25,7 @@ fn read_arguments<R: Env + AllocGlobal>(rt: &R) -> Result<Vec<String>, Failure> 
             Err(FillError::NotPresent) => break,
             Err(FillError::TooLong) => return Err(Failure::Memory),
         };
-        let word = word_of(rt.alloc(), &buffer.as_slice()[..length])?;
+        let word = FileName::word_of(rt.alloc(), &buffer.as_slice()[..length])?;
         if words.push(word).is_err() {
             return Err(Failure::Memory);
         }
@@ -35,26 +33,12 @@ fn read_arguments<R: Env + AllocGlobal>(rt: &R) -> Result<Vec<String>, Failure> 
     Ok(words)
 }
 
-/// Returns the word of an argument: its text; of one that isn't UTF-8, how it is shown and a NUL, which
-/// no argument has, so that [`file_bytes`](crate::input::file_bytes) knows it.
-fn word_of(alloc: Global, bytes: &[u8]) -> Result<String, AllocError>
-    ensures { IfOk result (λ word. IsWordOf bytes.now (string_bytes word)) }
-{
-    match str::from_utf8(bytes) {
-        Ok(text) => String::from_str(alloc, text),
-        Err(_) => {
-            let name = ShownBytes(bytes);
-            format!(in alloc; "{name}\0")
-        }
-    }
-}
-
 /// Reads the arguments, and does what they ask for.
 fn audit<R: Files + Env + Input + Print + Eprint + AllocGlobal>(rt: &R) -> Result<Status, Failure> {
     let arguments = read_arguments(rt)?;
     let matches = match matches_of(rt.alloc(), arguments.as_slice()) {
         Ok(matches) => matches,
-        Err(error) => return Err(told(rt, &error)),
+        Err(error) => return Err(print_error(rt, &error)),
     };
     let Some((name, of)) = matches.subcommand() else {
         return Err(Failure::Arguments);
@@ -67,7 +51,7 @@ fn audit<R: Files + Env + Input + Print + Eprint + AllocGlobal>(rt: &R) -> Resul
 }
 
 /// Prints what `clap` says of the arguments, and returns why the program ends.
-fn told<R: Print + Eprint>(rt: &R, error: &clap::Error) -> Failure
+fn print_error<R: Print + Eprint>(rt: &R, error: &clap::Error) -> Failure
     ensures { (result ≡ failure_of (kind_of error.now)) ⊎ IsTrue (is_output result) }
 {
     let failure = Failure::of(error);

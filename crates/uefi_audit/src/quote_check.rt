@@ -93,7 +93,7 @@ fn judged_report(
             Report::unjudged_as(alloc, messages, name, format, NotJudged::NothingMeasured)
         }
         Judgement::LeftOver => {
-            Report::unjudged_as(alloc, messages, name, format, NotJudged::TrailingBytes)
+            Report::unjudged_as(alloc, messages, name, format, NotJudged::LeftOver)
         }
     }
 }
@@ -108,28 +108,15 @@ fn accepted_report(
     ensures { IfOk result (λ report. printed_of report
         ≡ by_digest (string_bytes messages) file.now check.now (judged_on file.now check.now)) }
 {
-    let compared = compare_quote(alloc, file, check)?;
-    digest_report(alloc, messages, file, check, &compared)
-}
-
-/// Returns the verdict on the quote.
-fn compare_quote<'a>(
-    alloc: Global,
-    file: &LogFile<'_>,
-    check: &QuoteCheck<'a>,
-) -> Result<ComparedQuote<'a>, AllocError>
-    ensures { IfOk result
-        (λ compared. judged_quote_of compared ≡ judged_on file.now check.now) }
-{
-    let (entries, registers) = (file.read.entries(), &check.registers);
-    let locality = registers.locality;
-    ComparedQuote::new(
+    let registers = &check.registers;
+    let compared = ComparedQuote::new(
         alloc,
-        entries,
+        file.read.entries(),
         &check.received,
         registers.selections,
-        locality,
-    )
+        registers.locality,
+    )?;
+    digest_report(alloc, messages, file, check, &compared)
 }
 
 /// Returns what is printed of a verdict after these messages, unless the log leads to no digest.

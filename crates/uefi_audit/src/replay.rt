@@ -3,7 +3,7 @@ ghost use Rattle.uefi_base.specs.Appending.{AppendsText};
 ghost use Rattle.pcr_replay.specs.ReadLogs.{entries_in};
 ghost use Rattle.uefi_audits.specs.Ignored.{has_no_pcr};
 ghost use Rattle.uefi_audit.specs.Printed.{printed_of};
-ghost use Rattle.uefi_audit.specs.ReplayReport.{IsReplayBy, IsReplayReport, IsReplayed, assumed_lines, name_line, pcrs_text, refused, refused_text, replay_messages, replay_status, replay_text};
+ghost use Rattle.uefi_audit.specs.ReplayReport.{IsReplayBy, IsReplayReport, IsReplayed, assumed_lines, name_line, pcrs_text, refused, replay_messages, replay_status, replay_text};
 
 use crate::failure::Status;
 use crate::log_file::{LogFile, judge, judged_status};
@@ -18,8 +18,8 @@ use shown::ShownName;
 use std::alloc::{AllocError, Global};
 use uefi_audits::facts::LogFacts;
 use uefi_audits::ignored::IgnoredEvent;
+use uefi_audits::known_start::KnownStart;
 use uefi_audits::log_replay::LogReplay;
-use uefi_audits::start::KnownStart;
 
 /// What `replay` asks for.
 #[derive(Clone, Copy)]
@@ -52,9 +52,9 @@ pub(crate) fn replay_report(
     let (judgement, messages) = judge(alloc, file, reading.allow_left_over)?;
     let facts = LogFacts::of(alloc, &file.read, asked.locality)?;
     if !judgement.is_read() {
-        return refused(alloc, messages, file.name, &facts, asked);
+        return refused_report(alloc, messages, file.name, &facts, asked);
     }
-    let report = replayed(alloc, messages, file, &facts, asked)?;
+    let report = replayed_report(alloc, messages, file, &facts, asked)?;
     Ok(Report {
         text: report.text,
         messages: report.messages,
@@ -64,7 +64,8 @@ pub(crate) fn replay_report(
 
 /// Returns what is printed after these messages of a log with trailing bytes that aren't allowed: as JSON
 /// an object without PCRs.
-fn refused(
+#[tactic(auto, unfolding(crate::specs::ReplayReport::refused_text))]
+fn refused_report(
     alloc: Global,
     messages: String,
     name: &str,
@@ -75,7 +76,10 @@ fn refused(
         ≡ refused (string_bytes messages) name.now asked facts.now) }
 {
     let mut text = String::new(alloc);
-    push_refused(&mut text, alloc, name, facts, asked.format)?;
+    match asked.format {
+        Format::Text => {}
+        Format::Json => push_replay_json(&mut text, alloc, name, facts, None)?,
+    }
     Ok(Report {
         text,
         messages,
@@ -83,26 +87,8 @@ fn refused(
     })
 }
 
-/// Appends the object of a log that isn't replayed, if JSON is asked for.
-#[tactic(auto, unfolding(crate::specs::ReplayReport::refused_text))]
-fn push_refused(
-    text: &mut String,
-    alloc: Global,
-    name: &str,
-    facts: &LogFacts,
-    format: Format,
-) -> Result<(), AllocError>
-    ensures { OnOk result
-        (AppendsText text.old text.new (refused_text format name.now facts.now)) }
-{
-    match format {
-        Format::Text => Ok(()),
-        Format::Json => push_replay_json(text, alloc, name, facts, None),
-    }
-}
-
 /// Returns what is printed after these messages of the PCRs that a log leads to.
-fn replayed(
+fn replayed_report(
     alloc: Global,
     messages: String,
     file: &LogFile<'_>,

@@ -1,12 +1,13 @@
-ghost use Rattle.std.specs.Prelude.{◌≡◌, IfOk, string_bytes};
+ghost use Rattle.std.specs.Prelude.{◌≡◌, IsTrue, OnOk, IfErr, IfOk, string_bytes};
+ghost use Rattle.std.specs.Io.KnownBytes.{Appends};
+ghost use Rattle.uefi_audit.specs.Ends.{is_output};
 ghost use Rattle.uefi_audit.specs.Printed.{unjudged_text};
 
-use crate::commands::print_text;
 use crate::failure::{Failure, Status};
 use crate::request::Format;
 use audit_text::json::{NotJudged, push_unjudged_json};
 use std::alloc::{AllocError, Global};
-use std::io;
+use std::io::{self, Write};
 
 /// What a command says of a log, or of two, and what follows from it.
 #[derive(Drop)]
@@ -73,7 +74,7 @@ impl Report {
             (λ report. printed_of report ≡ refused_as format name.now (printed_of self)) }
     {
         Ok(Report {
-            text: unjudged_text(alloc, name, format, NotJudged::ManyAlgorithms)?,
+            text: unjudged_text(alloc, name, format, NotJudged::TooManyAlgorithms)?,
             messages: self.messages,
             status: self.status,
         })
@@ -101,7 +102,7 @@ impl Report {
     /// Tells standard error, prints the text, and returns the status. If standard error is closed,
     /// the status still tells.
     pub(crate) fn print<R: Print + Eprint>(&self, rt: &R) -> Result<Status, Failure> {
-        tell(rt, self.messages.as_str());
+        print_messages(rt, self.messages.as_str());
         print_text(&mut io::writer(rt), self.text.as_str())?;
         Ok(self.status)
     }
@@ -129,9 +130,20 @@ pub(crate) fn unjudged_text(
     Ok(text)
 }
 
-/// Writes text to standard error.
-fn tell<R: Eprint>(rt: &R, text: &str) {
-    if !text.is_empty() {
-        let _ = eprint!(rt; "{text}");
+/// Writes messages to standard error, if there are any.
+fn print_messages<R: Eprint>(rt: &R, messages: &str) {
+    if !messages.is_empty() {
+        let _ = eprint!(rt; "{messages}");
+    }
+}
+
+/// Writes a text to its end.
+fn print_text<W: Write>(out: &mut W, text: &str) -> Result<(), Failure>
+    ensures whole { OnOk result (Appends (W.contents out.old) (W.contents out.new) text.now) }
+    ensures output { IfErr result (λ failure. IsTrue (is_output failure)) }
+{
+    match out.write_all(text.as_bytes()) {
+        Ok(()) => Ok(()),
+        Err(cause) => Err(Failure::Output(cause)),
     }
 }

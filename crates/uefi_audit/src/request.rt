@@ -1,10 +1,10 @@
 ghost use Rattle.std.specs.Prelude.{◌≡◌, ℕ, codes, IfSome, IfNone, MatchOption, Option};
-ghost use Rattle.clap.specs.Words.{found_of, one_text};
+ghost use Rattle.clap.specs.Words.{found_of};
 ghost use Rattle.pcr_replay.specs.declared.bank.Bank.{Bank};
 ghost use Rattle.uefi_tcg.specs.declared.log.LastEntry.{LastEntry};
 ghost use Rattle.uefi_audit.specs.declared.request.AskedQuote.{AskedQuote};
 ghost use Rattle.uefi_audit.specs.declared.request.Compared.{Compared};
-ghost use Rattle.uefi_audit.specs.CommandLine.{Asks, AsksBank, AsksCompared, AsksFormat, AsksLastEntry, AsksLocality, AsksMaxRows, AsksQuote, AsksReading, AskForNoRequest, AskForNothing, IsDecimal, NamesMaxRows};
+ghost use Rattle.uefi_audit.specs.CommandLine.{Asks, AsksBank, AsksCompared, AsksFormat, AsksLastEntry, AsksLocality, AsksMaxRows, AsksQuote, AsksReading, AskForNoRequest, AskForNothing, IsDecimal};
 
 use clap::ArgMatches;
 use pcr_replay::Bank;
@@ -262,14 +262,7 @@ pub(crate) fn reading_of(matches: &ArgMatches<'_>) -> Option<Reading>
 fn max_rows_of(matches: &ArgMatches<'_>) -> u32
     ensures { AsksMaxRows (found_of matches.now) result }
 {
-    stated_max_rows(matches).unwrap_or(MAX_ROWS)
-}
-
-/// Returns the number that a command's matches state for `--max-rows`, if they state one.
-fn stated_max_rows(matches: &ArgMatches<'_>) -> Option<u32>
-    ensures { NamesMaxRows (one_text (found_of matches.now) (codes "max-rows")) result }
-{
-    matches.get_one::<u32>("max-rows")
+    matches.get_one::<u32>("max-rows").unwrap_or(MAX_ROWS)
 }
 
 /// Returns the last entry that a command's matches ask for; `None` if `--last-entry` has a word

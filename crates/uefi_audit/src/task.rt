@@ -5,7 +5,7 @@ ghost use Rattle.uefi_audit.specs.TaskReport.{IsTaskReport};
 
 use crate::checking::check_report;
 use crate::events::events_report;
-use crate::log_file::{LogFile, Opened};
+use crate::log_file::Opened;
 use crate::replay::{Asked, replay_report};
 use crate::report::Report;
 use crate::request::{Format, Reading};
@@ -28,7 +28,7 @@ pub(crate) enum Task<'a> {
 /// # Errors
 ///
 /// [`AllocError`] if an allocation fails.
-#[tactic(auto, unfolding(crate::specs::Opened::IsReportOf))]
+#[tactic(auto, unfolding(crate::specs::Opened::IsReportOf, crate::specs::TaskReport::IsTaskReport))]
 pub(crate) fn task_report(
     alloc: Global,
     log: Opened<'_>,
@@ -38,26 +38,13 @@ pub(crate) fn task_report(
     ensures { IfOk result (λ report. IsReportOf (IsTaskReport task.entry reading.allow_left_over)
         log.entry (printed_of report)) }
 {
-    match log {
-        Opened::Refused(report) => Ok(report),
-        Opened::Read(file) => read_report(alloc, &file, reading, task),
-    }
-}
-
-/// Returns what a task prints of a log that was read.
-#[tactic(auto, unfolding(crate::specs::TaskReport::IsTaskReport))]
-fn read_report(
-    alloc: Global,
-    file: &LogFile<'_>,
-    reading: Reading,
-    task: Task<'_>,
-) -> Result<Report, AllocError>
-    ensures { IfOk result (λ report. IsTaskReport task.entry reading.allow_left_over file.now
-        (printed_of report)) }
-{
+    let file = match log {
+        Opened::Read(file) => file,
+        Opened::Refused(report) => return Ok(report),
+    };
     match task {
-        Task::Events(format) => events_report(alloc, file, reading, format),
-        Task::Replay(asked) => replay_report(alloc, file, reading, asked),
-        Task::Check(covered, format) => check_report(alloc, file, reading, covered, format),
+        Task::Events(format) => events_report(alloc, &file, reading, format),
+        Task::Replay(asked) => replay_report(alloc, &file, reading, asked),
+        Task::Check(covered, format) => check_report(alloc, &file, reading, covered, format),
     }
 }

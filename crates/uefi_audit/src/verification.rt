@@ -101,7 +101,7 @@ fn judged_report(
             Report::unjudged_as(alloc, messages, name, format, NotJudged::NothingMeasured)
         }
         Judgement::LeftOver => {
-            Report::unjudged_as(alloc, messages, name, format, NotJudged::TrailingBytes)
+            Report::unjudged_as(alloc, messages, name, format, NotJudged::LeftOver)
         }
     }
 }

@@ -3,7 +3,7 @@ use Rattle.std.specs.Prelude.{ℕ, ◌≡◌, Option}
 use Rattle.pcr_replay.specs.ReadLogs.{entries_in, table_in}
 use Rattle.pcr_replay.specs.declared.read_log.ReadLog.{ReadLog}
 use Rattle.uefi_audits.specs.Algorithms.{AreAlgorithmsIn}
-use Rattle.uefi_audits.specs.Start.{known_start}
+use Rattle.uefi_audits.specs.KnownStart.{known_start}
 use Rattle.uefi_audits.specs.Trailing.{trailing_of}
 use Rattle.uefi_audits.specs.declared.facts.LogFacts.{LogFacts}
 

@@ -3,7 +3,8 @@ use Rattle.std.specs.Prelude.{ℕ, ◌≡◌, List}
 use Rattle.uefi_tcg.specs.declared.uintn_size.UintnSize.{UintnSize}
 use Rattle.uefi_tcg.specs.v2.Event.{Event}
 use Rattle.uefi_audits.specs.Check.{IsChecked}
-use Rattle.uefi_audits.specs.content.Content.{Content, Form, Says}
+use Rattle.uefi_audits.specs.content.Content.{Content, Says}
+use Rattle.uefi_audits.specs.content.Form.{Form}
 use Rattle.uefi_audits.specs.declared.check.Checked.{Checked}
 
 -- Data of a form say one thing: so an event has one line.

@@ -12,7 +12,7 @@ pub mod Judgement
 pub mod HeaderFault
 pub mod Numbered
 pub mod Ignored
-pub mod Start
+pub mod KnownStart
 pub mod Facts
 pub mod LogReplay
 pub mod Findings

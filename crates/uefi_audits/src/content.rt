@@ -9,8 +9,8 @@ ghost use Rattle.pcr_replay.specs.Start.{locality_in};
 ghost use Rattle.uefi_tcg.specs.LogViews.{event_of};
 ghost use Rattle.uefi_tcg.specs.declared.uintn_size.UintnSize.{UintnSize};
 ghost use Rattle.uefi_tcg.specs.v2.Views.{header_of};
-ghost use Rattle.uefi_audits.specs.content.Content.{BlobContent, ImageContent, NoActionContent, PostCodeContent, Says, are_printed, form_of, is_printed, label_content, separator_content, text_content};
-ghost use Rattle.uefi_audits.specs.content.Content.{OfDescribedBlob, OfGpt, OfImage};
+ghost use Rattle.uefi_audits.specs.content.Content.{BlobContent, ImageContent, NoActionContent, PostCodeContent, Says, are_printed, is_printed, label_content, separator_content, text_content};
+ghost use Rattle.uefi_audits.specs.content.Form.{OfDescribedBlob, OfGpt, OfImage, form};
 ghost use Rattle.uefi_audits.specs.content.Header.{ReadsHeader};
 ghost use Rattle.uefi_audits.specs.content.Views.{content_of};
 
@@ -73,9 +73,9 @@ pub enum EventContent<'a> {
 /// Returns what the data of an event say, by the event's type (TCG PC Client Platform Firmware
 /// Profile 1.06, 10.4.1). [`Log::uintn_size`](uefi_tcg::Log::uintn_size) returns the size of a
 /// `UINTN` in the event's log.
-#[tactic(auto, unfolding(crate::specs::content::Content::Says, crate::specs::content::Content::form_of))]
+#[tactic(auto, unfolding(crate::specs::content::Content::Says, crate::specs::content::Form::form))]
 pub fn read_content<'a>(event: &LogEvent<'a>, uintn_size: UintnSize) -> EventContent<'a>
-    ensures { Says uintn_size (form_of (event_of event.now).event_type)
+    ensures { Says uintn_size (form (event_of event.now).event_type)
         (event_of event.now).event_data (content_of result) }
 {
     let bytes = event.event_data();
@@ -217,7 +217,7 @@ fn gpt_content(bytes: &[u8], uintn_size: UintnSize) -> EventContent<'_>
 }
 
 /// Returns the image that data are, with its device path.
-#[tactic(auto, unfolding(crate::specs::content::Content::Says, crate::specs::content::Content::ImageContent))]
+#[tactic(auto, unfolding(crate::specs::content::Content::Says))]
 fn image_content(bytes: &[u8], uintn_size: UintnSize) -> EventContent<'_>
     ensures { Says uintn_size OfImage bytes.now (content_of result) }
 {

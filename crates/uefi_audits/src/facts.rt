@@ -4,7 +4,7 @@ ghost use Rattle.std.specs.Prelude.{◌≡◌, IfOk};
 ghost use Rattle.uefi_audits.specs.Facts.{AreFactsOf};
 
 use crate::algorithms::algorithms_in;
-use crate::start::KnownStart;
+use crate::known_start::KnownStart;
 use crate::trailing::Trailing;
 use pcr_replay::ReadLog;
 use std::alloc::{AllocError, Global};

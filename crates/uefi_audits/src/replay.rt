@@ -1,8 +1,9 @@
 //! The PCRs that an event log leads to, by bank: computed once, and printed, written as JSON or
 //! compared.
 
-ghost use Rattle.std.specs.Prelude.{◌≡◌, map, IfOk};
+ghost use Rattle.std.specs.Prelude.{◌≡◌, List, map, IfOk};
 ghost use Rattle.pcr_replay.specs.BankReplays.{bank_outcomes_of, replayed};
+ghost use Rattle.pcr_replay.specs.declared.bank.Bank.{Bank};
 ghost use Rattle.pcr_replay.specs.declared.start.Start.{Start};
 ghost use Rattle.uefi_tcg.specs.LogViews.{entry_of};
 ghost use Rattle.uefi_audits.specs.Replay.{active_banks, asked};
@@ -62,6 +63,30 @@ pub fn replay_banks<A: Allocator>(
     let mut found = Vec::new(alloc);
     for bank in banks {
         found.push(replay_bank(entries, *bank, start))?;
+    }
+    Ok(found)
+}
+
+/// Returns what the PCRs of banks hold in a TPM that was started so, by what they hold in one that was
+/// started otherwise: PCR 0 alone is replayed.
+///
+/// # Errors
+///
+/// [`AllocError`] if an allocation fails.
+pub(crate) fn restart_banks<A: Allocator>(
+    alloc: A,
+    entries: &[LogEntry<'_>],
+    replays: &[BankPcrs],
+    start: &Start,
+) -> Result<Vec<BankPcrs, A>, AllocError>
+    ensures { (other : Start) (banks : List Bank) → map bank_outcomes_of replays.now
+        ≡ map (replayed other (map entry_of entries.now)) banks
+        → IfOk result (λ found. map bank_outcomes_of found.items
+        ≡ map (replayed start.now (map entry_of entries.now)) banks) }
+{
+    let mut found = Vec::new(alloc);
+    for replay in replays {
+        found.push(replay.restarted(entries, start))?;
     }
     Ok(found)
 }

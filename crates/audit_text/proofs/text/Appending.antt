@@ -6,16 +6,6 @@ use Rattle.hex.specs.Hex.{encode_upper}
 use Rattle.audit_text.specs.text.Verdict.{start_text, value_text}
 use Rattle.std.proofs.lemmas.List.{flat_map_more, take_more}
 
--- One text after another.
-pub appended : (old now new one other : List ℕ) → now ≡ old ++ one → new ≡ now ++ other → new ≡ old ++ (one ++ other)
-appended old now new one other first then =
-    then ∙ ap (λ t. t ++ other) first ∙ append_assoc old one other
-
-pub three_appended : (old a b c one two new : List ℕ) → one ≡ old ++ a → two ≡ one ++ b → new ≡ two ++ c
-    → new ≡ old ++ (a ++ (b ++ c))
-three_appended old a b c one two new first second third =
-    third ∙ ap (λ t. t ++ c) (second ∙ ap (λ t. t ++ b) first) ∙ append_assoc (old ++ a) b c ∙ append_assoc old a (b ++ c)
-
 -- The lines of one more item.
 pub lines_upto : {A : Type 0} (f : A → List ℕ) (all : List A) (index : ℕ) (item : A)
     (old now next : List ℕ) → index < length all → now ≡ old ++ flat_map f (take index all)

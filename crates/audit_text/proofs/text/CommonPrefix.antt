@@ -1,25 +1,14 @@
 -- The longest prefix that two lists have in common.
-use Rattle.std.proofs.Common.{◌≡◌, ℕ, ◌+◌, ◌<◌, List, [], ◌∷◌, length, drop, get_or, map, ap, arith, refl, length-drop}
-use Rattle.std.specs.Prelude.{Bool, true, false, cond, min}
+use Rattle.std.proofs.Common.{◌≡◌, ℕ, ◌+◌, List, [], ◌∷◌, length, drop, map, ap, arith, refl, length-drop}
+use Rattle.std.specs.Prelude.{Bool, cond, min}
 use Rattle.std.specs.List.{common_prefix_len}
-use Rattle.std.proofs.lemmas.List.Sums.{common_prefix_len-drop_no, common_prefix_len-drop_yes, common_prefix_len-le}
+use Rattle.std.proofs.lemmas.List.Sums.{common_prefix_len-le}
 
 -- So many first items are common, and it depends on the items after them how many more.
 abbrev pub AreCommon : {X : Type 0} → (X → X → Bool) → List X → List X → ℕ → Type 0
 AreCommon same xs ys count = common_prefix_len same xs ys ≡ count + common_prefix_len same (drop count xs) (drop count ys)
 
-pub one_more : {X : Type 0} (same : X → X → Bool) (xs ys : List X) (count : ℕ) (x y : X) → count < length xs → count < length ys
-    → same (get_or xs count x) (get_or ys count y) ≡ true → AreCommon same xs ys count → AreCommon same xs ys (count + 1)
-one_more same xs ys count x y first second are before =
-    let step = common_prefix_len-drop_yes same xs ys count x y first second are in omega (arith, before, step)
-
--- Up to two items that differ, and up to the end of a list.
-pub up_to_other : {X : Type 0} (same : X → X → Bool) (xs ys : List X) (count : ℕ) (x y : X) → count < length xs
-    → count < length ys → same (get_or xs count x) (get_or ys count y) ≡ false → AreCommon same xs ys count
-    → count ≡ common_prefix_len same xs ys
-up_to_other same xs ys count x y first second differ before =
-    let step = common_prefix_len-drop_no same xs ys count x y first second differ in omega (arith, before, step)
-
+-- Up to the end of a list.
 pub up_to_end : {X : Type 0} (same : X → X → Bool) (xs ys : List X) (count shorter : ℕ) → shorter ≡ min (length xs) (length ys)
     → count ≡ shorter → AreCommon same xs ys count → shorter ≡ common_prefix_len same xs ys
 up_to_end same xs ys count shorter is past before =

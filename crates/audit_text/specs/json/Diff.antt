@@ -1,49 +1,46 @@
--- What `uefi_audit diff --json` prints of two logs: an object that says what is compared, and one for each difference. The keys of
--- an object come in order.
-use Rattle.std.specs.Prelude.{ℕ, List, [], ◌++◌, flat_map, map, codes, Option, None, Some}
-use Rattle.serde_json.specs.Data.{Data, null, number, unsigned, string, array, object, member, no_members}
-use Rattle.serde_json.specs.View.{items_of}
+-- What `uefi_audit diff --json` prints of two logs: an object that says what is compared, and one for each difference.
+use Rattle.std.specs.Prelude.{ℕ, List, [], ◌∷◌, ◌++◌, flat_map, map, codes, Option, None, Some}
+use Rattle.audit_text.specs.json.Json.{Json, null, number, string, array, object}
 use Rattle.uefi_audits.specs.diff.Differences.{Change, Difference}
 use Rattle.uefi_audits.specs.diff.Numbered.{Numbered, pcr_of}
 use Rattle.audit_text.specs.ComparedLogs.{Logs}
 use Rattle.audit_text.specs.json.Algorithm.{algorithm_json}
 use Rattle.audit_text.specs.json.Event.{event_json}
-use Rattle.audit_text.specs.json.Line.{line_of}
+use Rattle.audit_text.specs.json.Line.{json_line}
 
 -- What is compared: the digests of these algorithms, and the logs of these names.
-unfoldable pub compared_json : Logs → Data
+unfoldable pub compared_json : Logs → Json
 compared_json logs =
-    object (member (codes "compared") (array (items_of (map algorithm_json logs.algorithms)))
-    (member (codes "new") (string logs.new_name) (member (codes "old") (string logs.old_name) no_members)))
+    object (
+    (codes "compared", array (map algorithm_json logs.algorithms))
+    ∷ (codes "new", string logs.new_name)
+    ∷ (codes "old", string logs.old_name) ∷ [])
 
 -- An event of a log of this name, as `uefi_audit events --json` prints it.
-abbrev pub entry_json : List ℕ → Numbered → Data
+abbrev pub entry_json : List ℕ → Numbered → Json
 entry_json name found = event_json name found.index found.entry found.content
 
 -- A difference: its kind, its PCR, and what the old and the new log have.
-unfoldable pub difference_json : List ℕ → ℕ → Data → Data → Data
+unfoldable pub difference_json : List ℕ → ℕ → Json → Json → Json
 difference_json kind pcr old new =
-    object (member (codes "difference") (string kind) (member (codes "new") new
-    (member (codes "old") old (member (codes "pcr") (number (unsigned pcr)) no_members))))
+    object (
+    (codes "difference", string kind)
+    ∷ (codes "new", new)
+    ∷ (codes "old", old)
+    ∷ (codes "pcr", number pcr) ∷ [])
 
 -- An event of the old log and its counterpart in the new one; and an event that one log alone has.
-unfoldable pub pair_json : Logs → List ℕ → Change → Data
+abbrev pub pair_json : Logs → List ℕ → Change → Json
 pair_json logs kind change =
     difference_json kind (pcr_of change.old) (entry_json logs.old_name change.old) (entry_json logs.new_name change.new)
 
-unfoldable pub old_json : Logs → Numbered → Data
+abbrev pub old_json : Logs → Numbered → Json
 old_json logs found = difference_json (codes "only_old") (pcr_of found) (entry_json logs.old_name found) null
 
-unfoldable pub new_json : Logs → Numbered → Data
+abbrev pub new_json : Logs → Numbered → Json
 new_json logs found = difference_json (codes "only_new") (pcr_of found) null (entry_json logs.new_name found)
 
 -- Their lines.
-abbrev pub json_line : Data → List ℕ
-json_line value = line_of value ++ codes "\n"
-
-abbrev pub compared_json_line : Logs → List ℕ
-compared_json_line logs = json_line (compared_json logs)
-
 abbrev pub pair_json_line : Logs → List ℕ → Change → List ℕ
 pair_json_line logs kind change = json_line (pair_json logs kind change)
 
@@ -74,4 +71,4 @@ pcr_json_lines logs difference =
     ++ (new_json_lines logs difference.only_new ++ moved_json_lines logs difference.moved))
 
 abbrev pub difference_json_lines : Logs → List Difference → List ℕ
-difference_json_lines logs differences = compared_json_line logs ++ flat_map (pcr_json_lines logs) differences
+difference_json_lines logs differences = json_line (compared_json logs) ++ flat_map (pcr_json_lines logs) differences

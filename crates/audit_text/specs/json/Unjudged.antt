@@ -1,10 +1,9 @@
--- What `uefi_audit verify --json` prints of a log that isn't judged. The keys of an object come in order.
-use Rattle.std.specs.Prelude.{ℕ, List, [], ◌∷◌, ◌++◌, codes}
-use Rattle.serde_json.specs.Data.{Data, null, string, array, object, member, no_members}
-use Rattle.serde_json.specs.View.{items_of}
-use Rattle.audit_text.specs.json.Line.{line_of}
+-- What `uefi_audit verify --json` prints of a log that isn't judged.
+use Rattle.std.specs.Prelude.{ℕ, List, [], ◌∷◌, codes}
+use Rattle.audit_text.specs.json.Json.{Json, null, string, array, object}
+use Rattle.audit_text.specs.json.Line.{json_line}
 use Rattle.audit_text.specs.declared.json.unjudged.NotJudged.{NotJudged}
-use Rattle.audit_text.specs.declared.json.unjudged.NotJudged.TheVariants.{Unread, MalformedQuote, NoNonce, UnknownHash, ManyAlgorithms, TrailingBytes, NothingMeasured, NoBank, Undetermined, NoPcr}
+use Rattle.audit_text.specs.declared.json.unjudged.NotJudged.TheVariants.{Unread, MalformedQuote, NoNonce, UnknownHash, TooManyAlgorithms, LeftOver, NothingMeasured, NoBank, Undetermined, NoPcr}
 
 -- Why it isn't.
 abbrev pub reason_text : NotJudged → List ℕ
@@ -12,22 +11,23 @@ reason_text Unread = codes "unread"
 reason_text MalformedQuote = codes "malformed quote"
 reason_text NoNonce = codes "no nonce"
 reason_text UnknownHash = codes "unknown hash"
-reason_text ManyAlgorithms = codes "many algorithms"
-reason_text TrailingBytes = codes "trailing bytes"
+reason_text TooManyAlgorithms = codes "many algorithms"
+reason_text LeftOver = codes "trailing bytes"
 reason_text NothingMeasured = codes "nothing measured"
 reason_text NoBank = codes "no bank"
 reason_text Undetermined = codes "undetermined"
 reason_text NoPcr = codes "no PCR"
 
 -- The object: nothing agrees or is covered, why, and the name of the log.
-unfoldable pub unjudged_json : List ℕ → NotJudged → Data
+unfoldable pub unjudged_json : List ℕ → NotJudged → Json
 unjudged_json name why =
-    object (member (codes "agrees") null
-    (member (codes "covered") null
-    (member (codes "failed") (array (items_of (string (reason_text why) ∷ [])))
-    (member (codes "log") (string name)
-    (member (codes "not_covered") null no_members)))))
+    object (
+    (codes "agrees", null)
+    ∷ (codes "covered", null)
+    ∷ (codes "failed", array (string (reason_text why) ∷ []))
+    ∷ (codes "log", string name)
+    ∷ (codes "not_covered", null) ∷ [])
 
 -- Its line.
 abbrev pub unjudged_line : List ℕ → NotJudged → List ℕ
-unjudged_line name why = line_of (unjudged_json name why) ++ codes "\n"
+unjudged_line name why = json_line (unjudged_json name why)

@@ -13,7 +13,7 @@ opened [] = []
 opened (first ∷ others) = codes " (" ++ (first ++ flat_map (λ other. codes ", " ++ other) others)
 
 -- What is appended for the next one, if there is one.
-unfoldable pub next_text : Bool → List (List ℕ) → List ℕ
+abbrev pub next_text : Bool → List (List ℕ) → List ℕ
 next_text any [] = []
 next_text any (next ∷ others) = (if any then codes ", " else codes " (") ++ next
 

@@ -80,7 +80,7 @@ unfoldable pub said_change : Numbered → Numbered → List ℕ
 said_change old new = if_both value_change (plain_value old.content) (plain_value new.content) (read_change old new)
 
 -- Words, or others if there are none; and so what changed in what the data say, or the bytes from the first that differs.
-unfoldable pub or_else : List ℕ → List ℕ → List ℕ
+abbrev pub or_else : List ℕ → List ℕ → List ℕ
 or_else words other = if length words == 0 then other else words
 
 abbrev pub data_change : Numbered → Numbered → List ℕ

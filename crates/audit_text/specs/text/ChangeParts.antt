@@ -54,7 +54,7 @@ line_change old new = change_between (only_text (lines_of new) (lines_of old)) (
 abbrev pub words_of : List ℕ → List (List ℕ)
 words_of text = slice_split (λ byte. byte == 0x20) text
 
-unfoldable pub after_dots : ℕ → List ℕ → List ℕ
+abbrev pub after_dots : ℕ → List ℕ → List ℕ
 after_dots count rest = if count == 0 || length rest == 0 then rest else codes ".. " ++ rest
 
 unfoldable pub joined_words : ℕ → List (List ℕ) → List ℕ

@@ -78,7 +78,7 @@ unfoldable pub label_words : Numbered → Numbered → List ℕ
 label_words old new =
     if bytes_eq (data_of old) (data_of new) then said old.content else name_words old.content (data_of old)
 
-unfoldable pub name_text : Change → List ℕ
+abbrev pub name_text : Change → List ℕ
 name_text change = words_text (label_words change.old change.new)
 
 -- The line of an event that differs from its counterpart.

@@ -1,8 +1,7 @@
 -- Parts of the lines of an event.
-use Rattle.std.specs.Prelude.{ℕ, ◌-◌, ◌/◌, zero, suc, List, [], ◌∷◌, ◌++◌, take, drop, length, codes, Option, Some, None}
+use Rattle.std.specs.Prelude.{ℕ, ◌-◌, ◌/◌, zero, suc, List, ◌++◌, take, drop, length, codes, Option, Some, None}
 use Rattle.hex.specs.Hex.{encode_lower}
 use Rattle.audit_text.specs.words.Names.{algorithm_name}
-use Rattle.audit_text.specs.words.Printed.{printed_text}
 use Rattle.shown.specs.Name.{shown_name}
 use Rattle.audit_text.specs.words.Types.{name_or_number}
 
@@ -21,17 +20,7 @@ hex_lines_after (suc more) bytes = hex_line (take 32 bytes) ++ hex_lines_after m
 abbrev pub hex_lines : List ℕ → List ℕ
 hex_lines bytes = hex_lines_after ((length bytes - 1) / 32) bytes
 
--- What bytes are, and the text that they are, or the bytes; nothing if there are no bytes.
-unfoldable pub printed_line : List ℕ → List ℕ → List ℕ
-printed_line what text = codes "  " ++ (what ++ (codes ": " ++ (shown_name text ++ codes "\n")))
-
-abbrev pub hex_block : List ℕ → List ℕ → List ℕ
-hex_block what bytes = (codes "  " ++ (what ++ codes "\n")) ++ hex_lines bytes
-
-unfoldable pub text_or_hex : List ℕ → Option (List ℕ) → List ℕ → List ℕ
-text_or_hex what (Some text) bytes = printed_line what text
-text_or_hex what None bytes = hex_block what bytes
-
-unfoldable pub bytes_lines : List ℕ → List ℕ → List ℕ
-bytes_lines what [] = []
-bytes_lines what (byte ∷ bytes) = text_or_hex what (printed_text (byte ∷ bytes)) (byte ∷ bytes)
+-- After the words for bytes: the text that they are, or the bytes.
+unfoldable pub text_or_hex : Option (List ℕ) → List ℕ → List ℕ
+text_or_hex (Some text) bytes = codes ": " ++ (shown_name text ++ codes "\n")
+text_or_hex None bytes = codes "\n" ++ hex_lines bytes

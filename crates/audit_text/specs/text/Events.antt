@@ -11,7 +11,8 @@ use Rattle.audit_text.specs.text.EventParts.{algorithm_text}
 use Rattle.audit_text.specs.words.Events.{AreShown}
 use Rattle.shown.specs.Name.{shown_name}
 use Rattle.audit_text.specs.words.Types.{type_text}
-use Rattle.uefi_audits.specs.content.Content.{Content, Says, form_of}
+use Rattle.uefi_audits.specs.content.Content.{Content, Says}
+use Rattle.uefi_audits.specs.content.Form.{form}
 
 -- The first line of an event: the log's name, the event's index and its offset, its PCR and its type.
 unfoldable pub event_start : List ℕ → ℕ → Entry → List ℕ
@@ -33,7 +34,7 @@ event_body event content = flat_map digest_line event.digests ++ content_lines e
 -- The text is this body, with what the data say by the event's type, with a UINTN of this size.
 abbrev pub IsEventBody : UintnSize → Event → List ℕ → Type 0
 IsEventBody size event text =
-    (content : Content) × Says size (form_of event.event_type) event.event_data content × (text ≡ event_body event content)
+    (content : Content) × Says size (form event.event_type) event.event_data content × (text ≡ event_body event content)
 
 -- It is the block of an event at this index; and the blocks of all events of a log of this name.
 abbrev pub IsEventBlock : UintnSize → List ℕ → ℕ → Entry → List ℕ → Type 0

@@ -6,11 +6,9 @@ use Rattle.uefi_audits.specs.declared.header_fault.HeaderFault.TheVariants.{Pcr,
 use Rattle.shown.specs.Name.{shown_name}
 
 -- The line says what isn't as a header's.
-unfoldable pub fault_line : List ℕ → HeaderFault → List ℕ
-fault_line name (Pcr pcr) =
-    shown_name name ++ (codes ": its header is of PCR " ++ (decimal pcr ++ codes ", not of PCR 0, so that it is read as version 1\n"))
-fault_line name Digest = shown_name name ++ codes ": the digest of its header isn't zero, so that it is read as version 1\n"
-
 unfoldable pub header_fault_lines : List ℕ → Option HeaderFault → List ℕ
 header_fault_lines name None = []
-header_fault_lines name (Some fault) = fault_line name fault
+header_fault_lines name (Some (Pcr pcr)) =
+    shown_name name ++ (codes ": its header is of PCR " ++ (decimal pcr ++ codes ", not of PCR 0, so that it is read as version 1\n"))
+header_fault_lines name (Some Digest) =
+    shown_name name ++ codes ": the digest of its header isn't zero, so that it is read as version 1\n"

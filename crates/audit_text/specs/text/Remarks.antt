@@ -6,7 +6,7 @@ use Rattle.pcr_replay.specs.declared.ignored.Ignored.{Ignored}
 use Rattle.pcr_replay.specs.declared.ignored.Ignored.TheVariants.{NoPcr, OtherPcr}
 use Rattle.uefi_audits.specs.Naming.{bank_name}
 use Rattle.uefi_audits.specs.declared.ignored.IgnoredEvent.{IgnoredEvent}
-use Rattle.uefi_audits.specs.declared.start.KnownStart.{KnownStart}
+use Rattle.uefi_audits.specs.declared.known_start.KnownStart.{KnownStart}
 use Rattle.audit_text.specs.words.Numbers.{hex_text}
 use Rattle.shown.specs.Name.{shown_name}
 
@@ -40,7 +40,7 @@ uncompared_line name [] = []
 uncompared_line name (first ∷ others) = uncompared_from name first others
 
 -- Why an event has no effect.
-unfoldable pub ignored_text : Ignored → ℕ → List ℕ
+abbrev pub ignored_text : Ignored → ℕ → List ℕ
 ignored_text NoPcr pcr = codes "is of PCR " ++ decimal pcr ++ codes ", which no TPM has"
 ignored_text OtherPcr pcr = codes "states the locality, and isn't of PCR 0"
 

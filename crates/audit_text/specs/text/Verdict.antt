@@ -19,21 +19,18 @@ unfoldable pub start_text : ℕ → ℕ → List ℕ
 start_text zero locality = codes ", PCR 0 starts at locality " ++ decimal locality
 start_text (suc pcr) locality = []
 
--- A value to which a log leads, and the event by which a PCR is undetermined.
+-- A value to which a log leads.
 unfoldable pub value_text : ℕ → ℕ → List ℕ → List ℕ
 value_text pcr locality value = codes ", the log leads to 0x" ++ (encode_upper value ++ (start_text pcr locality ++ codes "\n"))
 
-unfoldable pub undetermined_text : Undetermined → List ℕ
-undetermined_text at = codes ", undetermined: " ++ (event_text at ++ codes "\n")
-
--- What a log leads to in a PCR: one of these, or nothing, since there is no such PCR.
+-- What a log leads to in a PCR: a value, or an event by which it is undetermined, or nothing, since there is no such PCR.
 unfoldable pub outcome_text : ℕ → ℕ → Option Outcome → List ℕ
 outcome_text pcr locality None = codes ", and the log has no such PCR\n"
 outcome_text pcr locality (Some (Ok value)) = value_text pcr locality value
-outcome_text pcr locality (Some (Err at)) = undetermined_text at
+outcome_text pcr locality (Some (Err at)) = codes ", undetermined: " ++ (event_text at ++ codes "\n")
 
 -- The line of a PCR that doesn't agree: the log, the bank, the PCR and what it held, and what the log leads to.
-unfoldable pub held_text : List ℕ → HeldPcr → List ℕ
+abbrev pub held_text : List ℕ → HeldPcr → List ℕ
 held_text name held =
     shown_name name ++ (codes ": " ++ (bank_name held.bank ++ (codes " PCR " ++ (decimal held.pcr ++ (codes " held 0x" ++ encode_upper (value_of held.value))))))
 

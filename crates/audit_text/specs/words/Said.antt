@@ -1,11 +1,10 @@
 -- What data say, in a few words on one line.
-use Rattle.std.specs.Prelude.{ℕ, ◌==◌, ◌-◌, List, [], ◌∷◌, ◌++◌, take, length, codes, encode_utf8, Option, Some, None, false, if◌then◌else◌}
+use Rattle.std.specs.Prelude.{ℕ, ◌==◌, ◌-◌, List, [], ◌∷◌, ◌++◌, take, length, codes, encode_utf8, Option, Some, None, if◌then◌else◌}
 use Rattle.std.specs.List.{flat_map}
-use Rattle.std.specs.Fmt.{decimal, digits}
+use Rattle.std.specs.Fmt.{decimal}
 use Rattle.std.specs.Str.{chars}
-use Rattle.uefi_base.specs.GuidText.{guid_text, hex_byte}
+use Rattle.uefi_base.specs.GuidText.{guid_text}
 use Rattle.uefi_path.specs.Node.{Node}
-use Rattle.tcg_event.specs.Blob.{Blob}
 use Rattle.tcg_event.specs.CrtmVersion.{CrtmVersion, ucs2, guid, other}
 use Rattle.tcg_event.specs.Image.{Image}
 use Rattle.tcg_event.specs.Tagged.{Tagged}
@@ -14,6 +13,7 @@ use Rattle.tcg_event.specs.Text.{EventText, utf8, utf16}
 use Rattle.uefi_audits.specs.content.Content.{Content, unread, text, separator, locality, header, loader_text, crtm_version, blob, described_blob, tagged, gpt, variable, image}
 use Rattle.audit_text.specs.words.Path.{path_text}
 use Rattle.audit_text.specs.words.Texts.{unit_text}
+use Rattle.shown.specs.HexText.{hex_number, hex_of}
 use Rattle.shown.specs.Name.{shown_name, shown_name_bytes}
 use Rattle.audit_text.specs.words.Tags.{tag_text}
 
@@ -40,7 +40,7 @@ unfoldable pub shown_bytes : List ℕ → List ℕ
 shown_bytes bytes = shown_name_bytes (take shown_length bytes) ++ more (length bytes - shown_length)
 
 unfoldable pub shown_hex : List ℕ → List ℕ
-shown_hex bytes = flat_map hex_byte (take shown_length bytes) ++ more (length bytes - shown_length)
+shown_hex bytes = hex_of (take shown_length bytes) ++ more (length bytes - shown_length)
 
 -- The text of an event, and a version.
 unfoldable pub event_words : EventText → List ℕ
@@ -52,10 +52,6 @@ unfoldable pub version_words : CrtmVersion → List ℕ
 version_words (ucs2 units) = shown_units units
 version_words (guid bytes) = guid_text bytes
 version_words (other it) = event_words it
-
--- Where a blob is.
-unfoldable pub blob_text : Blob → List ℕ
-blob_text it = codes "blob at 0x" ++ digits 16 false it.base
 
 -- A device path, by its nodes; the first of its bytes in hex, if they are no path.
 unfoldable pub path_words : List ℕ → Option (List Node) → List ℕ
@@ -81,7 +77,7 @@ said (locality n) = codes "locality " ++ decimal n
 said (header it) = codes "header"
 said (loader_text it) = event_words it
 said (crtm_version it) = version_words it
-said (blob it) = blob_text it
+said (blob it) = codes "blob at " ++ hex_number it.base
 said (described_blob it) = codes "blob " ++ shown_bytes it.description
 said (tagged events rest) = tagged_words events
 said (gpt it) = codes "disk " ++ guid_text it.header.disk_guid

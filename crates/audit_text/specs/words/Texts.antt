@@ -16,24 +16,13 @@ unfoldable pub before_nul : List ℕ → List ℕ
 before_nul [] = []
 before_nul (unit ∷ units) = if unit == 0 then [] else unit ∷ before_nul units
 
--- The text of an event, without the NUL that may end it; bytes that are no text as those of a file's name are shown.
-unfoldable pub event_text : EventText → List ℕ
-event_text (utf8 text) = text.characters
-event_text (utf16 text) = flat_map unit_text text.characters
-event_text (texts.other bytes) = shown_name_bytes bytes
-
--- The same as a file's name is shown: on one line, and with nothing in it hidden.
+-- The text of an event as a file's name is shown: on one line, and with nothing in it hidden.
 unfoldable pub shown_event : EventText → List ℕ
 shown_event (utf8 text) = shown_name text.characters
 shown_event (utf16 text) = shown_name (flat_map unit_text text.characters)
 shown_event (texts.other bytes) = shown_name_bytes bytes
 
 -- A version: its text, or its GUID.
-unfoldable pub version_text : CrtmVersion → List ℕ
-version_text (ucs2 units) = flat_map unit_text units
-version_text (guid bytes) = guid_text bytes
-version_text (other text) = event_text text
-
 unfoldable pub shown_version : CrtmVersion → List ℕ
 shown_version (ucs2 units) = shown_name (flat_map unit_text units)
 shown_version (guid bytes) = guid_text bytes

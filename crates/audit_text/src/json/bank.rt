@@ -1,23 +1,21 @@
-ghost use Rattle.std.specs.Prelude.{◌≡◌, ◌++◌, IfOk, OnOk, map, option_map};
-ghost use Rattle.hex.specs.Hex.{encode_lower};
-ghost use Rattle.serde_json.specs.Data.{string};
-ghost use Rattle.serde_json.specs.View.{view};
+ghost use Rattle.std.specs.Prelude.{IfOk, OnOk, map, option_map};
 ghost use Rattle.pcr_replay.specs.Views.{outcome_of, outcomes_of};
 ghost use Rattle.pcr_replay.specs.BankReplays.{bank_outcomes_of};
+ghost use Rattle.audit_text.specs.private.JsonValues.{AppendsValues, AreValuesOf, IsValueOf};
 ghost use Rattle.audit_text.specs.json.Replay.{bank_json, banks_json, if_undetermined, outcome_json, undetermined_json};
 ghost use Rattle.uefi_audits.specs.Numbered.{numbered};
 
 use crate::json::event::hex_json;
 use pcr_replay::{BankPcrs, PcrValue, Pcrs, Undetermined};
-use serde_json::{Map, Value, json, put};
+use serde_json::{Value, json};
 use std::alloc::{AllocError, Global};
 use uefi_audits::naming::bank_name;
 
 /// Returns the banks of a log; `null` if it is refused.
 #[tactic(auto, unfolding(crate::specs::json::Replay::banks_json))]
 pub(crate) fn banks_json(alloc: Global, banks: Option<&[BankPcrs]>) -> Result<Value, AllocError>
-    ensures { IfOk result (λ value. view value
-        ≡ banks_json (option_map (λ them. map bank_outcomes_of them.now) banks.entry)) }
+    ensures { IfOk result
+        (IsValueOf (banks_json (option_map (λ them. map bank_outcomes_of them.now) banks.entry))) }
 {
     match banks {
         Some(banks) => Ok(Value::Array(each_bank(alloc, banks)?)),
@@ -27,8 +25,7 @@ pub(crate) fn banks_json(alloc: Global, banks: Option<&[BankPcrs]>) -> Result<Va
 
 /// Returns each bank.
 fn each_bank(alloc: Global, banks: &[BankPcrs]) -> Result<Vec<Value>, AllocError>
-    ensures { IfOk result (λ values. map view values.items
-        ≡ map bank_json (map bank_outcomes_of banks.now)) }
+    ensures { IfOk result (AreValuesOf (map bank_json (map bank_outcomes_of banks.now))) }
 {
     let mut values = Vec::new(alloc);
     for bank in banks {
@@ -41,22 +38,17 @@ fn each_bank(alloc: Global, banks: &[BankPcrs]) -> Result<Vec<Value>, AllocError
 /// Returns a bank: its name, its PCRs, and the events by which some are undetermined.
 #[tactic(auto, unfolding(crate::specs::json::Replay::bank_json))]
 fn bank_json(alloc: Global, bank: &BankPcrs) -> Result<Value, AllocError>
-    ensures { IfOk result (λ value. view value ≡ bank_json (bank_outcomes_of bank.now)) }
+    ensures { IfOk result (IsValueOf (bank_json (bank_outcomes_of bank.now))) }
 {
-    let mut members = Map::new(alloc);
-    let name = Value::try_from_str(alloc, bank_name(bank.bank))?;
-    put(&mut members, alloc, "algorithm", name)?;
+    let name = bank_name(bank.bank);
     let outcomes = Value::Array(outcomes_json(alloc, &bank.pcrs)?);
-    put(&mut members, alloc, "pcrs", outcomes)?;
     let undetermined = Value::Array(all_undetermined(alloc, &bank.pcrs)?);
-    put(&mut members, alloc, "undetermined", undetermined)?;
-    Ok(Value::Object(members))
+    json!(in alloc; {"algorithm": name, "pcrs": outcomes, "undetermined": undetermined})
 }
 
 /// Returns what each PCR holds.
 fn outcomes_json(alloc: Global, pcrs: &Pcrs) -> Result<Vec<Value>, AllocError>
-    ensures { IfOk result
-        (λ values. map view values.items ≡ map outcome_json (outcomes_of pcrs.now)) }
+    ensures { IfOk result (AreValuesOf (map outcome_json (outcomes_of pcrs.now))) }
 {
     let mut values = Vec::new(alloc);
     for outcome in pcrs.outcomes() {
@@ -72,7 +64,7 @@ fn outcome_json(
     alloc: Global,
     outcome: &Result<PcrValue, Undetermined>,
 ) -> Result<Value, AllocError>
-    ensures { IfOk result (λ value. view value ≡ outcome_json (outcome_of outcome.now)) }
+    ensures { IfOk result (IsValueOf (outcome_json (outcome_of outcome.now))) }
 {
     match outcome {
         Ok(value) => hex_json(alloc, value.as_bytes()),
@@ -82,8 +74,7 @@ fn outcome_json(
 
 /// Returns the events by which PCRs are undetermined, in the order of the PCRs.
 fn all_undetermined(alloc: Global, pcrs: &Pcrs) -> Result<Vec<Value>, AllocError>
-    ensures { IfOk result (λ values. map view values.items
-        ≡ numbered if_undetermined 0 (outcomes_of pcrs.now)) }
+    ensures { IfOk result (AreValuesOf (numbered if_undetermined 0 (outcomes_of pcrs.now))) }
 {
     let outcomes = pcrs.outcomes();
     let mut values = Vec::new(alloc);
@@ -101,8 +92,8 @@ fn push_if_undetermined(
     pcr: usize,
     outcome: &Result<PcrValue, Undetermined>,
 ) -> Result<(), AllocError>
-    ensures { OnOk result (map view values.new.items
-        ≡ map view values.old.items ++ if_undetermined pcr (outcome_of outcome.now)) }
+    ensures { OnOk result
+        (AppendsValues values.old values.new (if_undetermined pcr (outcome_of outcome.now))) }
 {
     match outcome {
         Ok(_) => Ok(()),
@@ -117,7 +108,7 @@ fn push_if_undetermined(
 /// Returns the event by which a PCR is undetermined: its index, its offset, and why.
 #[tactic(auto, unfolding(crate::specs::json::Replay::undetermined_json))]
 fn undetermined_json(alloc: Global, pcr: usize, at: &Undetermined) -> Result<Value, AllocError>
-    ensures { IfOk result (λ value. view value ≡ undetermined_json pcr at.now) }
+    ensures { IfOk result (IsValueOf (undetermined_json pcr at.now)) }
 {
     let (index, offset) = (at.index, at.offset);
     let reason = format!(in alloc; "{}", at.fault)?;

@@ -1,17 +1,17 @@
 //! What was checked, as JSON.
 
-ghost use Rattle.std.specs.Prelude.{◌≡◌, flat_map, map, IfOk, OnOk};
-ghost use Rattle.serde_json.specs.Data.{object};
-ghost use Rattle.serde_json.specs.View.{members_view, view};
+ghost use Rattle.std.specs.Prelude.{flat_map, map, IfOk, OnOk};
 ghost use Rattle.uefi_base.specs.Appending.{AppendsText};
 ghost use Rattle.uefi_audits.specs.CheckResult.{all_forms, mismatch_of};
 ghost use Rattle.uefi_audits.specs.OutOfPlace.{remarks_of};
-ghost use Rattle.audit_text.specs.json.Check.{check_lines, counts_json, forms_members, mismatch_json, mismatch_line, types_json, types_line, with_form};
+ghost use Rattle.audit_text.specs.json.Check.{check_lines, counts_json, form_member, form_members, mismatch_json, mismatch_line, types_json, types_line};
+ghost use Rattle.audit_text.specs.json.Json.{object};
+ghost use Rattle.audit_text.specs.private.JsonValues.{AreValuesOf, IsValueOf, PutsMembers};
 
 use super::out_of_place::push_remarks;
-use crate::json::{line_of, type_json};
+use crate::json::{push_line, type_json};
 use crate::words::form_name;
-use serde_json::{Map, Value, put};
+use serde_json::{Map, Value, json, put};
 use std::alloc::{AllocError, Global};
 use uefi_audits::check::{CheckResult, Form, Mismatch, TypeCounts};
 
@@ -91,15 +91,13 @@ fn push_mismatch(
         (AppendsText text.old text.new (mismatch_line log.now (mismatch_of mismatch.now))) }
 {
     let value = mismatch_json(alloc, log, mismatch)?;
-    let line = line_of(alloc, &value)?;
-    writeln!(text, "{line}")
+    push_line(text, alloc, &value)
 }
 
 /// Returns an event that matches in none of its type's forms.
 #[tactic(auto, unfolding(crate::specs::json::Check::mismatch_json))]
 fn mismatch_json(alloc: Global, log: &str, mismatch: &Mismatch<'_>) -> Result<Value, AllocError>
-    ensures { IfOk result
-        (λ value. view value ≡ mismatch_json log.now (mismatch_of mismatch.now)) }
+    ensures { IfOk result (IsValueOf (mismatch_json log.now (mismatch_of mismatch.now))) }
 {
     let entry = &mismatch.entry;
     let mut members = Map::new(alloc);
@@ -125,26 +123,21 @@ fn push_types(
     ensures { OnOk result (AppendsText text.old text.new (types_line log.now types.now)) }
 {
     let value = types_json(alloc, log, types)?;
-    let line = line_of(alloc, &value)?;
-    writeln!(text, "{line}")
+    push_line(text, alloc, &value)
 }
 
 /// Returns the counts of the types.
 #[tactic(auto, unfolding(crate::specs::json::Check::types_json))]
 fn types_json(alloc: Global, log: &str, types: &[TypeCounts]) -> Result<Value, AllocError>
-    ensures { IfOk result (λ value. view value ≡ types_json log.now types.now) }
+    ensures { IfOk result (IsValueOf (types_json log.now types.now)) }
 {
-    let mut members = Map::new(alloc);
     let checked = Value::Array(each_type(alloc, types)?);
-    put(&mut members, alloc, "checked", checked)?;
-    let log = Value::try_from_str(alloc, log)?;
-    put(&mut members, alloc, "log", log)?;
-    Ok(Value::Object(members))
+    json!(in alloc; {"checked": checked, "log": log})
 }
 
 /// Returns the counts of each type.
 fn each_type(alloc: Global, types: &[TypeCounts]) -> Result<Vec<Value>, AllocError>
-    ensures { IfOk result (λ values. map view values.items ≡ map counts_json types.now) }
+    ensures { IfOk result (AreValuesOf (map counts_json types.now)) }
 {
     let mut values = Vec::new(alloc);
     for counts in types {
@@ -157,7 +150,7 @@ fn each_type(alloc: Global, types: &[TypeCounts]) -> Result<Vec<Value>, AllocErr
 /// Returns the counts of a type.
 #[tactic(auto, unfolding(crate::specs::json::Check::counts_json))]
 fn counts_json(alloc: Global, counts: &TypeCounts) -> Result<Value, AllocError>
-    ensures { IfOk result (λ value. view value ≡ counts_json counts.now) }
+    ensures { IfOk result (IsValueOf (counts_json counts.now)) }
 {
     let mut members = Map::new(alloc);
     let forms = forms_json(alloc, counts)?;
@@ -175,8 +168,7 @@ fn counts_json(alloc: Global, counts: &TypeCounts) -> Result<Value, AllocError>
 
 /// Returns how many match in each form in which any matches.
 fn forms_json(alloc: Global, counts: &TypeCounts) -> Result<Value, AllocError>
-    ensures { IfOk result (λ value. view value
-        ≡ object (forms_members counts.now.by_form all_forms)) }
+    ensures { IfOk result (IsValueOf (object (form_members counts.now.by_form all_forms))) }
 {
     let mut members = Map::new(alloc);
     for form in Form::ALL {
@@ -186,15 +178,14 @@ fn forms_json(alloc: Global, counts: &TypeCounts) -> Result<Value, AllocError>
 }
 
 /// Puts in how many match in a form, if any does.
-#[tactic(auto, unfolding(crate::specs::json::Check::with_form))]
+#[tactic(auto, unfolding(crate::specs::json::Check::form_member))]
 fn put_form(
     members: &mut Map<String, Value>,
     alloc: Global,
     count: u64,
     form: Form,
 ) -> Result<(), AllocError>
-    ensures { OnOk result (members_view members.new.entries
-        ≡ with_form count form (members_view members.old.entries)) }
+    ensures { OnOk result (PutsMembers members.old members.new (form_member count form)) }
 {
     if count == 0 {
         return Ok(());

@@ -1,10 +1,11 @@
-ghost use Rattle.std.specs.Prelude.{◌≡◌, ◌++◌, map, IfOk, OnOk};
-ghost use Rattle.serde_json.specs.View.{view};
+ghost use Rattle.std.specs.Prelude.{◌≡◌, map, IfOk, OnOk};
 ghost use Rattle.uefi_audits.specs.verify.Coverage.{covering_of};
-ghost use Rattle.audit_text.specs.json.Coverage.{by_banks, covered_json, if_any, not_covered_json, numbers_in, of_bank, pcr_number, pcrs_json, unless};
+ghost use Rattle.audit_text.specs.json.Coverage.{by_banks, covered_json, if_any, not_covered_json, numbers_in, of_bank, pcr_number, unless};
+ghost use Rattle.audit_text.specs.json.Json.{Json};
+ghost use Rattle.audit_text.specs.private.JsonValues.{AppendsValues, AreValuesOf, IsValueOf};
 
 use pcr_replay::Bank;
-use serde_json::{Map, Value, put};
+use serde_json::{Value, json};
 use std::alloc::{AllocError, Global};
 use uefi_audits::naming::bank_name;
 use uefi_audits::verify::{Coverage, NamedPcr};
@@ -12,7 +13,7 @@ use uefi_audits::verify::{Coverage, NamedPcr};
 /// Returns the PCRs that are covered: for each bank an object with its name and the PCRs.
 #[tactic(auto, unfolding(crate::specs::json::Coverage::covered_json))]
 pub(crate) fn covered_json(alloc: Global, covered: &[NamedPcr]) -> Result<Value, AllocError>
-    ensures { IfOk result (λ value. view value ≡ covered_json covered.now) }
+    ensures { IfOk result (IsValueOf (covered_json covered.now)) }
 {
     Ok(Value::Array(by_banks(alloc, covered)?))
 }
@@ -21,7 +22,7 @@ pub(crate) fn covered_json(alloc: Global, covered: &[NamedPcr]) -> Result<Value,
 /// `null` of those that events extend.
 #[tactic(auto, unfolding(crate::specs::json::Coverage::not_covered_json))]
 pub(crate) fn not_covered_json(alloc: Global, coverage: &Coverage) -> Result<Value, AllocError>
-    ensures { IfOk result (λ value. view value ≡ not_covered_json (covering_of coverage.now)) }
+    ensures { IfOk result (IsValueOf (not_covered_json (covering_of coverage.now))) }
 {
     let mut values = by_banks(alloc, coverage.missing.as_slice())?;
     push_if_any(
@@ -41,8 +42,7 @@ pub(crate) fn push_unless(
     agrees: bool,
     name: &str,
 ) -> Result<(), AllocError>
-    ensures { OnOk result
-        (map view failed.new.items ≡ map view failed.old.items ++ unless agrees name.now) }
+    ensures { OnOk result (AppendsValues failed.old failed.new (unless agrees name.now)) }
 {
     if agrees {
         return Ok(());
@@ -54,7 +54,7 @@ pub(crate) fn push_unless(
 
 /// Returns PCRs by banks.
 fn by_banks(alloc: Global, pcrs: &[NamedPcr]) -> Result<Vec<Value>, AllocError>
-    ensures { IfOk result (λ values. map view values.items ≡ by_banks pcrs.now) }
+    ensures { IfOk result (AreValuesOf (by_banks pcrs.now)) }
 {
     let mut values = Vec::new(alloc);
     for bank in &Bank::ALL {
@@ -70,8 +70,7 @@ fn push_bank(
     bank: Bank,
     pcrs: &[NamedPcr],
 ) -> Result<(), AllocError>
-    ensures { OnOk result
-        (map view values.new.items ≡ map view values.old.items ++ of_bank pcrs.now bank) }
+    ensures { OnOk result (AppendsValues values.old values.new (of_bank pcrs.now bank)) }
 {
     let name = Value::try_from_str(alloc, bank_name(bank))?;
     let numbers = numbers_in(alloc, pcrs, bank)?;
@@ -96,32 +95,21 @@ fn push_if_any(
     bank: Value,
     pcrs: &[u32],
 ) -> Result<(), AllocError>
-    ensures { OnOk result
-        (map view values.new.items ≡ map view values.old.items ++ if_any (view bank) pcrs.now) }
+    ensures { (json : Json) → IsValueOf json bank
+        → OnOk result (AppendsValues values.old values.new (if_any json pcrs.now)) }
 {
     if pcrs.is_empty() {
         return Ok(());
     }
-    let value = pcrs_json(alloc, bank, pcrs)?;
+    let pcrs = Value::Array(each_number(alloc, pcrs)?);
+    let value = json!(in alloc; {"bank": bank, "pcrs": pcrs})?;
     values.push(value)?;
     Ok(())
 }
 
-/// Returns the object of PCRs of a bank.
-#[tactic(auto, unfolding(crate::specs::json::Coverage::pcrs_json))]
-fn pcrs_json(alloc: Global, bank: Value, pcrs: &[u32]) -> Result<Value, AllocError>
-    ensures { IfOk result (λ value. view value ≡ pcrs_json (view bank) pcrs.now) }
-{
-    let mut members = Map::new(alloc);
-    put(&mut members, alloc, "bank", bank)?;
-    let pcrs = Value::Array(each_number(alloc, pcrs)?);
-    put(&mut members, alloc, "pcrs", pcrs)?;
-    Ok(Value::Object(members))
-}
-
 /// Returns each number of a PCR.
 fn each_number(alloc: Global, pcrs: &[u32]) -> Result<Vec<Value>, AllocError>
-    ensures { IfOk result (λ values. map view values.items ≡ map pcr_number pcrs.now) }
+    ensures { IfOk result (AreValuesOf (map pcr_number pcrs.now)) }
 {
     let mut values = Vec::new(alloc);
     for pcr in pcrs {

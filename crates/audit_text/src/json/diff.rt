@@ -1,16 +1,17 @@
-ghost use Rattle.std.specs.Prelude.{◌≡◌, flat_map, map, IfOk, OnOk, option_map};
-ghost use Rattle.serde_json.specs.View.{view};
+ghost use Rattle.std.specs.Prelude.{flat_map, map, IfOk, OnOk, option_map};
 ghost use Rattle.uefi_base.specs.Appending.{AppendsText};
 ghost use Rattle.audit_text.specs.ComparedLogs.{logs_of};
 ghost use Rattle.audit_text.specs.json.Algorithm.{algorithm_json};
-ghost use Rattle.audit_text.specs.json.Diff.{changed_json_lines, compared_json, compared_json_line, difference_json, difference_json_lines, entry_json, moved_json_lines, new_json, new_json_line, new_json_lines, old_json, old_json_line, old_json_lines, pair_json, pair_json_line, pcr_json_lines};
+ghost use Rattle.audit_text.specs.json.Diff.{changed_json_lines, compared_json, difference_json, difference_json_lines, entry_json, moved_json_lines, new_json_line, new_json_lines, old_json_line, old_json_lines, pair_json_line, pcr_json_lines};
 ghost use Rattle.uefi_audits.specs.diff.Views.{change_of, difference_of, numbered_of, numbers_of};
+ghost use Rattle.audit_text.specs.json.Json.{Json};
+ghost use Rattle.audit_text.specs.private.JsonValues.{AreValuesOf, IsValueOf};
 
 use crate::compared_logs::ComparedLogs;
 use crate::json::digests::algorithm_json;
 use crate::json::event::event_json;
-use crate::json::line::line_of;
-use serde_json::{Map, Value, put};
+use crate::json::line::push_line;
+use serde_json::{Map, Value, json, put};
 use std::alloc::{AllocError, Global};
 use uefi_audits::diff::{EventChange, NumberedEntry, PcrDifference};
 use uefi_tcg::AlgorithmId;
@@ -50,44 +51,23 @@ pub fn push_differences_json(
     ensures { OnOk result (AppendsText text.old text.new
         (difference_json_lines (logs_of logs.now) (map difference_of differences.now))) }
 {
-    push_compared(text, alloc, logs)?;
+    let compared = compared_json(alloc, logs)?;
+    push_line(text, alloc, &compared)?;
     push_pcrs(text, alloc, logs, differences)
-}
-
-/// Appends the line that says what is compared.
-#[tactic(auto, using(crate::proofs::json::NoFloatsInDiff::no_float_in_compared))]
-fn push_compared(
-    text: &mut String,
-    alloc: Global,
-    logs: &ComparedLogs<'_>,
-) -> Result<(), AllocError>
-    ensures { OnOk result
-        (AppendsText text.old text.new (compared_json_line (logs_of logs.now))) }
-{
-    let value = compared_json(alloc, logs)?;
-    let line = line_of(alloc, &value)?;
-    writeln!(text, "{line}")
 }
 
 /// Returns what is compared.
 #[tactic(auto, unfolding(crate::specs::json::Diff::compared_json))]
 fn compared_json(alloc: Global, logs: &ComparedLogs<'_>) -> Result<Value, AllocError>
-    ensures { IfOk result (λ value. view value ≡ compared_json (logs_of logs.now)) }
+    ensures { IfOk result (IsValueOf (compared_json (logs_of logs.now))) }
 {
-    let mut members = Map::new(alloc);
     let algorithms = Value::Array(each_algorithm(alloc, logs.algorithms)?);
-    put(&mut members, alloc, "compared", algorithms)?;
-    let new = Value::try_from_str(alloc, logs.new_name)?;
-    put(&mut members, alloc, "new", new)?;
-    let old = Value::try_from_str(alloc, logs.old_name)?;
-    put(&mut members, alloc, "old", old)?;
-    Ok(Value::Object(members))
+    json!(in alloc; {"compared": algorithms, "new": logs.new_name, "old": logs.old_name})
 }
 
 /// Returns each algorithm.
 fn each_algorithm(alloc: Global, algorithms: &[AlgorithmId]) -> Result<Vec<Value>, AllocError>
-    ensures { IfOk result (λ values. map view values.items
-        ≡ map algorithm_json (numbers_of algorithms.now)) }
+    ensures { IfOk result (AreValuesOf (map algorithm_json (numbers_of algorithms.now))) }
 {
     let mut values = Vec::new(alloc);
     for algorithm in algorithms {
@@ -164,7 +144,6 @@ fn push_moved(
 }
 
 /// Appends the line of an event and its counterpart.
-#[tactic(auto, using(crate::proofs::json::NoFloatsInDiff::no_float_in_pair))]
 fn push_pair(
     text: &mut String,
     alloc: Global,
@@ -175,26 +154,11 @@ fn push_pair(
     ensures { OnOk result (AppendsText text.old text.new
         (pair_json_line (logs_of logs.now) kind.now (change_of change.now))) }
 {
-    let value = pair_json(alloc, logs, kind, change)?;
-    let line = line_of(alloc, &value)?;
-    writeln!(text, "{line}")
-}
-
-/// Returns an event and its counterpart.
-#[tactic(auto, unfolding(crate::specs::json::Diff::pair_json))]
-fn pair_json(
-    alloc: Global,
-    logs: &ComparedLogs<'_>,
-    kind: &str,
-    change: &EventChange<'_>,
-) -> Result<Value, AllocError>
-    ensures { IfOk result (λ value. view value
-        ≡ pair_json (logs_of logs.now) kind.now (change_of change.now)) }
-{
     let pcr = change.old.entry.event.pcr_index().0;
     let old = entry_json(alloc, logs.old_name, &change.old)?;
     let new = entry_json(alloc, logs.new_name, &change.new)?;
-    difference_json(alloc, kind, pcr, old, new)
+    let value = difference_json(alloc, kind, pcr, old, new)?;
+    push_line(text, alloc, &value)
 }
 
 /// Appends a line for each of these events of the old log, which the new one doesn't have.
@@ -214,7 +178,6 @@ fn push_only_old(
 }
 
 /// Appends the line of an event of the old log, which the new one doesn't have.
-#[tactic(auto, using(crate::proofs::json::NoFloatsInDiff::no_float_in_old))]
 fn push_old(
     text: &mut String,
     alloc: Global,
@@ -224,24 +187,10 @@ fn push_old(
     ensures { OnOk result (AppendsText text.old text.new
         (old_json_line (logs_of logs.now) (numbered_of found.now))) }
 {
-    let value = old_json(alloc, logs, found)?;
-    let line = line_of(alloc, &value)?;
-    writeln!(text, "{line}")
-}
-
-/// Returns an event of the old log, which the new one doesn't have.
-#[tactic(auto, unfolding(crate::specs::json::Diff::old_json))]
-fn old_json(
-    alloc: Global,
-    logs: &ComparedLogs<'_>,
-    found: &NumberedEntry<'_>,
-) -> Result<Value, AllocError>
-    ensures { IfOk result
-        (λ value. view value ≡ old_json (logs_of logs.now) (numbered_of found.now)) }
-{
     let pcr = found.entry.event.pcr_index().0;
     let old = entry_json(alloc, logs.old_name, found)?;
-    difference_json(alloc, "only_old", pcr, old, Value::Null)
+    let value = difference_json(alloc, "only_old", pcr, old, Value::Null)?;
+    push_line(text, alloc, &value)
 }
 
 /// Appends a line for each of these events of the new log, which the old one doesn't have.
@@ -261,7 +210,6 @@ fn push_only_new(
 }
 
 /// Appends the line of an event of the new log, which the old one doesn't have.
-#[tactic(auto, using(crate::proofs::json::NoFloatsInDiff::no_float_in_new))]
 fn push_new(
     text: &mut String,
     alloc: Global,
@@ -271,24 +219,10 @@ fn push_new(
     ensures { OnOk result (AppendsText text.old text.new
         (new_json_line (logs_of logs.now) (numbered_of found.now))) }
 {
-    let value = new_json(alloc, logs, found)?;
-    let line = line_of(alloc, &value)?;
-    writeln!(text, "{line}")
-}
-
-/// Returns an event of the new log, which the old one doesn't have.
-#[tactic(auto, unfolding(crate::specs::json::Diff::new_json))]
-fn new_json(
-    alloc: Global,
-    logs: &ComparedLogs<'_>,
-    found: &NumberedEntry<'_>,
-) -> Result<Value, AllocError>
-    ensures { IfOk result
-        (λ value. view value ≡ new_json (logs_of logs.now) (numbered_of found.now)) }
-{
     let pcr = found.entry.event.pcr_index().0;
     let new = entry_json(alloc, logs.new_name, found)?;
-    difference_json(alloc, "only_new", pcr, Value::Null, new)
+    let value = difference_json(alloc, "only_new", pcr, Value::Null, new)?;
+    push_line(text, alloc, &value)
 }
 
 /// Returns what differs: what kind of difference it is, its PCR, and what each log has.
@@ -300,8 +234,8 @@ fn difference_json(
     old: Value,
     new: Value,
 ) -> Result<Value, AllocError>
-    ensures { IfOk result (λ value.
-        view value ≡ difference_json kind.now pcr (view old) (view new)) }
+    ensures { (of_old of_new : Json) → IsValueOf of_old old → IsValueOf of_new new
+        → IfOk result (IsValueOf (difference_json kind.now pcr of_old of_new)) }
 {
     let mut members = Map::new(alloc);
     let kind = Value::try_from_str(alloc, kind)?;
@@ -314,7 +248,7 @@ fn difference_json(
 
 /// Returns an event of a log.
 fn entry_json(alloc: Global, name: &str, found: &NumberedEntry<'_>) -> Result<Value, AllocError>
-    ensures { IfOk result (λ value. view value ≡ entry_json name.now (numbered_of found.now)) }
+    ensures { IfOk result (IsValueOf (entry_json name.now (numbered_of found.now))) }
 {
     event_json(alloc, name, found.index, &found.entry, &found.content)
 }

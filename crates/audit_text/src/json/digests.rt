@@ -1,48 +1,22 @@
-ghost use Rattle.std.specs.Prelude.{◌≡◌, ◌++◌, map, IfOk, OnOk};
-ghost use Rattle.serde_json.specs.View.{view};
-ghost use Rattle.uefi_tcg.specs.v2.Views.{digests_of};
-ghost use Rattle.uefi_tcg.specs.Entries.{with_sha1};
+ghost use Rattle.std.specs.Prelude.{map, IfOk, OnOk};
 ghost use Rattle.uefi_tcg.specs.LogViews.{event_of};
 ghost use Rattle.audit_text.specs.json.Algorithm.{algorithm_json};
 ghost use Rattle.audit_text.specs.json.Event.{digest_json, hashed_bank, hashed_banks};
+ghost use Rattle.audit_text.specs.private.JsonValues.{AppendsValues, AreValuesOf, IsValueOf};
 
 use crate::words::names::algorithm_name;
 use pcr_replay::{Bank, is_hash_of_data};
 use serde_json::{Value, json};
 use std::alloc::{AllocError, Global};
 use uefi_audits::naming::bank_name;
-use uefi_tcg::v2::PcrEventDigests;
 use uefi_tcg::{AlgorithmId, LogEvent};
 
 /// Returns the digests of an event as JSON, in order.
 pub(crate) fn digests_json(alloc: Global, event: &LogEvent<'_>) -> Result<Vec<Value>, AllocError>
-    ensures { IfOk result
-        (λ values. map view values.items ≡ map digest_json (event_of event.now).digests) }
-{
-    match event {
-        LogEvent::V1(event) => sha1_digest(alloc, event.digest().as_slice()),
-        LogEvent::V2(event) => many_digests(alloc, event.digests()),
-    }
-}
-
-/// Returns the digest of a version 1 event, which is SHA-1's.
-fn sha1_digest(alloc: Global, digest: &[u8]) -> Result<Vec<Value>, AllocError>
-    ensures { IfOk result
-        (λ values. map view values.items ≡ map digest_json (with_sha1 digest.now)) }
+    ensures { IfOk result (AreValuesOf (map digest_json (event_of event.now).digests)) }
 {
     let mut values = Vec::new(alloc);
-    let value = digest_json(alloc, AlgorithmId::SHA1, digest)?;
-    values.push(value)?;
-    Ok(values)
-}
-
-/// Returns the digests of a version 2 event.
-fn many_digests(alloc: Global, digests: PcrEventDigests<'_>) -> Result<Vec<Value>, AllocError>
-    ensures { IfOk result
-        (λ values. map view values.items ≡ map digest_json (digests_of digests.entry)) }
-{
-    let mut values = Vec::new(alloc);
-    for (algorithm, digest) in digests {
+    for (algorithm, digest) in event.digests() {
         let value = digest_json(alloc, algorithm, digest)?;
         values.push(value)?;
     }
@@ -52,8 +26,8 @@ fn many_digests(alloc: Global, digests: PcrEventDigests<'_>) -> Result<Vec<Value
 /// Returns a digest: the name of its algorithm, and its bytes in hex.
 #[tactic(auto, unfolding(crate::specs::json::Event::digest_json))]
 fn digest_json(alloc: Global, algorithm: AlgorithmId, digest: &[u8]) -> Result<Value, AllocError>
-    ensures { IfOk result (λ value. view value
-        ≡ digest_json (record { algorithm = algorithm.0; bytes = digest.now })) }
+    ensures { IfOk result
+        (IsValueOf (digest_json (record { algorithm = algorithm.0; bytes = digest.now }))) }
 {
     let algorithm = algorithm_json(alloc, algorithm)?;
     let digest = hex::encode(alloc, digest)?;
@@ -68,7 +42,7 @@ fn digest_json(alloc: Global, algorithm: AlgorithmId, digest: &[u8]) -> Result<V
 /// [`AllocError`] if an allocation fails.
 #[tactic(auto, unfolding(crate::specs::json::Algorithm::algorithm_json))]
 pub(crate) fn algorithm_json(alloc: Global, algorithm: AlgorithmId) -> Result<Value, AllocError>
-    ensures { IfOk result (λ value. view value ≡ algorithm_json algorithm.0) }
+    ensures { IfOk result (IsValueOf (algorithm_json algorithm.0)) }
 {
     match algorithm_name(algorithm) {
         Some(name) => Value::try_from_str(alloc, name),
@@ -78,7 +52,7 @@ pub(crate) fn algorithm_json(alloc: Global, algorithm: AlgorithmId) -> Result<Va
 
 /// Returns the names of the banks in which an event's digest is the hash of its data.
 pub(crate) fn hashed_banks(alloc: Global, event: &LogEvent<'_>) -> Result<Vec<Value>, AllocError>
-    ensures { IfOk result (λ values. map view values.items ≡ hashed_banks (event_of event.now)) }
+    ensures { IfOk result (AreValuesOf (hashed_banks (event_of event.now))) }
 {
     let mut names = Vec::new(alloc);
     for bank in &Bank::ALL {
@@ -95,8 +69,8 @@ fn push_hashed(
     bank: Bank,
     event: &LogEvent<'_>,
 ) -> Result<(), AllocError>
-    ensures { OnOk result (map view names.new.items
-        ≡ map view names.old.items ++ hashed_bank (event_of event.now) bank) }
+    ensures { OnOk result
+        (AppendsValues names.old names.new (hashed_bank (event_of event.now) bank)) }
 {
     if is_hash_of_data(bank, event) {
         let name = Value::try_from_str(alloc, bank_name(bank))?;

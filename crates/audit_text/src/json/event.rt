@@ -1,15 +1,15 @@
-ghost use Rattle.std.specs.Prelude.{◌≡◌, IfOk, string_bytes};
+ghost use Rattle.std.specs.Prelude.{IfOk, string_bytes};
 ghost use Rattle.hex.specs.Hex.{encode_lower};
-ghost use Rattle.serde_json.specs.Data.{string};
-ghost use Rattle.serde_json.specs.View.{view};
 ghost use Rattle.uefi_tcg.specs.LogViews.{entry_of};
 ghost use Rattle.audit_text.specs.json.Event.{IsEventLine, event_json, type_json};
 ghost use Rattle.uefi_audits.specs.content.Views.{content_of};
+ghost use Rattle.audit_text.specs.json.Json.{string};
+ghost use Rattle.audit_text.specs.private.JsonValues.{IsValueOf};
 
 use crate::json::content::content_json;
 use crate::json::digests::{digests_json, hashed_banks};
 use crate::json::line::line_of;
-use serde_json::{Map, Value, json, put};
+use serde_json::{Value, json};
 use std::alloc::{AllocError, Global};
 use uefi_audits::content::{EventContent, read_content};
 use uefi_tcg::{EventType, LogEntry, UintnSize};
@@ -64,7 +64,7 @@ use uefi_tcg::{EventType, LogEntry, UintnSize};
 ///
 /// A path is an array of the nodes of a device path but the one that ends it, each with `data`,
 /// `subtype` and `type`. The path of an image is its bytes in hex, if they are no device path. The
-/// text of a path is the one that [`uefi_node::to_text`] returns.
+/// text of a path is the one that [`uefi_path_text::to_text`] returns.
 ///
 /// | `value` | of |
 /// |---|---|
@@ -103,33 +103,24 @@ pub(crate) fn event_json(
     entry: &LogEntry<'_>,
     content: &EventContent<'_>,
 ) -> Result<Value, AllocError>
-    ensures { IfOk result (λ value. view value
-        ≡ event_json log.now index (entry_of entry.now) (content_of content.now)) }
+    ensures { IfOk result
+        (IsValueOf (event_json log.now index (entry_of entry.now) (content_of content.now))) }
 {
     let event = &entry.event;
-    let mut members = Map::new(alloc);
     let content = content_json(alloc, content)?;
-    put(&mut members, alloc, "content", content)?;
     let data = hex_json(alloc, event.event_data())?;
-    put(&mut members, alloc, "data", data)?;
     let digests = Value::Array(digests_json(alloc, event)?);
-    put(&mut members, alloc, "digests", digests)?;
     let hashes_to = Value::Array(hashed_banks(alloc, event)?);
-    put(&mut members, alloc, "hashes_to", hashes_to)?;
-    put(&mut members, alloc, "index", Value::from(index))?;
-    let log = Value::try_from_str(alloc, log)?;
-    put(&mut members, alloc, "log", log)?;
-    put(&mut members, alloc, "offset", Value::from(entry.offset))?;
-    let pcr = event.pcr_index().0;
-    put(&mut members, alloc, "pcr", Value::from(pcr))?;
-    let event_type = type_json(alloc, event.event_type())?;
-    put(&mut members, alloc, "type", event_type)?;
-    Ok(Value::Object(members))
+    let kind = type_json(alloc, event.event_type())?;
+    json!(in alloc; {
+        "content": content, "data": data, "digests": digests, "hashes_to": hashes_to,
+        "index": index, "log": log, "offset": entry.offset, "pcr": event.pcr_index().0, "type": kind
+    })
 }
 
 /// Returns bytes as a text of hex digits.
 pub(crate) fn hex_json(alloc: Global, bytes: &[u8]) -> Result<Value, AllocError>
-    ensures { IfOk result (λ value. view value ≡ string (encode_lower bytes.now)) }
+    ensures { IfOk result (IsValueOf (string (encode_lower bytes.now))) }
 {
     let digits = hex::encode(alloc, bytes)?;
     Ok(Value::String(digits))
@@ -138,7 +129,7 @@ pub(crate) fn hex_json(alloc: Global, bytes: &[u8]) -> Result<Value, AllocError>
 /// Returns a type: its name, if it has one, and its number.
 #[tactic(auto, unfolding(crate::specs::json::Event::type_json))]
 pub(crate) fn type_json(alloc: Global, event_type: EventType) -> Result<Value, AllocError>
-    ensures { IfOk result (λ value. view value ≡ type_json event_type.0) }
+    ensures { IfOk result (IsValueOf (type_json event_type.0)) }
 {
     let number = event_type.0;
     match event_type.name() {

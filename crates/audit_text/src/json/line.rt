@@ -1,24 +1,33 @@
-ghost use Rattle.std.specs.Prelude.{◌≡◌, ◌<◌, ◌^◌, true, false, string_bytes, IfOk, OnOk};
+ghost use Rattle.std.specs.Prelude.{◌≡◌, ◌<◌, ◌^◌, string_bytes, IfOk, OnOk};
 ghost use Rattle.std.specs.List.{list_any};
 ghost use Rattle.std.specs.Str.{chars};
-ghost use Rattle.serde_json.specs.View.{view};
-ghost use Rattle.serde_json.specs.Written.{has_float};
 ghost use Rattle.uefi_base.specs.Appending.{AppendsText};
-ghost use Rattle.audit_text.specs.json.Line.{escaped, line_character, line_of, unicode_escape};
+ghost use Rattle.audit_text.specs.json.Json.{Json};
+ghost use Rattle.audit_text.specs.private.JsonValues.{IsValueOf};
+ghost use Rattle.audit_text.specs.json.Line.{escaped, json_line, line_character, line_of, unicode_escape};
 ghost use Rattle.shown.specs.Name.{is_control};
 
 use serde_json::Value;
-use shown::is_control;
+use shown::{HexByte, is_control};
 use std::alloc::{AllocError, Global};
 
 /// Returns the text of a value on one line, without spaces and without a line's end: each control
 /// character in it is `\u` and four hex digits.
 pub(crate) fn line_of(alloc: Global, value: &Value) -> Result<String, AllocError>
-    ensures { IfOk result (λ line. has_float (view value.now) ≡ false
-        → string_bytes line ≡ line_of (view value.now)) }
+    ensures { (json : Json) → IsValueOf json value.now
+        → IfOk result (λ line. string_bytes line ≡ line_of json) }
 {
     let text = value.to_string(alloc)?;
     escaped(alloc, text)
+}
+
+/// Appends the line of a value, and a line break.
+pub(crate) fn push_line(text: &mut String, alloc: Global, value: &Value) -> Result<(), AllocError>
+    ensures { (json : Json) → IsValueOf json value.now
+        → OnOk result (AppendsText text.old text.new (json_line json)) }
+{
+    let line = line_of(alloc, value)?;
+    writeln!(text, "{line}")
 }
 
 /// Returns whether a character is escaped.
@@ -72,6 +81,7 @@ fn push_escape(line: &mut String, character: u32) -> Result<(), AllocError>
     requires { character < 2 ^ 16 }
     ensures { OnOk result (AppendsText line.old line.new (unicode_escape character)) }
 {
-    let (high, low) = ((character / 256) as u8, (character % 256) as u8);
-    write!(line, "\\u{high:02x}{low:02x}")
+    let high = HexByte((character / 256) as u8);
+    let low = HexByte((character % 256) as u8);
+    write!(line, "\\u{high}{low}")
 }

@@ -1,10 +1,8 @@
 ghost use Rattle.std.specs.Prelude.{◌≡◌, ◌==◌, not, map, IfOk};
 ghost use Rattle.std.specs.List.{filter, list_any};
-ghost use Rattle.serde_json.specs.Data.{string};
-ghost use Rattle.serde_json.specs.View.{view};
 ghost use Rattle.pcr_replay.specs.Banks.{algorithm_of};
-ghost use Rattle.audit_text.specs.words.Numbers.{hex_text};
 ghost use Rattle.pcr_replay.specs.BankReplays.{bank_outcomes_of};
+ghost use Rattle.audit_text.specs.private.JsonValues.{AreValuesOf, IsValueOf};
 ghost use Rattle.audit_text.specs.json.Replay.{algorithm_json, not_replayed_json};
 
 use crate::words::push_number;
@@ -21,8 +19,8 @@ pub(crate) fn not_replayed_json(
     algorithms: &[u16],
     banks: &[BankPcrs],
 ) -> Result<Value, AllocError>
-    ensures { IfOk result (λ value. view value
-        ≡ not_replayed_json algorithms.now (map bank_outcomes_of banks.now)) }
+    ensures { IfOk result
+        (IsValueOf (not_replayed_json algorithms.now (map bank_outcomes_of banks.now))) }
 {
     let others = algorithms_without(alloc, algorithms, banks)?;
     Ok(Value::Array(each_algorithm(alloc, others.as_slice())?))
@@ -55,7 +53,7 @@ fn is_replayed(banks: &[BankPcrs], algorithm: u16) -> bool
 
 /// Returns each algorithm.
 fn each_algorithm(alloc: Global, algorithms: &[u16]) -> Result<Vec<Value>, AllocError>
-    ensures { IfOk result (λ values. map view values.items ≡ map algorithm_json algorithms.now) }
+    ensures { IfOk result (AreValuesOf (map algorithm_json algorithms.now)) }
 {
     let mut values = Vec::new(alloc);
     for algorithm in algorithms {
@@ -68,19 +66,14 @@ fn each_algorithm(alloc: Global, algorithms: &[u16]) -> Result<Vec<Value>, Alloc
 /// Returns an algorithm: the name of its bank, or its number in hex if that bank can't be replayed.
 #[tactic(auto, unfolding(crate::specs::json::Replay::algorithm_json))]
 fn algorithm_json(alloc: Global, algorithm: u16) -> Result<Value, AllocError>
-    ensures { IfOk result (λ value. view value ≡ algorithm_json algorithm) }
+    ensures { IfOk result (IsValueOf (algorithm_json algorithm)) }
 {
     match bank_of(AlgorithmId(algorithm)) {
         Some(bank) => Value::try_from_str(alloc, bank_name(bank)),
-        None => number_json(alloc, algorithm),
+        None => {
+            let mut digits = String::new(alloc);
+            push_number(&mut digits, algorithm)?;
+            Ok(Value::String(digits))
+        }
     }
-}
-
-/// Returns an algorithm's number in hex.
-fn number_json(alloc: Global, algorithm: u16) -> Result<Value, AllocError>
-    ensures { IfOk result (λ value. view value ≡ string (hex_text algorithm)) }
-{
-    let mut digits = String::new(alloc);
-    push_number(&mut digits, algorithm)?;
-    Ok(Value::String(digits))
 }

@@ -1,14 +1,14 @@
 //! The remarks on the places of a log's events, as JSON.
 
-ghost use Rattle.std.specs.Prelude.{◌≡◌, flat_map, map, IfOk, OnOk};
-ghost use Rattle.serde_json.specs.View.{view};
+ghost use Rattle.std.specs.Prelude.{flat_map, map, IfOk, OnOk};
 ghost use Rattle.uefi_base.specs.Appending.{AppendsText};
 ghost use Rattle.uefi_audits.specs.OutOfPlace.{misplaced_of, remarks_of};
+ghost use Rattle.audit_text.specs.private.JsonValues.{IsValueOf};
 ghost use Rattle.audit_text.specs.json.OutOfPlace.{misplaced_json, misplaced_line, remark_lines, unseparated_json, unseparated_line};
 
-use crate::json::{line_of, type_json};
+use crate::json::{push_line, type_json};
 use crate::words::rule_name;
-use serde_json::{Map, Value, put};
+use serde_json::{Map, Value, json, put};
 use std::alloc::{AllocError, Global};
 use uefi_audits::out_of_place::{OutOfPlace, Remarks};
 
@@ -55,15 +55,13 @@ fn push_event(
         (AppendsText text.old text.new (misplaced_line log.now (misplaced_of found.now))) }
 {
     let value = misplaced_json(alloc, log, found)?;
-    let line = line_of(alloc, &value)?;
-    writeln!(text, "{line}")
+    push_line(text, alloc, &value)
 }
 
 /// Returns an event that is out of place.
 #[tactic(auto, unfolding(crate::specs::json::OutOfPlace::misplaced_json))]
 fn misplaced_json(alloc: Global, log: &str, found: &OutOfPlace<'_>) -> Result<Value, AllocError>
-    ensures { IfOk result
-        (λ value. view value ≡ misplaced_json log.now (misplaced_of found.now)) }
+    ensures { IfOk result (IsValueOf (misplaced_json log.now (misplaced_of found.now))) }
 {
     let entry = &found.entry;
     let mut members = Map::new(alloc);
@@ -101,20 +99,13 @@ fn push_pcr(text: &mut String, alloc: Global, log: &str, pcr: u32) -> Result<(),
     ensures { OnOk result (AppendsText text.old text.new (unseparated_line log.now pcr)) }
 {
     let value = unseparated_json(alloc, log, pcr)?;
-    let line = line_of(alloc, &value)?;
-    writeln!(text, "{line}")
+    push_line(text, alloc, &value)
 }
 
 /// Returns a PCR without a separator.
 #[tactic(auto, unfolding(crate::specs::json::OutOfPlace::unseparated_json))]
 fn unseparated_json(alloc: Global, log: &str, pcr: u32) -> Result<Value, AllocError>
-    ensures { IfOk result (λ value. view value ≡ unseparated_json log.now pcr) }
+    ensures { IfOk result (IsValueOf (unseparated_json log.now pcr)) }
 {
-    let mut members = Map::new(alloc);
-    let log = Value::try_from_str(alloc, log)?;
-    put(&mut members, alloc, "log", log)?;
-    let rule = Value::try_from_str(alloc, "no separator")?;
-    put(&mut members, alloc, "out_of_place", rule)?;
-    put(&mut members, alloc, "pcr", Value::from(pcr))?;
-    Ok(Value::Object(members))
+    json!(in alloc; {"log": log, "out_of_place": "no separator", "pcr": pcr})
 }

@@ -1,6 +1,5 @@
-ghost use Rattle.std.specs.Prelude.{◌≡◌, map, IfOk, OnOk};
+ghost use Rattle.std.specs.Prelude.{map, IfOk, OnOk};
 ghost use Rattle.std.specs.Result.{result_map_both};
-ghost use Rattle.serde_json.specs.View.{view};
 ghost use Rattle.uefi_base.specs.Appending.{AppendsText};
 ghost use Rattle.tpm_quote.specs.PcrSelection.{selected_pcrs};
 ghost use Rattle.tpm_quote.specs.Views.{clock_info_of, quote_of, selection_of};
@@ -8,12 +7,13 @@ ghost use Rattle.pcr_replay.specs.Views.{value_of};
 ghost use Rattle.uefi_audits.specs.verify.Compared.{judged_quote_of};
 ghost use Rattle.uefi_audits.specs.verify.Quote.{has_its_nonce, quote_judgement_of, received_of};
 ghost use Rattle.audit_text.specs.json.Coverage.{pcr_number};
-ghost use Rattle.audit_text.specs.json.Quote.{banks_json, clock_json, digest_json, failed_json, line_object, nonce_agrees_json, quote_line, quote_object, selection_json};
+ghost use Rattle.audit_text.specs.private.JsonValues.{AreValuesOf, IsValueOf};
+ghost use Rattle.audit_text.specs.json.Quote.{clock_json, digest_json, failed_json, nonce_agrees_json, quote_json, quote_line, quote_object, selection_json};
 
 use crate::json::coverage::{covered_json, not_covered_json, push_unless};
 use crate::json::digests::algorithm_json;
 use crate::json::event::hex_json;
-use crate::json::line::line_of;
+use crate::json::line::push_line;
 use pcr_replay::{NoQuoteDigest, PcrValue};
 use serde_json::{Map, Value, json, put};
 use std::alloc::{AllocError, Global};
@@ -56,23 +56,14 @@ pub fn push_quote_json(
     ensures { OnOk result (AppendsText text.old text.new
         (quote_line name.now (judged_quote_of compared.now))) }
 {
-    let banks = banks_json(alloc, &compared.verdict.received.quote)?;
-    let quote = quote_json(alloc, &compared.verdict, banks)?;
-    let value = object_json(alloc, name, compared, quote)?;
-    let line = line_of(alloc, &value)?;
-    writeln!(text, "{line}")
+    let value = quote_json(alloc, name, compared)?;
+    push_line(text, alloc, &value)
 }
 
 /// Returns the object of a log.
-#[tactic(auto, unfolding(crate::specs::json::Quote::line_object))]
-fn object_json(
-    alloc: Global,
-    name: &str,
-    compared: &ComparedQuote<'_>,
-    quote: Value,
-) -> Result<Value, AllocError>
-    ensures { IfOk result (λ value. view value
-        ≡ line_object name.now (judged_quote_of compared.now) (view quote)) }
+#[tactic(auto, unfolding(crate::specs::json::Quote::quote_json))]
+fn quote_json(alloc: Global, name: &str, compared: &ComparedQuote<'_>) -> Result<Value, AllocError>
+    ensures { IfOk result (IsValueOf (quote_json name.now (judged_quote_of compared.now))) }
 {
     let mut members = Map::new(alloc);
     put(
@@ -91,6 +82,7 @@ fn object_json(
     put(&mut members, alloc, "log", log)?;
     let not_covered = not_covered_json(alloc, &compared.coverage)?;
     put(&mut members, alloc, "not_covered", not_covered)?;
+    let quote = quote_object(alloc, &compared.verdict)?;
     put(&mut members, alloc, "quote", quote)?;
     Ok(Value::Object(members))
 }
@@ -98,7 +90,7 @@ fn object_json(
 /// Returns what of a quote doesn't agree.
 #[tactic(auto, unfolding(crate::specs::json::Quote::failed_json))]
 fn failed_json(alloc: Global, compared: &ComparedQuote<'_>) -> Result<Value, AllocError>
-    ensures { IfOk result (λ value. view value ≡ failed_json (judged_quote_of compared.now)) }
+    ensures { IfOk result (IsValueOf (failed_json (judged_quote_of compared.now))) }
 {
     let verdict = &compared.verdict;
     let mut failed = Vec::new(alloc);
@@ -115,13 +107,13 @@ fn failed_json(alloc: Global, compared: &ComparedQuote<'_>) -> Result<Value, All
 
 /// Returns the object of a quote.
 #[tactic(auto, unfolding(crate::specs::json::Quote::quote_object))]
-fn quote_json(alloc: Global, verdict: &QuoteVerdict<'_>, banks: Value) -> Result<Value, AllocError>
-    ensures { IfOk result (λ value. view value
-        ≡ quote_object (quote_judgement_of verdict.now) (view banks)) }
+fn quote_object(alloc: Global, verdict: &QuoteVerdict<'_>) -> Result<Value, AllocError>
+    ensures { IfOk result (IsValueOf (quote_object (quote_judgement_of verdict.now))) }
 {
     let received = &verdict.received;
     let quote = &received.quote;
     let mut members = Map::new(alloc);
+    let banks = Value::Array(each_selection(alloc, quote)?);
     put(&mut members, alloc, "banks", banks)?;
     let clock = clock_json(alloc, quote.clock_info())?;
     put(&mut members, alloc, "clock", clock)?;
@@ -144,19 +136,9 @@ fn quote_json(alloc: Global, verdict: &QuoteVerdict<'_>, banks: Value) -> Result
     Ok(Value::Object(members))
 }
 
-/// Returns the selections of a quote.
-#[tactic(auto, unfolding(crate::specs::json::Quote::banks_json))]
-fn banks_json(alloc: Global, quote: &Quote<'_>) -> Result<Value, AllocError>
-    ensures { IfOk result
-        (λ value. view value ≡ banks_json (quote_of quote.now).pcr_selections) }
-{
-    Ok(Value::Array(each_selection(alloc, quote)?))
-}
-
 /// Returns each selection of a quote.
 fn each_selection(alloc: Global, quote: &Quote<'_>) -> Result<Vec<Value>, AllocError>
-    ensures { IfOk result (λ values. map view values.items
-        ≡ map selection_json (quote_of quote.now).pcr_selections) }
+    ensures { IfOk result (AreValuesOf (map selection_json (quote_of quote.now).pcr_selections)) }
 {
     let mut values = Vec::new(alloc);
     for selection in quote.pcr_selections() {
@@ -169,20 +151,17 @@ fn each_selection(alloc: Global, quote: &Quote<'_>) -> Result<Vec<Value>, AllocE
 /// Returns a selection: the algorithm of its bank, and its PCRs.
 #[tactic(auto, unfolding(crate::specs::json::Quote::selection_json))]
 fn selection_json(alloc: Global, selection: &PcrSelection<'_>) -> Result<Value, AllocError>
-    ensures { IfOk result (λ value. view value ≡ selection_json (selection_of selection.now)) }
+    ensures { IfOk result (IsValueOf (selection_json (selection_of selection.now))) }
 {
-    let mut members = Map::new(alloc);
     let algorithm = algorithm_json(alloc, selection.algorithm())?;
-    put(&mut members, alloc, "algorithm", algorithm)?;
     let pcrs = Value::Array(pcrs_json(alloc, selection)?);
-    put(&mut members, alloc, "pcrs", pcrs)?;
-    Ok(Value::Object(members))
+    json!(in alloc; {"algorithm": algorithm, "pcrs": pcrs})
 }
 
 /// Returns the PCRs of a selection.
 fn pcrs_json(alloc: Global, selection: &PcrSelection<'_>) -> Result<Vec<Value>, AllocError>
-    ensures { IfOk result (λ values. map view values.items
-        ≡ map pcr_number (selected_pcrs (selection_of selection.now))) }
+    ensures { IfOk result
+        (AreValuesOf (map pcr_number (selected_pcrs (selection_of selection.now)))) }
 {
     let mut values = Vec::new(alloc);
     for pcr in selection.pcrs() {
@@ -194,7 +173,7 @@ fn pcrs_json(alloc: Global, selection: &PcrSelection<'_>) -> Result<Vec<Value>, 
 /// Returns a clock.
 #[tactic(auto, unfolding(crate::specs::json::Quote::clock_json))]
 fn clock_json(alloc: Global, clock_info: ClockInfo) -> Result<Value, AllocError>
-    ensures { IfOk result (λ value. view value ≡ clock_json (clock_info_of clock_info)) }
+    ensures { IfOk result (IsValueOf (clock_json (clock_info_of clock_info))) }
 {
     let ClockInfo {
         clock,
@@ -213,8 +192,8 @@ fn clock_json(alloc: Global, clock_info: ClockInfo) -> Result<Value, AllocError>
 /// Returns the digest to which a log leads, in hex; `null` if it leads to none.
 #[tactic(auto, unfolding(crate::specs::json::Quote::digest_json))]
 fn digest_json(alloc: Global, digest: &Result<PcrValue, NoQuoteDigest>) -> Result<Value, AllocError>
-    ensures { IfOk result (λ value. view value
-        ≡ digest_json (result_map_both value_of (λ why. why) digest.now)) }
+    ensures { IfOk result
+        (IsValueOf (digest_json (result_map_both value_of (λ why. why) digest.now))) }
 {
     match digest {
         Ok(digest) => hex_json(alloc, digest.as_bytes()),
@@ -225,8 +204,8 @@ fn digest_json(alloc: Global, digest: &Result<PcrValue, NoQuoteDigest>) -> Resul
 /// Returns whether a quote has the nonce that was asked for; `null` if any will do.
 #[tactic(auto, unfolding(crate::specs::json::Quote::nonce_agrees_json))]
 fn nonce_agrees_json(received: &ReceivedQuote<'_>) -> Value
-    ensures { view result ≡ nonce_agrees_json (received_of received.now).nonce
-        (has_its_nonce (received_of received.now)) }
+    ensures { IsValueOf (nonce_agrees_json (received_of received.now).nonce
+        (has_its_nonce (received_of received.now))) result }
 {
     match received.nonce {
         Some(_) => Value::Bool(received.has_its_nonce()),

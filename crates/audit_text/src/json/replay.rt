@@ -1,17 +1,17 @@
 ghost use Rattle.std.specs.Prelude.{◌≡◌, map, option_map, IfOk, OnOk};
-ghost use Rattle.serde_json.specs.View.{view};
 ghost use Rattle.uefi_base.specs.Appending.{AppendsText};
 ghost use Rattle.pcr_replay.specs.BankReplays.{bank_outcomes_of};
+ghost use Rattle.audit_text.specs.private.JsonValues.{IsValueOf};
 ghost use Rattle.audit_text.specs.json.Replay.{locality_json, part_json, replay_json, replay_line, shown_banks};
 
 use crate::json::bank::banks_json;
-use crate::json::line::line_of;
+use crate::json::line::push_line;
 use crate::json::not_replayed::not_replayed_json;
 use pcr_replay::BankPcrs;
 use serde_json::{Map, Value, json, put};
 use std::alloc::{AllocError, Global};
 use uefi_audits::facts::LogFacts;
-use uefi_audits::start::KnownStart;
+use uefi_audits::known_start::KnownStart;
 
 /// Appends what a log leads to as one line of JSON: an object, and a line break.
 ///
@@ -47,8 +47,7 @@ pub fn push_replay_json(
         (option_map (λ them. map bank_outcomes_of them.now) banks.entry))) }
 {
     let value = replay_json(alloc, name, facts, banks)?;
-    let line = line_of(alloc, &value)?;
-    writeln!(text, "{line}")
+    push_line(text, alloc, &value)
 }
 
 /// Returns the object of a log with this name.
@@ -59,8 +58,8 @@ fn replay_json(
     facts: &LogFacts,
     banks: Option<&[BankPcrs]>,
 ) -> Result<Value, AllocError>
-    ensures { IfOk result (λ value. view value ≡ replay_json name.now facts.now
-        (option_map (λ them. map bank_outcomes_of them.now) banks.entry)) }
+    ensures { IfOk result (IsValueOf (replay_json name.now facts.now (option_map (λ them. map
+        bank_outcomes_of them.now) banks.entry))) }
 {
     let (offset, algorithms) = (facts.trailing.offset, facts.algorithms.as_slice());
     let mut members = Map::new(alloc);
@@ -82,7 +81,7 @@ fn replay_json(
 /// Returns bytes that begin at an offset: their count and that offset; `null` if there are none.
 #[tactic(auto, unfolding(crate::specs::json::Replay::part_json))]
 fn part_json(alloc: Global, offset: usize, count: usize) -> Result<Value, AllocError>
-    ensures { IfOk result (λ value. view value ≡ part_json offset count) }
+    ensures { IfOk result (IsValueOf (part_json offset count)) }
 {
     if count == 0 {
         return Ok(Value::Null);
@@ -93,7 +92,7 @@ fn part_json(alloc: Global, offset: usize, count: usize) -> Result<Value, AllocE
 /// Returns the locality at which PCR 0 starts, and whether it is stated.
 #[tactic(auto, unfolding(crate::specs::json::Replay::locality_json))]
 fn locality_json(alloc: Global, known: &KnownStart) -> Result<Value, AllocError>
-    ensures { IfOk result (λ value. view value ≡ locality_json known.now) }
+    ensures { IfOk result (IsValueOf (locality_json known.now)) }
 {
     let (number, stated) = (known.start.locality, known.is_stated);
     json!(in alloc; {"number": number, "stated": stated})

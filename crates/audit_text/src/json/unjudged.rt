@@ -1,11 +1,10 @@
-ghost use Rattle.std.specs.Prelude.{◌≡◌, [], ◌∷◌, map, IfOk, OnOk};
-ghost use Rattle.serde_json.specs.Data.{string};
-ghost use Rattle.serde_json.specs.View.{view};
+ghost use Rattle.std.specs.Prelude.{◌≡◌, [], IfOk, OnOk};
 ghost use Rattle.uefi_base.specs.Appending.{AppendsText};
+ghost use Rattle.audit_text.specs.private.JsonValues.{IsValueOf};
 ghost use Rattle.audit_text.specs.json.Unjudged.{reason_text, unjudged_json, unjudged_line};
 
-use crate::json::line::line_of;
-use serde_json::{Map, Value, put};
+use crate::json::line::push_line;
+use serde_json::{Value, json};
 use std::alloc::{AllocError, Global};
 
 /// Why a log isn't judged by PCRs or a quote.
@@ -20,9 +19,9 @@ pub enum NotJudged {
     /// The hash function of the quote's digest isn't known.
     UnknownHash,
     /// The log's header has more algorithms than are read.
-    ManyAlgorithms,
+    TooManyAlgorithms,
     /// Bytes follow the log's last event that are no padding.
-    TrailingBytes,
+    LeftOver,
     /// No event extends a PCR.
     NothingMeasured,
     /// No event has a digest of a bank that the quote covers, or it can't be replayed.
@@ -43,8 +42,8 @@ impl NotJudged {
             NotJudged::MalformedQuote => "malformed quote",
             NotJudged::NoNonce => "no nonce",
             NotJudged::UnknownHash => "unknown hash",
-            NotJudged::ManyAlgorithms => "many algorithms",
-            NotJudged::TrailingBytes => "trailing bytes",
+            NotJudged::TooManyAlgorithms => "many algorithms",
+            NotJudged::LeftOver => "trailing bytes",
             NotJudged::NothingMeasured => "nothing measured",
             NotJudged::NoBank => "no bank",
             NotJudged::Undetermined => "undetermined",
@@ -74,33 +73,23 @@ pub fn push_unjudged_json(
 ) -> Result<(), AllocError>
     ensures { OnOk result (AppendsText text.old text.new (unjudged_line name.now why)) }
 {
-    let value = object_json(alloc, name, why)?;
-    let line = line_of(alloc, &value)?;
-    writeln!(text, "{line}")
+    let value = unjudged_json(alloc, name, why)?;
+    push_line(text, alloc, &value)
 }
 
 /// Returns the object of a log.
 #[tactic(auto, unfolding(crate::specs::json::Unjudged::unjudged_json))]
-fn object_json(alloc: Global, name: &str, why: NotJudged) -> Result<Value, AllocError>
-    ensures { IfOk result (λ value. view value ≡ unjudged_json name.now why) }
+fn unjudged_json(alloc: Global, name: &str, why: NotJudged) -> Result<Value, AllocError>
+    ensures { IfOk result (IsValueOf (unjudged_json name.now why)) }
 {
-    let mut members = Map::new(alloc);
-    put(&mut members, alloc, "agrees", Value::Null)?;
-    put(&mut members, alloc, "covered", Value::Null)?;
-    let failed = Value::Array(reason_alone(alloc, why)?);
-    put(&mut members, alloc, "failed", failed)?;
-    let log = Value::try_from_str(alloc, name)?;
-    put(&mut members, alloc, "log", log)?;
-    put(&mut members, alloc, "not_covered", Value::Null)?;
-    Ok(Value::Object(members))
-}
-
-/// Returns the reason as the one value.
-fn reason_alone(alloc: Global, why: NotJudged) -> Result<Vec<Value>, AllocError>
-    ensures { IfOk result (λ values. map view values.items ≡ string (reason_text why) ∷ []) }
-{
-    let mut values = Vec::new(alloc);
-    let reason = Value::try_from_str(alloc, why.text())?;
-    values.push(reason)?;
-    Ok(values)
+    let mut failed = Vec::new(alloc);
+    failed.push(Value::try_from_str(alloc, why.text())?)?;
+    let failed = Value::Array(failed);
+    json!(in alloc; {
+        "agrees": Value::Null,
+        "covered": Value::Null,
+        "failed": failed,
+        "log": name,
+        "not_covered": Value::Null
+    })
 }

@@ -1,15 +1,15 @@
-ghost use Rattle.std.specs.Prelude.{◌≡◌, ◌++◌, flat_map, map, IfOk, OnOk};
+ghost use Rattle.std.specs.Prelude.{flat_map, map, IfOk, OnOk};
 ghost use Rattle.std.specs.Option.{option_map};
-ghost use Rattle.serde_json.specs.View.{view};
 ghost use Rattle.uefi_base.specs.Appending.{AppendsText};
 ghost use Rattle.pcr_replay.specs.Views.{outcome_of};
 ghost use Rattle.pcr_replay.specs.BankReplays.{bank_outcomes_of};
-ghost use Rattle.audit_text.specs.json.Verdict.{disagreeing_json, event_json, failed_json, if_disagreeing, led_json, pcr_json, undetermined_by, verdict_line, verdict_object};
+ghost use Rattle.audit_text.specs.private.JsonValues.{AppendsValues, AreValuesOf, IsValueOf};
+ghost use Rattle.audit_text.specs.json.Verdict.{event_json, failed_json, if_disagreeing, led_json, pcr_json, undetermined_by, verdict_json, verdict_line};
 ghost use Rattle.uefi_audits.specs.verify.Compared.{judged_pcrs_of};
 
 use crate::json::coverage::{covered_json, not_covered_json, push_unless};
 use crate::json::event::hex_json;
-use crate::json::line::line_of;
+use crate::json::line::push_line;
 use pcr_replay::{BankPcrs, PcrValue, Undetermined};
 use serde_json::{Map, Value, json, put};
 use std::alloc::{AllocError, Global};
@@ -51,24 +51,19 @@ pub fn push_verdict_json(
     ensures { OnOk result (AppendsText text.old text.new
         (verdict_line name.now (judged_pcrs_of compared.now))) }
 {
-    let held = compared.held.as_slice();
-    let disagreeing = disagreeing_json(alloc, held, compared.verdict.replays.as_slice())?;
-    let value = verdict_json(alloc, name, compared, disagreeing)?;
-    let line = line_of(alloc, &value)?;
-    writeln!(text, "{line}")
+    let value = verdict_json(alloc, name, compared)?;
+    push_line(text, alloc, &value)
 }
 
 /// Returns the object of a log.
-#[tactic(auto, unfolding(crate::specs::json::Verdict::verdict_object))]
-fn verdict_json(
-    alloc: Global,
-    name: &str,
-    compared: &ComparedPcrs,
-    disagreeing: Value,
-) -> Result<Value, AllocError>
-    ensures { IfOk result (λ value. view value
-        ≡ verdict_object name.now (judged_pcrs_of compared.now) (view disagreeing)) }
+#[tactic(auto, unfolding(crate::specs::json::Verdict::verdict_json))]
+fn verdict_json(alloc: Global, name: &str, compared: &ComparedPcrs) -> Result<Value, AllocError>
+    ensures { IfOk result (IsValueOf (verdict_json name.now (judged_pcrs_of compared.now))) }
 {
+    let (held, replays) = (
+        compared.held.as_slice(),
+        compared.verdict.replays.as_slice(),
+    );
     let mut members = Map::new(alloc);
     put(
         &mut members,
@@ -76,14 +71,10 @@ fn verdict_json(
         "agrees",
         Value::Bool(compared.agrees()),
     )?;
-    put(
-        &mut members,
-        alloc,
-        "count",
-        Value::from(compared.held.len()),
-    )?;
+    put(&mut members, alloc, "count", Value::from(held.len()))?;
     let covered = covered_json(alloc, compared.coverage.covered.as_slice())?;
     put(&mut members, alloc, "covered", covered)?;
+    let disagreeing = Value::Array(each_disagreeing(alloc, held, replays)?);
     put(&mut members, alloc, "disagreeing", disagreeing)?;
     let failed = failed_json(alloc, compared)?;
     put(&mut members, alloc, "failed", failed)?;
@@ -99,25 +90,12 @@ fn verdict_json(
 /// Returns what of PCRs doesn't agree.
 #[tactic(auto, unfolding(crate::specs::json::Verdict::failed_json))]
 fn failed_json(alloc: Global, compared: &ComparedPcrs) -> Result<Value, AllocError>
-    ensures { IfOk result (λ value. view value ≡ failed_json (judged_pcrs_of compared.now)) }
+    ensures { IfOk result (IsValueOf (failed_json (judged_pcrs_of compared.now))) }
 {
     let mut failed = Vec::new(alloc);
     push_unless(&mut failed, alloc, compared.verdict.is_agreement(), "pcrs")?;
     push_unless(&mut failed, alloc, compared.coverage.is_whole(), "coverage")?;
     Ok(Value::Array(failed))
-}
-
-/// Returns the PCRs that don't agree.
-#[tactic(auto, unfolding(crate::specs::json::Verdict::disagreeing_json))]
-fn disagreeing_json(
-    alloc: Global,
-    held: &[HeldPcr],
-    replays: &[BankPcrs],
-) -> Result<Value, AllocError>
-    ensures { IfOk result (λ value. view value
-        ≡ disagreeing_json (map bank_outcomes_of replays.now) held.now) }
-{
-    Ok(Value::Array(each_disagreeing(alloc, held, replays)?))
 }
 
 /// Returns each PCR that doesn't agree.
@@ -126,8 +104,8 @@ fn each_disagreeing(
     held: &[HeldPcr],
     replays: &[BankPcrs],
 ) -> Result<Vec<Value>, AllocError>
-    ensures { IfOk result (λ values. map view values.items
-        ≡ flat_map (if_disagreeing (map bank_outcomes_of replays.now)) held.now) }
+    ensures { IfOk result
+        (AreValuesOf (flat_map (if_disagreeing (map bank_outcomes_of replays.now)) held.now)) }
 {
     let mut values = Vec::new(alloc);
     for pcr in held {
@@ -144,16 +122,13 @@ fn push_if_disagreeing(
     held: &HeldPcr,
     replays: &[BankPcrs],
 ) -> Result<(), AllocError>
-    ensures { OnOk result (map view values.new.items ≡ map view values.old.items
-        ++ if_disagreeing (map bank_outcomes_of replays.now) held.now) }
+    ensures { OnOk result (AppendsValues values.old values.new (if_disagreeing (map
+        bank_outcomes_of replays.now) held.now)) }
 {
     if agrees(held, replays) {
         return Ok(());
     }
-    let outcome = led_to(held, replays);
-    let led = led_json(alloc, outcome)?;
-    let undetermined = undetermined_by(alloc, outcome)?;
-    let value = pcr_json(alloc, led, undetermined, held)?;
+    let value = pcr_json(alloc, held, led_to(held, replays))?;
     values.push(value)?;
     Ok(())
 }
@@ -163,20 +138,21 @@ fn push_if_disagreeing(
 #[tactic(auto, unfolding(crate::specs::json::Verdict::pcr_json))]
 fn pcr_json(
     alloc: Global,
-    led: Value,
-    undetermined: Value,
     held: &HeldPcr,
+    outcome: Option<&Result<PcrValue, Undetermined>>,
 ) -> Result<Value, AllocError>
-    ensures { IfOk result
-        (λ value. view value ≡ pcr_json (view led) (view undetermined) held.now) }
+    ensures { IfOk result (IsValueOf
+        (pcr_json held.now (option_map (λ outcome. outcome_of outcome.now) outcome.entry))) }
 {
     let mut members = Map::new(alloc);
     let bank = Value::try_from_str(alloc, bank_name(held.bank))?;
     put(&mut members, alloc, "bank", bank)?;
     let held_value = hex_json(alloc, held.value.as_bytes())?;
     put(&mut members, alloc, "held", held_value)?;
+    let led = led_json(alloc, outcome)?;
     put(&mut members, alloc, "leads_to", led)?;
     put(&mut members, alloc, "pcr", Value::from(held.pcr))?;
+    let undetermined = undetermined_by(alloc, outcome)?;
     put(&mut members, alloc, "undetermined", undetermined)?;
     Ok(Value::Object(members))
 }
@@ -187,8 +163,8 @@ fn led_json(
     alloc: Global,
     outcome: Option<&Result<PcrValue, Undetermined>>,
 ) -> Result<Value, AllocError>
-    ensures { IfOk result (λ value. view value
-        ≡ led_json (option_map (λ outcome. outcome_of outcome.now) outcome.entry)) }
+    ensures { IfOk result
+        (IsValueOf (led_json (option_map (λ outcome. outcome_of outcome.now) outcome.entry))) }
 {
     match outcome {
         Some(Ok(value)) => hex_json(alloc, value.as_bytes()),
@@ -202,8 +178,8 @@ fn undetermined_by(
     alloc: Global,
     outcome: Option<&Result<PcrValue, Undetermined>>,
 ) -> Result<Value, AllocError>
-    ensures { IfOk result (λ value. view value
-        ≡ undetermined_by (option_map (λ outcome. outcome_of outcome.now) outcome.entry)) }
+    ensures { IfOk result (IsValueOf (undetermined_by (option_map (λ outcome. outcome_of
+        outcome.now) outcome.entry))) }
 {
     match outcome {
         Some(Err(at)) => event_json(alloc, at),
@@ -214,7 +190,7 @@ fn undetermined_by(
 /// Returns the event by which a PCR is undetermined: its index, its offset, and why.
 #[tactic(auto, unfolding(crate::specs::json::Verdict::event_json))]
 fn event_json(alloc: Global, at: &Undetermined) -> Result<Value, AllocError>
-    ensures { IfOk result (λ value. view value ≡ event_json at.now) }
+    ensures { IfOk result (IsValueOf (event_json at.now)) }
 {
     let (index, offset) = (at.index, at.offset);
     let reason = format!(in alloc; "{}", at.fault)?;

@@ -134,7 +134,7 @@ fn push_forms<A: Allocator>(text: &mut String<A>, counts: &TypeCounts) -> Result
 
 /// Appends how many events match in a form, if any does. Returns whether any does in this form or
 /// in one before it.
-#[tactic(auto, unfolding(crate::specs::text::Check::if_any, crate::specs::private::Forms::next_text))]
+#[tactic(auto, unfolding(crate::specs::text::Check::if_any))]
 fn push_form<A: Allocator>(
     text: &mut String<A>,
     any: bool,

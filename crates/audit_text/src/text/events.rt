@@ -4,15 +4,11 @@
 //! the log's header.
 //!
 //! A name or a text of the log is written as [`ShownName`](shown::ShownName) displays it, and
-//! a device path as [`uefi_node::to_text`] returns it, so that a log can't forge a line.
+//! a device path as [`uefi_path_text::to_text`] returns it, so that a log can't forge a line.
 
 pub use self::blocks::{push_event_blocks, push_header_block};
 
 mod blocks;
-pub(crate) mod content;
-mod firmware;
-mod gpt;
 mod hex_lines;
 pub(crate) mod names;
-mod signatures;
-mod variable;
+pub(crate) mod parts;

@@ -1,6 +1,6 @@
 ghost use Rattle.std.specs.Prelude.{OnOk};
 ghost use Rattle.uefi_base.specs.Appending.{AppendsText};
-ghost use Rattle.audit_text.specs.text.HeaderFault.{fault_line, header_fault_lines};
+ghost use Rattle.audit_text.specs.text.HeaderFault.{header_fault_lines};
 
 use shown::ShownName;
 use std::alloc::{AllocError, Allocator};
@@ -20,30 +20,16 @@ pub fn push_header_fault<A: Allocator>(
     ensures { OnOk result
         (AppendsText messages.old messages.new (header_fault_lines name.now fault)) }
 {
-    match fault {
-        Some(fault) => push_line(messages, name, fault),
-        None => Ok(()),
-    }
-}
-
-/// Appends the line of a fault.
-#[tactic(auto, unfolding(crate::specs::text::HeaderFault::fault_line))]
-fn push_line<A: Allocator>(
-    messages: &mut String<A>,
-    name: &str,
-    fault: HeaderFault,
-) -> Result<(), AllocError>
-    ensures { OnOk result (AppendsText messages.old messages.new (fault_line name.now fault)) }
-{
     let name = ShownName(name);
     match fault {
-        HeaderFault::Pcr(pcr) => writeln!(
+        Some(HeaderFault::Pcr(pcr)) => writeln!(
             messages,
             "{name}: its header is of PCR {pcr}, not of PCR 0, so that it is read as version 1"
         ),
-        HeaderFault::Digest => writeln!(
+        Some(HeaderFault::Digest) => writeln!(
             messages,
             "{name}: the digest of its header isn't zero, so that it is read as version 1"
         ),
+        None => Ok(()),
     }
 }

@@ -1,6 +1,6 @@
 ghost use Rattle.std.specs.Prelude.{flat_map, OnOk};
 ghost use Rattle.uefi_base.specs.Appending.{AppendsText};
-ghost use Rattle.audit_text.specs.text.Remarks.{ignored_line, ignored_text};
+ghost use Rattle.audit_text.specs.text.Remarks.{ignored_line};
 
 use pcr_replay::Ignored;
 use shown::ShownName;
@@ -28,7 +28,7 @@ pub fn push_ignored<A: Allocator>(
 }
 
 /// Appends the line of an event that has no effect.
-#[tactic(auto, unfolding(crate::specs::text::Remarks::ignored_line, crate::specs::text::Remarks::ignored_text))]
+#[tactic(auto, unfolding(crate::specs::text::Remarks::ignored_line))]
 fn push_line<A: Allocator>(
     messages: &mut String<A>,
     name: &str,

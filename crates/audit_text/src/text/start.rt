@@ -4,7 +4,7 @@ ghost use Rattle.audit_text.specs.text.Remarks.{start_lines};
 
 use shown::ShownName;
 use std::alloc::{AllocError, Allocator};
-use uefi_audits::start::KnownStart;
+use uefi_audits::known_start::KnownStart;
 
 /// Appends the line that says at which locality PCR 0 starts, if neither the log nor the caller states
 /// one.

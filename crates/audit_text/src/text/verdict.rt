@@ -1,8 +1,8 @@
-ghost use Rattle.std.specs.Prelude.{◌≡◌, flat_map, OnOk};
+ghost use Rattle.std.specs.Prelude.{flat_map, OnOk};
 ghost use Rattle.std.specs.Option.{option_map};
 ghost use Rattle.uefi_base.specs.Appending.{AppendsText};
 ghost use Rattle.pcr_replay.specs.Views.{outcome_of, value_of};
-ghost use Rattle.audit_text.specs.text.Verdict.{held_text, line_of, outcome_text, undetermined_text, value_text, verdict_lines};
+ghost use Rattle.audit_text.specs.text.Verdict.{line_of, outcome_text, value_text, verdict_lines};
 ghost use Rattle.uefi_audits.specs.verify.Verdict.{comparison_of};
 
 use crate::text::agreement::push_agreement;
@@ -68,24 +68,11 @@ fn push_if_disagreeing<A: Allocator + Copy>(
     if agrees(held, replays) {
         return Ok(());
     }
-    push_held(text, alloc, name, held)?;
-    let locality = verdict.start.start.locality;
-    push_outcome(text, alloc, held.pcr, locality, led_to(held, replays))
-}
-
-/// Appends which PCR doesn't agree, and what it held.
-#[tactic(auto, unfolding(crate::specs::text::Verdict::held_text))]
-fn push_held<A: Allocator + Copy>(
-    text: &mut String<A>,
-    alloc: A,
-    name: &str,
-    held: &HeldPcr,
-) -> Result<(), AllocError>
-    ensures { OnOk result (AppendsText text.old text.new (held_text name.now held.now)) }
-{
     let (name, bank, pcr) = (ShownName(name), bank_name(held.bank), held.pcr);
     let digits = hex::encode_upper(alloc, held.value.as_bytes())?;
-    write!(text, "{name}: {bank} PCR {pcr} held 0x{digits}")
+    write!(text, "{name}: {bank} PCR {pcr} held 0x{digits}")?;
+    let locality = verdict.start.start.locality;
+    push_outcome(text, alloc, pcr, locality, led_to(held, replays))
 }
 
 /// Appends what the log leads to in a PCR.
@@ -103,7 +90,7 @@ fn push_outcome<A: Allocator + Copy>(
     match outcome {
         None => writeln!(text, ", and the log has no such PCR"),
         Some(Ok(value)) => push_value(text, alloc, pcr, locality, value),
-        Some(Err(at)) => push_undetermined(text, at),
+        Some(Err(at)) => writeln!(text, ", undetermined: {at}"),
     }
 }
 
@@ -126,15 +113,4 @@ fn push_value<A: Allocator + Copy>(
         );
     }
     writeln!(text, ", the log leads to 0x{digits}")
-}
-
-/// Appends the event by which a PCR is undetermined.
-#[tactic(auto, unfolding(crate::specs::text::Verdict::undetermined_text))]
-fn push_undetermined<A: Allocator>(
-    text: &mut String<A>,
-    at: &Undetermined,
-) -> Result<(), AllocError>
-    ensures { OnOk result (AppendsText text.old text.new (undetermined_text at.now)) }
-{
-    writeln!(text, ", undetermined: {at}")
 }

@@ -1,21 +1,20 @@
-ghost use Rattle.std.specs.Prelude.{◌≡◌, ◌++◌, codes, encode_utf8, IfOk, OnOk, option_map};
+ghost use Rattle.std.specs.Prelude.{◌≡◌, encode_utf8, IfOk, OnOk, option_map};
 ghost use Rattle.std.specs.List.{flat_map};
 ghost use Rattle.std.specs.Str.{chars};
 ghost use Rattle.uefi_base.specs.Appending.{AppendsText};
-ghost use Rattle.uefi_base.specs.GuidText.{hex_byte};
 ghost use Rattle.uefi_base.specs.Views.{slice_units};
 ghost use Rattle.uefi_path.specs.Views.{path_nodes};
-ghost use Rattle.tcg_event.specs.Views.{blob_of, image_of, text_of, variable_of, version_of};
-ghost use Rattle.audit_text.specs.words.Said.{blob_text, event_words, image_text, more, path_words, said, shown_bytes, shown_hex, shown_one, shown_text, shown_units, tagged_words, version_words};
+ghost use Rattle.tcg_event.specs.Views.{image_of, text_of, version_of};
+ghost use Rattle.audit_text.specs.words.Said.{event_words, image_text, more, path_words, said, shown_bytes, shown_hex, shown_one, shown_text, shown_units, tagged_words, version_words};
 ghost use Rattle.uefi_audits.specs.content.Views.{content_of};
 ghost use Rattle.shown.specs.Name.{shown_name};
 
 use crate::words::path_text;
 use crate::words::tags::push_tag;
 use crate::words::texts::name_text;
-use shown::{ShownBytes, ShownName};
+use shown::{Hex, HexNumber, ShownBytes, ShownName};
 use std::alloc::{AllocError, Global};
-use tcg_event::{CrtmVersion, EventText, ImageLoadEvent, PlatformFirmwareBlob, VariableData};
+use tcg_event::{CrtmVersion, EventText, ImageLoadEvent};
 use uefi_audits::content::{EventContent, TaggedData};
 use uefi_base::UnalignedSlice;
 use uefi_path::DevicePath;
@@ -45,7 +44,7 @@ const SHOWN_LENGTH: usize = 1000;
 ///
 /// A text, a description or a name is shown as [`ShownName`] or [`ShownBytes`] displays it. Of more
 /// than 1,000 characters the first are shown, and how many there are more: `..(23 more)`. A device
-/// path is shown whole, as [`uefi_node::to_text`] returns it. If the bytes are no path, they are in
+/// path is shown whole, as [`uefi_path_text::to_text`] returns it. If the bytes are no path, they are in
 /// hex, in the same way.
 ///
 /// # Errors
@@ -67,7 +66,10 @@ pub fn push_said(
         EventContent::Header(_) => text.push_str("header"),
         EventContent::LoaderText(said) => push_event(text, alloc, said),
         EventContent::CrtmVersion(version) => push_version(text, alloc, version),
-        EventContent::Blob(blob) => push_blob(text, blob),
+        EventContent::Blob(blob) => {
+            let address = HexNumber(blob.base);
+            write!(text, "blob at {address}")
+        }
         EventContent::DescribedBlob(described) => {
             text.push_str("blob ")?;
             push_bytes(text, described.description)
@@ -81,7 +83,10 @@ pub fn push_said(
         | EventContent::BootOption(variable, _)
         | EventContent::BootOrder(variable, _)
         | EventContent::SignatureLists(variable, _)
-        | EventContent::Signature(variable, _) => push_variable(text, alloc, variable),
+        | EventContent::Signature(variable, _) => {
+            text.push_str("variable ")?;
+            push_units(text, alloc, &variable.name)
+        }
         EventContent::Image(image, path) => push_image(text, image, path),
     }
 }
@@ -186,15 +191,6 @@ fn push_version(
     }
 }
 
-/// Appends where a blob is.
-#[tactic(auto, unfolding(crate::specs::words::Said::blob_text))]
-fn push_blob(text: &mut String, blob: &PlatformFirmwareBlob) -> Result<(), AllocError>
-    ensures { OnOk result (AppendsText text.old text.new (blob_text (blob_of blob.now))) }
-{
-    let address = blob.base;
-    write!(text, "blob at 0x{address:x}")
-}
-
 /// Appends the tag of the first tagged event.
 #[tactic(auto, unfolding(crate::specs::words::Said::tagged_words))]
 fn push_tagged(text: &mut String, tagged: &TaggedData<'_>) -> Result<(), AllocError>
@@ -207,19 +203,6 @@ fn push_tagged(text: &mut String, tagged: &TaggedData<'_>) -> Result<(), AllocEr
         }
         None => text.push_str("no tagged event"),
     }
-}
-
-/// Appends `variable` and the name of a variable.
-fn push_variable(
-    text: &mut String,
-    alloc: Global,
-    variable: &VariableData<'_>,
-) -> Result<(), AllocError>
-    ensures { OnOk result (AppendsText text.old text.new
-        (codes "variable " ++ shown_units (variable_of variable.now).name)) }
-{
-    text.push_str("variable ")?;
-    push_units(text, alloc, &variable.name)
 }
 
 /// Appends `image` and its device path, if it has one.
@@ -264,23 +247,7 @@ fn push_hex(text: &mut String, bytes: &[u8]) -> Result<(), AllocError>
     ensures { OnOk result (AppendsText text.old text.new (shown_hex bytes.now)) }
 {
     let (first, rest) = bytes.split_at(SHOWN_LENGTH.min(bytes.len()));
-    push_hex_bytes(text, first)?;
+    let first = Hex(first);
+    write!(text, "{first}")?;
     push_more(text, rest.len())
-}
-
-/// Appends bytes in hex.
-fn push_hex_bytes(text: &mut String, bytes: &[u8]) -> Result<(), AllocError>
-    ensures { OnOk result (AppendsText text.old text.new (flat_map hex_byte bytes.now)) }
-{
-    for byte in bytes {
-        push_hex_byte(text, *byte)?;
-    }
-    Ok(())
-}
-
-/// Appends two hex digits.
-fn push_hex_byte(text: &mut String, byte: u8) -> Result<(), AllocError>
-    ensures { OnOk result (AppendsText text.old text.new (hex_byte byte)) }
-{
-    write!(text, "{byte:02x}")
 }

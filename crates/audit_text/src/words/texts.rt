@@ -4,7 +4,7 @@ ghost use Rattle.uefi_base.specs.Views.{slice_units};
 ghost use Rattle.uefi_path.specs.LoadOptionViews.{load_option_of};
 ghost use Rattle.tcg_event.specs.Views.{text_of, version_of};
 ghost use Rattle.shown.specs.Name.{shown_name, shown_name_bytes};
-ghost use Rattle.audit_text.specs.words.Texts.{before_nul, event_text, shown_event, shown_version, unit_text, version_text};
+ghost use Rattle.audit_text.specs.words.Texts.{before_nul, shown_event, shown_version, unit_text};
 
 use shown::{ShownBytes, ShownName};
 use std::alloc::{AllocError, Global};
@@ -73,7 +73,7 @@ pub(crate) fn shown(alloc: Global, text: &str) -> Result<String, AllocError>
 }
 
 /// Returns bytes that are no text as [`ShownBytes`] displays them.
-fn shown_bytes(alloc: Global, bytes: &[u8]) -> Result<String, AllocError>
+pub(crate) fn shown_bytes(alloc: Global, bytes: &[u8]) -> Result<String, AllocError>
     ensures { IfOk result (λ shown. string_bytes shown ≡ shown_name_bytes bytes.now) }
 {
     let shown = ShownBytes(bytes);
@@ -89,18 +89,6 @@ fn shown_units(alloc: Global, units: &UnalignedSlice<'_>) -> Result<String, Allo
     shown(alloc, text.as_str())
 }
 
-/// Returns the text of an event; bytes that are no text as they are shown.
-#[tactic(auto, unfolding(crate::specs::words::Texts::event_text))]
-pub(crate) fn event_text(alloc: Global, text: &EventText<'_>) -> Result<String, AllocError>
-    ensures { IfOk result (λ shown. string_bytes shown ≡ event_text (text_of text.now)) }
-{
-    match text {
-        EventText::Utf8 { text, .. } => String::from_str(alloc, text),
-        EventText::Utf16 { units, .. } => name_text(alloc, units),
-        EventText::Other(bytes) => shown_bytes(alloc, bytes),
-    }
-}
-
 /// Returns the text of an event on one line, with nothing in it hidden.
 #[tactic(auto, unfolding(crate::specs::words::Texts::shown_event))]
 pub(crate) fn shown_event(alloc: Global, text: &EventText<'_>) -> Result<String, AllocError>
@@ -110,18 +98,6 @@ pub(crate) fn shown_event(alloc: Global, text: &EventText<'_>) -> Result<String,
         EventText::Utf8 { text, .. } => shown(alloc, text),
         EventText::Utf16 { units, .. } => shown_units(alloc, units),
         EventText::Other(bytes) => shown_bytes(alloc, bytes),
-    }
-}
-
-/// Returns the text of a version.
-#[tactic(auto, unfolding(crate::specs::words::Texts::version_text))]
-pub(crate) fn version_text(alloc: Global, version: &CrtmVersion<'_>) -> Result<String, AllocError>
-    ensures { IfOk result (λ shown. string_bytes shown ≡ version_text (version_of version.now)) }
-{
-    match version {
-        CrtmVersion::Ucs2(units) => name_text(alloc, units),
-        CrtmVersion::Guid(guid) => guid.to_string(alloc),
-        CrtmVersion::Other(text) => event_text(alloc, text),
     }
 }
 

@@ -17,7 +17,7 @@ use Rattle.uefi_audits.specs.content.Content.{BlobContent, Content, ImageContent
 use Rattle.uefi_audits.specs.content.Content.{are_printed, blob, described_blob, gpt, header, image, or_unread, tagged, variable}
 use Rattle.uefi_audits.specs.content.Header.{ReadsHeader}
 use Rattle.uefi_audits.specs.content.Path.{ReadsNodes}
-use Rattle.uefi_audits.specs.content.Content.{OfNoAction, OfSeparator, OfText, OfPostCode, OfBlob, OfDescribedBlob, OfCrtmVersion, OfTagged, OfGpt, OfVariable, OfAuthority, OfImage, Other}
+use Rattle.uefi_audits.specs.content.Form.{OfNoAction, OfSeparator, OfText, OfPostCode, OfBlob, OfDescribedBlob, OfCrtmVersion, OfTagged, OfGpt, OfVariable, OfAuthority, OfImage, Other}
 use Rattle.uefi_audits.specs.content.Value.{SaysValue, ValueForm, authority_form, value_form}
 use Rattle.uefi_audits.specs.Laws.{OneContent}
 use Rattle.uefi_audits.proofs.content.OneValue.{OneOfEach, one_value}
@@ -65,7 +65,6 @@ post_code values false bytes a b says other = one_blob values bytes a b says oth
 -- One variable with one value.
 one_measured : OneOfEach → (form : List ℕ → List ℕ → ValueForm) (found also : Option Variable) (a b : Content)
     → found ≡ also → VariableContent form found a → VariableContent form also b → a ≡ b
-unfolding VariableContent
 one_measured laws form (Some v) (Some w) a b same (value, says, is) (also, other, that) =
     let read_same : v ≡ w = cc in
     let value_same : value ≡ also = one_value laws (form w.guid w.name) w.payload value also
@@ -81,7 +80,6 @@ one_path law p q is also same = (law.no_proper_prefix p q [] [] is also (ap (λ 
 
 one_loaded : OneFront → (found other : Option Image) (a b : Content) → found ≡ other → ImageContent found a
     → ImageContent other b → a ≡ b
-unfolding ImageContent
 one_loaded law (Some v) (Some w) a b same (nodes, read, is) (also, other, that) =
     let image_same : v ≡ w = cc in
     let path_same : nodes ≡ also = one_read IsPath joined (one_path law) w.device_path nodes also (subst

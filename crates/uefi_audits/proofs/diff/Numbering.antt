@@ -7,7 +7,8 @@ use Rattle.uefi_tcg.specs.declared.uintn_size.UintnSize.{UintnSize}
 use Rattle.uefi_tcg.specs.Entries.{Entry}
 use Rattle.uefi_tcg.specs.LogViews.{entry_of}
 use Rattle.uefi_tcg.specs.declared.log_entries.LogEntry.{LogEntry}
-use Rattle.uefi_audits.specs.content.Content.{Content, Says, form_of}
+use Rattle.uefi_audits.specs.content.Content.{Content, Says}
+use Rattle.uefi_audits.specs.content.Form.{form}
 use Rattle.uefi_audits.specs.declared.diff.pcr.NumberedEntry.{NumberedEntry}
 use Rattle.uefi_audits.specs.diff.Numbered.{AreNumbered, Numbered}
 use Rattle.uefi_audits.specs.diff.Views.{numbered_of}
@@ -26,7 +27,7 @@ one_pushed old new item pushed = ap (map numbered_of) pushed ∙ map-append numb
 
 pub one_more : (size : UintnSize) (now next : List Numbered) (index : ℕ) (entry : Entry) (content : Content) (left rest all : List Entry)
     → left ≡ entry ∷ rest → next ≡ now ++ record { index = index; entry = entry; content = content } ∷ []
-    → Says size (form_of entry.event.event_type) entry.event.event_data content
+    → Says size (form entry.event.event_type) entry.event.event_data content
     → NumberedSoFar size now index left all → NumberedSoFar size next (index + 1) rest all
 one_more size now next index entry content left rest all is more says before = λ others are.
     let found : Numbered = record { index = index; entry = entry; content = content } in

@@ -19,8 +19,8 @@ use Rattle.uefi_tcg.specs.Entries.{Entry}
 use Rattle.pcr_replay.specs.Replay.{Outcome, outcomes}
 use Rattle.pcr_replay.specs.Views.{outcomes_of, value_of}
 use Rattle.pcr_replay.specs.declared.bank_pcrs.BankPcrs.{BankPcrs}
-use Rattle.uefi_audits.specs.Start.{assumed_start, is_stated, known_start, start_by}
-use Rattle.uefi_audits.specs.declared.start.KnownStart.{KnownStart}
+use Rattle.uefi_audits.specs.KnownStart.{assumed_start, is_stated, known_start, start_by}
+use Rattle.uefi_audits.specs.declared.known_start.KnownStart.{KnownStart}
 use Rattle.uefi_audits.specs.declared.verify.held.HeldPcr.{HeldPcr}
 use Rattle.pcr_replay.specs.BankReplays.{BankOutcomes, bank_outcomes_of, replayed}
 use Rattle.uefi_audits.specs.Naming.{bank_of}

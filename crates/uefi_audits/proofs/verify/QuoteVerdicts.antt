@@ -9,8 +9,8 @@ use Rattle.pcr_replay.specs.declared.quote.NoQuoteDigest.{NoQuoteDigest}
 use Rattle.pcr_replay.specs.declared.start.Start.{Start}
 use Rattle.pcr_replay.specs.Quotes.{digest_at}
 use Rattle.pcr_replay.specs.Start.{start_at}
-use Rattle.uefi_audits.specs.Start.{assumed_start, is_stated, known_start, start_by}
-use Rattle.uefi_audits.specs.declared.start.KnownStart.{KnownStart}
+use Rattle.uefi_audits.specs.KnownStart.{assumed_start, is_stated, known_start, start_by}
+use Rattle.uefi_audits.specs.declared.known_start.KnownStart.{KnownStart}
 use Rattle.uefi_audits.specs.verify.Quote.{QuoteJudgement, QuoteAgrees, Received, agreeing, is_digest, judged_at, quote_verdict, tried}
 use Rattle.uefi_audits.specs.verify.Verdict.{starts}
 

@@ -6,8 +6,8 @@ use Rattle.pcr_replay.specs.declared.start.Start.{Start}
 use Rattle.uefi_tcg.specs.Entries.{Entry}
 use Rattle.pcr_replay.specs.BankReplays.{BankOutcomes, bank_outcomes_of, replayed}
 use Rattle.pcr_replay.specs.declared.bank_pcrs.BankPcrs.{BankPcrs}
-use Rattle.uefi_audits.specs.Start.{assumed_start, is_stated, known_start}
-use Rattle.uefi_audits.specs.declared.start.KnownStart.{KnownStart}
+use Rattle.uefi_audits.specs.KnownStart.{assumed_start, is_stated, known_start}
+use Rattle.uefi_audits.specs.declared.known_start.KnownStart.{KnownStart}
 use Rattle.uefi_audits.specs.declared.verify.held.HeldPcr.{HeldPcr}
 use Rattle.uefi_audits.specs.verify.Banks.{held_banks}
 use Rattle.uefi_audits.specs.verify.Verdict.{Comparison, compared, compared_at, nearer, nearest, verdict_of}

@@ -57,14 +57,14 @@ global_form name =
     else OfNothing
 
 -- That which the value of a variable has.
-unfoldable pub value_form : List ℕ → List ℕ → ValueForm
+abbrev pub value_form : List ℕ → List ℕ → ValueForm
 value_form guid name =
     if bytes_eq guid global_variable then global_form name
     else if bytes_eq guid image_security_database && (bytes_eq name (codes "db") || bytes_eq name (codes "dbx")) then OfSignatureLists
     else OfNothing
 
 -- The same in an event of type `EV_EFI_VARIABLE_AUTHORITY`, which has the one signature by which an image was allowed: that of firmware's databases, and that of shim's list.
-unfoldable pub authority_form : List ℕ → List ℕ → ValueForm
+abbrev pub authority_form : List ℕ → List ℕ → ValueForm
 authority_form guid name =
     if bytes_eq guid image_security_database || (bytes_eq guid shim_lock && bytes_eq name (codes "MokList")) then OfSignature
     else OfNothing

@@ -5,7 +5,8 @@ use Rattle.uefi_tcg.specs.Entries.{Entry}
 use Rattle.uefi_tcg.specs.declared.uintn_size.UintnSize.{UintnSize}
 use Rattle.pcr_replay.specs.ReadLogs.{entries_in, uintn_size_in}
 use Rattle.pcr_replay.specs.declared.read_log.ReadLog.{ReadLog}
-use Rattle.uefi_audits.specs.content.Content.{Content, Says, form_of}
+use Rattle.uefi_audits.specs.content.Content.{Content, Says}
+use Rattle.uefi_audits.specs.content.Form.{form}
 
 -- An entry of a log with its index, and what its data say.
 pub record Numbered : Type 0 where
@@ -17,7 +18,7 @@ pub record Numbered : Type 0 where
 abbrev pub AreNumbered : UintnSize → ℕ → List Entry → List Numbered → Type 0
 AreNumbered size index [] all = all ≡ []
 AreNumbered size index (entry ∷ entries) all =
-    (content : Content) × (rest : List Numbered) × Says size (form_of entry.event.event_type) entry.event.event_data content
+    (content : Content) × (rest : List Numbered) × Says size (form entry.event.event_type) entry.event.event_data content
     × AreNumbered size (index + 1) entries rest × (all ≡ record { index = index; entry = entry; content = content } ∷ rest)
 
 -- These are all entries of a log.

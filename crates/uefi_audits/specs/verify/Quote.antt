@@ -1,5 +1,5 @@
 -- Whether a log leads to the digest in a quote.
-use Rattle.std.specs.Prelude.{ℕ, ◌≡◌, ◌&&◌, Bool, true, false, List, Option, None, Some, Result, Ok, Err, if◌then◌else◌}
+use Rattle.std.specs.Prelude.{ℕ, ◌≡◌, ◌&&◌, Bool, true, false, List, map, Option, None, Some, Result, Ok, Err, if◌then◌else◌}
 use Rattle.std.specs.List.{Any, list_all}
 use Rattle.std.specs.Option.{option_map}
 use Rattle.std.specs.Result.{result_map_both}
@@ -7,12 +7,14 @@ use Rattle.std.specs.Str.{bytes_eq}
 use Rattle.tpm_quote.specs.Quote.{Quote}
 use Rattle.tpm_quote.specs.Views.{quote_of}
 use Rattle.uefi_tcg.specs.Entries.{Entry}
-use Rattle.pcr_replay.specs.Quotes.{digest_at}
+use Rattle.pcr_replay.specs.BankReplays.{BankOutcomes, replayed}
+use Rattle.pcr_replay.specs.Quotes.{digest_at, quote_digest, quoted_banks}
 use Rattle.pcr_replay.specs.Views.{value_of}
 use Rattle.pcr_replay.specs.declared.bank.Bank.{Bank}
 use Rattle.pcr_replay.specs.declared.quote.NoQuoteDigest.{NoQuoteDigest}
-use Rattle.uefi_audits.specs.Start.{assumed_start, is_stated, known_start}
-use Rattle.uefi_audits.specs.declared.start.KnownStart.{KnownStart}
+use Rattle.pcr_replay.specs.declared.start.Start.{Start}
+use Rattle.uefi_audits.specs.KnownStart.{assumed_start, is_stated, known_start}
+use Rattle.uefi_audits.specs.declared.known_start.KnownStart.{KnownStart}
 use Rattle.uefi_audits.specs.declared.verify.quote.QuoteVerdict.{QuoteVerdict}
 use Rattle.uefi_audits.specs.declared.verify.quote.ReceivedQuote.{ReceivedQuote}
 use Rattle.uefi_audits.specs.verify.Covered.{is_covered}
@@ -44,13 +46,20 @@ pub record QuoteJudgement : Type 0 where
   pub digest : Result (List ℕ) NoQuoteDigest
   pub digest_agrees : Bool
 
-abbrev pub judged_at : List Entry → Received → KnownStart → QuoteJudgement
-judged_at entries received start = record {
+abbrev pub judged_by : List BankOutcomes → Received → KnownStart → QuoteJudgement
+judged_by replays received start = record {
   received = received;
   start = start;
-  digest = digest_at received.hash entries received.quote start.start;
-  digest_agrees = is_digest received.quote.pcr_digest (digest_at received.hash entries received.quote start.start);
+  digest = quote_digest received.hash replays received.quote;
+  digest_agrees = is_digest received.quote.pcr_digest (quote_digest received.hash replays received.quote);
 }
+
+-- With what the events of a log lead to in the banks of the quote, in a TPM that started so.
+abbrev pub quoted_replays : Start → List Entry → Quote → List BankOutcomes
+quoted_replays start entries quote = map (replayed start entries) (quoted_banks entries quote)
+
+abbrev pub judged_at : List Entry → Received → KnownStart → QuoteJudgement
+judged_at entries received start = judged_by (quoted_replays start.start entries received.quote) received start
 
 -- The digests agree, and the quote has the nonce that it was asked for with; and it covers each of these PCRs.
 abbrev pub is_met : QuoteJudgement → Bool

@@ -11,8 +11,8 @@ use Rattle.pcr_replay.specs.BankReplays.{BankOutcomes, bank_outcomes_of, replaye
 use Rattle.pcr_replay.specs.Replay.{Outcome, outcomes}
 use Rattle.pcr_replay.specs.Start.{start_at}
 use Rattle.pcr_replay.specs.Views.{value_of}
-use Rattle.uefi_audits.specs.Start.{assumed_start, is_stated, known_start, start_by}
-use Rattle.uefi_audits.specs.declared.start.KnownStart.{KnownStart}
+use Rattle.uefi_audits.specs.KnownStart.{assumed_start, is_stated, known_start, start_by}
+use Rattle.uefi_audits.specs.declared.known_start.KnownStart.{KnownStart}
 use Rattle.uefi_audits.specs.declared.verify.held.HeldPcr.{HeldPcr}
 use Rattle.uefi_audits.specs.declared.verify.verdict.Verdict.{Verdict}
 use Rattle.uefi_audits.specs.verify.Banks.{held_banks, is_same_bank}

@@ -7,7 +7,8 @@ ghost use Rattle.uefi_path.specs.LoadOptionViews.{load_option_of};
 ghost use Rattle.tcg_event.specs.Reading.{Reads};
 ghost use Rattle.tcg_event.specs.Views.{variable_of};
 ghost use Rattle.uefi_tcg.specs.declared.uintn_size.UintnSize.{UintnSize};
-ghost use Rattle.uefi_audits.specs.content.Content.{HasValue, OfAuthority, OfVariable, Says};
+ghost use Rattle.uefi_audits.specs.content.Content.{HasValue, Says};
+ghost use Rattle.uefi_audits.specs.content.Form.{OfAuthority, OfVariable};
 ghost use Rattle.uefi_audits.specs.content.Value.{OfBootOption, OfBootOrder, OfSignature, OfSignatureLists};
 ghost use Rattle.uefi_audits.specs.content.Value.{authority_form, global_form, has_digit, has_unit, is_boot_option_name, is_upper_hex_digit, value_form};
 ghost use Rattle.uefi_audits.specs.content.Views.{content_of};
@@ -34,7 +35,7 @@ const SHIM_LOCK: Guid = Guid([
 ]);
 
 /// Returns the variable that data are, with what its value says.
-#[tactic(auto, unfolding(crate::specs::content::Content::Says, crate::specs::content::Content::VariableContent))]
+#[tactic(auto, unfolding(crate::specs::content::Content::Says))]
 pub(crate) fn variable_content(bytes: &[u8]) -> EventContent<'_>
     ensures { (size : UintnSize) → Says size OfVariable bytes.now (content_of result) }
 {
@@ -45,7 +46,7 @@ pub(crate) fn variable_content(bytes: &[u8]) -> EventContent<'_>
 }
 
 /// Returns the variable that data are, with the signature that its value is.
-#[tactic(auto, unfolding(crate::specs::content::Content::Says, crate::specs::content::Content::VariableContent))]
+#[tactic(auto, unfolding(crate::specs::content::Content::Says))]
 pub(crate) fn authority_content(bytes: &[u8]) -> EventContent<'_>
     ensures { (size : UintnSize) → Says size OfAuthority bytes.now (content_of result) }
 {
@@ -56,7 +57,7 @@ pub(crate) fn authority_content(bytes: &[u8]) -> EventContent<'_>
 }
 
 /// Returns a variable with what its value says, by its GUID and its name.
-#[tactic(auto, unfolding(crate::specs::content::Value::SaysValue, crate::specs::content::Value::value_form))]
+#[tactic(auto, unfolding(crate::specs::content::Value::SaysValue))]
 fn with_value<'a>(variable: &VariableData<'a>) -> EventContent<'a>
     ensures { HasValue (value_form (variable_of variable.now).guid (variable_of variable.now).name)
         (variable_of variable.now) (content_of result) }
@@ -93,7 +94,7 @@ fn with_global_value<'a>(variable: &VariableData<'a>) -> EventContent<'a>
 }
 
 /// Returns a variable in an event of type `EV_EFI_VARIABLE_AUTHORITY` with what its value says.
-#[tactic(auto, unfolding(crate::specs::content::Value::SaysValue, crate::specs::content::Value::authority_form))]
+#[tactic(auto, unfolding(crate::specs::content::Value::SaysValue))]
 fn with_authority<'a>(variable: &VariableData<'a>) -> EventContent<'a>
     ensures { HasValue
         (authority_form (variable_of variable.now).guid (variable_of variable.now).name)

@@ -1,16 +1,18 @@
 ghost use Rattle.std.specs.Prelude.{◌≡◌, ◌↔◌, IsTrue, map, IfOk};
 ghost use Rattle.std.specs.Result.{result_map_both};
+ghost use Rattle.pcr_replay.specs.BankReplays.{bank_outcomes_of};
 ghost use Rattle.pcr_replay.specs.Quotes.{quoted_banks};
 ghost use Rattle.pcr_replay.specs.Views.{value_of};
+ghost use Rattle.pcr_replay.specs.declared.start.Start.{Start};
 ghost use Rattle.tpm_quote.specs.Views.{quote_of};
 ghost use Rattle.uefi_tcg.specs.LogViews.{entry_of};
-ghost use Rattle.uefi_audits.specs.verify.Quote.{QuoteAgrees, agreeing, covers, has_its_nonce, is_digest, is_met, judged_at, quote_judgement_of, quote_verdict, received_of};
+ghost use Rattle.uefi_audits.specs.verify.Quote.{QuoteAgrees, agreeing, covers, has_its_nonce, is_digest, is_met, judged_at, judged_by, quote_judgement_of, quote_verdict, quoted_replays, received_of, tried};
 
-use crate::replay::replay_banks;
-use crate::start::KnownStart;
+use crate::known_start::KnownStart;
+use crate::replay::{replay_banks, restart_banks};
 use crate::verify::covered::is_covered;
 use pcr_replay::entries::is_active;
-use pcr_replay::{Bank, NoQuoteDigest, PcrValue, is_quoted, quote_digest};
+use pcr_replay::{Bank, BankPcrs, NoQuoteDigest, PcrValue, Start, is_quoted, quote_digest};
 use std::alloc::{AllocError, Allocator};
 use tpm_quote::Quote;
 use uefi_tcg::LogEntry;
@@ -81,10 +83,7 @@ impl<'a> QuoteVerdict<'a> {
         if start.is_stated {
             return QuoteVerdict::at(alloc, entries, received, start);
         }
-        let at_0 = QuoteVerdict::at(alloc, entries, received, KnownStart::assumed(0))?;
-        let at_3 = QuoteVerdict::at(alloc, entries, received, KnownStart::assumed(3))?;
-        let at_4 = QuoteVerdict::at(alloc, entries, received, KnownStart::assumed(4))?;
-        Ok(at_0.or(at_3).or(at_4))
+        QuoteVerdict::at_assumed(alloc, entries, received)
     }
 
     /// Returns whether the digests agree, and the quote has the nonce that it was asked for with. Any
@@ -115,17 +114,60 @@ impl<'a> QuoteVerdict<'a> {
         ensures { IfOk result (λ verdict. quote_judgement_of verdict
             ≡ judged_at (map entry_of entries.now) (received_of received.now) start) }
     {
-        let quote = &received.quote;
-        let banks = quoted_banks(alloc, entries, quote)?;
-        let replays = replay_banks(alloc, entries, banks.as_slice(), &start.start)?;
-        let digest = quote_digest(received.hash, quote, replays.as_slice());
-        let digest_agrees = is_digest(quote.pcr_digest(), &digest);
-        Ok(QuoteVerdict {
+        let replays = quoted_replays(alloc, entries, &received.quote, &start.start)?;
+        Ok(QuoteVerdict::of(received, replays.as_slice(), start))
+    }
+
+    /// Returns the verdict in a TPM of which nobody states how it was started.
+    fn at_assumed<A: Allocator + Copy>(
+        alloc: A,
+        entries: &[LogEntry<'_>],
+        received: &ReceivedQuote<'a>,
+    ) -> Result<QuoteVerdict<'a>, AllocError>
+        ensures { IfOk result (λ verdict. quote_judgement_of verdict
+            ≡ tried (map entry_of entries.now) (received_of received.now)) }
+    {
+        let start = KnownStart::assumed(0);
+        let replays = quoted_replays(alloc, entries, &received.quote, &start.start)?;
+        let replays = replays.as_slice();
+        let at_0 = QuoteVerdict::of(received, replays, start);
+        let (at_3, at_4) = (KnownStart::assumed(3), KnownStart::assumed(4));
+        let at_3 = QuoteVerdict::restarted(alloc, entries, received, replays, at_3)?;
+        let at_4 = QuoteVerdict::restarted(alloc, entries, received, replays, at_4)?;
+        Ok(at_0.or(at_3).or(at_4))
+    }
+
+    /// Returns the verdict in a TPM that was started so, by what the banks hold in one that was started
+    /// otherwise: PCR 0 alone is replayed.
+    fn restarted<A: Allocator>(
+        alloc: A,
+        entries: &[LogEntry<'_>],
+        received: &ReceivedQuote<'a>,
+        replays: &[BankPcrs],
+        start: KnownStart,
+    ) -> Result<QuoteVerdict<'a>, AllocError>
+        ensures { (other : Start) → map bank_outcomes_of replays.now
+            ≡ quoted_replays other (map entry_of entries.now) (quote_of received.now.quote)
+            → IfOk result (λ verdict. quote_judgement_of verdict
+            ≡ judged_at (map entry_of entries.now) (received_of received.now) start) }
+    {
+        let replays = restart_banks(alloc, entries, replays, &start.start)?;
+        Ok(QuoteVerdict::of(received, replays.as_slice(), start))
+    }
+
+    /// Returns the verdict on a quote, beside the PCRs that a log leads to.
+    fn of(received: &ReceivedQuote<'a>, replays: &[BankPcrs], start: KnownStart) -> QuoteVerdict<'a>
+        ensures { quote_judgement_of result
+            ≡ judged_by (map bank_outcomes_of replays.now) (received_of received.now) start }
+    {
+        let digest = quote_digest(received.hash, &received.quote, replays);
+        let digest_agrees = is_digest(received.quote.pcr_digest(), &digest);
+        QuoteVerdict {
             received: *received,
             start,
             digest,
             digest_agrees,
-        })
+        }
     }
 
     /// Returns the one of two verdicts whose digest agrees, and the first if neither or both do.
@@ -138,6 +180,21 @@ impl<'a> QuoteVerdict<'a> {
         }
         self
     }
+}
+
+/// Returns what these events leave in the PCRs of the banks that have a selection in a quote and are
+/// active, in a TPM that was started so.
+fn quoted_replays<A: Allocator + Copy>(
+    alloc: A,
+    entries: &[LogEntry<'_>],
+    quote: &Quote<'_>,
+    start: &Start,
+) -> Result<Vec<BankPcrs, A>, AllocError>
+    ensures { IfOk result (λ replays. map bank_outcomes_of replays.items
+        ≡ quoted_replays start.now (map entry_of entries.now) (quote_of quote.now)) }
+{
+    let banks = quoted_banks(alloc, entries, quote)?;
+    replay_banks(alloc, entries, banks.as_slice(), start)
 }
 
 /// Returns the banks that have a selection in a quote and are active in these events, in the order of

@@ -1,18 +1,16 @@
-ghost use Rattle.std.specs.Prelude.{◌≡◌, ◌↔◌, IsTrue, List, map, IfOk};
-ghost use Rattle.pcr_replay.specs.BankReplays.{bank_outcomes_of, replayed};
-ghost use Rattle.pcr_replay.specs.declared.bank.Bank.{Bank};
-ghost use Rattle.pcr_replay.specs.declared.start.Start.{Start};
+ghost use Rattle.std.specs.Prelude.{◌≡◌, ◌↔◌, IsTrue, map, IfOk};
+ghost use Rattle.pcr_replay.specs.BankReplays.{bank_outcomes_of};
 ghost use Rattle.uefi_tcg.specs.LogViews.{entry_of};
-ghost use Rattle.uefi_audits.specs.Start.{assumed_start};
-ghost use Rattle.uefi_audits.specs.declared.start.KnownStart.{KnownStart};
+ghost use Rattle.uefi_audits.specs.KnownStart.{assumed_start};
+ghost use Rattle.uefi_audits.specs.declared.known_start.KnownStart.{KnownStart};
 ghost use Rattle.uefi_audits.specs.verify.Verdict.{compared, compared_at, comparison_of, is_agreement, nearer, verdict_of, AgreeAtOne};
 
-use crate::replay::replay_banks;
-use crate::start::KnownStart;
+use crate::known_start::KnownStart;
+use crate::replay::{replay_banks, restart_banks};
 use crate::verify::banks::held_banks;
 use crate::verify::comparison::{differs, disagreeing, is_undetermined};
 use crate::verify::held::HeldPcr;
-use pcr_replay::{BankPcrs, Start};
+use pcr_replay::BankPcrs;
 use std::alloc::{AllocError, Allocator, Global};
 use uefi_tcg::LogEntry;
 
@@ -129,24 +127,4 @@ impl<A: Allocator> Verdict<A> {
     {
         self.differing == 0 && self.undetermined == 0
     }
-}
-
-/// Returns what the PCRs of banks hold in a TPM that was started so, by what they hold in one that was
-/// started otherwise.
-fn restart_banks<A: Allocator>(
-    alloc: A,
-    entries: &[LogEntry<'_>],
-    replays: &[BankPcrs],
-    start: &Start,
-) -> Result<Vec<BankPcrs, A>, AllocError>
-    ensures { (other : Start) (banks : List Bank) → map bank_outcomes_of replays.now
-        ≡ map (replayed other (map entry_of entries.now)) banks
-        → IfOk result (λ found. map bank_outcomes_of found.items
-        ≡ map (replayed start.now (map entry_of entries.now)) banks) }
-{
-    let mut found = Vec::new(alloc);
-    for replay in replays {
-        found.push(replay.restarted(entries, start))?;
-    }
-    Ok(found)
 }

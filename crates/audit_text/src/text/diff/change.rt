@@ -16,6 +16,7 @@ use uefi_tcg::{AlgorithmId, LogEvent};
 mod bytes;
 mod digests;
 mod lines;
+mod prefix;
 mod said;
 mod sides;
 mod words;

@@ -1,7 +1,7 @@
-ghost use Rattle.std.specs.Prelude.{flat_map, map, OnOk, option_map};
+ghost use Rattle.std.specs.Prelude.{OnOk, option_map};
 ghost use Rattle.uefi_base.specs.Appending.{AppendsText};
 ghost use Rattle.audit_text.specs.ComparedLogs.{logs_of};
-ghost use Rattle.audit_text.specs.text.Differences.{algorithm_words, at_text, changed_line, command_words, compared_line, cover_text, covered_words, digest_words, digests_text, earlier_line, earlier_text, label_words, moved_line, name_text, name_words, only_line, place_text, places_text, start_text, type_text, words_text};
+ghost use Rattle.audit_text.specs.text.Differences.{algorithm_words, at_text, changed_line, command_words, compared_line, cover_text, covered_words, digest_words, digests_text, earlier_line, earlier_text, label_words, moved_line, name_text, name_words, only_line, place_text, places_text, start_text, type_text};
 ghost use Rattle.audit_text.specs.words.Said.{said};
 ghost use Rattle.uefi_audits.specs.content.Views.{content_of};
 ghost use Rattle.uefi_audits.specs.diff.Views.{change_of, name_of, numbered_of, numbers_of};
@@ -225,19 +225,6 @@ fn push_digests(
     if !has_no_form(event) {
         return Ok(());
     }
-    push_each_digest(text, alloc, algorithms, event)
-}
-
-/// Appends the digests of an event, each after a comma.
-fn push_each_digest(
-    text: &mut String,
-    alloc: Global,
-    algorithms: &[AlgorithmId],
-    event: &LogEvent<'_>,
-) -> Result<(), AllocError>
-    ensures { OnOk result (AppendsText text.old text.new
-        (flat_map (digest_words (event_of event.now)) (numbers_of algorithms.now))) }
-{
     for algorithm in algorithms {
         push_digest(text, alloc, *algorithm, event)?;
     }
@@ -262,7 +249,7 @@ fn push_digest(
 }
 
 /// Appends what an event that changed is named by, after a comma; nothing if it has no name.
-#[tactic(auto, unfolding(crate::specs::text::Differences::name_text, crate::specs::text::Differences::words_text))]
+#[tactic(auto, unfolding(crate::specs::text::Differences::words_text))]
 fn push_name(text: &mut String, alloc: Global, change: &EventChange<'_>) -> Result<(), AllocError>
     ensures { OnOk result (AppendsText text.old text.new (name_text (change_of change.now))) }
 {

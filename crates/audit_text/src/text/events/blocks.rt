@@ -1,19 +1,18 @@
 ghost use Rattle.std.specs.Prelude.{flat_map, map, OnOk};
 ghost use Rattle.uefi_base.specs.Appending.{AppendsText};
-ghost use Rattle.uefi_tcg.specs.Entries.{with_sha1};
 ghost use Rattle.uefi_tcg.specs.LogViews.{entry_of, event_of};
-ghost use Rattle.uefi_tcg.specs.v2.Views.{digests_of, header_of};
+ghost use Rattle.uefi_tcg.specs.v2.Views.{header_of};
 ghost use Rattle.audit_text.specs.text.Events.{AreEventBlocks, IsEventBody, digest_line, event_start, first_line, header_block};
 ghost use Rattle.audit_text.specs.words.Events.{AppendsSome};
 
-use crate::text::events::content::push_content;
-use crate::text::events::firmware::push_header;
+use crate::parts::header_parts;
 use crate::text::events::names::push_algorithm;
+use crate::text::events::parts::{push_content, push_parts};
 use crate::words::push_type;
 use shown::ShownName;
 use std::alloc::{AllocError, Global};
 use uefi_audits::content::read_content;
-use uefi_tcg::v2::{EventLogHeader, PcrEventDigests};
+use uefi_tcg::v2::EventLogHeader;
 use uefi_tcg::{AlgorithmId, LogEntry, LogEvent, UintnSize};
 
 /// Appends a block of lines for the header of a log of version 2.
@@ -38,8 +37,9 @@ pub fn push_header_block(
         (header_block name.now (header_of header.now))) }
 {
     let name = ShownName(name);
+    let parts = header_parts(alloc, header)?;
     writeln!(text, "{name}: header at offset 0")?;
-    push_header(text, alloc, header)
+    push_parts(text, alloc, &parts)
 }
 
 /// Appends a block of lines for each event of a log, in order. The log has a `UINTN` of this size
@@ -140,30 +140,7 @@ fn push_digests(text: &mut String, alloc: Global, event: &LogEvent<'_>) -> Resul
     ensures { OnOk result (AppendsText text.old text.new
         (flat_map digest_line (event_of event.now).digests)) }
 {
-    match event {
-        LogEvent::V1(event) => push_sha1(text, alloc, event.digest().as_slice()),
-        LogEvent::V2(event) => push_many_digests(text, alloc, event.digests()),
-    }
-}
-
-/// Appends a line for the digest of a version 1 event, which is SHA-1's.
-fn push_sha1(text: &mut String, alloc: Global, digest: &[u8]) -> Result<(), AllocError>
-    ensures { OnOk result (AppendsText text.old text.new
-        (flat_map digest_line (with_sha1 digest.now))) }
-{
-    push_digest(text, alloc, AlgorithmId::SHA1, digest)
-}
-
-/// Appends a line for each digest of a version 2 event.
-fn push_many_digests(
-    text: &mut String,
-    alloc: Global,
-    digests: PcrEventDigests<'_>,
-) -> Result<(), AllocError>
-    ensures { OnOk result (AppendsText text.old text.new
-        (flat_map digest_line (digests_of digests.entry))) }
-{
-    for (algorithm, digest) in digests {
+    for (algorithm, digest) in event.digests() {
         push_digest(text, alloc, algorithm, digest)?;
     }
     Ok(())

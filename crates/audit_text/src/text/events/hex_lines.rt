@@ -1,6 +1,7 @@
 ghost use Rattle.std.specs.Prelude.{OnOk};
 ghost use Rattle.uefi_base.specs.Appending.{AppendsText};
-ghost use Rattle.audit_text.specs.text.EventParts.{bytes_lines, hex_line, hex_lines, hex_block, printed_line};
+ghost use Rattle.audit_text.specs.text.EventParts.{hex_line, hex_lines, text_or_hex};
+ghost use Rattle.audit_text.specs.words.Printed.{printed_text};
 
 use crate::words::printed::printed_text;
 use shown::ShownName;
@@ -9,41 +10,22 @@ use std::alloc::{AllocError, Global};
 /// How many bytes a line has.
 const LINE_LENGTH: usize = 32;
 
-/// Appends what bytes are, and the text that they are, if all of it prints, or the bytes in hex, 32 a
-/// line; nothing if there are no bytes.
-#[tactic(auto, unfolding(crate::specs::text::EventParts::bytes_lines, crate::specs::text::EventParts::text_or_hex))]
-pub(crate) fn push_bytes_lines(
-    text: &mut String,
-    alloc: Global,
-    what: &str,
-    bytes: &[u8],
-) -> Result<(), AllocError>
-    ensures { OnOk result (AppendsText text.old text.new (bytes_lines what.now bytes.now)) }
+/// Appends `: ` and the text that bytes are, if all of it prints, or the bytes in hex, 32 a line.
+#[tactic(auto, unfolding(crate::specs::text::EventParts::text_or_hex))]
+pub(crate) fn push_bytes(text: &mut String, alloc: Global, bytes: &[u8]) -> Result<(), AllocError>
+    ensures { OnOk result (AppendsText text.old text.new
+        (text_or_hex (printed_text bytes.now) bytes.now)) }
 {
-    if bytes.is_empty() {
-        return Ok(());
-    }
     match printed_text(alloc, bytes)? {
-        Some(printed) => push_printed(text, what, printed.as_str()),
-        None => push_hex(text, alloc, what, bytes),
+        Some(printed) => {
+            let printed = ShownName(printed.as_str());
+            writeln!(text, ": {printed}")
+        }
+        None => {
+            text.push_str("\n")?;
+            push_hex_lines(text, alloc, bytes)
+        }
     }
-}
-
-/// Appends what bytes are and the text that they are.
-#[tactic(auto, unfolding(crate::specs::text::EventParts::printed_line))]
-fn push_printed(text: &mut String, what: &str, printed: &str) -> Result<(), AllocError>
-    ensures { OnOk result (AppendsText text.old text.new (printed_line what.now printed.now)) }
-{
-    let printed = ShownName(printed);
-    writeln!(text, "  {what}: {printed}")
-}
-
-/// Appends what bytes are and the bytes in hex, 32 a line.
-fn push_hex(text: &mut String, alloc: Global, what: &str, bytes: &[u8]) -> Result<(), AllocError>
-    ensures { OnOk result (AppendsText text.old text.new (hex_block what.now bytes.now)) }
-{
-    writeln!(text, "  {what}")?;
-    push_hex_lines(text, alloc, bytes)
 }
 
 /// Appends bytes in hex, 32 a line.

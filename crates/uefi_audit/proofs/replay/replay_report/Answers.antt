@@ -9,11 +9,11 @@ use Rattle.uefi_audit.proofs.replay.replay_report.Goals as goal
 pub returns-then-not-is_read : goal.returns-then-not-is_read
 returns-then-not-is_read c =
     let unread : is_read c.in_ok-judgement.judgement ≡ false = search (rules, tests) in
-    IfOk-weaker c.refused.result _ _
+    IfOk-weaker c.refused_report.result _ _
     (λ report is. refused_is c.args.reading.allow_left_over c.args.file.now c.args.asked c.in_ok-facts.facts
     c.in_ok-judgement.judgement (string_bytes c.in_ok-judgement.messages) (printed_of report)
     c.in_ok-judgement.ensures.judgement c.in_ok-judgement.ensures.messages c.in_ok-facts.ensures unread is)
-    c.refused.ensures
+    c.refused_report.ensures
 
 pub returns : goal.returns
 returns c =

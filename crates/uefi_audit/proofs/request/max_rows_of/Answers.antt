@@ -1,4 +1,5 @@
+use Rattle.std.proofs.Common.{rules}
 use Rattle.uefi_audit.proofs.request.max_rows_of.Goals as goal
 
 pub returns : goal.returns
-returns c = (c.stated_max_rows.result, c.stated_max_rows.ensures, c.unwrap_or.ensures)
+returns c = (c.get_one.result, search rules, c.unwrap_or.ensures)

@@ -1,9 +1,9 @@
-use Rattle.std.proofs.Common.{◌≡◌, map, take}
-use Rattle.serde_json.specs.View.{view}
+use Rattle.std.proofs.Common.{map, take}
 use Rattle.pcr_replay.specs.BankReplays.{bank_outcomes_of}
 use Rattle.audit_text.specs.json.Replay.{bank_json}
+use Rattle.audit_text.specs.private.JsonValues.{AreValuesOf}
 use Rattle.audit_text.proofs.json.bank.each_bank.Given as goal
 
 -- The values are the banks so far.
 abbrev pub invariant-loop-bank : goal.invariant-loop-bank
-invariant-loop-bank l = map view l.values.items ≡ map bank_json (map bank_outcomes_of (take l.bank-index l.banks))
+invariant-loop-bank l = AreValuesOf (map bank_json (map bank_outcomes_of (take l.bank-index l.banks))) l.values

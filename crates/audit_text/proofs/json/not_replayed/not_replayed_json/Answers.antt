@@ -5,6 +5,7 @@ use Rattle.serde_json.specs.View.{items_of}
 use Rattle.serde_json.proofs.Views.{view-Array}
 use Rattle.pcr_replay.specs.Banks.{algorithm_of}
 use Rattle.pcr_replay.specs.BankReplays.{BankOutcomes, bank_outcomes_of}
+use Rattle.audit_text.specs.json.Json.{values_of}
 use Rattle.audit_text.specs.json.Replay.{algorithm_json, is_replayed, not_replayed_json}
 use Rattle.audit_text.proofs.Viewed.{any_view}
 use Rattle.audit_text.proofs.json.not_replayed.not_replayed_json.Goals as goal
@@ -19,4 +20,4 @@ returns c =
     λ i. filter (λ n. not (any_view (λ (it : BankOutcomes). algorithm_of it.bank == n) bank_outcomes_of banks i)) algorithms in
     view-Array c.in_ok-each_algorithm.field-0
     ∙ ap (λ it. array (items_of it)) (c.in_ok-each_algorithm.ensures
-    ∙ ap (map algorithm_json) (c.as_slice.ensures.value ∙ c.in_ok-others.ensures ∙ same))
+    ∙ ap (λ them. values_of (map algorithm_json them)) (c.as_slice.ensures.value ∙ c.in_ok-others.ensures ∙ same))

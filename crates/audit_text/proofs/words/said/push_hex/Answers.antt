@@ -1,6 +1,5 @@
-use Rattle.std.specs.List.{flat_map}
 use Rattle.std.proofs.lemmas.Result.{on_ok_weaker}
-use Rattle.uefi_base.specs.GuidText.{hex_byte}
+use Rattle.shown.specs.HexText.{hex_of}
 use Rattle.audit_text.specs.words.Said.{shown_hex}
 use Rattle.audit_text.proofs.words.FirstItems.{first_appended}
 use Rattle.audit_text.proofs.words.said.push_hex.Goals as goal
@@ -10,4 +9,4 @@ unfolding shown_hex
 returns c =
     on_ok_weaker c.push_more.result
     (λ others. first_appended c.args.bytes.now _ _ 1000 c.min.result c.min.ensures c.split_at.ensures.front
-    c.split_at.ensures.back (flat_map hex_byte) _ _ _ c.in_ok-push_hex_bytes.ensures others) c.push_more.ensures
+    c.split_at.ensures.back hex_of _ _ _ c.in_ok-write.ensures.bytes others) c.push_more.ensures

@@ -1,7 +1,7 @@
-ghost use Rattle.std.specs.Prelude.{◌≡◌, ◌≤◌, IfOk, length, nat_eq, string_bytes};
-ghost use Rattle.std.specs.List.{common_prefix_len};
+ghost use Rattle.std.specs.Prelude.{◌≡◌, ◌≤◌, IfOk, length, string_bytes};
 ghost use Rattle.audit_text.specs.text.ChangeParts.{byte_change, bytes_from, first_bytes};
 
+use crate::text::diff::change::prefix::common_prefix_length;
 use crate::text::diff::change::sides::change_between;
 use crate::words::push_more;
 use std::alloc::{AllocError, Global};
@@ -17,7 +17,7 @@ pub(crate) fn byte_change(alloc: Global, old: &[u8], new: &[u8]) -> Result<Strin
     if old == new {
         return Ok(String::new(alloc));
     }
-    bytes_from(alloc, common_length(old, new), old, new)
+    bytes_from(alloc, common_prefix_length(old, new), old, new)
 }
 
 /// Returns the bytes of both sides in hex from an index.
@@ -33,21 +33,6 @@ fn bytes_from(alloc: Global, index: usize, old: &[u8], new: &[u8]) -> Result<Str
     let new = first_bytes(alloc, new)?;
     let change = change_between(alloc, old.as_str(), new.as_str())?;
     format!(in alloc; "from byte {index}: {change}")
-}
-
-/// Returns the length of the longest prefix that both sides have.
-fn common_length(old: &[u8], new: &[u8]) -> usize
-    ensures length { result ≡ common_prefix_len nat_eq old.now new.now }
-    ensures within_old { result ≤ length old.now }
-    ensures within_new { result ≤ length new.now }
-{
-    let shorter = old.len().min(new.len());
-    for index in 0..shorter {
-        if old[index] != new[index] {
-            return index;
-        }
-    }
-    shorter
 }
 
 /// Returns the first bytes in hex, and how many there are more.

@@ -52,7 +52,7 @@ fn digest_change(
 }
 
 /// Returns the digests of an algorithm that an event has, each after a space, or ` none`.
-#[tactic(auto, unfolding(crate::specs::text::Change::digest_text, crate::specs::text::Change::or_else))]
+#[tactic(auto, unfolding(crate::specs::text::Change::digest_text))]
 pub(crate) fn digest_text(
     alloc: Global,
     algorithm: AlgorithmId,

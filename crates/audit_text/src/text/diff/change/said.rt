@@ -8,7 +8,7 @@ ghost use Rattle.uefi_audits.specs.diff.Views.{numbered_of};
 use crate::text::diff::change::bytes::byte_change;
 use crate::text::diff::change::lines::line_change;
 use crate::text::diff::change::words::word_change;
-use crate::text::events::content::push_content;
+use crate::text::events::parts::push_content;
 use crate::words::printed::printed_text;
 use crate::words::texts::{shown, shown_event, shown_version};
 use std::alloc::{AllocError, Global};

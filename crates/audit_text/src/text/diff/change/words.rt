@@ -3,6 +3,7 @@ ghost use Rattle.std.specs.List.{common_prefix_len};
 ghost use Rattle.std.specs.Str.{bytes_eq};
 ghost use Rattle.audit_text.specs.text.ChangeParts.{joined_words, word_change, words_between, words_from, words_of};
 
+use crate::text::diff::change::prefix::common_prefix_length;
 use crate::text::diff::change::sides::change_between;
 use std::alloc::{AllocError, Global};
 
@@ -50,17 +51,11 @@ fn common_count(old: &[&str], new: &[&str]) -> usize
     ensures within_old { result ≤ length old.now }
     ensures within_new { result ≤ length new.now }
 {
-    let shorter = old.len().min(new.len());
-    for index in 0..shorter {
-        if old[index] != new[index] {
-            return index;
-        }
-    }
-    shorter
+    common_prefix_length(old, new)
 }
 
 /// Returns the words from an index, after `.. ` for those before them.
-#[tactic(auto, unfolding(crate::specs::text::ChangeParts::words_from, crate::specs::text::ChangeParts::after_dots))]
+#[tactic(auto, unfolding(crate::specs::text::ChangeParts::words_from))]
 fn words_from(alloc: Global, index: usize, words: &[&str]) -> Result<String, AllocError>
     requires { index ≤ length words.now }
     ensures { IfOk result (λ text. string_bytes text

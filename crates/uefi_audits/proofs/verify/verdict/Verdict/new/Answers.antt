@@ -1,7 +1,7 @@
 use Rattle.std.proofs.Common.{◌∙◌, ap, map}
 use Rattle.std.proofs.lemmas.Result.{IfOk-weaker}
 use Rattle.uefi_tcg.specs.LogViews.{entry_of}
-use Rattle.uefi_audits.specs.Start.{assumed_start}
+use Rattle.uefi_audits.specs.KnownStart.{assumed_start}
 use Rattle.uefi_audits.specs.verify.Verdict.{compared_at, comparison_of}
 use Rattle.uefi_audits.proofs.verify.Agreement.{agrees_at_one}
 use Rattle.uefi_audits.proofs.verify.Verdicts.{nearest_is, stated_is}
